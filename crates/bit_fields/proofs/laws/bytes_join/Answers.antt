@@ -1,0 +1,5 @@
+use Rattle.bit_fields.proofs.Spellings.{bytes_join}
+use Rattle.bit_fields.proofs.laws.bytes_join.Goals as goal
+
+pub returns : goal.returns
+returns c = bytes_join

@@ -1,0 +1,5 @@
+use Rattle.bit_fields.proofs.Spellings.{fields_join}
+use Rattle.bit_fields.proofs.laws.fields_join.Goals as goal
+
+pub returns : goal.returns
+returns c = fields_join
