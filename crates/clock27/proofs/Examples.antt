@@ -1,0 +1,34 @@
+-- The definitions at numbers.
+use Rattle.std.proofs.Common.{◌≡◌, [], ◌∷◌, refl}
+use Rattle.clock27.specs.Arrival.{bytes_from}
+use Rattle.clock27.specs.Departure.{departures}
+use Rattle.clock27.specs.Fullness.{held}
+use Rattle.clock27.specs.Peak.{most_found}
+use Rattle.clock27.specs.Reference.{pcr_at}
+use Rattle.clock27.specs.Release.{release}
+
+-- byte 198 at 1,504,000 bits a second
+reference_198 : pcr_at 1504000 0 198 ≡ record { base = 94; extension = 236 }
+reference_198 = refl
+
+-- the 33 bits of the base come round: 94 more than 2^33 - 92
+reference_round : pcr_at 1504000 8589934500 198 ≡ record { base = 2; extension = 236 }
+reference_round = refl
+
+-- at 1,504,000 bits a second a slot lasts 90 units of 90 kHz
+release_1700 : release 1504000 1600 1700 ≡ 2
+release_1700 = refl
+
+-- four bytes arrive one every 2; each takes 3 to leave, and at the last arrival two of them are there
+leaving : departures 3 0 (bytes_from 2 0 4) ≡ 3 ∷ 6 ∷ 9 ∷ 12 ∷ []
+unfolding departures bytes_from
+leaving = refl
+
+holding : held 6 (bytes_from 2 0 4) (departures 3 0 (bytes_from 2 0 4)) ≡ 2
+unfolding departures bytes_from held
+holding = refl
+
+-- the greatest fullness of those four bytes
+peak_of_four : most_found 3 0 (bytes_from 2 0 4) ≡ 2
+unfolding most_found bytes_from
+peak_of_four = refl

@@ -1,0 +1,6 @@
+pub mod Examples
+pub mod Holding
+pub mod Leaving
+pub mod Pairing
+pub mod Peaking
+pub mod Scaling

@@ -1,0 +1,89 @@
+-- Laws of the times of bytes, over the definitions alone.
+use Rattle.std.specs.Prelude.{◌≡◌, ℕ, ◌+◌, ◌-◌, ◌*◌, ◌/◌, ◌<◌, ◌≤◌, max, List, ◌++◌, length, map, All}
+use Rattle.clock27.specs.Arrival.{bytes_from, arrivals}
+use Rattle.clock27.specs.Departure.{departures, last_left}
+use Rattle.clock27.specs.Fullness.{held, Stays}
+use Rattle.clock27.specs.Recurrence.{Recur}
+use Rattle.clock27.specs.Release.{IsReleaseSlot, release}
+
+-- the bytes that come later leave as they would behind the last of the earlier ones
+abbrev pub DeparturesLaw : Type 0
+DeparturesLaw = (step prev : ℕ) (xs ys : List ℕ) →
+    departures step prev (xs ++ ys) ≡ departures step prev xs ++ departures step (last_left step prev xs) ys
+
+-- and so does the last of them
+abbrev pub LastLaw : Type 0
+LastLaw = (step prev : ℕ) (xs ys : List ℕ) → last_left step prev (xs ++ ys) ≡ last_left step (last_left step prev xs) ys
+
+-- each byte leaves
+abbrev pub LengthLaw : Type 0
+LengthLaw = (step prev : ℕ) (xs : List ℕ) → length (departures step prev xs) ≡ length xs
+
+-- the last of n bytes in a row leaves no later than if they had all arrived at their end
+abbrev pub PacketLaw : Type 0
+PacketLaw = (step prev r i n : ℕ) → last_left step prev (bytes_from r i n) ≤ max ((i + n) * r) prev + n * step
+
+-- none leaves later than the last
+abbrev pub RisingLaw : Type 0
+RisingLaw = (step prev : ℕ) (ts : List ℕ) → All (λ d. d ≤ last_left step prev ts) (departures step prev ts)
+
+-- none leaves earlier than a step after the first arrival
+abbrev pub EarliestLaw : Type 0
+EarliestLaw = (step prev first : ℕ) (ts : List ℕ) → All (λ t. first ≤ t) ts → All (λ d. first + step ≤ d) (departures step prev ts)
+
+-- bytes in a row arrive from the first one's time on
+abbrev pub RowLaw : Type 0
+RowLaw = (r i n : ℕ) → All (λ t. i * r ≤ t) (bytes_from r i n)
+
+-- where no byte stays longer than `room` bytes take to leave, no more than `room` are held at any moment
+abbrev pub RoomLaw : Type 0
+RoomLaw = (x step room : ℕ) (ts : List ℕ) → 0 < step → Stays (room * step) ts (departures step 0 ts) → held x ts (departures step 0 ts) ≤ room
+
+-- the bytes held are those of the first part and those of the rest
+abbrev pub HeldLaw : Type 0
+HeldLaw = (x : ℕ) (ts ts' ds ds' : List ℕ) → length ts ≡ length ds →
+    held x (ts ++ ts') (ds ++ ds') ≡ held x ts ds + held x ts' ds'
+
+-- no more are held than have arrivals
+abbrev pub HeldBound : Type 0
+HeldBound = (x : ℕ) (ts ds : List ℕ) → held x ts ds ≤ length ts
+
+-- none is held before all arrivals
+abbrev pub HeldBefore : Type 0
+HeldBefore = (x : ℕ) (ts ds : List ℕ) → All (λ t. x < t) ts → held x ts ds ≡ 0
+
+-- none is held once all have left
+abbrev pub HeldAfter : Type 0
+HeldAfter = (x : ℕ) (ts ds : List ℕ) → All (λ d. d ≤ x) ds → held x ts ds ≡ 0
+
+-- a queue behind one that is no slower: each byte leaves the second `first` later than it would leave the second alone
+abbrev pub TandemLaw : Type 0
+TandemLaw = (first second : ℕ) (ts : List ℕ) → first ≤ second →
+    departures second 0 (departures first 0 ts) ≡ map (λ d. d + first) (departures second 0 ts)
+
+-- so the second holds no more than it would alone, `first` before
+abbrev pub SecondLaw : Type 0
+SecondLaw = (x first second : ℕ) (ts : List ℕ) → first ≤ second →
+    held x (departures first 0 ts) (departures second 0 (departures first 0 ts)) ≤ held (x - first) ts (departures second 0 ts)
+
+-- in smaller units all times are multiples
+abbrev pub ScaleLaw : Type 0
+ScaleLaw = (k step prev : ℕ) (ts : List ℕ) →
+    departures (k * step) (k * prev) (map (λ t. k * t) ts) ≡ map (λ t. k * t) (departures step prev ts)
+
+-- arrivals too
+abbrev pub ArrivalsScaleLaw : Type 0
+ArrivalsScaleLaw = (k r : ℕ) (slots : List ℕ) → arrivals (k * r) slots ≡ map (λ t. k * t) (arrivals r slots)
+
+-- and the number of bytes held is that at the last moment of the greater units
+abbrev pub HeldScaleLaw : Type 0
+HeldScaleLaw = (x k : ℕ) (ts ds : List ℕ) → 0 < k → held x (map (λ t. k * t) ts) (map (λ t. k * t) ds) ≡ held (x / k) ts ds
+
+-- what recurs within a limit does so within a greater one
+abbrev pub LimitLaw : Type 0
+LimitLaw = (rate limit greater from until : ℕ) (bytes : List ℕ) → limit ≤ greater →
+    Recur rate limit from bytes until → Recur rate greater from bytes until
+
+-- `release` is the first slot that begins at the given time before the due one
+abbrev pub ReleaseLaw : Type 0
+ReleaseLaw = (rate lead due : ℕ) → IsReleaseSlot rate (due - lead) (release rate lead due)

@@ -1,0 +1,58 @@
+//! Laws of the times of bytes. Each is a function that does nothing: its contract is the law, over
+//! the definitions of `specs/` alone, and a caller may cite it.
+ghost use Rattle.clock27.specs.Peak.{PeakLaw, ArrivalsClimb, DeparturesClimb};
+ghost use Rattle.clock27.specs.Laws.{DeparturesLaw, LastLaw, LengthLaw, PacketLaw, RisingLaw, EarliestLaw, RowLaw, RoomLaw, HeldLaw, HeldBound, HeldBefore, HeldAfter, TandemLaw, SecondLaw, ScaleLaw, ArrivalsScaleLaw, HeldScaleLaw, LimitLaw, ReleaseLaw};
+
+/// Departures of bytes that arrive in two parts.
+pub fn departures()
+    ensures appended { DeparturesLaw }
+    ensures last { LastLaw }
+    ensures len { LengthLaw }
+    ensures rising { RisingLaw }
+    ensures earliest { EarliestLaw }
+{}
+
+/// The last departure of bytes that arrive in a row.
+pub fn packet()
+    ensures last { PacketLaw }
+    ensures row { RowLaw }
+{}
+
+/// The number of bytes that a buffer holds.
+pub fn held()
+    ensures appended { HeldLaw }
+    ensures bound { HeldBound }
+    ensures before { HeldBefore }
+    ensures after { HeldAfter }
+    ensures room { RoomLaw }
+{}
+
+/// The greatest number of bytes that a buffer holds over all moments: one pass over the arrivals.
+pub fn peak()
+    ensures fullness { PeakLaw }
+    ensures arrivals { ArrivalsClimb }
+    ensures departures { DeparturesClimb }
+{}
+
+/// Two queues, the second behind the first and no faster.
+pub fn tandem()
+    ensures departures { TandemLaw }
+    ensures held { SecondLaw }
+{}
+
+/// Times in smaller units.
+pub fn scale()
+    ensures departures { ScaleLaw }
+    ensures arrivals { ArrivalsScaleLaw }
+    ensures held { HeldScaleLaw }
+{}
+
+/// Recurrence within a limit.
+pub fn recurrence()
+    ensures { LimitLaw }
+{}
+
+/// The slot of a release.
+pub fn release()
+    ensures { ReleaseLaw }
+{}

@@ -1,0 +1,20 @@
+//! The slot in which a unit is released.
+ghost use Rattle.std.specs.Prelude.{◌≡◌, ◌-◌, ◌*◌, ◌<◌, ◌↔◌, IsNone, IfSome};
+ghost use Rattle.clock27.specs.Release.{IsReleaseSlot, release};
+
+use crate::rate::Rate;
+
+/// The units of 90 kHz in a slot, times the rate: `188 * 8 * 90,000`.
+const SLOT_UNITS: u128 = 135_360_000;
+
+/// The first slot that begins no earlier than `lead` before the decoding time `dts`, both in units
+/// of 90 kHz; none where the time lies before the lead.
+pub fn release_slot(rate: Rate, dts: u64, lead: u64) -> Option<u64>
+    ensures early { IsNone result ↔ (dts < lead) }
+    ensures least { IfSome result (IsReleaseSlot rate (dts - lead)) }
+    ensures exact { IfSome result (λ slot. slot ≡ release rate lead dts) }
+{
+    let moment = dts.checked_sub(lead)?;
+    let needed = u128::from(moment) * u128::from(rate.bits_per_second());
+    Some(needed.div_ceil(SLOT_UNITS) as u64)
+}
