@@ -1,0 +1,9 @@
+pub mod Transfers
+pub mod Flagging
+pub mod Filling
+pub mod Exact
+pub mod Again
+pub mod Answering
+pub mod Written
+pub mod PlainWritten
+pub mod Listing

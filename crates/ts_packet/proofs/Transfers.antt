@@ -1,0 +1,54 @@
+-- What a part is after one more read or write of it.
+use Rattle.std.proofs.Common.{◌≡◌, ℕ, ◌+◌, ◌-◌, ◌≤◌, List, ◌++◌, Option, Some, None, arith, length, take, drop, sym, ap, ◌∙◌, subst, le_refl, drop_at, take_at, length-take-le, length-drop, length-append, take_all}
+use Rattle.std.proofs.lemmas.Slice.{take-put_mid_below}
+use Rattle.std.specs.Io.KnownBytes.{Consumes, IsAtEnd}
+use borrow.Rule.Slice.PartMut.{put_mid, post_of}
+use lib.Seq.{take-add, take-append-le}
+use Rattle.ts_packet.specs.Device.{IsFront}
+
+-- a front of the part, and then a front of what is left of it
+pub front_more : (a n : ℕ) (part : List ℕ) → a ≤ length part → n ≤ length (take (length part - a) (drop a part))
+    → take a part ++ take n (take (length part - a) (drop a part)) ≡ take (a + n) part
+front_more a n part within fits =
+    let rest = drop a part in
+    let size : length rest ≡ length part - a = length-drop a part in
+    let whole : take (length part - a) rest ≡ rest = subst (λ k. take k rest ≡ rest) size (take_all (length rest) rest (le_refl _)) in
+    ap (λ l. take a part ++ take n l) whole ∙ sym (take-add a n part)
+
+-- the front of a part that was filled before, and what was read behind it
+pub filled_more : (a k n : ℕ) (xs ys : List ℕ) → a ≤ length xs → n ≤ length ys → take (a + n) (put_mid a k xs ys) ≡ take a xs ++ take n ys
+filled_more a k n xs ys within fits =
+    let front : take a (put_mid a k xs ys) ≡ take a xs = take-put_mid_below _ _ _ _ _ (le_refl _) within in
+    let after = post_of a k xs in
+    let behind : take n (drop a (put_mid a k xs ys)) ≡ take n ys = ap (take n) (drop_at (take a xs) (ys ++ after) a (length-take-le a xs within)) ∙ take-append-le n ys after fits in
+    take-add a n (put_mid a k xs ys) ∙ ap (λ l. l ++ take n (drop a (put_mid a k xs ys))) front ∙ ap (λ l. take a xs ++ l) behind
+
+-- what was consumed of known bytes is their front
+pub consumed_front : (a b : Option (List ℕ)) (xs part : List ℕ) (n : ℕ) → n ≤ length part → Consumes a b (take n part) → a ≡ Some xs
+    → (n ≤ length xs) × IsFront xs b part n
+consumed_front a b xs part n within bytes known = front_of b (subst (λ k. Consumes k b (take n part)) known bytes)
+  where
+    front_of : (left : Option (List ℕ)) → Consumes (Some xs) left (take n part) → (n ≤ length xs) × IsFront xs left part n
+    front_of None absent = absurd absent
+    front_of (Some ys) is =
+        let size : length (take n part) ≡ n = length-take-le n part within in
+        let all : length xs ≡ length (take n part) + length ys = ap length is ∙ length-append (take n part) ys in (
+          omega arith,
+          record {
+            front = sym (ap (take n) is ∙ take_at (take n part) ys n size);
+            rest = ap Some (sym (ap (drop n) is ∙ drop_at (take n part) ys n size));
+          },
+        )
+
+-- a reader that is at its end gave all
+pub consumed_all : (a b : Option (List ℕ)) (xs part : List ℕ) (n : ℕ) → n ≤ length part → Consumes a b (take n part) → IsAtEnd b → a ≡ Some xs
+    → n ≡ length xs
+consumed_all a b xs part n within bytes end known = size_of b end (subst (λ k. Consumes k b (take n part)) known bytes)
+  where
+    size_of : (left : Option (List ℕ)) → IsAtEnd left → Consumes (Some xs) left (take n part) → n ≡ length xs
+    size_of None none absent = absurd absent
+    size_of (Some ys) none is =
+        let size : length (take n part) ≡ n = length-take-le n part within in
+        let all : length xs ≡ length (take n part) + length ys = ap length is ∙ length-append (take n part) ys in
+        let nothing : length ys ≡ 0 = ap length none in
+        omega arith

@@ -1,0 +1,11 @@
+pub mod Views
+pub mod Syntax
+pub mod Reading
+pub mod Codes
+pub mod Writing
+pub mod Packets
+pub mod PidList
+pub mod Laws
+pub mod Device
+pub mod Counting
+pub mod Faulty

@@ -1,0 +1,81 @@
+-- The packets that a multiplexer writes.
+use Rattle.std.specs.Prelude.{ℕ, zero, suc, ◌+◌, ◌-◌, ◌%◌, List, [], ◌∷◌, ◌++◌, length, replicate, Bool, false, Option, Some, None}
+use Rattle.clock27.specs.Reference.{Reference}
+use Rattle.ts_packet.specs.declared.header.Header.{Header}
+use Rattle.ts_packet.specs.Views.{PartsView, AdaptationView, NoFlags, WithFlags, PacketView}
+use Rattle.ts_packet.specs.Writing.{packet_text}
+
+-- a header in the clear, of a packet without known faults
+abbrev pub plain_header : ℕ → Bool → ℕ → Header
+plain_header pid start counter = record {
+  error_indicator = false;
+  start_indicator = start;
+  priority = false;
+  pid = pid;
+  scrambling_control = 0;
+  continuity_counter = counter;
+}
+
+-- an adaptation field with stuffing, and a clock reference or none
+abbrev pub plain_parts : Option Reference → ℕ → PartsView
+plain_parts pcr stuffing = record {
+  discontinuity = false;
+  random_access = false;
+  priority = false;
+  pcr = pcr;
+  opcr = None;
+  splice_countdown = None;
+  private_data = None;
+  extension = None;
+  stuffing = replicate stuffing 0xFF;
+}
+
+-- the adaptation field of so many bytes that fills a packet up: none, one of length 0, or one without parts
+unfoldable pub filler : ℕ → Option AdaptationView
+filler zero = None
+filler (suc zero) = Some NoFlags
+filler (suc (suc n)) = Some (WithFlags (plain_parts None n))
+
+-- a packet of one payload of at most 184 bytes, filled up by its adaptation field
+abbrev pub payload_view : ℕ → Bool → ℕ → List ℕ → PacketView
+payload_view pid start counter payload = record {
+  header = plain_header pid start counter;
+  adaptation = filler (184 - length payload);
+  payload = Some payload;
+}
+
+unfoldable pub payload_packet : ℕ → Bool → ℕ → List ℕ → List ℕ
+payload_packet pid start counter payload = packet_text (payload_view pid start counter payload)
+
+-- a packet of a PID that carries clock references alone: no payload, and counter 15 in each
+abbrev pub pcr_view : ℕ → Reference → PacketView
+pcr_view pid pcr = record {
+  header = plain_header pid false 15;
+  adaptation = Some (WithFlags (plain_parts (Some pcr) 176));
+  payload = None;
+}
+
+unfoldable pub pcr_packet : ℕ → Reference → List ℕ
+pcr_packet pid pcr = packet_text (pcr_view pid pcr)
+
+-- the null packet: PID 0x1FFF and a payload of 0xFF
+abbrev pub null_view : PacketView
+null_view = record {
+  header = plain_header 0x1FFF false 0;
+  adaptation = None;
+  payload = Some (replicate 184 0xFF);
+}
+
+unfoldable pub null_text : List ℕ
+null_text = packet_text null_view
+
+-- the packets of pieces on one PID, one behind the other: the first has this start indicator and this number, from which each counts on;
+-- the counter is the number modulo 16
+unfoldable pub packets : ℕ → Bool → ℕ → List (List ℕ) → List ℕ
+packets pid start number [] = []
+packets pid start number (piece ∷ pieces) = payload_packet pid start (number % 16) piece ++ packets pid false (number + 1) pieces
+
+-- what these packets say
+unfoldable pub payload_views : ℕ → Bool → ℕ → List (List ℕ) → List PacketView
+payload_views pid start number [] = []
+payload_views pid start number (piece ∷ pieces) = payload_view pid start (number % 16) piece ∷ payload_views pid false (number + 1) pieces

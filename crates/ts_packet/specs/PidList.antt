@@ -1,0 +1,34 @@
+-- The packets of a byte stream, and those of one PID.
+use Rattle.std.specs.Prelude.{ℕ, ◌/◌, ◌==◌, ◌&&◌, not, Bool, List, length, filter, Option, Some, None, Result, Ok, Err}
+use Rattle.std.specs.List.{enumerate_from, filter_map}
+use Rattle.std.specs.Simd.{first_chunks}
+use Rattle.ts_packet.specs.declared.packet.PacketError.{PacketError}
+use Rattle.ts_packet.specs.Views.{PacketView}
+use Rattle.ts_packet.specs.Reading.{packet_at}
+
+-- the whole packets of a byte stream: it is cut by 188 from its first byte on
+abbrev pub cut_packets : List ℕ → List (List ℕ)
+cut_packets bytes = first_chunks 188 (length bytes / 188) bytes
+
+-- a packet of a byte stream: its index, its 188 bytes and what they say
+pub record Entry : Type 0 where
+  pub index : ℕ
+  pub bytes : List ℕ
+  pub packet : PacketView
+
+-- the packet at an index, if its bytes are one
+unfoldable pub entry_of : ℕ → List ℕ → Result PacketView PacketError → Option Entry
+entry_of index bytes (Ok packet) = Some (record { index = index; bytes = bytes; packet = packet })
+entry_of index bytes (Err _) = None
+
+-- the packets that can be read
+abbrev pub entries_of : List ℕ → List Entry
+entries_of bytes = filter_map (λ p. entry_of p.0 p.1 (packet_at p.1)) (enumerate_from 0 (cut_packets bytes))
+
+-- a packet of this PID that is not known to be wrong
+abbrev pub is_of_pid : ℕ → PacketView → Bool
+is_of_pid pid packet = (packet.header.pid == pid) && not packet.header.error_indicator
+
+-- the PID list: the packets of a PID in their order, each with its index
+abbrev pub pid_list : ℕ → List ℕ → List Entry
+pid_list pid bytes = filter (λ entry. is_of_pid pid entry.packet) (entries_of bytes)

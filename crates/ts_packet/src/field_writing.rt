@@ -1,0 +1,91 @@
+//! Appending an adaptation field.
+ghost use Rattle.std.specs.Prelude.{◌≡◌, ◌+◌, ◌≤◌, ◌<◌, ◌++◌, length, IfSome};
+ghost use Rattle.std.specs.Option.{option_map};
+ghost use Rattle.arrayvec.specs.ArrayVec.{array_vec_len};
+ghost use Rattle.ts_packet.specs.Syntax.{ReferenceFits};
+ghost use Rattle.ts_packet.specs.Views.{reference_view, parts_view, adaptation_view, bytes_view};
+ghost use Rattle.ts_packet.specs.Writing.{optional_text, reference_text, countdown_text, counted_text, parts_text, adaptation_text, AdaptationFits, PartsFit};
+
+use crate::adaptation::{Adaptation, AdaptationParts, ClockReference};
+use crate::appending::append;
+use crate::fitting::parts_size;
+use crate::fixed_texts::{flags_of, reference_text};
+use arrayvec::ArrayVec;
+
+fn append_reference(packet: &mut ArrayVec<u8, 188>, reference: Option<ClockReference>)
+    requires fits { IfSome (option_map reference_view reference) ReferenceFits }
+    requires room { array_vec_len packet.old
+        + length (optional_text reference_text (option_map reference_view reference)) ≤ 188 }
+    ensures items { packet.new.items
+        ≡ packet.old.items ++ optional_text reference_text (option_map reference_view reference) }
+    ensures len { array_vec_len packet.new ≡ array_vec_len packet.old
+        + length (optional_text reference_text (option_map reference_view reference)) }
+{
+    if let Some(reference) = reference {
+        append(packet, &reference_text(reference));
+    }
+}
+
+fn append_countdown(packet: &mut ArrayVec<u8, 188>, countdown: Option<i8>)
+    requires { array_vec_len packet.old + length (optional_text countdown_text countdown) ≤ 188 }
+    ensures items { packet.new.items ≡ packet.old.items ++ optional_text countdown_text countdown }
+    ensures len { array_vec_len packet.new
+        ≡ array_vec_len packet.old + length (optional_text countdown_text countdown) }
+{
+    if let Some(countdown) = countdown {
+        append(packet, &[countdown.cast_unsigned()]);
+    }
+}
+
+fn append_counted(packet: &mut ArrayVec<u8, 188>, counted: Option<&[u8]>)
+    requires { array_vec_len packet.old
+        + length (optional_text counted_text (bytes_view counted)) ≤ 188 }
+    ensures items { packet.new.items
+        ≡ packet.old.items ++ optional_text counted_text (bytes_view counted.entry) }
+    ensures len { array_vec_len packet.new ≡ array_vec_len packet.old
+        + length (optional_text counted_text (bytes_view counted.entry)) }
+{
+    if let Some(counted) = counted {
+        append(packet, &[counted.len() as u8]);
+        append(packet, counted);
+    }
+}
+
+#[tactic(auto, unfolding(crate::specs::Writing::parts_text))]
+fn append_parts(packet: &mut ArrayVec<u8, 188>, parts: &AdaptationParts<'_>)
+    requires fits { PartsFit (parts_view parts.now) }
+    requires room { array_vec_len packet.old + length (parts_text (parts_view parts.now)) ≤ 188 }
+    ensures items { packet.new.items ≡ packet.old.items ++ parts_text (parts_view parts.now) }
+    ensures len { array_vec_len packet.new
+        ≡ array_vec_len packet.old + length (parts_text (parts_view parts.now)) }
+{
+    append_reference(packet, parts.pcr);
+    append_reference(packet, parts.opcr);
+    append_countdown(packet, parts.splice_countdown);
+    append_counted(packet, parts.private_data);
+    append_counted(packet, parts.extension);
+    append(packet, parts.stuffing);
+}
+
+/// Appends an adaptation field, or nothing.
+#[tactic(auto, unfolding(crate::specs::Writing::adaptation_text))]
+pub fn append_adaptation(packet: &mut ArrayVec<u8, 188>, adaptation: Option<&Adaptation<'_>>)
+    requires fits { AdaptationFits (option_map (λ a. adaptation_view a.now) adaptation) }
+    requires room { array_vec_len packet.old + length (optional_text adaptation_text
+        (option_map (λ a. adaptation_view a.now) adaptation)) ≤ 188 }
+    ensures items { packet.new.items ≡ packet.old.items ++ optional_text adaptation_text
+        (option_map (λ a. adaptation_view a.now) adaptation.entry) }
+    ensures len { array_vec_len packet.new ≡ array_vec_len packet.old
+        + length (optional_text adaptation_text
+        (option_map (λ a. adaptation_view a.now) adaptation.entry)) }
+{
+    match adaptation {
+        None => (),
+        Some(Adaptation::Empty) => append(packet, &[0]),
+        Some(Adaptation::Flagged(parts)) => {
+            let size = parts_size(parts) as u8;
+            append(packet, &[1 + size, flags_of(parts)]);
+            append_parts(packet, parts);
+        }
+    }
+}

@@ -1,0 +1,82 @@
+//! Reading a packet.
+ghost use Rattle.std.specs.Prelude.{◌≡◌, length, IfOk, IsOkAnd};
+ghost use Rattle.bit_fields.specs.Reading.{Gives};
+ghost use Rattle.ts_packet.specs.Syntax.{IsPacket};
+ghost use Rattle.ts_packet.specs.Views.{PacketView, packet_view};
+ghost use Rattle.ts_packet.specs.Reading.{header_of, body_at, packet_at};
+
+use crate::field_reading::field_at;
+use crate::header::Header;
+use crate::packet::{Packet, PacketError};
+
+#[tactic(auto, unfolding(crate::specs::Reading::header_of))]
+fn header_of(bytes: &[u8; 188]) -> Header
+    ensures { result ≡ header_of bytes.now }
+{
+    Header {
+        error_indicator: bytes[1] >> 7 & 1 == 1,
+        start_indicator: bytes[1] >> 6 & 1 == 1,
+        priority: bytes[1] >> 5 & 1 == 1,
+        pid: u16::from_be_bytes([bytes[1] & 0x1f, bytes[2]]),
+        scrambling_control: bytes[3] >> 6,
+        continuity_counter: bytes[3] & 0x0f,
+    }
+}
+
+#[tactic(auto, unfolding(crate::specs::Reading::body_at))]
+fn body_at(header: Header, control: u8, bytes: &[u8]) -> Result<Packet<'_>, PacketError>
+    requires { length bytes.now ≡ 184 }
+    ensures { Gives packet_view result (body_at header control bytes.now) }
+{
+    match control {
+        0 => Err(PacketError::ReservedControl),
+        1 => Ok(Packet {
+            header,
+            adaptation: None,
+            payload: Some(bytes),
+        }),
+        2 => {
+            let (adaptation, _) = field_at(183, bytes)?;
+            Ok(Packet {
+                header,
+                adaptation: Some(adaptation),
+                payload: None,
+            })
+        }
+        _ => {
+            let (adaptation, payload) = field_at(182, bytes)?;
+            Ok(Packet {
+                header,
+                adaptation: Some(adaptation),
+                payload: Some(payload),
+            })
+        }
+    }
+}
+
+#[tactic(auto, unfolding(crate::specs::Reading::packet_at))]
+fn packet_at(bytes: &[u8; 188]) -> Result<Packet<'_>, PacketError>
+    ensures { Gives packet_view result (packet_at bytes.now) }
+{
+    if bytes[0] != 0x47 {
+        return Err(PacketError::Sync);
+    }
+    let (_header, rest) = bytes.split_at(4);
+    body_at(header_of(bytes), bytes[3] >> 4 & 3, rest)
+}
+
+/// Reads a packet. Its slices lie in these 188 bytes. Where an adaptation field without payload is shorter than 183
+/// bytes, the bytes behind it are not looked at.
+pub fn read_packet(bytes: &[u8; 188]) -> Result<Packet<'_>, PacketError>
+    // What is read is what the bytes say.
+    ensures found { IfOk result (λ packet. IsPacket bytes.now (packet_view packet)) }
+
+    // What the bytes say is read.
+    ensures only { (packet : PacketView) → IsPacket bytes.now packet →
+        IsOkAnd result (λ read. packet_view read ≡ packet) }
+
+    // Which refusal it is.
+    ensures exact { Gives packet_view result (packet_at bytes.now) }
+{
+    packet_at(bytes)
+}

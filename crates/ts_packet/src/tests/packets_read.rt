@@ -1,0 +1,191 @@
+//! Packets by hand, and each change of one byte of them.
+use super::packet_of;
+use crate::{Adaptation, ClockReference, PacketError, read_packet};
+use std::test::Fail;
+
+/// Each part of an adaptation field: flags with a discontinuity, a PCR of base 2^33 - 1 and extension 299, an OPCR of 1
+/// and 2, a splice_countdown of -3, two bytes of private data, one of extension, and two of stuffing.
+const ALL_PARTS: [u8; 28] = [
+    0x47, 0xe1, 0x23, 0xf5, 23, 0x9f, 0xff, 0xff, 0xff, 0xff, 0xff, 0x2b, 0x00, 0x00, 0x00, 0x00,
+    0xfe, 0x02, 0xfd, 2, 0xaa, 0xbb, 1, 0xcc, 0xff, 0xff, 0xff, 0xff,
+];
+
+const CLOCK: [u8; 12] = [
+    0x47, 0x01, 0x01, 0x2f, 0xb7, 0x10, 0x00, 0x00, 0x00, 0x2f, 0x7e, 0xec,
+];
+
+fn code_of(bytes: &[u8; 188]) -> u8 {
+    match read_packet(bytes) {
+        Ok(_) => 0,
+        Err(e) => e.code(),
+    }
+}
+
+#[test]
+fn refuses_each_fault(rt: HostRuntime) {
+    assert_eq!(rt; code_of(&packet_of(&[0x46, 0x01, 0x00, 0x10])), 1);
+    assert_eq!(rt;
+        code_of(&packet_of(&[0x47, 0x01, 0x00, 0x00, 0xb7, 0x00])),
+        2
+    );
+    assert_eq!(rt;
+        code_of(&packet_of(&[0x47, 0x01, 0x00, 0x30, 0xb7, 0x00])),
+        3
+    );
+    assert_eq!(rt;
+        code_of(&packet_of(&[0x47, 0x01, 0x00, 0x20, 0xb8, 0x00])),
+        3
+    );
+    assert_eq!(rt;
+        code_of(&packet_of(&[0x47, 0x01, 0x00, 0x30, 0x01, 0x10])),
+        4
+    );
+    assert_eq!(rt;
+        code_of(&packet_of(&[0x47, 0x01, 0x00, 0x20, 0xb7, 0x02, 0xff])),
+        4
+    );
+    assert_eq!(rt;
+        code_of(&packet_of(&[0x46, 0x01, 0x00, 0x00, 0xff, 0x10])),
+        1
+    );
+    assert_eq!(rt;
+        code_of(&packet_of(&[0x47, 0x01, 0x00, 0x00, 0xff, 0x10])),
+        2
+    );
+    assert_eq!(rt;
+        code_of(&packet_of(&[0x47, 0x01, 0x00, 0x30, 0xff, 0xff])),
+        3
+    );
+}
+
+#[test]
+fn reads_a_payload_alone(rt: HostRuntime) {
+    let bytes = packet_of(&[0x47, 0x41, 0x00, 0x17]);
+    let Ok(packet) = read_packet(&bytes) else {
+        assert!(rt; false);
+        return;
+    };
+    assert!(rt; packet.header.start_indicator);
+    assert_eq!(rt; packet.header.pid, 256);
+    assert_eq!(rt; packet.header.continuity_counter, 7);
+    assert!(rt; packet.adaptation.is_none());
+    assert_eq!(rt; packet.payload.map(|payload| payload.len()), Some(184));
+}
+
+#[test]
+fn reads_each_part(rt: HostRuntime) {
+    let bytes = packet_of(&ALL_PARTS);
+    let Ok(packet) = read_packet(&bytes) else {
+        assert!(rt; false);
+        return;
+    };
+    let header = packet.header;
+    assert!(rt; header.error_indicator && header.start_indicator && header.priority);
+    assert_eq!(rt;
+        (
+            header.pid,
+            header.scrambling_control,
+            header.continuity_counter
+        ),
+        (0x123, 3, 5)
+    );
+    let Some(Adaptation::Flagged(parts)) = packet.adaptation else {
+        assert!(rt; false);
+        return;
+    };
+    assert!(rt; parts.discontinuity && !parts.random_access && !parts.priority);
+    let last = ClockReference {
+        base: (1 << 33) - 1,
+        extension: 299,
+    };
+    assert_eq!(rt; parts.pcr, Some(last));
+    assert_eq!(rt;
+        parts.opcr,
+        Some(ClockReference {
+            base: 1,
+            extension: 2
+        })
+    );
+    assert_eq!(rt; parts.splice_countdown, Some(-3));
+    assert_eq!(rt; parts.private_data, Some([0xaa, 0xbb].as_slice()));
+    assert_eq!(rt; parts.extension, Some([0xcc].as_slice()));
+    assert_eq!(rt; parts.stuffing, [0xff; 4].as_slice());
+    assert_eq!(rt; packet.payload.map(|payload| payload.len()), Some(160));
+}
+
+#[test]
+fn does_not_look_behind_a_field_without_payload(rt: HostRuntime) {
+    let bytes = packet_of(&[0x47, 0x01, 0x00, 0x20, 0x00, 0x12]);
+    let Ok(packet) = read_packet(&bytes) else {
+        assert!(rt; false);
+        return;
+    };
+    assert!(rt; matches!(&packet.adaptation, Some(Adaptation::Empty)));
+    assert!(rt; packet.payload.is_none());
+}
+
+#[test]
+fn prints_a_refusal(rt: HostRuntime) -> Result<(), Fail> {
+    let text = format!(in rt.alloc(); "{}", PacketError::FieldTooLong)?;
+    assert_eq!(rt;
+        text.as_str(),
+        "the adaptation field is longer than the packet"
+    );
+    Ok(())
+}
+
+/// The refusal by the standard's lengths: the flagged parts are stepped over one by one.
+fn wanted(bytes: &[u8; 188]) -> u8 {
+    let length = bytes[4] as usize;
+    match (bytes[0], bytes[3] & 0x30) {
+        (0x47, 0x10) => 0,
+        (0x47, 0x00) => 2,
+        (0x47, 0x20) if length > 183 => 3,
+        (0x47, 0x30) if length > 182 => 3,
+        (0x47, _) if length > 0 && behind_parts(bytes) > 5 + length => 4,
+        (0x47, _) => 0,
+        _ => 1,
+    }
+}
+
+/// The place behind the flagged parts, each with its length where it has one.
+fn behind_parts(bytes: &[u8; 188]) -> usize {
+    let flags = bytes[5];
+    let mut place = 6_usize;
+    for (flag, size) in [(0x10, 6), (0x08, 6), (0x04, 1)] {
+        if flags & flag != 0 {
+            place = place.saturating_add(size);
+        }
+    }
+    for flag in [0x02, 0x01] {
+        if flags & flag != 0 {
+            let counted = bytes.get(place).copied().unwrap_or(255);
+            place = place.saturating_add(1 + counted as usize);
+        }
+    }
+    place
+}
+
+#[test]
+fn answers_each_change_of_a_byte(rt: HostRuntime) {
+    let rows: [&[u8]; 7] = [
+        &[0x47, 0x41, 0x00, 0x10],
+        &[0x47, 0x41, 0x00, 0x30, 0x00],
+        &[0x47, 0x41, 0x00, 0x30, 0x01, 0x00],
+        &[0x47, 0x01, 0x00, 0x33, 0x91, 0x00],
+        &[0x47, 0x1f, 0xff, 0x10],
+        &CLOCK,
+        &ALL_PARTS,
+    ];
+    for row in rows {
+        let valid = packet_of(row);
+        assert_eq!(rt; code_of(&valid), 0);
+        for place in 0..188 {
+            for value in [0x00, 0x7f, 0x80, 0xff] {
+                let mut changed = packet_of(row);
+                changed[place] = value;
+                assert_eq!(rt; code_of(&changed), wanted(&changed), "{value} at {place}");
+            }
+        }
+    }
+}
