@@ -1,0 +1,288 @@
+-- A header is read exactly where it stands by the table of its fields.
+use Rattle.std.proofs.Common.{◌≡◌, ℕ, ◌+◌, ◌*◌, ◌/◌, ◌%◌, ◌^◌, ◌<◌, ◌≤◌, ◌&&◌, not, Bool, true, false, cond, Result, Ok, Err, List, [], ◌∷◌, ◌++◌, length, take, drop, refl, sym, ap, ◌∙◌, subst, arith, ltb, eqb, suc, ◌⊎◌, inl, inr, IfOk}
+use Rattle.std.proofs.lemmas.Bool.{eqb-true, eq-eqb, or_parts, or_from, ltb-false, le-ltb, ne_eqb, cases_eq}
+use Rattle.std.proofs.lemmas.List.{length-append, length-take-le, take-append-drop, take_at}
+use Rattle.bit_fields.specs.Fields.{number, fields, IsBytes}
+use Rattle.bit_fields.proofs.Binding.{bind_ok, guard_ok, chosen, ok_not_err}
+use Rattle.bit_fields.proofs.ByteLists.{IsBytes-tail, IsBytes-take, IsBytes-append_left, IsBytes-append_right}
+use Rattle.pes_packet.specs.StreamIds.{has_flags}
+use Rattle.pes_packet.specs.Reading.{stamps_at, is_bad_flags, is_too_short, data_at, flags_at, start_at, misses_prefix, header_at}
+use Rattle.pes_packet.specs.Syntax.{IsStamps, IsStart, IsFlags, IsBehind, IsPesHeader, stamp_flags}
+use Rattle.pes_packet.specs.declared.refusal.PesError.{PesError}
+use Rattle.pes_packet.specs.declared.refusal.PesError.TheVariants.{Short, Prefix}
+use Rattle.pes_packet.specs.declared.time_stamps.Stamps.{Stamps}
+use Rattle.pes_packet.specs.declared.time_stamps.Stamps.TheVariants.{Absent, Pts, PtsDts}
+use Rattle.pes_packet.specs.declared.reading.PesHeader.{PesHeader}
+use Rattle.pes_packet.proofs.StampFields.{stamps_takes, stamps_again}
+
+not_false : (b : Bool) → not b ≡ false → b ≡ true
+not_false true e = refl
+not_false false e = absurd cc
+
+-- what the tests on the flag bytes tell
+pub good_flags : (first second : ℕ) → is_bad_flags first second ≡ false → first / 64 ≡ 2
+good_flags first second e = let p = or_parts _ _ e in eqb-true _ _ (not_false _ p.0)
+
+-- what the test on PES_packet_length tells
+pub counts : (len size : ℕ) → is_too_short len size ≡ false → (len ≡ 0) ⊎ (3 + size ≤ len)
+counts len size e =
+    elim (cases_eq len 0) [
+      | inl none ↦ inl none
+      | inr some ↦ inr (ltb-false _ _ (rw (ne_eqb len 0 some) at e))
+    ]
+
+and_false : (b : Bool) → (b && false) ≡ false
+and_false true = refl
+and_false false = refl
+
+pub counts_again : (len size : ℕ) → (len ≡ 0) ⊎ (3 + size ≤ len) → is_too_short len size ≡ false
+counts_again len size (inl none) = rw (eq-eqb len 0 none) refl
+counts_again len size (inr some) = rw (le-ltb len (3 + size) some) (and_false (not (eqb len 0)))
+
+flags_of : (first second size : ℕ) (stamps : Stamps) → first < 256 → second < 256 → size < 256
+    → first / 64 ≡ 2 → second / 64 ≡ stamp_flags stamps → IsFlags (first ∷ second ∷ size ∷ []) stamps size
+flags_of first second size stamps hf hs hn two flags = record {
+  len = refl;
+  control = first % 64;
+  parts = second % 64;
+  spelled = omega (arith, two, flags);
+  control_fits = omega arith;
+  parts_fit = omega arith;
+  length_fits = hn;
+}
+
+-- what was read behind PES_packet_length
+pub record ReadsBehind (id len : ℕ) (bytes : List ℕ) (header : PesHeader) (size : ℕ) : Type 0 where
+  pub behind : List ℕ
+  pub rest : List ℕ
+  pub is : bytes ≡ behind ++ rest
+  pub id_is : header.id ≡ id
+  pub len_is : header.len ≡ len
+  pub size_is : size ≡ 6 + length behind
+  pub stands : IsBehind (has_flags id) behind header
+
+flags_takes : (id len : ℕ) (bytes : List ℕ) (header : PesHeader) (size : ℕ) → IsBytes bytes → has_flags id ≡ true
+    → flags_at id len bytes ≡ Ok (header, size) → ReadsBehind id len bytes header size
+unfolding flags_at data_at
+flags_takes id len (first ∷ second ∷ count ∷ bytes) header size fits flagged read =
+    let g = guard_ok _ _ _ _ read in
+    let f = guard_ok _ _ _ _ g.1 in
+    let n = guard_ok _ _ _ _ f.1 in
+    let b = bind_ok (stamps_at (second / 64) (take count bytes)) _ (header, size) n.1 in
+    let more : IsBytes bytes = IsBytes-tail count bytes (IsBytes-tail second (count ∷ bytes) (IsBytes-tail first (second ∷ count ∷ bytes) fits)) in
+    let s = stamps_takes (second / 64) (take count bytes) b.0 (IsBytes-take count bytes more) b.1 in
+    let made : ◌≡◌ {A = Result (PesHeader × ℕ) PesError} (Ok (record { id = id; len = len; stamps = b.0 }, 9 + count)) (Ok (header, size)) = b.2 in
+    let is : ◌≡◌ {A = PesHeader × ℕ} (record { id = id; len = len; stamps = b.0 }, 9 + count) (header, size) = cc (made) in
+    let there : count ≤ length bytes = ltb-false _ _ g.0 in
+    let took : length (take count bytes) ≡ count = length-take-le count bytes there in
+    let parts : length (take count bytes) ≡ length s.text + length s.others = ap (length {A = ℕ}) s.is ∙ length-append s.text s.others in
+    let whole : length s.text + length s.others ≡ count = sym parts ∙ took in
+    let flags : IsFlags (first ∷ second ∷ count ∷ []) b.0 (length s.text + length s.others) =
+    subst (λ (x : ℕ). IsFlags (first ∷ second ∷ count ∷ []) b.0 x) (sym whole)
+    (flags_of first second count b.0 (fits 0) (fits 1) (fits 2) (good_flags first second f.0) s.flags_are) in
+    subst (λ (x : PesHeader × ℕ). ReadsBehind id len (first ∷ second ∷ count ∷ bytes) x.0 x.1) is (record {
+      behind = (first ∷ second ∷ count ∷ []) ++ (s.text ++ s.others);
+      rest = drop count bytes;
+      is = ap (λ (t : List ℕ). first ∷ second ∷ count ∷ t) (sym (take-append-drop count bytes) ∙ ap (λ (t : List ℕ). t ++ drop count bytes) s.is);
+      id_is = refl;
+      len_is = refl;
+      size_is = omega (arith, length-append s.text s.others);
+      stands = rw flagged (record {
+        flags = first ∷ second ∷ count ∷ [];
+        stamps = s.text;
+        others = s.others;
+        is = refl;
+        flags_stand = flags;
+        stamps_stand = s.stand;
+        counted = elim (counts len count n.0) [
+          | inl none ↦ inl none
+          | inr some ↦ inr (omega (arith, length-append s.text s.others))
+        ];
+      });
+    })
+flags_takes id len [] header size fits flagged read = absurd cc
+flags_takes id len (first ∷ []) header size fits flagged read = absurd cc
+flags_takes id len (first ∷ second ∷ []) header size fits flagged read = absurd cc
+
+behind_takes : (id len : ℕ) (bytes : List ℕ) (header : PesHeader) (size : ℕ) → IsBytes bytes
+    → cond (has_flags id) (flags_at id len bytes) (Ok (record { id = id; len = len; stamps = Absent }, 6)) ≡ Ok (header, size)
+    → ReadsBehind id len bytes header size
+behind_takes id len bytes header size fits read =
+    elim (chosen (has_flags id) _ _ _ read) [
+      | inl some ↦ flags_takes id len bytes header size fits some.0 some.1
+      | inr none ↦
+          let made : ◌≡◌ {A = Result (PesHeader × ℕ) PesError} (Ok (record { id = id; len = len; stamps = Absent }, 6)) (Ok (header, size)) = none.1 in
+          let is : ◌≡◌ {A = PesHeader × ℕ} (record { id = id; len = len; stamps = Absent }, 6) (header, size) = cc (made) in
+          subst (λ (x : PesHeader × ℕ). ReadsBehind id len bytes x.0 x.1) is (record {
+            behind = [];
+            rest = bytes;
+            is = refl;
+            id_is = refl;
+            len_is = refl;
+            size_is = refl;
+            stands = rw none.0 (refl, refl);
+          })
+    ]
+
+start_of : (p q r id high low : ℕ) (header : PesHeader) → id < 256 → high < 256 → low < 256 → p ≡ 0 → q ≡ 0 → r ≡ 1
+    → header.id ≡ id → header.len ≡ high * 256 + low → IsStart (p ∷ q ∷ r ∷ id ∷ high ∷ low ∷ []) header
+start_of p q r id high low header hi hh hl ep eq er ei el = record {
+  len = refl;
+  spelled = omega arith;
+  id = omega arith;
+  packet_length = omega arith;
+}
+
+-- the three bytes that do not miss the prefix
+prefix_is : (p q r : ℕ) (more : List ℕ) → misses_prefix (p ∷ q ∷ r ∷ more) ≡ false → (p ≡ 0) × (q ≡ 0) × (r ≡ 1)
+prefix_is p q r more e =
+    let a = or_parts _ _ e in
+    let b = or_parts _ _ a.1 in
+    let d = or_parts _ _ b.1 in
+    (sym (eqb-true _ _ (not_false _ a.0)), sym (eqb-true _ _ (not_false _ b.0)), sym (eqb-true _ _ (not_false _ d.0)))
+
+-- what is read is a header by the table of fields
+pub header_takes : (bytes : List ℕ) (header : PesHeader) (size : ℕ) → IsBytes bytes → header_at bytes ≡ Ok (header, size) → IsPesHeader bytes header size
+unfolding header_at start_at
+header_takes (p ∷ q ∷ r ∷ id ∷ high ∷ low ∷ bytes) header size fits read =
+    let g = guard_ok _ _ _ _ read in
+    let e = prefix_is p q r (id ∷ high ∷ low ∷ bytes) g.0 in
+    let more : IsBytes bytes = λ i. fits (suc (suc (suc (suc (suc (suc i)))))) in
+    let b = behind_takes id (high * 256 + low) bytes header size more g.1 in
+    record {
+      start = p ∷ q ∷ r ∷ id ∷ high ∷ low ∷ [];
+      behind = b.behind;
+      rest = b.rest;
+      is = ap (λ (t : List ℕ). p ∷ q ∷ r ∷ id ∷ high ∷ low ∷ t) b.is;
+      size_is = b.size_is;
+      start_stands = start_of p q r id high low header (fits 3) (fits 4) (fits 5) e.0 e.1 e.2 b.id_is b.len_is;
+      behind_stands = subst (λ (x : ℕ). IsBehind (has_flags x) b.behind header) (sym b.id_is) b.stands;
+    }
+header_takes [] header size fits read = ok_not_err (header, size) Short (sym (guard_ok (misses_prefix []) Prefix (Err Short) (header, size) read).1)
+header_takes (p ∷ []) header size fits read = ok_not_err (header, size) Short (sym (guard_ok (misses_prefix (p ∷ [])) Prefix (Err Short) (header, size) read).1)
+header_takes (p ∷ q ∷ []) header size fits read = ok_not_err (header, size) Short (sym (guard_ok (misses_prefix (p ∷ q ∷ [])) Prefix (Err Short) (header, size) read).1)
+header_takes (p ∷ q ∷ r ∷ []) header size fits read = ok_not_err (header, size) Short (sym (guard_ok (misses_prefix (p ∷ q ∷ r ∷ [])) Prefix (Err Short) (header, size) read).1)
+header_takes (p ∷ q ∷ r ∷ id ∷ []) header size fits read = ok_not_err (header, size) Short (sym (guard_ok (misses_prefix (p ∷ q ∷ r ∷ id ∷ [])) Prefix (Err Short) (header, size) read).1)
+header_takes (p ∷ q ∷ r ∷ id ∷ high ∷ []) header size fits read = ok_not_err (header, size) Short (sym (guard_ok (misses_prefix (p ∷ q ∷ r ∷ id ∷ high ∷ [])) Prefix (Err Short) (header, size) read).1)
+
+start_numbers : (p q r id high low : ℕ) (header : PesHeader) → p < 256 → q < 256 → r < 256 → id < 256 → high < 256 → low < 256
+    → number (p ∷ q ∷ r ∷ id ∷ high ∷ low ∷ []) ≡ fields ((24, 1) ∷ (8, header.id) ∷ (16, header.len) ∷ [])
+    → header.id < 2 ^ 8 → header.len < 2 ^ 16
+    → (p ≡ 0) × (q ≡ 0) × (r ≡ 1) × (id ≡ header.id) × (high * 256 + low ≡ header.len)
+start_numbers p q r id high low header hp hq hr hi hh hl is below_id below_len =
+    (omega arith, omega arith, omega arith, omega arith, omega arith)
+
+flags_below : (stamps : Stamps) → stamp_flags stamps < 4
+flags_below Absent = omega arith
+flags_below (Pts pts) = omega arith
+flags_below (PtsDts pts dts) = omega arith
+
+flags_not_one : (stamps : Stamps) → stamp_flags stamps ≡ 1 → ⊥
+flags_not_one Absent e = omega arith
+flags_not_one (Pts pts) e = omega arith
+flags_not_one (PtsDts pts dts) e = omega arith
+
+flag_numbers : (first second count control flags parts n : ℕ) → first < 256 → second < 256 → count < 256
+    → number (first ∷ second ∷ count ∷ []) ≡ fields ((2, 2) ∷ (6, control) ∷ (2, flags) ∷ (6, parts) ∷ (8, n) ∷ [])
+    → control < 2 ^ 6 → flags < 4 → parts < 2 ^ 6 → n < 2 ^ 8
+    → (first / 64 ≡ 2) × (second / 64 ≡ flags) × (count ≡ n)
+flag_numbers first second count control flags parts n hf hs hc is bc bf bp bn = (omega arith, omega arith, omega arith)
+
+bad_again : (first second : ℕ) → first / 64 ≡ 2 → (second / 64 ≡ 1 → ⊥) → is_bad_flags first second ≡ false
+bad_again first second two one = or_from _ _ (ap not (eq-eqb _ _ two)) (ne_eqb _ _ one)
+
+-- header data is read behind flag bytes
+flagged_again : (header : PesHeader) (first second count : ℕ) (stamps others rest : List ℕ)
+    → first < 256 → second < 256 → count < 256 → IsBytes stamps
+    → IsFlags (first ∷ second ∷ count ∷ []) header.stamps (length stamps + length others)
+    → IsStamps stamps header.stamps
+    → (header.len ≡ 0) ⊎ (3 + (length stamps + length others) ≤ header.len)
+    → flags_at header.id header.len (first ∷ second ∷ count ∷ ((stamps ++ others) ++ rest)) ≡ Ok (header, 9 + (length stamps + length others))
+unfolding flags_at data_at
+flagged_again header first second count stamps others rest hf hs hc fits flags stand counted =
+    let n = flag_numbers first second count flags.control (stamp_flags header.stamps) flags.parts (length stamps + length others)
+    hf hs hc flags.spelled flags.control_fits (flags_below header.stamps) flags.parts_fit flags.length_fits in
+    let whole : length (stamps ++ others) ≡ count = length-append stamps others ∙ sym n.2 in
+    let there : ltb (length ((stamps ++ others) ++ rest)) count ≡ false = le-ltb _ _ (omega (arith, length-append (stamps ++ others) rest, whole)) in
+    let took : take count ((stamps ++ others) ++ rest) ≡ stamps ++ others = take_at (stamps ++ others) rest count whole in
+    let good : is_bad_flags first second ≡ false = bad_again first second n.0 (λ one. flags_not_one header.stamps (sym n.1 ∙ one)) in
+    let long : is_too_short header.len count ≡ false = counts_again header.len count (subst (λ (x : ℕ). (header.len ≡ 0) ⊎ (3 + x ≤ header.len)) (sym n.2) counted) in
+    let stamp : stamps_at (second / 64) (take count ((stamps ++ others) ++ rest)) ≡ Ok header.stamps =
+    rw (n.1, took) (stamps_again header.stamps stamps others fits stand) in
+    rw (there, good, long, stamp, n.2) refl
+
+flagged_by : (header : PesHeader) (flags stamps others rest : List ℕ) → IsBytes flags → IsBytes stamps
+    → IsFlags flags header.stamps (length stamps + length others) → IsStamps stamps header.stamps
+    → (header.len ≡ 0) ⊎ (length (flags ++ (stamps ++ others)) ≤ header.len)
+    → flags_at header.id header.len ((flags ++ (stamps ++ others)) ++ rest) ≡ Ok (header, 6 + length (flags ++ (stamps ++ others)))
+flagged_by header (first ∷ second ∷ count ∷ []) stamps others rest fits_flags fits stands stand counted =
+    let joined : length (stamps ++ others) ≡ length stamps + length others = length-append stamps others in
+    let there : (header.len ≡ 0) ⊎ (3 + (length stamps + length others) ≤ header.len) =
+    elim counted [ inl none ↦ inl none | inr some ↦ inr (omega (arith, some, joined)) ] in
+    let size : 9 + (length stamps + length others) ≡ 6 + (3 + length (stamps ++ others)) = omega (arith, joined) in
+    flagged_again header first second count stamps others rest (fits_flags 0) (fits_flags 1) (fits_flags 2) fits stands stand there
+    ∙ ap (λ (n : ℕ). Ok (header, n)) (size ∙ omega arith)
+flagged_by header [] stamps others rest fits_flags fits stands stand counted = absurd (omega (arith, stands.len))
+flagged_by header (first ∷ []) stamps others rest fits_flags fits stands stand counted = absurd (omega (arith, stands.len))
+flagged_by header (first ∷ second ∷ []) stamps others rest fits_flags fits stands stand counted = absurd (omega (arith, stands.len))
+flagged_by header (first ∷ second ∷ count ∷ more ∷ flags) stamps others rest fits_flags fits stands stand counted = absurd (omega (arith, stands.len))
+
+behind_by : (b : Bool) (header : PesHeader) (behind rest : List ℕ) → IsBytes behind → IsBehind b behind header
+    → cond b (flags_at header.id header.len (behind ++ rest)) (Ok (record { id = header.id; len = header.len; stamps = Absent }, 6))
+    ≡ Ok (header, 6 + length behind)
+behind_by true header behind rest fits stands =
+    let whole : IsBytes (stands.flags ++ (stands.stamps ++ stands.others)) = subst IsBytes stands.is fits in
+    let later : IsBytes (stands.stamps ++ stands.others) = IsBytes-append_right stands.flags (stands.stamps ++ stands.others) whole in
+    let counted : (header.len ≡ 0) ⊎ (length (stands.flags ++ (stands.stamps ++ stands.others)) ≤ header.len) =
+    subst (λ (x : List ℕ). (header.len ≡ 0) ⊎ (length x ≤ header.len)) stands.is stands.counted in
+    rw (stands.is)
+    (flagged_by header stands.flags stands.stamps stands.others rest
+    (IsBytes-append_left stands.flags (stands.stamps ++ stands.others) whole) (IsBytes-append_left stands.stamps stands.others later)
+    stands.flags_stand stands.stamps_stand counted)
+behind_by false header behind rest fits stands =
+    let whole : ◌≡◌ {A = PesHeader} (record { id = header.id; len = header.len; stamps = Absent }) header = rw (sym stands.1) refl in
+    let size : 6 ≡ 6 + length behind = sym (ap (λ (t : List ℕ). 6 + length t) stands.0) in
+    ap (λ (h : PesHeader). Ok (h, 6)) whole ∙ ap (λ (n : ℕ). Ok (header, n)) size
+
+-- what stands behind PES_packet_length is read
+behind_again : (header : PesHeader) (behind rest : List ℕ) → IsBytes behind → IsBehind (has_flags header.id) behind header
+    → cond (has_flags header.id) (flags_at header.id header.len (behind ++ rest)) (Ok (record { id = header.id; len = header.len; stamps = Absent }, 6))
+    ≡ Ok (header, 6 + length behind)
+behind_again header behind rest fits stands = behind_by (has_flags header.id) header behind rest fits stands
+
+prefix_again : (more : List ℕ) → misses_prefix (0 ∷ 0 ∷ 1 ∷ more) ≡ false
+prefix_again more = refl
+
+start_again : (header : PesHeader) (start behind rest : List ℕ) → IsBytes start → IsBytes behind → IsStart start header
+    → IsBehind (has_flags header.id) behind header → header_at (start ++ (behind ++ rest)) ≡ Ok (header, length start + length behind)
+unfolding header_at start_at
+start_again header (p ∷ q ∷ r ∷ id ∷ high ∷ low ∷ []) behind rest fits fits_behind stands behind_stands =
+    let n = start_numbers p q r id high low header (fits 0) (fits 1) (fits 2) (fits 3) (fits 4) (fits 5) stands.spelled stands.id stands.packet_length in
+    rw (n.0, n.1, n.2, n.3, n.4) (behind_again header behind rest fits_behind behind_stands)
+start_again header [] behind rest fits fits_behind stands behind_stands = absurd (omega (arith, stands.len))
+start_again header (p ∷ []) behind rest fits fits_behind stands behind_stands = absurd (omega (arith, stands.len))
+start_again header (p ∷ q ∷ []) behind rest fits fits_behind stands behind_stands = absurd (omega (arith, stands.len))
+start_again header (p ∷ q ∷ r ∷ []) behind rest fits fits_behind stands behind_stands = absurd (omega (arith, stands.len))
+start_again header (p ∷ q ∷ r ∷ id ∷ []) behind rest fits fits_behind stands behind_stands = absurd (omega (arith, stands.len))
+start_again header (p ∷ q ∷ r ∷ id ∷ high ∷ []) behind rest fits fits_behind stands behind_stands = absurd (omega (arith, stands.len))
+start_again header (p ∷ q ∷ r ∷ id ∷ high ∷ low ∷ more ∷ start) behind rest fits fits_behind stands behind_stands = absurd (omega (arith, stands.len))
+
+-- a header that stands by the table of fields is read, whatever follows it
+pub header_again : (bytes : List ℕ) (header : PesHeader) (size : ℕ) (h : IsPesHeader bytes header size) → IsBytes h.start → IsBytes h.behind
+    → header_at bytes ≡ Ok (header, size)
+header_again bytes header size h fits_start fits_behind =
+    rw (h.is, h.size_is) (start_again header h.start h.behind h.rest fits_start fits_behind h.start_stands h.behind_stands)
+
+-- what an answer of the reading function tells
+pub is_found : (bytes : List ℕ) (r : Result (PesHeader × ℕ) PesError) → IsBytes bytes → r ≡ header_at bytes
+    → IfOk r (λ read. IsPesHeader bytes read.0 read.1)
+is_found bytes (Ok read) fits e = header_takes bytes read.0 read.1 fits (sym e)
+is_found bytes (Err refusal) fits e = tt
+
+-- a header that stands in bytes is read
+pub header_is_read : (bytes : List ℕ) (header : PesHeader) (size : ℕ) → IsBytes bytes → IsPesHeader bytes header size → header_at bytes ≡ Ok (header, size)
+header_is_read bytes header size fits h =
+    let whole : IsBytes (h.start ++ (h.behind ++ h.rest)) = subst IsBytes h.is fits in
+    header_again bytes header size h
+    (IsBytes-append_left h.start (h.behind ++ h.rest) whole)
+    (IsBytes-append_left h.behind h.rest (IsBytes-append_right h.start (h.behind ++ h.rest) whole))

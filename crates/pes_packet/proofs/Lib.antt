@@ -1,0 +1,5 @@
+pub mod StampFields
+pub mod HeaderFields
+pub mod Written
+pub mod Longer
+pub mod PieceLists

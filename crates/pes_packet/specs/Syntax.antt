@@ -1,0 +1,77 @@
+-- The header of a PES packet as the standard's table of fields (ISO/IEC 13818-1, 2.4.3.6, table 2-21).
+use Rattle.std.specs.Prelude.{◌≡◌, ℕ, ◌+◌, ◌/◌, ◌%◌, ◌^◌, ◌<◌, ◌≤◌, ◌⊎◌, Bool, true, false, List, [], ◌∷◌, ◌++◌, length}
+use Rattle.bit_fields.specs.Fields.{number, fields}
+use Rattle.pes_packet.specs.StreamIds.{has_flags}
+use Rattle.pes_packet.specs.declared.time_stamps.Stamps.{Stamps}
+use Rattle.pes_packet.specs.declared.time_stamps.Stamps.TheVariants.{Absent, Pts, PtsDts}
+use Rattle.pes_packet.specs.declared.reading.PesHeader.{PesHeader}
+
+-- a stamp: four bits that are not looked at, then 3, 15 and 15 bits with a marker bit 1 behind each
+pub record IsStamp (text : List ℕ) (stamp : ℕ) : Type 0 where
+  pub len : length text ≡ 5
+  pub mark : ℕ
+  pub spelled : number text ≡ fields ((4, mark) ∷ (3, stamp / 2 ^ 30) ∷ (1, 1) ∷ (15, stamp / 2 ^ 15 % 2 ^ 15) ∷ (1, 1) ∷ (15, stamp % 2 ^ 15) ∷ (1, 1) ∷ [])
+  pub below : stamp < 2 ^ 33
+
+-- a PTS, and a DTS behind it
+pub record IsPtsDts (text : List ℕ) (pts dts : ℕ) : Type 0 where
+  pub first : List ℕ
+  pub second : List ℕ
+  pub is : text ≡ first ++ second
+  pub pts_stands : IsStamp first pts
+  pub dts_stands : IsStamp second dts
+
+-- the stamps
+abbrev pub IsStamps : List ℕ → Stamps → Type 0
+IsStamps text Absent = text ≡ []
+IsStamps text (Pts pts) = IsStamp text pts
+IsStamps text (PtsDts pts dts) = IsPtsDts text pts dts
+
+-- PTS_DTS_flags
+abbrev pub stamp_flags : Stamps → ℕ
+stamp_flags Absent = 0
+stamp_flags (Pts pts) = 2
+stamp_flags (PtsDts pts dts) = 3
+
+-- packet_start_code_prefix, stream_id, PES_packet_length
+pub record IsStart (text : List ℕ) (header : PesHeader) : Type 0 where
+  pub len : length text ≡ 6
+  pub spelled : number text ≡ fields ((24, 1) ∷ (8, header.id) ∷ (16, header.len) ∷ [])
+  pub id : header.id < 2 ^ 8
+  pub packet_length : header.len < 2 ^ 16
+
+-- bits 10, six bits that are not looked at (scrambling, priority, alignment, copyright, original), PTS_DTS_flags, six
+-- flags of other parts, PES_header_data_length
+pub record IsFlags (text : List ℕ) (stamps : Stamps) (data_length : ℕ) : Type 0 where
+  pub len : length text ≡ 3
+  pub control : ℕ
+  pub parts : ℕ
+  pub spelled : number text ≡ fields ((2, 2) ∷ (6, control) ∷ (2, stamp_flags stamps) ∷ (6, parts) ∷ (8, data_length) ∷ [])
+  pub control_fits : control < 2 ^ 6
+  pub parts_fit : parts < 2 ^ 6
+  pub length_fits : data_length < 2 ^ 8
+
+-- the flag bytes, the stamps, and header data that is stepped over; PES_packet_length is 0 or counts them
+pub record IsFlagged (text : List ℕ) (header : PesHeader) : Type 0 where
+  pub flags : List ℕ
+  pub stamps : List ℕ
+  pub others : List ℕ
+  pub is : text ≡ flags ++ (stamps ++ others)
+  pub flags_stand : IsFlags flags header.stamps (length stamps + length others)
+  pub stamps_stand : IsStamps stamps header.stamps
+  pub counted : (header.len ≡ 0) ⊎ (length text ≤ header.len)
+
+-- what stands behind PES_packet_length, by whether the stream_id has flag bytes
+abbrev pub IsBehind : Bool → List ℕ → PesHeader → Type 0
+IsBehind true text header = IsFlagged text header
+IsBehind false text header = (text ≡ []) × (header.stamps ≡ Absent)
+
+-- the bytes begin with this header, of this size in bytes
+pub record IsPesHeader (bytes : List ℕ) (header : PesHeader) (size : ℕ) : Type 0 where
+  pub start : List ℕ
+  pub behind : List ℕ
+  pub rest : List ℕ
+  pub is : bytes ≡ start ++ (behind ++ rest)
+  pub size_is : size ≡ length start + length behind
+  pub start_stands : IsStart start header
+  pub behind_stands : IsBehind (has_flags header.id) behind header

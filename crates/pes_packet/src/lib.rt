@@ -1,0 +1,27 @@
+//! Packetized elementary streams (ISO/IEC 13818-1, 2.4.3.6 and 2.4.3.7): access units, the headers of
+//! PES packets, written and read, and the payloads that a PES packet is cut into.
+//!
+//! Definitions first: `specs/StreamIds` says what each stream_id may carry, `specs/Syntax` is the
+//! standard's table of the header's fields, `specs/Reading` reads them from left to right, `specs/Spelling`
+//! is what is written, `specs/Payloads` the pieces of a packet. The modules stand in reading order: a unit,
+//! what its stream_id allows, the refusals, stamps, headers read and written, the laws.
+#![tactic(auto)]
+
+mod access_unit;
+mod laws;
+mod reading;
+mod refusal;
+mod stream_ids;
+mod time_stamps;
+mod writing;
+
+pub use access_unit::Unit;
+pub use laws::{header_sizes, longer_is_read, payloads_join, written_is_header, written_is_read};
+pub use reading::{PesHeader, read_header};
+pub use refusal::PesError;
+pub use stream_ids::{fits_packet, greatest_size, has_flags, is_unit_id};
+pub use time_stamps::Stamps;
+pub use writing::write_header;
+
+#[cfg(test)]
+mod tests;

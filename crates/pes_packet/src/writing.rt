@@ -1,0 +1,85 @@
+//! PES headers written (ISO/IEC 13818-1, 2.4.3.6, table 2-21).
+
+ghost use Rattle.std.specs.Prelude.{◌≡◌, ◌+◌, ◌<◌, ◌≤◌, ◌^◌, ◌++◌, length, IsTrue};
+ghost use Rattle.arrayvec.specs.ArrayVec.{array_vec_len};
+ghost use Rattle.pes_packet.specs.StreamIds.{fits_packet};
+ghost use Rattle.pes_packet.specs.Spelling.{start_text, packet_length, pts_header, pts_dts_header, header_text};
+
+use crate::time_stamps::stamp_text;
+use arrayvec::ArrayVec;
+
+// Stamps are taken modulo this on the wire.
+const STAMPS: u64 = 1 << 33;
+
+/// Writes the header of a PES packet: stream_id `id`, a unit of `size` bytes, its stamps in units of
+/// 90 kHz, each modulo 2^33. A DTS is written exactly where the two stamps on the wire differ, so the
+/// header has 14 bytes or 19. PES_packet_length is 0 where 16 bits do not count the packet, which only
+/// video reaches. `fits_packet` is the test of what is required.
+#[tactic(auto, unfolding(crate::specs::Spelling::header_text))]
+pub fn write_header(id: u8, size: usize, pts: u64, dts: u64) -> ArrayVec<u8, 19>
+    requires { IsTrue (fits_packet id size) }
+    ensures { result.items ≡ header_text id size pts dts }
+{
+    let pts = pts % STAMPS;
+    let dts = dts % STAMPS;
+    if pts == dts {
+        pts_header(id, size, pts)
+    } else {
+        pts_dts_header(id, size, pts, dts)
+    }
+}
+
+fn append(header: &mut ArrayVec<u8, 19>, bytes: &[u8])
+    requires { array_vec_len header.old + length bytes.now ≤ 19 }
+    ensures items { header.new.items ≡ header.old.items ++ bytes.now }
+    ensures len { array_vec_len header.new ≡ array_vec_len header.old + length bytes.now }
+{
+    let _ = header.try_extend_from_slice(bytes);
+}
+
+// PES_packet_length of so many bytes, 0 where 16 bits do not count them.
+#[tactic(auto, unfolding(crate::specs::Spelling::packet_length))]
+fn packet_length(count: usize) -> u16
+    ensures { result ≡ packet_length count }
+{
+    u16::try_from(count).unwrap_or(0)
+}
+
+// packet_start_code_prefix, stream_id, PES_packet_length.
+#[tactic(auto, unfolding(crate::specs::Spelling::start_text))]
+fn start_text(id: u8, len: u16) -> [u8; 6]
+    ensures { result ≡ start_text id len }
+{
+    let [high, low] = len.to_be_bytes();
+    [0x00, 0x00, 0x01, id, high, low]
+}
+
+// A header with a PTS alone.
+#[tactic(auto, unfolding(crate::specs::Spelling::pts_header))]
+fn pts_header(id: u8, size: usize, pts: u64) -> ArrayVec<u8, 19>
+    requires size { size ≤ 4_000_000 }
+    requires pts { pts < 2 ^ 33 }
+    ensures { result.items ≡ pts_header id size pts }
+{
+    let mut header = ArrayVec::new();
+    append(&mut header, &start_text(id, packet_length(8 + size)));
+    append(&mut header, &[0x80, 0x80, 5]);
+    append(&mut header, &stamp_text(0b0010, pts));
+    header
+}
+
+// A header with a PTS and a DTS.
+#[tactic(auto, unfolding(crate::specs::Spelling::pts_dts_header))]
+fn pts_dts_header(id: u8, size: usize, pts: u64, dts: u64) -> ArrayVec<u8, 19>
+    requires size { size ≤ 4_000_000 }
+    requires pts { pts < 2 ^ 33 }
+    requires dts { dts < 2 ^ 33 }
+    ensures { result.items ≡ pts_dts_header id size pts dts }
+{
+    let mut header = ArrayVec::new();
+    append(&mut header, &start_text(id, packet_length(13 + size)));
+    append(&mut header, &[0x80, 0xc0, 10]);
+    append(&mut header, &stamp_text(0b0011, pts));
+    append(&mut header, &stamp_text(0b0001, dts));
+    header
+}
