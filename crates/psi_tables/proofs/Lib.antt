@@ -1,0 +1,13 @@
+pub mod Registers
+pub mod Linear
+pub mod Words
+pub mod LoopParts
+pub mod ProgramLoops
+pub mod SectionForms
+pub mod SectionFound
+pub mod SectionWritten
+pub mod StreamTexts
+pub mod TableForms
+pub mod PatForms
+pub mod StreamForms
+pub mod PmtForms

@@ -1,0 +1,44 @@
+-- What the laws of this crate say.
+use Rattle.std.specs.Prelude.{◌≡◌, List, ℕ, ◌++◌, length, Ok, Err}
+use Rattle.psi_tables.specs.CheckWord.{check_word}
+use Rattle.psi_tables.specs.Views.{SectionView}
+use Rattle.psi_tables.specs.Syntax.{IsSection}
+use Rattle.psi_tables.specs.Reading.{section_at}
+use Rattle.psi_tables.specs.Spelling.{IsWritable, word_text, section_text}
+use Rattle.psi_tables.specs.ProgramAssociation.{PatView, IsPat, PatFits, pat_at, pat_section}
+use Rattle.psi_tables.specs.ProgramMap.{PmtView, IsPmt, PmtFits, pmt_at, pmt_section}
+use Rattle.psi_tables.specs.declared.error.SectionError.TheVariants.{Short}
+
+-- over a message with its check word behind it the register ends 0
+abbrev pub CheckWordEnds : Type 0
+CheckWordEnds = (message : List ℕ) → check_word (message ++ word_text (check_word message)) ≡ 0
+
+-- bytes behind those that were read make no difference, unless more of them were wanted
+abbrev pub LongerReadsTheSame : Type 0
+LongerReadsTheSame = (bytes more : List ℕ) → (section_at bytes ≡ Err Short → ⊥) → section_at (bytes ++ more) ≡ section_at bytes
+
+-- a section that can be written is written as a section that says the same, and is read again as it, whatever stands behind it
+pub record WrittenIsRead (s : SectionView) : Type 0 where
+  pub section : IsSection (section_text s) s
+  pub read : (rest : List ℕ) → section_at (section_text s ++ rest) ≡ Ok (s, length (section_text s))
+
+abbrev pub SectionsAreReadAgain : Type 0
+SectionsAreReadAgain = (s : SectionView) → IsWritable s → WrittenIsRead s
+
+-- the section of a PAT can be written, is a PAT that says the same, and is read again as it
+pub record PatIsRead (p : PatView) : Type 0 where
+  pub writable : IsWritable (pat_section p)
+  pub table : IsPat (pat_section p) p
+  pub read : pat_at (pat_section p) ≡ Ok p
+
+abbrev pub PatsAreReadAgain : Type 0
+PatsAreReadAgain = (p : PatView) → PatFits p → PatIsRead p
+
+-- the section of a PMT can be written, is a PMT that says the same, and is read again as it
+pub record PmtIsRead (p : PmtView) : Type 0 where
+  pub writable : IsWritable (pmt_section p)
+  pub table : IsPmt (pmt_section p) p
+  pub read : pmt_at (pmt_section p) ≡ Ok p
+
+abbrev pub PmtsAreReadAgain : Type 0
+PmtsAreReadAgain = (p : PmtView) → PmtFits p → PmtIsRead p

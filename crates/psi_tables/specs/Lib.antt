@@ -1,0 +1,11 @@
+pub mod CheckWord
+pub mod Codes
+pub mod Views
+pub mod Syntax
+pub mod Reading
+pub mod Spelling
+pub mod Tables
+pub mod ProgramAssociation
+pub mod Loops
+pub mod ProgramMap
+pub mod Laws

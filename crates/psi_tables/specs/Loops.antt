@@ -1,0 +1,55 @@
+-- Loops of entries with descriptors, as those of PMT, NIT, SDT and EIT: each entry is a head of a fixed number of bytes,
+-- the last 12 bits of which are the number of the bytes of its descriptors, and those bytes (ISO/IEC 13818-1, 2.4.4.8; EN 300 468, 5.2).
+use Rattle.std.specs.Prelude.{◌≡◌, ℕ, zero, suc, ◌+◌, ◌-◌, ◌*◌, ◌%◌, nat_lt, if◌then◌else◌, List, [], ◌∷◌, ◌++◌, length, take, drop, slice_index, Option, None, Some, option_map, option_and_then, unwrap_or}
+use Rattle.psi_tables.specs.declared.entries.Entry.{Entry}
+
+-- an entry: its head and its descriptors, lists of bytes
+pub record EntryView : Type 0 where
+  pub head : List ℕ
+  pub descriptors : List ℕ
+
+-- the number that the last 12 bits of a head make
+unfoldable pub descriptors_length : List ℕ → ℕ
+descriptors_length head = slice_index head (length head - 2) % 16 * 256 + slice_index head (length head - 1)
+
+-- an entry with a head of k bytes, which says how many bytes its descriptors have
+pub record IsEntry (k : ℕ) (e : EntryView) : Type 0 where
+  pub head_length : length e.head ≡ k
+  pub named : descriptors_length e.head ≡ length e.descriptors
+
+-- the bytes of an entry
+unfoldable pub entry_text : EntryView → List ℕ
+entry_text e = e.head ++ e.descriptors
+
+-- bytes are entries one behind the other
+abbrev pub AreEntries : ℕ → List ℕ → List EntryView → Type 0
+AreEntries k bytes [] = bytes ≡ []
+AreEntries k bytes (e ∷ es) = (rest : List ℕ) × (bytes ≡ entry_text e ++ rest) × IsEntry k e × AreEntries k rest es
+
+-- the entry with this head, and what stands behind it
+unfoldable pub entry_behind : List ℕ → List ℕ → Option (EntryView × List ℕ)
+entry_behind head rest =
+    if nat_lt (length rest) (descriptors_length head) then None
+    else Some (record { head = head; descriptors = take (descriptors_length head) rest }, drop (descriptors_length head) rest)
+
+-- the entry at the front, and what stands behind it; none where it does not fit
+unfoldable pub entry_at : ℕ → List ℕ → Option (EntryView × List ℕ)
+entry_at k bytes = if nat_lt (length bytes) k then None else entry_behind (take k bytes) (drop k bytes)
+
+-- at most n entries, up to the end of the bytes
+unfoldable pub loop_from : ℕ → List ℕ → ℕ → Option (List EntryView)
+loop_from k [] n = Some []
+loop_from k (b ∷ bytes) zero = None
+loop_from k (b ∷ bytes) (suc n) = option_and_then (λ p. option_map (λ es. p.0 ∷ es) (loop_from k p.1 n)) (entry_at k (b ∷ bytes))
+
+-- the entries of a loop; none where it ends within an entry
+unfoldable pub loop_at : ℕ → List ℕ → Option (List EntryView)
+loop_at k bytes = loop_from k bytes (length bytes)
+
+-- the entries of a whole loop
+abbrev pub entries_in : ℕ → List ℕ → List EntryView
+entries_in k bytes = unwrap_or (loop_at k bytes) []
+
+-- what an entry says
+abbrev pub entry_view : Entry → EntryView
+entry_view e = record { head = e.head.now; descriptors = e.descriptors.now }

@@ -1,0 +1,85 @@
+//! Loops of entries with descriptors: those of PMT, NIT, SDT and EIT. Each entry is a head of a fixed
+//! number of bytes, the last 12 bits of which are the number of descriptor bytes, and those bytes.
+
+ghost use Rattle.std.specs.Prelude.{◌≡◌, ◌<◌, ◌≤◌, ◌+◌, [], ◌∷◌, length, option_map, is_some, true, false, IfSome, IfNone};
+ghost use Rattle.psi_tables.specs.Loops.{descriptors_length, entry_behind, entry_at, loop_at, entries_in, entry_view};
+
+/// An entry of a loop.
+#[derive(Clone, Copy, Debug)]
+pub struct Entry<'a> {
+    /// The fixed part, to the end of the 12 bits that count the descriptors' bytes.
+    pub head: &'a [u8],
+    pub descriptors: &'a [u8],
+}
+
+/// The entry at the front of `bytes`, with a head of `head_length` bytes, and what stands behind it;
+/// `None` where it does not fit.
+pub fn entry_at(head_length: usize, bytes: &[u8]) -> Option<(Entry<'_>, &[u8])>
+    requires { 2 ≤ head_length }
+    ensures exact { option_map (λ p. (entry_view p.0, p.1.now)) result ≡ entry_at head_length bytes.now }
+    ensures head { IfSome result (λ p. length p.0.head.now ≡ head_length) }
+    ensures shorter { IfSome result (λ p. length p.1.now + head_length ≤ length bytes.now) }
+
+    // A loop is its first entry and the loop behind it.
+    ensures whole { IfSome result (λ p. is_some (loop_at head_length bytes.now) ≡ is_some (loop_at head_length p.1.now)) }
+    ensures next { IfSome result (λ p. is_some (loop_at head_length bytes.now) ≡ true → entries_in head_length bytes.now ≡ entry_view p.0 ∷ entries_in head_length p.1.now) }
+    ensures end { IfNone result (is_some (loop_at head_length bytes.now) ≡ true → entries_in head_length bytes.now ≡ []) }
+    ensures stop { IfNone result (0 < length bytes.now → is_some (loop_at head_length bytes.now) ≡ false) }
+{
+    first_entry(head_length, bytes)
+}
+
+#[tactic(auto, unfolding(crate::specs::Loops::entry_at))]
+fn first_entry(head_length: usize, bytes: &[u8]) -> Option<(Entry<'_>, &[u8])>
+    requires { 2 ≤ head_length }
+    ensures exact { option_map (λ p. (entry_view p.0, p.1.now)) result ≡ entry_at head_length bytes.now }
+    ensures head { IfSome result (λ p. length p.0.head.now ≡ head_length) }
+    ensures shorter { IfSome result (λ p. length p.1.now + head_length ≤ length bytes.now) }
+{
+    if bytes.len() < head_length {
+        return None;
+    }
+    let (head, rest) = bytes.split_at(head_length);
+    entry_behind(head, rest)
+}
+
+#[tactic(auto, unfolding(crate::specs::Loops::entry_behind))]
+fn entry_behind<'a>(head: &'a [u8], rest: &'a [u8]) -> Option<(Entry<'a>, &'a [u8])>
+    requires { 2 ≤ length head.now }
+    ensures exact { option_map (λ p. (entry_view p.0, p.1.now)) result ≡ entry_behind head.now rest.now }
+    ensures head { IfSome result (λ p. length p.0.head.now ≡ length head.now) }
+    ensures shorter { IfSome result (λ p. length p.1.now ≤ length rest.now) }
+{
+    let length = descriptors_length(head);
+    if rest.len() < length {
+        return None;
+    }
+    let (descriptors, behind) = rest.split_at(length);
+    Some((Entry { head, descriptors }, behind))
+}
+
+#[tactic(auto, unfolding(crate::specs::Loops::descriptors_length))]
+fn descriptors_length(head: &[u8]) -> usize
+    requires { 2 ≤ length head.now }
+    ensures { result ≡ descriptors_length head.now }
+{
+    let high = head[head.len() - 2];
+    let low = head[head.len() - 1];
+    u16::from_be_bytes([high & 0x0f, low]) as usize
+}
+
+/// Whether bytes are whole entries to their end.
+#[tactic(auto, using(crate::proofs::LoopParts::whole_none))]
+pub fn is_whole_loop(head_length: usize, bytes: &[u8]) -> bool
+    requires { 2 ≤ head_length }
+    ensures { result ≡ is_some (loop_at head_length bytes.now) }
+{
+    let mut rest = bytes;
+    while !rest.is_empty() {
+        match entry_at(head_length, rest) {
+            Some((_, behind)) => rest = behind,
+            None => return false,
+        }
+    }
+    true
+}

@@ -1,0 +1,23 @@
+//! Fields of the PMT with reserved bits before them, as they are written.
+
+ghost use Rattle.std.specs.Prelude.{◌≡◌};
+ghost use Rattle.psi_tables.specs.ProgramMap.{pid_text, info_length_text};
+
+/// A PID behind three reserved bits.
+#[tactic(auto, unfolding(crate::specs::ProgramMap::pid_text))]
+pub fn pid_text(pid: u16) -> [u8; 2]
+    ensures { result ≡ pid_text pid }
+{
+    let [high, low] = pid.to_be_bytes();
+    [0xe0 + (high & 0x1f), low]
+}
+
+/// A number of descriptor bytes behind four reserved bits.
+#[tactic(auto, unfolding(crate::specs::ProgramMap::info_length_text))]
+pub fn info_length_text(length: usize) -> [u8; 2]
+    ensures { result ≡ info_length_text length }
+{
+    let high = (length >> 8 & 0x0f) as u8;
+    let low = (length & 0xff) as u8;
+    [0xf0 + high, low]
+}

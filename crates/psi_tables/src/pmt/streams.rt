@@ -1,0 +1,122 @@
+//! The loop of streams in a PMT.
+
+ghost use Rattle.std.specs.Prelude.{◌≡◌, length, is_some, true};
+ghost use Rattle.psi_tables.specs.Loops.{loop_at};
+
+use crate::entries::{Entry, entry_at, is_whole_loop};
+use crate::error::SectionError;
+use crate::pmt::fields::{info_length_text, pid_text};
+use crate::writing::append;
+use arrayvec::ArrayVec;
+
+/// An elementary stream of a program.
+#[derive(Clone, Copy, Debug)]
+pub struct Stream<'a> {
+    pub stream_type: u8,
+    /// 13 bits.
+    pub elementary_pid: u16,
+    /// The bytes of the stream's descriptors.
+    pub descriptors: &'a [u8],
+}
+
+/// The streams of a PMT, in order: an iterator over the bytes of the loop.
+#[derive(Clone, Copy, Debug)]
+pub struct Streams<'a> {
+    bytes: &'a [u8],
+    ghost whole: { is_some (loop_at 5 bytes.now) ≡ true },
+}
+
+impl<'a> Streams<'a> {
+    ghost use Rattle.bit_fields.specs.Reading.{Gives};
+    ghost use Rattle.psi_tables.specs.ProgramMap.{streams_at, streams_of};
+
+    /// The streams that bytes are; `Body` where an ES_info_length passes their end, or they end within
+    /// an entry.
+    #[tactic(auto, unfolding(crate::specs::ProgramMap::streams_at, crate::specs::ProgramMap::streams_of))]
+    pub fn read(bytes: &'a [u8]) -> Result<Streams<'a>, SectionError>
+        ensures { Gives streams_of result (streams_at bytes.now) }
+    {
+        if is_whole_loop(5, bytes) {
+            Ok(Streams::whole(bytes))
+        } else {
+            Err(SectionError::Body)
+        }
+    }
+}
+
+impl<'a> Streams<'a> {
+    ghost use Rattle.psi_tables.specs.ProgramMap.{streams_text, streams_in, streams_of};
+
+    /// The streams that bytes are, which are known to be whole.
+    #[tactic(auto, unfolding(crate::specs::ProgramMap::streams_of))]
+    pub fn whole(bytes: &'a [u8]) -> Streams<'a>
+        requires { is_some (loop_at 5 bytes.now) ≡ true }
+        ensures { streams_of result ≡ streams_in bytes.now }
+    {
+        Streams { bytes }
+    }
+
+    /// The number of bytes that the streams are written as.
+    pub fn text_length(&self) -> usize
+        ensures { result ≡ length (streams_text (streams_of self.now)) }
+    {
+        self.bytes.len()
+    }
+}
+
+impl<'a> Iterator for Streams<'a> {
+    ghost use Rattle.std.specs.Iterator.{YieldsFirstBy, item_count};
+    ghost use Rattle.psi_tables.specs.ProgramMap.{stream_view, streams_of};
+
+    type Item = Stream<'a>;
+
+    ghost next_gives = { YieldsFirstBy stream_view streams_of };
+
+    ghost remaining = { item_count streams_of };
+
+    #[tactic(auto, unfolding(crate::specs::ProgramMap::streams_of, crate::specs::ProgramMap::streams_in))]
+    fn next(&mut self) -> Option<Stream<'a>> {
+        match entry_at(5, self.bytes) {
+            None => None,
+            Some((entry, rest)) => {
+                self.bytes = rest;
+                Some(Stream::of_entry(entry))
+            }
+        }
+    }
+}
+
+impl<'a> Stream<'a> {
+    ghost use Rattle.std.specs.Prelude.{◌+◌, ◌≤◌, ◌++◌};
+    ghost use Rattle.arrayvec.specs.ArrayVec.{array_vec_len};
+    ghost use Rattle.psi_tables.specs.Loops.{entry_view, entry_text};
+    ghost use Rattle.psi_tables.specs.ProgramMap.{stream_view, stream_of, stream_entry, stream_text};
+
+    /// Appends the entry as it is written, reserved bits 1.
+    #[tactic(auto, unfolding(crate::specs::ProgramMap::stream_text, crate::specs::ProgramMap::stream_entry, crate::specs::Loops::entry_text, crate::specs::ProgramMap::pid_text, crate::specs::ProgramMap::info_length_text))]
+    pub fn append_to<const N: usize>(&self, out: &mut ArrayVec<u8, N>)
+        requires { array_vec_len out.old + 5 + length self.now.descriptors.now ≤ N }
+        ensures items { out.new.items ≡ out.old.items ++ stream_text (stream_view self.now) }
+        ensures len { array_vec_len out.new ≡ array_vec_len out.old + 5 + length self.now.descriptors.now }
+    {
+        let [pid_high, pid_low] = pid_text(self.elementary_pid);
+        let [length_high, length_low] = info_length_text(self.descriptors.len());
+        append(
+            out,
+            &[self.stream_type, pid_high, pid_low, length_high, length_low],
+        );
+        append(out, self.descriptors);
+    }
+
+    #[tactic(auto, unfolding(crate::specs::ProgramMap::stream_of))]
+    fn of_entry(from: Entry<'a>) -> Stream<'a>
+        requires { length from.head.now ≡ 5 }
+        ensures { stream_view result ≡ stream_of (entry_view from.entry) }
+    {
+        Stream {
+            stream_type: from.head[0],
+            elementary_pid: u16::from_be_bytes([from.head[1] & 0x1f, from.head[2]]),
+            descriptors: from.descriptors,
+        }
+    }
+}

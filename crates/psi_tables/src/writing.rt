@@ -1,0 +1,130 @@
+//! Writing a section into a vector of fixed capacity: what stands before the body, the body, and
+//! what stands behind it. The writers of tables are made of these parts.
+
+ghost use Rattle.std.specs.Prelude.{◌≡◌, ◌+◌, ◌≤◌, ◌<◌, ◌++◌, length, IfOk, IfErr};
+ghost use Rattle.arrayvec.specs.ArrayVec.{array_vec_len};
+ghost use Rattle.psi_tables.specs.CheckWord.{check_word};
+ghost use Rattle.psi_tables.specs.Spelling.{word_text, start_text, long_header_text, section_length, front_length, crc_length, header_text, ended_text, HeaderFits};
+
+use crate::crc::check_word;
+use crate::error::WriteError;
+use crate::section::{LongHeader, SectionHeader};
+use arrayvec::ArrayVec;
+use std::alloc::{AllocError, Allocator};
+
+/// A vector of these bytes.
+pub fn to_vec<A: Allocator>(alloc: A, bytes: &[u8]) -> Result<Vec<u8, A>, WriteError>
+    ensures ok { IfOk result (λ made. made.items ≡ bytes.now) }
+    ensures memory { IfErr result (λ e. e ≡ WriteError.Memory) }
+{
+    match bytes.to_vec(alloc) {
+        Ok(made) => Ok(made),
+        Err(AllocError) => Err(WriteError::Memory),
+    }
+}
+
+/// The greatest section_length of a private section (ISO/IEC 13818-1, 2.4.4.11).
+pub const GREATEST_LENGTH: usize = 4093;
+
+/// The greatest section_length of PAT and PMT, and of NIT and SDT (ISO/IEC 13818-1, 2.4.4.5 and
+/// 2.4.4.9; EN 300 468, 5.2).
+pub const GREATEST_TABLE_LENGTH: usize = 1021;
+
+/// Appends bytes.
+pub fn append<const N: usize>(out: &mut ArrayVec<u8, N>, bytes: &[u8])
+    requires { array_vec_len out.old + length bytes.now ≤ N }
+    ensures items { out.new.items ≡ out.old.items ++ bytes.now }
+    ensures len { array_vec_len out.new ≡ array_vec_len out.old + length bytes.now }
+{
+    let _ = out.try_extend_from_slice(bytes);
+}
+
+/// Begins a section: leaves in `out` what stands before a body of `body_length` bytes, and nothing
+/// else. The body is to be appended, and then `end_section` called with the same header.
+#[tactic(auto, unfolding(crate::specs::Spelling::header_text, crate::specs::Spelling::front_text))]
+pub fn begin_section(out: &mut ArrayVec<u8, 4096>, header: SectionHeader, body_length: usize)
+    requires fits { HeaderFits header }
+    requires room { section_length header.long body_length ≤ 4093 }
+    ensures items { out.new.items ≡ header_text header body_length }
+    ensures len { array_vec_len out.new ≡ front_length header.long }
+{
+    out.clear();
+    match header.long {
+        None => {
+            append(
+                out,
+                &start_text(
+                    header.table_id,
+                    false,
+                    header.private_indicator,
+                    body_length,
+                ),
+            );
+        }
+        Some(long) => {
+            let length = 9 + body_length;
+            append(
+                out,
+                &start_text(header.table_id, true, header.private_indicator, length),
+            );
+            append(out, &long_header_text(long));
+        }
+    }
+}
+
+/// Ends a section: appends what stands behind the body, in the long form the check word over all
+/// that stands in `out`.
+#[tactic(auto, unfolding(crate::specs::Spelling::ended_text))]
+pub fn end_section(out: &mut ArrayVec<u8, 4096>, header: SectionHeader)
+    requires { array_vec_len out.old + crc_length header.long ≤ 4096 }
+    ensures { out.new.items ≡ ended_text header.long out.old.items }
+{
+    match header.long {
+        None => {}
+        Some(_) => {
+            let word = check_word(out.as_slice());
+            append(out, &word_text(word));
+        }
+    }
+}
+
+#[tactic(auto, unfolding(crate::specs::Spelling::word_text))]
+fn word_text(word: u32) -> [u8; 4]
+    ensures { result ≡ word_text word }
+{
+    word.to_be_bytes()
+}
+
+#[tactic(auto, unfolding(crate::specs::Spelling::start_text))]
+fn start_text(
+    table_id: u8,
+    is_long: bool,
+    private_indicator: bool,
+    section_length: usize,
+) -> [u8; 3]
+    requires { section_length ≤ 4093 }
+    ensures { result ≡ start_text table_id is_long private_indicator section_length }
+{
+    let form = if is_long { 0x80 } else { 0 };
+    let private = if private_indicator { 0x40 } else { 0 };
+    let high = (section_length >> 8) as u8;
+    let low = (section_length & 0xff) as u8;
+    [table_id, form + (private + (0x30 + high)), low]
+}
+
+#[tactic(auto, unfolding(crate::specs::Spelling::long_header_text))]
+fn long_header_text(header: LongHeader) -> [u8; 5]
+    requires { header.version_number < 32 }
+    ensures { result ≡ long_header_text header }
+{
+    let [high, low] = header.table_id_extension.to_be_bytes();
+    let version = header.version_number << 1;
+    let current_next = if header.current_next { 1 } else { 0 };
+    [
+        high,
+        low,
+        0xc0 + (version + current_next),
+        header.section_number,
+        header.last_section_number,
+    ]
+}
