@@ -1,0 +1,109 @@
+-- What stands behind the bytes that a descriptor counts.
+use Rattle.std.proofs.Common.{◌≡◌, ℕ, zero, suc, ◌+◌, ◌<◌, ◌≤◌, Bool, true, false, cond, nat_lt, IsTrue, Option, None, Some, refl, List, [], ◌∷◌, ◌++◌, length, take, drop, sym, ap, ◌∙◌, subst, append_assoc, arith, ◌↔◌}
+use Rattle.std.proofs.lemmas.List.{take-append-drop, length-drop, length-append}
+use Rattle.dvb_tables.specs.Descriptors.{descriptor}
+use Rattle.dvb_tables.specs.DescriptorLoops.{AreDescriptors, ends_whole, are_whole_descriptors, behind_first}
+use Rattle.dvb_tables.specs.Laws.{WholeDescriptors}
+use Rattle.std.proofs.lemmas.Bool.{ltb-false, ltb-true}
+
+-- where the bytes are there, what counts is what stands behind them
+pub ends_behind : (n : ℕ) (bytes : List ℕ) → n ≤ length bytes → ends_whole n bytes ≡ ends_whole 0 (drop n bytes)
+unfolding ends_whole
+ends_behind zero bytes h = refl
+ends_behind (suc n) [] h = absurd (omega arith)
+ends_behind (suc n) (b ∷ bytes) h = ends_behind n bytes (omega arith)
+
+-- a descriptor that ends too soon
+pub ends_short : (n : ℕ) (bytes : List ℕ) → length bytes < n → ends_whole n bytes ≡ false
+unfolding ends_whole
+ends_short zero bytes h = absurd (omega arith)
+ends_short (suc n) [] h = refl
+ends_short (suc n) (b ∷ bytes) h = ends_short n bytes (omega arith)
+
+-- the bytes that were counted, and the descriptors behind them
+record Ends (n : ℕ) (bytes : List ℕ) : Type 0 where
+  body : List ℕ
+  rest : List ℕ
+  ds : List (ℕ × List ℕ)
+  is : bytes ≡ body ++ rest
+  len : length body ≡ n
+  there : AreDescriptors rest ds
+
+-- a refusing test that let a value pass
+guard_some : {A : Type 0} (b : Bool) (r : Option A) (y : A) → cond b None r ≡ Some y → (b ≡ false) × (r ≡ Some y)
+guard_some true r y e = absurd cc
+guard_some false r y e = (refl, e)
+
+some_is : {A : Type 0} (x y : A) → ◌≡◌ {A = Option A} (Some x) (Some y) → x ≡ y
+some_is x y e = cc
+
+-- a refusing test that refused
+guard_none : {A : Type 0} (b : Bool) (y : A) → cond b None (Some y) ≡ None → b ≡ true
+guard_none true y e = refl
+guard_none false y e = absurd cc
+
+descriptor_is : (tag n : ℕ) (bytes body rest : List ℕ) → length body ≡ n → bytes ≡ body ++ rest → tag ∷ n ∷ bytes ≡ descriptor tag body ++ rest
+descriptor_is tag n bytes body rest counted is = cc
+
+ends_there : (n : ℕ) (bytes : List ℕ) → ends_whole n bytes ≡ true → Ends n bytes
+unfolding ends_whole
+ends_there zero [] h = record { body = []; rest = []; ds = []; is = refl; len = refl; there = refl }
+ends_there (suc n) [] h = absurd cc
+ends_there zero (tag ∷ []) h = absurd cc
+ends_there zero (tag ∷ n ∷ bytes) h =
+    let e = ends_there n bytes h in
+    let is : tag ∷ n ∷ bytes ≡ descriptor tag e.body ++ e.rest = descriptor_is tag n bytes e.body e.rest e.len e.is in
+    record { body = []; rest = tag ∷ n ∷ bytes; ds = (tag, e.body) ∷ e.ds; is = refl; len = refl; there = (e.rest, is, e.there) }
+ends_there (suc n) (b ∷ bytes) h =
+    let e = ends_there n bytes h in
+    record { body = b ∷ e.body; rest = e.rest; ds = e.ds; is = ap (λ (t : List ℕ). b ∷ t) e.is; len = ap suc e.len; there = e.there }
+
+-- descriptors one behind another are accepted
+whole_there : (bytes : List ℕ) (ds : List (ℕ × List ℕ)) → AreDescriptors bytes ds → ends_whole 0 bytes ≡ true
+unfolding ends_whole
+whole_there bytes [] h = rw h refl
+whole_there bytes (d ∷ ds) h =
+    let rest = whole_there h.0 ds h.2 in
+    let behind : ends_whole (length d.1) (d.1 ++ h.0) ≡ ends_whole 0 h.0 = ends_body d.1 h.0 in
+    rw h.1 (behind ∙ rest)
+  where
+    ends_body : (body rest : List ℕ) → ends_whole (length body) (body ++ rest) ≡ ends_whole 0 rest
+    ends_body [] rest = refl
+    ends_body (b ∷ body) rest = ends_body body rest
+
+-- what a descriptor at the front tells of the bytes
+pub front_some : (bytes rest : List ℕ) → behind_first bytes ≡ Some rest → (length rest < length bytes) × (are_whole_descriptors bytes ≡ are_whole_descriptors rest)
+unfolding behind_first are_whole_descriptors ends_whole
+front_some [] rest e = absurd cc
+front_some (tag ∷ []) rest e = absurd cc
+front_some (tag ∷ n ∷ bytes) rest e =
+    let g = guard_some (nat_lt (length bytes) n) _ rest e in
+    let room : n ≤ length bytes = ltb-false (length bytes) n g.0 in
+    let is : drop n bytes ≡ rest = some_is _ _ g.1 in
+    let size : length (drop n bytes) ≡ length rest = ap (length {A = ℕ}) is in
+    (omega (arith, length-drop n bytes), ends_behind n bytes room ∙ ap (ends_whole 0) is)
+
+-- bytes without a whole descriptor at the front
+pub front_none : (bytes : List ℕ) → 0 < length bytes → behind_first bytes ≡ None → are_whole_descriptors bytes ≡ false
+unfolding behind_first are_whole_descriptors ends_whole
+front_none [] some e = absurd (omega arith)
+front_none (tag ∷ []) some e = refl
+front_none (tag ∷ n ∷ bytes) some e = ends_short n bytes (ltb-true (length bytes) n (guard_none (nat_lt (length bytes) n) (drop n bytes) e))
+
+-- no bytes
+pub front_nil : (bytes : List ℕ) → length bytes ≡ 0 → are_whole_descriptors bytes ≡ true
+unfolding are_whole_descriptors ends_whole
+front_nil [] e = refl
+front_nil (x ∷ bytes) e = absurd (omega arith)
+
+nothing : (body rest : List ℕ) → length body ≡ 0 → body ++ rest ≡ rest
+nothing [] rest e = refl
+nothing (x ∷ body) rest e = absurd (omega arith)
+
+-- the test accepts exactly the descriptors one behind another
+pub whole_descriptors : WholeDescriptors
+unfolding are_whole_descriptors
+whole_descriptors bytes = (
+  (λ h. let e = ends_there 0 bytes h in (e.ds, subst (λ (t : List ℕ). AreDescriptors t e.ds) (sym (e.is ∙ nothing e.body e.rest e.len)) e.there)),
+  (λ h. whole_there bytes h.0 h.1),
+)

@@ -1,0 +1,5 @@
+use Rattle.dvb_tables.proofs.Written.{times_are_digits}
+use Rattle.dvb_tables.proofs.laws.times_are_digits.Goals as goal
+
+pub returns : goal.returns
+returns c = times_are_digits

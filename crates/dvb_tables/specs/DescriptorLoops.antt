@@ -1,0 +1,26 @@
+-- Loops of descriptors (ISO/IEC 13818-1, 2.6): descriptors one behind another.
+use Rattle.std.specs.Prelude.{◌≡◌, ℕ, zero, suc, nat_lt, if◌then◌else◌, Bool, true, false, List, [], ◌∷◌, ◌++◌, length, drop, Option, None, Some}
+use Rattle.dvb_tables.specs.Descriptors.{descriptor}
+
+-- bytes are descriptors one behind another, each a tag and the bytes behind its length
+abbrev pub AreDescriptors : List ℕ → List (ℕ × List ℕ) → Type 0
+AreDescriptors bytes [] = bytes ≡ []
+AreDescriptors bytes (d ∷ ds) = (rest : List ℕ) × (bytes ≡ descriptor d.0 d.1 ++ rest) × AreDescriptors rest ds
+
+-- whether bytes are the last n bytes of a descriptor, and whole descriptors behind them
+unfoldable pub ends_whole : ℕ → List ℕ → Bool
+ends_whole zero [] = true
+ends_whole (suc n) [] = false
+ends_whole zero (tag ∷ []) = false
+ends_whole zero (tag ∷ n ∷ bytes) = ends_whole n bytes
+ends_whole (suc n) (b ∷ bytes) = ends_whole n bytes
+
+-- whether bytes are whole descriptors
+unfoldable pub are_whole_descriptors : List ℕ → Bool
+are_whole_descriptors bytes = ends_whole 0 bytes
+
+-- what stands behind the first descriptor; nothing where it is not whole
+unfoldable pub behind_first : List ℕ → Option (List ℕ)
+behind_first [] = None
+behind_first (tag ∷ []) = None
+behind_first (tag ∷ n ∷ bytes) = if nat_lt (length bytes) n then None else Some (drop n bytes)

@@ -1,0 +1,17 @@
+pub mod JulianDate
+pub mod CodedTimes
+pub mod CharacterCoding
+pub mod Schedule
+pub mod Descriptors
+pub mod DescriptorLoops
+pub mod Sequences
+pub mod RunningStates
+pub mod Services
+pub mod TransportStreams
+pub mod EventEntries
+pub mod Fits
+pub mod ServiceDescription
+pub mod NetworkInformation
+pub mod TimeAndDate
+pub mod EventInformation
+pub mod Laws

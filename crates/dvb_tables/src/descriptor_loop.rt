@@ -1,0 +1,37 @@
+//! Whether bytes are whole descriptors (ISO/IEC 13818-1, 2.6).
+
+ghost use Rattle.std.specs.Prelude.{◌≡◌, option_map};
+ghost use Rattle.dvb_tables.specs.DescriptorLoops.{are_whole_descriptors, behind_first};
+
+/// Whether bytes are whole descriptors, one behind another: a descriptor's tag, the number of the bytes
+/// behind it, and these bytes. No bytes are whole descriptors too.
+pub fn are_whole_descriptors(bytes: &[u8]) -> bool
+    ensures { result ≡ are_whole_descriptors bytes.now }
+{
+    let mut rest = bytes;
+    while !rest.is_empty() {
+        match behind_first(rest) {
+            Some(behind) => rest = behind,
+            None => return false,
+        }
+    }
+    true
+}
+
+// What stands behind the first descriptor.
+#[tactic(auto, unfolding(crate::specs::DescriptorLoops::behind_first))]
+fn behind_first(bytes: &[u8]) -> Option<&[u8]>
+    ensures { option_map (λ s. s.now) result ≡ behind_first bytes.now }
+{
+    match bytes {
+        [_, length, behind @ ..] => {
+            let length = *length as usize;
+            if behind.len() < length {
+                return None;
+            }
+            let (_body, rest) = behind.split_at(length);
+            Some(rest)
+        }
+        _ => None,
+    }
+}
