@@ -1,0 +1,9 @@
+pub mod Greatest
+pub mod Counting
+pub mod Placing
+pub mod Gapping
+pub mod Pacing
+pub mod Working
+pub mod Recurring
+pub mod Joining
+mod Rows

@@ -1,0 +1,5 @@
+use Rattle.own_slots.proofs.windows.pace.Goals as goal
+use Rattle.own_slots.proofs.Pacing.{rate_law}
+
+pub returns : goal.returns
+returns c = rate_law
