@@ -1,0 +1,129 @@
+-- The bytes of one text, or of one packet, in the main buffer.
+use Rattle.std.proofs.Common.{◌≡◌, ℕ, zero, suc, ◌+◌, ◌-◌, ◌*◌, ◌<◌, ◌≤◌, min, Bool, false, cond, nat_le, List, [], ◌∷◌, ◌++◌, length, take, drop, refl, ◌∙◌, inl, inr, arith, All, count_by}
+use Rattle.std.proofs.Math.Nat.{le_trans}
+use Rattle.std.proofs.lemmas.Bool.{cases_Bool, cases_lt, le-ltb, lt-leb, and_right}
+use Rattle.std.proofs.lemmas.List.{take_at, take_all, append-nil, length-drop, length-take, drop_all}
+use Rattle.std.proofs.lemmas.List.Elements.{All-nil, All-cons, All-head, All-tail, All-append, All-take, All-drop, All-weaker}
+use Rattle.std.proofs.lemmas.List.Sums.{sum_by-cons, sum_by-append, count_by-le-length}
+use Rattle.clock27.specs.Arrival.{bytes_from, arrivals}
+use Rattle.clock27.specs.Departure.{departures, last_left}
+use Rattle.clock27.specs.Release.{release}
+use Rattle.clock27.proofs.Leaving.{earliest, row}
+use Rattle.own_slots.specs.Slots.{passed, own_slots}
+use Rattle.own_slots.proofs.Counting.{passed_own, passed_other, passed_lt}
+use Rattle.unit_timing.specs.Text.{Text, pieces_of}
+use Rattle.unit_timing.specs.Schedule.{begin, cut, sent}
+use Rattle.unit_timing.specs.Transport.{of_payloads, text_left}
+use Rattle.unit_timing.specs.MainBuffer.{is_kept, main_held}
+use Rattle.unit_timing.proofs.Filling.{text_left-cons}
+use Rattle.unit_timing.proofs.Sending.{slots_of-cut, text_left-append, length-left-cut, sent_nothing}
+use Rattle.unit_timing.proofs.Arriving.{behind_text}
+
+-- how many of the bytes that leave at these times are in the main buffer at x, for one text
+unfoldable pub kept : ℕ → ℕ → ℕ → ℕ → List ℕ → ℕ
+kept rate r x due ds = count_by (is_kept rate r x due) ds
+
+pub kept-append : (rate r x due : ℕ) (ds es : List ℕ) → kept rate r x due (ds ++ es) ≡ kept rate r x due ds + kept rate r x due es
+unfolding kept
+kept-append rate r x due ds es = sum_by-append (λ d. cond (is_kept rate r x due d) 1 0) ds es
+
+pub kept_le : (rate r x due : ℕ) (ds : List ℕ) → kept rate r x due ds ≤ length ds
+unfolding kept
+kept_le rate r x due ds = count_by-le-length (is_kept rate r x due) ds
+
+-- none after the stamp
+pub kept_after : (rate r x due : ℕ) (ds : List ℕ) → due * rate * r ≤ x * 720000 → kept rate r x due ds ≡ 0
+unfolding kept
+kept_after rate r x due [] h = refl
+kept_after rate r x due (d ∷ ds) h =
+    let out : is_kept rate r x due d ≡ false = and_right _ _ (le-ltb (x * 720000) (due * rate * r) h) in
+    rw (sum_by-cons (λ d. cond (is_kept rate r x due d) 1 0) d ds, out) (omega (arith, kept_after rate r x due ds h))
+
+-- none before it has left the transport buffer
+pub kept_before : (rate r x due : ℕ) (ds : List ℕ) → All (λ d. x < d) ds → kept rate r x due ds ≡ 0
+unfolding kept
+kept_before rate r x due [] h = refl
+kept_before rate r x due (d ∷ ds) h =
+    let out : nat_le d x ≡ false = lt-leb d x (All-head (λ d. x < d) d ds h) in
+    rw (sum_by-cons (λ d. cond (is_kept rate r x due d) 1 0) d ds, out) (omega (arith, kept_before rate r x due ds (All-tail (λ d. x < d) d ds h)))
+
+-- the bytes of a packet leave after it has begun
+pub packet_later : (rate r prev s low : ℕ) → low ≤ 188 * s * r → All (λ d. low + rate ≤ d) (departures rate prev (bytes_from r (188 * s) 188))
+packet_later rate r prev s low le =
+    earliest rate prev low (bytes_from r (188 * s) 188)
+    (All-weaker (λ t. 188 * s * r ≤ t) (λ t. low ≤ t) (λ t h. le_trans le h) (bytes_from r (188 * s) 188) (row r (188 * s) 188))
+
+-- and those of a text after its first slot has
+pub text_later : (rate r prev size low : ℕ) (slots : List ℕ) → All (λ s. low ≤ 188 * s * r) slots → All (λ d. low + rate ≤ d) (text_left rate r prev (cut size slots))
+unfolding cut
+text_later rate r prev size low [] all = unfold of_payloads in All-nil (λ d. low + rate ≤ d)
+text_later rate r prev size low (s ∷ slots) all =
+    let first = bytes_from r (188 * s) 188 in
+    rw (text_left-cons rate r prev (record { slot = s; size = min 184 size }) (cut (size - 184) slots))
+    (All-append (λ d. low + rate ≤ d) (drop (188 - min 184 size) (departures rate prev first)) (text_left rate r (last_left rate prev first) (cut (size - 184) slots))
+    (All-drop (λ d. low + rate ≤ d) (188 - min 184 size) (departures rate prev first) (packet_later rate r prev s low (All-head (λ s. low ≤ 188 * s * r) s slots all)))
+    (text_later rate r (last_left rate prev first) (size - 184) low slots (All-tail (λ s. low ≤ 188 * s * r) s slots all)))
+
+-- no own slot from number b on stands before a slot that at most b have passed
+pub later_slots : (own : ℕ → Bool) (e s n b : ℕ) → passed own e ≤ b + passed own s → All (λ t. e ≤ t) (drop b (own_slots own s n))
+unfolding own_slots
+later_slots own e s zero b h = rw (drop_all {X = ℕ} b [] (omega arith)) (All-nil (λ t. e ≤ t))
+later_slots own e s (suc n) zero h = elim (cases_Bool (own s)) [
+  | inl y ↦ rw y (All-cons (λ t. e ≤ t) s (own_slots own (suc s) n)
+      (elim (cases_lt s e) [ inl lt ↦ absurd (omega (arith, h, passed_lt own s e y lt)) | inr le ↦ le ])
+      (later_slots own e (suc s) n zero (omega (arith, h, passed_own own s y))))
+  | inr o ↦ rw o (later_slots own e (suc s) n zero (omega (arith, h, passed_other own s o)))
+]
+later_slots own e s (suc n) (suc b) h = elim (cases_Bool (own s)) [
+  | inl y ↦ rw y (later_slots own e (suc s) n b (omega (arith, h, passed_own own s y)))
+  | inr o ↦ rw o (later_slots own e (suc s) n (suc b) (omega (arith, h, passed_other own s o)))
+]
+
+-- the departures of a text, in those of all that is sent from it on
+pub text_part : (own : ℕ → Bool) (rate lead r n b p size prev next : ℕ) (texts : List Text) → size ≤ 184 * p →
+    take size (text_left rate r prev (cut size (take p (drop b (own_slots own 0 n))))
+    ++ text_left rate r next (sent own rate lead (b + p) texts (own_slots own 0 n)))
+    ≡ text_left rate r prev (cut size (take p (drop b (own_slots own 0 n))))
+text_part own rate lead r n b p size prev next texts small =
+    let slots = own_slots own 0 n in
+    let left = text_left rate r prev (cut size (take p (drop b slots))) in
+    let many : length left ≡ min size (184 * min p (length slots - b)) =
+    rw (length-left-cut rate r size prev (take p (drop b slots)), length-take p (drop b slots), length-drop b slots) refl in
+    elim (cases_lt (length slots) (b + p)) [
+      | inl short ↦
+          let nothing : text_left rate r next (sent own rate lead (b + p) texts slots) ≡ [] =
+          rw (sent_nothing own rate lead (b + p) texts slots (omega arith)) (unfold of_payloads in refl) in
+          rw (nothing, append-nil left) (take_all size left (omega arith))
+      | inr whole ↦ take_at left (text_left rate r next (sent own rate lead (b + p) texts slots)) size (omega arith)
+    ]
+
+pub released : (own : ℕ → Bool) (rate lead free : ℕ) (text : Text) → passed own (release rate lead text.due) ≤ begin own rate lead free text
+unfolding begin
+released own rate lead free text = omega arith
+
+-- so a text's packets stand in slots from its release on
+pub text_slots : (own : ℕ → Bool) (rate lead free n : ℕ) (text : Text) →
+    All (λ s. release rate lead text.due ≤ s) (take (pieces_of text) (drop (begin own rate lead free text) (own_slots own 0 n)))
+unfolding passed
+text_slots own rate lead free n text =
+    All-take (λ s. release rate lead text.due ≤ s) (pieces_of text) (drop (begin own rate lead free text) (own_slots own 0 n))
+    (later_slots own (release rate lead text.due) 0 n (begin own rate lead free text) (omega (arith, released own rate lead free text)))
+
+-- the bytes of the main buffer are those of the first text and those of the later ones
+pub main_held-cons : (own : ℕ → Bool) (rate lead r n x free prev : ℕ) (text : Text) (texts : List Text) →
+    main_held rate r x (text ∷ texts) (text_left rate r prev (sent own rate lead free (text ∷ texts) (own_slots own 0 n)))
+    ≡ kept rate r x text.due (text_left rate r prev (cut text.size (take (pieces_of text) (drop (begin own rate lead free text) (own_slots own 0 n)))))
+    + main_held rate r x texts (text_left rate r (last_left rate prev (arrivals r (take (pieces_of text) (drop (begin own rate lead free text) (own_slots own 0 n)))))
+    (sent own rate lead (begin own rate lead free text + pieces_of text) texts (own_slots own 0 n)))
+unfolding main_held sent kept
+main_held-cons own rate lead r n x free prev text texts =
+    let slots = own_slots own 0 n in
+    let b = begin own rate lead free text in
+    let p = pieces_of text in
+    let xs = take p (drop b slots) in
+    let next = last_left rate prev (arrivals r xs) in
+    let small : text.size ≤ 184 * pieces_of text = omega arith in
+    let joined : text_left rate r prev (cut text.size xs ++ sent own rate lead (b + p) texts slots)
+    ≡ text_left rate r prev (cut text.size xs) ++ text_left rate r next (sent own rate lead (b + p) texts slots) =
+    text_left-append rate r prev (cut text.size xs) (sent own rate lead (b + p) texts slots) ∙ rw (slots_of-cut text.size xs) refl in
+    rw (joined, text_part own rate lead r n b p text.size prev next texts small, behind_text own rate lead r n b p text.size prev next texts small) refl

@@ -1,0 +1,210 @@
+-- The main buffer counted by slots: the packets whose bytes it holds stand within the lead of one another.
+use Rattle.std.proofs.Common.{◌≡◌, ℕ, suc, ◌+◌, ◌-◌, ◌*◌, ◌<◌, ◌≤◌, min, Bool, true, false, cond, nat_lt, ◌&&◌, List, [], ◌∷◌, ◌++◌, length, take, drop, map, refl, ap, inl, inr, arith, All}
+use Rattle.std.proofs.Math.Nat.{mul-le-mul_right}
+use Rattle.std.proofs.lemmas.Bool.{cases_Bool, cases_lt, lt-ltb, ltb-true, and_parts, and_from}
+use Rattle.std.proofs.lemmas.List.{length-drop, map-append}
+use Rattle.std.proofs.lemmas.List.Elements.{All-nil, All-head, All-tail, All-append, All-drop, All-weaker, All-map}
+use Rattle.clock27.specs.Arrival.{bytes_from, arrivals}
+use Rattle.clock27.specs.Departure.{departures, last_left}
+use Rattle.clock27.specs.Release.{release}
+use Rattle.clock27.proofs.Leaving.{length-departures}
+use Rattle.own_slots.specs.Slots.{passed, own_slots, Rises, Spares}
+use Rattle.own_slots.proofs.Counting.{passed_own, passed_le}
+use Rattle.unit_timing.specs.Text.{Text, pieces_of}
+use Rattle.unit_timing.specs.Schedule.{Packet, begin, cut, sent}
+use Rattle.unit_timing.specs.Transport.{slots_of, of_payloads, text_left}
+use Rattle.unit_timing.specs.MainBuffer.{main_held, BySlots}
+use Rattle.unit_timing.proofs.Filling.{text_left-cons, length-bytes_from}
+use Rattle.unit_timing.proofs.Sending.{slots_of-cut, rises_from, rising_run}
+use Rattle.unit_timing.proofs.Counting.{kept, kept-append, kept_le, kept_after, kept_before, packet_later, text_slots, main_held-cons}
+
+-- a packet and the stamp of its text
+record Piece : Type 0 where
+  slot : ℕ
+  due : ℕ
+
+abbrev pieces : ℕ → List ℕ → List Piece
+pieces due slots = map (λ (s : ℕ). let p : Piece = record { slot = s; due = due } in p) slots
+
+unfoldable all_pieces : (ℕ → Bool) → ℕ → ℕ → ℕ → List Text → List ℕ → List Piece
+all_pieces own rate lead free [] slots = []
+all_pieces own rate lead free (text ∷ texts) slots =
+    pieces text.due (take (pieces_of text) (drop (begin own rate lead free text) slots))
+    ++ all_pieces own rate lead (begin own rate lead free text + pieces_of text) texts slots
+
+-- it has begun before x, and x lies before the stamp
+abbrev is_live : ℕ → ℕ → ℕ → Piece → Bool
+is_live rate r x p = nat_lt (188 * p.slot * r) x && nat_lt (x * 720000) (p.due * rate * r)
+
+unfoldable live : ℕ → ℕ → ℕ → List Piece → ℕ
+live rate r x [] = 0
+live rate r x (p ∷ ps) = cond (is_live rate r x p) 1 0 + live rate r x ps
+
+live-append : (rate r x : ℕ) (ps qs : List Piece) → live rate r x (ps ++ qs) ≡ live rate r x ps + live rate r x qs
+unfolding live
+live-append rate r x [] qs = omega arith
+live-append rate r x (p ∷ ps) qs = omega (arith, live-append rate r x ps qs)
+
+live_one : (rate r x : ℕ) (p : Piece) (ps : List Piece) → is_live rate r x p ≡ true → live rate r x (p ∷ ps) ≡ 1 + live rate r x ps
+unfolding live
+live_one rate r x p ps is = rw is refl
+
+live_none : (rate r x : ℕ) (p : Piece) (ps : List Piece) → is_live rate r x p ≡ false → live rate r x (p ∷ ps) ≡ live rate r x ps
+unfolding live
+live_none rate r x p ps not = rw not (omega arith)
+
+-- only then it has bytes in the main buffer, 184 at most
+kept_packet : (rate r x due prev s size : ℕ) → 0 < rate →
+    kept rate r x due (drop (188 - min 184 size) (departures rate prev (bytes_from r (188 * s) 188)))
+    ≤ 184 * (let n : ℕ = cond (is_live rate r x (record { slot = s; due = due })) 1 0 in n)
+kept_packet rate r x due prev s size pos =
+    let first = bytes_from r (188 * s) 188 in
+    let ds = drop (188 - min 184 size) (departures rate prev first) in
+    elim (cases_lt (188 * s * r) x) [
+      | inr early ↦
+          let all = All-drop (λ d. x + rate ≤ d) (188 - min 184 size) (departures rate prev first) (packet_later rate r prev s x early) in
+          let none = kept_before rate r x due ds (All-weaker (λ d. x + rate ≤ d) (λ d. x < d) (λ d h. omega (arith, h, pos)) ds all) in
+          omega (arith, none)
+      | inl begun ↦ elim (cases_lt (x * 720000) (due * rate * r)) [
+        | inr late ↦ omega (arith, kept_after rate r x due ds late)
+        | inl before ↦
+            let is : is_live rate r x (record { slot = s; due = due }) ≡ true =
+            and_from _ _ (lt-ltb (188 * s * r) x begun) (lt-ltb (x * 720000) (due * rate * r) before) in
+            let many : length ds ≡ min 184 size =
+            rw (length-drop (188 - min 184 size) (departures rate prev first), length-departures rate prev first, length-bytes_from r (188 * s) 188) (omega arith) in
+            rw is (omega (arith, kept_le rate r x due ds, many))
+      ]
+    ]
+
+kept_pieces : (rate r x due prev size : ℕ) (slots : List ℕ) → 0 < rate →
+    kept rate r x due (text_left rate r prev (cut size slots)) ≤ 184 * live rate r x (pieces due slots)
+unfolding cut live
+kept_pieces rate r x due prev size [] pos = unfold of_payloads in (omega (arith, kept_le rate r x due []))
+kept_pieces rate r x due prev size (s ∷ slots) pos =
+    let first = bytes_from r (188 * s) 188 in
+    let one = drop (188 - min 184 size) (departures rate prev first) in
+    let rest = text_left rate r (last_left rate prev first) (cut (size - 184) slots) in
+    rw (text_left-cons rate r prev (record { slot = s; size = min 184 size }) (cut (size - 184) slots), kept-append rate r x due one rest)
+    (omega (arith, kept_packet rate r x due prev s size pos, kept_pieces rate r x due (last_left rate prev first) (size - 184) slots pos))
+
+main_pieces : (own : ℕ → Bool) (rate lead r n x : ℕ) → 0 < rate → (texts : List Text) (free prev : ℕ) →
+    main_held rate r x texts (text_left rate r prev (sent own rate lead free texts (own_slots own 0 n)))
+    ≤ 184 * live rate r x (all_pieces own rate lead free texts (own_slots own 0 n))
+unfolding all_pieces
+main_pieces own rate lead r n x pos [] free prev = unfold main_held in (omega arith)
+main_pieces own rate lead r n x pos (text ∷ texts) free prev =
+    let slots = own_slots own 0 n in
+    let b = begin own rate lead free text in
+    let xs = take (pieces_of text) (drop b slots) in
+    rw (
+      main_held-cons own rate lead r n x free prev text texts,
+      live-append rate r x (pieces text.due xs) (all_pieces own rate lead (b + pieces_of text) texts slots),
+    )
+    (omega (
+      arith,
+      kept_pieces rate r x text.due prev text.size xs pos,
+      main_pieces own rate lead r n x pos texts (b + pieces_of text) (last_left rate prev (arrivals r xs)),
+    ))
+
+-- the packets stand in rising own slots
+abbrev slots_in : List Piece → List ℕ
+slots_in ps = map (λ (p : Piece). p.slot) ps
+
+slots_in-pieces : (due : ℕ) (slots : List ℕ) → slots_in (pieces due slots) ≡ slots
+slots_in-pieces due [] = refl
+slots_in-pieces due (s ∷ slots) = ap (λ l. s ∷ l) (slots_in-pieces due slots)
+
+slots_in-all : (own : ℕ → Bool) (rate lead free : ℕ) (texts : List Text) (slots : List ℕ) →
+    slots_in (all_pieces own rate lead free texts slots) ≡ slots_of (sent own rate lead free texts slots)
+unfolding all_pieces sent
+slots_in-all own rate lead free [] slots = refl
+slots_in-all own rate lead free (text ∷ texts) slots =
+    let b = begin own rate lead free text in
+    let p = pieces_of text in
+    let xs = take p (drop b slots) in
+    rw (
+      map-append (λ (p : Piece). p.slot) (pieces text.due xs) (all_pieces own rate lead (b + p) texts slots),
+      slots_in-pieces text.due xs,
+      map-append (λ (p : Packet). p.slot) (cut text.size xs) (sent own rate lead (b + p) texts slots),
+      slots_of-cut text.size xs,
+      slots_in-all own rate lead (b + p) texts slots,
+    ) refl
+
+-- none is early
+abbrev NotEarly : ℕ → ℕ → Piece → Type 0
+NotEarly rate lead p = p.due * rate ≤ p.slot * 135360000 + lead * rate
+
+not_early : (rate lead due s : ℕ) → release rate lead due ≤ s → due * rate ≤ s * 135360000 + lead * rate
+not_early rate lead due s le =
+    let split : due ≤ (due - lead) + lead = omega arith in
+    omega (arith, le, mul-le-mul_right rate split)
+
+none_early : (own : ℕ → Bool) (rate lead n : ℕ) (texts : List Text) (free : ℕ) → All (NotEarly rate lead) (all_pieces own rate lead free texts (own_slots own 0 n))
+unfolding all_pieces
+none_early own rate lead n [] free = All-nil (NotEarly rate lead)
+none_early own rate lead n (text ∷ texts) free =
+    let slots = own_slots own 0 n in
+    let b = begin own rate lead free text in
+    let xs = take (pieces_of text) (drop b slots) in
+    All-append (NotEarly rate lead) (pieces text.due xs) (all_pieces own rate lead (b + pieces_of text) texts slots)
+    (All-map (NotEarly rate lead) (λ (s : ℕ). let p : Piece = record { slot = s; due = text.due } in p) xs
+    (All-weaker (λ s. release rate lead text.due ≤ s) (λ s. text.due * rate ≤ s * 135360000 + lead * rate)
+    (λ s le. not_early rate lead text.due s le) xs (text_slots own rate lead free n text)))
+    (none_early own rate lead n texts (b + pieces_of text))
+
+-- those that are live stand before a slot, and so are no more than the own slots up to it
+live_before : (own : ℕ → Bool) (rate r x limit : ℕ) → ((s : ℕ) → 188 * s * r < x → s < limit) → (ps : List Piece) (from : ℕ) → from ≤ limit → Rises own from (slots_in ps) →
+    live rate r x ps + passed own from ≤ passed own limit
+unfolding Rises
+live_before own rate r x limit before [] from le rises = unfold live in (omega (arith, passed_le own from limit le))
+live_before own rate r x limit before (p ∷ ps) from le rises =
+    elim (cases_Bool (is_live rate r x p)) [
+      | inl is ↦
+          let parts = and_parts (nat_lt (188 * p.slot * r) x) (nat_lt (x * 720000) (p.due * rate * r)) is in
+          let lt = before p.slot (ltb-true (188 * p.slot * r) x parts.0) in
+          let rest = live_before own rate r x limit before ps (suc p.slot) (omega arith) rises.2 in
+          let one = live_one rate r x p ps is in
+          omega (arith, one, rest, passed_own own p.slot rises.1, passed_le own from p.slot rises.0)
+      | inr not ↦
+          let rest = live_before own rate r x limit before ps from le (rises_from own from (suc p.slot) (slots_in ps) (omega (arith, rises.0)) rises.2) in
+          let none = live_none rate r x p ps not in
+          omega (arith, none, rest)
+    ]
+
+-- two packets that are live stand less than w slots apart
+apart_slots : (s t r x due rate lead w : ℕ) → x * 720000 < due * rate * r → due * rate ≤ s * 135360000 + lead * rate → lead * rate ≤ w * 135360000 →
+    188 * t * r < x → 0 < r → t < s + w
+apart_slots s t r x due rate lead w before early wide begun pos = elim (cases_lt t (s + w)) [
+  | inl lt ↦ lt
+  | inr le ↦ absurd (omega (arith, before, mul-le-mul_right r early, mul-le-mul_right r wide, mul-le-mul_right (135360000 * r) le, begun))
+]
+
+rises_here : (own : ℕ → Bool) (from s : ℕ) (slots : List ℕ) → Rises own from (s ∷ slots) → Rises own s (s ∷ slots)
+unfolding Rises
+rises_here own from s slots rises = (omega arith, rises.1, rises.2)
+
+rises_rest : (own : ℕ → Bool) (from s : ℕ) (slots : List ℕ) → Rises own from (s ∷ slots) → Rises own (suc s) slots
+unfolding Rises
+rises_rest own from s slots rises = rises.2
+
+live_few : (own : ℕ → Bool) (rate lead r x w m : ℕ) → 0 < r → lead * rate ≤ w * 135360000 → Spares own w m → (ps : List Piece) (from : ℕ) → Rises own from (slots_in ps) →
+    All (NotEarly rate lead) ps → live rate r x ps ≤ m
+live_few own rate lead r x w m pos wide spares [] from rises early = unfold live in (omega arith)
+live_few own rate lead r x w m pos wide spares (p ∷ ps) from rises early = elim (cases_Bool (is_live rate r x p)) [
+  | inl is ↦
+      let parts = and_parts (nat_lt (188 * p.slot * r) x) (nat_lt (x * 720000) (p.due * rate * r)) is in
+      let stamp = ltb-true (x * 720000) (p.due * rate * r) parts.1 in
+      let near = λ (t : ℕ) (h : 188 * t * r < x). apart_slots p.slot t r x p.due rate lead w stamp (All-head (NotEarly rate lead) p ps early) wide h pos in
+      let here : Rises own p.slot (slots_in (p ∷ ps)) = rises_here own from p.slot (slots_in ps) rises in
+      let all = live_before own rate r x (p.slot + w) near (p ∷ ps) p.slot (omega arith) here in
+      omega (arith, all, spares p.slot)
+  | inr not ↦
+      let none = live_none rate r x p ps not in
+      omega (arith, none, live_few own rate lead r x w m pos wide spares ps (suc p.slot) (rises_rest own from p.slot (slots_in ps) rises) (All-tail (NotEarly rate lead) p ps early))
+]
+
+pub by_slots : BySlots
+by_slots own rate lead r w m texts n x pos pos' wide spares =
+    let ps = all_pieces own rate lead 0 texts (own_slots own 0 n) in
+    let few = live_few own rate lead r x w m pos' wide spares ps 0 (rw (slots_in-all own rate lead 0 texts (own_slots own 0 n)) (rising_run own rate lead n texts)) (none_early own rate lead n texts 0) in
+    omega (arith, main_pieces own rate lead r n x pos texts 0 0, few)

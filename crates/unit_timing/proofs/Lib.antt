@@ -1,0 +1,14 @@
+pub mod Adding
+pub mod Arriving
+pub mod Counting
+pub mod Examples
+pub mod Filling
+pub mod Grouping
+pub mod KeptBySlots
+pub mod KeptByTexts
+pub mod Numbering
+pub mod Serving
+pub mod Sending
+pub mod Stretching
+pub mod Telling
+pub mod Topping

@@ -1,0 +1,148 @@
+-- Slot by slot and text by text; the two buffers of a program's tables; packets in the finished bytes.
+use Rattle.std.proofs.Common.{◌≡◌, ℕ, zero, suc, ◌+◌, ◌-◌, ◌*◌, ◌<◌, ◌≤◌, min, Bool, Option, Some, None, List, [], ◌∷◌, ◌++◌, take, drop, refl, ap, ◌∙◌, inl, inr, arith}
+use Rattle.std.proofs.Math.Nat.{le_trans}
+use Rattle.std.proofs.lemmas.Bool.{cases_Bool, lt-ltb, le-ltb}
+use Rattle.std.proofs.lemmas.List.{take_at, drop_at, append_assoc, drop-drop}
+use Rattle.clock27.specs.Arrival.{arrivals}
+use Rattle.clock27.proofs.Pairing.{second_law}
+use Rattle.own_slots.specs.Slots.{passed, own_slots}
+use Rattle.own_slots.proofs.Counting.{passed_own, passed_other}
+use Rattle.own_slots.proofs.Working.{work_scale_law}
+use Rattle.unit_timing.specs.Text.{Text, pieces_of}
+use Rattle.unit_timing.specs.Schedule.{Packet, begin, piece_at, packet_in, pick, cut, sent, SlotwiseLaw}
+use Rattle.unit_timing.specs.SystemBuffer.{SystemLaw}
+use Rattle.unit_timing.specs.Run.{run_bytes, indices, IndicesLaw}
+use Rattle.unit_timing.proofs.Filling.{transport_room}
+
+pub system_law : SystemLaw
+system_law own rate slots x pos rises = (
+  (λ room peak W b. transport_room own (2 * rate) 2000000 room (2 * peak) (λ s. 2 * W s) slots x (omega arith) (work_scale_law own rate 1000000 room peak 2 W b) rises),
+  (λ room peak W b. le_trans (second_law x (2 * rate) (25 * rate) (arrivals 2000000 slots) (omega arith))
+      (transport_room own (25 * rate) 2000000 room (25 * peak) (λ s. 25 * W s) slots (x - 2 * rate) (omega arith) (work_scale_law own rate 80000 room peak 25 W b) rises)),
+)
+
+pub indices_law : IndicesLaw
+unfolding run_bytes indices own_slots
+indices_law packet test s zero len = refl
+indices_law packet test s (suc n) len =
+    rw (take_at (packet s) (run_bytes packet (suc s) n) 188 (len s), drop_at (packet s) (run_bytes packet (suc s) n) 188 (len s), indices_law packet test (suc s) n len) refl
+
+-- the packets in these slots, the first of which is own slot number i
+unfoldable picked : (ℕ → Option ℕ) → ℕ → List ℕ → List Packet
+picked f i [] = []
+picked f i (s ∷ slots) = packet_in s (f i) ++ picked f (suc i) slots
+
+pick_picked : (own : ℕ → Bool) (f : ℕ → Option ℕ) (s n : ℕ) → pick own f (own_slots own s n) ≡ picked f (passed own s) (own_slots own s n)
+unfolding pick picked own_slots
+pick_picked own f s zero = refl
+pick_picked own f s (suc n) = elim (cases_Bool (own s)) [
+  | inl y ↦
+      let next : passed own (suc s) ≡ suc (passed own s) = omega (arith, passed_own own s y) in
+      let rest = pick_picked own f (suc s) n in
+      rw y (ap (λ l. packet_in s (f (passed own s)) ++ l) (rw next at rest))
+  | inr o ↦
+      let next : passed own (suc s) ≡ passed own s = omega (arith, passed_other own s o) in
+      let rest = pick_picked own f (suc s) n in
+      rw o (rw next at rest)
+]
+
+picked_split : (f : ℕ → Option ℕ) (k i : ℕ) (slots : List ℕ) → picked f i slots ≡ picked f i (take k slots) ++ picked f (i + k) (drop k slots)
+unfolding picked
+picked_split f zero i slots = let e : i + 0 ≡ i = omega arith in rw e refl
+picked_split f (suc k) i [] = refl
+picked_split f (suc k) i (s ∷ slots) =
+    let e : i + suc k ≡ suc i + k = omega arith in
+    rw (e, append_assoc (packet_in s (f i)) (picked f (suc i) (take k slots)) (picked f (suc i + k) (drop k slots)))
+    (ap (λ l. packet_in s (f i) ++ l) (picked_split f k (suc i) slots))
+
+picked_none : (f : ℕ → Option ℕ) (k i : ℕ) (slots : List ℕ) → ((j : ℕ) → i ≤ j → j < i + k → f j ≡ None) → picked f i (take k slots) ≡ []
+unfolding picked
+picked_none f zero i slots none = refl
+picked_none f (suc k) i [] none = refl
+picked_none f (suc k) i (s ∷ slots) none =
+    rw (none i (omega arith) (omega arith)) (picked_none f k (suc i) slots (λ j from below. none j (omega arith) (omega arith)))
+
+picked_same : (f g : ℕ → Option ℕ) (i : ℕ) (slots : List ℕ) → ((j : ℕ) → i ≤ j → f j ≡ g j) → picked f i slots ≡ picked g i slots
+unfolding picked
+picked_same f g i [] same = refl
+picked_same f g i (s ∷ slots) same =
+    rw (same i (omega arith), picked_same f g (suc i) slots (λ j from. same j (omega arith))) refl
+
+picked_cut : (f : ℕ → Option ℕ) (p size i : ℕ) (slots : List ℕ) → ((j : ℕ) → j < p → f (i + j) ≡ Some (min 184 (size - 184 * j))) →
+    picked f i (take p slots) ≡ cut size (take p slots)
+unfolding picked cut
+picked_cut f zero size i slots pieces = refl
+picked_cut f (suc p) size i [] pieces = refl
+picked_cut f (suc p) size i (s ∷ slots) pieces =
+    let here : f i ≡ Some (min 184 size) =
+    let e : i + 0 ≡ i = omega arith in let z : size - 184 * 0 ≡ size = omega arith in rw (e, z) at (pieces 0 (omega arith)) in
+    rw (
+      here,
+      picked_cut f p (size - 184) (suc i) slots (λ j below.
+          let e : suc i + j ≡ i + suc j = omega arith in
+          let z : (size - 184) - 184 * j ≡ size - 184 * suc j = omega arith in
+          rw (e, z) (pieces (suc j) (omega arith))),
+    ) refl
+
+-- what own slot number i carries: nothing before the text, its pieces, and then what the later texts give it
+carried_before : (own : ℕ → Bool) (rate lead free i : ℕ) (text : Text) (texts : List Text) → i < begin own rate lead free text →
+    piece_at own rate lead free (text ∷ texts) i ≡ None
+unfolding piece_at
+carried_before own rate lead free i text texts lt = rw (lt-ltb i (begin own rate lead free text) lt) refl
+
+carried_piece : (own : ℕ → Bool) (rate lead free j : ℕ) (text : Text) (texts : List Text) → j < pieces_of text →
+    piece_at own rate lead free (text ∷ texts) (begin own rate lead free text + j) ≡ Some (min 184 (text.size - 184 * j))
+unfolding piece_at
+carried_piece own rate lead free j text texts lt =
+    let b = begin own rate lead free text in
+    let from : begin own rate lead free text ≤ begin own rate lead free text + j = omega arith in
+    let below : begin own rate lead free text + j < begin own rate lead free text + pieces_of text = omega arith in
+    let e : begin own rate lead free text + j - begin own rate lead free text ≡ j = omega arith in
+    rw (le-ltb (b + j) b from, lt-ltb (b + j) (b + pieces_of text) below, e) refl
+
+carried_after : (own : ℕ → Bool) (rate lead free i : ℕ) (text : Text) (texts : List Text) → begin own rate lead free text + pieces_of text ≤ i →
+    piece_at own rate lead free (text ∷ texts) i ≡ piece_at own rate lead (begin own rate lead free text + pieces_of text) texts i
+unfolding piece_at
+carried_after own rate lead free i text texts le =
+    let b = begin own rate lead free text in
+    let from : begin own rate lead free text ≤ i = omega arith in
+    rw (le-ltb i b from, le-ltb i (b + pieces_of text) le) refl
+
+pub free_le : (own : ℕ → Bool) (rate lead free : ℕ) (text : Text) → free ≤ begin own rate lead free text
+unfolding begin
+free_le own rate lead free text = omega arith
+
+picked_nothing : (own : ℕ → Bool) (rate lead i : ℕ) (slots : List ℕ) → picked (piece_at own rate lead i []) i slots ≡ []
+unfolding picked piece_at
+picked_nothing own rate lead i [] = refl
+picked_nothing own rate lead i (s ∷ slots) = picked_nothing own rate lead (suc i) slots
+
+picked_texts : (own : ℕ → Bool) (rate lead free : ℕ) (texts : List Text) (slots : List ℕ) →
+    picked (piece_at own rate lead free texts) free (drop free slots) ≡ sent own rate lead free texts slots
+unfolding sent
+picked_texts own rate lead free [] slots = picked_nothing own rate lead free (drop free slots)
+picked_texts own rate lead free (text ∷ texts) slots =
+    let b = begin own rate lead free text in
+    let p = pieces_of text in
+    let f = piece_at own rate lead free (text ∷ texts) in
+    let to : free + (begin own rate lead free text - free) ≡ begin own rate lead free text = omega (arith, free_le own rate lead free text) in
+    let before = picked_none f (b - free) free (drop free slots) (λ j from below. carried_before own rate lead free j text texts (omega arith)) in
+    let pieces = picked_cut f p text.size b (drop b slots) (λ j below. carried_piece own rate lead free j text texts below) in
+    let after = picked_same f (piece_at own rate lead (b + p) texts) (b + p) (drop (b + p) slots) (λ j le. carried_after own rate lead free j text texts le) in
+    rw (
+      picked_split f (b - free) free (drop free slots),
+      before,
+      to,
+      drop-drop (b - free) free slots,
+      to,
+      picked_split f p b (drop b slots),
+      pieces,
+      drop-drop p b slots,
+      after,
+      picked_texts own rate lead (b + p) texts slots,
+    ) refl
+
+pub slotwise_law : SlotwiseLaw
+unfolding passed
+slotwise_law own rate lead n texts =
+    pick_picked own (piece_at own rate lead 0 texts) 0 n ∙ picked_texts own rate lead 0 texts (own_slots own 0 n)

@@ -1,0 +1,165 @@
+-- The packets of texts in a stream's own slots.
+use Rattle.std.proofs.Common.{◌≡◌, ℕ, zero, suc, ◌+◌, ◌-◌, ◌*◌, ◌<◌, ◌≤◌, min, Bool, List, [], ◌∷◌, ◌++◌, length, take, drop, refl, ap, ◌∙◌, inl, inr, arith, All}
+use Rattle.std.proofs.Math.Nat.{le_trans}
+use Rattle.std.proofs.lemmas.Bool.{cases_Bool}
+use Rattle.std.proofs.lemmas.List.{take_all, drop_all, append_assoc, length-append, length-drop, drop-drop, take-append-drop, map-append}
+use Rattle.std.proofs.lemmas.List.Elements.{All-nil, All-cons}
+use Rattle.clock27.specs.Arrival.{bytes_from, arrivals}
+use Rattle.clock27.specs.Departure.{departures, last_left}
+use Rattle.clock27.proofs.Leaving.{last_left-append, length-departures}
+use Rattle.own_slots.specs.Slots.{passed, Rises, own_slots}
+use Rattle.own_slots.specs.Work.{BoundsWork}
+use Rattle.own_slots.proofs.Counting.{passed_own, passed_other, before_from, list_law}
+use Rattle.unit_timing.specs.Text.{Text, pieces_of}
+use Rattle.unit_timing.specs.Schedule.{Packet, begin, cut, sent}
+use Rattle.unit_timing.specs.Transport.{slots_of, of_payloads, text_left}
+use Rattle.unit_timing.proofs.Filling.{Level, level_le, level_packet, length-bytes_from, text_left-cons}
+use Rattle.unit_timing.proofs.Numbering.{free_le}
+
+pub slots_of-cut : (size : ℕ) (slots : List ℕ) → slots_of (cut size slots) ≡ slots
+unfolding cut
+slots_of-cut size [] = refl
+slots_of-cut size (s ∷ slots) = ap (λ l. s ∷ l) (slots_of-cut (size - 184) slots)
+
+pub text_left-append : (rate r prev : ℕ) (ps qs : List Packet) →
+    text_left rate r prev (ps ++ qs) ≡ text_left rate r prev ps ++ text_left rate r (last_left rate prev (arrivals r (slots_of ps))) qs
+text_left-append rate r prev [] qs = unfold of_payloads arrivals last_left in refl
+text_left-append rate r prev (p ∷ ps) qs =
+    let first = bytes_from r (188 * p.slot) 188 in
+    let next = last_left rate prev first in
+    let last : last_left rate prev (arrivals r (slots_of (p ∷ ps))) ≡ last_left rate next (arrivals r (slots_of ps)) =
+    unfold arrivals in last_left-append rate prev first (arrivals r (slots_of ps)) in
+    rw (
+      last,
+      text_left-cons rate r prev p (ps ++ qs),
+      text_left-cons rate r prev p ps,
+      text_left-append rate r next ps qs,
+      append_assoc (drop (188 - p.size) (departures rate prev first)) (text_left rate r next ps) (text_left rate r (last_left rate next (arrivals r (slots_of ps))) qs),
+    ) refl
+
+-- all that these slots can carry of the text leaves
+pub length-left-cut : (rate r size prev : ℕ) (slots : List ℕ) → length (text_left rate r prev (cut size slots)) ≡ min size (184 * length slots)
+unfolding cut
+length-left-cut rate r size prev [] = unfold of_payloads in (omega arith)
+length-left-cut rate r size prev (s ∷ slots) =
+    let first = bytes_from r (188 * s) 188 in
+    let many : length (departures rate prev first) ≡ 188 = length-departures rate prev first ∙ length-bytes_from r (188 * s) 188 in
+    let rest = length-left-cut rate r (size - 184) (last_left rate prev first) slots in
+    rw (
+      text_left-cons rate r prev (record { slot = s; size = min 184 size }) (cut (size - 184) slots),
+      length-append (drop (188 - min 184 size) (departures rate prev first)) (text_left rate r (last_left rate prev first) (cut (size - 184) slots)),
+      length-drop (188 - min 184 size) (departures rate prev first),
+      many,
+      rest,
+    ) (omega arith)
+
+-- rising lists
+pub rises_from : (own : ℕ → Bool) (low from : ℕ) (slots : List ℕ) → low ≤ from → Rises own from slots → Rises own low slots
+unfolding Rises
+rises_from own low from [] le rises = tt
+rises_from own low from (s ∷ slots) le rises = (le_trans le rises.0, rises.1, rises.2)
+
+pub rises_drop : (own : ℕ → Bool) (from k : ℕ) (slots : List ℕ) → Rises own from slots → Rises own from (drop k slots)
+unfolding Rises
+rises_drop own from zero slots rises = rises
+rises_drop own from (suc k) [] rises = rises
+rises_drop own from (suc k) (s ∷ slots) rises = rises_drop own from k slots (rises_from own from (suc s) slots (omega (arith, rises.0)) rises.2)
+
+pub rises_take : (own : ℕ → Bool) (from k : ℕ) (slots : List ℕ) → Rises own from slots → Rises own from (take k slots)
+unfolding Rises
+rises_take own from zero slots rises = tt
+rises_take own from (suc k) [] rises = rises
+rises_take own from (suc k) (s ∷ slots) rises = (rises.0, rises.1, rises_take own (suc s) k slots rises.2)
+
+-- the slot after the last of these, `from` where there is none
+unfoldable pub slot_after : ℕ → List ℕ → ℕ
+slot_after from [] = from
+slot_after from (s ∷ slots) = slot_after (suc s) slots
+
+pub rises_after : (own : ℕ → Bool) (from : ℕ) (xs ys : List ℕ) → Rises own from (xs ++ ys) → Rises own (slot_after from xs) ys
+unfolding Rises slot_after
+rises_after own from [] ys rises = rises
+rises_after own from (s ∷ xs) ys rises = rises_after own (suc s) xs ys rises.2
+
+-- the last byte of these packets lies within the work bound behind them
+pub level_packets : (own : ℕ → Bool) (rate r room peak : ℕ) (W : ℕ → ℕ) (from prev : ℕ) (slots : List ℕ) → BoundsWork own rate r room peak W → Rises own from slots →
+    Level r W from prev → Level r W (slot_after from slots) (last_left rate prev (arrivals r slots))
+unfolding Rises slot_after arrivals
+level_packets own rate r room peak W from prev [] b rises h = unfold last_left in h
+level_packets own rate r room peak W from prev (s ∷ slots) b rises h =
+    let here = level_le own rate r room peak W from s prev b rises.0 h in
+    rw (last_left-append rate prev (bytes_from r (188 * s) 188) (arrivals r slots))
+    (level_packets own rate r room peak W (suc s) (last_left rate prev (bytes_from r (188 * s) 188)) slots b rises.2 (level_packet own rate r room peak W s prev b rises.1 here))
+
+-- the own slots of a run
+pub length-own_slots : (own : ℕ → Bool) (s n : ℕ) → length (own_slots own s n) + passed own s ≡ passed own (s + n)
+unfolding own_slots
+length-own_slots own s zero = let e : s + 0 ≡ s = omega arith in rw e (omega arith)
+length-own_slots own s (suc n) =
+    let e : s + suc n ≡ suc s + n = omega arith in
+    let rest = length-own_slots own (suc s) n in
+    elim (cases_Bool (own s)) [
+      | inl y ↦ rw (y, e) (omega (arith, rest, passed_own own s y))
+      | inr o ↦ rw (o, e) (omega (arith, rest, passed_other own s o))
+    ]
+
+-- the first m of them stand before a slot that m have passed
+pub first_before : (own : ℕ → Bool) (e s n m : ℕ) → m + passed own s ≤ passed own e → All (λ t. t < e) (take m (own_slots own s n))
+unfolding own_slots
+first_before own e s zero m h = rw (take_all {A = ℕ} m [] (omega arith)) (All-nil (λ t. t < e))
+first_before own e s (suc n) zero h = All-nil (λ t. t < e)
+first_before own e s (suc n) (suc m) h = elim (cases_Bool (own s)) [
+  | inl y ↦ rw y (All-cons (λ t. t < e) s (take m (own_slots own (suc s) n)) (before_from own s e (omega arith))
+      (first_before own e (suc s) n m (omega (arith, passed_own own s y))))
+  | inr o ↦ rw o (first_before own e (suc s) n (suc m) (omega (arith, passed_other own s o)))
+]
+
+-- nothing is sent where all own slots are taken
+pub sent_nothing : (own : ℕ → Bool) (rate lead free : ℕ) (texts : List Text) (slots : List ℕ) → length slots ≤ free → sent own rate lead free texts slots ≡ []
+unfolding sent cut
+sent_nothing own rate lead free [] slots le = refl
+sent_nothing own rate lead free (text ∷ texts) slots le =
+    let b = begin own rate lead free text in
+    let later : length slots ≤ begin own rate lead free text = omega (arith, free_le own rate lead free text) in
+    rw (
+      drop_all b slots later,
+      take_all {A = ℕ} (pieces_of text) [] (omega arith),
+      sent_nothing own rate lead (b + pieces_of text) texts slots (omega (arith, later)),
+    ) refl
+
+rises_join : (own : ℕ → Bool) (from : ℕ) (xs ys : List ℕ) → Rises own from xs → Rises own (slot_after from xs) ys → Rises own from (xs ++ ys)
+unfolding Rises slot_after
+rises_join own from [] ys first rest = rest
+rises_join own from (s ∷ xs) ys first rest = (first.0, first.1, rises_join own (suc s) xs ys first.2 rest)
+
+-- behind what is skipped the own slots still rise
+pub rises_begin : (own : ℕ → Bool) (rate lead free from : ℕ) (text : Text) (slots : List ℕ) → Rises own from (drop free slots) →
+    Rises own from (drop (begin own rate lead free text) slots)
+rises_begin own rate lead free from text slots rises =
+    let b = begin own rate lead free text in
+    let to : free + (begin own rate lead free text - free) ≡ begin own rate lead free text = omega (arith, free_le own rate lead free text) in
+    rw (drop-drop (b - free) free slots, to) at (rises_drop own from (b - free) (drop free slots) rises)
+
+-- and so they do behind p packets
+pub rises_behind : (own : ℕ → Bool) (from b p : ℕ) (slots : List ℕ) → Rises own from (drop b slots) →
+    Rises own (slot_after from (take p (drop b slots))) (drop (b + p) slots)
+rises_behind own from b p slots rises =
+    let parts : Rises own from (take p (drop b slots) ++ drop (b + p) slots) = rw (← drop-drop p b slots, take-append-drop p (drop b slots)) rises in
+    rises_after own from (take p (drop b slots)) (drop (b + p) slots) parts
+
+rising_sent : (own : ℕ → Bool) (rate lead : ℕ) (slots : List ℕ) (texts : List Text) (free from : ℕ) → Rises own from (drop free slots) →
+    Rises own from (slots_of (sent own rate lead free texts slots))
+unfolding sent
+rising_sent own rate lead slots [] free from rises = unfold Rises in tt
+rising_sent own rate lead slots (text ∷ texts) free from rises =
+    let b = begin own rate lead free text in
+    let p = pieces_of text in
+    let xs = take p (drop b slots) in
+    let here = rises_begin own rate lead free from text slots rises in
+    rw (map-append (λ (p : Packet). p.slot) (cut text.size xs) (sent own rate lead (b + p) texts slots), slots_of-cut text.size xs)
+    (rises_join own from xs (slots_of (sent own rate lead (b + p) texts slots)) (rises_take own from p (drop b slots) here)
+    (rising_sent own rate lead slots texts (b + p) (slot_after from xs) (rises_behind own from b p slots here)))
+
+-- the packets of a run stand in rising own slots
+pub rising_run : (own : ℕ → Bool) (rate lead n : ℕ) (texts : List Text) → Rises own 0 (slots_of (sent own rate lead 0 texts (own_slots own 0 n)))
+rising_run own rate lead n texts = rising_sent own rate lead (own_slots own 0 n) texts 0 0 (list_law own 0 n)

@@ -1,0 +1,156 @@
+-- Texts that are sent on end.
+use Rattle.std.proofs.Common.{◌≡◌, ℕ, zero, suc, ◌+◌, ◌-◌, ◌*◌, ◌/◌, ◌%◌, ◌<◌, ◌≤◌, max, min, Bool, List, [], ◌∷◌, take, inl, inr, arith}
+use Rattle.std.proofs.Math.Nat.{mul-le-mul_right, le_of_mul-le-mul_left, mul-div-le, lt-mul-div-succ, div-add-mod}
+use Rattle.std.proofs.lemmas.Bool.{cases_lt}
+use Rattle.std.proofs.lemmas.Nat.{mod_below}
+use Rattle.std.proofs.lemmas.List.Sums.{sum_by-cons}
+use Rattle.clock27.specs.Release.{release}
+use Rattle.own_slots.specs.Slots.{passed}
+use Rattle.unit_timing.specs.Text.{Text, pieces_of, packets_of, Spaced, Paced, Declared}
+use Rattle.unit_timing.specs.Schedule.{begin}
+use Rattle.unit_timing.specs.Deadline.{Ends, InTime, Keeps, StretchLaw, DeadlineLaw}
+use Rattle.unit_timing.proofs.Grouping.{groups_few}
+
+-- the window behind the release of a stretch's first text ends in time for the last of its m + 1 texts
+ends_early : (rel w wait rate r late lead m apart due : ℕ) → rel * 135360000 + 1 ≤ wait * rate + 135360000 →
+    (w + 1) * 135360000 * r + late * 720000 ≤ (lead + m * apart) * rate * r → lead + wait + m * apart ≤ due →
+    (rel + w) * 135360000 * r + late * 720000 ≤ due * rate * r
+ends_early rel w wait rate r late lead m apart due soon keeps near =
+    omega (arith, mul-le-mul_right r soon, keeps, mul-le-mul_right (rate * r) near)
+
+-- a release is less than a slot after its time
+released_soon : (rate lead due : ℕ) → release rate lead due * 135360000 + 1 ≤ (due - lead) * rate + 135360000
+released_soon rate lead due = omega arith
+
+-- a stretch of m texts with `sent` packets in all, the first released at slot rel, `wait` units of 90 kHz after the start: what is known of the
+-- next own slot number that is free, and of the next text
+record Stretch (own : ℕ → Bool) (q : ℕ → ℕ) (rate lead apart rel wait m sent free from : ℕ) (texts : List Text) : Type 0 where
+  soon : rel * 135360000 + 1 ≤ wait * rate + 135360000
+  near : lead + wait + m * apart ≤ from
+  taken : free ≤ passed own rel + sent
+  few : (k : ℕ) → sent + packets_of (take k texts) ≤ q (m + k)
+
+-- its next text, at once behind it, ends in time
+next_ends : (own : ℕ → Bool) (q : ℕ → ℕ) (rate lead apart r late rel wait m sent free from : ℕ) (text : Text) (texts : List Text) →
+    Keeps own q rate lead apart r late m → Stretch own q rate lead apart rel wait m sent free from (text ∷ texts) → from ≤ text.due →
+    Ends own rate r late (free + pieces_of text) text.due
+next_ends own q rate lead apart r late rel wait m sent free from text texts k s le =
+    let few = s.few 1 in
+    let one : packets_of (take 1 (text ∷ texts)) ≡ pieces_of text = rw (sum_by-cons pieces_of text []) (omega arith) in
+    let e : m + 1 ≡ suc m = omega arith in
+    let all : sent + pieces_of text ≤ q (suc m) = rw (e, one) at few in
+    record {
+      slot = rel + k.window;
+      sent = omega (arith, all, k.serves rel, s.taken);
+      early = ends_early rel k.window wait rate r late lead m apart text.due s.soon k.in_time (omega (arith, s.near, le));
+    }
+
+-- and is part of it
+next_stretch : (own : ℕ → Bool) (q : ℕ → ℕ) (rate lead apart rel wait m sent free from : ℕ) (text : Text) (texts : List Text) →
+    Stretch own q rate lead apart rel wait m sent free from (text ∷ texts) → from ≤ text.due →
+    Stretch own q rate lead apart rel wait (suc m) (sent + pieces_of text) (free + pieces_of text) (text.due + apart) texts
+next_stretch own q rate lead apart rel wait m sent free from text texts s le = record {
+  soon = s.soon;
+  near = omega (arith, s.near, le);
+  taken = omega (arith, s.taken);
+  few = λ k.
+      let e : suc m + k ≡ m + suc k = omega arith in
+      let cons = sum_by-cons pieces_of text (take k texts) in
+      rw e (omega (arith, s.few (suc k), cons));
+}
+
+-- a text whose release comes behind all that was sent begins a stretch
+new_stretch : (own : ℕ → Bool) (q : ℕ → ℕ) (rate lead apart : ℕ) (text : Text) (texts : List Text) →
+    lead ≤ text.due → ((k : ℕ) → packets_of (take k (text ∷ texts)) ≤ q k) →
+    Stretch own q rate lead apart (release rate lead text.due) (text.due - lead) 0 0 (passed own (release rate lead text.due)) text.due (text ∷ texts)
+new_stretch own q rate lead apart text texts le few = record {
+  soon = released_soon rate lead text.due;
+  near = omega arith;
+  taken = omega arith;
+  few = λ k. let e : 0 + k ≡ k = omega arith in rw e (omega (arith, few k));
+}
+
+in_stretch : (own : ℕ → Bool) (q : ℕ → ℕ) (rate lead apart r late : ℕ) → ((m : ℕ) → Keeps own q rate lead apart r late m) →
+    (texts : List Text) (rel wait m sent free from : ℕ) → Stretch own q rate lead apart rel wait m sent free from texts →
+    lead ≤ from → Spaced apart from texts → Paced q texts → InTime own rate lead r late free texts
+unfolding Spaced Paced InTime begin
+in_stretch own q rate lead apart r late keeps [] rel wait m sent free from s le spaced paced = tt
+in_stretch own q rate lead apart r late keeps (text ∷ texts) rel wait m sent free from s le spaced paced =
+    let after : lead ≤ text.due + apart = omega (arith, spaced.0) in
+    elim (cases_lt free (passed own (release rate lead text.due))) [
+      | inl fresh ↦
+          let e : max free (passed own (release rate lead text.due)) ≡ passed own (release rate lead text.due) = omega arith in
+          let here : lead ≤ text.due = omega (arith, spaced.0) in
+          let same : text.due ≤ text.due = omega arith in
+          let new = new_stretch own q rate lead apart text texts here paced.0 in
+          rw e (
+            next_ends own q rate lead apart r late _ _ 0 0 _ text.due text texts (keeps 0) new same,
+            in_stretch own q rate lead apart r late keeps texts _ _ 1 _ _ (text.due + apart)
+                (next_stretch own q rate lead apart _ _ 0 0 _ text.due text texts new same) after spaced.1 paced.1,
+          )
+      | inr on ↦
+          let e : max free (passed own (release rate lead text.due)) ≡ free = omega arith in
+          rw e (
+            next_ends own q rate lead apart r late rel wait m sent free from text texts (keeps m) s spaced.0,
+            in_stretch own q rate lead apart r late keeps texts rel wait (suc m) _ _ (text.due + apart)
+                (next_stretch own q rate lead apart rel wait m sent free from text texts s spaced.0) after spaced.1 paced.1,
+          )
+    ]
+
+few_at_first : (q : ℕ → ℕ) (texts : List Text) → Paced q texts → (k : ℕ) → 0 + packets_of (take k texts) ≤ q (0 + k)
+unfolding Paced
+few_at_first q [] paced zero = omega arith
+few_at_first q [] paced (suc k) = omega arith
+few_at_first q (text ∷ texts) paced k = let e : 0 + k ≡ k = omega arith in rw e (omega (arith, paced.0 k))
+
+-- the run begins with an empty stretch
+pub stretch_law : StretchLaw
+stretch_law own q rate lead apart r late texts keeps spaced paced =
+    let start : Stretch own q rate lead apart 0 0 0 0 0 lead texts = record {
+      soon = omega arith;
+      near = omega arith;
+      taken = omega arith;
+      few = few_at_first q texts paced;
+    } in
+    let same : lead ≤ lead = omega arith in
+    in_stretch own q rate lead apart r late keeps texts 0 0 0 0 0 lead start same spaced paced
+
+-- the most packets of k texts in a row: whole groups, and the last one filled by one text to all
+abbrev stretched : ℕ → ℕ → ℕ → ℕ → ℕ
+stretched g most n zero = 0
+stretched g most n (suc m) = m / g * most + min (suc (m % g) * n) most
+
+stretched_few : (g most n : ℕ) (texts : List Text) → 0 < g → Declared g most n texts → (k : ℕ) → packets_of (take k texts) ≤ stretched g most n k
+stretched_few g most n texts pos d zero = omega arith
+stretched_few g most n texts pos d (suc m) =
+    let below : suc (m % g) ≤ g = omega (arith, mod_below m g pos) in
+    let few = groups_few g most n (suc (m % g)) (m / g) texts below d in
+    let e : m / g * g + suc (m % g) ≡ suc m = omega (arith, div-add-mod m g) in
+    rw e at few
+
+stretched_paced : (g most n : ℕ) (texts : List Text) → 0 < g → Declared g most n texts → Paced (stretched g most n) texts
+unfolding Paced Declared
+stretched_paced g most n [] pos d = tt
+stretched_paced g most n (text ∷ texts) pos d = ((λ k. stretched_few g most n (text ∷ texts) pos d k), stretched_paced g most n texts pos d.2)
+
+-- q groups, paid for by the rate, and a last one with `few` packets, by the lead
+window_early : (share w base q most few cost r late g apart rate lead j : ℕ) → 0 < share →
+    share * w ≤ base + (q * most + few) * cost → most * cost * 135360000 ≤ share * g * apart * rate →
+    (base + few * cost + share) * 135360000 * r + share * late * 720000 ≤ share * (lead + j * apart) * rate * r →
+    (w + 1) * 135360000 * r + late * 720000 ≤ (lead + (q * g + j) * apart) * rate * r
+window_early share w base q most few cost r late g apart rate lead j pos wide fast soon =
+    le_of_mul-le-mul_left {k = share} (omega (arith, mul-le-mul_right (135360000 * r) wide, mul-le-mul_right (q * r) fast, soon)) pos
+
+pub deadline_law : DeadlineLaw
+deadline_law own share cost base g most n rate lead apart r late texts serves some pos fast soon spaced declared =
+    stretch_law own (stretched g most n) rate lead apart r late texts
+    (λ m.
+    let whole : m / g * g + m % g ≡ m = omega (arith, div-add-mod m g) in
+    let early = window_early share ((base + stretched g most n (suc m) * cost) / share) base (m / g) most (min (suc (m % g) * n) most) cost r late g apart rate lead
+    (m % g) some (mul-div-le (base + stretched g most n (suc m) * cost) share) fast (soon (m % g) (mod_below m g pos)) in
+    record {
+      window = (base + stretched g most n (suc m) * cost) / share;
+      serves = serves (stretched g most n (suc m)) _ (lt-mul-div-succ (base + stretched g most n (suc m) * cost) some);
+      in_time = rw whole at early;
+    })
+    spaced (stretched_paced g most n texts pos declared)

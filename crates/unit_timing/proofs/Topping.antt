@@ -1,0 +1,123 @@
+-- The greatest fullness of the main buffer is found when a byte enters it.
+use Rattle.std.proofs.Common.{◌≡◌, ℕ, ◌<◌, ◌≤◌, ◌⊎◌, cond, List, [], ◌∷◌, take, drop, refl, inl, inr, arith, All}
+use Rattle.std.proofs.Math.Nat.{le_trans}
+use Rattle.std.proofs.lemmas.Bool.{cases_lt}
+use Rattle.std.proofs.lemmas.Bool.Decides.{nat_tests}
+use Rattle.std.proofs.lemmas.List.Elements.{All-nil, All-cons, All-head, All-tail, All-take, All-drop, All-weaker}
+use Rattle.std.proofs.lemmas.List.Sums.{sum_by-cons}
+use Rattle.clock27.specs.Peak.{greatest_at}
+use Rattle.unit_timing.specs.Text.{Text}
+use Rattle.unit_timing.specs.MainBuffer.{is_kept, main_held, MainPeakLaw}
+use Rattle.unit_timing.proofs.Counting.{kept, kept_before}
+
+-- y is no later than x, and no byte that has entered by x enters after y
+abbrev Covers : ℕ → ℕ → List ℕ → Type 0
+Covers x y ds = All (λ d. d ≤ x → d ≤ y) ds
+
+-- what is there at x is there at y
+one_covered : (rate r x y due d : ℕ) → y ≤ x → (d ≤ x → d ≤ y) →
+    (let n : ℕ = cond (is_kept rate r x due d) 1 0 in n) ≤ (let n : ℕ = cond (is_kept rate r y due d) 1 0 in n)
+one_covered rate r x y due d le covers = elim (cases_lt x d) [
+  | inl later ↦ grind (arith, nat_tests)
+  | inr here ↦ let by : d ≤ y = covers here in grind (arith, nat_tests)
+]
+
+kept_covered : (rate r x y due : ℕ) (ds : List ℕ) → y ≤ x → Covers x y ds → kept rate r x due ds ≤ kept rate r y due ds
+unfolding kept
+kept_covered rate r x y due [] le covers = omega arith
+kept_covered rate r x y due (d ∷ ds) le covers =
+    rw (sum_by-cons (λ d. cond (is_kept rate r x due d) 1 0) d ds, sum_by-cons (λ d. cond (is_kept rate r y due d) 1 0) d ds)
+    (omega (arith, one_covered rate r x y due d le (All-head (λ d. d ≤ x → d ≤ y) d ds covers), kept_covered rate r x y due ds le (All-tail (λ d. d ≤ x → d ≤ y) d ds covers)))
+
+held_covered : (rate r x y : ℕ) (texts : List Text) (left : List ℕ) → y ≤ x → Covers x y left → main_held rate r x texts left ≤ main_held rate r y texts left
+unfolding main_held kept
+held_covered rate r x y [] left le covers = omega arith
+held_covered rate r x y (text ∷ texts) left le covers =
+    let first = kept_covered rate r x y text.due (take text.size left) le (All-take (λ d. d ≤ x → d ≤ y) text.size left covers) in
+    let rest = held_covered rate r x y texts (drop text.size left) le (All-drop (λ d. d ≤ x → d ≤ y) text.size left covers) in
+    omega (arith, first, rest)
+
+-- before the first byte enters it, it is empty
+held_none : (rate r x : ℕ) (texts : List Text) (left : List ℕ) → All (λ d. x < d) left → main_held rate r x texts left ≡ 0
+unfolding main_held kept
+held_none rate r x [] left all = refl
+held_none rate r x (text ∷ texts) left all =
+    let first = kept_before rate r x text.due (take text.size left) (All-take (λ d. x < d) text.size left all) in
+    let rest = held_none rate r x texts (drop text.size left) (All-drop (λ d. x < d) text.size left all) in
+    omega (arith, first, rest)
+
+-- the last entry up to x
+record Entry (x : ℕ) (ds : List ℕ) : Type 0 where
+  at : ℕ
+  within : at ≤ x
+  covers : Covers x at ds
+  counted : (f : ℕ → ℕ) → f at ≤ greatest_at f ds
+
+entry_more : (x d : ℕ) (ds : List ℕ) → All (λ d. x < d) ds ⊎ Entry x ds → All (λ d. x < d) (d ∷ ds) ⊎ Entry x (d ∷ ds)
+unfolding greatest_at
+entry_more x d ds (inl none) = elim (cases_lt x d) [
+  | inl later ↦ inl (All-cons (λ d. x < d) d ds later none)
+  | inr here ↦ inr (record {
+    at = d;
+    within = here;
+    covers = All-cons (λ e. e ≤ x → e ≤ d) d ds (λ h. omega arith) (All-weaker (λ e. x < e) (λ e. e ≤ x → e ≤ d) (λ e lt h. absurd (omega (arith, lt, h))) ds none);
+    counted = λ f. omega arith;
+  })
+]
+entry_more x d ds (inr e) = elim (cases_lt x d) [
+  | inl later ↦ inr (record {
+    at = e.at;
+    within = e.within;
+    covers = All-cons (λ b. b ≤ x → b ≤ e.at) d ds (λ h. absurd (omega (arith, later, h))) e.covers;
+    counted = λ f. omega (arith, e.counted f);
+  })
+  | inr here ↦ elim (cases_lt d e.at) [
+    | inl before ↦ inr (record {
+      at = e.at;
+      within = e.within;
+      covers = All-cons (λ b. b ≤ x → b ≤ e.at) d ds (λ h. omega (arith, before)) e.covers;
+      counted = λ f. omega (arith, e.counted f);
+    })
+    | inr last ↦ inr (record {
+      at = d;
+      within = here;
+      covers = All-cons (λ b. b ≤ x → b ≤ d) d ds (λ h. omega arith) (All-weaker (λ b. b ≤ x → b ≤ e.at) (λ b. b ≤ x → b ≤ d) (λ b k h. le_trans (k h) last) ds e.covers);
+      counted = λ f. omega arith;
+    })
+  ]
+]
+
+entry : (x : ℕ) (ds : List ℕ) → All (λ d. x < d) ds ⊎ Entry x ds
+entry x [] = inl (All-nil (λ d. x < d))
+entry x (d ∷ ds) = entry_more x d ds (entry x ds)
+
+-- the greatest at a list of times is that at one of them, where there is one
+record Greatest (f : ℕ → ℕ) (most : ℕ) : Type 0 where
+  at : ℕ
+  is : f at ≡ most
+
+greatest_reached : (f : ℕ → ℕ) (d : ℕ) (ds : List ℕ) → Greatest f (greatest_at f (d ∷ ds))
+unfolding greatest_at
+greatest_reached f d [] = record { at = d; is = omega arith }
+greatest_reached f d (e ∷ ds) =
+    let rest = greatest_reached f e ds in
+    elim (cases_lt (f d) (greatest_at f (e ∷ ds))) [
+      | inl more ↦ record { at = rest.at; is = omega (arith, rest.is, more) }
+      | inr here ↦ record { at = d; is = omega (arith, here) }
+    ]
+
+never_more : (rate r : ℕ) (texts : List Text) (left : List ℕ) (x : ℕ) → main_held rate r x texts left ≤ greatest_at (λ x. main_held rate r x texts left) left
+never_more rate r texts left x = elim (entry x left) [
+  | inl none ↦ omega (arith, held_none rate r x texts left none)
+  | inr e ↦ le_trans (held_covered rate r x e.at texts left e.within e.covers) (e.counted (λ x. main_held rate r x texts left))
+]
+
+pub main_peak_law : MainPeakLaw
+main_peak_law rate r texts [] = record {
+  never_more = never_more rate r texts [];
+  moment = 0;
+  reached = unfold greatest_at in (held_none rate r 0 texts [] (All-nil (λ d. 0 < d)));
+}
+main_peak_law rate r texts (d ∷ left) =
+    let g = greatest_reached (λ x. main_held rate r x texts (d ∷ left)) d left in
+    record { never_more = never_more rate r texts (d ∷ left); moment = g.at; reached = g.is }

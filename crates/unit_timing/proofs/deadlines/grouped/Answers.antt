@@ -1,0 +1,5 @@
+use Rattle.unit_timing.proofs.Stretching.{deadline_law}
+use Rattle.unit_timing.proofs.deadlines.grouped.Goals as goal
+
+pub returns : goal.returns
+returns c = deadline_law

@@ -1,0 +1,5 @@
+use Rattle.unit_timing.proofs.Grouping.{group_law}
+use Rattle.unit_timing.proofs.deadlines.groups.Goals as goal
+
+pub returns : goal.returns
+returns c = group_law

@@ -1,0 +1,5 @@
+use Rattle.unit_timing.proofs.Serving.{main_switch_law}
+use Rattle.unit_timing.proofs.plans.main_switch.Goals as goal
+
+pub returns : goal.returns
+returns c = main_switch_law

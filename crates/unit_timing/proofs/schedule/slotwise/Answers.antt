@@ -1,0 +1,5 @@
+use Rattle.unit_timing.proofs.Numbering.{slotwise_law}
+use Rattle.unit_timing.proofs.schedule.slotwise.Goals as goal
+
+pub returns : goal.returns
+returns c = slotwise_law

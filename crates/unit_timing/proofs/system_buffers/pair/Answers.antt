@@ -1,0 +1,5 @@
+use Rattle.unit_timing.proofs.Numbering.{system_law}
+use Rattle.unit_timing.proofs.system_buffers.pair.Goals as goal
+
+pub returns : goal.returns
+returns c = system_law

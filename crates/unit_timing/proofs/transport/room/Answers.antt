@@ -1,0 +1,5 @@
+use Rattle.unit_timing.proofs.Filling.{transport_room}
+use Rattle.unit_timing.proofs.transport.room.Goals as goal
+
+pub returns : goal.returns
+returns c = transport_room

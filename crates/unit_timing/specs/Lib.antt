@@ -1,0 +1,9 @@
+pub mod Arrived
+pub mod Deadline
+pub mod MainBuffer
+pub mod Plans
+pub mod Run
+pub mod Schedule
+pub mod SystemBuffer
+pub mod Text
+pub mod Transport

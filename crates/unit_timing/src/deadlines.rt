@@ -1,0 +1,19 @@
+//! Deadlines of texts.
+ghost use Rattle.unit_timing.specs.Text.{GroupLaw};
+ghost use Rattle.unit_timing.specs.Deadline.{StretchLaw, DeadlineLaw};
+
+/// Texts that are sent on end come in time, so all do.
+pub fn stretches()
+    ensures { StretchLaw }
+{}
+
+/// Declared groups bound the packets of any texts in a row.
+pub fn groups()
+    ensures { GroupLaw }
+{}
+
+/// A pace of own slots and declared groups keep each deadline: the condition on the rate pays for
+/// whole groups, that on the lead for the rest.
+pub fn grouped()
+    ensures { DeadlineLaw }
+{}

@@ -1,0 +1,27 @@
+//! Timing of the units of a stream, in the buffers of the transport stream system target decoder
+//! (ISO/IEC 13818-1, 2.4.2), over the definitions alone.
+//!
+//! A stream's own slots are a function `own : ℕ → Bool` of the slot number, for one plan or for two;
+//! its units are a list of texts, each with its size and the time when it is due. The definitions in
+//! `specs/` say which own slot carries which part of which text, when its bytes leave the transport
+//! buffer, and how many bytes each buffer holds. Each function here is a law: it does nothing, and
+//! its contract says what holds of the definitions.
+//!
+//! - [`transport`]: the transport buffer never overflows, and each packet leaves in time.
+//! - [`deadlines`]: from the pace of the own slots to the deadline of each text.
+//! - [`arrived`]: each due text has left the transport buffer whole by its stamp.
+//! - [`main_buffer`]: what the main buffer holds.
+//! - [`system_buffers`]: the two buffers of a program's tables.
+//! - [`schedule`]: slot by slot is text by text, and the packets' indices in the finished bytes.
+//! - [`texts`]: one text more within the declaration.
+//! - [`plans`]: all of this for one plan and for two, from the conditions on their slots.
+#![tactic(auto)]
+
+pub mod arrived;
+pub mod deadlines;
+pub mod main_buffer;
+pub mod plans;
+pub mod schedule;
+pub mod system_buffers;
+pub mod texts;
+pub mod transport;

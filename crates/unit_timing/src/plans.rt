@@ -1,0 +1,33 @@
+//! One plan, or two plans in turn: from the conditions on their slots to what is promised of the buffers.
+ghost use Rattle.unit_timing.specs.Plans.{StreamLaw, DeadlineSwitchLaw, MainSwitchLaw, StreamSwitchLaw, ProgramLaw, ProgramSwitchLaw};
+
+/// A stream whose slots hold the conditions, with texts within its declaration: each due text
+/// leaves whole by its stamp, and neither buffer overflows, in runs of any length.
+pub fn stream()
+    ensures { StreamLaw }
+{}
+
+/// Over two plans, the first for any number of its periods, each text is sent in time.
+pub fn deadline_switch()
+    ensures { DeadlineSwitchLaw }
+{}
+
+/// Over two plans the main buffer never overflows.
+pub fn main_switch()
+    ensures { MainSwitchLaw }
+{}
+
+/// What is promised of a stream over one plan is promised over two.
+pub fn stream_switch()
+    ensures { StreamSwitchLaw }
+{}
+
+/// The buffers of a program's tables never overflow.
+pub fn program()
+    ensures { ProgramLaw }
+{}
+
+/// The same over two plans.
+pub fn program_switch()
+    ensures { ProgramSwitchLaw }
+{}

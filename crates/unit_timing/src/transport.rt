@@ -1,0 +1,13 @@
+//! The transport buffer.
+ghost use Rattle.unit_timing.specs.Transport.{RoomLaw, TextLaw};
+
+/// Where the work of each own slot finds room for its packet, the transport buffer never holds more
+/// bytes than its room, whichever own slots are used.
+pub fn room()
+    ensures { RoomLaw }
+{}
+
+/// The payload bytes of packets before a slot have left by that slot's begin and the peak of work.
+pub fn text()
+    ensures { TextLaw }
+{}
