@@ -1,0 +1,42 @@
+-- A run of more records than its input has bytes says no more.
+use Rattle.std.proofs.Common.{◌≡◌, ℕ, zero, suc, ◌+◌, ◌%◌, ◌<◌, ◌≤◌, false, List, [], ◌∷◌, ◌++◌, length, Option, Some, None, Result, Ok, Err, refl, ap, arith}
+use Rattle.std.proofs.lemmas.List.{length-drop}
+use Rattle.ts_packet.specs.Packets.{packets, payload_packet}
+use Rattle.pes_packet.specs.AccessUnits.{AccessUnit}
+use Rattle.mux_core.specs.UnitRecords.{record_at, behind_record, size_at}
+use Rattle.mux_core.specs.PidPackets.{payload_packets}
+use Rattle.mux_core.specs.Carrying.{Run, judged, run_step, run_from}
+use Rattle.mux_core.specs.Laws.{RunsAreWhole, PacketsJoin}
+use Rattle.mux_core.specs.Refusals.{refusal}
+use Rattle.mux_core.specs.declared.unit_records.UnitFileError.{UnitFileError}
+use Rattle.mux_core.proofs.Runs.{record_long}
+
+-- a step depends on the run behind its own unit alone
+step_same : (id earliest : ℕ) (found : Result (Option (ℕ × AccessUnit)) UnitFileError) (f g : AccessUnit → Run)
+    → ((entry : ℕ × AccessUnit) → found ≡ Ok (Some entry) → f entry.1 ≡ g entry.1)
+    → run_step id earliest found f ≡ run_step id earliest found g
+unfolding run_step
+step_same id earliest (Err fault) f g same = refl
+step_same id earliest (Ok None) f g same = refl
+step_same id earliest (Ok (Some entry)) f g same =
+    ap (λ (run : Run). judged (refusal id earliest entry.0 entry.1) entry.1 run) (same entry refl)
+
+long_enough : (n m id earliest : ℕ) (xs : List ℕ) → length xs < n → length xs < m → run_from n id earliest xs ≡ run_from m id earliest xs
+unfolding run_from
+long_enough zero m id earliest xs h k = absurd (omega arith)
+long_enough (suc n) zero id earliest xs h k = absurd (omega arith)
+long_enough (suc n) (suc m) id earliest xs h k =
+    step_same id earliest (record_at xs) (λ unit. run_from n id (unit.dts + 1) (behind_record xs)) (λ unit. run_from m id (unit.dts + 1) (behind_record xs))
+    (λ entry e.
+    let long : 21 + size_at xs ≤ length xs = record_long xs entry e in
+    let fewer : length (behind_record xs) + 21 ≤ length xs = omega (arith, long, length-drop (21 + size_at xs) xs) in
+    long_enough n m id (entry.1.dts + 1) (behind_record xs) (omega arith) (omega arith))
+
+pub runs_are_whole : RunsAreWhole
+runs_are_whole n id xs h = long_enough n (1 + length xs) id 0 xs h (omega arith)
+
+pub packets_join : PacketsJoin
+unfolding payload_packets packets
+packets_join pid number start [] = refl
+packets_join pid number start (piece ∷ pieces) =
+    ap (λ (t : List ℕ). payload_packet pid start (number % 16) piece ++ t) (packets_join pid (number + 1) false pieces)

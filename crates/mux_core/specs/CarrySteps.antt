@@ -1,0 +1,70 @@
+-- The steps of a run over records: the next accepted unit, and why there is none.
+use Rattle.std.specs.Prelude.{◌≡◌, ◌≤◌, ◌^◌, ℕ, List, length, Option, Some, None, Result, Ok, Err, ⊤}
+use Rattle.ts_packet.specs.Device.{Failed}
+use Rattle.pes_packet.specs.AccessUnits.{AccessUnit}
+use Rattle.pes_packet.specs.StreamIds.{greatest_size}
+use Rattle.mux_core.specs.Refusals.{refusal}
+use Rattle.mux_core.specs.UnitRecords.{record_at, behind_record}
+use Rattle.mux_core.specs.Carrying.{Run, Finished, UnitRefused, FileRefused}
+use Rattle.mux_core.specs.declared.refusals.FeedError.{FeedError}
+use Rattle.mux_core.specs.declared.unit_records.UnitFileError.TheVariants.{Cut, Size, Device, Memory}
+use Rattle.mux_core.specs.declared.carrying.CarryError.{CarryError}
+use Rattle.mux_core.specs.declared.carrying.CarryError.TheVariants.{Unit as AtUnit, File as AtRecord, Memory as NoMemory}
+use Rattle.mux_core.specs.declared.carrying.Stop.{Stop}
+use Rattle.mux_core.specs.declared.carrying.Stop.TheVariants.{Refused, Unread, OutOfMemory}
+
+-- what is known of a unit that is accepted
+pub record IsAccepted (id earliest : ℕ) (unit : AccessUnit) : Type 0 where
+  pub some : 1 ≤ length unit.bytes
+  pub most : length unit.bytes ≤ greatest_size id
+  pub later : earliest ≤ unit.dts
+  pub last : unit.dts ≤ 2 ^ 52
+
+-- a record whose unit is judged so stands at the front
+pub record HoldsUnit (id earliest : ℕ) (xs : List ℕ) (unit : AccessUnit) (cause : Option FeedError) : Type 0 where
+  pub stream : ℕ
+  pub record_is : record_at xs ≡ Ok (Some (stream, unit))
+  pub judged_is : refusal id earliest stream unit ≡ cause
+
+-- what the next record of these bytes gave
+abbrev pub ReadsNext : ℕ → ℕ → List ℕ → Option (List ℕ) → Result (Option AccessUnit) Stop → Type 0
+ReadsNext id earliest xs left (Ok None) = record_at xs ≡ Ok None
+ReadsNext id earliest xs left (Ok (Some unit)) = HoldsUnit id earliest xs unit None × (left ≡ Some (behind_record xs))
+ReadsNext id earliest xs left (Err (Refused cause)) = (unit : AccessUnit) × HoldsUnit id earliest xs unit (Some cause)
+ReadsNext id earliest xs left (Err (Unread Cut)) = record_at xs ≡ Err Cut
+ReadsNext id earliest xs left (Err (Unread Size)) = record_at xs ≡ Err Size
+ReadsNext id earliest xs left (Err (Unread Device)) = ⊤
+ReadsNext id earliest xs left (Err (Unread Memory)) = ⊥
+ReadsNext id earliest xs left (Err OutOfMemory) = ⊤
+
+-- a run was ended so, behind so many records
+abbrev pub EndsRun : Run → ℕ → Option Stop → Type 0
+EndsRun run index None = (run.ending ≡ Finished) × (index ≡ length run.units)
+EndsRun run index (Some (Refused cause)) = (run.ending ≡ UnitRefused cause) × (index ≡ length run.units)
+EndsRun run index (Some (Unread Cut)) = (run.ending ≡ FileRefused Cut) × (index ≡ length run.units)
+EndsRun run index (Some (Unread Size)) = (run.ending ≡ FileRefused Size) × (index ≡ length run.units)
+EndsRun run index (Some (Unread Device)) = index ≤ length run.units
+EndsRun run index (Some (Unread Memory)) = ⊥
+EndsRun run index (Some OutOfMemory) = index ≤ length run.units
+
+-- the reader failed exactly where that ended the run
+abbrev pub NamesStop : Option Stop → ℕ → ℕ → Type 0
+NamesStop None old new = new ≡ old
+NamesStop (Some (Refused cause)) old new = new ≡ old
+NamesStop (Some (Unread Cut)) old new = new ≡ old
+NamesStop (Some (Unread Size)) old new = new ≡ old
+NamesStop (Some (Unread Device)) old new = Failed old new
+NamesStop (Some (Unread Memory)) old new = ⊥
+NamesStop (Some OutOfMemory) old new = new ≡ old
+
+-- the same of one call
+abbrev pub NamesNext : {V : Type 0} → Result V Stop → ℕ → ℕ → Type 0
+NamesNext (Ok x) old new = new ≡ old
+NamesNext (Err stop) old new = NamesStop (Some stop) old new
+
+-- what is answered of a run that was ended so
+abbrev pub answer_of : ℕ → Option Stop → ℕ → Result ℕ CarryError
+answer_of index None sent = Ok sent
+answer_of index (Some (Refused cause)) sent = Err (AtUnit index cause)
+answer_of index (Some (Unread fault)) sent = Err (AtRecord index fault)
+answer_of index (Some OutOfMemory) sent = Err (NoMemory index)

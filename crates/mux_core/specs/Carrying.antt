@@ -1,0 +1,79 @@
+-- What a whole input of records becomes, where one stream has a PID for itself.
+use Rattle.std.specs.Prelude.{◌≡◌, ◌≤◌, ℕ, zero, suc, ◌+◌, Bool, List, [], ◌∷◌, length, take, Option, Some, None, Result, Ok, Err, ⊤}
+use Rattle.std.specs.Io.KnownBytes.{Appends}
+use Rattle.ts_packet.specs.Device.{Failed}
+use Rattle.pes_packet.specs.AccessUnits.{AccessUnit}
+use Rattle.mux_core.specs.Collecting.{byte_count, Took}
+use Rattle.mux_core.specs.PidPackets.{stream_packets, output}
+use Rattle.mux_core.specs.Refusals.{refusal}
+use Rattle.mux_core.specs.UnitRecords.{record_at, behind_record}
+use Rattle.mux_core.specs.declared.refusals.FeedError.{FeedError}
+use Rattle.mux_core.specs.declared.unit_records.UnitFileError.{UnitFileError}
+use Rattle.mux_core.specs.declared.unit_records.UnitFileError.TheVariants.{Cut, Size, Device, Memory}
+use Rattle.mux_core.specs.declared.carrying.CarryError.{CarryError}
+use Rattle.mux_core.specs.declared.carrying.CarryError.TheVariants.{Unit as AtUnit, File as AtRecord, Device as AtWriter, Memory as NoMemory}
+
+-- how an input of records ends: at its end, at a unit that is refused, or at what is no record
+pub data Ending : Type 0 where
+  Finished : Ending
+  UnitRefused : FeedError → Ending
+  FileRefused : UnitFileError → Ending
+
+-- the units of an input that are accepted, in order, and how it ends
+pub record Run : Type 0 where
+  pub units : List AccessUnit
+  pub ending : Ending
+
+-- a unit that is refused ends the run; else it comes before the run behind it
+unfoldable pub judged : Option FeedError → AccessUnit → Run → Run
+judged (Some cause) unit behind = record { units = []; ending = UnitRefused cause }
+judged None unit behind = record { units = unit ∷ behind.units; ending = behind.ending }
+
+-- what stands at the front of the input, and the run behind it
+unfoldable pub run_step : ℕ → ℕ → Result (Option (ℕ × AccessUnit)) UnitFileError → (AccessUnit → Run) → Run
+run_step id earliest (Err fault) behind = record { units = []; ending = FileRefused fault }
+run_step id earliest (Ok None) behind = record { units = []; ending = Finished }
+run_step id earliest (Ok (Some entry)) behind = judged (refusal id earliest entry.0 entry.1) entry.1 (behind entry.1)
+
+-- the run of at most so many records, where no DTS below `earliest` is accepted: each unit is later than the one before
+unfoldable pub run_from : ℕ → ℕ → ℕ → List ℕ → Run
+run_from zero id earliest xs = record { units = []; ending = Finished }
+run_from (suc n) id earliest xs = run_step id earliest (record_at xs) (λ unit. run_from n id (unit.dts + 1) (behind_record xs))
+
+-- the run of an input: it has no more records than bytes
+abbrev pub run_of : ℕ → List ℕ → Run
+run_of id xs = run_from (1 + length xs) id 0 xs
+
+-- the output of units
+abbrev pub carried : Bool → ℕ → ℕ → List AccessUnit → List ℕ
+carried hex pid id units = output hex (stream_packets pid id 0 units)
+
+-- which answer a run has; a failed reader and want of memory may stop it at each of its records
+abbrev pub Answers : Run → Result ℕ CarryError → Type 0
+Answers run (Ok sent) = run.ending ≡ Finished
+Answers run (Err (AtUnit index cause)) = (run.ending ≡ UnitRefused cause) × (index ≡ length run.units)
+Answers run (Err (AtRecord index Cut)) = (run.ending ≡ FileRefused Cut) × (index ≡ length run.units)
+Answers run (Err (AtRecord index Size)) = (run.ending ≡ FileRefused Size) × (index ≡ length run.units)
+Answers run (Err (AtRecord index Device)) = index ≤ length run.units
+Answers run (Err (AtRecord index Memory)) = ⊥
+Answers run (Err (AtWriter sent)) = ⊤
+Answers run (Err (NoMemory index)) = index ≤ length run.units
+
+-- what the writer took of the output of units: all, that of the records before the one named, or exactly the first `sent` bytes
+abbrev pub Writes : (List AccessUnit → List ℕ) → List AccessUnit → Option (List ℕ) → Option (List ℕ) → Result ℕ CarryError → Type 0
+Writes out units old new (Ok sent) = (sent ≡ byte_count (length (out units))) × Appends old new (out units)
+Writes out units old new (Err (AtUnit index cause)) = Appends old new (out (take index units))
+Writes out units old new (Err (AtRecord index fault)) = Appends old new (out (take index units))
+Writes out units old new (Err (AtWriter sent)) = Took old new sent (out units)
+Writes out units old new (Err (NoMemory index)) = Appends old new (out (take index units))
+
+-- a device is named exactly where a call of it failed: the reader by File with Device, the writer by Device
+abbrev pub NamesDevice : {V : Type 0} → Result V CarryError → ℕ → ℕ → ℕ → ℕ → Type 0
+NamesDevice (Ok sent) read0 read1 written0 written1 = (read1 ≡ read0) × (written1 ≡ written0)
+NamesDevice (Err (AtUnit index cause)) read0 read1 written0 written1 = (read1 ≡ read0) × (written1 ≡ written0)
+NamesDevice (Err (AtRecord index Cut)) read0 read1 written0 written1 = (read1 ≡ read0) × (written1 ≡ written0)
+NamesDevice (Err (AtRecord index Size)) read0 read1 written0 written1 = (read1 ≡ read0) × (written1 ≡ written0)
+NamesDevice (Err (AtRecord index Device)) read0 read1 written0 written1 = Failed read0 read1 × (written1 ≡ written0)
+NamesDevice (Err (AtRecord index Memory)) read0 read1 written0 written1 = ⊥
+NamesDevice (Err (AtWriter sent)) read0 read1 written0 written1 = Failed written0 written1
+NamesDevice (Err (NoMemory index)) read0 read1 written0 written1 = (read1 ≡ read0) × (written1 ≡ written0)

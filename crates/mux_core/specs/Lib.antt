@@ -1,0 +1,9 @@
+pub mod Codes
+pub mod UnitRecords
+pub mod RecordParts
+pub mod Refusals
+pub mod PidPackets
+pub mod Collecting
+pub mod Carrying
+pub mod CarrySteps
+pub mod Laws

@@ -1,0 +1,62 @@
+-- Records of access units: stream 1 byte, size 4, DTS 8, PTS 8, the highest byte first, then the unit's bytes.
+use Rattle.std.specs.Prelude.{◌≡◌, ◌≤◌, ℕ, ◌+◌, ◌==◌, nat_lt, if◌then◌else◌, List, [], ◌∷◌, ◌++◌, length, take, drop, slice_index, Option, Some, None, Result, Ok, Err, ⊤}
+use Rattle.byteorder.specs.Endian.{big_number, big_bytes}
+use Rattle.ts_packet.specs.Device.{Failed}
+use Rattle.pes_packet.specs.AccessUnits.{AccessUnit}
+use Rattle.mux_core.specs.declared.unit_records.UnitFileError.{UnitFileError}
+use Rattle.mux_core.specs.declared.unit_records.UnitFileError.TheVariants.{Cut, Size, Device, Memory}
+
+-- the bytes of a record before those of its unit
+abbrev pub head_size : ℕ
+head_size = 21
+
+-- the greatest size of a unit in a record
+abbrev pub greatest_record : ℕ
+greatest_record = 4_000_000
+
+-- the size that a record names
+abbrev pub size_at : List ℕ → ℕ
+size_at xs = big_number 4 (drop 1 xs)
+
+-- the unit of a record that is whole
+abbrev pub unit_at : List ℕ → AccessUnit
+unit_at xs = record {
+  dts = big_number 8 (drop 5 xs);
+  pts = big_number 8 (drop 13 xs);
+  bytes = take (size_at xs) (drop head_size xs);
+}
+
+-- what stands at the front of an input: nothing where it has no byte, a record, or what it is in place of one;
+-- the size is looked at as soon as it is there
+unfoldable pub record_at : List ℕ → Result (Option (ℕ × AccessUnit)) UnitFileError
+record_at xs =
+    if length xs == 0 then Ok None
+    else (if nat_lt (length xs) 5 then Err Cut
+    else (if nat_lt greatest_record (size_at xs) then Err Size
+    else (if nat_lt (length xs) (head_size + size_at xs) then Err Cut
+    else Ok (Some (slice_index xs 0, unit_at xs)))))
+
+-- the bytes of an input behind the record at its front
+abbrev pub behind_record : List ℕ → List ℕ
+behind_record xs = drop (head_size + size_at xs) xs
+
+-- a record as it is written
+abbrev pub record_text : ℕ → AccessUnit → List ℕ
+record_text stream unit = stream ∷ (big_bytes 4 (length unit.bytes) ++ (big_bytes 8 unit.dts ++ (big_bytes 8 unit.pts ++ unit.bytes)))
+
+-- what a call answered of an input of these bytes, and what is left of them; memory is taken for no refused size
+abbrev pub ReadsRecord : List ℕ → Option (List ℕ) → Result (Option (ℕ × AccessUnit)) UnitFileError → Type 0
+ReadsRecord xs left (Ok None) = (record_at xs ≡ Ok None) × (left ≡ Some [])
+ReadsRecord xs left (Ok (Some entry)) = (record_at xs ≡ Ok (Some entry)) × (left ≡ Some (behind_record xs))
+ReadsRecord xs left (Err Cut) = record_at xs ≡ Err Cut
+ReadsRecord xs left (Err Size) = record_at xs ≡ Err Size
+ReadsRecord xs left (Err Device) = ⊤
+ReadsRecord xs left (Err Memory) = (5 ≤ length xs) × (size_at xs ≤ greatest_record)
+
+-- a fault of the reader is answered exactly where a call of it failed
+abbrev pub NamesReader : {V : Type 0} → Result V UnitFileError → ℕ → ℕ → Type 0
+NamesReader (Err Device) old new = Failed old new
+NamesReader (Err Cut) old new = new ≡ old
+NamesReader (Err Size) old new = new ≡ old
+NamesReader (Err Memory) old new = new ≡ old
+NamesReader (Ok x) old new = new ≡ old
