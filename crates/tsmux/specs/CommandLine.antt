@@ -1,0 +1,23 @@
+-- The command line as `clap` is told it: subcommands, their options, and what their words are.
+use Rattle.std.specs.Prelude.{true, Some, codes}
+use Rattle.clap.specs.Words.{App, Rule, Text, new_app, new_rule, with_rule, with_subcommand}
+use Rattle.clap.specs.declared.builder.action.ArgAction.TheVariants.{SetTrue}
+
+-- an option `--NAME VALUE`
+abbrev pub option_rule : Text → Rule
+option_rule name = record (new_rule name) { long = Some name }
+
+-- a flag `--NAME`
+abbrev pub flag_rule : Text → Rule
+flag_rule name = record (new_rule name) { long = Some name; action = Some SetTrue }
+
+-- carry [--hex] [--pid N] [--id N]
+abbrev pub carry_app : App
+carry_app = with_rule (with_rule (with_rule (new_app (codes "carry")) (flag_rule (codes "hex"))) (option_rule (codes "pid"))) (option_rule (codes "id"))
+
+-- tsmux and its subcommands
+abbrev pub top_app : App
+top_app = record (new_app (codes "tsmux")) { top = record (new_app (codes "tsmux")).top { no_binary_name = true } }
+
+abbrev pub tsmux_app : App
+tsmux_app = with_subcommand top_app carry_app.top

@@ -1,0 +1,70 @@
+-- What the words ask for.
+use Rattle.std.specs.Prelude.{ℕ, IsTrue, ◌<◌, ◌&&◌, Bool, true, false, List, [], ◌∷◌, Option, Some, None, nat_le, nat_lt, length, if◌then◌else◌, codes, option_and_then}
+use Rattle.std.specs.Char.{is_ascii_digit}
+use Rattle.std.specs.List.{list_all}
+use Rattle.std.specs.Str.{bytes_eq}
+use Rattle.std.specs.Str.Parse.{digits_value}
+use Rattle.clap.specs.Words.{Row, Text, Kinds, fault_of, first_of, subcommand_of}
+use Rattle.tsmux.specs.declared.request.Request.{Request}
+use Rattle.tsmux.specs.declared.request.Request.TheVariants.{Carry}
+use Rattle.pes_packet.specs.StreamIds.{is_unit_id}
+use Rattle.tsmux.specs.CommandLine.{tsmux_app}
+
+-- a number within a range
+abbrev pub within : ℕ → ℕ → ℕ → Option ℕ
+within low high n = if nat_le low n && nat_le n high then Some n else None
+
+-- the number that decimal digits make: digits alone, one at least
+abbrev pub is_decimal : Text → Bool
+is_decimal text = nat_lt 0 (length text) && list_all is_ascii_digit text
+
+unfoldable pub decimal : Text → Option ℕ
+decimal text = if is_decimal text then Some (digits_value 10 text) else None
+
+-- an option's number, its default where the option is not given
+unfoldable pub number_option : ℕ → ℕ → ℕ → Option Text → Option ℕ
+number_option low high usual None = Some usual
+number_option low high usual (Some text) = option_and_then (within low high) (decimal text)
+
+-- a flag is given
+unfoldable pub is_given : Option Text → Bool
+is_given None = false
+is_given (Some text) = bytes_eq text (codes "true")
+
+-- of the options of `carry`
+unfoldable pub carriage_of : Bool → Option ℕ → Option ℕ → Option Request
+carriage_of hex None id = None
+carriage_of hex (Some pid) None = None
+carriage_of hex (Some pid) (Some id) = if is_unit_id id then Some (Carry (record { hex = hex; pid = pid; id = id })) else None
+
+unfoldable pub carry_request : List Row → Option Request
+carry_request rows = carriage_of (is_given (first_of (codes "hex") rows))
+    (number_option 32 8190 256 (first_of (codes "pid") rows))
+    (number_option 0 255 192 (first_of (codes "id") rows))
+
+unfoldable pub request_of : Text → List Row → Option Request
+request_of name rows =
+    if bytes_eq name (codes "carry") then carry_request rows else None
+
+-- of words without a fault
+unfoldable pub subcommand_request : Option (Text × List Row) → Option Request
+subcommand_request None = None
+subcommand_request (Some s) = request_of s.0 s.1
+
+unfoldable pub unless_faulty : Kinds → Option Request → Option Request
+unless_faulty [] asked = asked
+unless_faulty (k ∷ ks) asked = None
+
+-- of words, their faults and the subcommand that they name; no words are those of `carry --hex`
+unfoldable pub requested_of : List Text → Kinds → Option (Text × List Row) → Option Request
+requested_of [] faults named = Some (Carry (record { hex = true; pid = 256; id = 192 }))
+requested_of (w ∷ words) faults named = unless_faulty faults (subcommand_request named)
+
+-- what the words ask for, none where they are no use of the program
+abbrev pub requested : List Text → Option Request
+requested words = requested_of words (fault_of tsmux_app words) (subcommand_of tsmux_app words)
+
+-- the options of a request are in their ranges
+abbrev pub Fits : Option Request → Type 0
+Fits None = Unit {0}
+Fits (Some (Carry c)) = (c.pid < 8192) × IsTrue (is_unit_id c.id)

@@ -1,0 +1,58 @@
+//! The command line as `clap` reads it.
+ghost use Rattle.std.specs.Prelude.{◌≡◌, true, false, IfOk, codes, map};
+ghost use Rattle.clap.specs.Words.{FailsBy, app_of, fault_of, rule_of, subcommand_of, subcommand_rows_of, with_subcommand};
+ghost use Rattle.clap.specs.declared.builder.command.Command.TheViews.{out-Command as fields_of};
+ghost use Rattle.tsmux.specs.CommandLine.{carry_app, flag_rule, option_rule, tsmux_app};
+
+use clap::{Arg, ArgAction, ArgMatches, Command, Error};
+use std::alloc::{AllocError, Global};
+
+/// An option `--NAME VALUE`.
+fn option<'a>(alloc: Global, name: &'a str) -> Arg<'a>
+    ensures rule { rule_of result ≡ option_rule name.entry.now }
+    ensures local { result.global ≡ false }
+{
+    Arg::new(alloc, name).long(name)
+}
+
+/// A flag `--NAME`.
+fn flag<'a>(alloc: Global, name: &'a str) -> Arg<'a>
+    ensures rule { rule_of result ≡ flag_rule name.entry.now }
+    ensures local { result.global ≡ false }
+{
+    Arg::new(alloc, name).long(name).action(ArgAction::SetTrue)
+}
+
+fn carry<'a>(alloc: Global) -> Result<Command<'a>, AllocError>
+    ensures app { IfOk result (λ c. app_of c ≡ carry_app) }
+    ensures local { IfOk result (λ c. (fields_of c).has_globals ≡ false) }
+{
+    Command::new(alloc, "carry")
+        .arg(flag(alloc, "hex"))?
+        .arg(option(alloc, "pid"))?
+        .arg(option(alloc, "id"))
+}
+
+/// A command with one more subcommand.
+fn with<'a>(command: Command<'a>, sub: Command<'a>) -> Result<Command<'a>, AllocError>
+    requires { (fields_of sub).has_globals ≡ false }
+    ensures { IfOk result (λ c. app_of c ≡ with_subcommand (app_of command.entry) (app_of sub.entry).top) }
+{
+    command.subcommand(sub)
+}
+
+/// The program's command line.
+fn tsmux<'a>(alloc: Global) -> Result<Command<'a>, AllocError>
+    ensures { IfOk result (λ c. app_of c ≡ tsmux_app) }
+{
+    let command = Command::new(alloc, "tsmux").no_binary_name(true);
+    with(command, carry(alloc)?)
+}
+
+/// The subcommand that the words name, with what they give its options.
+pub fn matches_for<'a>(alloc: Global, words: &'a [&'a str]) -> Result<ArgMatches<'a>, Error>
+    ensures ok { IfOk result (λ m. subcommand_rows_of m ≡ subcommand_of tsmux_app (map (λ s. s.now) words.entry.now)) }
+    ensures fault { FailsBy (fault_of tsmux_app (map (λ s. s.now) words.entry.now)) result }
+{
+    tsmux(alloc)?.try_get_matches_from(words)
+}

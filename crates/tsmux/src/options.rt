@@ -1,0 +1,79 @@
+//! Numbers and flags of the command line.
+ghost use Rattle.std.specs.Prelude.{◌≡◌, ℕ, ◌-◌, ◌<◌, ◌≤◌, ◌^◌, IfSome, option_map, option_and_then};
+ghost use Rattle.std.specs.List.{list_all};
+ghost use Rattle.std.specs.Char.{is_ascii_digit};
+ghost use Rattle.clap.specs.Words.{first_of, found_of, rows_of};
+ghost use Rattle.tsmux.specs.Request as asked;
+
+use clap::ArgMatches;
+
+/// Whether a text is decimal digits alone.
+fn is_digits(text: &str) -> bool
+    ensures { result ≡ list_all is_ascii_digit text.now }
+{
+    text.bytes().all(|byte| byte.is_ascii_digit())
+}
+
+/// Whether a text is decimal digits alone, one at least.
+fn is_decimal(text: &str) -> bool
+    ensures { result ≡ asked.is_decimal text.now }
+{
+    text.len() > 0 && is_digits(text)
+}
+
+/// A number that lies within these limits.
+fn within(low: u64, high: u64, number: u64) -> Option<u64>
+    ensures value { result ≡ asked.within low high number }
+    ensures most { IfSome result (λ n. n ≤ high) }
+{
+    if low <= number && number <= high {
+        Some(number)
+    } else {
+        None
+    }
+}
+
+/// The number that decimal digits alone make, where it lies within these limits.
+pub fn number_in(text: &str, low: u64, high: u64) -> Option<u64>
+    ensures value { result ≡ option_and_then (asked.within low high) (asked.decimal text.now) }
+    ensures most { IfSome result (λ n. n ≤ high) }
+{
+    if !is_decimal(text) {
+        return None;
+    }
+    let Ok(number) = text.parse::<u64>() else {
+        return None;
+    };
+    within(low, high, number)
+}
+
+/// The text of an option or a flag.
+pub fn text_of<'a>(matches: &ArgMatches<'a>, id: &str) -> Option<&'a str>
+    ensures { option_map (λ s. s.now) result ≡ first_of id.now (rows_of (found_of matches.now)) }
+{
+    matches.get_str(id)
+}
+
+/// The number of an option, `usual` where it is not given.
+#[tactic(auto, unfolding(crate::specs::Request::number_option))]
+pub fn number_option(text: Option<&str>, low: u64, high: u64, usual: u64) -> Option<u64>
+    requires { usual ≤ high }
+    ensures value { result ≡ asked.number_option low high usual (option_map (λ s. s.now) text.entry) }
+    ensures most { IfSome result (λ n. n ≤ high) }
+{
+    match text {
+        None => Some(usual),
+        Some(text) => number_in(text, low, high),
+    }
+}
+
+/// Whether a flag is given.
+#[tactic(auto, unfolding(crate::specs::Request::is_given))]
+pub fn is_given(text: Option<&str>) -> bool
+    ensures { result ≡ asked.is_given (option_map (λ s. s.now) text.entry) }
+{
+    match text {
+        None => false,
+        Some(text) => text == "true",
+    }
+}

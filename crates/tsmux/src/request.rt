@@ -1,0 +1,105 @@
+//! What the words of the command line ask for.
+ghost use Rattle.std.specs.Prelude.{◌≡◌, ℕ, IfOk, IfSome, map, option_map, ◌<◌, ◌≤◌};
+ghost use Rattle.clap.specs.Words.{Row, Text, found_of, rows_of, subcommand_rows_of};
+ghost use Rattle.tsmux.specs.Request as asked;
+
+use crate::{command_line, options};
+use clap::ArgMatches;
+use clap::error::ErrorKind;
+use pes_packet::is_unit_id;
+use std::alloc::{AllocError, Global};
+
+/// What `carry` is to do: the packets of one PID as bytes, or as lines of hexadecimal digits.
+#[derive(Clone, Copy, Debug, PartialEq, Eq)]
+pub struct Carriage {
+    /// lines of hexadecimal digits, and not bytes
+    pub hex: bool,
+    /// the PID of the packets, 32 to 8190
+    pub pid: u16,
+    /// the stream_id of the PES packets: 189, or 192 to 239
+    pub id: u8,
+}
+
+/// A use of the program.
+#[derive(Clone, Copy, Debug, PartialEq, Eq)]
+pub enum Request {
+    /// unit records to packets
+    Carry(Carriage),
+}
+
+#[tactic(auto, unfolding(crate::specs::Request::carriage_of))]
+fn carriage_of(hex: bool, pid: Option<u64>, id: Option<u64>) -> Option<Request>
+    requires pid { IfSome pid (λ n. n < 8192) }
+    requires id { IfSome id (λ n. n < 256) }
+    ensures value { result ≡ asked.carriage_of hex pid id }
+    ensures fits { asked.Fits result }
+{
+    let Some(pid) = pid else {
+        return None;
+    };
+    let Some(id) = id else {
+        return None;
+    };
+    let (pid, id) = (pid as u16, id as u8);
+    if is_unit_id(id) {
+        Some(Request::Carry(Carriage { hex, pid, id }))
+    } else {
+        None
+    }
+}
+
+#[tactic(auto, unfolding(crate::specs::Request::carry_request))]
+fn carry_request(matches: &ArgMatches<'_>) -> Option<Request>
+    ensures value { result ≡ asked.carry_request (rows_of (found_of matches.now)) }
+    ensures fits { asked.Fits result }
+{
+    let hex = options::is_given(options::text_of(matches, "hex"));
+    let pid = options::number_option(options::text_of(matches, "pid"), 32, 8190, 256);
+    let id = options::number_option(options::text_of(matches, "id"), 0, 255, 192);
+    carriage_of(hex, pid, id)
+}
+
+#[tactic(auto, unfolding(crate::specs::Request::request_of))]
+fn request_of(name: &str, matches: &ArgMatches<'_>) -> Option<Request>
+    ensures value { result ≡ asked.request_of name.now (rows_of (found_of matches.now)) }
+    ensures fits { asked.Fits result }
+{
+    if name == "carry" {
+        carry_request(matches)
+    } else {
+        None
+    }
+}
+
+fn subcommand_request(matches: &ArgMatches<'_>) -> Option<Request>
+    ensures value { result ≡ asked.subcommand_request (subcommand_rows_of matches.now) }
+    ensures fits { asked.Fits result }
+{
+    match matches.subcommand() {
+        None => None,
+        Some((name, found)) => request_of(name, found),
+    }
+}
+
+/// What the words ask for: none where they are no use of the program. No words are those of
+/// `carry --hex`.
+pub fn requested(alloc: Global, words: &[&str]) -> Result<Option<Request>, AllocError>
+    ensures value { IfOk result (λ r. r ≡ asked.requested (map (λ s. s.now) words.now)) }
+    ensures fits { IfOk result (λ r. asked.Fits r) }
+{
+    if words.is_empty() {
+        let usual = Carriage {
+            hex: true,
+            pid: 256,
+            id: 192,
+        };
+        return Ok(Some(Request::Carry(usual)));
+    }
+    match command_line::matches_for(alloc, words) {
+        Ok(matches) => Ok(subcommand_request(&matches)),
+        Err(error) => match error.kind() {
+            ErrorKind::OutOfMemory => Err(AllocError),
+            _ => Ok(None),
+        },
+    }
+}
