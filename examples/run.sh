@@ -1,0 +1,15 @@
+#!/bin/sh
+# The radio records become packets of PID 256, and another program's reader gives the elementary stream back.
+set -eu
+here=$(cd "$(dirname "$0")" && pwd)
+binary=${1:-$here/../crates/tsmux/out/tsmux}
+work=$(mktemp -d)
+trap 'rm -rf "$work"' EXIT
+"$binary" carry --pid 256 --id 192 < "$here/radio/radio.units" > "$work/radio.ts"
+echo "$(wc -c < "$work/radio.ts") bytes of packets"
+if command -v ts2es > /dev/null; then
+    ts2es -pid 256 "$work/radio.ts" "$work/radio.mp2"
+    cmp "$work/radio.mp2" "$here/radio/radio.mp2" && echo "the elementary stream came back byte for byte"
+else
+    echo "ts2es (Debian: tstools) is not installed: nothing was compared"
+fi
