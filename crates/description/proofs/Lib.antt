@@ -1,0 +1,8 @@
+pub mod Positions
+pub mod CivilTimes
+pub mod TimeShape
+pub mod DescriptorLoops
+pub mod HexBytes
+pub mod Elements
+pub mod MemberKeys
+pub mod TableNumbers

@@ -1,0 +1,17 @@
+pub mod Described
+pub mod Tables
+pub mod Ranges
+pub mod WholeDescriptors
+pub mod Values
+pub mod Moments
+pub mod KnownKeys
+pub mod TopKeys
+pub mod NetworkKeys
+pub mod ProgramKeys
+pub mod StreamKeys
+pub mod EventKeys
+pub mod TableKeys
+pub mod Refusals
+pub mod Shown
+pub mod Codes
+pub mod Contents

@@ -1,0 +1,4 @@
+pub mod Extremes
+pub mod Listing
+pub mod Marking
+pub mod Switching
