@@ -1,6 +1,0 @@
-pub mod Lists
-pub mod Walking
-pub mod Contents
-pub mod Deciding
-pub mod Opening
-pub mod Running

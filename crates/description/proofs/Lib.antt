@@ -1,8 +1,0 @@
-pub mod Positions
-pub mod CivilTimes
-pub mod TimeShape
-pub mod DescriptorLoops
-pub mod HexBytes
-pub mod Elements
-pub mod MemberKeys
-pub mod TableNumbers

@@ -1,4 +1,0 @@
-pub mod Extremes
-pub mod Listing
-pub mod Marking
-pub mod Switching

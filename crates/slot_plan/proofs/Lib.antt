@@ -1,9 +1,0 @@
-pub mod Holding
-pub mod Base
-pub mod Numbering
-pub mod ReadOn
-pub mod TextPieces
-pub mod TextLines
-pub mod TextLists
-pub mod TextPlans
-mod Rows
