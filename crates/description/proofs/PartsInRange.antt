@@ -1,0 +1,170 @@
+-- Each part of a description is in its ranges.
+use Rattle.std.proofs.Common.{◌≡◌, ℕ, pos, suc, zero, ◌≤◌, ◌<◌, ◌*◌, ◌==◌, nat_le, Bool, true, false, List, [], length, filter, get_or, None, Some, IfSome, unwrap_or, option_map, refl, arith, if◌then◌else◌, All, codes, inl, inr, is_none}
+use Rattle.std.proofs.lemmas.Bool.{leb-true, or_cases, eqb-true}
+use Rattle.std.proofs.lemmas.List.Elements.{All-nil, All-cons, All-map, All-weaker}
+use Rattle.std.specs.Option.{option_to_list}
+use Rattle.std.specs.List.{filter_map}
+use Rattle.toml.specs.Data.{Data, get}
+use Rattle.description.specs.Ranges.{IsPid, IsBytes, IsNetwork, IsEvent, IsProgram, IsStreamId, IsStream, IsTable}
+use Rattle.description.specs.Values.{integer_in, integer_at, elements, is_one_section, section_in}
+use Rattle.description.specs.StreamKeys.{is_stream_id, stream_id, is_video_id, id_or_private, most_size, leaves_out_buffers, stream_rx, stream_main, stream_tag, stream_group, unit_packets, most_group_packets, stream_group_packets}
+use Rattle.description.specs.Contents.{described_network, described_event, is_owned_by, described_number, described_program, described_stream, described_sections, described_table}
+use Rattle.description.specs.Refusals.{events_of}
+use Rattle.description.proofs.KeyRanges.{Within, holds_of, at_key-all, map_all, integer_in-within, integer_at-within, integer_or-within, moment_at-within}
+use Rattle.description.proofs.TextRanges.{text_at-is, text_or-is, descriptors-is, language_at-is, optional_language-is, IsSectionBytes, sections-are, weaker, then_tested}
+use Rattle.description.proofs.Counts.{HasLength}
+
+pid_is : (key : List ℕ) (d : Data) → IsPid (unwrap_or (integer_at key (pos 32) (pos 8190) d) 32)
+pid_is key d = let w = integer_at-within key 32 8190 32 d (omega arith) (omega arith) in record { low = w.least; high = w.most }
+
+pub network_is : (d : Data) → IsNetwork (described_network d)
+network_is d = record {
+  id = (integer_at-within (codes "id") 0 65535 0 d (omega arith) (omega arith)).most;
+  name = text_at-is 200 (codes "name") d;
+  descriptors = descriptors-is (codes "descriptors") d;
+}
+
+pub event_is : (d : Data) → IsEvent (described_event d)
+event_is d =
+    let duration = integer_at-within (codes "duration") 1 359999 1 d (omega arith) (omega arith) in
+    record {
+      id = (integer_at-within (codes "id") 0 65535 0 d (omega arith) (omega arith)).most;
+      start = (moment_at-within (codes "start") d).most;
+      some_time = duration.least;
+      most_time = duration.most;
+      language = language_at-is (codes "language") d;
+      name = text_at-is 100 (codes "name") d;
+      text = text_at-is 150 (codes "text") d;
+    }
+
+pub program_is : (document d : Data) → IsProgram (described_program document d)
+program_is document d =
+    let number = integer_at-within (codes "number") 1 65535 1 d (omega arith) (omega arith) in
+    let limit = integer_or-within (codes "pcr_limit") 1 100 40 1 d (omega arith) (omega arith) (omega arith) (omega arith) in
+    record {
+      some_number = number.least;
+      most_number = number.most;
+      pmt_pid = pid_is (codes "pmt_pid") d;
+      pcr_pid = pid_is (codes "pcr_pid") d;
+      some_limit = limit.least;
+      most_limit = limit.most;
+      descriptors = descriptors-is (codes "descriptors") d;
+      service_type = (integer_or-within (codes "service_type") 0 255 1 0 d (omega arith) (omega arith) (omega arith) (omega arith)).most;
+      provider = text_or-is 100 (codes "provider") d;
+      name = text_or-is 100 (codes "name") d;
+      events = All-map IsEvent described_event (filter (is_owned_by (described_number d)) (events_of document)) (λ k other within. event_is (get_or (filter (is_owned_by (described_number d)) (events_of document)) k other));
+    }
+
+-- stream_id
+id_tested : (id : ℕ) → Within 189 239 id → is_stream_id id ≡ true → IsStreamId id
+id_tested id w h = elim (or_cases (id == 189) (nat_le 192 id) h) [
+  | inl is ↦ inl (eqb-true id 189 is)
+  | inr above ↦ inr (leb-true 192 id above, w.most)
+]
+
+id_is : (d : Data) → IsStreamId (id_or_private d)
+id_is d =
+    holds_of IsStreamId (stream_id d) 189
+    (weaker (λ id. Within 189 239 id × (is_stream_id id ≡ true)) IsStreamId (stream_id d) (λ id p. id_tested id p.0 p.1)
+    (then_tested (Within 189 239) is_stream_id (integer_at (codes "id") (pos 189) (pos 239) d)
+    (at_key-all (Within 189 239) (codes "id") None (integer_in (pos 189) (pos 239)) d tt (integer_in-within 189 239))))
+    (inl refl)
+
+-- the greatest unit
+record SizeBounds (id most : ℕ) : Type 0 where
+  some : 1 ≤ most
+  any : most ≤ 4000000
+  bounded : id < 224 → most ≤ 65522
+
+size_bounds : (id : ℕ) (b : Bool) → nat_le 224 id ≡ b → SizeBounds id (if b then 4000000 else 65522)
+size_bounds id true is = let above = leb-true 224 id is in record { some = omega arith; any = omega arith; bounded = λ low. absurd (omega arith) }
+size_bounds id false is = record { some = omega arith; any = omega arith; bounded = λ low. omega arith }
+
+-- a group of as many units has no fewer packets than one
+group_most : (g u : ℕ) → 1 ≤ g → u ≤ g * u
+group_most zero u h = absurd (omega arith)
+group_most (suc g) u h = omega arith
+
+if_some : {X : Type 0} (P : X → Type 0) (b : Bool) (x : X) → P x → IfSome (if b then Some x else None) P
+if_some P true x h = h
+if_some P false x h = tt
+
+packets_within : (d : Data) → Within (unit_packets d) (most_group_packets d) (unwrap_or (stream_group_packets d) (unit_packets d))
+packets_within d =
+    let group = integer_or-within (codes "group") 1 64 1 1 d (omega arith) (omega arith) (omega arith) (omega arith) in
+    let more = group_most (unwrap_or (stream_group d) 1) (unit_packets d) group.least in
+    integer_or-within (codes "group_packets") (unit_packets d) (most_group_packets d) (most_group_packets d) (unit_packets d) d more (omega arith) (omega arith) more
+
+tag_is : (d : Data) → All (λ t. t ≤ 255) (option_to_list (unwrap_or (stream_tag d) None))
+tag_is d =
+    holds_of (λ o. All (λ t. t ≤ 255) (option_to_list o)) (stream_tag d) None
+    (at_key-all (λ o. All (λ t. t ≤ 255) (option_to_list o)) (codes "tag") (Some None) (λ v. option_map Some (integer_in (pos 0) (pos 255) v)) d (All-nil (λ t. t ≤ 255))
+    (λ v. map_all (λ o. All (λ t. t ≤ 255) (option_to_list o)) (Within 0 255) Some (integer_in (pos 0) (pos 255) v)
+    (λ t w. All-cons (λ t. t ≤ 255) t [] w.most (All-nil (λ t. t ≤ 255))) (integer_in-within 0 255 v)))
+    (All-nil (λ t. t ≤ 255))
+
+rx_within : (d : Data) → Within 64000 200000000 (unwrap_or (stream_rx d) 64000)
+rx_within d =
+    holds_of (Within 64000 200000000) (stream_rx d) 64000
+    (at_key-all (Within 64000 200000000) (codes "rx") (if leaves_out_buffers d then Some 2000000 else None) (integer_in (pos 64000) (pos 200000000)) d
+    (if_some (Within 64000 200000000) (leaves_out_buffers d) 2000000 (record { least = omega arith; most = omega arith })) (integer_in-within 64000 200000000))
+    (record { least = omega arith; most = omega arith })
+
+main_within : (d : Data) → Within 1 10000000 (unwrap_or (stream_main d) 1)
+main_within d =
+    holds_of (Within 1 10000000) (stream_main d) 1
+    (at_key-all (Within 1 10000000) (codes "main") (if is_none (get (codes "rx") d) then Some 3584 else None) (integer_in (pos 1) (pos 10000000)) d
+    (if_some (Within 1 10000000) (is_none (get (codes "rx") d)) 3584 (record { least = omega arith; most = omega arith })) (integer_in-within 1 10000000))
+    (record { least = omega arith; most = omega arith })
+
+within_trans : {a b c : ℕ} → a ≤ b → b ≤ c → a ≤ c
+within_trans h k = omega arith
+
+pub stream_is : (d : Data) → IsStream (described_stream d)
+stream_is d =
+    let interval = integer_at-within (codes "interval") 1 90000 1 d (omega arith) (omega arith) in
+    let lead = integer_at-within (codes "lead") 1 90000 1 d (omega arith) (omega arith) in
+    let bounds = size_bounds (id_or_private d) (is_video_id (id_or_private d)) refl in
+    let size = integer_at-within (codes "size") 1 (most_size d) 1 d (omega arith) bounds.some in
+    let rx = rx_within d in
+    let main = main_within d in
+    let group = integer_or-within (codes "group") 1 64 1 1 d (omega arith) (omega arith) (omega arith) (omega arith) in
+    let packets = packets_within d in
+    record {
+      pid = pid_is (codes "pid") d;
+      stream_id = id_is d;
+      stream_type = (integer_at-within (codes "type") 0 255 0 d (omega arith) (omega arith)).most;
+      some_interval = interval.least;
+      most_interval = interval.most;
+      some_size = size.least;
+      most_size = within_trans size.most bounds.any;
+      bounded_size = λ low. within_trans size.most (bounds.bounded low);
+      some_lead = lead.least;
+      most_lead = lead.most;
+      least_rx = rx.least;
+      most_rx = rx.most;
+      some_main = main.least;
+      most_main = main.most;
+      tag = tag_is d;
+      language = optional_language-is (codes "language") d;
+      descriptors = descriptors-is (codes "descriptors") d;
+      some_group = group.least;
+      most_group = group.most;
+      some_packets = packets.least;
+      most_packets = packets.most;
+    }
+
+pub table_is : (d : Data) → HasLength 1 8 (length (described_sections d)) → IsTable (described_table d)
+table_is d counted =
+    let limit = integer_at-within (codes "limit") 1 30000 1 d (omega arith) (omega arith) in
+    let are = sections-are (elements (codes "sections") d) in
+    record {
+      pid = pid_is (codes "pid") d;
+      some_limit = limit.least;
+      most_limit = limit.most;
+      some_sections = counted.least;
+      most_sections = counted.most;
+      sections = All-weaker IsSectionBytes (IsBytes 4096) (λ s h. h.octets) (filter_map section_in (elements (codes "sections") d)) are;
+      no_empty_section = All-weaker IsSectionBytes (λ s. 3 ≤ length s) (λ s h. h.three) (filter_map section_in (elements (codes "sections") d)) are;
+      whole_sections = All-weaker IsSectionBytes (λ s. is_one_section s ≡ true) (λ s h. h.whole) (filter_map section_in (elements (codes "sections") d)) are;
+    }

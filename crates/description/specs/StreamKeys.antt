@@ -1,0 +1,119 @@
+-- The keys of a table of the array `stream`.
+use Rattle.std.specs.Prelude.{ℕ, pos, ◌+◌, ◌*◌, ◌/◌, ◌&&◌, ◌||◌, ◌==◌, not, nat_le, Bool, false, List, [], ◌∷◌, Option, None, Some, codes, is_none, unwrap_or, option_and_then, if◌then◌else◌}
+use Rattle.std.specs.List.{list_any}
+use Rattle.toml.specs.Data.{Data, get}
+use Rattle.description.specs.Values.{at_key, integer_in, integer_at, integer_or, optional_integer, optional_language, descriptors_or_none, elements}
+use Rattle.description.specs.ProgramKeys.{program_number}
+use Rattle.description.specs.declared.stream_keys.StreamKey.{StreamKey}
+use Rattle.description.specs.declared.stream_keys.StreamKey.TheVariants.{Program, Pid, StreamId, StreamType, Interval, Size, Lead, Rx, Main, Tag, Language, Descriptors, Group, GroupPackets}
+
+-- the number of the program that a stream or an event belongs to
+abbrev pub owner_number : Data → Option ℕ
+owner_number = integer_at (codes "program") (pos 1) (pos 65535)
+
+-- a program of the document has that number
+abbrev pub has_number : ℕ → Data → Bool
+has_number number program = elim (program_number program) [ None ↦ false | Some n ↦ n == number ]
+
+abbrev pub declares : Data → ℕ → Bool
+declares document number = list_any (has_number number) (elements (codes "program") document)
+
+abbrev pub has_owner : Data → Data → Bool
+has_owner document part = elim (owner_number part) [ None ↦ false | Some number ↦ declares document number ]
+
+abbrev pub stream_pid : Data → Option ℕ
+stream_pid = integer_at (codes "pid") (pos 32) (pos 8190)
+
+-- stream_id (ISO/IEC 13818-1, table 2-22): private_stream_1, audio or video
+abbrev pub is_stream_id : ℕ → Bool
+is_stream_id id = id == 189 || nat_le 192 id
+
+abbrev pub stream_id : Data → Option ℕ
+stream_id stream = option_and_then (λ id. if is_stream_id id then Some id else None) (integer_at (codes "id") (pos 189) (pos 239) stream)
+
+abbrev pub is_audio_id : ℕ → Bool
+is_audio_id id = nat_le 192 id && nat_le id 223
+
+abbrev pub is_video_id : ℕ → Bool
+is_video_id id = nat_le 224 id
+
+-- what the stream_id counts as where it is refused
+abbrev pub id_or_private : Data → ℕ
+id_or_private stream = unwrap_or (stream_id stream) 189
+
+-- stream_type (ISO/IEC 13818-1, table 2-34)
+abbrev pub stream_type : Data → Option ℕ
+stream_type = integer_at (codes "type") (pos 0) (pos 255)
+
+-- the least time between two units, in units of 90 kHz
+abbrev pub stream_interval : Data → Option ℕ
+stream_interval = integer_at (codes "interval") (pos 1) (pos 90000)
+
+-- the greatest unit, in bytes: only video may pass what PES_packet_length counts (ISO/IEC 13818-1, 2.4.3.7)
+abbrev pub most_size : Data → ℕ
+most_size stream = if is_video_id (id_or_private stream) then 4000000 else 65522
+
+abbrev pub stream_size : Data → Option ℕ
+stream_size stream = integer_at (codes "size") (pos 1) (pos (most_size stream)) stream
+
+-- the greatest time from the arrival of a unit to its decoding, in units of 90 kHz
+abbrev pub stream_lead : Data → Option ℕ
+stream_lead = integer_at (codes "lead") (pos 1) (pos 90000)
+
+-- the rate of the transport buffer in bits a second, and the main buffer in bytes (ISO/IEC 13818-1, 2.4.2): both are
+-- there, or neither, which only audio may leave out: it then has 2,000,000 bits a second and 3,584 bytes
+abbrev pub leaves_out_buffers : Data → Bool
+leaves_out_buffers stream = is_audio_id (id_or_private stream) && is_none (get (codes "main") stream)
+
+abbrev pub stream_rx : Data → Option ℕ
+stream_rx stream = at_key (codes "rx") (if leaves_out_buffers stream then Some 2000000 else None) (integer_in (pos 64000) (pos 200000000)) stream
+
+abbrev pub stream_main : Data → Option ℕ
+stream_main stream = at_key (codes "main") (if is_none (get (codes "rx") stream) then Some 3584 else None) (integer_in (pos 1) (pos 10000000)) stream
+
+-- component_tag (EN 300 468, 6.2.40)
+abbrev pub stream_tag : Data → Option (Option ℕ)
+stream_tag = optional_integer (codes "tag") (pos 0) (pos 255)
+
+abbrev pub stream_language : Data → Option (Option (List ℕ))
+stream_language = optional_language (codes "language")
+
+abbrev pub stream_descriptors : Data → Option (List ℕ)
+stream_descriptors = descriptors_or_none (codes "descriptors")
+
+-- how many successive units are counted together
+abbrev pub stream_group : Data → Option ℕ
+stream_group = integer_or 1 (codes "group") (pos 1) (pos 64)
+
+-- the packets of a unit of the greatest size, with the longest PES header of 19 bytes
+abbrev pub unit_packets : Data → ℕ
+unit_packets stream = (19 + unwrap_or (stream_size stream) 1 + 183) / 184
+
+-- the packets of so many units that are counted together
+abbrev pub most_group_packets : Data → ℕ
+most_group_packets stream = unwrap_or (stream_group stream) 1 * unit_packets stream
+
+abbrev pub stream_group_packets : Data → Option ℕ
+stream_group_packets stream = integer_or (most_group_packets stream) (codes "group_packets") (pos (unit_packets stream)) (pos (most_group_packets stream)) stream
+
+-- the names of the keys
+abbrev pub stream_key_names : List (List ℕ)
+stream_key_names = codes "program" ∷ codes "pid" ∷ codes "id" ∷ codes "type" ∷ codes "interval" ∷ codes "size" ∷ codes "lead"
+    ∷ codes "rx" ∷ codes "main" ∷ codes "tag" ∷ codes "language" ∷ codes "descriptors" ∷ codes "group" ∷ codes "group_packets" ∷ []
+
+-- what each key refuses
+abbrev pub refuses_stream : StreamKey → Data → Data → Bool
+refuses_stream Program document stream = not (has_owner document stream)
+refuses_stream Pid document stream = is_none (stream_pid stream)
+refuses_stream StreamId document stream = is_none (stream_id stream)
+refuses_stream StreamType document stream = is_none (stream_type stream)
+refuses_stream Interval document stream = is_none (stream_interval stream)
+refuses_stream Size document stream = is_none (stream_size stream)
+refuses_stream Lead document stream = is_none (stream_lead stream)
+refuses_stream Rx document stream = is_none (stream_rx stream)
+refuses_stream Main document stream = is_none (stream_main stream)
+refuses_stream Tag document stream = is_none (stream_tag stream)
+refuses_stream Language document stream = is_none (stream_language stream)
+refuses_stream Descriptors document stream = is_none (stream_descriptors stream)
+refuses_stream Group document stream = is_none (stream_group stream)
+refuses_stream GroupPackets document stream = is_none (stream_group_packets stream)

@@ -1,0 +1,85 @@
+//! The program association section of a description (ISO/IEC 13818-1, 2.4.4.3).
+
+ghost use Rattle.std.specs.Prelude.{◌≡◌, ◌≤◌, ◌<◌, ◌++◌, ◌+◌, [], ◌∷◌, All, length, map};
+ghost use Rattle.std.specs.Option.{option_to_list};
+ghost use Rattle.psi_tables.specs.ProgramAssociation.{program_loop_of, pat_section};
+ghost use Rattle.psi_tables.specs.Spelling.{section_text};
+ghost use Rattle.description.specs.Ranges.{IsProgram};
+ghost use Rattle.description.specs.SectionTexts as spec;
+
+use crate::description::Description;
+use crate::program::Program;
+use arrayvec::ArrayVec;
+use psi_tables::{LongHeader, Pat, Program as PatEntry, ProgramLoop};
+
+// Adds an entry, for which there is room.
+fn push_entry(entries: &mut ProgramLoop, entry: PatEntry)
+    requires pid { entry.pid < 8192 }
+    requires room { length (program_loop_of entries.old) < 253 }
+    ensures { program_loop_of entries.new ≡ program_loop_of entries.old ++ entry ∷ [] }
+{
+    match entries.push(entry) {
+        Ok(()) => {}
+        Err(_) => unreachable!(),
+    }
+}
+
+fn push_programs(entries: &mut ProgramLoop, programs: &[Program])
+    requires ranges { All IsProgram programs.now }
+    requires room { length (program_loop_of entries.old) + length programs.now ≤ 253 }
+    ensures { program_loop_of entries.new ≡ program_loop_of entries.old ++ map spec.pat_entry programs.now }
+{
+    for program in programs {
+        push_entry(
+            entries,
+            PatEntry {
+                program_number: program.number(),
+                pid: program.pmt_pid(),
+            },
+        );
+    }
+}
+
+impl Description {
+    ghost use Rattle.std.specs.Prelude.{option_map};
+
+    fn network_entries(&self) -> ProgramLoop
+        ensures { program_loop_of result ≡ spec.network_entries self.now }
+    {
+        let mut entries = ProgramLoop::new();
+        if self.network().is_some() {
+            push_entry(
+                &mut entries,
+                PatEntry {
+                    program_number: 0,
+                    pid: 0x10,
+                },
+            );
+        }
+        entries
+    }
+
+    fn association_entries(&self) -> ProgramLoop
+        ensures value { program_loop_of result ≡ spec.network_entries self.now ++ map spec.pat_entry self.now.programs }
+        ensures few { length (program_loop_of result) ≤ 17 }
+    {
+        let mut entries = self.network_entries();
+        push_programs(&mut entries, self.programs());
+        entries
+    }
+
+    /// The program association section.
+    pub(crate) fn write_association(&self, out: &mut ArrayVec<u8, 4096>)
+        ensures { out.new.items ≡ section_text (pat_section (spec.pat_says self.now)) }
+    {
+        let entries = self.association_entries();
+        let section = Pat {
+            header: LongHeader::single(self.transport_stream_id(), 0),
+            programs: entries.programs(),
+        };
+        match section.write_to(out) {
+            Ok(()) => {}
+            Err(_) => unreachable!(),
+        }
+    }
+}

@@ -1,0 +1,181 @@
+//! The description of a transport stream.
+
+ghost use Rattle.std.specs.Prelude.{◌≡◌, ◌^◌, ◌<◌, ◌≤◌, option_map};
+
+use crate::contents::Contents;
+use crate::network::Network;
+use crate::private_table::PrivateTable;
+use crate::program::Program;
+use crate::section_lengths::places_of_all;
+use crate::stream::Stream;
+use crate::table_kind::TableKind;
+use clock27::Rate;
+use std::marker::Model;
+
+/// What a transport stream carries: its rate and clock, its programs and streams, its tables. PIDs and
+/// program numbers are distinct, and each number is in its range.
+#[derive(Drop)]
+pub struct Description {
+    pub(crate) contents: Contents,
+}
+
+impl Model for Description {
+    ghost use Rattle.description.specs.Described.{Described};
+
+    ghost Value = { Described };
+
+    ghost use Rattle.description.specs.Ranges.{IsInRange};
+
+    ghost view = { λ d. d.contents };
+
+    ghost invariant = { λ d. IsInRange d.contents };
+}
+
+impl Description {
+    ghost use Rattle.description.specs.Ranges.{IsInRange};
+    ghost use Rattle.description.specs.Tables.{table_count, table_kind, table_pid, table_limit, section_count, greatest_length, round_places};
+
+    /// The numbers of every description are in range, and its PIDs distinct.
+    pub fn keeps_ranges(&self)
+        ensures { IsInRange self.now }
+    {
+        let _ = &self.contents;
+    }
+
+    /// The rate of the transport stream.
+    pub fn rate(&self) -> Rate
+        ensures { result ≡ self.now.rate }
+    {
+        self.contents.rate
+    }
+
+    /// The moment of the first slot, in seconds since 1970-01-01T00:00:00.
+    pub fn start(&self) -> u64
+        ensures { result ≡ self.now.start }
+    {
+        self.contents.start
+    }
+
+    /// The system clock as the run begins, in units of 90 kHz, 33 bits.
+    pub fn base0(&self) -> u64
+        ensures value { result ≡ self.now.base0 }
+        ensures range { self.now.base0 < 2 ^ 33 }
+    {
+        self.contents.base0
+    }
+
+    /// transport_stream_id.
+    pub fn transport_stream_id(&self) -> u16
+        ensures { result ≡ self.now.transport_stream_id }
+    {
+        self.contents.transport_stream_id
+    }
+
+    /// original_network_id.
+    pub fn original_network_id(&self) -> u16
+        ensures { result ≡ self.now.original_network_id }
+    {
+        self.contents.original_network_id
+    }
+
+    /// Whether there is a service description table.
+    pub fn has_sdt(&self) -> bool
+        ensures { result ≡ self.now.has_sdt }
+    {
+        self.contents.has_sdt()
+    }
+
+    /// Whether there is a time and date table.
+    pub fn has_tdt(&self) -> bool
+        ensures { result ≡ self.now.has_tdt }
+    {
+        self.contents.has_tdt()
+    }
+
+    /// The network, if there is one.
+    pub fn network(&self) -> Option<&Network>
+        ensures { option_map (λ n. n.now) result ≡ self.now.network }
+    {
+        self.contents.network()
+    }
+
+    /// The programs, in order.
+    pub fn programs(&self) -> &[Program]
+        ensures value { result.now ≡ self.now.programs }
+        ensures ranges { IsInRange self.now }
+    {
+        self.contents.programs()
+    }
+
+    /// The streams, in order.
+    pub fn streams(&self) -> &[Stream]
+        ensures value { result.now ≡ self.now.streams }
+        ensures ranges { IsInRange self.now }
+    {
+        self.contents.streams()
+    }
+
+    /// The private tables, in order.
+    pub fn private_tables(&self) -> &[PrivateTable]
+        ensures value { result.now ≡ self.now.tables }
+        ensures ranges { IsInRange self.now }
+    {
+        self.contents.private_tables()
+    }
+
+    /// The number of tables.
+    pub fn tables(&self) -> usize
+        ensures { result ≡ table_count self.now }
+    {
+        self.contents.tables()
+    }
+
+    /// What the table of a number is: 0 the PAT, then the PMTs in the order of the programs, those of
+    /// NIT, SDT, EIT and TDT that there are, and the private tables.
+    pub fn kind(&self, table: usize) -> Option<TableKind>
+        ensures { result ≡ table_kind self.now table }
+    {
+        self.contents.kind(table)
+    }
+
+    /// The PID of a table.
+    pub fn table_pid(&self, table: usize) -> u16
+        requires { table < table_count self.now }
+        ensures { result ≡ table_pid self.now table }
+    {
+        self.contents.table_pid(table)
+    }
+
+    /// The greatest time between two starts of a section of a table, in ms.
+    pub fn table_limit(&self, table: usize) -> u16
+        requires { table < table_count self.now }
+        ensures { result ≡ table_limit self.now table }
+    {
+        self.contents.table_limit(table)
+    }
+
+    /// The number of sections of a table.
+    pub fn sections(&self, table: usize) -> usize
+        requires { table < table_count self.now }
+        ensures { result ≡ section_count self.now table }
+    {
+        self.contents.section_lengths(table).len()
+    }
+
+    /// The greatest length of a section of a table over all moments, in bytes.
+    pub fn greatest(&self, table: usize, section: usize) -> usize
+        requires table { table < table_count self.now }
+        requires section { section < section_count self.now table }
+        ensures { result ≡ greatest_length self.now table section }
+    {
+        self.contents.section_lengths(table)[section] as usize
+    }
+
+    /// The packets of a round of all sections of a table.
+    pub fn round_places(&self, table: usize) -> usize
+        requires { table < table_count self.now }
+        ensures { result ≡ round_places self.now table }
+    {
+        places_of_all(self.contents.section_lengths(table).as_slice())
+    }
+}

@@ -1,0 +1,105 @@
+//! What a description is refused for.
+
+ghost use Rattle.std.specs.Prelude.{◌≡◌};
+
+use crate::event_keys::EventKey;
+use crate::network_keys::NetworkKey;
+use crate::program_keys::ProgramKey;
+use crate::stream_keys::StreamKey;
+use crate::table_keys::TableKey;
+use crate::top_keys::TopKey;
+use thiserror::Error;
+
+/// Why a description is refused. A number is the place of the program, stream, event or private table
+/// in its array, from 0.
+#[derive(Clone, Copy, Debug, PartialEq, Eq, Error)]
+pub enum Fault {
+    #[error("the text is not TOML")]
+    Text,
+    #[error("a key is not one of a description")]
+    UnknownKey,
+    #[error("a key of the document is missing, of another type or out of range")]
+    Top(TopKey),
+    #[error("network is not a table")]
+    Network,
+    #[error("a key of the network is missing, of another type or out of range")]
+    NetworkKey(NetworkKey),
+    #[error("program is not an array of 1 to 16 tables")]
+    Programs,
+    #[error("a key of a program is missing, of another type or out of range")]
+    Program(ProgramKey, usize),
+    #[error("stream is not an array of up to 32 tables")]
+    Streams,
+    #[error("a key of a stream is missing, of another type or out of range")]
+    Stream(StreamKey, usize),
+    #[error("event is not an array of up to 256 tables")]
+    Events,
+    #[error("a key of an event is missing, of another type or out of range")]
+    Event(EventKey, usize),
+    #[error("table is not an array of up to 16 tables")]
+    Tables,
+    #[error("a key of a private table is missing, of another type or out of range")]
+    Table(TableKey, usize),
+    #[error("two PIDs are equal")]
+    EqualPids,
+    #[error("two program numbers are equal")]
+    EqualNumbers,
+    #[error("an event begins before the one before it in its program ends")]
+    EventOrder(usize),
+    #[error("a PMT, the NIT or the SDT would be too long: the number is that of the table")]
+    TooLong(usize),
+}
+
+impl Fault {
+    ghost use Rattle.description.specs.Codes.{fault_code, fault_item};
+
+    /// The number of the refusal.
+    pub fn code(self) -> u8
+        ensures { result ≡ fault_code self }
+    {
+        match self {
+            Fault::Text => 1,
+            Fault::UnknownKey => 2,
+            Fault::Top(key) => key.code(),
+            Fault::Network => 20,
+            Fault::NetworkKey(key) => key.code(),
+            Fault::Programs => 30,
+            Fault::Program(key, _) => key.code(),
+            Fault::Streams => 40,
+            Fault::Stream(key, _) => key.code(),
+            Fault::Events => 60,
+            Fault::Event(key, _) => key.code(),
+            Fault::Tables => 70,
+            Fault::Table(key, _) => key.code(),
+            Fault::EqualPids => 80,
+            Fault::EqualNumbers => 81,
+            Fault::EventOrder(_) => 82,
+            Fault::TooLong(_) => 83,
+        }
+    }
+
+    /// The place in its array of what is refused, and 0 where there is no array; of a table that would
+    /// be too long its number.
+    pub fn item(self) -> usize
+        ensures { result ≡ fault_item self }
+    {
+        match self {
+            Fault::Program(_, item)
+            | Fault::Stream(_, item)
+            | Fault::Event(_, item)
+            | Fault::Table(_, item)
+            | Fault::EventOrder(item)
+            | Fault::TooLong(item) => item,
+            _ => 0,
+        }
+    }
+}
+
+/// Why no description is read.
+#[derive(Clone, Copy, Debug, PartialEq, Eq, Error)]
+pub enum DescError {
+    #[error("the description is refused")]
+    Refused(Fault),
+    #[error("no memory for the description")]
+    Memory,
+}

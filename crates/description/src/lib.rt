@@ -1,0 +1,72 @@
+//! The service description: a TOML document that says what a constant-rate transport stream carries, read
+//! into a `Description` or refused by number and place.
+//!
+//! `Description::read` reads it. A description knows its programs, streams and network, its tables by
+//! number with their PIDs, limits and sections, and writes the bytes of each section as it is at a moment
+//! (`Description::text`). Every description is in its ranges: numbers, counts, lengths, no PID twice.
+#![tactic(auto)]
+
+// What a description holds.
+mod contents;
+mod description;
+mod descriptors;
+mod network;
+mod private_section;
+mod private_table;
+mod program;
+mod stream;
+
+// Values as the document has them.
+mod arrays;
+mod hexadecimal;
+mod moments;
+mod texts;
+mod values;
+
+// The keys of each part, with their ranges.
+mod event_keys;
+mod key;
+mod known_keys;
+mod network_keys;
+mod owner;
+mod program_keys;
+mod stream_keys;
+mod table_keys;
+mod top_keys;
+
+// Refusals, and reading.
+mod building;
+mod consistency;
+mod fault;
+mod reading;
+mod refusals;
+
+// Tables: their numbers, the lengths of their sections.
+mod section_lengths;
+mod table_kind;
+
+// The bytes of their sections.
+mod association_text;
+mod events_text;
+mod map_text;
+mod network_text;
+mod section_text;
+mod services_text;
+#[cfg(test)]
+mod tests;
+
+pub use description::Description;
+pub use descriptors::Descriptors;
+pub use event_keys::EventKey;
+pub use fault::{DescError, Fault};
+pub use network::Network;
+pub use network_keys::NetworkKey;
+pub use private_section::PrivateSection;
+pub use private_table::PrivateTable;
+pub use program::Program;
+pub use program_keys::ProgramKey;
+pub use stream::Stream;
+pub use stream_keys::StreamKey;
+pub use table_keys::TableKey;
+pub use table_kind::TableKind;
+pub use top_keys::TopKey;

@@ -1,0 +1,31 @@
+//! An elementary stream of the description.
+
+use crate::descriptors::Descriptors;
+
+/// An elementary stream and what it declares of its units (ISO/IEC 13818-1, 2.4.2 and 2.4.4.8).
+#[derive(Drop)]
+pub struct Stream {
+    /// The number of its program.
+    pub program: u16,
+    pub pid: u16,
+    /// stream_id of its PES packets: 189, or 192 to 239.
+    pub stream_id: u8,
+    pub stream_type: u8,
+    /// The least time between two units, in units of 90 kHz.
+    pub interval: u32,
+    /// The greatest unit, in bytes.
+    pub size: u32,
+    /// The longest time from the arrival of a unit to its decoding, in units of 90 kHz.
+    pub lead: u32,
+    /// The rate at which its transport buffer is emptied, in bits a second.
+    pub rx: u32,
+    /// Its main buffer, in bytes.
+    pub main: u32,
+    pub tag: Option<u8>,
+    pub language: Option<[u8; 3]>,
+    pub descriptors: Descriptors,
+    /// How many successive units are counted together.
+    pub group: u8,
+    /// The most packets that so many units make.
+    pub group_packets: u32,
+}

@@ -1,0 +1,284 @@
+//! The keys of a table of the array `stream`.
+
+ghost use Rattle.std.specs.Prelude.{◌≡◌, ◌≤◌, ◌*◌, IfSome};
+ghost use Rattle.toml.specs.View.{view};
+ghost use Rattle.description.specs.StreamKeys.{stream_pid, is_stream_id, stream_id, is_audio_id, is_video_id, id_or_private, stream_type, stream_interval, most_size, stream_size, stream_lead, leaves_out_buffers, stream_rx, stream_main, stream_tag, stream_language, stream_descriptors, stream_group, unit_packets, most_group_packets, stream_group_packets};
+
+use crate::descriptors::{Descriptors, descriptors_or_none};
+use crate::key::Key;
+use crate::known_keys::knows_keys;
+use crate::owner::has_owner;
+use crate::texts::optional_language;
+use crate::values::{integer_at, integer_in, integer_or, optional_integer};
+use toml::Value;
+
+/// A key of a stream.
+#[derive(Clone, Copy, Debug, PartialEq, Eq)]
+pub enum StreamKey {
+    Program,
+    Pid,
+    StreamId,
+    StreamType,
+    Interval,
+    Size,
+    Lead,
+    Rx,
+    Main,
+    Tag,
+    Language,
+    Descriptors,
+    Group,
+    GroupPackets,
+}
+
+pub fn pid(stream: &Value) -> Option<u16>
+    ensures { result ≡ stream_pid (view stream.now) }
+{
+    Some(integer_at(stream, "pid", 32, 8_190)? as u16)
+}
+
+pub fn stream_id(stream: &Value) -> Option<u8>
+    ensures { result ≡ stream_id (view stream.now) }
+{
+    let id = integer_at(stream, "id", 189, 239)? as u8;
+    if is_stream_id(id) { Some(id) } else { None }
+}
+
+// private_stream_1, audio or video, of the numbers from 189 to 239.
+fn is_stream_id(id: u8) -> bool
+    ensures { result ≡ is_stream_id id }
+{
+    id == 189 || id >= 192
+}
+
+fn is_audio_id(id: u8) -> bool
+    ensures { result ≡ is_audio_id id }
+{
+    192 <= id && id <= 223
+}
+
+fn is_video_id(id: u8) -> bool
+    ensures { result ≡ is_video_id id }
+{
+    224 <= id
+}
+
+/// stream_id, and 189 where it is refused.
+pub fn id_or_private(stream: &Value) -> u8
+    ensures { result ≡ id_or_private (view stream.now) }
+{
+    stream_id(stream).unwrap_or(189)
+}
+
+pub fn stream_type(stream: &Value) -> Option<u8>
+    ensures { result ≡ stream_type (view stream.now) }
+{
+    Some(integer_at(stream, "type", 0, 255)? as u8)
+}
+
+pub fn interval(stream: &Value) -> Option<u32>
+    ensures { result ≡ stream_interval (view stream.now) }
+{
+    Some(integer_at(stream, "interval", 1, 90_000)? as u32)
+}
+
+fn most_size(stream: &Value) -> u32
+    ensures value { result ≡ most_size (view stream.now) }
+    ensures bound { result ≤ 4000000 }
+{
+    if is_video_id(id_or_private(stream)) {
+        4_000_000
+    } else {
+        65_522
+    }
+}
+
+pub fn size(stream: &Value) -> Option<u32>
+    ensures value { result ≡ stream_size (view stream.now) }
+    ensures bound { IfSome result (λ n. n ≤ 4000000) }
+{
+    Some(integer_at(stream, "size", 1, most_size(stream) as i64)? as u32)
+}
+
+pub fn lead(stream: &Value) -> Option<u32>
+    ensures { result ≡ stream_lead (view stream.now) }
+{
+    Some(integer_at(stream, "lead", 1, 90_000)? as u32)
+}
+
+// Whether both numbers of the buffers may be absent, as far as `main` tells.
+fn leaves_out_buffers(stream: &Value) -> bool
+    ensures { result ≡ leaves_out_buffers (view stream.now) }
+{
+    is_audio_id(id_or_private(stream)) && stream.get("main").is_none()
+}
+
+pub fn rx(stream: &Value) -> Option<u32>
+    ensures { result ≡ stream_rx (view stream.now) }
+{
+    match stream.get("rx") {
+        None if leaves_out_buffers(stream) => Some(2_000_000),
+        None => None,
+        Some(value) => Some(integer_in(value, 64_000, 200_000_000)? as u32),
+    }
+}
+
+pub fn main_buffer(stream: &Value) -> Option<u32>
+    ensures { result ≡ stream_main (view stream.now) }
+{
+    match stream.get("main") {
+        None if stream.get("rx").is_none() => Some(3_584),
+        None => None,
+        Some(value) => Some(integer_in(value, 1, 10_000_000)? as u32),
+    }
+}
+
+pub fn tag(stream: &Value) -> Option<Option<u8>>
+    ensures { result ≡ stream_tag (view stream.now) }
+{
+    match optional_integer(stream, "tag", 0, 255)? {
+        None => Some(None),
+        Some(tag) => Some(Some(tag as u8)),
+    }
+}
+
+pub fn language(stream: &Value) -> Option<Option<[u8; 3]>>
+    ensures { result ≡ stream_language (view stream.now) }
+{
+    optional_language(stream, "language")
+}
+
+pub fn descriptors(stream: &Value) -> Option<Descriptors>
+    ensures { result ≡ stream_descriptors (view stream.now) }
+{
+    descriptors_or_none(stream, "descriptors")
+}
+
+pub fn group(stream: &Value) -> Option<u8>
+    ensures value { result ≡ stream_group (view stream.now) }
+    ensures bound { IfSome result (λ n. n ≤ 64) }
+{
+    Some(integer_or(1, stream, "group", 1, 64)? as u8)
+}
+
+/// The packets of a unit of the greatest size.
+pub fn unit_packets(stream: &Value) -> u32
+    ensures value { result ≡ unit_packets (view stream.now) }
+    ensures bound { result ≤ 21740 }
+{
+    (19 + size(stream).unwrap_or(1)).div_ceil(184)
+}
+
+// The packets of as many such units as are counted together.
+fn most_group_packets(stream: &Value) -> u32
+    ensures value { result ≡ most_group_packets (view stream.now) }
+    ensures bound { result ≤ 1391360 }
+{
+    group(stream).unwrap_or(1) as u32 * unit_packets(stream)
+}
+
+pub fn group_packets(stream: &Value) -> Option<u32>
+    ensures { result ≡ stream_group_packets (view stream.now) }
+{
+    let most = most_group_packets(stream);
+    Some(integer_or(
+        most as u64,
+        stream,
+        "group_packets",
+        unit_packets(stream) as i64,
+        most as i64,
+    )? as u32)
+}
+
+impl StreamKey {
+    ghost use Rattle.description.specs.Codes.{stream_code};
+
+    /// All of them, in the order of their numbers.
+    pub const ALL: [StreamKey; 14] = [
+        StreamKey::Program,
+        StreamKey::Pid,
+        StreamKey::StreamId,
+        StreamKey::StreamType,
+        StreamKey::Interval,
+        StreamKey::Size,
+        StreamKey::Lead,
+        StreamKey::Rx,
+        StreamKey::Main,
+        StreamKey::Tag,
+        StreamKey::Language,
+        StreamKey::Descriptors,
+        StreamKey::Group,
+        StreamKey::GroupPackets,
+    ];
+
+    /// The number of its refusal.
+    pub fn code(self) -> u8
+        ensures { result ≡ stream_code self }
+    {
+        match self {
+            StreamKey::Program => 41,
+            StreamKey::Pid => 42,
+            StreamKey::StreamId => 43,
+            StreamKey::StreamType => 44,
+            StreamKey::Interval => 45,
+            StreamKey::Size => 46,
+            StreamKey::Lead => 47,
+            StreamKey::Rx => 48,
+            StreamKey::Main => 49,
+            StreamKey::Tag => 50,
+            StreamKey::Language => 51,
+            StreamKey::Descriptors => 52,
+            StreamKey::Group => 53,
+            StreamKey::GroupPackets => 54,
+        }
+    }
+}
+
+impl Key for StreamKey {
+    ghost use Rattle.description.specs.StreamKeys.{stream_key_names, refuses_stream};
+
+    ghost names = { stream_key_names };
+
+    ghost refuses = { refuses_stream };
+
+    fn knows(part: &Value) -> bool {
+        knows_keys(
+            part,
+            &[
+                "program",
+                "pid",
+                "id",
+                "type",
+                "interval",
+                "size",
+                "lead",
+                "rx",
+                "main",
+                "tag",
+                "language",
+                "descriptors",
+                "group",
+                "group_packets",
+            ],
+        )
+    }
+
+    fn refuses(self, document: &Value, part: &Value) -> bool {
+        match self {
+            StreamKey::Program => !has_owner(document, part),
+            StreamKey::Pid => pid(part).is_none(),
+            StreamKey::StreamId => stream_id(part).is_none(),
+            StreamKey::StreamType => stream_type(part).is_none(),
+            StreamKey::Interval => interval(part).is_none(),
+            StreamKey::Size => size(part).is_none(),
+            StreamKey::Lead => lead(part).is_none(),
+            StreamKey::Rx => rx(part).is_none(),
+            StreamKey::Main => main_buffer(part).is_none(),
+            StreamKey::Tag => tag(part).is_none(),
+            StreamKey::Language => language(part).is_none(),
+            StreamKey::Descriptors => descriptors(part).is_none(),
+            StreamKey::Group => group(part).is_none(),
+            StreamKey::GroupPackets => group_packets(part).is_none(),
+        }
+    }
+}

@@ -1,0 +1,120 @@
+//! The keys of the document itself, but for its arrays.
+
+ghost use Rattle.std.specs.Prelude.{◌≡◌, find};
+ghost use Rattle.toml.specs.View.{view};
+ghost use Rattle.description.specs.TopKeys as spec;
+
+use crate::moments::moment_at;
+use crate::values::{boolean_or, integer_at, integer_or};
+use toml::Value;
+
+/// A key of the document.
+#[derive(Clone, Copy, Debug, PartialEq, Eq)]
+pub enum TopKey {
+    Rate,
+    Start,
+    Base0,
+    TsId,
+    OriginalNetworkId,
+    Sdt,
+    Tdt,
+}
+
+pub fn rate(document: &Value) -> Option<u32>
+    ensures { result ≡ spec.rate (view document.now) }
+{
+    Some(integer_at(document, "rate", 100_000, 100_000_000)? as u32)
+}
+
+pub fn start(document: &Value) -> Option<u64>
+    ensures { result ≡ spec.start (view document.now) }
+{
+    moment_at(document, "start")
+}
+
+pub fn base0(document: &Value) -> Option<u64>
+    ensures { result ≡ spec.base0 (view document.now) }
+{
+    integer_or(0, document, "base0", 0, 0x1_ffff_ffff)
+}
+
+pub fn ts_id(document: &Value) -> Option<u16>
+    ensures { result ≡ spec.transport_stream_id (view document.now) }
+{
+    Some(integer_at(document, "ts_id", 0, 65_535)? as u16)
+}
+
+pub fn original_network_id(document: &Value) -> Option<u16>
+    ensures { result ≡ spec.original_network_id (view document.now) }
+{
+    Some(integer_at(document, "original_network_id", 0, 65_535)? as u16)
+}
+
+pub fn sdt(document: &Value) -> Option<bool>
+    ensures { result ≡ spec.has_sdt (view document.now) }
+{
+    boolean_or(false, document, "sdt")
+}
+
+pub fn tdt(document: &Value) -> Option<bool>
+    ensures { result ≡ spec.has_tdt (view document.now) }
+{
+    boolean_or(false, document, "tdt")
+}
+
+impl TopKey {
+    ghost use Rattle.description.specs.Codes.{top_code};
+    ghost use Rattle.description.specs.TopKeys.{refuses_top};
+    ghost use Rattle.description.specs.Refusals.{top_keys};
+
+    /// All of them, in the order of their numbers.
+    pub const ALL: [TopKey; 7] = [
+        TopKey::Rate,
+        TopKey::Start,
+        TopKey::Base0,
+        TopKey::TsId,
+        TopKey::OriginalNetworkId,
+        TopKey::Sdt,
+        TopKey::Tdt,
+    ];
+
+    /// The number of its refusal.
+    pub fn code(self) -> u8
+        ensures { result ≡ top_code self }
+    {
+        match self {
+            TopKey::Rate => 10,
+            TopKey::Start => 11,
+            TopKey::Base0 => 12,
+            TopKey::TsId => 13,
+            TopKey::OriginalNetworkId => 14,
+            TopKey::Sdt => 15,
+            TopKey::Tdt => 16,
+        }
+    }
+
+    /// Whether the document has at this key what a description may not have there.
+    pub fn refuses(self, document: &Value) -> bool
+        ensures { result ≡ refuses_top self (view document.now) }
+    {
+        match self {
+            TopKey::Rate => rate(document).is_none(),
+            TopKey::Start => start(document).is_none(),
+            TopKey::Base0 => base0(document).is_none(),
+            TopKey::TsId => ts_id(document).is_none(),
+            TopKey::OriginalNetworkId => original_network_id(document).is_none(),
+            TopKey::Sdt => sdt(document).is_none(),
+            TopKey::Tdt => tdt(document).is_none(),
+        }
+    }
+
+    /// The first key that refuses the document.
+    pub fn first_refused(document: &Value) -> Option<TopKey>
+        ensures { result ≡ find (λ key. refuses_top key (view document.now)) top_keys }
+    {
+        TopKey::ALL
+            .iter()
+            .copied()
+            .find(|key| key.refuses(document))
+    }
+}
