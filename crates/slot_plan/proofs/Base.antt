@@ -1,0 +1,73 @@
+-- A small service and its plan, with what the conditions give for it and for changes of it.
+use Rattle.std.specs.Prelude.{ℕ, true, List, [], ◌∷◌, ◌++◌, None, Some, codes}
+use Rattle.description.specs.Described.{Described, DescribedStream}
+use Rattle.slot_plan.specs.declared.slot.Slot.{Slot}
+use Rattle.slot_plan.specs.declared.slot.Slot.TheVariants.{Stream, Pcr, Table, Null}
+use Rattle.slot_plan.specs.Planned.{Planned, Certified}
+
+-- one audio stream and six tables at 1,504,000 bits a second, which is 1,000 slots a second
+abbrev pub base_stream : DescribedStream
+base_stream = record {
+  program = 1;
+  pid = 256;
+  stream_id = 192;
+  stream_type = 3;
+  interval = 2160;
+  size = 576;
+  lead = 1600;
+  rx = 2000000;
+  main = 3584;
+  tag = None;
+  language = None;
+  descriptors = [];
+  group = 1;
+  group_packets = 4;
+}
+
+abbrev pub base : Described
+base = record {
+  rate = 1504000;
+  start = 750516300;
+  base0 = 0;
+  transport_stream_id = 1;
+  original_network_id = 1;
+  has_sdt = true;
+  has_tdt = true;
+  network = Some (record { id = 1; name = codes "Net"; descriptors = [] });
+  programs = (record {
+    number = 1;
+    pmt_pid = 4096;
+    pcr_pid = 257;
+    pcr_limit = 40;
+    descriptors = [];
+    service_type = 2;
+    provider = [];
+    name = codes "One";
+    events = (record { id = 7; start = 750516300; duration = 5400; language = codes "eng"; name = codes "News"; text = [] }) ∷ [];
+  }) ∷ [];
+  streams = base_stream ∷ [];
+  tables = [];
+}
+
+abbrev pub every_fourth : ℕ → List Slot
+every_fourth n = Stream 0 ∷ Null ∷ Null ∷ Null ∷ []
+
+-- a line of 24 slots behind the first
+abbrev pub line : List Slot
+line = Stream 0 ∷ Pcr 0 ∷ Null ∷ Null ∷ every_fourth 0 ++ every_fourth 0 ++ every_fourth 0 ++ every_fourth 0 ++ every_fourth 0
+
+abbrev pub first_line : List Slot
+first_line = Stream 0 ∷ Pcr 0 ∷ Table 0 ∷ Table 1 ∷ Stream 0 ∷ Table 3 ∷ Table 2 ∷ Table 4 ∷ Stream 0 ∷ Table 5 ∷ Null ∷ Null
+    ∷ every_fourth 0 ++ every_fourth 0 ++ every_fourth 0
+
+abbrev pub claims : Certified
+claims = record {
+  streams = (record { spread = 0; start = 0; peak = 282752000 }) ∷ [];
+  programs = (record { transport_start = 0; transport_peak = 377504000; system_start = 0; system_peak = 550464000 }) ∷ [];
+}
+
+abbrev pub base_slots : List Slot
+base_slots = first_line ++ line ++ line ++ line ++ line
+
+abbrev pub base_plan : Planned
+base_plan = record { slots = base_slots; certificate = claims }

@@ -1,0 +1,11 @@
+pub mod Holding
+pub mod Base
+pub mod Numbering
+pub mod ReadOn
+pub mod Serving
+pub mod Elements
+pub mod TextPieces
+pub mod TextLines
+pub mod TextLists
+pub mod TextPlans
+mod Rows

@@ -1,0 +1,15 @@
+pub mod Numbered
+pub mod Planned
+pub mod PlanErrors
+pub mod Items
+pub mod Plans
+pub mod Text
+pub mod Reading
+pub mod Readings
+pub mod Entries
+pub mod Conditions
+pub mod Shape
+pub mod SwitchConditions
+pub mod PlanTexts
+pub mod Schedule
+pub mod TableRounds

@@ -1,0 +1,42 @@
+-- a plan as contracts see it, and which slots and certificates make one
+use Rattle.std.specs.Prelude.{ℕ, ◌^◌, ◌&&◌, ◌||◌, Bool, List, length, nat_lt, if◌then◌else◌, Option, Some, None}
+use Rattle.std.specs.List.{list_all}
+use Rattle.slot_plan.specs.declared.slot.Slot.{Slot}
+use Rattle.slot_plan.specs.declared.certificate.StreamEntry.{StreamEntry}
+use Rattle.slot_plan.specs.declared.certificate.ProgramEntry.{ProgramEntry}
+use Rattle.slot_plan.specs.declared.plan.PlanError.{PlanError}
+use Rattle.slot_plan.specs.declared.plan.PlanError.TheVariants.{Slots, Entries, Number}
+
+-- a certificate: what is claimed of each stream and of each program
+pub record Certified : Type 0 where
+  pub streams : List StreamEntry
+  pub programs : List ProgramEntry
+
+-- a plan: the slots of one period, and what is claimed of them
+pub record Planned : Type 0 where
+  pub slots : List Slot
+  pub certificate : Certified
+
+-- each number of a certificate is below this
+abbrev pub number_end : ℕ
+number_end = 10 ^ 18
+
+-- whether the numbers of a stream's entry are in range
+abbrev pub is_small_stream : StreamEntry → Bool
+is_small_stream e = nat_lt e.spread number_end && nat_lt e.start number_end && nat_lt e.peak number_end
+
+-- whether the numbers of a program's entry are in range
+abbrev pub is_small_program : ProgramEntry → Bool
+is_small_program e =
+    nat_lt e.transport_start number_end && nat_lt e.transport_peak number_end && nat_lt e.system_start number_end && nat_lt e.system_peak number_end
+
+-- whether all numbers of a certificate are in range
+abbrev pub has_small_numbers : Certified → Bool
+has_small_numbers c = list_all is_small_stream c.streams && list_all is_small_program c.programs
+
+-- the first thing that stands against a plan of these slots with this certificate
+abbrev pub plan_error : List Slot → Certified → Option PlanError
+plan_error slots certificate =
+    if nat_lt 99999 (length slots) then Some Slots
+    else (if nat_lt 256 (length certificate.streams) || nat_lt 256 (length certificate.programs) then Some Entries
+    else (if has_small_numbers certificate then None else Some Number))

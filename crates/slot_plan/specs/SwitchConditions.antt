@@ -1,0 +1,99 @@
+-- The conditions under which a plan may be followed, at the end of one of its periods, by a second plan of the same
+-- description.
+use Rattle.std.specs.Prelude.{◌≡◌, ℕ, suc, ◌+◌, ◌-◌, ◌*◌, max, min, Bool, List, [], ◌∷◌, ◌++◌, length, is_none, None, if◌then◌else◌}
+use Rattle.clock27.specs.Release.{slot_units}
+use Rattle.own_slots.specs.Period.{per_period, position, back}
+use Rattle.own_slots.specs.Extremes.{greatest}
+use Rattle.own_slots.specs.Work.{work_left}
+use Rattle.own_slots.specs.Switch.{shift}
+use Rattle.description.specs.Described.{Described, DescribedProgram, DescribedStream}
+use Rattle.description.specs.Tables.{table_kinds, table_limit, round_places}
+use Rattle.slot_plan.specs.declared.slot.Item.TheVariants.{Stream as StreamItem, Pcr as PcrItem, Table as TableItem, System}
+use Rattle.slot_plan.specs.Numbered.{numbered}
+use Rattle.slot_plan.specs.Planned.{Planned}
+use Rattle.slot_plan.specs.Items.{marks}
+use Rattle.slot_plan.specs.Entries.{Entry, entry, first_failing}
+use Rattle.slot_plan.specs.Conditions.{stream_claim, program_claim, packets_of_units, group_part, counting, bytes_by_units, bytes_by_slots, entries}
+
+-- the greatest gap across the switch between k own slots in a row: from own slot -x of the first plan to own slot k - x
+-- of the second, x from 1 to k
+abbrev pub gap_across : List Bool → List Bool → ℕ → ℕ
+gap_across first second k = greatest k (λ x. position second (k - suc x) + back first (suc x))
+
+-- code 12: the PCRs of a program recur across the switch
+abbrev pub pcr_switch_entry : Described → Planned → Planned → ℕ → DescribedProgram → Entry
+pcr_switch_entry d first second i program =
+    entry 12 0 i (gap_across (marks (PcrItem i) first.slots) (marks (PcrItem i) second.slots) 1 * 1504000) (program.pcr_limit * d.rate)
+
+-- code 13: each section of a table recurs across the switch
+abbrev pub table_switch_entry : Described → Planned → Planned → ℕ → Entry
+table_switch_entry d first second t =
+    entry 13 0 t (gap_across (marks (TableItem t) first.slots) (marks (TableItem t) second.slots) (round_places d t) * 1504000) (table_limit d t * d.rate)
+
+-- code 14: the work that a period of the first plan leaves in a buffer is at most that with which the second begins
+abbrev pub work_switch_entry : ℕ → ℕ → ℕ → ℕ → List Bool → ℕ → Entry
+work_switch_entry item rate drain start own next_start = entry 14 0 item (work_left rate drain start own) next_start
+
+abbrev pub stream_work_entry : Described → Planned → Planned → ℕ → DescribedStream → Entry
+stream_work_entry d first second i s =
+    work_switch_entry i d.rate s.rx (stream_claim first i).start (marks (StreamItem i) first.slots) (stream_claim second i).start
+
+abbrev pub transport_work_entry : Described → Planned → Planned → ℕ → Entry
+transport_work_entry d first second i = work_switch_entry (length d.streams + i) d.rate 1000000
+    (program_claim first i).transport_start (marks (System i) first.slots) (program_claim second i).transport_start
+
+abbrev pub system_work_entry : Described → Planned → Planned → ℕ → Entry
+system_work_entry d first second i = work_switch_entry (length d.streams + length d.programs + i) d.rate 80000
+    (program_claim first i).system_start (marks (System i) first.slots) (program_claim second i).system_start
+
+-- code 15: the last of m units in a row, sent across the switch, has left the transport buffer by its decoding time
+abbrev pub lead_switch_entry : Described → Planned → Planned → ℕ → DescribedStream → ℕ → Entry
+lead_switch_entry d first second i s m =
+    let own = marks (StreamItem i) first.slots in let next = marks (StreamItem i) second.slots in
+    let c = per_period own in let e = per_period next in
+    let claim = stream_claim first i in let next_claim = stream_claim second i in
+    entry 15 (group_part s m) i
+    ((claim.spread * e + next_claim.spread * c + packets_of_units s m * max (length first.slots * e) (length second.slots * c)
+    + c * e * (shift own next + 1)) * slot_units * s.rx + c * e * max claim.peak next_claim.peak * 720000)
+    (c * e * (s.lead + (m - 1) * s.interval) * d.rate * s.rx)
+
+-- code 16: what waits for its decoding time across the switch finds room in the main buffer
+abbrev pub main_switch_entry : Described → Planned → Planned → ℕ → DescribedStream → Entry
+main_switch_entry d first second i s =
+    entry 16 0 i (min (bytes_by_units s) (bytes_by_slots d first i s + bytes_by_slots d second i s)) s.main
+
+-- each code for all its items, in their order
+abbrev pub pcr_switches : Described → Planned → Planned → List Entry
+pcr_switches d first second = numbered (λ i program. pcr_switch_entry d first second i program ∷ []) 0 d.programs
+
+abbrev pub table_switches : Described → Planned → Planned → List Entry
+table_switches d first second = numbered (λ t _. table_switch_entry d first second t ∷ []) 0 (table_kinds d)
+
+abbrev pub stream_works : Described → Planned → Planned → List Entry
+stream_works d first second = numbered (λ i s. stream_work_entry d first second i s ∷ []) 0 d.streams
+
+abbrev pub transport_works : Described → Planned → Planned → List Entry
+transport_works d first second = numbered (λ i _. transport_work_entry d first second i ∷ []) 0 d.programs
+
+abbrev pub system_works : Described → Planned → Planned → List Entry
+system_works d first second = numbered (λ i _. system_work_entry d first second i ∷ []) 0 d.programs
+
+abbrev pub lead_switches : Described → Planned → Planned → List Entry
+lead_switches d first second = numbered (λ i s. counting (lead_switch_entry d first second i s) 1 s.group) 0 d.streams
+
+abbrev pub main_switches : Described → Planned → Planned → List Entry
+main_switches d first second = numbered (λ i s. main_switch_entry d first second i s ∷ []) 0 d.streams
+
+-- codes 12 to 16, by code, then item, then part
+abbrev pub joint_entries : Described → Planned → Planned → List Entry
+joint_entries d first second = pcr_switches d first second ++ (table_switches d first second ++ (stream_works d first second ++ (transport_works d first second
+    ++ (system_works d first second ++ (lead_switches d first second ++ main_switches d first second)))))
+
+-- the conditions of a second plan after a first one: its own, and, where these hold, those of the two together
+abbrev pub switch_entries : Described → Planned → Planned → List Entry
+switch_entries d first second =
+    if is_none (first_failing (entries d second)) then entries d second ++ joint_entries d first second else entries d second
+
+-- a second plan that may follow the first
+abbrev pub IsSwitchable : Described → Planned → Planned → Type 0
+IsSwitchable d first second = first_failing (switch_entries d first second) ≡ None

@@ -1,0 +1,44 @@
+-- The text of a plan: each line ends with LF, one space stands between words, numbers are decimal without leading zeros.
+-- A plan has one text.
+use Rattle.std.specs.Prelude.{ℕ, suc, ◌%◌, ◌==◌, ◌||◌, List, [], ◌∷◌, ◌++◌, length, codes, decimal, if◌then◌else◌}
+use Rattle.slot_plan.specs.declared.slot.Slot.{Slot}
+use Rattle.slot_plan.specs.declared.slot.Slot.TheVariants.{Stream, Pcr, Table, Null}
+use Rattle.slot_plan.specs.declared.certificate.StreamEntry.{StreamEntry}
+use Rattle.slot_plan.specs.declared.certificate.ProgramEntry.{ProgramEntry}
+use Rattle.slot_plan.specs.Planned.{Planned}
+use Rattle.slot_plan.specs.Numbered.{numbered}
+
+-- a word with its space, its number, and the byte that ends them: a space, or LF
+abbrev pub field : List ℕ → ℕ → ℕ → List ℕ
+field word number ending = word ++ decimal number ++ ending ∷ []
+
+-- S, P or T and the item's number, or - for a null packet
+abbrev pub slot_text : Slot → List ℕ
+slot_text (Stream number) = 83 ∷ decimal number
+slot_text (Pcr number) = 80 ∷ decimal number
+slot_text (Table number) = 84 ∷ decimal number
+slot_text Null = 45 ∷ []
+
+-- what ends slot number i of n: 24 slots stand on a line, and the rest on the last
+abbrev pub slot_ending : ℕ → ℕ → ℕ
+slot_ending n i = if ((suc i) % 24 == 0) || (suc i == n) then 10 else 32
+
+abbrev pub slot_word : ℕ → ℕ → Slot → List ℕ
+slot_word n i slot = slot_text slot ++ slot_ending n i ∷ []
+
+-- `stream k spread A start V peak X`
+abbrev pub stream_line : ℕ → StreamEntry → List ℕ
+stream_line k e = field (codes "stream ") k 32 ++ (field (codes "spread ") e.spread 32 ++ (field (codes "start ") e.start 32 ++ field (codes "peak ") e.peak 10))
+
+-- `program k tstart V tpeak X bstart V bpeak X`
+abbrev pub program_line : ℕ → ProgramEntry → List ℕ
+program_line k e = field (codes "program ") k 32 ++ (field (codes "tstart ") e.transport_start 32 ++ (field (codes "tpeak ") e.transport_peak 32
+    ++ (field (codes "bstart ") e.system_start 32 ++ field (codes "bpeak ") e.system_peak 10)))
+
+-- `tsplan 1`, `period N`, the slots, the streams' lines, the programs' lines, `end`
+abbrev pub plan_text : Planned → List ℕ
+plan_text p = codes "tsplan 1\n" ++ field (codes "period ") (length p.slots) 10
+    ++ numbered (slot_word (length p.slots)) 0 p.slots
+    ++ numbered stream_line 0 p.certificate.streams
+    ++ numbered program_line 0 p.certificate.programs
+    ++ codes "end\n"

@@ -1,0 +1,45 @@
+//! What a plan claims of its buffers.
+
+use std::alloc::{Allocator, Global};
+use std::marker::Model;
+
+/// What a plan claims of one stream. `spread` is in slots times own slots a period; `start` and `peak`
+/// are work of its transport buffer, counted in units of 8 / (rate * leak rate) seconds.
+#[derive(Clone, Copy, Debug, PartialEq, Eq)]
+pub struct StreamEntry {
+    /// How far the own slots stray from even spacing, at most.
+    pub spread: u64,
+    /// The work with which a period begins, at most.
+    pub start: u64,
+    /// The work right after an own slot, at most.
+    pub peak: u64,
+}
+
+/// What a plan claims of the transport and the system buffer of one program (ISO/IEC 13818-1, 2.4.2),
+/// in work as for a stream.
+#[derive(Clone, Copy, Debug, PartialEq, Eq)]
+pub struct ProgramEntry {
+    /// The transport buffer's work with which a period begins, at most.
+    pub transport_start: u64,
+    /// The transport buffer's work right after an own slot, at most.
+    pub transport_peak: u64,
+    /// The system buffer's work with which a period begins, at most.
+    pub system_start: u64,
+    /// The system buffer's work right after an own slot, at most.
+    pub system_peak: u64,
+}
+
+/// The claims of a plan, one entry for each stream and each program, in their order.
+#[derive(Drop)]
+pub struct Certificate<A: Allocator = Global> {
+    pub streams: Vec<StreamEntry, A>,
+    pub programs: Vec<ProgramEntry, A>,
+}
+
+impl<A: Allocator> Model for Certificate<A> {
+    ghost use Rattle.slot_plan.specs.Planned.{Certified};
+
+    ghost Value = { Certified };
+
+    ghost view = { λ c. record { streams = c.streams.items; programs = c.programs.items } };
+}

@@ -1,0 +1,79 @@
+//! Slots and entries of a plan text, read at its front.
+
+ghost use Rattle.std.specs.Prelude.{◌≡◌, ◌<◌, option_map};
+ghost use Rattle.slot_plan.specs.Reading.{slot_at, stream_at, program_at, after_number, lettered};
+
+use crate::certificate::{ProgramEntry, StreamEntry};
+use crate::slot::Slot;
+use crate::words::{after_word, field_at, number_before};
+
+/// A slot, and the text after the byte that ends it.
+pub fn slot_at(ending: u8, text: &[u8]) -> Option<(Slot, &[u8])>
+    ensures { option_map (λ read. (read.0, read.1.now)) result ≡ slot_at ending text.now }
+{
+    let (letter, rest) = text.split_first()?;
+    if *letter == b'-' {
+        let rest = after_word(&[ending], rest)?;
+        return Some((Slot::Null, rest));
+    }
+    let (number, rest) = number_before(ending, 256, rest)?;
+    let slot = lettered(*letter, number as u8)?;
+    Some((slot, rest))
+}
+
+fn lettered(letter: u8, number: u8) -> Option<Slot>
+    ensures { result ≡ lettered letter number }
+{
+    match letter {
+        b'S' => Some(Slot::Stream(number)),
+        b'P' => Some(Slot::Pcr(number)),
+        b'T' => Some(Slot::Table(number)),
+        _ => None,
+    }
+}
+
+/// A word with its space, the number given, and the text after the space behind it.
+fn after_number<'a>(word: &[u8], number: u64, text: &'a [u8]) -> Option<&'a [u8]>
+    ensures { option_map (λ rest. rest.now) result ≡ after_number word.now number text.now }
+{
+    let (found, rest) = field_at(word, b' ', text)?;
+    if found == number { Some(rest) } else { None }
+}
+
+/// The line of a stream's entry, and the text after it.
+pub fn stream_at(number: u64, text: &[u8]) -> Option<(StreamEntry, &[u8])>
+    ensures { option_map (λ read. (read.0, read.1.now)) result ≡ stream_at number text.now }
+{
+    let rest = after_number(b"stream ", number, text)?;
+    let (spread, rest) = field_at(b"spread ", b' ', rest)?;
+    let (start, rest) = field_at(b"start ", b' ', rest)?;
+    let (peak, rest) = field_at(b"peak ", b'\n', rest)?;
+    Some((
+        StreamEntry {
+            spread,
+            start,
+            peak,
+        },
+        rest,
+    ))
+}
+
+/// The line of a program's entry, and the text after it.
+pub fn program_at(number: u64, text: &[u8]) -> Option<(ProgramEntry, &[u8])>
+    ensures { option_map (λ read. (read.0, read.1.now)) result ≡ program_at number text.now }
+{
+    let rest = after_number(b"program ", number, text)?;
+    let (transport_start, rest) = field_at(b"tstart ", b' ', rest)?;
+    let (transport_peak, rest) = field_at(b"tpeak ", b' ', rest)?;
+    let (system_start, rest) = field_at(b"bstart ", b' ', rest)?;
+    let (system_peak, rest) = field_at(b"bpeak ", b'\n', rest)?;
+    Some((
+        ProgramEntry {
+            transport_start,
+            transport_peak,
+            system_start,
+            system_peak,
+        },
+        rest,
+    ))
+}

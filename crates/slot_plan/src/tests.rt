@@ -1,0 +1,234 @@
+//! The text of a small plan, both ways, and the limits of plans.
+
+use crate::{
+    Certificate, Item, Plan, PlanError, PlanTextError, ProgramEntry, Slot, StreamEntry, laws,
+};
+use std::alloc::Global;
+use std::test::Fail;
+
+const BASE: &str = "tsplan 1
+period 120
+S0 P0 T0 T1 S0 T3 T2 T4 S0 T5 - - S0 - - - S0 - - - S0 - - -
+S0 P0 - - S0 - - - S0 - - - S0 - - - S0 - - - S0 - - -
+S0 P0 - - S0 - - - S0 - - - S0 - - - S0 - - - S0 - - -
+S0 P0 - - S0 - - - S0 - - - S0 - - - S0 - - - S0 - - -
+S0 P0 - - S0 - - - S0 - - - S0 - - - S0 - - - S0 - - -
+stream 0 spread 0 start 0 peak 282752000
+program 0 tstart 0 tpeak 377504000 bstart 0 bpeak 550464000
+end
+";
+
+/// The line of the refusal, 0 where memory ran out, None where there is a plan.
+fn refusal(alloc: Global, text: &[u8]) -> Option<u32> {
+    match Plan::read_text(alloc, text) {
+        Ok(_) => None,
+        Err(PlanTextError::Line(line)) => Some(line),
+        Err(PlanTextError::Memory) => Some(0),
+    }
+}
+
+/// The base with one part of it replaced.
+fn edited(alloc: Global, from: &str, to: &str) -> Result<Vec<u8>, Fail> {
+    let mut text = Vec::new(alloc);
+    let Some((before, after)) = BASE.split_once(from) else {
+        return Err(Fail::from("no such part"));
+    };
+    text.extend_from_slice(before.as_bytes())?;
+    text.extend_from_slice(to.as_bytes())?;
+    text.extend_from_slice(after.as_bytes())?;
+    Ok(text)
+}
+
+#[test]
+fn base_is_read_and_written(rt: HostRuntime) -> Result<(), Fail> {
+    let (plan, bytes) = Plan::read_text(rt.alloc(), BASE.as_bytes())?;
+    assert_eq!(rt; bytes, BASE.len());
+    assert_eq!(rt; plan.slots().len(), 120);
+    assert_eq!(rt; plan.slots().get(0).copied(), Some(Slot::Stream(0)));
+    assert_eq!(rt; plan.slots().get(9).copied(), Some(Slot::Table(5)));
+    assert_eq!(rt; plan.slots().get(97).copied(), Some(Slot::Pcr(0)));
+    assert_eq!(rt; plan.slots().get(119).copied(), Some(Slot::Null));
+    let certificate = plan.certificate();
+    assert_eq!(rt;
+        certificate.streams.as_slice(),
+        [StreamEntry {
+            spread: 0,
+            start: 0,
+            peak: 282_752_000
+        }]
+        .as_slice()
+    );
+    assert_eq!(rt; certificate.programs.len(), 1);
+    let text = plan.write_text(rt.alloc())?;
+    assert!(rt; text.as_str() == BASE);
+    laws::plan_text();
+    laws::own_slots();
+    Ok(())
+}
+
+#[test]
+fn what_stands_behind_is_left(rt: HostRuntime) -> Result<(), Fail> {
+    let text = edited(rt.alloc(), "end\n", "end\nbytes of units")?;
+    let (_, bytes) = Plan::read_text(rt.alloc(), text.as_slice())?;
+    assert_eq!(rt; bytes, BASE.len());
+    Ok(())
+}
+
+#[test]
+fn first_bad_lines(rt: HostRuntime) -> Result<(), Fail> {
+    for (from, to, line) in [
+        ("tsplan 1", "tsplan 2", 1),
+        ("period 120", "period 0120", 2),
+        ("period 120", "period  120", 2),
+        ("period 120", "period 100000", 2),
+        ("period 120", "period 121", 8),
+        ("period 120", "period 119", 7),
+        ("T5 - -", "T256 - -", 3),
+        ("T5 - -", "T05 - -", 3),
+        ("T5 - -", "T5  - -", 3),
+        ("stream 0", "stream 1", 8),
+        ("spread 0", "spread 1000000000000000000", 8),
+        ("spread 0", "spread 00", 8),
+        ("282752000", "282752000 ", 8),
+        ("program 0", "program 1", 9),
+        ("bpeak", "speak", 9),
+        ("end", "END", 10),
+        ("end\n", "end", 10),
+        ("end\n", "end\r\n", 10),
+        ("end\n", "", 10),
+    ] {
+        let text = edited(rt.alloc(), from, to)?;
+        assert_eq!(rt;
+            refusal(rt.alloc(), text.as_slice()),
+            Some(line),
+            "{from} made {to}"
+        );
+    }
+    assert_eq!(rt; refusal(rt.alloc(), b"tsplan 1\nperiod 120\n"), Some(3));
+    assert_eq!(rt; refusal(rt.alloc(), b"tsplan 1\nperiod 120"), Some(2));
+    assert_eq!(rt; refusal(rt.alloc(), b""), Some(1));
+    assert_eq!(rt; refusal(rt.alloc(), b"tsplan 1\nperiod 0\nend\n"), None);
+    Ok(())
+}
+
+/// What is read is the beginning of the text as it is written.
+fn is_canonical(alloc: Global, text: &[u8]) -> Result<bool, Fail> {
+    match Plan::read_text(alloc, text) {
+        Ok((plan, bytes)) => {
+            let written = plan.write_text(alloc)?;
+            Ok(written.as_bytes().len() == bytes && text.starts_with(written.as_bytes()))
+        }
+        Err(error) => Ok(error != PlanTextError::Memory),
+    }
+}
+
+#[test]
+fn each_cut_is_refused(rt: HostRuntime) {
+    let mut line = 1;
+    for (length, byte) in BASE.as_bytes().iter().enumerate() {
+        let (front, _) = BASE.as_bytes().split_at(length);
+        assert_eq!(rt; refusal(rt.alloc(), front), Some(line));
+        if *byte == b'\n' {
+            line = line.saturating_add(1);
+        }
+    }
+}
+
+#[test]
+fn each_change_is_told(rt: HostRuntime) -> Result<(), Fail> {
+    for place in 0..BASE.len() {
+        for byte in [
+            0, b'\n', b' ', b'-', b'0', b'1', b'9', b'S', 0x7f, 0x80, 0xff,
+        ] {
+            let mut text = Vec::from_slice(rt.alloc(), BASE.as_bytes())?;
+            if let Some(at) = text.get_mut(place) {
+                *at = byte;
+            }
+            assert!(rt;
+                is_canonical(rt.alloc(), text.as_slice())?,
+                "{byte} at {place}"
+            );
+        }
+    }
+    Ok(())
+}
+
+fn certificate_of(
+    alloc: Global,
+    streams: usize,
+    programs: usize,
+    number: u64,
+) -> Result<Certificate, Fail> {
+    let stream = StreamEntry {
+        spread: 0,
+        start: 0,
+        peak: number,
+    };
+    let program = ProgramEntry {
+        transport_start: 0,
+        transport_peak: 0,
+        system_start: 0,
+        system_peak: number,
+    };
+    Ok(Certificate {
+        streams: vec![in alloc; stream; streams]?,
+        programs: vec![in alloc; program; programs]?,
+    })
+}
+
+fn error_of(
+    alloc: Global,
+    slots: usize,
+    streams: usize,
+    programs: usize,
+    number: u64,
+) -> Result<Option<PlanError>, Fail> {
+    let slots = vec![in alloc; Slot::Null; slots]?;
+    let certificate = certificate_of(alloc, streams, programs, number)?;
+    match Plan::new(slots, certificate) {
+        Ok(_) => Ok(None),
+        Err((error, _, _)) => Ok(Some(error)),
+    }
+}
+
+#[test]
+fn limits_of_plans(rt: HostRuntime) -> Result<(), Fail> {
+    let end: u64 = 1_000_000_000_000_000_000;
+    assert_eq!(rt;
+        error_of(rt.alloc(), 99_999, 256, 256, end.saturating_sub(1))?,
+        None
+    );
+    assert_eq!(rt;
+        error_of(rt.alloc(), 100_000, 257, 256, end)?,
+        Some(PlanError::Slots)
+    );
+    assert_eq!(rt;
+        error_of(rt.alloc(), 1, 257, 0, end)?,
+        Some(PlanError::Entries)
+    );
+    assert_eq!(rt;
+        error_of(rt.alloc(), 1, 0, 257, 0)?,
+        Some(PlanError::Entries)
+    );
+    assert_eq!(rt;
+        error_of(rt.alloc(), 1, 1, 0, end)?,
+        Some(PlanError::Number)
+    );
+    assert_eq!(rt;
+        error_of(rt.alloc(), 1, 0, 1, end)?,
+        Some(PlanError::Number)
+    );
+    Ok(())
+}
+
+#[test]
+fn owners(rt: HostRuntime) {
+    assert!(rt; Item::Stream(3).owns(Slot::Stream(3)));
+    assert!(rt; !Item::Stream(3).owns(Slot::Pcr(3)));
+    assert!(rt; Item::Pcr(3).owns(Slot::Pcr(3)));
+    assert!(rt; Item::Table(3).owns(Slot::Table(3)));
+    assert!(rt; Item::System(2).owns(Slot::Table(0)));
+    assert!(rt; Item::System(2).owns(Slot::Table(3)));
+    assert!(rt; !Item::System(2).owns(Slot::Table(2)));
+    assert!(rt; !Item::System(2).owns(Slot::Null));
+}
