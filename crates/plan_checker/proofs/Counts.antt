@@ -1,0 +1,36 @@
+-- How many parts a description has.
+use Rattle.std.proofs.Common.{◌≤◌, Bool, true, false, ◌++◌, length, arith}
+use Rattle.std.proofs.lemmas.List.{length-append}
+use Rattle.description.specs.Described.{Described}
+use Rattle.description.specs.Ranges.{IsInRange}
+use Rattle.description.specs.Tables.{only_if, has_event, service_tables, table_count}
+use Rattle.description.specs.declared.table_kind.TableKind.{TableKind}
+use Rattle.description.specs.declared.table_kind.TableKind.TheVariants.{Nit, Sdt, Eit, Tdt}
+use Rattle.description.proofs.TableNumbers.{table_count-is}
+use Rattle.std.specs.Prelude.{is_some}
+use Rattle.std.specs.List.{list_any}
+
+at_most_one : (b : Bool) (x : TableKind) → length (only_if b x) ≤ 1
+at_most_one true x = omega arith
+at_most_one false x = omega arith
+
+few_service_tables : (d : Described) → length (service_tables d) ≤ 4
+few_service_tables d =
+    let n = only_if (is_some d.network) Nit in let s = only_if d.has_sdt Sdt in let e = only_if (list_any has_event d.programs) Eit in let t = only_if d.has_tdt Tdt in
+    omega (
+      arith,
+      length-append n (s ++ e ++ t),
+      length-append s (e ++ t),
+      length-append e t,
+      length-append (n ++ s ++ e) t,
+      length-append (n ++ s) e,
+      length-append n s,
+      at_most_one (is_some d.network) Nit,
+      at_most_one d.has_sdt Sdt,
+      at_most_one (list_any has_event d.programs) Eit,
+      at_most_one d.has_tdt Tdt,
+    )
+
+-- the tables: the PAT, at most 16 PMTs, 4 of the service information and 16 of the description's own
+pub few_tables : (d : Described) → IsInRange d → table_count d ≤ 37
+few_tables d r = omega (arith, table_count-is d, few_service_tables d, r.most_programs, r.most_tables)

@@ -1,0 +1,4 @@
+pub mod Refused
+pub mod Served
+pub mod Joint
+pub mod Followed

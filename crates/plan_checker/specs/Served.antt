@@ -1,0 +1,8 @@
+-- A description and the plan that serves it.
+use Rattle.description.specs.Described.{Described}
+use Rattle.slot_plan.specs.Planned.{Planned}
+
+-- what a checked plan stands for
+pub record Served : Type 0 where
+  pub description : Described
+  pub plan : Planned

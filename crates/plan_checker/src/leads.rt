@@ -1,0 +1,111 @@
+//! The units of a stream have left its transport buffer by their decoding times.
+
+ghost use Rattle.std.specs.Prelude.{◌≡◌, ◌<◌, ◌≤◌, ◌∷◌, [], length};
+ghost use Rattle.own_slots.specs.Period.{per_period};
+ghost use Rattle.description.specs.Ranges.{IsStream};
+ghost use Rattle.description.specs.Tables.{greatest_pieces};
+ghost use Rattle.slot_plan.specs.Items.{marks};
+ghost use Rattle.slot_plan.specs.Entries.{first_failing};
+ghost use Rattle.slot_plan.specs.Conditions.{counting, group_part, packets_of_units, stream_lead_entry, stream_leads};
+ghost use Rattle.slot_plan.specs.Shape.{IsShaped};
+ghost use Rattle.plan_checker.specs.Refused.{failed};
+
+use crate::claims::claim_of_stream;
+use crate::comparing::at_most;
+use crate::counting::own_count;
+use crate::refusal::{Condition, Refusal};
+use crate::sides::{lead_given, lead_needed};
+use slot_plan::{Description, Item, Plan, Stream};
+use std::alloc::Allocator;
+
+/// The packets of a stream's greatest unit, with the longest PES header of 19 bytes (ISO/IEC 13818-1, 2.4.3.7).
+pub fn pieces_of_unit(stream: &Stream) -> u64
+    requires { IsStream stream.now }
+    ensures pieces { result ≡ greatest_pieces stream.now }
+    ensures few { result ≤ 21741 }
+{
+    (19 + stream.size as u64).div_ceil(184)
+}
+
+/// The most packets of so many units in a row, at most a group.
+pub fn packets_of_units(stream: &Stream, units: u8) -> u64
+    requires { IsStream stream.now }
+    ensures packets { result ≡ packets_of_units stream.now units }
+    ensures few { result ≤ stream.now.group_packets }
+{
+    (units as u64 * pieces_of_unit(stream)).min(stream.group_packets as u64)
+}
+
+/// The part of a condition on so many units in a row: 0 where the stream has no groups.
+pub fn group_part(stream: &Stream, units: u8) -> u8
+    ensures { result ≡ group_part stream.now units }
+{
+    if stream.group == 1 { 0 } else { units }
+}
+
+/// The units of each stream, one and up to a group in a row.
+pub fn stream_leads<A: Allocator>(description: &Description, plan: &Plan<A>) -> Result<(), Refusal>
+    requires shaped { IsShaped description.now plan.now }
+    ensures { failed result ≡ first_failing (stream_leads description.now plan.now) }
+{
+    for (i, stream) in description.streams().iter().enumerate() {
+        stream_lead(description, plan, i, stream)?;
+    }
+    Ok(())
+}
+
+fn stream_lead<A: Allocator>(
+    description: &Description,
+    plan: &Plan<A>,
+    i: usize,
+    stream: &Stream,
+) -> Result<(), Refusal>
+    requires shaped { IsShaped description.now plan.now }
+    requires stream { i < length description.now.streams }
+    requires small { i < 256 }
+    requires ranges { IsStream stream.now }
+    ensures { failed result ≡ first_failing (counting (stream_lead_entry description.now plan.now i stream.now) 1 stream.now.group) }
+{
+    let count = own_count(plan.slots(), Item::Stream(i as u8));
+    for before in 0..stream.group {
+        units_lead(description, plan, i, stream, count, before + 1)?;
+    }
+    Ok(())
+}
+
+/// `units` units in a row of stream number `i`, which has `count` own slots a period.
+fn units_lead<A: Allocator>(
+    description: &Description,
+    plan: &Plan<A>,
+    i: usize,
+    stream: &Stream,
+    count: u64,
+    units: u8,
+) -> Result<(), Refusal>
+    requires shaped { IsShaped description.now plan.now }
+    requires stream { i < length description.now.streams }
+    requires small { i < 256 }
+    requires ranges { IsStream stream.now }
+    requires counted { count ≡ per_period (marks (Item.Stream i) plan.now.slots) }
+    requires few { count ≤ 65536 }
+    requires some { 0 < units }
+    requires group { units ≤ stream.now.group }
+    ensures { failed result ≡ first_failing (stream_lead_entry description.now plan.now i stream.now units ∷ []) }
+{
+    let claim = claim_of_stream(plan, i);
+    let period = plan.slots().len() as u64;
+    let packets = packets_of_units(stream, units);
+    let rate = description.rate().bits_per_second();
+    let rx = stream.rx as u64;
+    let needed = lead_needed(claim.spread, packets, period, count, rx, claim.peak);
+    let given = lead_given(
+        count,
+        stream.lead as u64,
+        units as u64,
+        stream.interval as u64,
+        rate,
+        rx,
+    );
+    let part = group_part(stream, units);
+    at_most(Condition::StreamLead, part, i as u32, needed, given)
+}

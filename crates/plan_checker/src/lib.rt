@@ -1,0 +1,35 @@
+//! Whether a plan serves a service description, alone or after another plan: the first condition on slots, gaps,
+//! buffers and deadlines that it does not keep.
+#![tactic(auto)]
+
+mod across;
+mod buffers;
+mod checked_plan;
+mod checked_switch;
+mod checking;
+mod claims;
+mod comparing;
+mod counting;
+mod gap;
+mod gaps;
+mod leads;
+mod pace;
+mod positions;
+mod refusal;
+mod shape;
+mod sides;
+mod spread;
+mod succession;
+mod switch;
+mod timing;
+mod waiting;
+mod work;
+
+pub use checked_plan::CheckedPlan;
+pub use checked_switch::CheckedSwitch;
+pub use checking::check;
+pub use refusal::{Condition, Refusal};
+pub use succession::check_switch;
+
+#[cfg(test)]
+mod tests;

@@ -1,0 +1,75 @@
+//! The two sides of the conditions that multiply: whole numbers of up to 128 bits.
+
+ghost use Rattle.std.specs.Prelude.{◌≡◌, ◌+◌, ◌-◌, ◌*◌, ◌/◌, ◌^◌, ◌<◌, ◌≤◌, max};
+ghost use Rattle.clock27.specs.Release.{slot_units};
+ghost use Rattle.own_slots.specs.Spread.{most_within};
+
+/// A slot of an output of R bits/s lasts this many units of 90 kHz, divided by R.
+const SLOT_UNITS: u128 = 135_360_000;
+
+/// The bits of a byte times the units of 90 kHz in a second.
+const BYTE_UNITS: u128 = 720_000;
+
+/// What `packets` packets on end take, at `period` slots a period.
+pub fn rate_needed(packets: u64, period: u64) -> u128
+    requires packets { packets ≤ 2 ^ 21 }
+    requires period { period ≤ 65536 }
+    ensures { result ≡ packets * period * slot_units }
+{
+    packets as u128 * period as u128 * SLOT_UNITS
+}
+
+/// What `count` own slots a period give, in the time of `group` units.
+pub fn rate_given(count: u64, group: u64, interval: u64, rate: u64) -> u128
+    requires count { count ≤ 65536 }
+    requires group { group ≤ 64 }
+    requires interval { interval ≤ 90000 }
+    requires rate { rate ≤ 100000000 }
+    ensures { result ≡ count * group * interval * rate }
+{
+    count as u128 * group as u128 * interval as u128 * rate as u128
+}
+
+/// When the last of `packets` packets has left the transport buffer at the latest, with that spread and peak.
+pub fn lead_needed(spread: u64, packets: u64, period: u64, count: u64, rx: u64, peak: u64) -> u128
+    requires spread { spread < 10 ^ 18 }
+    requires packets { packets ≤ 2 ^ 21 }
+    requires period { period ≤ 65536 }
+    requires count { count ≤ 65536 }
+    requires rx { rx ≤ 200000000 }
+    requires peak { peak < 10 ^ 18 }
+    ensures { result ≡ (spread + packets * period + count) * slot_units * rx + count * peak * 720000 }
+{
+    (spread as u128 + packets as u128 * period as u128 + count as u128) * SLOT_UNITS * rx as u128
+        + count as u128 * peak as u128 * BYTE_UNITS
+}
+
+/// When it has to have left: the decoding time of the `units`-th unit on end.
+pub fn lead_given(count: u64, lead: u64, units: u64, interval: u64, rate: u64, rx: u64) -> u128
+    requires count { count ≤ 65536 }
+    requires lead { lead ≤ 90000 }
+    requires units { units ≤ 64 }
+    requires some { 0 < units }
+    requires interval { interval ≤ 90000 }
+    requires rate { rate ≤ 100000000 }
+    requires rx { rx ≤ 200000000 }
+    ensures { result ≡ count * (lead + (units - 1) * interval) * rate * rx }
+{
+    count as u128
+        * (lead as u128 + (units as u128 - 1) * interval as u128)
+        * rate as u128
+        * rx as u128
+}
+
+/// The most own slots in a window of `window` slots, with that spread.
+pub fn slots_within(count: u64, period: u64, spread: u64, window: u64) -> u128
+    requires count { count ≤ 65536 }
+    requires some { 0 < period }
+    requires spread { spread < 10 ^ 18 }
+    requires begun { 0 < window }
+    requires window { window ≤ 2 ^ 32 }
+    ensures slots { result ≡ most_within count period spread window }
+    ensures few { result < 2 ^ 64 }
+{
+    ((window as u128 - 1) * count as u128 + spread as u128) / period as u128 + 1
+}

@@ -1,0 +1,71 @@
+//! Whether a second plan may follow a first one.
+
+ghost use Rattle.std.specs.Prelude.{◌≡◌, None, IfOk, IfErr};
+ghost use Rattle.slot_plan.specs.Entries.{first_failing};
+ghost use Rattle.slot_plan.specs.Shape.{IsShaped};
+ghost use Rattle.slot_plan.specs.Conditions.{IsServing, stream_leads};
+ghost use Rattle.slot_plan.specs.SwitchConditions.{joint_entries, switch_entries};
+ghost use Rattle.plan_checker.specs.Refused.{failed, refusal_of};
+
+use crate::checked_plan::CheckedPlan;
+use crate::checked_switch::CheckedSwitch;
+use crate::checking::conditions;
+use crate::refusal::Refusal;
+use crate::switch::gaps::{pcr_switches, table_switches};
+use crate::switch::leads::lead_switches;
+use crate::switch::mains::main_switches;
+use crate::switch::works::{stream_works, system_works, transport_works};
+use slot_plan::{Description, Plan};
+use std::alloc::Allocator;
+
+/// The conditions of two plans together, codes 12 to 16.
+fn joint<A: Allocator>(
+    description: &Description,
+    first: &Plan<A>,
+    second: &Plan<A>,
+) -> Result<(), Refusal>
+    requires shaped { IsShaped description.now first.now }
+    requires next_shaped { IsShaped description.now second.now }
+    requires led { first_failing (stream_leads description.now first.now) ≡ None }
+    requires next_led { first_failing (stream_leads description.now second.now) ≡ None }
+    ensures { failed result ≡ first_failing (joint_entries description.now first.now second.now) }
+{
+    pcr_switches(description, first, second)?;
+    table_switches(description, first, second)?;
+    stream_works(description, first, second)?;
+    transport_works(description, first, second)?;
+    system_works(description, first, second)?;
+    lead_switches(description, first, second)?;
+    main_switches(description, first, second)
+}
+
+/// The conditions of a second plan after a first one: its own, then those of the two together.
+fn switch_conditions<A: Allocator>(
+    description: &Description,
+    first: &Plan<A>,
+    second: &Plan<A>,
+) -> Result<(), Refusal>
+    requires serving { IsServing description.now first.now }
+    ensures { failed result ≡ first_failing (switch_entries description.now first.now second.now) }
+{
+    conditions(description, second)?;
+    joint(description, first, second)
+}
+
+/// The two plans as ones of which the second may follow the first at the end of any of its periods, where the second
+/// serves the first's description and the two keep every condition together. Else the first condition that is not
+/// kept: those of the second plan in the order of [`check`](crate::check), then those of the two by their number, item
+/// and part, with its two numbers; and both plans are handed back.
+pub fn check_switch<A: Allocator>(
+    first: CheckedPlan<A>,
+    second: Plan<A>,
+) -> Result<CheckedSwitch<A>, (Refusal, CheckedPlan<A>, Plan<A>)>
+    ensures refusal { refusal_of result ≡ first_failing (switch_entries first.description first.plan second) }
+    ensures checked { IfOk result (λ c. c ≡ record { first = first; second = second }) }
+    ensures handed_back { IfErr result (λ e. (e.1 ≡ first) × (e.2 ≡ second)) }
+{
+    match switch_conditions(first.description(), first.plan(), &second) {
+        Ok(()) => Ok(CheckedSwitch { first, second }),
+        Err(refusal) => Err((refusal, first, second)),
+    }
+}

@@ -1,0 +1,120 @@
+//! Deadlines over a switch: units that are sent across it have left the transport buffer by their decoding times.
+
+ghost use Rattle.std.specs.Prelude.{◌≡◌, None, ◌^◌, ◌<◌, ◌≤◌, ◌∷◌, [], length};
+ghost use Rattle.description.specs.Ranges.{IsStream};
+ghost use Rattle.slot_plan.specs.Entries.{first_failing};
+ghost use Rattle.slot_plan.specs.Shape.{IsShaped};
+ghost use Rattle.slot_plan.specs.Conditions.{counting, stream_leads};
+ghost use Rattle.slot_plan.specs.SwitchConditions.{lead_switch_entry, lead_switches};
+ghost use Rattle.plan_checker.specs.Refused.{failed};
+ghost use Rattle.plan_checker.specs.Joint.{across, across_entry, IsSmallAcross};
+
+use crate::across::shift_of;
+use crate::claims::claim_of_stream;
+use crate::comparing::at_most;
+use crate::counting::own_count;
+use crate::leads::{group_part, packets_of_units};
+use crate::refusal::{Condition, Refusal};
+use crate::switch::sides::{Across, Share, slots_needed, time_given, time_needed};
+use slot_plan::{Description, Item, Plan, Stream};
+use std::alloc::Allocator;
+
+/// The deadlines of all streams, of 1 to `group` units in a row.
+pub fn lead_switches<A: Allocator>(
+    description: &Description,
+    first: &Plan<A>,
+    second: &Plan<A>,
+) -> Result<(), Refusal>
+    requires shaped { IsShaped description.now first.now }
+    requires next_shaped { IsShaped description.now second.now }
+    requires led { first_failing (stream_leads description.now first.now) ≡ None }
+    requires next_led { first_failing (stream_leads description.now second.now) ≡ None }
+    ensures { failed result ≡ first_failing (lead_switches description.now first.now second.now) }
+{
+    let rate = description.rate().bits_per_second();
+    for (i, stream) in description.streams().iter().enumerate() {
+        lead_switch(rate, stream, i, across_of(description, first, second, i))?;
+    }
+    Ok(())
+}
+
+/// What the two plans give stream number `i`.
+fn across_of<A: Allocator>(
+    description: &Description,
+    first: &Plan<A>,
+    second: &Plan<A>,
+    i: usize,
+) -> Across
+    requires shaped { IsShaped description.now first.now }
+    requires next_shaped { IsShaped description.now second.now }
+    requires number { i < length description.now.streams }
+    requires few { length description.now.streams ≤ 32 }
+    ensures across { result ≡ across first.now second.now i }
+    ensures small { IsSmallAcross result }
+{
+    description.keeps_ranges();
+    let item = Item::Stream(i as u8);
+    let claim = claim_of_stream(first, i);
+    let next_claim = claim_of_stream(second, i);
+    Across {
+        first: Share {
+            count: own_count(first.slots(), item),
+            period: first.slots().len() as u64,
+            spread: claim.spread,
+        },
+        second: Share {
+            count: own_count(second.slots(), item),
+            period: second.slots().len() as u64,
+            spread: next_claim.spread,
+        },
+        shift: shift_of(first.slots(), second.slots(), item),
+        peak: claim.peak.max(next_claim.peak),
+    }
+}
+
+/// The deadlines of one stream.
+fn lead_switch(rate: u64, stream: &Stream, i: usize, across: Across) -> Result<(), Refusal>
+    requires rate { rate ≤ 100000000 }
+    requires stream { IsStream stream.now }
+    requires few { i < 32 }
+    requires small { IsSmallAcross across }
+    requires spread { across.first.spread < 2 ^ 33 }
+    requires next_spread { across.second.spread < 2 ^ 33 }
+    ensures { failed result ≡ first_failing (counting (across_entry rate across i stream.now) 1 stream.now.group) }
+{
+    for before in 0..stream.group {
+        deadline(rate, stream, i, across, before + 1)?;
+    }
+    Ok(())
+}
+
+/// The deadline of the last of `units` units in a row.
+fn deadline(rate: u64, stream: &Stream, i: usize, across: Across, units: u8) -> Result<(), Refusal>
+    requires rate { rate ≤ 100000000 }
+    requires stream { IsStream stream.now }
+    requires few { i < 32 }
+    requires small { IsSmallAcross across }
+    requires spread { across.first.spread < 2 ^ 33 }
+    requires next_spread { across.second.spread < 2 ^ 33 }
+    requires some { 0 < units }
+    requires units { units ≤ stream.now.group }
+    ensures { failed result ≡ first_failing (across_entry rate across i stream.now units ∷ []) }
+{
+    let packets = packets_of_units(stream, units);
+    let count = across.first.count as u128 * across.second.count as u128;
+    let slots = slots_needed(across, packets);
+    at_most(
+        Condition::LeadSwitch,
+        group_part(stream, units),
+        i as u32,
+        time_needed(slots, count, stream.rx as u64, across.peak),
+        time_given(
+            count,
+            stream.lead as u64,
+            units as u64,
+            stream.interval as u64,
+            rate,
+            stream.rx as u64,
+        ),
+    )
+}

@@ -1,0 +1,113 @@
+//! What waits for its decoding time finds room in the main buffer (ISO/IEC 13818-1, 2.4.2.3).
+
+ghost use Rattle.std.specs.Prelude.{◌≡◌, ◌^◌, ◌<◌, ◌≤◌, ◌∷◌, [], length};
+ghost use Rattle.description.specs.Ranges.{IsStream};
+ghost use Rattle.slot_plan.specs.Entries.{first_failing};
+ghost use Rattle.slot_plan.specs.Conditions.{grouped_packets, waiting_units, waiting_slots, bytes_by_units, bytes_by_slots, main_buffer_entry, main_buffers};
+ghost use Rattle.slot_plan.specs.Shape.{IsShaped};
+ghost use Rattle.plan_checker.specs.Refused.{failed};
+
+use crate::claims::claim_of_stream;
+use crate::comparing::at_most;
+use crate::counting::own_count;
+use crate::leads::pieces_of_unit;
+use crate::refusal::{Condition, Refusal};
+use crate::sides::slots_within;
+use slot_plan::{Description, Item, Plan, Stream};
+use std::alloc::Allocator;
+
+/// The most packets of so many units in a row: whole groups, and a rest.
+pub fn grouped_packets(stream: &Stream, units: u64) -> u64
+    requires ranges { IsStream stream.now }
+    requires few { units ≤ 90000 }
+    ensures packets { result ≡ grouped_packets stream.now units }
+    ensures few { result < 2 ^ 50 }
+{
+    let group = stream.group as u64;
+    let most = stream.group_packets as u64;
+    units / group * most + (units % group * pieces_of_unit(stream)).min(most)
+}
+
+/// The units that can wait for their decoding time at once, rounded up.
+pub fn waiting_units(stream: &Stream) -> u64
+    requires { IsStream stream.now }
+    ensures units { result ≡ waiting_units stream.now }
+    ensures few { result ≤ 90000 }
+{
+    (stream.lead as u64).div_ceil(stream.interval as u64)
+}
+
+/// The slots in which the packets of these units come.
+pub fn waiting_slots(description: &Description, stream: &Stream) -> u64
+    requires { IsStream stream.now }
+    ensures slots { result ≡ waiting_slots description.now stream.now }
+    ensures some { 0 < result }
+    ensures few { result ≤ 2 ^ 32 }
+{
+    (stream.lead as u64 * description.rate().bits_per_second()).div_ceil(135_360_000)
+}
+
+/// The bytes that can wait at once: by the sizes of the units, or by their packets.
+pub fn bytes_by_units(stream: &Stream) -> u64
+    requires { IsStream stream.now }
+    ensures { result ≡ bytes_by_units stream.now }
+{
+    let units = waiting_units(stream);
+    (units * (19 + stream.size as u64)).min(184 * grouped_packets(stream, units))
+}
+
+/// The bytes that can wait at once, by the slots in which they come.
+pub fn bytes_by_slots<A: Allocator>(
+    description: &Description,
+    plan: &Plan<A>,
+    i: usize,
+    stream: &Stream,
+) -> u128
+    requires shaped { IsShaped description.now plan.now }
+    requires stream { i < length description.now.streams }
+    requires small { i < 256 }
+    requires ranges { IsStream stream.now }
+    ensures bytes { result ≡ bytes_by_slots description.now plan.now i stream.now }
+    ensures few { result < 2 ^ 70 }
+{
+    let slots = plan.slots();
+    let count = own_count(slots, Item::Stream(i as u8));
+    let spread = claim_of_stream(plan, i).spread;
+    let window = waiting_slots(description, stream);
+    184 * slots_within(count, slots.len() as u64, spread, window)
+}
+
+/// The main buffer of each stream.
+pub fn main_buffers<A: Allocator>(description: &Description, plan: &Plan<A>) -> Result<(), Refusal>
+    requires shaped { IsShaped description.now plan.now }
+    ensures { failed result ≡ first_failing (main_buffers description.now plan.now) }
+{
+    for (i, stream) in description.streams().iter().enumerate() {
+        main_buffer(description, plan, i, stream)?;
+    }
+    Ok(())
+}
+
+fn main_buffer<A: Allocator>(
+    description: &Description,
+    plan: &Plan<A>,
+    i: usize,
+    stream: &Stream,
+) -> Result<(), Refusal>
+    requires shaped { IsShaped description.now plan.now }
+    requires stream { i < length description.now.streams }
+    requires small { i < 256 }
+    requires ranges { IsStream stream.now }
+    ensures { failed result ≡ first_failing (main_buffer_entry description.now plan.now i stream.now ∷ []) }
+{
+    let by_units = bytes_by_units(stream) as u128;
+    let by_slots = bytes_by_slots(description, plan, i, stream);
+    let bytes = by_units.min(by_slots);
+    at_most(
+        Condition::MainBuffer,
+        0,
+        i as u32,
+        bytes,
+        stream.main as u128,
+    )
+}
