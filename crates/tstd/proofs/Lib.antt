@@ -1,0 +1,13 @@
+pub mod Agreements
+pub mod Climbing
+pub mod Entries
+pub mod Passing
+pub mod Peaks
+pub mod Rows
+pub mod StreamPackets
+pub mod TablePackets
+pub mod Takings
+pub mod Tallying
+pub mod Turns
+pub mod UnitLists
+pub mod Walks

@@ -1,0 +1,95 @@
+-- The greatest fullness of a buffer is known from the longest stay of a byte in it.
+use Rattle.std.proofs.Common.{◌≡◌, ◌∙◌, ℕ, ◌+◌, ◌-◌, ◌*◌, ◌≤◌, ◌<◌, max, List, [], ◌∷◌, ◌++◌, length, refl, arith, inl, inr}
+use Rattle.std.proofs.Math.Nat.{add-div_right, div-eq_of_lt, div-mul-le_self}
+use Rattle.std.proofs.lemmas.Nat.{le-div}
+use Rattle.std.proofs.lemmas.Bool.{cases_lt}
+use Rattle.std.proofs.lemmas.List.{length-append, append-nil}
+use Rattle.clock27.specs.Arrival.{bytes_from, arrivals}
+use Rattle.clock27.specs.Departure.{departures}
+use Rattle.clock27.specs.Fullness.{held}
+use Rattle.clock27.specs.Peak.{IsPeak, Climbs, found, most_found}
+use Rattle.clock27.proofs.Holding.{held_le}
+use Rattle.clock27.proofs.Peaking.{peak_law, arrivals_climb, departures_climb}
+use Rattle.clock27.proofs.Leaving.{length-departures}
+use Rattle.tstd.specs.declared.queue.Queue.{Queue}
+use Rattle.tstd.specs.declared.fullness.SystemFullness.{SystemFullness}
+use Rattle.tstd.specs.Measured.{IsSystemFullness}
+use Rattle.tstd.specs.Queues.{all_arrived, longest_stay, bytes_within}
+use Rattle.tstd.proofs.Climbing.{climbs_low}
+use Rattle.tstd.proofs.Passing.{passed-longest}
+use Rattle.tstd.proofs.Rows.{length-row}
+
+-- a longer time is that of no fewer bytes
+within_more : (step a b : ℕ) → 0 < step → a ≤ b → bytes_within step a ≤ bytes_within step b
+within_more step a b pos le =
+    le-div (bytes_within step a) (b + (step - 1)) step pos (omega (arith, div-mul-le_self (a + (step - 1)) step, le))
+
+within_max : (step a b : ℕ) → 0 < step → bytes_within step (max a b) ≡ max (bytes_within step a) (bytes_within step b)
+within_max step a b pos = elim (cases_lt a b) [
+  | inl less ↦
+      let e : max a b ≡ b = omega (arith, less) in
+      rw e (omega (arith, within_more step a b pos (omega (arith, less))))
+  | inr more ↦
+      let e : max a b ≡ a = omega (arith, more) in
+      rw e (omega (arith, within_more step b a pos more))
+]
+
+-- a byte's stay is that of the bytes that it finds and itself
+within_one : (step prev t : ℕ) → 0 < step → bytes_within step (max t prev + step - t) ≡ found step prev t
+within_one step prev t pos =
+    let e : (max t prev + step - t) + (step - 1) ≡ ((prev - t) + (step - 1)) + step = omega arith in
+    rw e (add-div_right ((prev - t) + (step - 1)) pos)
+
+pub most_stays : (step prev : ℕ) (ts : List ℕ) → 0 < step → bytes_within step (longest_stay step prev ts) ≡ most_found step prev ts
+unfolding longest_stay most_found
+most_stays step prev [] pos = div-eq_of_lt (omega (arith, pos))
+most_stays step prev (t ∷ ts) pos =
+    within_max step (max t prev + step - t) (longest_stay step (max t prev + step) ts) pos
+    ∙ omega (arith, within_one step prev t pos, most_stays step (max t prev + step) ts pos)
+
+pub stay_peak : (step longest : ℕ) (ts : List ℕ) → 0 < step → Climbs 0 ts → longest ≡ longest_stay step 0 ts →
+    IsPeak (λ x. held x ts (departures step 0 ts)) (bytes_within step longest)
+stay_peak step longest ts pos climbs is = rw (is, most_stays step 0 ts pos) (peak_law step 0 ts pos climbs)
+
+-- no more bytes are there than have arrived
+pub peak_few : (most : ℕ) (ts ds : List ℕ) → IsPeak (λ x. held x ts ds) most → most ≤ length ts
+peak_few most ts ds peak = omega (arith, peak.reached, held_le peak.moment ts ds)
+
+-- of bytes that have passed an empty buffer
+pub passed_stay : (step : ℕ) (q : Queue) (ts : List ℕ) → q ≡ all_arrived (record { step = step; last = 0; longest = 0 }) ts → q.longest ≡ longest_stay step 0 ts
+unfolding longest_stay
+passed_stay step q ts is =
+    let start : Queue = record { step = step; last = 0; longest = 0 } in
+    let all = passed-longest start ts [] in
+    let none : ts ++ [] ≡ ts = append-nil ts in
+    rw is (omega (arith, rw none at all))
+
+pub length-arrivals : (r : ℕ) (slots : List ℕ) → length (arrivals r slots) ≡ 188 * length slots
+unfolding arrivals
+length-arrivals r [] = refl
+length-arrivals r (s ∷ slots) = length-append (bytes_from r (188 * s) 188) (arrivals r slots) ∙ omega (arith, length-row r (188 * s) 188, length-arrivals r slots)
+
+-- of the packets of a program's tables
+pub tables_peak : (rate : ℕ) (slots : List ℕ) (q p : Queue) (n m : ℕ) → 0 < rate → Climbs 0 slots → q.step ≡ 2 * rate → p.step ≡ 25 * rate →
+    q ≡ all_arrived (record { step = 2 * rate; last = 0; longest = 0 }) (arrivals 2000000 slots) →
+    p ≡ all_arrived (record { step = 25 * rate; last = 0; longest = 0 }) (departures (2 * rate) 0 (arrivals 2000000 slots)) →
+    n ≡ bytes_within q.step q.longest → m ≡ bytes_within p.step p.longest → IsSystemFullness rate slots (record { transport = n; system = m })
+tables_peak rate slots q p n m some climbs step step' passed passed' is is' =
+    let pos : 0 < 2 * rate = omega (arith, some) in
+    let pos' : 0 < 25 * rate = omega (arith, some) in
+    let arrive : Climbs 0 (arrivals 2000000 slots) = arrivals_climb 2000000 slots (omega arith) climbs in
+    let low : 0 ≤ 1 = omega arith in
+    let leave : Climbs 0 (departures (2 * rate) 0 (arrivals 2000000 slots)) = climbs_low 0 1 _ low (departures_climb (2 * rate) 0 (arrivals 2000000 slots) pos) in
+    record {
+      transport = rw (is, step) (stay_peak (2 * rate) q.longest (arrivals 2000000 slots) pos arrive (passed_stay (2 * rate) q (arrivals 2000000 slots) passed));
+      system = rw (is', step') (stay_peak (25 * rate) p.longest (departures (2 * rate) 0 (arrivals 2000000 slots)) pos' leave
+          (passed_stay (25 * rate) p (departures (2 * rate) 0 (arrivals 2000000 slots)) passed'));
+    }
+
+-- so there are no more bytes than came
+pub tables_bytes : (rate : ℕ) (slots : List ℕ) (f : SystemFullness) → IsSystemFullness rate slots f → (f.transport ≤ 188 * length slots) × (f.system ≤ 188 * length slots)
+tables_bytes rate slots f is =
+    let all = length-arrivals 2000000 slots in
+    let first = peak_few f.transport (arrivals 2000000 slots) (departures (2 * rate) 0 (arrivals 2000000 slots)) is.transport in
+    let second = peak_few f.system (departures (2 * rate) 0 (arrivals 2000000 slots)) (departures (25 * rate) 0 (departures (2 * rate) 0 (arrivals 2000000 slots))) is.system in
+    (omega (arith, all, first), omega (arith, all, second, length-departures (2 * rate) 0 (arrivals 2000000 slots)))

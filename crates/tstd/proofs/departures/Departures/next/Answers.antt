@@ -1,0 +1,38 @@
+use Rattle.std.proofs.Common.{◌≡◌, ◌∙◌, ◌*◌, ◌<◌, arith, sym, refl}
+use Rattle.tstd.specs.Walking.{left_ahead, longest_of}
+use Rattle.tstd.proofs.Walks.{walk_ended, walk_longest, walk_given, walk_given_longest}
+use Rattle.tstd.proofs.departures.Departures.next.Goals as goal
+
+pub returns-then-not-go_on-clause-ahead : goal.returns-then-not-go_on-clause-ahead
+returns-then-not-go_on-clause-ahead c =
+    let e = c.if-not-go_on.ensures in
+    let inv = c.loop-self.invariant in
+    sym inv.ahead ∙ sym c.go_on.ensures.ahead ∙ walk_ended c.go_on.new.self e.ended e.none
+
+pub returns-then-not-go_on-clause-ended : goal.returns-then-not-go_on-clause-ended
+returns-then-not-go_on-clause-ended c =
+    let e = c.if-not-go_on.ensures in
+    walk_longest c.go_on.new.self e.ended e.none
+
+pub returns-clause-ahead : goal.returns-clause-ahead
+unfolding left_ahead
+returns-clause-ahead c =
+    let e = c.arrive-time.ensures in
+    let w = c.loop-self.self in
+    let time : c.from.result * c.from-2.result ≡ w.byte * w.rx = rw (c.from.ensures, c.from-2.ensures) refl in
+    let some : 0 < w.left = omega (arith, c.loop-self-test.false) in
+    sym c.loop-self.invariant.ahead ∙ walk_given w c.arrive-time.new.self c.arrive-time.result some (rw time at e.left) (rw time at e.state)
+
+pub returns-clause-longest : goal.returns-clause-longest
+unfolding longest_of
+returns-clause-longest c =
+    let e = c.arrive-time.ensures in
+    let w = c.loop-self.self in
+    let time : c.from.result * c.from-2.result ≡ w.byte * w.rx = rw (c.from.ensures, c.from-2.ensures) refl in
+    let some : 0 < w.left = omega (arith, c.loop-self-test.false) in
+    walk_given_longest w c.arrive-time.new.self some (rw time at e.state) ∙ c.loop-self.invariant.longest
+
+pub returns-then-not-go_on-clause-none : goal.returns-then-not-go_on-clause-none
+returns-then-not-go_on-clause-none c =
+    let e = c.if-not-go_on.ensures in
+    walk_ended c.go_on.new.self e.ended e.none

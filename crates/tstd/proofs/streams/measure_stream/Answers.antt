@@ -1,0 +1,70 @@
+use Rattle.std.proofs.Common.{◌≡◌, ◌∙◌, ◌<◌, None, arith, sym}
+use Rattle.std.proofs.Math.Nat.{le_trans}
+use Rattle.clock27.specs.Arrival.{arrivals}
+use Rattle.clock27.specs.Departure.{departures}
+use Rattle.clock27.specs.Peak.{IsPeak}
+use Rattle.clock27.proofs.Peaking.{arrivals_climb}
+use Rattle.unit_timing.specs.Transport.{slots_of, text_left}
+use Rattle.unit_timing.proofs.Topping.{main_peak_law}
+use Rattle.tstd.specs.Carried.{units_of, timed_texts}
+use Rattle.tstd.specs.Listing.{packets_from}
+use Rattle.tstd.specs.Measured.{transport_held}
+use Rattle.tstd.specs.Queues.{longest_stay}
+use Rattle.tstd.specs.Walking.{left_ahead}
+use Rattle.tstd.proofs.Peaks.{stay_peak, peak_few, length-arrivals}
+use Rattle.tstd.proofs.StreamPackets.{packets_climb, packets_few, payloads_few, none_given, most_found_all}
+use Rattle.tstd.proofs.streams.measure_stream.Goals as goal
+
+pub measure_units-requires-clause-carried : goal.measure_units-requires-clause-carried
+measure_units-requires-clause-carried g c =
+    let packets = packets_from c.args.stream.now.pid 0 c.args.packets.now in
+    let few = payloads_few packets (departures c.args.rate 0 (arrivals c.from.result (slots_of packets))) in
+    (c.args.stream.now.stream_id, rw c.new-walk.ensures.ahead (le_trans few c.requires.carried))
+
+pub returns-clause-fullness : goal.returns-clause-fullness
+returns-clause-fullness g c =
+    let walk = c.new-walk.ensures in
+    let all = c.in_ok-late.ensures in
+    let end = c.next-end.ensures in
+    let s = c.args.stream.now in
+    let packets = packets_from s.pid 0 c.args.packets.now in
+    let times = arrivals s.rx (slots_of packets) in
+    let texts = timed_texts s.stream_id c.args.base0 (units_of c.args.number c.args.units.now) in
+    let left = text_left c.args.rate s.rx 0 packets in
+    let none : c.next-end.result ≡ None = none_given c.next-end.result (left_ahead c.next-end.new.self) (left_ahead c.measure_units.new.walk) all.left end.ahead in
+    let step : c.next-end.new.self.queue.step ≡ c.args.rate = end.step ∙ all.step ∙ walk.step in
+    let longest : c.next-end.new.self.queue.longest ≡ longest_stay c.args.rate 0 times =
+    sym (rw none at end.ended) ∙ end.longest ∙ all.longest ∙ rw c.from.ensures at walk.longest in
+    let some : 0 < c.args.rate = omega (arith, c.requires.least) in
+    let drain : 0 < s.rx = omega (arith, c.requires.stream.least_rx) in
+    let main = most_found_all c.new-walk.result c.measure_units.new.walk c.new-buffer.result c.measure_units.new.buffer c.args.rate s.rx texts left
+    c.new-buffer.ensures.empty c.new-buffer.ensures.most walk.step (walk.rx ∙ c.from.ensures) (rw c.from.ensures at walk.ahead) all.left (all.most s.stream_id) in
+    record {
+      transport = rw (c.most.ensures, step)
+          (stay_peak c.args.rate c.next-end.new.self.queue.longest times some (arrivals_climb s.rx (slots_of packets) drain (packets_climb s.pid 0 c.args.packets.now)) longest);
+      main = rw main (main_peak_law c.args.rate s.rx texts left);
+    }
+
+pub overflow_cast-fullness : goal.overflow_cast-fullness
+overflow_cast-fullness g c =
+    let walk = c.new-walk.ensures in
+    let all = c.in_ok-late.ensures in
+    let end = c.next-end.ensures in
+    let s = c.args.stream.now in
+    let packets = packets_from s.pid 0 c.args.packets.now in
+    let times = arrivals s.rx (slots_of packets) in
+    let none : c.next-end.result ≡ None = none_given c.next-end.result (left_ahead c.next-end.new.self) (left_ahead c.measure_units.new.walk) all.left end.ahead in
+    let step : c.next-end.new.self.queue.step ≡ c.args.rate = end.step ∙ all.step ∙ walk.step in
+    let longest : c.next-end.new.self.queue.longest ≡ longest_stay c.args.rate 0 times =
+    sym (rw none at end.ended) ∙ end.longest ∙ all.longest ∙ rw c.from.ensures at walk.longest in
+    let some : 0 < c.args.rate = omega (arith, c.requires.least) in
+    let drain : 0 < s.rx = omega (arith, c.requires.stream.least_rx) in
+    let peak : IsPeak (transport_held c.args.rate s.rx packets) c.most.result = rw (c.most.ensures, step)
+    (stay_peak c.args.rate c.next-end.new.self.queue.longest times some (arrivals_climb s.rx (slots_of packets) drain (packets_climb s.pid 0 c.args.packets.now)) longest) in
+    omega (
+      arith,
+      peak_few c.most.result times (departures c.args.rate 0 times) peak,
+      length-arrivals s.rx (slots_of packets),
+      packets_few s.pid 0 c.args.packets.now,
+      c.requires.count,
+    )

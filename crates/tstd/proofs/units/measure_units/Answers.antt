@@ -1,0 +1,74 @@
+use Rattle.std.proofs.Common.{◌≡◌, ◌∙◌, ℕ, ◌+◌, ◌≤◌, ◌==◌, ◌∷◌, true, false, length, drop, arith, ap, sym}
+use Rattle.unit_timing.specs.Arrived.{first_late}
+use Rattle.unit_timing.specs.Text.{Text}
+use Rattle.tstd.specs.Carried.{units_of, timed_texts}
+use Rattle.tstd.specs.Entering.{most_of}
+use Rattle.tstd.specs.Walking.{left_ahead}
+use Rattle.tstd.proofs.UnitLists.{texts_own, texts_other, texts_end, late_more, late_end, size_next, fewer_left}
+use Rattle.tstd.proofs.Walks.{nothing}
+use Rattle.tstd.proofs.units.measure_units.Goals as goal
+
+pub loop-entry-preserved-then-not-is_of : goal.loop-entry-preserved-then-not-is_of
+loop-entry-preserved-then-not-is_of g c =
+    let inv = c.loop-entry.invariant in
+    let u = c.entry-item.result in
+    let i = c.loop-entry.entry-index in
+    let other : (u.0 == c.args.stream) ≡ false = sym c.is_of.ensures ∙ c.if-not-is_of.true in
+    let same = λ (id : ℕ). texts_other id c.args.base0 c.args.stream i c.args.units.now u c.loop-entry-test.true c.entry-item.is other in
+    record {
+      late = λ id. rw (same id) at (inv.late id);
+      most = λ id. rw (same id) at (inv.most id);
+      carried = let id = inv.carried.0 in (id, rw (same id) at inv.carried.1);
+      longest = inv.longest;
+      rx = inv.rx;
+      step = inv.step;
+      sound = inv.sound;
+      held = inv.held;
+      number = omega (arith, inv.number);
+    }
+
+pub loop-entry-preserved : goal.loop-entry-preserved
+loop-entry-preserved g c =
+    let inv = c.loop-entry.invariant in
+    let e = c.in_ok-is_late.ensures in
+    let units = c.args.units.now in
+    let i = c.loop-entry.entry-index in
+    let u = c.entry-item.result in
+    let due = c.due_of.result in
+    let size = c.size_of.result in
+    let text : Text = record { due = due; size = size } in
+    let own : (u.0 == c.args.stream) ≡ true = sym c.is_of.ensures ∙ c.if-not-is_of.false in
+    let same : (id : ℕ) → timed_texts id c.args.base0 (units_of c.args.stream (drop i units)) ≡ text ∷ timed_texts id c.args.base0 (units_of c.args.stream (drop (i + 1) units)) =
+    λ id. texts_own id c.args.base0 c.args.stream i due size units u c.loop-entry-test.true c.entry-item.is own c.due_of.ensures (c.size_of.ensures.size id) in
+    record {
+      late = λ id. rw c.first_of-late.ensures
+          (late_more c.args.walk.now.queue.step c.args.walk.now.rx c.args.slots c.loop-entry.number size due c.loop-entry.late c.in_ok-is_late.is_late
+          (timed_texts id c.args.base0 (units_of c.args.stream (drop (i + 1) units))) (left_ahead c.loop-entry.walk) (left_ahead c.measure_text.new.walk)
+          c.loop-entry.walk.queue.step c.loop-entry.walk.rx inv.step inv.rx e.late e.left ∙ rw (same id) at (inv.late id));
+      most = λ id. e.most (timed_texts id c.args.base0 (units_of c.args.stream (drop (i + 1) units)))
+          ∙ ap (most_of c.loop-entry.walk c.loop-entry.buffer) (sym (same id)) ∙ inv.most id;
+      carried = let id = inv.carried.0 in (
+        id,
+        rw e.left (fewer_left size _ (left_ahead c.loop-entry.walk)
+            (rw (same id, size_next text (timed_texts id c.args.base0 (units_of c.args.stream (drop (i + 1) units)))) at inv.carried.1)),
+      );
+      longest = e.longest ∙ inv.longest;
+      rx = e.rx ∙ inv.rx;
+      step = e.step ∙ inv.step;
+      sound = e.sound;
+      held = e.held;
+      number = omega (arith, inv.number);
+    }
+
+pub returns-clause-late : goal.returns-clause-late
+unfolding first_late
+returns-clause-late g c = λ id.
+    let none = texts_end id c.args.base0 c.args.stream c.loop-entry.entry-index c.args.units.now c.loop-entry-test.false in
+    sym (late_end c.loop-entry.late) ∙ rw none at (c.loop-entry.invariant.late id)
+
+pub returns-clause-left : goal.returns-clause-left
+returns-clause-left g c =
+    let id = c.loop-entry.invariant.carried.0 in
+    let none = texts_end id c.args.base0 c.args.stream c.loop-entry.entry-index c.args.units.now c.loop-entry-test.false in
+    let few : length (left_ahead c.loop-entry.walk) ≤ 0 = rw none at c.loop-entry.invariant.carried.1 in
+    nothing (left_ahead c.loop-entry.walk) (omega (arith, few))

@@ -1,0 +1,51 @@
+//! What is measured.
+
+use std::alloc::{Allocator, Global};
+use std::marker::Model;
+
+/// The greatest numbers of bytes that the buffers of a stream hold, over all moments.
+#[derive(Clone, Copy, Debug, PartialEq, Eq)]
+pub struct StreamFullness {
+    /// In its transport buffer.
+    pub transport: u64,
+    /// In its main buffer.
+    pub main: u64,
+}
+
+/// The greatest numbers of bytes that the buffers of a program's tables hold, over all moments.
+#[derive(Clone, Copy, Debug, PartialEq, Eq)]
+pub struct SystemFullness {
+    /// In their transport buffer.
+    pub transport: u64,
+    /// In the system buffer behind it.
+    pub system: u64,
+}
+
+/// A unit that has not left its transport buffer whole by its decoding time.
+#[derive(Clone, Copy, Debug, PartialEq, Eq)]
+pub struct LateUnit {
+    /// The number of its stream in the description, from 0.
+    pub stream: u8,
+    /// Its number among the stream's units, from 0.
+    pub number: u64,
+}
+
+/// How full each buffer becomes, and the first unit that comes late.
+#[derive(Drop)]
+pub struct Fullness<A: Allocator = Global> {
+    /// Of each stream of the description, in order.
+    pub streams: Vec<StreamFullness, A>,
+    /// Of each program of the description, in order.
+    pub programs: Vec<SystemFullness, A>,
+    /// The first late unit, by stream and then by number, if there is one.
+    pub late: Option<LateUnit>,
+}
+
+// A contract sees the numbers, and not where they are kept.
+impl<A: Allocator> Model for Fullness<A> {
+    ghost use Rattle.tstd.specs.Measured.{Measured};
+
+    ghost Value = { Measured };
+
+    ghost view = { λ f. record { streams = f.streams.items; programs = f.programs.items; late = f.late } };
+}

@@ -1,0 +1,67 @@
+//! The payload bytes of a PID.
+ghost use Rattle.std.specs.Prelude.{◌≡◌, ◌+◌, ◌++◌, ◌&&◌, [], List, ℕ, length, nat_eq, IfNone};
+ghost use Rattle.std.specs.Bool.{OnTrue, OnFalse};
+ghost use Rattle.std.specs.List.{starts_with};
+ghost use Rattle.tstd.specs.Agreeing.{bytes_ahead};
+ghost use Rattle.tstd.specs.Walking.{given};
+
+use crate::packets::payload_on;
+
+/// A walk over the payload bytes of a PID.
+#[derive(Drop)]
+pub struct Payloads<'a> {
+    pub pid: u16,
+    /// What is left of the packet under way, and the packets ahead.
+    pub rest: &'a [u8],
+    pub packets: &'a [[u8; 188]],
+}
+
+impl Payloads<'_> {
+    // Goes into the next packet, if there is one.
+    #[tactic(auto, unfolding(crate::specs::Agreeing::bytes_ahead, crate::specs::Listing::payloads_from))]
+    fn go_on(&mut self) -> bool
+        requires { self.old.rest.now ≡ [] }
+        ensures ahead { bytes_ahead self.new ≡ bytes_ahead self.old }
+        ensures fewer { OnTrue result (length self.new.packets.now + 1 ≡ length self.old.packets.now) }
+        ensures none { OnFalse result (bytes_ahead self.new ≡ []) }
+    {
+        let Some((packet, packets)) = self.packets.split_first() else {
+            return false;
+        };
+        self.packets = packets;
+        self.rest = payload_on(self.pid, packet);
+        true
+    }
+
+    /// The next byte, if there is one.
+    #[tactic(auto, unfolding(crate::specs::Agreeing::bytes_ahead))]
+    pub fn next(&mut self) -> Option<u8>
+        ensures ahead { bytes_ahead self.old ≡ given result (bytes_ahead self.new) }
+        ensures none { IfNone result (bytes_ahead self.new ≡ []) }
+    {
+        'packets: loop {
+            if let Some((first, rest)) = self.rest.split_first() {
+                self.rest = rest;
+                return Some(*first);
+            }
+            if !self.go_on() {
+                return None;
+            }
+        }
+    }
+}
+
+/// Whether the bytes of a walk begin with a text, or end inside it as it does.
+pub fn agrees(payloads: &mut Payloads<'_>, text: &[u8]) -> bool
+    ensures { (more : List ℕ) → starts_with nat_eq (text.now ++ more) (bytes_ahead payloads.old)
+        ≡ (result && starts_with nat_eq more (bytes_ahead payloads.new)) }
+{
+    for byte in text {
+        if let Some(found) = payloads.next() {
+            if found != *byte {
+                return false;
+            }
+        }
+    }
+    true
+}

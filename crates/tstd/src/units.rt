@@ -1,0 +1,103 @@
+//! The units of a stream, one after another.
+ghost use Rattle.std.specs.Prelude.{◌≡◌, ℕ, ◌==◌, ◌+◌, ◌<◌, ◌≤◌, ◌^◌, Some, None, [], List, length, sum_by, IfOk, OnOk, if◌then◌else◌};
+ghost use Rattle.std.specs.Option.{option_or};
+ghost use Rattle.pes_packet.specs.Spelling.{on_wire, unit_text};
+ghost use Rattle.unit_timing.specs.Arrived.{first_late};
+ghost use Rattle.tstd.specs.Carried.{units_of, timed_texts};
+ghost use Rattle.tstd.specs.Entering.{most_of};
+ghost use Rattle.tstd.specs.Keeping.{IsSound};
+ghost use Rattle.tstd.specs.Walking.{left_ahead, longest_of};
+
+use crate::departures::Departures;
+use crate::main_buffer::MainBuffer;
+use crate::texts::measure_text;
+use pes_packet::Unit;
+use std::alloc::{AllocError, Allocator};
+
+/// A stamp on the wire: moved by the clock's first value, in 33 bits.
+pub fn on_wire(base0: u64, stamp: u64) -> u64
+    ensures { result ≡ on_wire (stamp + base0) }
+{
+    ((u128::from(stamp) + u128::from(base0)) % (1 << 33)) as u64
+}
+
+// The size in bytes of the PES packet of a unit, whatever its stream_id.
+#[tactic(auto, unfolding(pes_packet::specs::Spelling::unit_text))]
+fn text_size<B: Allocator>(base0: u64, unit: &Unit<B>) -> u64
+    ensures size { (id : ℕ) → result ≡ length (unit_text id base0 unit.now) }
+    ensures some { 0 < result }
+{
+    pes_packet::header_sizes();
+    let size = unit.bytes.len() as u64;
+    if on_wire(base0, unit.pts) == on_wire(base0, unit.dts) {
+        14 + size
+    } else {
+        19 + size
+    }
+}
+
+/// Whether a unit is one of this stream.
+pub fn is_of<B: Allocator>(entry: &(u8, Unit<B>), stream: u8) -> bool
+    ensures { result ≡ (entry.now.0 == stream) }
+{
+    entry.0 == stream
+}
+
+// When a unit is due.
+fn due_of<B: Allocator>(entry: &(u8, Unit<B>)) -> u64
+    ensures { result ≡ entry.now.1.dts }
+{
+    entry.1.dts
+}
+
+// The size in bytes of its PES packet, whatever the stream_id.
+fn size_of<B: Allocator>(entry: &(u8, Unit<B>), base0: u64) -> u64
+    ensures size { (id : ℕ) → result ≡ length (unit_text id base0 entry.now.1) }
+    ensures some { 0 < result }
+{
+    text_size(base0, &entry.1)
+}
+
+// A late unit, where none was before.
+fn first_of(late: Option<u64>, is_late: bool, number: u64) -> Option<u64>
+    ensures { result ≡ option_or late (if is_late then Some number else None) }
+{
+    match late {
+        Some(first) => Some(first),
+        None => { if is_late { Some(number) } else { None } }
+    }
+}
+
+/// The units of a stream go from one buffer into the other, in a run of so many slots; the number of the first late one.
+pub fn measure_units<A: Allocator, B: Allocator>(
+    walk: &mut Departures<'_>,
+    buffer: &mut MainBuffer<A>,
+    slots: u64,
+    base0: u64,
+    stream: u8,
+    units: &[(u8, Unit<B>)],
+) -> Result<Option<u64>, AllocError>
+    requires sound { IsSound buffer.old }
+    requires held { buffer.old.held ≤ walk.old.byte }
+    requires carried { (id : ℕ) × (length (left_ahead walk.old) ≤ sum_by (λ t. t.size) (timed_texts id base0 (units_of stream units.now))) }
+    ensures late { IfOk result (λ late. (id : ℕ) →
+        late ≡ first_late walk.old.queue.step walk.old.rx slots 0 (timed_texts id base0 (units_of stream units.now)) (left_ahead walk.old)) }
+    ensures most { OnOk result ((id : ℕ) →
+        most_of walk.new buffer.new [] ≡ most_of walk.old buffer.old (timed_texts id base0 (units_of stream units.now))) }
+    ensures left { OnOk result (left_ahead walk.new ≡ []) }
+    ensures longest { OnOk result (longest_of walk.new ≡ longest_of walk.old) }
+    ensures rx { OnOk result (walk.new.rx ≡ walk.old.rx) }
+    ensures step { OnOk result (walk.new.queue.step ≡ walk.old.queue.step) }
+{
+    let mut late = None;
+    let mut number = 0;
+    for entry in units {
+        if !is_of(entry, stream) {
+            continue;
+        }
+        let is_late = measure_text(walk, buffer, slots, due_of(entry), size_of(entry, base0))?;
+        late = first_of(late, is_late, number);
+        number += 1;
+    }
+    Ok(late)
+}
