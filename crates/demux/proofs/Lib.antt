@@ -1,0 +1,13 @@
+pub mod Lists
+pub mod Walking
+pub mod Contents
+pub mod Deciding
+pub mod Opening
+pub mod Running
+pub mod MapSteps
+pub mod Pushing
+pub mod EachPid
+pub mod WholeStream
+pub mod Ending
+pub mod Bounding
+pub mod Giving

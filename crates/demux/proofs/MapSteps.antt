@@ -1,0 +1,60 @@
+-- The states of PIDs as the entries of a map.
+use Rattle.std.proofs.Common.{◌≡◌, ℕ, zero, suc, true≢false, is_some, Bool, true, false, cond, nat_eq, [], ◌∷◌, Option, Some, None, refl, sym, ap, ◌∙◌}
+use Rattle.std.specs.Prelude.{position, slice_get}
+use Rattle.std.specs.Map.{keys_of, lookup, values_of}
+use Rattle.indexmap.specs.IndexMap.{insert_entry, set_value_at}
+use Rattle.indexmap.proofs.MapLemmas.{Found-position, some_index, insert_entry-first}
+use Rattle.demux.specs.Machine.{PidState, fresh}
+use Rattle.demux.specs.Stream.{States, state_of, with_state}
+
+bool_cases : (b : Bool) (P : Bool → Type 0) → P true → P false → P b
+bool_cases true P t f = t
+bool_cases false P t f = f
+
+same_state : (y z : PidState) → ◌≡◌ {A = Option PidState} (Some y) (Some z) → y ≡ z
+same_state y z e = cc
+
+-- a state put into the states is one put into the map
+pub with_is_insert : (pid : ℕ) (state : PidState) (states : States) → with_state pid state states ≡ insert_entry nat_eq states pid state
+with_is_insert pid state [] = refl
+with_is_insert pid state (e ∷ states) =
+    ap (λ (rest : States). cond (nat_eq pid e.0) ((e.0, state) ∷ states) (e ∷ rest)) (with_is_insert pid state states)
+
+-- where the PID has an index, one put in its place
+pub with_is_set : (pid i : ℕ) (state : PidState) (states : States) → position (nat_eq pid) (keys_of states) ≡ Some i → with_state pid state states ≡ set_value_at states i state
+with_is_set pid i state states p = with_is_insert pid state states ∙ insert_entry-first nat_eq pid state states i (Found-position (nat_eq pid) states i p).first
+
+-- the state that stands in the map
+found_by_test : (t : Bool) (x state other : PidState) (rest : Option PidState) → (rest ≡ Some state → other ≡ state) → cond t (Some x) rest ≡ Some state → cond t x other ≡ state
+found_by_test true x state other rest k e = same_state x state e
+found_by_test false x state other rest k e = k e
+
+pub state_found : (pid : ℕ) (states : States) (state : PidState) → lookup (nat_eq pid) states ≡ Some state → state_of pid states ≡ state
+state_found pid [] state e = absurd cc
+state_found pid (x ∷ states) state e =
+    found_by_test (nat_eq pid x.0) x.1 state (state_of pid states) (lookup (nat_eq pid) states) (state_found pid states state) e
+
+-- a new PID
+none_by_test : (t : Bool) (x other : PidState) (rest : Option PidState) → (rest ≡ None → other ≡ fresh) → cond t (Some x) rest ≡ None → cond t x other ≡ fresh
+none_by_test true x other rest k e = absurd cc
+none_by_test false x other rest k e = k e
+
+pub state_new : (pid : ℕ) (states : States) → lookup (nat_eq pid) states ≡ None → state_of pid states ≡ fresh
+state_new pid [] e = refl
+state_new pid (x ∷ states) e =
+    none_by_test (nat_eq pid x.0) x.1 (state_of pid states) (lookup (nat_eq pid) states) (state_new pid states) e
+
+-- the state at the PID's index
+pub state_at : (pid i : ℕ) (states : States) → position (nat_eq pid) (keys_of states) ≡ Some i → slice_get (values_of states) i ≡ lookup (nat_eq pid) states →
+    slice_get (values_of states) i ≡ Some (state_of pid states)
+state_at pid i states p v = v ∙ by (lookup (nat_eq pid) states) refl
+  where
+    by : (o : Option PidState) → lookup (nat_eq pid) states ≡ o → lookup (nat_eq pid) states ≡ Some (state_of pid states)
+    by (Some state) e = e ∙ ap (λ (x : PidState). Some x) (sym (state_found pid states state e))
+    by None e = absurd (true≢false (sym (ap is_some p) ∙ some_index (nat_eq pid) states ∙ ap is_some e))
+
+-- writing the state that is there changes nothing
+pub set_same : (i : ℕ) (states : States) (state : PidState) → slice_get (values_of states) i ≡ Some state → set_value_at states i state ≡ states
+set_same i [] state h = refl
+set_same zero (x ∷ states) state h = ap (λ (s : PidState). (x.0, s) ∷ states) (sym (same_state x.1 state h))
+set_same (suc i) (x ∷ states) state h = ap (λ (rest : States). x ∷ rest) (set_same i states state h)

@@ -1,0 +1,127 @@
+-- What is open behind a packet, from what is open before it.
+use Rattle.std.proofs.Common.{◌≡◌, ℕ, Bool, true, false, List, [], ◌∷◌, ◌++◌, Option, Some, None, refl, sym, ap, ◌∙◌, append_assoc}
+use Rattle.std.specs.Prelude.{option_and_then, option_map, ◌||◌, is_some}
+use Rattle.std.proofs.lemmas.List.{append-nil}
+use Rattle.demux.specs.Views.{WhatView}
+use Rattle.demux.specs.Marks.{Marked}
+use Rattle.demux.specs.Roles.{Role, CarriesNothing, Scrambles, BeginsPes, Points, PointsPast, Continues, role, role_divides}
+use Rattle.demux.specs.Parts.{OfPes, Begun, decided, grown, section, last_in}
+use Rattle.demux.specs.Findings.{begins, continuing, divider, divides, joined, open_part, stretch, undecided, unless_decided}
+use Rattle.demux.specs.Machine.{next_part, unbroken}
+use Rattle.demux.proofs.Deciding.{last_undecided, undecided_before}
+
+some_is_not_none : (w : WhatView) → ◌≡◌ {A = Option WhatView} (Some w) None → ⊥
+some_is_not_none w e = absurd cc
+
+-- what begins with more bytes behind it is the same with these bytes
+begins_more : (packet : ℕ) (r : Role) (a b : List ℕ) → begins packet r (a ++ b) ≡ option_map (λ p. grown p b) (begins packet r a)
+unfolding begins
+begins_more packet CarriesNothing a b = refl
+begins_more packet Scrambles a b = refl
+begins_more packet (BeginsPes payload) a b = ap (λ (x : List ℕ). Some (record { packet = packet; form = OfPes; bytes = x })) (sym (append_assoc payload a b))
+begins_more packet (Points before bytes) a b = by_rest (last_in 0 bytes)
+  where
+    by_rest : (o : Option (List ℕ)) → option_map (λ rest. section packet (rest ++ (a ++ b))) o ≡ option_map (λ p. grown p b) (option_map (λ rest. section packet (rest ++ a)) o)
+    by_rest None = refl
+    by_rest (Some rest) = ap (λ (x : List ℕ). Some (section packet x)) (sym (append_assoc rest a b))
+begins_more packet PointsPast a b = refl
+begins_more packet (Continues payload) a b = refl
+
+-- what begins with nothing behind it, if it is undecided
+begins_new : (packet : ℕ) (r : Role) (held : Option Begun) → role_divides r ≡ true → option_and_then undecided (begins packet r []) ≡ next_part packet r held
+unfolding begins next_part undecided unless_decided
+begins_new packet CarriesNothing held d = absurd cc
+begins_new packet Scrambles held d = refl
+begins_new packet (BeginsPes payload) held d = ap (λ (x : List ℕ). undecided (record { packet = packet; form = OfPes; bytes = x })) (append-nil payload)
+begins_new packet (Points before bytes) held d = by_rest (last_in 0 bytes) refl
+  where
+    by_rest : (o : Option (List ℕ)) → last_in 0 bytes ≡ o → option_and_then undecided (option_map (λ rest. section packet (rest ++ [])) o) ≡ option_map (section packet) o
+    by_rest None e = refl
+    by_rest (Some rest) e = rw (append-nil rest, last_undecided 0 bytes rest e) refl
+begins_new packet PointsPast held d = refl
+begins_new packet (Continues payload) held d = absurd cc
+
+-- behind a break nothing is open but what begins
+begins_broken : (packet : ℕ) (r : Role) → option_and_then undecided (begins packet r []) ≡ next_part packet r None
+unfolding begins next_part
+begins_broken packet CarriesNothing = refl
+begins_broken packet Scrambles = refl
+begins_broken packet (BeginsPes payload) = begins_new packet (BeginsPes payload) None refl
+begins_broken packet (Points before bytes) = begins_new packet (Points before bytes) None refl
+begins_broken packet PointsPast = refl
+begins_broken packet (Continues payload) = refl
+
+-- a part that goes on: decided with its new bytes exactly where it was, or where these decide it
+grows : (packet : ℕ) (c : List ℕ) (p : Begun) → undecided (grown p c) ≡ next_part packet (Continues c) (undecided p)
+unfolding next_part undecided unless_decided
+grows packet c p = by_before (decided p.form p.bytes) refl
+  where
+    by_after : (w : WhatView) → decided p.form p.bytes ≡ Some w → (d : Option WhatView) → decided p.form (p.bytes ++ c) ≡ d → unless_decided (grown p c) d ≡ None
+    by_after w e None f = absurd (some_is_not_none w (sym e ∙ undecided_before p.form p.bytes c f))
+    by_after w e (Some v) f = refl
+
+    by_before : (d : Option WhatView) → decided p.form p.bytes ≡ d → unless_decided (grown p c) (decided p.form (p.bytes ++ c)) ≡ next_part packet (Continues c) (unless_decided p d)
+    by_before None e = refl
+    by_before (Some w) e = by_after w e (decided p.form (p.bytes ++ c)) refl
+
+stays : (packet : ℕ) (r : Role) (p : Begun) → role_divides r ≡ false → undecided (grown p (continuing r)) ≡ next_part packet r (undecided p)
+unfolding next_part
+stays packet CarriesNothing p d = ap (λ (x : List ℕ). undecided (record p { bytes = x })) (append-nil p.bytes)
+stays packet (Continues c) p d = grows packet c p
+stays packet Scrambles p d = absurd cc
+stays packet (BeginsPes payload) p d = absurd cc
+stays packet (Points before bytes) p d = absurd cc
+stays packet PointsPast p d = absurd cc
+
+stays_none : (packet : ℕ) (r : Role) → role_divides r ≡ false → None ≡ next_part packet r None
+unfolding next_part
+stays_none packet CarriesNothing d = refl
+stays_none packet (Continues c) d = refl
+stays_none packet Scrambles d = absurd cc
+stays_none packet (BeginsPes payload) d = absurd cc
+stays_none packet (Points before bytes) d = absurd cc
+stays_none packet PointsPast d = absurd cc
+
+-- behind a packet that divides
+divided : (m : Marked) (before : List Marked) → divides m ≡ true → open_part (m ∷ before) ≡ option_and_then undecided (begins m.entry.index (role m) [])
+unfolding open_part stretch divider joined
+divided m before d = rw d refl
+
+-- behind a packet that does not
+stretch_more : (m : Marked) (before : List Marked) → divides m ≡ false → stretch (m ∷ before) ≡ option_map (λ p. grown p (continuing (role m))) (stretch before)
+unfolding stretch divider joined
+stretch_more m before d = rw d (by_divider (divider before))
+  where
+    by_divider : (o : Option Marked) → option_and_then (λ k. begins k.entry.index (role k) (joined before ++ continuing (role m))) o
+        ≡ option_map (λ p. grown p (continuing (role m))) (option_and_then (λ k. begins k.entry.index (role k) (joined before)) o)
+    by_divider None = refl
+    by_divider (Some k) = begins_more k.entry.index (role k) (joined before) (continuing (role m))
+
+undivided : (m : Marked) (before : List Marked) → divides m ≡ false → role_divides (role m) ≡ false → open_part (m ∷ before) ≡ next_part m.entry.index (role m) (open_part before)
+unfolding open_part
+undivided m before d r = rw (stretch_more m before d) (by_stretch (stretch before))
+  where
+    by_stretch : (o : Option Begun) → option_and_then undecided (option_map (λ p. grown p (continuing (role m))) o) ≡ next_part m.entry.index (role m) (option_and_then undecided o)
+    by_stretch None = stays_none m.entry.index (role m) r
+    by_stretch (Some p) = stays m.entry.index (role m) p r
+
+broken_divides : (m : Marked) (b : ℕ × ℕ) → m.broken ≡ Some b → divides m ≡ true
+unfolding divides
+broken_divides m b e = rw e refl
+
+role_decides : (m : Marked) (t : Bool) → m.broken ≡ None → role_divides (role m) ≡ t → divides m ≡ t
+unfolding divides
+role_decides m t e r = ap (λ (b : Option (ℕ × ℕ)). is_some b || role_divides (role m)) e ∙ r
+
+-- what is open behind a packet
+pub open_more : (m : Marked) (before : List Marked) → open_part (m ∷ before) ≡ next_part m.entry.index (role m) (unbroken m.broken (open_part before))
+unfolding unbroken
+open_more m before = by_break m.broken refl
+  where
+    by_role : m.broken ≡ None → (t : Bool) → role_divides (role m) ≡ t → open_part (m ∷ before) ≡ next_part m.entry.index (role m) (open_part before)
+    by_role e true r = divided m before (role_decides m true e r) ∙ begins_new m.entry.index (role m) (open_part before) r
+    by_role e false r = undivided m before (role_decides m false e r) r
+
+    by_break : (b : Option (ℕ × ℕ)) → m.broken ≡ b → open_part (m ∷ before) ≡ next_part m.entry.index (role m) (unbroken b (open_part before))
+    by_break None e = by_role e (role_divides (role m)) refl
+    by_break (Some b) e = divided m before (broken_divides m b e) ∙ begins_broken m.entry.index (role m)

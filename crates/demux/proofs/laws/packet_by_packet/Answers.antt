@@ -1,0 +1,5 @@
+use Rattle.demux.proofs.Running.{run_finds_all}
+use Rattle.demux.proofs.laws.packet_by_packet.Goals as goal
+
+pub returns : goal.returns
+returns c = run_finds_all

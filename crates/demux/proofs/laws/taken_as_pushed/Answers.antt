@@ -1,0 +1,5 @@
+use Rattle.demux.proofs.Pushing.{taken_as_pushed}
+use Rattle.demux.proofs.laws.taken_as_pushed.Goals as goal
+
+pub returns : goal.returns
+returns c = taken_as_pushed

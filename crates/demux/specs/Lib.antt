@@ -1,0 +1,10 @@
+pub mod Views
+pub mod Marks
+pub mod Roles
+pub mod Parts
+pub mod Findings
+pub mod Shown
+pub mod Machine
+pub mod Codes
+pub mod Stream
+pub mod Laws

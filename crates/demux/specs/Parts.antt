@@ -1,0 +1,114 @@
+-- A section or a PES packet from its first byte on: what its bytes say, once they are enough.
+use Rattle.std.specs.Prelude.{ℕ, zero, suc, ◌+◌, ◌-◌, ◌*◌, ◌%◌, ◌==◌, nat_lt, Bool, true, false, if◌then◌else◌, List, [], ◌∷◌, ◌++◌, length, take, drop, slice_index, Option, Some, None, Result, Ok, Err}
+use Rattle.pes_packet.specs.Reading.{header_at}
+use Rattle.pes_packet.specs.declared.reading.PesHeader.{PesHeader}
+use Rattle.pes_packet.specs.declared.refusal.PesError.{PesError}
+use Rattle.pes_packet.specs.declared.refusal.PesError.TheVariants as pes_errors
+use Rattle.pes_packet.specs.declared.time_stamps.Stamps.{Stamps}
+use Rattle.pes_packet.specs.declared.time_stamps.Stamps.TheVariants.{Absent}
+use Rattle.psi_tables.specs.Reading.{section_at}
+use Rattle.psi_tables.specs.Views.{SectionView}
+use Rattle.psi_tables.specs.declared.error.SectionError.{SectionError}
+use Rattle.psi_tables.specs.declared.error.SectionError.TheVariants as section_errors
+use Rattle.demux.specs.declared.finding.Kind.{Kind}
+use Rattle.demux.specs.declared.finding.Kind.TheVariants.{Table, Pes}
+pub use Rattle.demux.specs.declared.open_part.Form.{Form}
+pub use Rattle.demux.specs.declared.open_part.Form.TheVariants.{OfSection, OfPes}
+use Rattle.demux.specs.Views.{WhatView, IsTruncated, IsSection, IsBadSection, IsPes, IsBadPes, is_whole, Found}
+
+-- from its first byte on, as far as it has come: the packet of that byte, and the bytes
+pub record Begun : Type 0 where
+  pub packet : ℕ
+  pub form : Form
+  pub bytes : List ℕ
+
+-- the most bytes that a PES packet without a length may have
+abbrev pub longest : ℕ
+longest = 8388608
+
+-- a PES packet with its header and the header's size; one without a length ends only where a later one begins, unless it
+-- is too long
+unfoldable pub of_header : List ℕ → PesHeader × ℕ → Option WhatView
+of_header bytes h =
+    if h.0.len == 0 then (if nat_lt longest (length bytes) then Some (IsTruncated bytes) else None)
+    else (if nat_lt (length bytes) (6 + h.0.len) then None else Some (IsPes h.0 false (take (6 + h.0.len - h.1) (drop h.1 bytes))))
+
+unfoldable pub of_pes : List ℕ → Result (PesHeader × ℕ) PesError → Option WhatView
+of_pes bytes (Ok h) = of_header bytes h
+of_pes bytes (Err pes_errors.Short) = None
+of_pes bytes (Err e) = Some (IsBadPes e)
+
+unfoldable pub of_section : List ℕ → Result (SectionView × ℕ) SectionError → Option WhatView
+of_section bytes (Ok s) = Some (IsSection (take s.1 bytes))
+of_section bytes (Err section_errors.Short) = None
+of_section bytes (Err e) = Some (IsBadSection e)
+
+-- what the bytes at hand decide, none while they are too few
+unfoldable pub decided : Form → List ℕ → Option WhatView
+decided OfPes bytes = of_pes bytes (header_at bytes)
+decided OfSection bytes = of_section bytes (section_at bytes)
+
+abbrev pub is_stamped : Stamps → Bool
+is_stamped Absent = false
+is_stamped _ = true
+
+abbrev pub has_pts : Result (PesHeader × ℕ) PesError → Bool
+has_pts (Err e) = false
+has_pts (Ok h) = is_stamped h.0.stamps
+
+-- what begins: a section of a table_id, or a PES packet, whose header has a PTS if it could be read
+unfoldable pub kind_of : Form → List ℕ → Kind
+kind_of OfPes bytes = Pes (has_pts (header_at bytes))
+kind_of OfSection bytes = Table (slice_index bytes 0)
+
+-- what is found of it
+abbrev pub about : Begun → WhatView → Found
+about part what = record { begun = Some (part.packet, kind_of part.form part.bytes); what = what; within = false }
+
+-- what is found of it in the packet where it begins
+abbrev pub about_within : Begun → WhatView → Found
+about_within part what = record { begun = Some (part.packet, kind_of part.form part.bytes); what = what; within = is_whole what }
+
+abbrev pub plain : WhatView → Found
+plain what = record { begun = None; what = what; within = false }
+
+-- with more bytes
+abbrev pub grown : Begun → List ℕ → Begun
+grown part more = record part { bytes = part.bytes ++ more }
+
+-- Sections one behind the other, up to a byte FF in a table_id's place (ISO/IEC 13818-1, 2.4.4).
+
+abbrev pub section : ℕ → List ℕ → Begun
+section packet bytes = record { packet = packet; form = OfSection; bytes = bytes }
+
+-- no section stands at the front
+abbrev pub is_fill : List ℕ → Bool
+is_fill [] = true
+is_fill (table_id ∷ bytes) = table_id == 0xFF
+
+-- the bytes that a section says it has: three, and section_length
+abbrev pub said_size : List ℕ → ℕ
+said_size bytes = 3 + (slice_index bytes 1 % 16 * 256 + slice_index bytes 2)
+
+-- the bytes that a section takes once it is decided; one whose length is refused takes all
+unfoldable pub taken_by : List ℕ → WhatView → ℕ
+taken_by bytes (IsBadSection section_errors.Length) = length bytes
+taken_by bytes what = said_size bytes
+
+-- those that are decided, of the bytes behind the first k
+unfoldable pub sections_in : ℕ → ℕ → List ℕ → List Found
+sections_in packet k [] = []
+sections_in packet (suc k) (b ∷ bytes) = sections_in packet k bytes
+sections_in packet zero (b ∷ bytes) = if b == 0xFF then [] else elim (decided OfSection (b ∷ bytes)) [
+  | None ↦ []
+  | Some what ↦ about_within (section packet (b ∷ bytes)) what ∷ sections_in packet (taken_by (b ∷ bytes) what - 1) bytes
+]
+
+-- the bytes of the one that is not
+unfoldable pub last_in : ℕ → List ℕ → Option (List ℕ)
+last_in k [] = None
+last_in (suc k) (b ∷ bytes) = last_in k bytes
+last_in zero (b ∷ bytes) = if b == 0xFF then None else elim (decided OfSection (b ∷ bytes)) [
+  | None ↦ Some (b ∷ bytes)
+  | Some what ↦ last_in (taken_by (b ∷ bytes) what - 1) bytes
+]

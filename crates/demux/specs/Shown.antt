@@ -1,0 +1,168 @@
+-- What the program's values say, without where their bytes lie in memory.
+use Rattle.std.specs.Prelude.{if◌then◌else◌, ◌&&◌, ◌≡◌, ℕ, ◌-◌, List, ◌∷◌, ◌++◌, [], map, take, drop, false, true, Bool, Option, Some, None}
+use Rattle.std.specs.List.{list_any}
+use Rattle.demux.specs.declared.finding.Part.{Part}
+use Rattle.demux.specs.declared.finding.Part.TheVariants.{Span, Joined}
+use Rattle.demux.specs.declared.finding.What.{What}
+use Rattle.demux.specs.declared.finding.What.TheVariants.{Duplicate, CounterBreak, Scrambled, Truncated, Section, BadSection, Pes, BadPes, BadPacket, Errored}
+use Rattle.demux.specs.declared.finding.Finding.{Finding}
+use Rattle.demux.specs.declared.payload_bytes.PayloadBytes.{PayloadBytes}
+use Rattle.demux.specs.declared.payload_bytes.PayloadBytes.TheVariants.{Lent, Passing}
+use Rattle.demux.specs.declared.verdicts.Verdict.{Verdict}
+use Rattle.demux.specs.declared.verdicts.Verdict.TheVariants as verdicts
+use Rattle.demux.specs.declared.place.Place.{Place}
+use Rattle.ts_packet.specs.declared.packet.Packet.{Packet}
+use Rattle.ts_packet.specs.Views.{packet_view}
+use Rattle.ts_packet.specs.PidList.{Entry}
+use Rattle.demux.specs.declared.marks.Mark.{Mark}
+use Rattle.demux.specs.declared.marks.Mark.TheVariants as marked_as
+use Rattle.demux.specs.declared.roles.Carried.{Carried}
+use Rattle.demux.specs.declared.roles.Carried.TheVariants as carried
+use Rattle.demux.specs.Roles.{Role, CarriesNothing, Scrambles, BeginsPes, Points, PointsPast, Continues}
+use Rattle.demux.specs.Parts.{Begun, plain}
+use Rattle.demux.specs.Findings.{by_break}
+use Rattle.demux.specs.Roles.{role_divides}
+use Rattle.demux.specs.Views.{WhatView, IsDuplicate, BreaksCounter, IsScrambled, IsTruncated, IsSection, IsBadSection, IsPes, IsBadPes, IsBadPacket, IsErrored, Found, FindingView}
+
+-- the bytes of a finding
+abbrev pub part_bytes : {A : Type 0} → Part A → List ℕ
+part_bytes (Span bytes) = bytes.now
+part_bytes (Joined bytes) = bytes.items
+
+-- what a finding says is there
+abbrev pub what_view : {A : Type 0} → What A → WhatView
+what_view Duplicate = IsDuplicate
+what_view (CounterBreak expected found) = BreaksCounter expected found
+what_view Scrambled = IsScrambled
+what_view (Truncated part) = IsTruncated (part_bytes part)
+what_view (Section part) = IsSection (part_bytes part)
+what_view (BadSection error) = IsBadSection error
+what_view (Pes header unended body) = IsPes header unended (part_bytes body)
+what_view (BadPes error) = IsBadPes error
+what_view (BadPacket error) = IsBadPacket error
+what_view Errored = IsErrored
+
+-- the bytes are a slice of the packet
+abbrev pub part_is_span : {A : Type 0} → Part A → Bool
+part_is_span (Span bytes) = true
+part_is_span (Joined bytes) = false
+
+abbrev pub has_span : {A : Type 0} → What A → Bool
+has_span Duplicate = false
+has_span (CounterBreak expected found) = false
+has_span Scrambled = false
+has_span (Truncated part) = part_is_span part
+has_span (Section part) = part_is_span part
+has_span (BadSection error) = false
+has_span (Pes header unended body) = part_is_span body
+has_span (BadPes error) = false
+has_span (BadPacket error) = false
+has_span Errored = false
+
+abbrev pub is_span : {A : Type 0} → Finding A → Bool
+is_span finding = has_span finding.what
+
+abbrev pub finding_view : {A : Type 0} → Finding A → FindingView
+finding_view finding = record { packet = finding.packet; pid = finding.pid; begun = finding.begun; what = what_view finding.what }
+
+-- a finding of a PID at a packet
+abbrev pub told : ℕ → ℕ → Found → FindingView
+told pid packet found = record { packet = packet; pid = Some pid; begun = found.begun; what = found.what }
+
+-- a finding as it is given: what it says, and whether its bytes are a slice of the packet
+pub record GivenView : Type 0 where
+  pub finding : FindingView
+  pub span : Bool
+
+abbrev pub given_view : {A : Type 0} → Finding A → GivenView
+given_view finding = record { finding = finding_view finding; span = is_span finding }
+
+-- a finding at a place: where the packet is lent, what lies in it whole is a slice of it
+abbrev pub given : Place → Found → GivenView
+given place found = record { finding = told place.pid place.packet found; span = found.within && place.lent }
+
+-- what was found is followed by these findings at a place
+abbrev pub Finds : {A : Type 0} → Place → List (Finding A) → List (Finding A) → List Found → Type 0
+Finds place old new found = map given_view new ≡ map given_view old ++ map (given place) found
+
+-- what these say
+abbrev pub Says : {A : Type 0} → Place → List (Finding A) → List (Finding A) → List Found → Type 0
+Says place old new found = map finding_view new ≡ map finding_view old ++ map (told place.pid place.packet) found
+
+-- whose bytes are slices of the packet
+abbrev pub Spans : {A : Type 0} → Place → List (Finding A) → List (Finding A) → List Found → Type 0
+Spans place old new found = map is_span new ≡ map is_span old ++ map (λ b. b && place.lent) (map (λ f. f.within) found)
+
+-- the findings say what they said
+abbrev pub SaysTheSame : {A : Type 0} → List (Finding A) → List (Finding A) → Type 0
+SaysTheSame old new = map given_view new ≡ map given_view old
+
+-- if no finding's bytes were a slice of a packet, none are
+abbrev pub KeepsJoined : {A : Type 0} → List (Finding A) → List (Finding A) → Type 0
+KeepsJoined old new = list_any is_span old ≡ false → list_any is_span new ≡ false
+
+-- the bytes are lent
+abbrev pub is_lent : PayloadBytes → Bool
+is_lent (Lent bytes) = true
+is_lent (Passing bytes) = false
+
+-- whether a payload is lent, if there is one
+abbrev pub payload_lent : Bool → Option PayloadBytes → Bool
+payload_lent otherwise None = otherwise
+payload_lent otherwise (Some payload) = is_lent payload
+
+-- bytes of a payload
+abbrev pub payload_list : PayloadBytes → List ℕ
+payload_list (Lent bytes) = bytes.now
+payload_list (Passing bytes) = bytes.now
+
+-- what is decided of bytes
+abbrev pub what_of : List ℕ → Verdict → WhatView
+what_of bytes verdicts.TooLong = IsTruncated bytes
+what_of bytes (verdicts.Pes header start end) = IsPes header false (take (end - start) (drop start bytes))
+what_of bytes (verdicts.BadPes error) = IsBadPes error
+what_of bytes (verdicts.Section size) = IsSection (take size bytes)
+what_of bytes (verdicts.BadSection error) = IsBadSection error
+
+-- what a packet does with its payload
+abbrev pub carried_role : Carried → Role
+carried_role carried.Nothing = CarriesNothing
+carried_role carried.Scrambled = Scrambles
+carried_role (carried.PesStart payload) = BeginsPes (payload_list payload)
+carried_role (carried.Pointed before payload) = Points before.now (payload_list payload)
+carried_role carried.PointedPast = PointsPast
+carried_role (carried.More payload) = Continues payload.now
+
+-- whether the bytes that begin something are lent, if there are any
+abbrev pub carried_lent : Bool → Carried → Bool
+carried_lent otherwise (carried.PesStart payload) = is_lent payload
+carried_lent otherwise (carried.Pointed before payload) = is_lent payload
+carried_lent otherwise carried.Nothing = otherwise
+carried_lent otherwise carried.Scrambled = otherwise
+carried_lent otherwise carried.PointedPast = otherwise
+carried_lent otherwise (carried.More payload) = otherwise
+
+-- a packet that was read, with its index and its bytes
+abbrev pub entry_with : ℕ → List ℕ → Packet → Entry
+entry_with index bytes packet = record { index = index; bytes = bytes; packet = packet_view packet }
+
+abbrev pub mark_duplicate : Mark → Bool
+mark_duplicate marked_as.Duplicate = true
+mark_duplicate marked_as.Follows = false
+mark_duplicate (marked_as.Breaks expected found) = false
+
+abbrev pub mark_broken : Mark → Option (ℕ × ℕ)
+mark_broken marked_as.Duplicate = None
+mark_broken marked_as.Follows = None
+mark_broken (marked_as.Breaks expected found) = Some (expected, found)
+
+-- what is open where a packet divides; nothing where a break comes before
+abbrev pub kept_by : Role → Option Begun → Option Begun
+kept_by role held = if role_divides role then held else None
+
+-- a duplicate is read no further
+abbrev pub marked_role : Mark → Role → Role
+marked_role mark role = if mark_duplicate mark then CarriesNothing else role
+
+abbrev pub marked_findings : ℕ → Mark → Role → Option Begun → List Found
+marked_findings packet mark role held = if mark_duplicate mark then plain IsDuplicate ∷ [] else by_break packet (mark_broken mark) role held

@@ -1,0 +1,263 @@
+//! The demultiplexer: a stream in pieces, or packet by packet.
+ghost use Rattle.std.specs.Prelude.{◌≡◌, ◌<◌, ◌≤◌, ◌+◌, ◌++◌, [], ◌∷◌, min, false, true, IfOk, IfErr, OnOk, OnErr, map, take, length, if◌then◌else◌};
+ghost use Rattle.demux.specs.Stream as stream;
+ghost use Rattle.std.specs.List.{list_any};
+ghost use Rattle.demux.specs.Shown.{SaysTheSame, finding_view, is_span};
+
+use crate::error::DemuxError;
+use crate::finding::Finding;
+use crate::packets::{note_held, take_lent, take_passing};
+use crate::states::{States, end_all};
+use arrayvec::ArrayVec;
+use indexmap::IndexMap;
+use std::alloc::{AllocError, Allocator, Global};
+use std::marker::Model;
+
+/// What is kept of a transport stream: a state for each PID, and the at most 187 bytes of a packet that is not whole yet.
+///
+/// The state of a PID has its last packet and what is open: at most 8,388,608 bytes of a section or a PES packet. Packets
+/// are numbered from 0; the number stops at 2^64 - 1.
+#[derive(Drop)]
+pub struct Demux<A: Allocator = Global> {
+    states: States<A>,
+    packets: u64,
+    held: ArrayVec<u8, 187>,
+    found: Vec<Finding<'static, A>, A>,
+    ended: bool,
+}
+
+impl<A: Allocator> Model for Demux<A> {
+    ghost use Rattle.std.specs.Prelude.{◌≡◌, false, map};
+    ghost use Rattle.std.specs.List.{list_any};
+    ghost use Rattle.demux.specs.Stream.{StreamState};
+    ghost use Rattle.demux.specs.Shown.{finding_view, is_span};
+
+    ghost Value = { StreamState };
+
+    ghost view = { λ d. record { packets = d.packets; states = d.states.entries; held = d.held.items; found = map finding_view d.found.items; ended = d.ended } };
+
+    ghost invariant = { λ d. list_any is_span d.found.items ≡ false };
+}
+
+// Two parts of a packet, joined.
+fn join(held: &[u8], front: &[u8]) -> [u8; 188]
+    requires { length held.now + length front.now ≡ 188 }
+    ensures { result ≡ held.now ++ front.now }
+{
+    let mut whole = ArrayVec::<u8, 188>::new();
+    let (Ok(()), Ok(())) = (
+        whole.try_extend_from_slice(held),
+        whole.try_extend_from_slice(front),
+    ) else {
+        unreachable!()
+    };
+    match whole.into_inner() {
+        Ok(bytes) => bytes,
+        Err(_) => unreachable!(),
+    }
+}
+
+impl<A: Allocator + Copy> Demux<A> {
+    /// Before the first byte.
+    pub fn new(alloc: A) -> Demux<A>
+        ensures { result ≡ stream.start }
+    {
+        Demux {
+            states: IndexMap::new(alloc),
+            packets: 0,
+            held: ArrayVec::new(),
+            found: Vec::new(alloc),
+            ended: false,
+        }
+    }
+
+    /// Whether no part of a packet is held.
+    pub fn aligned(&self) -> bool
+        ensures { result ≡ stream.is_aligned self.now }
+    {
+        self.held.is_empty()
+    }
+
+    /// What was found by `push` and `finish` and not forgotten since.
+    pub fn findings(&self) -> &[Finding<'static, A>]
+        ensures found { map finding_view result.now ≡ self.now.found }
+        ensures joined { list_any is_span result.now ≡ false }
+    {
+        self.found.as_slice()
+    }
+
+    /// Forgets these findings. Nothing else changes.
+    pub fn forget_findings(&mut self)
+        ensures { self.new ≡ record self.old { found = [] } }
+    {
+        self.found.clear();
+    }
+
+    // Takes a packet whose bytes are not kept; none are held behind it.
+    #[tactic(auto, unfolding(crate::specs::Stream::taken, crate::specs::Stream::found_in))]
+    fn pass(&mut self, bytes: &[u8; 188]) -> Result<(), AllocError>
+        ensures ok { OnOk result (self.new ≡ stream.passed self.old bytes.now) }
+        ensures err { OnErr result (self.new ≡ self.old) }
+    {
+        take_passing(&mut self.states, self.packets, bytes, &mut self.found)?;
+        self.packets = self.packets.saturating_add(1);
+        self.held.clear();
+        Ok(())
+    }
+
+    // Holds bytes up to the end of a packet, and takes the packet that they make whole.
+    fn hold(&mut self, piece: &[u8]) -> Result<usize, AllocError>
+        requires { 0 < length piece.now }
+        ensures some { IfOk result (λ n. 0 < n) }
+        ensures within { IfOk result (λ n. n ≤ length piece.now) }
+        ensures whole { IfOk result (λ n. n < length piece.now → length self.new.held ≡ 0) }
+        ensures pushed { IfOk result (λ n. self.new ≡ stream.pushed self.old (take n piece.now)) }
+        ensures err { OnErr result (self.new ≡ self.old) }
+    {
+        let missing = 188 - self.held.len();
+        if piece.len() < missing {
+            let Ok(()) = self.held.try_extend_from_slice(piece) else {
+                unreachable!()
+            };
+            return Ok(piece.len());
+        }
+        let (front, _) = piece.split_at(missing);
+        let bytes = join(&self.held, front);
+        self.pass(&bytes)?;
+        Ok(missing)
+    }
+
+    // Takes bytes up to the end of a packet at most.
+    fn advance(&mut self, piece: &[u8]) -> Result<usize, AllocError>
+        requires { 0 < length piece.now }
+        ensures some { IfOk result (λ n. 0 < n) }
+        ensures within { IfOk result (λ n. n ≤ length piece.now) }
+        ensures whole { IfOk result (λ n. n < length piece.now → length self.new.held ≡ 0) }
+        ensures pushed { IfOk result (λ n. self.new ≡ stream.pushed self.old (take n piece.now)) }
+        ensures err { OnErr result (self.new ≡ self.old) }
+    {
+        if !self.held.is_empty() {
+            return self.hold(piece);
+        }
+        match piece.first_chunk::<188>() {
+            None => self.hold(piece),
+            Some(bytes) => {
+                self.pass(bytes)?;
+                Ok(188)
+            }
+        }
+    }
+
+    /// Takes a piece of the stream, of any size. What is found is put to the findings.
+    ///
+    /// Where there is no memory, the bytes before the first packet that wanted some are taken, and the rest may be given
+    /// again.
+    pub fn push(&mut self, piece: &[u8]) -> Result<(), DemuxError>
+        ensures ok { OnOk result (self.new ≡ stream.pushed self.old piece.now) }
+        ensures open { OnOk result (self.old.ended ≡ false) }
+        ensures refused { IfErr result (λ error. stream.PushRefused self.old self.new piece.now error) }
+    {
+        if self.ended {
+            return Err(DemuxError::Ended);
+        }
+        let mut taken = 0;
+        while taken < piece.len() {
+            let (_, rest) = piece.split_at(taken);
+            match self.advance(rest) {
+                Ok(n) => taken += n,
+                Err(_) => return Err(DemuxError::Memory { taken }),
+            }
+        }
+        Ok(())
+    }
+
+    /// Takes a packet, where no part of one is held. What is found goes to `found`, and points into the packet where it lies
+    /// in it whole.
+    #[tactic(auto, unfolding(crate::specs::Stream::taken, crate::specs::Stream::found_in, crate::specs::Stream::within_in))]
+    pub fn take<'a>(
+        &mut self,
+        bytes: &'a [u8; 188],
+        found: &mut Vec<Finding<'a, A>, A>,
+    ) -> Result<(), DemuxError>
+        requires { stream.is_aligned self.old ≡ true }
+        ensures ok { OnOk result (self.new ≡ stream.taken self.old bytes.now) }
+        ensures found { OnOk result (map finding_view found.new.items ≡ map finding_view found.old.items ++ stream.found_in self.old bytes.now) }
+        ensures spans { OnOk result (map is_span found.new.items ≡ map is_span found.old.items ++ stream.within_in self.old bytes.now) }
+        ensures open { OnOk result (self.old.ended ≡ false) }
+        ensures aligned { stream.is_aligned self.new ≡ true }
+        ensures refused { IfErr result (λ error. stream.TakeRefused self.old self.new error) }
+        ensures none { OnErr result (SaysTheSame found.old.items found.new.items) }
+    {
+        if self.ended {
+            return Err(DemuxError::Ended);
+        }
+        match take_lent(&mut self.states, self.packets, bytes, found) {
+            Ok(()) => {
+                self.packets = self.packets.saturating_add(1);
+                Ok(())
+            }
+            Err(_) => Err(DemuxError::Memory { taken: 0 }),
+        }
+    }
+
+    // What the end of the stream decides.
+    #[tactic(auto, unfolding(crate::specs::Stream::held_found))]
+    fn ends(&self) -> Result<Vec<Finding<'static, A>, A>, AllocError>
+        ensures found { IfOk result (λ found. map finding_view found.items ≡ stream.held_found self.now.packets self.now.held ++ stream.ended_found self.now.packets self.now.states) }
+        ensures joined { IfOk result (λ found. list_any is_span found.items ≡ false) }
+    {
+        let alloc = *self.states.allocator();
+        let mut found = Vec::new(alloc);
+        note_held(&alloc, self.packets, &self.held, &mut found)?;
+        end_all(&self.states, self.packets, &mut found)?;
+        Ok(found)
+    }
+
+    /// The stream ends: what it decides is put to the findings. A second end adds nothing.
+    pub fn finish(&mut self) -> Result<(), DemuxError>
+        ensures ok { OnOk result (self.new ≡ stream.finished self.old) }
+        ensures again { self.old.ended ≡ true → result ≡ Ok tt }
+        ensures memory { IfErr result (λ error. error ≡ DemuxError.Memory 0) }
+        ensures err { OnErr result (self.new ≡ self.old) }
+    {
+        if self.ended {
+            return Ok(());
+        }
+        let Ok(mut found) = self.ends() else {
+            return Err(DemuxError::Memory { taken: 0 });
+        };
+        if self.found.append(&mut found).is_err() {
+            return Err(DemuxError::Memory { taken: 0 });
+        }
+        self.held.clear();
+        self.ended = true;
+        Ok(())
+    }
+
+    /// The findings.
+    fn into_findings(self) -> Vec<Finding<'static, A>, A>
+        ensures found { map finding_view result.items ≡ self.found }
+        ensures joined { list_any is_span result.items ≡ false }
+    {
+        self.found
+    }
+}
+
+/// What is found in a whole stream, with its end. Every part of a finding is joined.
+pub fn whole<A: Allocator + Copy>(
+    alloc: A,
+    bytes: &[u8],
+) -> Result<Vec<Finding<'static, A>, A>, DemuxError>
+    ensures ok { IfOk result (λ found. map finding_view found.items ≡ (stream.finished (stream.pushed stream.start bytes.now)).found) }
+    ensures joined { IfOk result (λ found. list_any is_span found.items ≡ false) }
+    ensures err { IfErr result (λ error. error ≡ DemuxError.Memory 0) }
+{
+    let mut demux = Demux::new(alloc);
+    let Ok(()) = demux.push(bytes) else {
+        return Err(DemuxError::Memory { taken: 0 });
+    };
+    let Ok(()) = demux.finish() else {
+        return Err(DemuxError::Memory { taken: 0 });
+    };
+    Ok(demux.into_findings())
+}

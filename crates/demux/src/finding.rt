@@ -1,0 +1,66 @@
+//! Findings.
+use pes_packet::{PesError, PesHeader};
+use psi_tables::SectionError;
+use std::alloc::{Allocator, Global};
+use ts_packet::PacketError;
+
+/// What begins at the first byte of a section or a PES packet.
+#[derive(Clone, Copy, Debug, PartialEq, Eq)]
+pub enum Kind {
+    /// a section, of this table_id
+    Table(u8),
+    /// a PES packet; whether a header that was read has a PTS
+    Pes(bool),
+}
+
+/// The bytes of a finding: a slice of the packet that was given where they lie in it whole, else joined.
+#[derive(Drop)]
+pub enum Part<'a, A: Allocator = Global> {
+    Span(&'a [u8]),
+    Joined(Vec<u8, A>),
+}
+
+/// What is found.
+#[derive(Drop)]
+pub enum What<'a, A: Allocator = Global> {
+    /// the packet before once more
+    Duplicate,
+    /// a continuity_counter that does not follow the one before
+    CounterBreak {
+        expected: u8,
+        found: u8,
+    },
+    /// a packet whose payload is scrambled, and not read
+    Scrambled,
+    /// a section or a PES packet that was cut short: its bytes
+    Truncated(Part<'a, A>),
+    /// a whole section: its bytes
+    Section(Part<'a, A>),
+    /// bytes where a section should stand: `Length` or `CheckWord`, or `Body` for a pointer_field that points past the end
+    /// of its packet
+    BadSection(SectionError),
+    /// a PES packet: its header, whether the stream ended before its end was known, and the bytes behind the header
+    Pes {
+        header: PesHeader,
+        unended: bool,
+        body: Part<'a, A>,
+    },
+    /// a PES packet whose header is refused
+    BadPes(PesError),
+    /// 188 bytes that are no packet
+    BadPacket(PacketError),
+    /// a packet with transport_error_indicator
+    Errored,
+}
+
+/// A finding, at the packet by which it is decided.
+#[derive(Drop)]
+pub struct Finding<'a, A: Allocator = Global> {
+    /// the packet's index in the stream; the number of whole packets for what the end of the stream decides
+    pub packet: u64,
+    /// the PID, none for what is no packet of a PID
+    pub pid: Option<u16>,
+    /// of a section or a PES packet: the packet of its first byte, and what begins there
+    pub begun: Option<(u64, Kind)>,
+    pub what: What<'a, A>,
+}

@@ -1,0 +1,32 @@
+//! Laws of the definitions. Each function does nothing: its contract is the law.
+
+ghost use Rattle.demux.specs.Laws.{EachPidAlone, PacketsDecide, PiecesJoin, TakenAsPushed};
+ghost use Rattle.demux.specs.Machine.{RunFindsAll};
+
+/// Packet by packet, with a state that keeps the last packet and what is open, the findings are those that the packets of
+/// the PID have as a whole, with the end of the stream and without it.
+pub fn packet_by_packet()
+    ensures { RunFindsAll }
+{}
+
+/// However the bytes of a stream are cut into pieces, they are taken as one piece.
+pub fn pieces_join()
+    ensures { PiecesJoin }
+{}
+
+/// Where no part of a packet is held, a packet that is taken leaves and finds what its 188 bytes would if they were pushed.
+pub fn taken_as_pushed()
+    ensures { TakenAsPushed }
+{}
+
+/// In a stream of fewer than 2^64 - 1 packets the findings of a PID but that of null packets are those of its packets
+/// alone, with the end of the stream and without it.
+pub fn each_pid_alone()
+    ensures { EachPidAlone }
+{}
+
+/// Streams that agree on a PID's packets and their places agree on its findings; with the end of the stream, if they also
+/// agree on the number of packets.
+pub fn packets_decide()
+    ensures { PacketsDecide }
+{}

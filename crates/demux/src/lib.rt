@@ -1,0 +1,36 @@
+//! What is found in a transport stream: PES packets, sections, and what is wrong with the packets that carry them.
+//!
+//! The findings of a PID are a function of that PID's packets alone (`specs/Findings`). `Demux` takes a stream in pieces of
+//! any size or packet by packet and keeps a state a PID, which finds the same (`packet_by_packet`, `each_pid_alone`).
+#![tactic(auto)]
+
+mod beginnings;
+mod demultiplexer;
+mod endings;
+mod error;
+mod finding;
+#[cfg(test)]
+mod hostile;
+mod last;
+mod laws;
+mod marks;
+mod open_part;
+mod packets;
+mod payload_bytes;
+mod pid_state;
+mod place;
+#[cfg(test)]
+mod reference;
+#[cfg(test)]
+mod reference_marks;
+mod roles;
+mod sections;
+mod states;
+#[cfg(test)]
+mod tests;
+mod verdicts;
+
+pub use demultiplexer::{Demux, whole};
+pub use error::DemuxError;
+pub use finding::{Finding, Kind, Part, What};
+pub use laws::{each_pid_alone, packet_by_packet, packets_decide, pieces_join, taken_as_pushed};

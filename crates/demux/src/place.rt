@@ -1,0 +1,86 @@
+//! Findings noted one by one.
+ghost use Rattle.std.specs.Prelude.{◌≡◌, ◌&&◌, false, [], ◌∷◌, IfOk, OnOk, OnErr};
+ghost use Rattle.demux.specs.Shown.{Finds, SaysTheSame, has_span, is_lent, payload_list, what_of, what_view};
+ghost use Rattle.demux.specs.Views.{is_whole};
+
+use crate::finding::{Finding, Kind, What};
+use crate::payload_bytes::{PayloadBytes, bytes_of, part_of};
+use crate::verdicts::Verdict;
+use std::alloc::{AllocError, Allocator};
+
+/// A packet of a PID: its index in the stream, the PID, and whether the packet is lent for as long as findings live.
+#[derive(Clone, Copy)]
+pub struct Place {
+    pub packet: u64,
+    pub pid: u16,
+    pub lent: bool,
+}
+
+/// Notes what is found at a place, but for what lies in its packet whole.
+pub(crate) fn note<'a, A: Allocator>(
+    place: Place,
+    begun: Option<(u64, Kind)>,
+    what: What<'a, A>,
+    found: &mut Vec<Finding<'a, A>, A>,
+) -> Result<(), AllocError>
+    requires { has_span what ≡ false }
+    ensures ok { OnOk result (Finds place found.old.items found.new.items (record { begun = begun; what = what_view what.entry; within = false } ∷ [])) }
+    ensures err { OnErr result (SaysTheSame found.old.items found.new.items) }
+{
+    found.push(Finding {
+        packet: place.packet,
+        pid: Some(place.pid),
+        begun,
+        what,
+    })?;
+    Ok(())
+}
+
+/// Notes what is found of a section or a PES packet in the packet where it begins.
+pub(crate) fn note_whole<'a, A: Allocator>(
+    place: Place,
+    kind: Kind,
+    what: What<'a, A>,
+    found: &mut Vec<Finding<'a, A>, A>,
+) -> Result<(), AllocError>
+    requires { has_span what ≡ (is_whole (what_view what) && place.lent) }
+    ensures ok { OnOk result (Finds place found.old.items found.new.items
+        (record { begun = Some (place.packet, kind); what = what_view what.entry; within = is_whole (what_view what.entry) } ∷ [])) }
+    ensures err { OnErr result (SaysTheSame found.old.items found.new.items) }
+{
+    found.push(Finding {
+        packet: place.packet,
+        pid: Some(place.pid),
+        begun: Some((place.packet, kind)),
+        what,
+    })?;
+    Ok(())
+}
+
+/// What is found of a section or a PES packet with these bytes.
+pub(crate) fn what_by<'p, 'a: 'p, A: Allocator + Clone>(
+    alloc: &A,
+    verdict: Verdict,
+    payload: PayloadBytes<'p, 'a>,
+) -> Result<What<'a, A>, AllocError>
+    ensures says { IfOk result (λ what. what_view what ≡ what_of (payload_list payload.entry) verdict) }
+    ensures span { IfOk result (λ what. has_span what ≡ (is_whole (what_of (payload_list payload.entry) verdict) && is_lent payload.entry)) }
+{
+    match verdict {
+        Verdict::TooLong => {
+            let bytes = bytes_of(payload);
+            Ok(What::Truncated(part_of(alloc, PayloadBytes::Passing(bytes), 0, bytes.len())?))
+        }
+        Verdict::Pes(header, start, end) => {
+            let body = part_of(alloc, payload, start, end)?;
+            Ok(What::Pes {
+                header,
+                unended: false,
+                body,
+            })
+        }
+        Verdict::BadPes(error) => Ok(What::BadPes(error)),
+        Verdict::Section(size) => Ok(What::Section(part_of(alloc, payload, 0, size)?)),
+        Verdict::BadSection(error) => Ok(What::BadSection(error)),
+    }
+}

@@ -1,0 +1,91 @@
+//! Sections one behind the other in a payload, up to a byte FF in a table_id's place (ISO/IEC 13818-1, 2.4.4).
+ghost use Rattle.std.specs.Prelude.{◌≡◌, ◌<◌, ◌≤◌, IfOk, OnOk, option_map, length, drop};
+ghost use Rattle.demux.specs.Parts as parts;
+ghost use Rattle.demux.specs.Shown.{Finds, is_lent, payload_list, what_of};
+
+use crate::beginnings::note_within;
+use crate::finding::Finding;
+use crate::open_part::{Begun, Form};
+use crate::payload_bytes::{PayloadBytes, behind, bytes_of};
+use crate::place::Place;
+use crate::verdicts::{Verdict, decide};
+use psi_tables::SectionError;
+use std::alloc::{AllocError, Allocator};
+
+// Whether no section stands at the front.
+fn is_fill(bytes: &[u8]) -> bool
+    ensures { result ≡ parts.is_fill bytes.now }
+{
+    match bytes {
+        [] => true,
+        [table_id, ..] => *table_id == 0xFF,
+    }
+}
+
+// The bytes that the section at the front says it has.
+fn said_size(bytes: &[u8]) -> usize
+    requires { 0 < length bytes.now }
+    ensures some { 0 < result }
+    ensures within { result ≤ length bytes.now }
+    ensures rest { drop result bytes.now ≡ drop (parts.said_size bytes.now) bytes.now }
+{
+    match bytes {
+        [_, high, low, ..] => {
+            let size = 3 + ((*high % 16) as usize * 256 + *low as usize);
+            if size < bytes.len() {
+                size
+            } else {
+                bytes.len()
+            }
+        }
+        _ => bytes.len(),
+    }
+}
+
+// The bytes that it takes once it is decided.
+#[tactic(auto, unfolding(crate::specs::Parts::taken_by))]
+fn taken_by(bytes: &[u8], verdict: Verdict) -> usize
+    requires { 0 < length bytes.now }
+    ensures some { 0 < result }
+    ensures within { result ≤ length bytes.now }
+    ensures rest { drop result bytes.now ≡ drop (parts.taken_by bytes.now (what_of bytes.now verdict)) bytes.now }
+{
+    match verdict {
+        Verdict::BadSection(SectionError::Length) => bytes.len(),
+        _ => said_size(bytes),
+    }
+}
+
+/// Notes the sections that are decided; gives the one that is not.
+pub(crate) fn sections<'p, 'a: 'p, A: Allocator + Clone>(
+    alloc: &A,
+    place: Place,
+    payload: PayloadBytes<'p, 'a>,
+    found: &mut Vec<Finding<'a, A>, A>,
+) -> Result<Option<Begun<A>>, AllocError>
+    requires { is_lent payload ≡ place.lent }
+    ensures found { OnOk result (Finds place found.old.items found.new.items (parts.sections_in place.packet 0 (payload_list payload.entry))) }
+    ensures last { IfOk result (λ begun. begun ≡ option_map (parts.section place.packet) (parts.last_in 0 (payload_list payload.entry))) }
+{
+    let mut rest = payload;
+    loop {
+        let bytes = bytes_of(rest);
+        if is_fill(bytes) {
+            return Ok(None);
+        }
+        match decide(Form::OfSection, bytes) {
+            None => {
+                let bytes = Vec::from_slice(alloc.clone()?, bytes)?;
+                return Ok(Some(Begun {
+                    packet: place.packet,
+                    form: Form::OfSection,
+                    bytes,
+                }));
+            }
+            Some(verdict) => {
+                note_within(alloc, place, Form::OfSection, rest, verdict, found)?;
+                rest = behind(rest, taken_by(bytes, verdict));
+            }
+        }
+    }
+}

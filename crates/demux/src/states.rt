@@ -1,0 +1,143 @@
+//! The states of the PIDs of a stream, in the order in which these were first seen.
+ghost use Rattle.std.specs.Prelude.{◌≡◌, ◌<◌, ◌≤◌, ◌++◌, ℕ, Some, None, OnOk, OnErr, option_map, map, true, slice_get, nat_eq, take};
+ghost use Rattle.indexmap.specs.IndexMap.{index_map_len, get, values, set_value_at};
+ghost use Rattle.ts_packet.specs.Views.{bytes_view};
+ghost use Rattle.demux.specs.Machine as machine;
+ghost use Rattle.demux.specs.Stream.{ended_found, state_of, with_state};
+ghost use Rattle.demux.specs.Shown.{Says, SaysTheSame, Spans, entry_with, finding_view, KeepsJoined, payload_lent, payload_list, told};
+ghost use Rattle.demux.specs.Findings as findings;
+
+use crate::finding::Finding;
+use crate::payload_bytes::PayloadBytes;
+use crate::pid_state::PidState;
+use crate::place::Place;
+use indexmap::IndexMap;
+use std::alloc::{AllocError, Allocator};
+use std::hash::{BuildHasherDefault, FoldHasher};
+use ts_packet::Packet;
+
+pub(crate) type States<A> = IndexMap<u16, PidState<A>, BuildHasherDefault<FoldHasher>, A>;
+
+// A packet of a PID that was seen before.
+fn step_at<'p, 'a: 'p, A: Allocator + Copy>(
+    states: &mut States<A>,
+    index: usize,
+    place: Place,
+    bytes: &[u8; 188],
+    packet: &Packet<'_>,
+    payload: Option<PayloadBytes<'p, 'a>>,
+    found: &mut Vec<Finding<'a, A>, A>,
+) -> Result<(), AllocError>
+    requires there { index < index_map_len states.old }
+    requires payload { option_map payload_list payload ≡ bytes_view packet.now.payload }
+    requires lent { payload_lent place.lent payload ≡ place.lent }
+    ensures states { (state : machine.PidState) → slice_get (values states.old) index ≡ Some state →
+        OnOk result (states.new.entries ≡ set_value_at states.old.entries index (machine.step state (entry_with place.packet bytes.now packet.now))) }
+    ensures found { (state : machine.PidState) → slice_get (values states.old) index ≡ Some state →
+        OnOk result (Says place found.old.items found.new.items (machine.found_by state (entry_with place.packet bytes.now packet.now))) }
+    ensures spans { (state : machine.PidState) → slice_get (values states.old) index ≡ Some state →
+        OnOk result (Spans place found.old.items found.new.items (machine.found_by state (entry_with place.packet bytes.now packet.now))) }
+    ensures err { (state : machine.PidState) → slice_get (values states.old) index ≡ Some state →
+        OnErr result (states.new.entries ≡ set_value_at states.old.entries index state) }
+    ensures none { OnErr result (SaysTheSame found.old.items found.new.items) }
+{
+    let alloc = *states.allocator();
+    let state = &mut states[index];
+    state.step(&alloc, place, bytes, packet, payload, found)
+}
+
+// The first packet of a PID.
+#[tactic(auto, using(crate::proofs::MapSteps::with_is_insert))]
+fn step_first<'p, 'a: 'p, A: Allocator + Copy>(
+    states: &mut States<A>,
+    place: Place,
+    bytes: &[u8; 188],
+    packet: &Packet<'_>,
+    payload: Option<PayloadBytes<'p, 'a>>,
+    found: &mut Vec<Finding<'a, A>, A>,
+) -> Result<(), AllocError>
+    requires new { get nat_eq states.old place.pid ≡ None }
+    requires payload { option_map payload_list payload ≡ bytes_view packet.now.payload }
+    requires lent { payload_lent place.lent payload ≡ place.lent }
+    ensures states { OnOk result (states.new.entries ≡ with_state place.pid (machine.step machine.fresh (entry_with place.packet bytes.now packet.now)) states.old.entries) }
+    ensures found { OnOk result (Says place found.old.items found.new.items (machine.found_by machine.fresh (entry_with place.packet bytes.now packet.now))) }
+    ensures spans { OnOk result (Spans place found.old.items found.new.items (machine.found_by machine.fresh (entry_with place.packet bytes.now packet.now))) }
+    ensures err { OnErr result (states.new.entries ≡ states.old.entries) }
+    ensures none { OnErr result (SaysTheSame found.old.items found.new.items) }
+{
+    states.reserve(1)?;
+    let alloc = *states.allocator();
+    let mut state = PidState::new();
+    state.step(&alloc, place, bytes, packet, payload, found)?;
+    states.insert(place.pid, state)?;
+    Ok(())
+}
+
+/// Takes a packet of a PID.
+#[tactic(auto, using(crate::proofs::MapSteps::with_is_set, crate::proofs::MapSteps::state_at, crate::proofs::MapSteps::state_new, crate::proofs::MapSteps::set_same))]
+pub(crate) fn step_pid<'p, 'a: 'p, A: Allocator + Copy>(
+    states: &mut States<A>,
+    place: Place,
+    bytes: &[u8; 188],
+    packet: &Packet<'_>,
+    payload: Option<PayloadBytes<'p, 'a>>,
+    found: &mut Vec<Finding<'a, A>, A>,
+) -> Result<(), AllocError>
+    requires payload { option_map payload_list payload ≡ bytes_view packet.now.payload }
+    requires lent { payload_lent place.lent payload ≡ place.lent }
+    ensures states { let state = state_of place.pid states.old.entries in
+        OnOk result (states.new.entries ≡ with_state place.pid (machine.step state (entry_with place.packet bytes.now packet.now)) states.old.entries) }
+    ensures found { let state = state_of place.pid states.old.entries in
+        OnOk result (Says place found.old.items found.new.items (machine.found_by state (entry_with place.packet bytes.now packet.now))) }
+    ensures spans { let state = state_of place.pid states.old.entries in
+        OnOk result (Spans place found.old.items found.new.items (machine.found_by state (entry_with place.packet bytes.now packet.now))) }
+    ensures err { OnErr result (states.new.entries ≡ states.old.entries) }
+    ensures none { OnErr result (SaysTheSame found.old.items found.new.items) }
+{
+    match states.get_index_of(&place.pid) {
+        Some(index) => step_at(states, index, place, bytes, packet, payload, found),
+        None => step_first(states, place, bytes, packet, payload, found),
+    }
+}
+
+// What the end of the stream decides of a PID.
+fn end_at<'a, A: Allocator + Copy>(
+    states: &States<A>,
+    index: usize,
+    packet: u64,
+    found: &mut Vec<Finding<'a, A>, A>,
+) -> Result<(), AllocError>
+    requires { index < index_map_len states.now }
+    ensures found { (entry : ℕ × machine.PidState) → slice_get states.now.entries index ≡ Some entry →
+        OnOk result (map finding_view found.new.items ≡ map finding_view found.old.items ++ map (told entry.0 packet) (findings.ended true entry.1.part)) }
+    ensures joined { OnOk result (KeepsJoined found.old.items found.new.items) }
+{
+    let alloc = *states.allocator();
+    match states.get_index(index) {
+        None => Ok(()),
+        Some((pid, state)) => {
+            let place = Place {
+                packet,
+                pid: *pid,
+                lent: false,
+            };
+            state.finish(&alloc, place, found)?;
+            Ok(())
+        }
+    }
+}
+
+/// What the end of the stream decides of the PIDs, in their order.
+pub(crate) fn end_all<'a, A: Allocator + Copy>(
+    states: &States<A>,
+    packet: u64,
+    found: &mut Vec<Finding<'a, A>, A>,
+) -> Result<(), AllocError>
+    ensures found { OnOk result (map finding_view found.new.items ≡ map finding_view found.old.items ++ ended_found packet states.now.entries) }
+    ensures joined { OnOk result (KeepsJoined found.old.items found.new.items) }
+{
+    for i in 0..states.len() {
+        end_at(states, i, packet, found)?;
+    }
+    Ok(())
+}

@@ -1,0 +1,412 @@
+//! Worked streams, damaged ones, and refused memory. What is expected was worked out by hand from the rules of the standard.
+use crate::{Demux, DemuxError, Finding, Kind, Part, What, reference, whole};
+use linked_list_allocator::LocalHeap;
+use std::alloc::{AllocError, Allocator, Global};
+use std::test::Fail;
+
+// A packet of PID 256 with a PES packet of three bytes, 41 42 43, with PTS 90,000, behind stuffing.
+pub fn pes_packet() -> [u8; 188] {
+    let mut bytes = [0xFFu8; 188];
+    let front = [0x47, 0x41, 0x00, 0x30, 0xA6, 0x00];
+    bytes[..6].copy_from_slice(&front);
+    let pes = [
+        0x00, 0x00, 0x01, 0xC0, 0x00, 0x0B, 0x80, 0x80, 0x05, 0x21, 0x00, 0x05, 0xBF, 0x21, 0x41,
+        0x42, 0x43,
+    ];
+    bytes[171..].copy_from_slice(&pes);
+    bytes
+}
+
+// A packet of PID 0 with a whole program association section.
+pub fn pat_packet() -> [u8; 188] {
+    let mut bytes = [0xFFu8; 188];
+    let front = [
+        0x47, 0x40, 0x00, 0x10, 0x00, 0x00, 0xB0, 0x0D, 0x00, 0x01, 0xC1, 0x00, 0x00, 0x00, 0x01,
+        0xF0, 0x00, 0x2A, 0xB1, 0x04, 0xB2,
+    ];
+    bytes[..21].copy_from_slice(&front);
+    bytes
+}
+
+// A packet of PID 257 full of payload bytes A5: a PES packet without a length begins where `starts`.
+pub fn long_packet(starts: bool, counter: u8) -> [u8; 188] {
+    let mut bytes = [0xA5u8; 188];
+    bytes[0] = 0x47;
+    bytes[1] = if starts { 0x41 } else { 0x01 };
+    bytes[2] = 0x01;
+    bytes[3] = 0x10 + counter % 16;
+    if starts {
+        bytes[4..13].copy_from_slice(&[0x00, 0x00, 0x01, 0xE0, 0x00, 0x00, 0x80, 0x00, 0x00]);
+    }
+    bytes
+}
+
+fn size<A: Allocator>(part: &Part<'_, A>) -> usize {
+    match part {
+        Part::Span(bytes) => bytes.len(),
+        Part::Joined(bytes) => bytes.len(),
+    }
+}
+
+// What a finding says, in words.
+fn words<A: Allocator>(alloc: Global, what: &What<'_, A>) -> Result<String, AllocError> {
+    match what {
+        What::Duplicate => format!(in alloc; "duplicate"),
+        What::CounterBreak { expected, found } => format!(in alloc;
+            "counter {} {}",
+            *expected, *found
+        ),
+        What::Scrambled => format!(in alloc; "scrambled"),
+        What::Truncated(part) => format!(in alloc; "truncated {}", size(part)),
+        What::Section(part) => format!(in alloc; "section {}", size(part)),
+        What::BadSection(error) => format!(in alloc; "bad section {}", error.code()),
+        What::Pes {
+            header,
+            unended,
+            body,
+        } => format!(in alloc; "pes {} {} {}", header.id, *unended, size(body)),
+        What::BadPes(error) => format!(in alloc; "bad pes {}", error.code()),
+        What::BadPacket(error) => format!(in alloc; "bad packet {}", error.code()),
+        What::Errored => format!(in alloc; "errored"),
+    }
+}
+
+// The findings, a line each: packet, PID, what, and what began where.
+pub fn lines<A: Allocator>(
+    alloc: Global,
+    findings: &[Finding<'_, A>],
+) -> Result<String, AllocError> {
+    let mut text = String::new(alloc);
+    for finding in findings {
+        let begun = match finding.begun {
+            None => format!(in alloc; "")?,
+            Some((packet, Kind::Table(table_id))) => format!(in alloc;
+                " from {} table {}",
+                packet, table_id
+            )?,
+            Some((packet, Kind::Pes(has_pts))) => format!(in alloc;
+                " from {} pes {}",
+                packet, has_pts
+            )?,
+        };
+        let pid = match finding.pid {
+            None => format!(in alloc; "none")?,
+            Some(pid) => format!(in alloc; "{}", pid)?,
+        };
+        let what = words(alloc, &finding.what)?;
+        let line = format!(in alloc; "{} {} {}{}\n", finding.packet, pid, what, begun)?;
+        text.push_str(&line)?;
+    }
+    Ok(text)
+}
+
+// What is found in a stream that comes in pieces of this size.
+pub fn in_pieces(alloc: Global, stream: &[u8], size: usize) -> Result<String, Fail> {
+    let mut demux = Demux::new(alloc);
+    for piece in stream.chunks(size.max(1)) {
+        demux.push(piece)?;
+    }
+    demux.finish()?;
+    Ok(lines(alloc, demux.findings())?)
+}
+
+// The worked packet, the same again, the same with another last byte, and 100 bytes of one more.
+fn worked_stream(alloc: Global) -> Result<Vec<u8>, AllocError> {
+    let mut other = pes_packet();
+    other[187] = 0x44;
+    let mut stream = Vec::new(alloc);
+    stream.extend_from_slice(&pes_packet())?;
+    stream.extend_from_slice(&pes_packet())?;
+    stream.extend_from_slice(&other)?;
+    stream.extend_from_slice(&pes_packet())?;
+    stream.truncate(3 * 188 + 100);
+    Ok(stream)
+}
+
+const WORKED: &str =
+    "0 256 pes 192 false 3 from 0 pes true\n1 256 duplicate\n2 256 counter 1 0\n2 256 pes 192 false 3 from 2 pes true\n3 none truncated 100\n";
+
+#[test]
+fn pieces_of_any_size(rt: HostRuntime) -> Result<(), Fail> {
+    let alloc = rt.alloc();
+    let stream = worked_stream(alloc)?;
+    for size in [1, 7, 187, 188, 189, 664] {
+        assert_eq!(rt;
+            in_pieces(alloc, &stream, size)?.as_str(),
+            WORKED,
+            "in pieces of {size}"
+        );
+    }
+    let found = whole(alloc, &stream)?;
+    assert_eq!(rt; lines(alloc, &found)?.as_str(), WORKED);
+    Ok(())
+}
+
+// A PES packet that lies in the packet that is taken is a slice of it; `take` wants whole packets, and the end refuses more.
+#[test]
+fn packets_taken_and_pushed(rt: HostRuntime) -> Result<(), Fail> {
+    let alloc = rt.alloc();
+    let packet = pes_packet();
+    let mut demux = Demux::new(alloc);
+    let mut found = Vec::new(alloc);
+    demux.take(&packet, &mut found)?;
+    assert_eq!(rt;
+        lines(alloc, &found)?.as_str(),
+        "0 256 pes 192 false 3 from 0 pes true\n"
+    );
+    for finding in &found {
+        match &finding.what {
+            What::Pes {
+                body: Part::Span(body),
+                ..
+            } => assert_eq!(rt; *body, &packet[185..]),
+            _ => assert!(rt; false, "a slice"),
+        }
+    }
+    assert!(rt; demux.findings().is_empty());
+    demux.push(&packet[..100])?;
+    assert!(rt; !demux.aligned());
+    demux.push(&packet[100..])?;
+    assert!(rt; demux.aligned());
+    demux.finish()?;
+    assert_eq!(rt; demux.take(&packet, &mut found), Err(DemuxError::Ended));
+    assert_eq!(rt;
+        lines(alloc, demux.findings())?.as_str(),
+        "1 256 duplicate\n"
+    );
+    Ok(())
+}
+
+// A packet is repeated once. The third one alike breaks the counter, and the fourth repeats it.
+#[test]
+fn a_third_copy(rt: HostRuntime) -> Result<(), Fail> {
+    let alloc = rt.alloc();
+    let mut demux = Demux::new(alloc);
+    for _ in 0..4 {
+        demux.push(&pes_packet())?;
+    }
+    let want =
+        "0 256 pes 192 false 3 from 0 pes true\n1 256 duplicate\n2 256 counter 1 0\n2 256 pes 192 false 3 from 2 pes true\n3 256 duplicate\n";
+    assert_eq!(rt; lines(alloc, demux.findings())?.as_str(), want);
+    Ok(())
+}
+
+#[test]
+fn a_section(rt: HostRuntime) -> Result<(), Fail> {
+    let alloc = rt.alloc();
+    let packet = pat_packet();
+    let mut demux = Demux::new(alloc);
+    let mut found = Vec::new(alloc);
+    assert!(rt; demux.aligned());
+    demux.take(&packet, &mut found)?;
+    assert_eq!(rt;
+        lines(alloc, &found)?.as_str(),
+        "0 0 section 16 from 0 table 0\n"
+    );
+    for finding in &found {
+        assert!(rt;
+            matches!(&finding.what, What::Section(Part::Span(_))),
+            "lies in the packet"
+        );
+    }
+    Ok(())
+}
+
+// The same section in two packets: the first has its first 10 bytes, in the second stuffing comes behind the rest.
+pub fn section_in_two() -> ([u8; 188], [u8; 188]) {
+    let pat = pat_packet();
+    let mut first = [0xFFu8; 188];
+    first[..6].copy_from_slice(&[0x47, 0x40, 0x00, 0x31, 0xAC, 0x00]);
+    first[177..].copy_from_slice(&pat[4..15]);
+    let mut second = [0xFFu8; 188];
+    second[..4].copy_from_slice(&[0x47, 0x00, 0x00, 0x12]);
+    second[4..10].copy_from_slice(&pat[15..21]);
+    (first, second)
+}
+
+#[test]
+fn a_section_in_two_packets(rt: HostRuntime) -> Result<(), Fail> {
+    let alloc = rt.alloc();
+    let (first, second) = section_in_two();
+    let mut demux = Demux::new(alloc);
+    let mut found = Vec::new(alloc);
+    assert!(rt; demux.aligned());
+    demux.take(&first, &mut found)?;
+    assert_eq!(rt; lines(alloc, &found)?.as_str(), "");
+    assert!(rt; demux.aligned());
+    demux.take(&second, &mut found)?;
+    assert_eq!(rt;
+        lines(alloc, &found)?.as_str(),
+        "1 0 section 16 from 0 table 0\n"
+    );
+    for finding in &found {
+        match &finding.what {
+            What::Section(Part::Joined(bytes)) => assert_eq!(rt;
+                bytes.as_slice(),
+                &pat_packet()[5..21]
+            ),
+            _ => assert!(rt; false, "joined"),
+        }
+    }
+    Ok(())
+}
+
+// A wrong check word, a null packet, a packet with transport_error_indicator, no packet, and a scrambled one.
+#[test]
+fn damaged_packets(rt: HostRuntime) -> Result<(), Fail> {
+    let alloc = rt.alloc();
+    let mut demux = Demux::new(alloc);
+    let mut packet = pat_packet();
+    packet[20] = 0xB3;
+    demux.push(&packet)?;
+    packet[1] = 0x1F;
+    packet[2] = 0xFF;
+    demux.push(&packet)?;
+    packet[1] = 0x9F;
+    demux.push(&packet)?;
+    packet[0] = 0x46;
+    demux.push(&packet)?;
+    packet[0] = 0x47;
+    packet[1] = 0x40;
+    packet[2] = 0x00;
+    packet[3] = 0x51;
+    demux.push(&packet)?;
+    // pointer_field points past the end
+    packet[3] = 0x12;
+    packet[4] = 184;
+    demux.push(&packet)?;
+    assert_eq!(rt;
+        lines(alloc, demux.findings())?.as_str(),
+        "0 0 bad section 3 from 0 table 0\n2 none errored\n3 none bad packet 1\n4 0 scrambled\n5 0 bad section 5\n"
+    );
+    demux.forget_findings();
+    assert!(rt; demux.findings().is_empty());
+    Ok(())
+}
+
+// A PES packet without a length ends where the next begins, or with the stream; a packet of another PID ends none.
+#[test]
+fn a_length_of_none(rt: HostRuntime) -> Result<(), Fail> {
+    let alloc = rt.alloc();
+    let mut demux = Demux::new(alloc);
+    demux.push(&long_packet(true, 0))?;
+    demux.push(&pes_packet())?;
+    demux.push(&long_packet(false, 1))?;
+    demux.push(&long_packet(true, 2))?;
+    demux.finish()?;
+    demux.finish()?;
+    let want =
+        "1 256 pes 192 false 3 from 1 pes true\n3 257 pes 224 false 359 from 0 pes false\n4 257 pes 224 true 175 from 3 pes false\n";
+    assert_eq!(rt; lines(alloc, demux.findings())?.as_str(), want);
+    assert_eq!(rt; demux.push(&[0x47]), Err(DemuxError::Ended));
+    assert_eq!(rt; DemuxError::Ended.code(), 2);
+    Ok(())
+}
+
+// The first packet that brings it past 8,388,608 bytes cuts it short: 45,591 packets of 184 bytes.
+#[test]
+fn a_pes_packet_that_is_too_long(rt: HostRuntime) -> Result<(), Fail> {
+    let alloc = rt.alloc();
+    let mut demux = Demux::new(alloc);
+    demux.push(&long_packet(true, 0))?;
+    for i in 1..45_600u32 {
+        demux.push(&long_packet(false, (i % 16) as u8))?;
+    }
+    demux.push(&long_packet(true, 0))?;
+    demux.finish()?;
+    let want =
+        "45590 257 truncated 8388744 from 0 pes false\n45601 257 pes 224 true 175 from 45600 pes false\n";
+    assert_eq!(rt; lines(alloc, demux.findings())?.as_str(), want);
+    Ok(())
+}
+
+// What is left of a piece of which so much was taken.
+fn behind(piece: &[u8], error: DemuxError) -> &[u8] {
+    match error {
+        DemuxError::Memory { taken } => piece.get(taken..).unwrap_or(&[]),
+        DemuxError::Ended => piece,
+    }
+}
+
+// Memory is refused while a block of the heap is taken, and is there once it is given back: nothing is lost.
+#[test]
+fn refused_pieces(rt: HostRuntime) -> Result<(), Fail> {
+    let alloc = rt.alloc();
+    let stream = worked_stream(alloc)?;
+    let mut refused = 0u32;
+    for left in 0..48usize {
+        let heap = LocalHeap::new(alloc, 65_536)?;
+        let block: Vec<u8, &LocalHeap> = Vec::with_capacity(&heap, 65_536 - 64 - 128 * left)?;
+        let mut demux = Demux::new(&heap);
+        let mut rest: &[u8] = &[];
+        if let Err(error) = demux.push(&stream) {
+            refused = refused.saturating_add(1);
+            rest = behind(&stream, error);
+        }
+        drop(block);
+        demux.push(rest)?;
+        demux.finish()?;
+        assert_eq!(rt; lines(alloc, demux.findings())?.as_str(), WORKED);
+    }
+    assert!(rt; 0 < refused, "never refused");
+    assert!(rt; refused < 48, "always refused");
+    Ok(())
+}
+
+// Takes the greatest block that a heap has, but for so many times 64 bytes.
+fn fill<'h>(heap: &'h LocalHeap, left: usize) -> Result<Vec<u8, &'h LocalHeap>, AllocError> {
+    let mut blocks = 0;
+    for n in 0..1_024usize {
+        let block: Result<Vec<u8, &LocalHeap>, AllocError> = Vec::with_capacity(heap, 64 * n);
+        if block.is_ok() {
+            blocks = n;
+        }
+    }
+    Vec::with_capacity(heap, 64 * blocks.saturating_sub(left).min(1_023))
+}
+
+// The same packet by packet, with an end of the stream: what is refused changes nothing, and succeeds once there is memory.
+#[test]
+fn refused_packets(rt: HostRuntime) -> Result<(), Fail> {
+    let alloc = rt.alloc();
+    let packets = [
+        long_packet(true, 0),
+        long_packet(false, 1),
+        long_packet(true, 2),
+    ];
+    let mut refused = false;
+    for left in 0..48usize {
+        let heap = LocalHeap::new(alloc, 65_536)?;
+        let mut found = Vec::with_capacity(&heap, 4)?;
+        let mut demux = Demux::new(&heap);
+        for packet in &packets {
+            let block = fill(&heap, left)?;
+            assert!(rt; demux.aligned());
+            let first = demux.take(packet, &mut found);
+            drop(block);
+            if first.is_err() {
+                refused = true;
+                assert_eq!(rt; first, Err(DemuxError::Memory { taken: 0 }));
+                assert!(rt; demux.aligned());
+                demux.take(packet, &mut found)?;
+            }
+        }
+        assert_eq!(rt;
+            lines(alloc, &found)?.as_str(),
+            "2 257 pes 224 false 359 from 0 pes false\n"
+        );
+        let block = fill(&heap, left)?;
+        let first = demux.finish();
+        drop(block);
+        if first.is_err() {
+            refused = true;
+            demux.finish()?;
+        }
+        assert_eq!(rt;
+            lines(alloc, demux.findings())?.as_str(),
+            "3 257 pes 224 true 175 from 2 pes false\n"
+        );
+    }
+    assert!(rt; refused, "never refused");
+    Ok(())
+}

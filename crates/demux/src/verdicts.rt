@@ -1,0 +1,79 @@
+//! What the bytes of a section or a PES packet decide.
+ghost use Rattle.std.specs.Prelude.{◌≡◌, ◌+◌, ◌≤◌, ◌<◌, Some, None, option_map, length, drop};
+ghost use Rattle.demux.specs.Parts.{decided, longest, of_header};
+ghost use Rattle.demux.specs.Shown.{what_of};
+
+use crate::open_part::Form;
+use pes_packet::{PesError, PesHeader, read_header};
+use psi_tables::{Section, SectionError};
+
+// The most bytes that a PES packet without a length may have.
+const LONGEST: usize = 8_388_608;
+
+/// What bytes decide, with places in them.
+#[derive(Clone, Copy)]
+pub(crate) enum Verdict {
+    /// a PES packet without a length has too many
+    TooLong,
+    /// a PES packet: its header, where the body starts and where it ends
+    Pes(PesHeader, usize, usize),
+    BadPes(PesError),
+    /// a section of so many bytes
+    Section(usize),
+    BadSection(SectionError),
+}
+
+/// What the bytes at hand decide, none while they are too few; then they are not many.
+#[tactic(auto, unfolding(crate::specs::Parts::decided))]
+pub(crate) fn decide(form: Form, bytes: &[u8]) -> Option<Verdict>
+    ensures decides { option_map (what_of bytes.now) result ≡ decided form bytes.now }
+    ensures bounded { result ≡ None → length bytes.now ≤ longest }
+{
+    match form {
+        Form::OfSection => decide_section(bytes),
+        Form::OfPes => decide_pes(bytes),
+    }
+}
+
+#[tactic(auto, unfolding(crate::specs::Parts::decided, crate::specs::Parts::of_section))]
+fn decide_section(bytes: &[u8]) -> Option<Verdict>
+    ensures decides { option_map (what_of bytes.now) result ≡ decided Form.OfSection bytes.now }
+    ensures bounded { result ≡ None → length bytes.now ≤ longest }
+{
+    match Section::read(bytes) {
+        Ok((_, size)) => Some(Verdict::Section(size)),
+        Err(SectionError::Short) => None,
+        Err(error) => Some(Verdict::BadSection(error)),
+    }
+}
+
+#[tactic(auto, unfolding(crate::specs::Parts::decided, crate::specs::Parts::of_pes))]
+fn decide_pes(bytes: &[u8]) -> Option<Verdict>
+    ensures decides { option_map (what_of bytes.now) result ≡ decided Form.OfPes bytes.now }
+    ensures bounded { result ≡ None → length bytes.now ≤ longest }
+{
+    match read_header(bytes) {
+        Ok((header, size)) => by_header(header, size, bytes),
+        Err(PesError::Short) => None,
+        Err(error) => Some(Verdict::BadPes(error)),
+    }
+}
+
+// Of a PES packet whose header was read.
+#[tactic(auto, unfolding(crate::specs::Parts::of_header))]
+fn by_header(header: PesHeader, size: usize, bytes: &[u8]) -> Option<Verdict>
+    ensures decides { option_map (what_of bytes.now) result ≡ of_header bytes.now (header, size) }
+    ensures bounded { result ≡ None → length bytes.now ≤ longest }
+{
+    if header.len == 0 {
+        if bytes.len() > LONGEST {
+            return Some(Verdict::TooLong);
+        }
+        return None;
+    }
+    let end = 6 + header.len as usize;
+    if bytes.len() < end {
+        return None;
+    }
+    Some(Verdict::Pes(header, size, end))
+}
