@@ -36,7 +36,9 @@ carry_status (Err (AtRecord index fault)) = record_status fault
 carry_status (Err (AtWriter sent)) = 3
 carry_status (Err (NoMemory index)) = 3
 
--- a run of `carry`: of an input whose bytes are known the output has the packets of its records before the first refused one, as `carried` gives them; the line and the status are those of the answer, and a device is named where a call of it failed
+-- a run of `carry`: of an input whose bytes are known the output has the packets of its records before the first
+-- refused one, as `carried` gives them; the line and the status are those of the answer, and a device is named where
+-- a call of it failed
 pub record Carries (c : Carriage) (input0 input1 output0 output1 faults0 faults1 : Port) (status : ℕ) : Type 0 where
   pub answer : Result ℕ CarryError
   pub answers : (xs : List ℕ) → input0.bytes ≡ Some xs → Answers (run_of c.id xs) answer

@@ -3,3 +3,9 @@ pub mod Request
 pub mod Lines
 pub mod Carrying
 pub mod Program
+pub mod Halts
+pub mod FindingLines
+pub mod Passing
+pub mod Demultiplexing
+pub mod Jobs
+pub mod Checking

@@ -2,7 +2,7 @@
 ghost use Rattle.std.specs.Prelude.{◌≡◌, true, false, IfOk, codes, map};
 ghost use Rattle.clap.specs.Words.{FailsBy, app_of, fault_of, rule_of, subcommand_of, subcommand_rows_of, with_subcommand};
 ghost use Rattle.clap.specs.declared.builder.command.Command.TheViews.{out-Command as fields_of};
-ghost use Rattle.tsmux.specs.CommandLine.{carry_app, flag_rule, option_rule, tsmux_app};
+ghost use Rattle.tsmux.specs.CommandLine.{carry_app, check_app, demux_app, flag_rule, option_rule, tsmux_app};
 
 use clap::{Arg, ArgAction, ArgMatches, Command, Error};
 use std::alloc::{AllocError, Global};
@@ -33,6 +33,20 @@ fn carry<'a>(alloc: Global) -> Result<Command<'a>, AllocError>
         .arg(option(alloc, "id"))
 }
 
+fn demux<'a>(alloc: Global) -> Command<'a>
+    ensures app { app_of result ≡ demux_app }
+    ensures local { (fields_of result).has_globals ≡ false }
+{
+    Command::new(alloc, "demux")
+}
+
+fn check<'a>(alloc: Global) -> Result<Command<'a>, AllocError>
+    ensures app { IfOk result (λ c. app_of c ≡ check_app) }
+    ensures local { IfOk result (λ c. (fields_of c).has_globals ≡ false) }
+{
+    Command::new(alloc, "check").arg(flag(alloc, "switch"))
+}
+
 /// A command with one more subcommand.
 fn with<'a>(command: Command<'a>, sub: Command<'a>) -> Result<Command<'a>, AllocError>
     requires { (fields_of sub).has_globals ≡ false }
@@ -46,7 +60,9 @@ fn tsmux<'a>(alloc: Global) -> Result<Command<'a>, AllocError>
     ensures { IfOk result (λ c. app_of c ≡ tsmux_app) }
 {
     let command = Command::new(alloc, "tsmux").no_binary_name(true);
-    with(command, carry(alloc)?)
+    let command = with(command, carry(alloc)?)?;
+    let command = with(command, demux(alloc))?;
+    with(command, check(alloc)?)
 }
 
 /// The subcommand that the words name, with what they give its options.

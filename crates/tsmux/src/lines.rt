@@ -2,7 +2,9 @@
 ghost use Rattle.std.specs.Prelude.{◌≡◌, ◌++◌, ◌∷◌, [], ◌+◌, ◌*◌, ◌≤◌, length, decimal};
 ghost use Rattle.arrayvec.specs.ArrayVec.{array_vec_len};
 ghost use Rattle.tsmux.specs.Lines.{line_text, Tells};
+ghost use Rattle.tsmux.specs.Passing.{WritesAll};
 
+use crate::halt::Halt;
 use arrayvec::ArrayVec;
 use itoa::Buffer;
 use ts_packet::{Sink, write_part};
@@ -44,6 +46,21 @@ fn line(name: &str, numbers: &[u128]) -> ArrayVec<u8, ROOM>
     }
     append(&mut line, b"\n");
     line
+}
+
+/// Writes a line.
+pub fn write_line<W: Sink>(to: &mut W, name: &str, numbers: &[u128]) -> Result<(), Halt>
+    requires name { length name.now ≤ 40 }
+    requires numbers { length numbers.now ≤ 5 }
+    ensures { WritesAll (line_text name.now numbers.now)
+        (record { bytes = W.contents to.old; failed = W.fault_count to.old })
+        (record { bytes = W.contents to.new; failed = W.fault_count to.new }) result }
+{
+    let text = line(name, numbers);
+    match write_part(to, text.as_slice()) {
+        Ok(()) => Ok(()),
+        Err(_) => Err(Halt::Write),
+    }
 }
 
 /// Writes a line, as far as the writer goes.

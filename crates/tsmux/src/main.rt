@@ -1,18 +1,27 @@
 //! `tsmux`: a constant-rate MPEG-2 transport stream multiplexer (ISO/IEC 13818-1, EN 300 468, TR 101 290).
 //!
-//! `command_line`, `options` and `request` read the words; `carrying` is the subcommand; `lines` are the lines of text that
-//! the program tells; `program` is `run`, the whole program over any reader and writers, which `main` joins to the real
-//! ones.
+//! `command_line`, `options` and `request` read the words. Each subcommand has a module: `carrying`; `demultiplexing`, with
+//! the lines of `finding_lines` on their way by `passing`; `checking`, of the jobs that `jobs` cuts, with the `verdict`.
+//! `whole_input` reads an input, `lines` writes lines of numbers, `halt` is what ends a subcommand before its time.
+//! `program` is `run`, the whole program over any reader and writers, which `main` joins to the real ones.
 #![tactic(auto)]
 
 mod carrying;
+mod checking;
 mod command_line;
+mod demultiplexing;
+mod finding_lines;
+mod halt;
+mod jobs;
 mod lines;
 mod options;
+mod passing;
 mod program;
 mod request;
 #[cfg(test)]
 mod tests;
+mod verdict;
+mod whole_input;
 
 use program::run;
 use std::env;

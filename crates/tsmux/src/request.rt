@@ -25,6 +25,10 @@ pub struct Carriage {
 pub enum Request {
     /// unit records to packets
     Carry(Carriage),
+    /// what is found in packets
+    Demux,
+    /// whether a plan serves a description, and a second plan may follow it
+    Check { switch: bool },
 }
 
 #[tactic(auto, unfolding(crate::specs::Request::carriage_of))]
@@ -64,10 +68,14 @@ fn request_of(name: &str, matches: &ArgMatches<'_>) -> Option<Request>
     ensures value { result ≡ asked.request_of name.now (rows_of (found_of matches.now)) }
     ensures fits { asked.Fits result }
 {
-    if name == "carry" {
-        carry_request(matches)
-    } else {
-        None
+    match name {
+        "carry" => carry_request(matches),
+        "demux" => Some(Request::Demux),
+        "check" => {
+            let switch = options::is_given(options::text_of(matches, "switch"));
+            Some(Request::Check { switch })
+        }
+        _ => None,
     }
 }
 

@@ -1,4 +1,7 @@
 //! The program over bytes, and over readers and writers that fail.
+mod finding_list;
+mod plan_checks;
+
 use crate::program::run;
 use std::alloc::Global;
 use std::io;
@@ -139,6 +142,9 @@ fn tells_the_usage(rt: HostRuntime) -> Result<(), Fail> {
     assert_usage(&rt, alloc, ["carry", "--pid", ""].as_slice());
     assert_usage(&rt, alloc, ["carry", "--id", "191"].as_slice());
     assert_usage(&rt, alloc, ["carry", "--id", "240"].as_slice());
+    assert_usage(&rt, alloc, ["demux", "--hex"].as_slice());
+    assert_usage(&rt, alloc, ["check", "more"].as_slice());
+    assert_usage(&rt, alloc, ["check", "--switch", "--switch"].as_slice());
     Ok(())
 }
 

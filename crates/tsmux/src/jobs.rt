@@ -1,0 +1,31 @@
+//! A job: a description, and behind it a plan's text.
+ghost use Rattle.std.specs.Prelude.{◌≡◌, ◌≤◌, true, IfSome, length, option_map};
+ghost use Rattle.tsmux.specs.Jobs.{job_at, plan_place};
+
+/// The first line of a plan's text.
+const PLAN_LINE: &[u8] = b"tsplan 1\n";
+
+/// The place of the first line of a plan's text.
+fn plan_place(bytes: &[u8]) -> Option<usize>
+    ensures place { result ≡ plan_place 0 true bytes.now }
+    ensures within { IfSome result (λ place. place ≤ length bytes.now) }
+{
+    let mut at_line = true;
+    for (i, byte) in bytes.iter().enumerate() {
+        if at_line && bytes[i..].starts_with(PLAN_LINE) {
+            return Some(i);
+        }
+        at_line = *byte == b'\n';
+    }
+    None
+}
+
+/// The description's bytes and the bytes from the first line `tsplan 1` on, if there is one.
+pub fn job_at(bytes: &[u8]) -> Option<(&[u8], &[u8])>
+    ensures { option_map (λ job. (job.0.now, job.1.now)) result ≡ job_at bytes.now }
+{
+    match plan_place(bytes) {
+        None => None,
+        Some(place) => Some((&bytes[..place], &bytes[place..])),
+    }
+}
