@@ -9,8 +9,8 @@ use Rattle.tstd.specs.Gone.{gone}
 use Rattle.tstd.specs.Keeping.{there_at}
 use Rattle.tstd.specs.Walking.{left_ahead}
 
--- the most bytes at the entry of one of the bytes that leave the transport buffer at these times, of these texts; `before` has the bytes of
--- the texts before
+-- the most bytes at the entry of one of the bytes that leave the transport buffer at these times, of these texts;
+-- `before` has the bytes of the texts before
 abbrev pub most_ahead : (ℕ → ℕ) → ℕ → ℕ → List Text → List ℕ → ℕ
 most_ahead before rate rx texts left = greatest_at (λ x. before x + main_held rate rx x texts left) left
 

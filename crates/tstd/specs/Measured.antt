@@ -1,6 +1,7 @@
 -- How full the buffers of the decoder model are (ISO/IEC 13818-1, 2.4.2.3), and which units come late, of finished bytes.
 --
--- At a stream's buffers times are in units of 8 / (rate * rx) seconds, at those of a program's tables in units of 8 / (rate * 2,000,000) seconds.
+-- At a stream's buffers times are in units of 8 / (rate * rx) seconds, at those of a program's tables in units of 8 /
+-- (rate * 2,000,000) seconds.
 use Rattle.std.specs.Prelude.{◌≡◌, ℕ, ◌+◌, ◌/◌, List, [], ◌∷◌, length, slice_get, Option, Some, None}
 use Rattle.clock27.specs.Arrival.{arrivals}
 use Rattle.clock27.specs.Departure.{departures}
@@ -39,7 +40,8 @@ pub record StreamsMeasured (d : Described) (units : List (ℕ × AccessUnit)) (b
   pub each : (number : ℕ) (s : DescribedStream) (f : StreamFullness) → slice_get d.streams number ≡ Some s → slice_get found number ≡ Some f →
       IsStreamFullness d.rate d.base0 s (units_of number units) (packets_on s.pid bytes) f
 
--- the greatest numbers of bytes over all moments in the two buffers of a program's tables, filled by the packets with these indices
+-- the greatest numbers of bytes over all moments in the two buffers of a program's tables, filled by the packets with
+-- these indices
 pub record IsSystemFullness (rate : ℕ) (slots : List ℕ) (f : SystemFullness) : Type 0 where
   pub transport : IsPeak (λ x. tables.transport_held rate x slots) f.transport
   pub system : IsPeak (λ x. tables.system_held rate x slots) f.system
@@ -50,8 +52,8 @@ pub record SystemsMeasured (d : Described) (bytes : List ℕ) (found : List Syst
   pub each : (number : ℕ) (p : DescribedProgram) (f : SystemFullness) → slice_get d.programs number ≡ Some p → slice_get found number ≡ Some f →
       IsSystemFullness d.rate (table_packets p.pmt_pid bytes) f
 
--- the number of the first unit of a stream that is due in a run of so many slots and has not left its transport buffer whole by its decoding
--- time stamp
+-- the number of the first unit of a stream that is due in a run of so many slots and has not left its transport buffer
+-- whole by its decoding time stamp
 abbrev pub late_of : ℕ → ℕ → ℕ → DescribedStream → List AccessUnit → List Packet → Option ℕ
 late_of rate base0 slots s units packets =
     first_late rate s.rx slots 0 (timed_texts s.stream_id base0 units) (text_left rate s.rx 0 packets)

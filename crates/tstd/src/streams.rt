@@ -13,8 +13,8 @@ use description::Stream;
 use pes_packet::Unit;
 use std::alloc::{AllocError, Allocator};
 
-/// The greatest numbers of bytes in the buffers of a stream, and the number of its first late unit, of packets that carry its
-/// units.
+/// The greatest numbers of bytes in the buffers of a stream, and the number of its first late unit, of packets that carry
+/// its units.
 pub fn measure_stream<A: Allocator, B: Allocator>(
     alloc: A,
     rate: u64,

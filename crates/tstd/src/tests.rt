@@ -3,7 +3,7 @@ use crate::{Fullness, LateUnit, MeasureError, StreamFullness, SystemFullness, me
 use clock27::Pcr;
 use description::Description;
 use linked_list_allocator::LocalHeap;
-use pes_packet::{Unit, write_header};
+use pes_packet::{Unit, fits_packet, write_header};
 use std::alloc::{AllocError, Allocator, Global};
 use std::process::Abort;
 use std::test::Fail;
@@ -43,10 +43,13 @@ fn unit(alloc: Global, stream: u8, dts: u32, size: u16) -> Result<(u8, Unit), Al
     ))
 }
 
-// Piece `q` of the PES packet of a unit of 576 bytes.
-fn piece(alloc: Global, dts: u32, q: u8) -> Result<[u8; 188], AllocError> {
-    let header = write_header(192, 576, u64::from(dts), u64::from(dts));
-    let mut text = data(alloc, 576)?;
+// Piece `q` of the PES packet of a unit of so many bytes.
+fn piece(alloc: Global, size: u16, dts: u32, q: u8) -> Result<[u8; 188], AllocError> {
+    if !fits_packet(192, usize::from(size)) {
+        return Ok(null_packet());
+    }
+    let header = write_header(192, usize::from(size), u64::from(dts), u64::from(dts));
+    let mut text = data(alloc, size)?;
     let mut whole = Vec::new(alloc);
     whole.extend_from_slice(header.as_slice())?;
     whole.append(&mut text)?;
@@ -64,6 +67,7 @@ fn packet(alloc: Global, first: u32, count: u16, s: u16) -> Result<[u8; 188], Al
     if m < count && q % 4 == 0 && q < 16 {
         return piece(
             alloc,
+            576,
             first % 1_000_000 + 2_160 * u32::from(m),
             (q / 4) as u8,
         );
@@ -156,6 +160,43 @@ fn a_hundred_units_keep_the_limits(rt: HostRuntime) -> Result<(), Fail> {
     let bytes = run(alloc, 1_600, 100, 2_420)?;
     match measure(alloc, &base(&rt, alloc), units.as_slice(), &bytes) {
         Ok(found) => assert!(rt; is_found(&found, (1, 590), (127, 346), None)),
+        Err(error) => panic!(rt; "{error}"),
+    }
+    Ok(())
+}
+
+// The sizes of units in turn: any two of them have four packets.
+const SIZES: [u16; 2] = [520, 150];
+
+// The packet of slot s, with 20 units of these sizes, 720 units of time apart, in every fourth slot.
+fn grouped_packet(alloc: Global, s: u16) -> Result<[u8; 188], AllocError> {
+    let own = s / 4;
+    if s % 4 != 0 || own >= 40 {
+        return packet(alloc, 0, 0, s);
+    }
+    let (pair, q) = (u32::from(own / 4), (own % 4) as u8);
+    if q == 3 {
+        piece(alloc, SIZES[1], 1_600 + 720 * (2 * pair + 1), 0)
+    } else {
+        piece(alloc, SIZES[0], 1_600 + 720 * 2 * pair, q)
+    }
+}
+
+// Large and small units in turn, in two slots a unit: none is late.
+#[test]
+fn units_in_groups_keep_the_limits(rt: HostRuntime) -> Result<(), Fail> {
+    let alloc = rt.alloc();
+    let mut units = Vec::new(alloc);
+    for m in 0..20u16 {
+        let size = SIZES[usize::from(m % 2)];
+        units.push(unit(alloc, 0, 1_600 + 720 * u32::from(m), size)?)?;
+    }
+    let mut bytes = Vec::new(alloc);
+    for s in 0..200 {
+        bytes.extend_from_slice(&grouped_packet(alloc, s)?)?;
+    }
+    match measure(alloc, &base(&rt, alloc), units.as_slice(), &bytes) {
+        Ok(found) => assert!(rt; is_found(&found, (1, 882), (127, 346), None)),
         Err(error) => panic!(rt; "{error}"),
     }
     Ok(())
