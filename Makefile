@@ -28,7 +28,7 @@ bench: binary
 	python3 bench/demux.py $(BINARY)
 	python3 bench/packets.py
 	python3 bench/check.py
-	@if [ -f bench/measure.py ]; then python3 bench/measure.py; fi
+	python3 bench/measure.py
 
 clean:
 	rm -rf out crates/*/out
