@@ -2,7 +2,7 @@
 use Rattle.std.proofs.Common.{◌≡◌, [], ◌∷◌, refl}
 use Rattle.clock27.specs.Arrival.{bytes_from}
 use Rattle.clock27.specs.Departure.{departures}
-use Rattle.clock27.specs.Fullness.{held}
+use Rattle.clock27.specs.Fullness.{fullness}
 use Rattle.clock27.specs.Peak.{most_found}
 use Rattle.clock27.specs.Reference.{pcr_at}
 use Rattle.clock27.specs.Release.{release}
@@ -24,8 +24,8 @@ leaving : departures 3 0 (bytes_from 2 0 4) ≡ 3 ∷ 6 ∷ 9 ∷ 12 ∷ []
 unfolding departures bytes_from
 leaving = refl
 
-holding : held 6 (bytes_from 2 0 4) (departures 3 0 (bytes_from 2 0 4)) ≡ 2
-unfolding departures bytes_from held
+holding : fullness 6 (bytes_from 2 0 4) (departures 3 0 (bytes_from 2 0 4)) ≡ 2
+unfolding departures bytes_from fullness
 holding = refl
 
 -- the greatest fullness of those four bytes

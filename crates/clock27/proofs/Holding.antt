@@ -5,48 +5,48 @@ use Rattle.std.proofs.lemmas.Bool.{cases_lt}
 use Rattle.std.proofs.lemmas.Bool.Decides.{nat_tests}
 use Rattle.std.proofs.lemmas.List.Elements.{All-head, All-tail}
 use Rattle.clock27.specs.Departure.{departures}
-use Rattle.clock27.specs.Fullness.{is_held, held, Stays}
-use Rattle.clock27.specs.Laws.{HeldLaw, HeldBound, HeldBefore, HeldAfter, RoomLaw}
+use Rattle.clock27.specs.Fullness.{is_in_buffer, fullness, Stays}
+use Rattle.clock27.specs.Laws.{FullnessLaw, FullnessBound, FullnessBefore, FullnessAfter, RoomLaw}
 
-pub held-append : HeldLaw
-unfolding held
-held-append x [] ts' [] ds' e = omega arith
-held-append x [] ts' (d ∷ ds) ds' e = cc
-held-append x (t ∷ ts) ts' [] ds' e = cc
-held-append x (t ∷ ts) ts' (d ∷ ds) ds' e =
-    let rest = held-append x ts ts' ds ds' (cc) in
+pub fullness-append : FullnessLaw
+unfolding fullness
+fullness-append x [] ts' [] ds' e = omega arith
+fullness-append x [] ts' (d ∷ ds) ds' e = cc
+fullness-append x (t ∷ ts) ts' [] ds' e = cc
+fullness-append x (t ∷ ts) ts' (d ∷ ds) ds' e =
+    let rest = fullness-append x ts ts' ds ds' (cc) in
     rw rest (omega arith)
 
 -- one byte counts at most once
-one_at_most : (x t d : ℕ) → (let n : ℕ = cond (is_held x t d) 1 0 in n) ≤ 1
+one_at_most : (x t d : ℕ) → (let n : ℕ = cond (is_in_buffer x t d) 1 0 in n) ≤ 1
 one_at_most x t d = grind (arith, nat_tests)
 
-pub held_le : HeldBound
-unfolding held
-held_le x [] ds = omega arith
-held_le x (t ∷ ts) [] = omega arith
-held_le x (t ∷ ts) (d ∷ ds) = omega (arith, one_at_most x t d, held_le x ts ds)
+pub fullness_le : FullnessBound
+unfolding fullness
+fullness_le x [] ds = omega arith
+fullness_le x (t ∷ ts) [] = omega arith
+fullness_le x (t ∷ ts) (d ∷ ds) = omega (arith, one_at_most x t d, fullness_le x ts ds)
 
-early_one : (x t d : ℕ) → x < t → (let n : ℕ = cond (is_held x t d) 1 0 in n) ≡ 0
+early_one : (x t d : ℕ) → x < t → (let n : ℕ = cond (is_in_buffer x t d) 1 0 in n) ≡ 0
 early_one x t d h = grind (arith, nat_tests)
 
-late_one : (x t d : ℕ) → d ≤ x → (let n : ℕ = cond (is_held x t d) 1 0 in n) ≡ 0
+late_one : (x t d : ℕ) → d ≤ x → (let n : ℕ = cond (is_in_buffer x t d) 1 0 in n) ≡ 0
 late_one x t d h = grind (arith, nat_tests)
 
-pub held_before : HeldBefore
-unfolding held
-held_before x [] ds a = refl
-held_before x (t ∷ ts) [] a = refl
-held_before x (t ∷ ts) (d ∷ ds) a = omega (arith, early_one x t d (All-head (λ s. x < s) t ts a), held_before x ts ds (All-tail (λ s. x < s) t ts a))
+pub fullness_before : FullnessBefore
+unfolding fullness
+fullness_before x [] ds a = refl
+fullness_before x (t ∷ ts) [] a = refl
+fullness_before x (t ∷ ts) (d ∷ ds) a = omega (arith, early_one x t d (All-head (λ s. x < s) t ts a), fullness_before x ts ds (All-tail (λ s. x < s) t ts a))
 
-pub held_after : HeldAfter
-unfolding held
-held_after x [] ds a = refl
-held_after x (t ∷ ts) [] a = refl
-held_after x (t ∷ ts) (d ∷ ds) a = omega (arith, late_one x t d (All-head (λ s. s ≤ x) d ds a), held_after x ts ds (All-tail (λ s. s ≤ x) d ds a))
+pub fullness_after : FullnessAfter
+unfolding fullness
+fullness_after x [] ds a = refl
+fullness_after x (t ∷ ts) [] a = refl
+fullness_after x (t ∷ ts) (d ∷ ds) a = omega (arith, late_one x t d (All-head (λ s. s ≤ x) d ds a), fullness_after x ts ds (All-tail (λ s. s ≤ x) d ds a))
 
 -- the number counted by a byte: 1 where it is held, and then it arrived at or before x and leaves after it; else 0
-pub counted_one : (x t d : ℕ) → (let n : ℕ = cond (is_held x t d) 1 0 in ((n ≡ 1) × (t ≤ x) × (x < d)) ⊎ ((n ≡ 0) × ((x < t) ⊎ (d ≤ x))))
+pub counted_one : (x t d : ℕ) → (let n : ℕ = cond (is_in_buffer x t d) 1 0 in ((n ≡ 1) × (t ≤ x) × (x < d)) ⊎ ((n ≡ 0) × ((x < t) ⊎ (d ≤ x))))
 counted_one x t d = grind (arith, nat_tests)
 
 -- of c bytes held so far the last leaves at prev, and the others a step apart before it; so does one more, at d
@@ -69,8 +69,8 @@ one_fits c step room x t d h stay come pos = elim (cases_lt room (suc c)) [
 
 -- with c bytes held of those before
 room_left : (c x step room prev : ℕ) (ts : List ℕ) → 0 < step → c ≤ room → c * step ≤ (prev + step) - (x + 1) →
-    Stays (room * step) ts (departures step prev ts) → c + held x ts (departures step prev ts) ≤ room
-unfolding departures held Stays
+    Stays (room * step) ts (departures step prev ts) → c + fullness x ts (departures step prev ts) ≤ room
+unfolding departures fullness Stays
 room_left c x step room prev [] pos few h stay = omega arith
 room_left c x step room prev (t ∷ ts) pos few h stay = elim (counted_one x t (max t prev + step)) [
   | inl is ↦

@@ -2,7 +2,7 @@
 use Rattle.std.proofs.Common.{◌≡◌, ℕ, ◌+◌, ◌-◌, ◌≤◌, max, List, [], ◌∷◌, map, refl, arith, cond}
 use Rattle.std.proofs.lemmas.Bool.Decides.{nat_tests}
 use Rattle.clock27.specs.Departure.{departures}
-use Rattle.clock27.specs.Fullness.{is_held, held}
+use Rattle.clock27.specs.Fullness.{is_in_buffer, fullness}
 use Rattle.clock27.specs.Laws.{TandemLaw, SecondLaw}
 
 -- p, e and f are the last departures from the first queue, from the second, and from the second alone
@@ -25,15 +25,15 @@ tandem_law first second ts le =
 
 -- a byte held by the second queue would be held by it alone, `first` before
 one_earlier : (x first prev t f : ℕ) →
-    (let n : ℕ = cond (is_held x (max t prev + first) (f + first)) 1 0 in n) ≤ (let n : ℕ = cond (is_held (x - first) t f) 1 0 in n)
+    (let n : ℕ = cond (is_in_buffer x (max t prev + first) (f + first)) 1 0 in n) ≤ (let n : ℕ = cond (is_in_buffer (x - first) t f) 1 0 in n)
 one_earlier x first prev t f = grind (arith, nat_tests)
 
-held_earlier : (x first prev : ℕ) (ts fs : List ℕ) →
-    held x (departures first prev ts) (map (λ d. d + first) fs) ≤ held (x - first) ts fs
-unfolding departures held
-held_earlier x first prev [] fs = omega arith
-held_earlier x first prev (t ∷ ts) [] = omega arith
-held_earlier x first prev (t ∷ ts) (f ∷ fs) = omega (arith, one_earlier x first prev t f, held_earlier x first (max t prev + first) ts fs)
+fullness_earlier : (x first prev : ℕ) (ts fs : List ℕ) →
+    fullness x (departures first prev ts) (map (λ d. d + first) fs) ≤ fullness (x - first) ts fs
+unfolding departures fullness
+fullness_earlier x first prev [] fs = omega arith
+fullness_earlier x first prev (t ∷ ts) [] = omega arith
+fullness_earlier x first prev (t ∷ ts) (f ∷ fs) = omega (arith, one_earlier x first prev t f, fullness_earlier x first (max t prev + first) ts fs)
 
 pub second_law : SecondLaw
-second_law x first second ts le = rw (tandem_law first second ts le) (held_earlier x first 0 ts (departures second 0 ts))
+second_law x first second ts le = rw (tandem_law first second ts le) (fullness_earlier x first 0 ts (departures second 0 ts))

@@ -6,9 +6,9 @@ use Rattle.std.proofs.lemmas.Bool.Decides.{nat_tests}
 use Rattle.std.proofs.lemmas.List.Elements.{All-nil, All-cons, All-weaker}
 use Rattle.clock27.specs.Arrival.{bytes_from, arrivals}
 use Rattle.clock27.specs.Departure.{departures}
-use Rattle.clock27.specs.Fullness.{is_held, held, Stays}
+use Rattle.clock27.specs.Fullness.{is_in_buffer, fullness, Stays}
 use Rattle.clock27.specs.Peak.{IsPeak, Climbs, found, most_found, PeakLaw, ArrivalsClimb, DeparturesClimb}
-use Rattle.clock27.proofs.Holding.{room_law, held_before, counted_one}
+use Rattle.clock27.proofs.Holding.{room_law, fullness_before, counted_one}
 
 -- bytes that take y to leave, rounded up
 abbrev left_in : ℕ → ℕ → ℕ
@@ -34,7 +34,7 @@ left_enough step y pos = omega (arith, lt-mul-div-succ (y + (step - 1)) pos)
 
 -- at a moment x a byte that arrived before it adds itself to those that leave after x
 counted_in : (step x t prev : ℕ) → 0 < step → t ≤ x →
-    (let n : ℕ = cond (is_held x t (max t prev + step)) 1 0 in n) + left_in step (prev - x) ≡ left_in step ((max t prev + step) - x)
+    (let n : ℕ = cond (is_in_buffer x t (max t prev + step)) 1 0 in n) + left_in step (prev - x) ≡ left_in step ((max t prev + step) - x)
 counted_in step x t prev pos come = elim (counted_one x t (max t prev + step)) [
   | inl is ↦ elim (cases_lt x prev) [
     | inl waits ↦
@@ -74,10 +74,10 @@ alone step t prev pos =
 record Found (step prev from most : ℕ) (ts : List ℕ) : Type 0 where
   at : ℕ
   after : from ≤ at
-  is : left_in step (prev - at) + held at ts (departures step prev ts) ≡ most
+  is : left_in step (prev - at) + fullness at ts (departures step prev ts) ≡ most
 
 most_reached : (step : ℕ) → 0 < step → (t : ℕ) (ts : List ℕ) (prev from : ℕ) → Climbs from (t ∷ ts) → Found step prev from (most_found step prev (t ∷ ts)) (t ∷ ts)
-unfolding Climbs most_found departures held
+unfolding Climbs most_found departures fullness
 most_reached step pos t [] prev from climbs =
     let same : t ≤ t = omega arith in
     record { at = t; after = climbs.0; is = omega (arith, counted_in step t t prev pos same, alone step t prev pos) }
@@ -89,17 +89,17 @@ most_reached step pos t (u ∷ ts) prev from climbs = elim (cases_lt (found step
   | inr here ↦
       let same : t ≤ t = omega arith in
       let next : t < suc t = omega arith in
-      let none = held_before t (u ∷ ts) (departures step (max t prev + step) (u ∷ ts)) (climbs_behind t (suc t) (u ∷ ts) next climbs.1) in
+      let none = fullness_before t (u ∷ ts) (departures step (max t prev + step) (u ∷ ts)) (climbs_behind t (suc t) (u ∷ ts) next climbs.1) in
       record { at = t; after = climbs.0; is = omega (arith, counted_in step t t prev pos same, alone step t prev pos, none) }
 ]
 
-never_passed : (step : ℕ) → 0 < step → (most : ℕ) (ts : List ℕ) (prev : ℕ) → most_found step prev ts ≤ most → Stays (most * step) ts (departures step prev ts)
+never_own_before : (step : ℕ) → 0 < step → (most : ℕ) (ts : List ℕ) (prev : ℕ) → most_found step prev ts ≤ most → Stays (most * step) ts (departures step prev ts)
 unfolding Stays departures most_found
-never_passed step pos most [] prev le = tt
-never_passed step pos most (t ∷ ts) prev le =
+never_own_before step pos most [] prev le = tt
+never_own_before step pos most (t ∷ ts) prev le =
     let one : left_in step (prev - t) + 1 ≤ most = omega arith in (
       omega (arith, left_enough step (prev - t) pos, mul-le-mul_right step one),
-      never_passed step pos most ts (max t prev + step) (omega arith),
+      never_own_before step pos most ts (max t prev + step) (omega arith),
     )
 
 pub peak_law : PeakLaw
@@ -107,14 +107,14 @@ unfolding most_found
 peak_law step from [] pos climbs = record {
   never_more = λ x. room_law x step 0 [] pos (unfold Stays departures in tt);
   moment = 0;
-  reached = unfold held departures in refl;
+  reached = unfold fullness departures in refl;
 }
 peak_law step from (t ∷ ts) pos climbs =
     let at = most_reached step pos t ts 0 from climbs in
     let none : 0 - at.at ≡ 0 = omega arith in
     let same : most_found step 0 (t ∷ ts) ≤ most_found step 0 (t ∷ ts) = omega arith in
     record {
-      never_more = λ x. room_law x step (most_found step 0 (t ∷ ts)) (t ∷ ts) pos (never_passed step pos (most_found step 0 (t ∷ ts)) (t ∷ ts) 0 same);
+      never_more = λ x. room_law x step (most_found step 0 (t ∷ ts)) (t ∷ ts) pos (never_own_before step pos (most_found step 0 (t ∷ ts)) (t ∷ ts) 0 same);
       moment = at.at;
       reached = omega (arith, rw none at at.is, left_none step pos);
     }

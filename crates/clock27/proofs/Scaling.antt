@@ -5,9 +5,9 @@ use Rattle.std.proofs.lemmas.Bool.{cases_lt, lt-ltb, le-ltb, le-leb, lt-leb}
 use Rattle.std.proofs.lemmas.List.{map-append}
 use Rattle.clock27.specs.Arrival.{bytes_from, arrivals}
 use Rattle.clock27.specs.Departure.{departures}
-use Rattle.clock27.specs.Fullness.{held}
+use Rattle.clock27.specs.Fullness.{fullness}
 use Rattle.clock27.specs.Recurrence.{Recur}
-use Rattle.clock27.specs.Laws.{ScaleLaw, ArrivalsScaleLaw, HeldScaleLaw, LimitLaw}
+use Rattle.clock27.specs.Laws.{ScaleLaw, ArrivalsScaleLaw, FullnessScaleLaw, LimitLaw}
 
 -- the later of two times, and a step, in smaller units
 next-scale : (k step a b : ℕ) → max (k * a) (k * b) + k * step ≡ k * (max a b + step)
@@ -47,11 +47,11 @@ left-scale x k d pos = elim (cases_lt (x / k) d) [
   | inr h ↦ le-ltb x (k * d) (omega (arith, mul-div-le x k, mul-le-mul_left k h)) ∙ sym (le-ltb (x / k) d h)
 ]
 
-pub held-scale : HeldScaleLaw
-unfolding held
-held-scale x k [] ds pos = refl
-held-scale x k (t ∷ ts) [] pos = refl
-held-scale x k (t ∷ ts) (d ∷ ds) pos = rw (come-scale x k t pos, left-scale x k d pos, held-scale x k ts ds pos) refl
+pub fullness-scale : FullnessScaleLaw
+unfolding fullness
+fullness-scale x k [] ds pos = refl
+fullness-scale x k (t ∷ ts) [] pos = refl
+fullness-scale x k (t ∷ ts) (d ∷ ds) pos = rw (come-scale x k t pos, left-scale x k d pos, fullness-scale x k ts ds pos) refl
 
 pub limit_law : LimitLaw
 unfolding Recur

@@ -2,14 +2,14 @@
 use Rattle.std.specs.Prelude.{ℕ, ◌+◌, ◌≤◌, Bool, cond, nat_le, nat_lt, ◌&&◌, List, [], ◌∷◌}
 
 -- a byte that arrives at t and leaves at d is held at the moment x
-abbrev pub is_held : ℕ → ℕ → ℕ → Bool
-is_held x t d = nat_le t x && nat_lt x d
+abbrev pub is_in_buffer : ℕ → ℕ → ℕ → Bool
+is_in_buffer x t d = nat_le t x && nat_lt x d
 
 -- the number of bytes held at the moment x, of bytes with these arrivals and these departures
-unfoldable pub held : ℕ → List ℕ → List ℕ → ℕ
-held x [] ds = 0
-held x (t ∷ ts) [] = 0
-held x (t ∷ ts) (d ∷ ds) = cond (is_held x t d) 1 0 + held x ts ds
+unfoldable pub fullness : ℕ → List ℕ → List ℕ → ℕ
+fullness x [] ds = 0
+fullness x (t ∷ ts) [] = 0
+fullness x (t ∷ ts) (d ∷ ds) = cond (is_in_buffer x t d) 1 0 + fullness x ts ds
 
 -- each byte leaves at most `wait` after it arrived
 unfoldable pub Stays : ℕ → List ℕ → List ℕ → Type 0

@@ -2,7 +2,7 @@
 use Rattle.std.specs.Prelude.{◌≡◌, ℕ, ◌+◌, ◌-◌, ◌*◌, ◌/◌, ◌<◌, ◌≤◌, max, List, ◌++◌, length, map, All}
 use Rattle.clock27.specs.Arrival.{bytes_from, arrivals}
 use Rattle.clock27.specs.Departure.{departures, last_left}
-use Rattle.clock27.specs.Fullness.{held, Stays}
+use Rattle.clock27.specs.Fullness.{fullness, Stays}
 use Rattle.clock27.specs.Recurrence.{Recur}
 use Rattle.clock27.specs.Release.{IsReleaseSlot, release}
 
@@ -37,24 +37,24 @@ RowLaw = (r i n : ℕ) → All (λ t. i * r ≤ t) (bytes_from r i n)
 
 -- where no byte stays longer than `room` bytes take to leave, no more than `room` are held at any moment
 abbrev pub RoomLaw : Type 0
-RoomLaw = (x step room : ℕ) (ts : List ℕ) → 0 < step → Stays (room * step) ts (departures step 0 ts) → held x ts (departures step 0 ts) ≤ room
+RoomLaw = (x step room : ℕ) (ts : List ℕ) → 0 < step → Stays (room * step) ts (departures step 0 ts) → fullness x ts (departures step 0 ts) ≤ room
 
 -- the bytes held are those of the first part and those of the rest
-abbrev pub HeldLaw : Type 0
-HeldLaw = (x : ℕ) (ts ts' ds ds' : List ℕ) → length ts ≡ length ds →
-    held x (ts ++ ts') (ds ++ ds') ≡ held x ts ds + held x ts' ds'
+abbrev pub FullnessLaw : Type 0
+FullnessLaw = (x : ℕ) (ts ts' ds ds' : List ℕ) → length ts ≡ length ds →
+    fullness x (ts ++ ts') (ds ++ ds') ≡ fullness x ts ds + fullness x ts' ds'
 
 -- no more are held than have arrivals
-abbrev pub HeldBound : Type 0
-HeldBound = (x : ℕ) (ts ds : List ℕ) → held x ts ds ≤ length ts
+abbrev pub FullnessBound : Type 0
+FullnessBound = (x : ℕ) (ts ds : List ℕ) → fullness x ts ds ≤ length ts
 
 -- none is held before all arrivals
-abbrev pub HeldBefore : Type 0
-HeldBefore = (x : ℕ) (ts ds : List ℕ) → All (λ t. x < t) ts → held x ts ds ≡ 0
+abbrev pub FullnessBefore : Type 0
+FullnessBefore = (x : ℕ) (ts ds : List ℕ) → All (λ t. x < t) ts → fullness x ts ds ≡ 0
 
 -- none is held once all have left
-abbrev pub HeldAfter : Type 0
-HeldAfter = (x : ℕ) (ts ds : List ℕ) → All (λ d. d ≤ x) ds → held x ts ds ≡ 0
+abbrev pub FullnessAfter : Type 0
+FullnessAfter = (x : ℕ) (ts ds : List ℕ) → All (λ d. d ≤ x) ds → fullness x ts ds ≡ 0
 
 -- a queue behind one that is no slower: each byte leaves the second `first` later than it would leave the second alone
 abbrev pub TandemLaw : Type 0
@@ -64,7 +64,7 @@ TandemLaw = (first second : ℕ) (ts : List ℕ) → first ≤ second →
 -- so the second holds no more than it would alone, `first` before
 abbrev pub SecondLaw : Type 0
 SecondLaw = (x first second : ℕ) (ts : List ℕ) → first ≤ second →
-    held x (departures first 0 ts) (departures second 0 (departures first 0 ts)) ≤ held (x - first) ts (departures second 0 ts)
+    fullness x (departures first 0 ts) (departures second 0 (departures first 0 ts)) ≤ fullness (x - first) ts (departures second 0 ts)
 
 -- in smaller units all times are multiples
 abbrev pub ScaleLaw : Type 0
@@ -76,8 +76,8 @@ abbrev pub ArrivalsScaleLaw : Type 0
 ArrivalsScaleLaw = (k r : ℕ) (slots : List ℕ) → arrivals (k * r) slots ≡ map (λ t. k * t) (arrivals r slots)
 
 -- and the number of bytes held is that at the last moment of the greater units
-abbrev pub HeldScaleLaw : Type 0
-HeldScaleLaw = (x k : ℕ) (ts ds : List ℕ) → 0 < k → held x (map (λ t. k * t) ts) (map (λ t. k * t) ds) ≡ held (x / k) ts ds
+abbrev pub FullnessScaleLaw : Type 0
+FullnessScaleLaw = (x k : ℕ) (ts ds : List ℕ) → 0 < k → fullness x (map (λ t. k * t) ts) (map (λ t. k * t) ds) ≡ fullness (x / k) ts ds
 
 -- what recurs within a limit does so within a greater one
 abbrev pub LimitLaw : Type 0

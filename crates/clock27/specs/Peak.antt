@@ -2,7 +2,7 @@
 use Rattle.std.specs.Prelude.{◌≡◌, ℕ, suc, ◌+◌, ◌-◌, ◌*◌, ◌/◌, ◌<◌, ◌≤◌, max, List, [], ◌∷◌}
 use Rattle.clock27.specs.Arrival.{arrivals}
 use Rattle.clock27.specs.Departure.{departures}
-use Rattle.clock27.specs.Fullness.{held}
+use Rattle.clock27.specs.Fullness.{fullness}
 
 -- n is the greatest f over all moments: it is never passed, and it is reached
 pub record IsPeak (f : ℕ → ℕ) (n : ℕ) : Type 0 where
@@ -31,7 +31,7 @@ most_found step prev (t ∷ ts) = max (found step prev t) (most_found step (max 
 
 -- that is the greatest fullness
 abbrev pub PeakLaw : Type 0
-PeakLaw = (step from : ℕ) (ts : List ℕ) → 0 < step → Climbs from ts → IsPeak (λ x. held x ts (departures step 0 ts)) (most_found step 0 ts)
+PeakLaw = (step from : ℕ) (ts : List ℕ) → 0 < step → Climbs from ts → IsPeak (λ x. fullness x ts (departures step 0 ts)) (most_found step 0 ts)
 
 -- the bytes of packets one after another arrive one after another
 abbrev pub ArrivalsClimb : Type 0

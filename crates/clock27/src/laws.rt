@@ -1,7 +1,7 @@
 //! Laws of the times of bytes. Each is a function that does nothing: its contract is the law, over
 //! the definitions of `specs/` alone, and a caller may cite it.
 ghost use Rattle.clock27.specs.Peak.{PeakLaw, ArrivalsClimb, DeparturesClimb};
-ghost use Rattle.clock27.specs.Laws.{DeparturesLaw, LastLaw, LengthLaw, PacketLaw, RisingLaw, EarliestLaw, RowLaw, RoomLaw, HeldLaw, HeldBound, HeldBefore, HeldAfter, TandemLaw, SecondLaw, ScaleLaw, ArrivalsScaleLaw, HeldScaleLaw, LimitLaw, ReleaseLaw};
+ghost use Rattle.clock27.specs.Laws.{DeparturesLaw, LastLaw, LengthLaw, PacketLaw, RisingLaw, EarliestLaw, RowLaw, RoomLaw, FullnessLaw, FullnessBound, FullnessBefore, FullnessAfter, TandemLaw, SecondLaw, ScaleLaw, ArrivalsScaleLaw, FullnessScaleLaw, LimitLaw, ReleaseLaw};
 
 /// Departures of bytes that arrive in two parts.
 pub fn departures()
@@ -19,11 +19,11 @@ pub fn packet()
 {}
 
 /// The number of bytes that a buffer holds.
-pub fn held()
-    ensures appended { HeldLaw }
-    ensures bound { HeldBound }
-    ensures before { HeldBefore }
-    ensures after { HeldAfter }
+pub fn fullness()
+    ensures appended { FullnessLaw }
+    ensures bound { FullnessBound }
+    ensures before { FullnessBefore }
+    ensures after { FullnessAfter }
     ensures room { RoomLaw }
 {}
 
@@ -37,14 +37,14 @@ pub fn peak()
 /// Two queues, the second behind the first and no faster.
 pub fn tandem()
     ensures departures { TandemLaw }
-    ensures held { SecondLaw }
+    ensures fullness { SecondLaw }
 {}
 
 /// Times in smaller units.
 pub fn scale()
     ensures departures { ScaleLaw }
     ensures arrivals { ArrivalsScaleLaw }
-    ensures held { HeldScaleLaw }
+    ensures fullness { FullnessScaleLaw }
 {}
 
 /// Recurrence within a limit.

@@ -3,13 +3,13 @@ use Rattle.std.proofs.Common.{false, max, ◌≡◌, ℕ, ◌+◌, ◌-◌, ◌*
 use Rattle.std.proofs.Math.Nat.{mod-add-div'}
 use Rattle.std.proofs.lemmas.Nat.{mod_below}
 use Rattle.std.proofs.lemmas.Bool.{cases_Bool, cond-true, cond-false}
-use Rattle.own_slots.specs.Slots.{passed}
+use Rattle.own_slots.specs.Slots.{own_before}
 use Rattle.own_slots.specs.Period.{own, per_period, position}
 use Rattle.own_slots.specs.Extremes.{greatest}
 use Rattle.own_slots.specs.Gaps.{gap, ahead, GapLaw, GapWalkLaw}
 use Rattle.own_slots.proofs.Greatest.{at_most_greatest, greatest_at_most, greatest_more}
-use Rattle.own_slots.proofs.Counting.{passed_lt, windows_serve}
-use Rattle.own_slots.proofs.Placing.{passed_period, positions_law, position_below, position_turns}
+use Rattle.own_slots.proofs.Counting.{own_before_lt, windows_serve}
+use Rattle.own_slots.proofs.Placing.{own_before_period, positions_law, position_below, position_turns}
 
 -- what the gap says of one period holds of all own slots
 pub gaps_all : (marks : List Bool) (k g : ℕ) → 0 < per_period marks → gap marks k ≤ g → (i : ℕ) → position marks (i + k) ≤ position marks i + g
@@ -41,8 +41,8 @@ gap_law marks k g pos le = windows_serve (own marks) (position marks) k g (posit
 
 -- ---- one walk over the slots
 
-ahead_own : (marks : List Bool) (k s : ℕ) → own marks s ≡ true → ahead marks k s ≡ position marks (passed (own marks) s + k) - s
-ahead_own marks k s y = cond-true (own marks s) (position marks (passed (own marks) s + k) - s) 0 y
+ahead_own : (marks : List Bool) (k s : ℕ) → own marks s ≡ true → ahead marks k s ≡ position marks (own_before (own marks) s + k) - s
+ahead_own marks k s y = cond-true (own marks s) (position marks (own_before (own marks) s + k) - s) 0 y
 
 ahead_position : (marks : List Bool) (k i : ℕ) → 0 < per_period marks → ahead marks k (position marks i) ≡ position marks (i + k) - position marks i
 ahead_position marks k i pos = ahead_own marks k (position marks i) ((positions_law marks pos).is_own i)
@@ -52,23 +52,23 @@ pub gap_walk_law : GapWalkLaw
 gap_walk_law marks k pos = le_antisymm
     (greatest_at_most (length marks) (ahead marks k) (gap marks k) (λ s lt. elim (cases_Bool (own marks s)) [
       | inl y ↦ each s lt y
-      | inr n ↦ omega (arith, cond-false (own marks s) (position marks (passed (own marks) s + k) - s) 0 n)
+      | inr n ↦ omega (arith, cond-false (own marks s) (position marks (own_before (own marks) s + k) - s) 0 n)
     ]))
     (greatest_at_most (per_period marks) (λ i. position marks (i + k) - position marks i) (greatest (length marks) (ahead marks k)) (λ i lt.
     omega (arith, ahead_position marks k i pos, at_most_greatest (length marks) (ahead marks k) (position marks i) (position_below marks i pos lt))))
   where
     each : (s : ℕ) → s < length marks → own marks s ≡ true → ahead marks k s ≤ gap marks k
     each s lt y =
-        let i : ℕ = passed (own marks) s in
-        let few : i < per_period marks = omega (arith, passed_lt (own marks) s (length marks) y lt, passed_period marks) in
+        let i : ℕ = own_before (own marks) s in
+        let few : i < per_period marks = omega (arith, own_before_lt (own marks) s (length marks) y lt, own_before_period marks) in
         let near : position marks (i + k) - position marks i ≤ gap marks k = at_most_greatest (per_period marks) (λ j. position marks (j + k) - position marks j) i few in
         omega (arith, ahead_own marks k s y, near, (positions_law marks pos).found s y)
 
 -- one slot more of the walk
 
 pub gap_more : (marks : List Bool) (k s : ℕ) → own marks s ≡ true →
-    greatest (s + 1) (ahead marks k) ≡ max (greatest s (ahead marks k)) (position marks (passed (own marks) s + k) - s)
+    greatest (s + 1) (ahead marks k) ≡ max (greatest s (ahead marks k)) (position marks (own_before (own marks) s + k) - s)
 gap_more marks k s y = greatest_more s (ahead marks k) ∙ ap (max (greatest s (ahead marks k))) (ahead_own marks k s y)
 
 pub gap_same : (marks : List Bool) (k s : ℕ) → own marks s ≡ false → greatest (s + 1) (ahead marks k) ≡ greatest s (ahead marks k)
-gap_same marks k s n = greatest_more s (ahead marks k) ∙ ap (max (greatest s (ahead marks k))) (cond-false (own marks s) (position marks (passed (own marks) s + k) - s) 0 n) ∙ omega arith
+gap_same marks k s n = greatest_more s (ahead marks k) ∙ ap (max (greatest s (ahead marks k))) (cond-false (own marks s) (position marks (own_before (own marks) s + k) - s) 0 n) ∙ omega arith

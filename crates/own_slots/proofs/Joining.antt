@@ -2,12 +2,12 @@
 use Rattle.std.proofs.Common.{◌≡◌, ℕ, zero, suc, ◌+◌, ◌-◌, ◌*◌, ◌<◌, ◌≤◌, max, Bool, true, cond, ltb, List, length, refl, ap, sym, ◌∙◌, inl, inr, arith}
 use Rattle.std.proofs.Math.Nat.{add-suc, add-zero, mul-le-mul_left}
 use Rattle.std.proofs.lemmas.Bool.{cases_Bool, cases_lt, cond-true, cond-false, lt-ltb, le-ltb}
-use Rattle.own_slots.specs.Slots.{passed, Serves, Enumerates}
+use Rattle.own_slots.specs.Slots.{own_before, Serves, Enumerates}
 use Rattle.own_slots.specs.Period.{own, per_period, position, back, BackLaw}
 use Rattle.own_slots.specs.Spread.{spread}
 use Rattle.own_slots.specs.Switch.{joined, shift, SwitchGapLaw, SwitchRateLaw, SwitchSpareLaw}
-use Rattle.own_slots.proofs.Counting.{passed_own, passed_other, passed_same, passed_le, before_from, same_number, windows_serve}
-use Rattle.own_slots.proofs.Placing.{passed_turns, positions_law, position_turns}
+use Rattle.own_slots.proofs.Counting.{own_before_own, own_before_other, own_before_same, own_before_le, before_from, same_number, windows_serve}
+use Rattle.own_slots.proofs.Placing.{own_before_turns, positions_law, position_turns}
 use Rattle.own_slots.proofs.Gapping.{gaps_all, gap_first}
 use Rattle.own_slots.proofs.Pacing.{spreads_all, rate_step, rate_first}
 
@@ -19,17 +19,17 @@ joined_first first second at s lt = cond-true (ltb s at) (first s) (second (s - 
 pub joined_second : (first second : ℕ → Bool) (at d : ℕ) → joined first second at (at + d) ≡ second d
 joined_second first second at d = cond-false (ltb (at + d) at) (first (at + d)) (second (at + d - at)) (le-ltb (at + d) at (omega arith)) ∙ ap second (omega arith)
 
-passed_first : (first second : ℕ → Bool) (at s : ℕ) → s ≤ at → passed (joined first second at) s ≡ passed first s
-passed_first first second at s le = passed_same (joined first second at) first s (λ t lt. joined_first first second at t (omega arith))
+own_before_first : (first second : ℕ → Bool) (at s : ℕ) → s ≤ at → own_before (joined first second at) s ≡ own_before first s
+own_before_first first second at s le = own_before_same (joined first second at) first s (λ t lt. joined_first first second at t (omega arith))
 
-passed_second : (first second : ℕ → Bool) (at d : ℕ) → passed (joined first second at) (at + d) ≡ passed first at + passed second d
-passed_second first second at zero = rw add-zero (passed_first first second at at (omega arith) ∙ from_zero)
+own_before_second : (first second : ℕ → Bool) (at d : ℕ) → own_before (joined first second at) (at + d) ≡ own_before first at + own_before second d
+own_before_second first second at zero = rw add-zero (own_before_first first second at at (omega arith) ∙ from_zero)
   where
-    from_zero : passed first at ≡ passed first at + passed second zero
-    from_zero = unfold passed in omega arith
-passed_second first second at (suc d) = rw add-suc (elim (cases_Bool (second d)) [
-  | inl y ↦ omega (arith, passed_second first second at d, passed_own (joined first second at) (at + d) (joined_second first second at d ∙ y), passed_own second d y)
-  | inr n ↦ omega (arith, passed_second first second at d, passed_other (joined first second at) (at + d) (joined_second first second at d ∙ n), passed_other second d n)
+    from_zero : own_before first at ≡ own_before first at + own_before second zero
+    from_zero = unfold own_before in omega arith
+own_before_second first second at (suc d) = rw add-suc (elim (cases_Bool (second d)) [
+  | inl y ↦ omega (arith, own_before_second first second at d, own_before_own (joined first second at) (at + d) (joined_second first second at d ∙ y), own_before_own second d y)
+  | inr n ↦ omega (arith, own_before_second first second at d, own_before_other (joined first second at) (at + d) (joined_second first second at d ∙ n), own_before_other second d n)
 ])
 
 -- ---- share
@@ -40,26 +40,26 @@ switch_spare_law first second at w m n few some s = elim (cases_lt at (s + w)) [
     | inl before ↦ across past before
     | inr after ↦ beyond after
   ]
-  | inr within ↦ omega (arith, few s, passed_first first second at s (omega arith), passed_first first second at (s + w) within)
+  | inr within ↦ omega (arith, few s, own_before_first first second at s (omega arith), own_before_first first second at (s + w) within)
 ]
   where
     J : ℕ → ℕ
-    J t = passed (joined first second at) t
+    J t = own_before (joined first second at) t
 
     across : at < s + w → s < at → J (s + w) ≤ J s + (m + n)
     across past before =
         let e : s + w ≡ at + (s + w - at) = omega arith in
-        let none : passed second 0 ≡ 0 = unfold passed in refl in
-        let there : J (s + w) ≡ passed first at + passed second (s + w - at) = ap J e ∙ passed_second first second at (s + w - at) in
-        let short : passed second (s + w - at) ≤ passed second (0 + w) = passed_le second (s + w - at) (0 + w) (omega arith) in
-        omega (arith, there, short, none, few s, some 0, passed_first first second at s (omega arith), passed_le first at (s + w) (omega arith))
+        let none : own_before second 0 ≡ 0 = unfold own_before in refl in
+        let there : J (s + w) ≡ own_before first at + own_before second (s + w - at) = ap J e ∙ own_before_second first second at (s + w - at) in
+        let short : own_before second (s + w - at) ≤ own_before second (0 + w) = own_before_le second (s + w - at) (0 + w) (omega arith) in
+        omega (arith, there, short, none, few s, some 0, own_before_first first second at s (omega arith), own_before_le first at (s + w) (omega arith))
 
     beyond : at ≤ s → J (s + w) ≤ J s + (m + n)
     beyond after =
         let e : s ≡ at + (s - at) = omega arith in
         let f : s + w ≡ at + ((s - at) + w) = omega arith in
-        let here : J s ≡ passed first at + passed second (s - at) = ap J e ∙ passed_second first second at (s - at) in
-        let there : J (s + w) ≡ passed first at + passed second ((s - at) + w) = ap J f ∙ passed_second first second at ((s - at) + w) in
+        let here : J s ≡ own_before first at + own_before second (s - at) = ap J e ∙ own_before_second first second at (s - at) in
+        let there : J (s + w) ≡ own_before first at + own_before second ((s - at) + w) = ap J f ∙ own_before_second first second at ((s - at) + w) in
         omega (arith, here, there, some (s - at))
 
 -- ---- positions before a period's end
@@ -68,13 +68,13 @@ switch_spare_law first second at w m n few some s = elim (cases_lt at (s + w)) [
 turned : (marks : List Bool) (i j u v : ℕ) → 0 < per_period marks → i + u * per_period marks ≡ j + v * per_period marks → position marks i + u * length marks ≡ position marks j + v * length marks
 turned marks i j u v pos e = sym (position_turns marks i u pos) ∙ ap (position marks) e ∙ position_turns marks j v pos
 
-passed_end : (marks : List Bool) (y : ℕ) → passed (own marks) (y * length marks) ≡ y * per_period marks
-passed_end marks y = let z : passed (own marks) 0 ≡ 0 = unfold passed in refl in
-    let e : y * length marks ≡ 0 + y * length marks = omega arith in ap (passed (own marks)) e ∙ omega (arith, passed_turns marks 0 y, z)
+own_before_end : (marks : List Bool) (y : ℕ) → own_before (own marks) (y * length marks) ≡ y * per_period marks
+own_before_end marks y = let z : own_before (own marks) 0 ≡ 0 = unfold own_before in refl in
+    let e : y * length marks ≡ 0 + y * length marks = omega arith in ap (own_before (own marks)) e ∙ omega (arith, own_before_turns marks 0 y, z)
 
 -- the own slots numbered below y periods' stand before the end of y periods
 before_end : (marks : List Bool) (i y : ℕ) → 0 < per_period marks → i < y * per_period marks → position marks i < y * length marks
-before_end marks i y pos lt = before_from (own marks) (position marks i) (y * length marks) (omega (arith, (positions_law marks pos).counted i, passed_end marks y))
+before_end marks i y pos lt = before_from (own marks) (position marks i) (y * length marks) (omega (arith, (positions_law marks pos).counted i, own_before_end marks y))
 
 -- `back` is not cut off at 0
 back_whole : (marks : List Bool) (x : ℕ) → 0 < per_period marks → 0 < x → back marks x + position marks (x * per_period marks - x) ≡ x * length marks
@@ -99,7 +99,7 @@ back_far marks x y pos lt =
 
 pub back_law : BackLaw
 back_law marks x y s pos some is_own e =
-    let n : passed (own marks) s ≡ y * per_period marks - x = omega (arith, e) in
+    let n : own_before (own marks) s ≡ y * per_period marks - x = omega (arith, e) in
     let at : position marks (y * per_period marks - x) ≡ s = ap (position marks) (sym n) ∙ (positions_law marks pos).found s is_own in
     omega (arith, at, back_spec marks x y pos some (omega (arith, e)))
 
@@ -120,7 +120,7 @@ over_enumerates : (first second : List Bool) (periods : ℕ) → 0 < per_period 
 over_enumerates first second periods p1 p2 = record {
   is_own = λ i. (at_number i).0;
   counted = λ i. (at_number i).1;
-  found = λ s y. same_number J (over first second periods (passed J s)) s ((at_number (passed J s)).0) y ((at_number (passed J s)).1);
+  found = λ s y. same_number J (over first second periods (own_before J s)) s ((at_number (own_before J s)).0) y ((at_number (own_before J s)).1);
 }
   where
     at : ℕ
@@ -129,23 +129,23 @@ over_enumerates first second periods p1 p2 = record {
     J : ℕ → Bool
     J = joined (own first) (own second) at
 
-    early : (i : ℕ) → i < periods * per_period first → (J (over first second periods i) ≡ true) × (passed J (over first second periods i) ≡ i)
+    early : (i : ℕ) → i < periods * per_period first → (J (over first second periods i) ≡ true) × (own_before J (over first second periods i) ≡ i)
     early i lt =
         let e : over first second periods i ≡ position first i = over_first first second periods i lt in
         let before : position first i < at = before_end first i periods p1 lt in (
           ap J e ∙ joined_first (own first) (own second) at (position first i) before ∙ (positions_law first p1).is_own i,
-          ap (passed J) e ∙ passed_first (own first) (own second) at (position first i) (omega (arith, before)) ∙ (positions_law first p1).counted i,
+          ap (own_before J) e ∙ own_before_first (own first) (own second) at (position first i) (omega (arith, before)) ∙ (positions_law first p1).counted i,
         )
 
-    late : (i : ℕ) → periods * per_period first ≤ i → (J (over first second periods i) ≡ true) × (passed J (over first second periods i) ≡ i)
+    late : (i : ℕ) → periods * per_period first ≤ i → (J (over first second periods i) ≡ true) × (own_before J (over first second periods i) ≡ i)
     late i le =
         let z : ℕ = i - periods * per_period first in
         let e : over first second periods i ≡ at + position second z = over_second first second periods i le in (
           ap J e ∙ joined_second (own first) (own second) at (position second z) ∙ (positions_law second p2).is_own z,
-          ap (passed J) e ∙ passed_second (own first) (own second) at (position second z) ∙ omega (arith, passed_end first periods, (positions_law second p2).counted z),
+          ap (own_before J) e ∙ own_before_second (own first) (own second) at (position second z) ∙ omega (arith, own_before_end first periods, (positions_law second p2).counted z),
         )
 
-    at_number : (i : ℕ) → (J (over first second periods i) ≡ true) × (passed J (over first second periods i) ≡ i)
+    at_number : (i : ℕ) → (J (over first second periods i) ≡ true) × (own_before J (over first second periods i) ≡ i)
     at_number i = elim (cases_lt i (periods * per_period first)) [ inl lt ↦ early i lt | inr le ↦ late i le ]
 
 -- windows over the switch: within each plan, and across it

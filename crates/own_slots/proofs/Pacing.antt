@@ -3,13 +3,13 @@ use Rattle.std.proofs.Common.{false, max, min, ◌≡◌, ℕ, ◌+◌, ◌-◌,
 use Rattle.std.proofs.Math.Nat.{mod-add-div', mul-le-mul_left, mul-le-mul_right}
 use Rattle.std.proofs.lemmas.Nat.{mod_below, le-div}
 use Rattle.std.proofs.lemmas.Bool.{cases_Bool, cases_lt, cond-true, cond-false}
-use Rattle.own_slots.specs.Slots.{passed}
+use Rattle.own_slots.specs.Slots.{own_before}
 use Rattle.own_slots.specs.Period.{own, per_period, position}
 use Rattle.own_slots.specs.Extremes.{greatest, least}
 use Rattle.own_slots.specs.Spread.{spread, raised, highest, lowest, most_within, SpreadWalkLaw, RateLaw, ShareLaw}
 use Rattle.own_slots.proofs.Greatest.{at_most_greatest, greatest_at_most, greatest_reached, least_at_most, least_reached, greatest_none, greatest_more, least_more, least_none, least_below, Reached}
-use Rattle.own_slots.proofs.Counting.{passed_lt, before_from, windows_serve}
-use Rattle.own_slots.proofs.Placing.{per_period_le, passed_period, positions_law, position_below, position_turns}
+use Rattle.own_slots.proofs.Counting.{own_before_lt, before_from, windows_serve}
+use Rattle.own_slots.proofs.Placing.{per_period_le, own_before_period, positions_law, position_below, position_turns}
 
 -- ---- all own slots
 
@@ -70,7 +70,7 @@ share_arith c n a w m p q s i pos some h near far = le-div m ((w - 1) * c + a) n
     bound c n a v m p q i h k = omega (arith, h, mul-le-mul_left c k)
 
 pub share_law : ShareLaw
-share_law marks a w pos le some s = elim (cases_lt (passed (own marks) s + most) (passed (own marks) (s + w))) [
+share_law marks a w pos le some s = elim (cases_lt (own_before (own marks) s + most) (own_before (own marks) (s + w))) [
   | inl over ↦ absurd (omega (arith, few over))
   | inr under ↦ under
 ]
@@ -78,12 +78,12 @@ share_law marks a w pos le some s = elim (cases_lt (passed (own marks) s + most)
     most : ℕ
     most = most_within (per_period marks) (length marks) a w
 
-    from : (p : ℕ) → passed (own marks) p ≡ passed (own marks) s → own marks p ≡ true → s ≤ p
-    from p e y = elim (cases_lt p s) [ inl lt ↦ absurd (omega (arith, passed_lt (own marks) p s y lt)) | inr le' ↦ le' ]
+    from : (p : ℕ) → own_before (own marks) p ≡ own_before (own marks) s → own marks p ≡ true → s ≤ p
+    from p e y = elim (cases_lt p s) [ inl lt ↦ absurd (omega (arith, own_before_lt (own marks) p s y lt)) | inr le' ↦ le' ]
 
-    few : passed (own marks) s + most < passed (own marks) (s + w) → most ≤ ((w - 1) * per_period marks + a) / length marks
+    few : own_before (own marks) s + most < own_before (own marks) (s + w) → most ≤ ((w - 1) * per_period marks + a) / length marks
     few over =
-        let i : ℕ = passed (own marks) s in
+        let i : ℕ = own_before (own marks) s in
         let here : s ≤ position marks i = from (position marks i) ((positions_law marks pos).counted i) ((positions_law marks pos).is_own i) in
         let there : position marks (i + most) < s + w = before_from (own marks) (position marks (i + most)) (s + w) (omega (arith, (positions_law marks pos).counted (i + most), over)) in
         share_arith (per_period marks) (length marks) a w most (position marks i) (position marks (i + most)) s i (omega (arith, per_period_le marks)) some
@@ -97,23 +97,23 @@ level marks i = raised (per_period marks) (length marks) (position marks i) i
 
 -- what the walk keeps at slot t
 abbrev high_at : List Bool → ℕ → ℕ
-high_at marks t = cond (own marks t) (raised (per_period marks) (length marks) t (passed (own marks) t)) 0
+high_at marks t = cond (own marks t) (raised (per_period marks) (length marks) t (own_before (own marks) t)) 0
 
 abbrev top : List Bool → ℕ
 top marks = 2 * per_period marks * length marks
 
 abbrev low_at : List Bool → ℕ → ℕ
-low_at marks t = cond (own marks t) (raised (per_period marks) (length marks) t (passed (own marks) t)) (top marks)
+low_at marks t = cond (own marks t) (raised (per_period marks) (length marks) t (own_before (own marks) t)) (top marks)
 
-level_at : (marks : List Bool) (t : ℕ) → 0 < per_period marks → own marks t ≡ true → raised (per_period marks) (length marks) t (passed (own marks) t) ≡ level marks (passed (own marks) t)
-level_at marks t pos y = ap (λ (s : ℕ). raised (per_period marks) (length marks) s (passed (own marks) t)) (sym ((positions_law marks pos).found t y))
+level_at : (marks : List Bool) (t : ℕ) → 0 < per_period marks → own marks t ≡ true → raised (per_period marks) (length marks) t (own_before (own marks) t) ≡ level marks (own_before (own marks) t)
+level_at marks t pos y = ap (λ (s : ℕ). raised (per_period marks) (length marks) s (own_before (own marks) t)) (sym ((positions_law marks pos).found t y))
 
 high_position : (marks : List Bool) (i : ℕ) → 0 < per_period marks → high_at marks (position marks i) ≡ level marks i
-high_position marks i pos = cond-true (own marks (position marks i)) (raised (per_period marks) (length marks) (position marks i) (passed (own marks) (position marks i))) 0 ((positions_law marks pos).is_own i)
+high_position marks i pos = cond-true (own marks (position marks i)) (raised (per_period marks) (length marks) (position marks i) (own_before (own marks) (position marks i))) 0 ((positions_law marks pos).is_own i)
     ∙ ap (raised (per_period marks) (length marks) (position marks i)) ((positions_law marks pos).counted i)
 
 low_position : (marks : List Bool) (i : ℕ) → 0 < per_period marks → low_at marks (position marks i) ≡ level marks i
-low_position marks i pos = cond-true (own marks (position marks i)) (raised (per_period marks) (length marks) (position marks i) (passed (own marks) (position marks i))) (top marks) ((positions_law marks pos).is_own i)
+low_position marks i pos = cond-true (own marks (position marks i)) (raised (per_period marks) (length marks) (position marks i) (own_before (own marks) (position marks i))) (top marks) ((positions_law marks pos).is_own i)
     ∙ ap (raised (per_period marks) (length marks) (position marks i)) ((positions_law marks pos).counted i)
 
 -- the difference of a pair is the difference of its raised places
@@ -160,19 +160,19 @@ spread_walk_law marks pos = le_antisymm
       least_at_most (top marks) n (low_at marks) (position marks j) (position_below marks j pos hj),
     )
 
-    number : (t : ℕ) → t < length marks → own marks t ≡ true → passed (own marks) t < per_period marks
-    number t lt y = omega (arith, passed_lt (own marks) t (length marks) y lt, passed_period marks)
+    number : (t : ℕ) → t < length marks → own marks t ≡ true → own_before (own marks) t < per_period marks
+    number t lt y = omega (arith, own_before_lt (own marks) t (length marks) y lt, own_before_period marks)
 
-    high_own : (t : ℕ) → own marks t ≡ true → high_at marks t ≡ level marks (passed (own marks) t)
-    high_own t y = cond-true (own marks t) (raised (per_period marks) (length marks) t (passed (own marks) t)) 0 y ∙ level_at marks t pos y
+    high_own : (t : ℕ) → own marks t ≡ true → high_at marks t ≡ level marks (own_before (own marks) t)
+    high_own t y = cond-true (own marks t) (raised (per_period marks) (length marks) t (own_before (own marks) t)) 0 y ∙ level_at marks t pos y
 
-    low_own : (t : ℕ) → own marks t ≡ true → low_at marks t ≡ level marks (passed (own marks) t)
-    low_own t y = cond-true (own marks t) (raised (per_period marks) (length marks) t (passed (own marks) t)) (top marks) y ∙ level_at marks t pos y
+    low_own : (t : ℕ) → own marks t ≡ true → low_at marks t ≡ level marks (own_before (own marks) t)
+    low_own t y = cond-true (own marks t) (raised (per_period marks) (length marks) t (own_before (own marks) t)) (top marks) y ∙ level_at marks t pos y
 
     high_below : (t : ℕ) → t < length marks → high_at marks t ≤ top marks
     high_below t lt = elim (cases_Bool (own marks t)) [
-      | inl y ↦ omega (arith, cond-true (own marks t) (raised (per_period marks) (length marks) t (passed (own marks) t)) 0 y, level_top (per_period marks) (length marks) t (passed (own marks) t) lt)
-      | inr e ↦ omega (arith, cond-false (own marks t) (raised (per_period marks) (length marks) t (passed (own marks) t)) 0 e)
+      | inl y ↦ omega (arith, cond-true (own marks t) (raised (per_period marks) (length marks) t (own_before (own marks) t)) 0 y, level_top (per_period marks) (length marks) t (own_before (own marks) t) lt)
+      | inr e ↦ omega (arith, cond-false (own marks t) (raised (per_period marks) (length marks) t (own_before (own marks) t)) 0 e)
     ]
 
     both : (t u : ℕ) → t < length marks → u < length marks → own marks t ≡ true → own marks u ≡ true → high_at marks t - low_at marks u ≤ spread marks
@@ -180,17 +180,17 @@ spread_walk_law marks pos = le_antisymm
       arith,
       high_own t yt,
       low_own u yu,
-      pair_levels marks (passed (own marks) t) (passed (own marks) u) (number t ht yt) (number u hu yu),
-      pair_spread marks (passed (own marks) t) (passed (own marks) u) (number t ht yt) (number u hu yu),
+      pair_levels marks (own_before (own marks) t) (own_before (own marks) u) (number t ht yt) (number u hu yu),
+      pair_spread marks (own_before (own marks) t) (own_before (own marks) u) (number t ht yt) (number u hu yu),
     )
 
     ends : (t u : ℕ) → t < length marks → u < length marks → high_at marks t - low_at marks u ≤ spread marks
     ends t u ht hu = elim (cases_Bool (own marks t)) [
       | inl yt ↦ elim (cases_Bool (own marks u)) [
         | inl yu ↦ both t u ht hu yt yu
-        | inr nu ↦ omega (arith, high_below t ht, cond-false (own marks u) (raised (per_period marks) (length marks) u (passed (own marks) u)) (top marks) nu)
+        | inr nu ↦ omega (arith, high_below t ht, cond-false (own marks u) (raised (per_period marks) (length marks) u (own_before (own marks) u)) (top marks) nu)
       ]
-      | inr nt ↦ omega (arith, cond-false (own marks t) (raised (per_period marks) (length marks) t (passed (own marks) t)) 0 nt)
+      | inr nt ↦ omega (arith, cond-false (own marks t) (raised (per_period marks) (length marks) t (own_before (own marks) t)) 0 nt)
     ]
 
     walked : Reached n (high_at marks) (highest marks n) → (lowest marks n ≡ top marks) ⊎ Reached n (low_at marks) (lowest marks n) → highest marks n - lowest marks n ≤ spread marks
@@ -199,17 +199,17 @@ spread_walk_law marks pos = le_antisymm
 
 -- one slot more of the walk
 
-pub highest_more : (marks : List Bool) (s : ℕ) → own marks s ≡ true → highest marks (s + 1) ≡ max (highest marks s) (raised (per_period marks) (length marks) s (passed (own marks) s))
-highest_more marks s y = greatest_more s (high_at marks) ∙ ap (max (highest marks s)) (cond-true (own marks s) (raised (per_period marks) (length marks) s (passed (own marks) s)) 0 y)
+pub highest_more : (marks : List Bool) (s : ℕ) → own marks s ≡ true → highest marks (s + 1) ≡ max (highest marks s) (raised (per_period marks) (length marks) s (own_before (own marks) s))
+highest_more marks s y = greatest_more s (high_at marks) ∙ ap (max (highest marks s)) (cond-true (own marks s) (raised (per_period marks) (length marks) s (own_before (own marks) s)) 0 y)
 
 pub highest_same : (marks : List Bool) (s : ℕ) → own marks s ≡ false → highest marks (s + 1) ≡ highest marks s
-highest_same marks s n = greatest_more s (high_at marks) ∙ ap (max (highest marks s)) (cond-false (own marks s) (raised (per_period marks) (length marks) s (passed (own marks) s)) 0 n) ∙ omega arith
+highest_same marks s n = greatest_more s (high_at marks) ∙ ap (max (highest marks s)) (cond-false (own marks s) (raised (per_period marks) (length marks) s (own_before (own marks) s)) 0 n) ∙ omega arith
 
-pub lowest_more : (marks : List Bool) (s : ℕ) → own marks s ≡ true → lowest marks (s + 1) ≡ min (lowest marks s) (raised (per_period marks) (length marks) s (passed (own marks) s))
-lowest_more marks s y = least_more (top marks) s (low_at marks) ∙ ap (min (lowest marks s)) (cond-true (own marks s) (raised (per_period marks) (length marks) s (passed (own marks) s)) (top marks) y)
+pub lowest_more : (marks : List Bool) (s : ℕ) → own marks s ≡ true → lowest marks (s + 1) ≡ min (lowest marks s) (raised (per_period marks) (length marks) s (own_before (own marks) s))
+lowest_more marks s y = least_more (top marks) s (low_at marks) ∙ ap (min (lowest marks s)) (cond-true (own marks s) (raised (per_period marks) (length marks) s (own_before (own marks) s)) (top marks) y)
 
 pub lowest_same : (marks : List Bool) (s : ℕ) → own marks s ≡ false → lowest marks (s + 1) ≡ lowest marks s
-lowest_same marks s n = least_more (top marks) s (low_at marks) ∙ ap (min (lowest marks s)) (cond-false (own marks s) (raised (per_period marks) (length marks) s (passed (own marks) s)) (top marks) n) ∙ least_capped (top marks) s (low_at marks)
+lowest_same marks s n = least_more (top marks) s (low_at marks) ∙ ap (min (lowest marks s)) (cond-false (own marks s) (raised (per_period marks) (length marks) s (own_before (own marks) s)) (top marks) n) ∙ least_capped (top marks) s (low_at marks)
   where
     least_capped : (t n : ℕ) (f : ℕ → ℕ) → min (least t n f) t ≡ least t n f
     least_capped t n f = omega (arith, least_below t n f)

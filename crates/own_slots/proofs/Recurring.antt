@@ -4,9 +4,9 @@ use Rattle.std.proofs.Math.Nat.{div-add-mod', add-zero}
 use Rattle.std.proofs.lemmas.Nat.{mod_below, mod-mul-add}
 use Rattle.std.proofs.lemmas.Bool.{cases_Bool, cases_lt, cond-true, eq-eqb}
 use Rattle.clock27.specs.Recurrence.{Recur}
-use Rattle.own_slots.specs.Slots.{passed, Serves, own_slots}
+use Rattle.own_slots.specs.Slots.{own_before, Serves, own_slots}
 use Rattle.own_slots.specs.Rounds.{starts, RoundLaw, RecurrenceLaw, PcrLaw, TableLaw}
-use Rattle.own_slots.proofs.Counting.{passed_other, passed_lt, passed_le, before_from, number_of, Numbered}
+use Rattle.own_slots.proofs.Counting.{own_before_other, own_before_lt, own_before_le, before_from, number_of, Numbered}
 
 -- ---- rounds
 
@@ -29,24 +29,24 @@ next_place k place a lt = elim (cases_lt place (a % k)) [
     small : a % k < k
     small = mod_below a k (omega arith)
 
-is_start : (own : ℕ → Bool) (k place s n : ℕ) → own s ≡ true → passed own s ≡ n → n % k ≡ place → starts own k place s ≡ true
-is_start own k place s n y e p = cond-true (own s) (eqb (passed own s % k) place) false y ∙ eq-eqb (passed own s % k) place (ap (λ (v : ℕ). v % k) e ∙ p)
+is_start : (own : ℕ → Bool) (k place s n : ℕ) → own s ≡ true → own_before own s ≡ n → n % k ≡ place → starts own k place s ≡ true
+is_start own k place s n y e p = cond-true (own s) (eqb (own_before own s % k) place) false y ∙ eq-eqb (own_before own s % k) place (ap (λ (v : ℕ). v % k) e ∙ p)
 
 pub round_law : RoundLaw
 round_law own k place g lt serves s =
-    let n : Next k place (passed own s) = next_place k place (passed own s) lt in
+    let n : Next k place (own_before own s) = next_place k place (own_before own s) lt in
     let r : Numbered own n.number (s + g) = number_of own (s + g) n.number (omega (arith, serves s, n.near)) in
     let after : s ≤ r.slot = from s r.slot r.is_own (omega (arith, r.number, n.from)) in
-    omega (arith, passed_lt (starts own k place) r.slot (s + g) (is_start own k place r.slot n.number r.is_own r.number n.is_place) r.before, passed_le (starts own k place) s r.slot after)
+    omega (arith, own_before_lt (starts own k place) r.slot (s + g) (is_start own k place r.slot n.number r.is_own r.number n.is_place) r.before, own_before_le (starts own k place) s r.slot after)
   where
-    from : (s t : ℕ) → own t ≡ true → passed own s ≤ passed own t → s ≤ t
-    from s t y le = elim (cases_lt t s) [ inl k ↦ absurd (omega (arith, passed_lt own t s y k)) | inr k ↦ k ]
+    from : (s t : ℕ) → own t ≡ true → own_before own s ≤ own_before own t → s ≤ t
+    from s t y le = elim (cases_lt t s) [ inl k ↦ absurd (omega (arith, own_before_lt own t s y k)) | inr k ↦ k ]
 
 -- ---- recurrence
 
 -- from slot s on: the last byte before is `before`, and no own slot stands from slot b to s
 recur_from : (own : ℕ → Bool) (g offset rate limit : ℕ) → Serves own g 1 → g * 1504000 ≤ limit * rate → (n s b before : ℕ) →
-    b ≤ s → passed own s ≡ passed own b → 188 * b + offset ≤ before + 188 →
+    b ≤ s → own_before own s ≡ own_before own b → 188 * b + offset ≤ before + 188 →
     Recur rate limit before (map (λ t. 188 * t + offset) (own_slots own s n)) (188 * (s + n))
 unfolding Recur own_slots
 recur_from own g offset rate limit serves fast zero s b before le none last =
@@ -55,7 +55,7 @@ recur_from own g offset rate limit serves fast (suc n) s b before le none last =
     let e : 188 * (s + suc n) ≡ 188 * (suc s + n) = omega arith in
     elim (cases_Bool (own s)) [
       | inl y ↦ rw (e, y) (here, recur_from own g offset rate limit serves fast n (suc s) (suc s) (188 * s + offset) (omega arith) refl (omega arith))
-      | inr o ↦ rw (e, o) (recur_from own g offset rate limit serves fast n (suc s) b before (omega arith) (passed_other own s o ∙ none) last)
+      | inr o ↦ rw (e, o) (recur_from own g offset rate limit serves fast n (suc s) b before (omega arith) (own_before_other own s o ∙ none) last)
     ]
   where
     here : ((188 * s + offset) - before) * 8000 ≤ limit * rate

@@ -1,6 +1,6 @@
 -- Numbers of worked plans, as theorems: a wrong number fails the check. The plan has 120 slots at 1,504,000 bits/s: a stream in each fourth slot from 0 on, PCRs in slots 1, 25, 49, 73 and 97, the PAT in slot 2, the PMT in slot 3.
 use Rattle.std.proofs.Common.{◌≡◌, ℕ, zero, suc, Bool, true, false, List, [], ◌∷◌, ◌++◌, take, replicate, refl}
-use Rattle.own_slots.specs.Slots.{passed}
+use Rattle.own_slots.specs.Slots.{own_before}
 use Rattle.own_slots.specs.Period.{places}
 use Rattle.own_slots.specs.Extremes.{greatest, least}
 use Rattle.own_slots.specs.Gaps.{gap, ahead}
@@ -51,7 +51,7 @@ unfolding sparse_pcr_marks repeated others places greatest
 sparse_pcr_gap = refl
 
 sparse_pcr_walk : greatest 120 (ahead sparse_pcr_marks 1) ≡ 48
-unfolding sparse_pcr_marks repeated others places greatest passed
+unfolding sparse_pcr_marks repeated others places greatest own_before
 sparse_pcr_walk = refl
 
 -- ---- spread of the stream: 0, and 30 with one slot moved
@@ -65,11 +65,11 @@ unfolding moved_marks repeated others places greatest
 moved_spread = refl
 
 moved_highest : highest moved_marks 120 ≡ 3630
-unfolding moved_marks repeated others places greatest passed
+unfolding moved_marks repeated others places greatest own_before
 moved_highest = refl
 
 moved_lowest : lowest moved_marks 120 ≡ 3600
-unfolding moved_marks repeated others places least passed
+unfolding moved_marks repeated others places least own_before
 moved_lowest = refl
 
 -- 2 own slots within a window of 2, as code computes it: ((2 - 1) * 30 + 0) / 120 + 1

@@ -1,6 +1,6 @@
 -- Gaps of own slots, round the period's end.
 use Rattle.std.specs.Prelude.{◌≡◌, ℕ, ◌+◌, ◌-◌, ◌<◌, ◌≤◌, Bool, cond, List, length}
-use Rattle.own_slots.specs.Slots.{passed, Serves}
+use Rattle.own_slots.specs.Slots.{own_before, Serves}
 use Rattle.own_slots.specs.Period.{own, per_period, position}
 use Rattle.own_slots.specs.Extremes.{greatest}
 
@@ -10,7 +10,7 @@ gap marks k = greatest (per_period marks) (λ i. position marks (i + k) - positi
 
 -- the distance from slot s to the k-th own slot after it, where s is an own slot; else 0
 abbrev pub ahead : List Bool → ℕ → ℕ → ℕ
-ahead marks k s = cond (own marks s) (position marks (passed (own marks) s + k) - s) 0
+ahead marks k s = cond (own marks s) (position marks (own_before (own marks) s + k) - s) 0
 
 -- where k own slots in a row are never more than g slots apart, each window of g slots has k of them
 abbrev pub GapLaw : Type 0

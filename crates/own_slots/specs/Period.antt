@@ -1,6 +1,6 @@
 -- A plan is one period of slots, repeated for all time. For one item the period is a list of marks: at each slot, whether it is the item's own.
 use Rattle.std.specs.Prelude.{◌≡◌, ℕ, suc, ◌+◌, ◌-◌, ◌*◌, ◌/◌, ◌%◌, ◌<◌, Bool, true, false, List, [], ◌∷◌, length, slice_index_or}
-use Rattle.own_slots.specs.Slots.{passed, Enumerates}
+use Rattle.own_slots.specs.Slots.{own_before, Enumerates}
 
 -- the item's own slots over all time, the period repeated
 abbrev pub own : List Bool → ℕ → Bool
@@ -30,5 +30,5 @@ PositionsLaw = (marks : List Bool) → 0 < per_period marks → Enumerates (own 
 
 -- where an own slot stands x own slots before the end of y periods, it stands `back marks x` slots before it
 abbrev pub BackLaw : Type 0
-BackLaw = (marks : List Bool) (x y s : ℕ) → 0 < per_period marks → 0 < x → own marks s ≡ true → passed (own marks) s + x ≡ y * per_period marks →
+BackLaw = (marks : List Bool) (x y s : ℕ) → 0 < per_period marks → 0 < x → own marks s ≡ true → own_before (own marks) s + x ≡ y * per_period marks →
     s + back marks x ≡ y * length marks

@@ -1,11 +1,11 @@
 -- Rounds of a table and recurrence (ISO/IEC 13818-1, 2.7.2; ETSI TR 101 290, 5.2). The sections of a table take k places, one after another, and own slot number i of the table is place i modulo k, counted over the whole run.
 use Rattle.std.specs.Prelude.{ℕ, ◌+◌, ◌*◌, ◌%◌, ◌<◌, ◌≤◌, Bool, false, cond, nat_eq, map}
 use Rattle.clock27.specs.Recurrence.{Recur}
-use Rattle.own_slots.specs.Slots.{passed, Serves, own_slots}
+use Rattle.own_slots.specs.Slots.{own_before, Serves, own_slots}
 
 -- the own slots that are place number `place` of a round of k places
 abbrev pub starts : (ℕ → Bool) → ℕ → ℕ → ℕ → Bool
-starts own k place s = cond (own s) (nat_eq (passed own s % k) place) false
+starts own k place s = cond (own s) (nat_eq (own_before own s % k) place) false
 
 -- where each window of g slots has k own slots, it has each place of a round
 abbrev pub RoundLaw : Type 0

@@ -2,17 +2,17 @@
 use Rattle.std.specs.Prelude.{◌≡◌, ℕ, zero, suc, ◌+◌, ◌*◌, ◌<◌, ◌≤◌, Bool, true, cond, List, [], ◌∷◌}
 
 -- the number of own slots before slot s, and so the number (from 0) of the own slot that stands at s
-unfoldable pub passed : (ℕ → Bool) → ℕ → ℕ
-passed own zero = 0
-passed own (suc s) = passed own s + cond (own s) 1 0
+unfoldable pub own_before : (ℕ → Bool) → ℕ → ℕ
+own_before own zero = 0
+own_before own (suc s) = own_before own s + cond (own s) 1 0
 
 -- each window of w slots, wherever it begins, has at least m own slots
 abbrev pub Serves : (ℕ → Bool) → ℕ → ℕ → Type 0
-Serves own w m = (s : ℕ) → passed own s + m ≤ passed own (s + w)
+Serves own w m = (s : ℕ) → own_before own s + m ≤ own_before own (s + w)
 
 -- no window of w slots, wherever it begins, has more than m own slots
 abbrev pub Spares : (ℕ → Bool) → ℕ → ℕ → Type 0
-Spares own w m = (s : ℕ) → passed own (s + w) ≤ passed own s + m
+Spares own w m = (s : ℕ) → own_before own (s + w) ≤ own_before own s + m
 
 -- a pace: m own slots come within each window of w slots, wherever base + m * cost < share * (w + 1); in words, m own slots take m * cost / share slots, and base / share more
 abbrev pub ServesAt : (ℕ → Bool) → ℕ → ℕ → ℕ → Type 0
@@ -31,8 +31,8 @@ Rises own from (s ∷ slots) = (from ≤ s) × (own s ≡ true) × Rises own (su
 -- own slot number i stands at slot P i, for each i
 pub record Enumerates (own : ℕ → Bool) (P : ℕ → ℕ) : Type 0 where
   pub is_own : (i : ℕ) → own (P i) ≡ true
-  pub counted : (i : ℕ) → passed own (P i) ≡ i
-  pub found : (s : ℕ) → own s ≡ true → P (passed own s) ≡ s
+  pub counted : (i : ℕ) → own_before own (P i) ≡ i
+  pub found : (s : ℕ) → own s ≡ true → P (own_before own s) ≡ s
 
 -- the own slots among the next n slots from s on rise, and none is before s
 abbrev pub ListLaw : Type 0

@@ -1,6 +1,6 @@
 -- Spread: how unevenly the own slots stand in a period of N slots that has c of them. Own slot number i of an even plan would stand at i * N / c.
 use Rattle.std.specs.Prelude.{◌≡◌, ℕ, ◌+◌, ◌-◌, ◌*◌, ◌/◌, ◌<◌, ◌≤◌, Bool, cond, List, length}
-use Rattle.own_slots.specs.Slots.{passed, Spares, ServesAt}
+use Rattle.own_slots.specs.Slots.{own_before, Spares, ServesAt}
 use Rattle.own_slots.specs.Period.{own, per_period, position}
 use Rattle.own_slots.specs.Extremes.{greatest, least}
 
@@ -15,12 +15,12 @@ raised c n s i = c * s + (c - i) * n
 
 -- the greatest raised place of the own slots among the first s slots of a period, 0 where there is none
 abbrev pub highest : List Bool → ℕ → ℕ
-highest marks s = greatest s (λ t. cond (own marks t) (raised (per_period marks) (length marks) t (passed (own marks) t)) 0)
+highest marks s = greatest s (λ t. cond (own marks t) (raised (per_period marks) (length marks) t (own_before (own marks) t)) 0)
 
 -- the least, 2 * c * N where there is none
 abbrev pub lowest : List Bool → ℕ → ℕ
 lowest marks s = least (2 * per_period marks * length marks) s (λ t.
-    cond (own marks t) (raised (per_period marks) (length marks) t (passed (own marks) t)) (2 * per_period marks * length marks))
+    cond (own marks t) (raised (per_period marks) (length marks) t (own_before (own marks) t)) (2 * per_period marks * length marks))
 
 -- the spread is the difference of the two extremes, which one walk over the slots of the period finds
 abbrev pub SpreadWalkLaw : Type 0

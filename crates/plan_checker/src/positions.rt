@@ -1,7 +1,7 @@
 //! Where an item's own slots stand, the period repeated for all time.
 
 ghost use Rattle.std.specs.Prelude.{◌≡◌, ◌+◌, ◌^◌, ◌<◌, ◌≤◌, true, length};
-ghost use Rattle.own_slots.specs.Slots.{passed};
+ghost use Rattle.own_slots.specs.Slots.{own_before};
 ghost use Rattle.own_slots.specs.Period.{own, per_period, position};
 ghost use Rattle.slot_plan.specs.Items.{marks};
 
@@ -25,7 +25,7 @@ pub fn next_own_slot(slots: &[Slot], item: Item, from: u64) -> u64
     requires some { 0 < per_period (marks item slots.now) }
     requires short { length slots.now ≤ 65536 }
     requires near { from < 2 ^ 60 }
-    ensures { result ≡ position (marks item slots.now) (passed (own (marks item slots.now)) from + 1) }
+    ensures { result ≡ position (marks item slots.now) (own_before (own (marks item slots.now)) from + 1) }
 {
     let period = slots.len() as u64;
     for at in from + 1..from + period {

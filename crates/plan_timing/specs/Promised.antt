@@ -2,7 +2,7 @@
 use Rattle.std.specs.Prelude.{◌≡◌, ℕ, ◌+◌, ◌*◌, ◌<◌, List, Some, length, map, slice_get}
 use Rattle.clock27.specs.Recurrence.{Recur}
 use Rattle.own_slots.specs.Slots.{own_slots}
-use Rattle.unit_timing.specs.Text.{Text}
+use Rattle.unit_timing.specs.PesPacket.{PesPacket}
 use Rattle.unit_timing.specs.Plans.{Declaration, Keeps, StreamServed, ProgramServed}
 use Rattle.description.specs.Described.{Described, DescribedProgram, DescribedStream}
 use Rattle.description.specs.Ranges.{IsInRange}
@@ -32,7 +32,7 @@ declaration s = record {
 -- program's tables never overflow; the PCRs of a program recur within its limit; each section of a table recurs within the
 -- table's limit, from the run's begin to its end
 pub record Promised (d : Described) (schedule : Schedule) : Type 0 where
-  pub streams : (i : ℕ) (s : DescribedStream) (texts : List Text) → slice_get d.streams i ≡ Some s → Keeps (declaration s) texts →
+  pub streams : (i : ℕ) (s : DescribedStream) (texts : List PesPacket) → slice_get d.streams i ≡ Some s → Keeps (declaration s) texts →
       StreamServed (owned schedule (Stream i)) d.rate (declaration s) texts
   pub programs : (i : ℕ) → i < length d.programs → ProgramServed (owned schedule (System i)) d.rate
   pub pcrs : (i : ℕ) (p : DescribedProgram) (slots : ℕ) → slice_get d.programs i ≡ Some p →

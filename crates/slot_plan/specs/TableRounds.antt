@@ -1,7 +1,7 @@
 -- The rounds of a table: its sections take places one after another, and the table's own slots, counted over the run, are
 -- the places in turn.
 use Rattle.std.specs.Prelude.{ℕ, zero, suc, ◌-◌, ◌*◌, ◌/◌, ◌%◌, ◌==◌, ◌&&◌, Bool, List, [], ◌∷◌, take, sum_by, nat_lt, if◌then◌else◌}
-use Rattle.own_slots.specs.Slots.{passed}
+use Rattle.own_slots.specs.Slots.{own_before}
 use Rattle.own_slots.specs.Rounds.{starts}
 use Rattle.description.specs.Described.{Described}
 use Rattle.description.specs.Tables.{places_of, section_lengths, round_places}
@@ -10,7 +10,7 @@ use Rattle.slot_plan.specs.Schedule.{Schedule, owned}
 
 -- the number of the table's own slot in slot s, counted over the run
 abbrev pub table_slot : Schedule → ℕ → ℕ → ℕ
-table_slot schedule t s = passed (owned schedule (Table t)) s
+table_slot schedule t s = own_before (owned schedule (Table t)) s
 
 -- the place in its round of the table's own slot in slot s
 abbrev pub place_of : Described → Schedule → ℕ → ℕ → ℕ
@@ -36,7 +36,7 @@ section_in d schedule t s = section_of 0 (section_lengths d t) (place_of d sched
 -- the slot of own slot number n, looked for among slots 0 to s
 abbrev pub slot_number : (ℕ → Bool) → ℕ → ℕ → ℕ
 slot_number own n zero = 0
-slot_number own n (suc s) = if own s && (passed own s == n) then s else slot_number own n s
+slot_number own n (suc s) = if own s && (own_before own s == n) then s else slot_number own n s
 
 -- the slot of place 0 of the round that the table's own slot in slot s belongs to: the table's text is that of its moment
 abbrev pub round_begin : Described → Schedule → ℕ → ℕ → ℕ

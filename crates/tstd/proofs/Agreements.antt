@@ -51,7 +51,7 @@ beginning_few (b ∷ text) (x ∷ part) e =
 pub sizes_joined : (id base0 : ℕ) (units : List AccessUnit) → length (concat (texts_of id base0 units)) ≡ sum_by (λ t. t.size) (timed_texts id base0 units)
 sizes_joined id base0 [] = refl
 sizes_joined id base0 (u ∷ units) =
-    rw (sum_by-cons (λ t. t.size) (record { due = u.dts; size = length (unit_text id base0 u) }) (timed_texts id base0 units))
+    rw (sum_by-cons (λ t. t.size) (record { dts = u.dts; size = length (unit_text id base0 u) }) (timed_texts id base0 units))
     (omega (arith, length-append (unit_text id base0 u) (concat (texts_of id base0 units)), sizes_joined id base0 units))
 
 -- no text is left: the payloads have to end

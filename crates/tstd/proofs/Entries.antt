@@ -4,8 +4,8 @@ use Rattle.std.proofs.lemmas.Bool.{cases_lt, le-leb, lt-ltb, le-ltb}
 use Rattle.std.proofs.lemmas.List.Elements.{All-take, All-drop}
 use Rattle.std.proofs.lemmas.List.Sums.{sum_by-cons}
 use Rattle.clock27.specs.Peak.{Climbs, greatest_at}
-use Rattle.unit_timing.specs.MainBuffer.{is_kept, main_held}
-use Rattle.unit_timing.specs.Text.{Text}
+use Rattle.unit_timing.specs.MainBuffer.{is_kept, mb_fullness}
+use Rattle.unit_timing.specs.PesPacket.{PesPacket}
 use Rattle.unit_timing.proofs.Counting.{kept, kept_before}
 use Rattle.tstd.specs.Gone.{gone}
 use Rattle.tstd.specs.Kept.{one_there}
@@ -24,41 +24,41 @@ one_kept : (rate r due d x : ℕ) → d ≤ x → (let n : ℕ = cond (is_kept r
 one_kept rate r due d x le =
     rw (le-leb d x le, gone_test x (due * rate * r)) refl
 
-held_early : (rate r x : ℕ) (texts : List Text) (left : List ℕ) → All (λ d. x < d) left → main_held rate r x texts left ≡ 0
-unfolding main_held kept
+held_early : (rate r x : ℕ) (texts : List PesPacket) (left : List ℕ) → All (λ d. x < d) left → mb_fullness rate r x texts left ≡ 0
+unfolding mb_fullness kept
 held_early rate r x [] left all = refl
 held_early rate r x (text ∷ texts) left all =
-    let first = kept_before rate r x text.due (take text.size left) (All-take (λ d. x < d) text.size left all) in
+    let first = kept_before rate r x text.dts (take text.size left) (All-take (λ d. x < d) text.size left all) in
     let rest = held_early rate r x texts (drop text.size left) (All-drop (λ d. x < d) text.size left all) in
     omega (arith, first, rest)
 
 -- the first byte of a text, and its other bytes
-held_byte : (rate r due m : ℕ) (texts : List Text) (d : ℕ) (ds : List ℕ) (x : ℕ) → d ≤ x →
-    main_held rate r x (record { due = due; size = suc m } ∷ texts) (d ∷ ds)
-    ≡ one_there (gone rate r due) x + main_held rate r x (record { due = due; size = m } ∷ texts) ds
-unfolding main_held
+held_byte : (rate r due m : ℕ) (texts : List PesPacket) (d : ℕ) (ds : List ℕ) (x : ℕ) → d ≤ x →
+    mb_fullness rate r x (record { dts = due; size = suc m } ∷ texts) (d ∷ ds)
+    ≡ one_there (gone rate r due) x + mb_fullness rate r x (record { dts = due; size = m } ∷ texts) ds
+unfolding mb_fullness
 held_byte rate r due m texts d ds x le =
     rw (sum_by-cons (λ e. cond (is_kept rate r x due e) 1 0) d (take m ds)) (omega (arith, one_kept rate r due d x le))
 
 -- a byte enters
-pub byte_entered : (rate r due m : ℕ) (texts : List Text) (before after : ℕ → ℕ) (d : ℕ) (ds : List ℕ) → Climbs (suc d) ds →
+pub byte_entered : (rate r due m : ℕ) (texts : List PesPacket) (before after : ℕ → ℕ) (d : ℕ) (ds : List ℕ) → Climbs (suc d) ds →
     ((x : ℕ) → d ≤ x → after x ≡ before x + one_there (gone rate r due) x) →
-    most_ahead before rate r (record { due = due; size = suc m } ∷ texts) (d ∷ ds)
-    ≡ max (before d + one_there (gone rate r due) d) (most_ahead after rate r (record { due = due; size = m } ∷ texts) ds)
+    most_ahead before rate r (record { dts = due; size = suc m } ∷ texts) (d ∷ ds)
+    ≡ max (before d + one_there (gone rate r due) d) (most_ahead after rate r (record { dts = due; size = m } ∷ texts) ds)
 unfolding greatest_at
 byte_entered rate r due m texts before after d ds climbs counted =
     let same : d ≤ d = omega arith in
     let next : d < suc d = omega arith in
     let now = held_byte rate r due m texts d ds d same in
-    let none = held_early rate r d (record { due = due; size = m } ∷ texts) ds (climbs_behind d (suc d) ds next climbs) in
-    let rest = greatest_same (λ x. before x + main_held rate r x (record { due = due; size = suc m } ∷ texts) (d ∷ ds))
-    (λ x. after x + main_held rate r x (record { due = due; size = m } ∷ texts) ds) (suc d) ds climbs
+    let none = held_early rate r d (record { dts = due; size = m } ∷ texts) ds (climbs_behind d (suc d) ds next climbs) in
+    let rest = greatest_same (λ x. before x + mb_fullness rate r x (record { dts = due; size = suc m } ∷ texts) (d ∷ ds))
+    (λ x. after x + mb_fullness rate r x (record { dts = due; size = m } ∷ texts) ds) (suc d) ds climbs
     (λ x le. let low : d ≤ x = omega (arith, le) in omega (arith, held_byte rate r due m texts d ds x low, counted x low)) in
     omega (arith, now, none, rest)
 
 -- a text has entered
-pub text_entered : (rate r due : ℕ) (texts : List Text) (before : ℕ → ℕ) (left : List ℕ) →
-    most_ahead before rate r (record { due = due; size = 0 } ∷ texts) left ≡ most_ahead before rate r texts left
+pub text_entered : (rate r due : ℕ) (texts : List PesPacket) (before : ℕ → ℕ) (left : List ℕ) →
+    most_ahead before rate r (record { dts = due; size = 0 } ∷ texts) left ≡ most_ahead before rate r texts left
 text_entered rate r due texts before left =
-    greatest_ext (λ x. before x + main_held rate r x (record { due = due; size = 0 } ∷ texts) left) (λ x. before x + main_held rate r x texts left) left
-    (λ x. unfold main_held in omega arith)
+    greatest_ext (λ x. before x + mb_fullness rate r x (record { dts = due; size = 0 } ∷ texts) left) (λ x. before x + mb_fullness rate r x texts left) left
+    (λ x. unfold mb_fullness in omega arith)

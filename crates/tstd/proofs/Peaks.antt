@@ -6,7 +6,7 @@ use Rattle.std.proofs.lemmas.Bool.{cases_lt}
 use Rattle.std.proofs.lemmas.List.{length-append, append-nil}
 use Rattle.clock27.specs.Arrival.{bytes_from, arrivals}
 use Rattle.clock27.specs.Departure.{departures}
-use Rattle.clock27.specs.Fullness.{held}
+use Rattle.clock27.specs.Fullness.{fullness}
 use Rattle.clock27.specs.Peak.{IsPeak, Climbs, found, most_found}
 use Rattle.clock27.proofs.Holding.{held_le}
 use Rattle.clock27.proofs.Peaking.{peak_law, arrivals_climb, departures_climb}
@@ -48,17 +48,17 @@ most_stays step prev (t ∷ ts) pos =
     ∙ omega (arith, within_one step prev t pos, most_stays step (max t prev + step) ts pos)
 
 pub stay_peak : (step longest : ℕ) (ts : List ℕ) → 0 < step → Climbs 0 ts → longest ≡ longest_stay step 0 ts →
-    IsPeak (λ x. held x ts (departures step 0 ts)) (bytes_within step longest)
+    IsPeak (λ x. fullness x ts (departures step 0 ts)) (bytes_within step longest)
 stay_peak step longest ts pos climbs is = rw (is, most_stays step 0 ts pos) (peak_law step 0 ts pos climbs)
 
 -- no more bytes are there than have arrived
-pub peak_few : (most : ℕ) (ts ds : List ℕ) → IsPeak (λ x. held x ts ds) most → most ≤ length ts
+pub peak_few : (most : ℕ) (ts ds : List ℕ) → IsPeak (λ x. fullness x ts ds) most → most ≤ length ts
 peak_few most ts ds peak = omega (arith, peak.reached, held_le peak.moment ts ds)
 
 -- of bytes that have passed an empty buffer
-pub passed_stay : (step : ℕ) (q : Queue) (ts : List ℕ) → q ≡ all_arrived (record { step = step; last = 0; longest = 0 }) ts → q.longest ≡ longest_stay step 0 ts
+pub own_before_stay : (step : ℕ) (q : Queue) (ts : List ℕ) → q ≡ all_arrived (record { step = step; last = 0; longest = 0 }) ts → q.longest ≡ longest_stay step 0 ts
 unfolding longest_stay
-passed_stay step q ts is =
+own_before_stay step q ts is =
     let start : Queue = record { step = step; last = 0; longest = 0 } in
     let all = passed-longest start ts [] in
     let none : ts ++ [] ≡ ts = append-nil ts in
@@ -81,9 +81,9 @@ tables_peak rate slots q p n m some climbs step step' passed passed' is is' =
     let low : 0 ≤ 1 = omega arith in
     let leave : Climbs 0 (departures (2 * rate) 0 (arrivals 2000000 slots)) = climbs_low 0 1 _ low (departures_climb (2 * rate) 0 (arrivals 2000000 slots) pos) in
     record {
-      transport = rw (is, step) (stay_peak (2 * rate) q.longest (arrivals 2000000 slots) pos arrive (passed_stay (2 * rate) q (arrivals 2000000 slots) passed));
+      transport = rw (is, step) (stay_peak (2 * rate) q.longest (arrivals 2000000 slots) pos arrive (own_before_stay (2 * rate) q (arrivals 2000000 slots) passed));
       system = rw (is', step') (stay_peak (25 * rate) p.longest (departures (2 * rate) 0 (arrivals 2000000 slots)) pos' leave
-          (passed_stay (25 * rate) p (departures (2 * rate) 0 (arrivals 2000000 slots)) passed'));
+          (own_before_stay (25 * rate) p (departures (2 * rate) 0 (arrivals 2000000 slots)) passed'));
     }
 
 -- so there are no more bytes than came

@@ -9,9 +9,9 @@ use Rattle.ts_packet.specs.declared.packet.PacketError.{PacketError}
 use Rattle.ts_packet.specs.Views.{PacketView}
 use Rattle.ts_packet.specs.Reading.{packet_at}
 use Rattle.ts_packet.specs.PidList.{Entry, entry_of, is_of_pid}
-use Rattle.unit_timing.specs.MainBuffer.{main_held}
+use Rattle.unit_timing.specs.MainBuffer.{mb_fullness}
 use Rattle.unit_timing.specs.Schedule.{Packet}
-use Rattle.unit_timing.specs.Text.{Text}
+use Rattle.unit_timing.specs.PesPacket.{PesPacket}
 use Rattle.unit_timing.specs.Transport.{slots_of, of_payloads}
 use Rattle.tstd.specs.declared.departures.Departures.{Departures}
 use Rattle.tstd.specs.declared.main_buffer.MainBuffer.{MainBuffer}
@@ -62,16 +62,16 @@ pub none_given : (o : Option ℕ) (rest ahead : List ℕ) → ahead ≡ [] → a
 none_given None rest ahead none is = refl
 none_given (Some time) rest ahead none is = cc
 
-plain_most : (before : ℕ → ℕ) (most first rate rx rate' rx' : ℕ) (texts : List Text) (left left' : List ℕ) → ((x : ℕ) → before x ≡ 0) → first ≡ 0 → rate' ≡ rate → rx' ≡ rx → left' ≡ left →
-    max most 0 ≡ max first (greatest_at (λ x. before x + main_held rate' rx' x texts left') left') → most ≡ greatest_at (λ x. main_held rate rx x texts left) left
+plain_most : (before : ℕ → ℕ) (most first rate rx rate' rx' : ℕ) (texts : List PesPacket) (left left' : List ℕ) → ((x : ℕ) → before x ≡ 0) → first ≡ 0 → rate' ≡ rate → rx' ≡ rx → left' ≡ left →
+    max most 0 ≡ max first (greatest_at (λ x. before x + mb_fullness rate' rx' x texts left') left') → most ≡ greatest_at (λ x. mb_fullness rate rx x texts left) left
 plain_most before most first rate rx rate' rx' texts left left' none start same_rate same_rx same is =
-    let all = greatest_ext (λ x. before x + main_held rate rx x texts left) (λ x. main_held rate rx x texts left) left (λ x. omega (arith, none x)) in
+    let all = greatest_ext (λ x. before x + mb_fullness rate rx x texts left) (λ x. mb_fullness rate rx x texts left) left (λ x. omega (arith, none x)) in
     omega (arith, rw (start, same_rate, same_rx, same) at is, all)
 
 -- what a walk from an empty buffer to its end has found
-pub most_found_all : {A : Type 0} (walk walk' : Departures) (buffer buffer' : MainBuffer A) (rate rx : ℕ) (texts : List Text) (left : List ℕ) →
+pub most_found_all : {A : Type 0} (walk walk' : Departures) (buffer buffer' : MainBuffer A) (rate rx : ℕ) (texts : List PesPacket) (left : List ℕ) →
     ((x : ℕ) → there_at buffer x ≡ 0) → buffer.most ≡ 0 → walk.queue.step ≡ rate → walk.rx ≡ rx → left_ahead walk ≡ left → left_ahead walk' ≡ [] →
-    most_of walk' buffer' [] ≡ most_of walk buffer texts → buffer'.most ≡ greatest_at (λ x. main_held rate rx x texts left) left
+    most_of walk' buffer' [] ≡ most_of walk buffer texts → buffer'.most ≡ greatest_at (λ x. mb_fullness rate rx x texts left) left
 unfolding greatest_at
 most_found_all walk walk' buffer buffer' rate rx texts left none start same_rate same_rx same ended is =
     plain_most (there_at buffer) buffer'.most buffer.most rate rx walk.queue.step walk.rx texts left (left_ahead walk) none start same_rate same_rx same

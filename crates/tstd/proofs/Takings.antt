@@ -4,8 +4,8 @@ use Rattle.std.specs.List.{list_all}
 use Rattle.std.proofs.lemmas.Bool.{cases_Bool, leb-true, le-leb}
 use Rattle.std.proofs.lemmas.Bool.Decides.{nat_tests}
 use Rattle.clock27.specs.Peak.{Climbs, greatest_at}
-use Rattle.unit_timing.specs.MainBuffer.{main_held}
-use Rattle.unit_timing.specs.Text.{Text}
+use Rattle.unit_timing.specs.MainBuffer.{mb_fullness}
+use Rattle.unit_timing.specs.PesPacket.{PesPacket}
 use Rattle.tstd.specs.declared.departures.Departures.{Departures}
 use Rattle.tstd.specs.declared.main_buffer.MainBuffer.{MainBuffer}
 use Rattle.tstd.specs.Entering.{most_of, most_ahead}
@@ -17,25 +17,25 @@ use Rattle.tstd.proofs.Climbing.{ahead_climbs, greatest_ext}
 use Rattle.tstd.proofs.Entries.{byte_entered, text_entered}
 
 -- a walk at its end
-pub most_none : {A : Type 0} (walk walk' : Departures) (buffer : MainBuffer A) (texts texts' : List Text) → left_ahead walk ≡ [] → left_ahead walk' ≡ [] →
+pub most_none : {A : Type 0} (walk walk' : Departures) (buffer : MainBuffer A) (texts texts' : List PesPacket) → left_ahead walk ≡ [] → left_ahead walk' ≡ [] →
     most_of walk' buffer texts ≡ most_of walk buffer texts'
 unfolding greatest_at
 most_none walk walk' buffer texts texts' none none' = rw (none, none') refl
 
-one_byte : (before after : ℕ → ℕ) (most most' rate rx rate' rx' due m d : ℕ) (texts : List Text) (left left' : List ℕ) → left ≡ d ∷ left' → Climbs (suc d) left' →
+one_byte : (before after : ℕ → ℕ) (most most' rate rx rate' rx' due m d : ℕ) (texts : List PesPacket) (left left' : List ℕ) → left ≡ d ∷ left' → Climbs (suc d) left' →
     rx' ≡ rx → rate' ≡ rate → ((x : ℕ) → d ≤ x → after x ≡ before x + one_there (gone rate rx due) x) →
     most' ≡ max most (before d + one_there (gone rate rx due) d) →
-    max most' (most_ahead after rate' rx' (record { due = due; size = m } ∷ texts) left')
-    ≡ max most (most_ahead before rate rx (record { due = due; size = suc m } ∷ texts) left)
+    max most' (most_ahead after rate' rx' (record { dts = due; size = m } ∷ texts) left')
+    ≡ max most (most_ahead before rate rx (record { dts = due; size = suc m } ∷ texts) left)
 one_byte before after most most' rate rx rate' rx' due m d texts left left' ahead climbs same_rx same_rate counted best =
     rw (ahead, same_rx, same_rate) (omega (arith, best, byte_entered rate rx due m texts before after d left' climbs counted))
 
 -- a byte goes from one buffer into the other
-pub most_byte : {A : Type 0} (walk walk' : Departures) (buffer buffer' : MainBuffer A) (due m d : ℕ) (texts : List Text) →
+pub most_byte : {A : Type 0} (walk walk' : Departures) (buffer buffer' : MainBuffer A) (due m d : ℕ) (texts : List PesPacket) →
     left_ahead walk ≡ d ∷ left_ahead walk' → walk'.queue.last ≡ d → 0 < walk'.queue.step → walk'.rx ≡ walk.rx → walk'.queue.step ≡ walk.queue.step →
     ((x : ℕ) → d ≤ x → there_at buffer' x ≡ there_at buffer x + one_there buffer.current.until x) →
     buffer'.most ≡ max buffer.most (there_at buffer d + one_there buffer.current.until d) → buffer.current.until ≡ gone walk.queue.step walk.rx due →
-    most_of walk' buffer' (record { due = due; size = m } ∷ texts) ≡ most_of walk buffer (record { due = due; size = suc m } ∷ texts)
+    most_of walk' buffer' (record { dts = due; size = m } ∷ texts) ≡ most_of walk buffer (record { dts = due; size = suc m } ∷ texts)
 most_byte walk walk' buffer buffer' due m d texts ahead last pos rx step there most until =
     let climbs : Climbs (suc d) (left_ahead walk') = subst (λ (n : ℕ). Climbs (suc n) (left_ahead walk')) last (ahead_climbs walk' pos) in
     let counted : (x : ℕ) → d ≤ x → there_at buffer' x ≡ there_at buffer x + one_there (gone walk.queue.step walk.rx due) x =
@@ -46,17 +46,17 @@ most_byte walk walk' buffer buffer' due m d texts ahead last pos rx step there m
     (left_ahead walk) (left_ahead walk') ahead climbs rx step counted best
 
 -- the text is whole
-pub most_whole : {A : Type 0} (walk : Departures) (buffer : MainBuffer A) (due : ℕ) (texts : List Text) →
-    most_of walk buffer texts ≡ most_of walk buffer (record { due = due; size = 0 } ∷ texts)
+pub most_whole : {A : Type 0} (walk : Departures) (buffer : MainBuffer A) (due : ℕ) (texts : List PesPacket) →
+    most_of walk buffer texts ≡ most_of walk buffer (record { dts = due; size = 0 } ∷ texts)
 most_whole walk buffer due texts =
     ap (max buffer.most) (sym (text_entered walk.queue.step walk.rx due texts (there_at buffer) (left_ahead walk)))
 
 -- a text begins
-pub most_begun : {A : Type 0} (walk : Departures) (buffer buffer' : MainBuffer A) (texts : List Text) → ((x : ℕ) → there_at buffer' x ≡ there_at buffer x) →
+pub most_begun : {A : Type 0} (walk : Departures) (buffer buffer' : MainBuffer A) (texts : List PesPacket) → ((x : ℕ) → there_at buffer' x ≡ there_at buffer x) →
     buffer'.most ≡ buffer.most → most_of walk buffer' texts ≡ most_of walk buffer texts
 most_begun walk buffer buffer' texts there most =
-    let ahead = greatest_ext (λ x. there_at buffer' x + main_held walk.queue.step walk.rx x texts (left_ahead walk))
-    (λ x. there_at buffer x + main_held walk.queue.step walk.rx x texts (left_ahead walk)) (left_ahead walk) (λ x. omega (arith, there x)) in
+    let ahead = greatest_ext (λ x. there_at buffer' x + mb_fullness walk.queue.step walk.rx x texts (left_ahead walk))
+    (λ x. there_at buffer x + mb_fullness walk.queue.step walk.rx x texts (left_ahead walk)) (left_ahead walk) (λ x. omega (arith, there x)) in
     omega (arith, most, ahead)
 
 -- the next of a list's entries

@@ -8,13 +8,13 @@ use Rattle.std.specs.Option.{option_or}
 use Rattle.pes_packet.specs.AccessUnits.{AccessUnit}
 use Rattle.pes_packet.specs.Spelling.{unit_text}
 use Rattle.unit_timing.specs.Arrived.{is_due, has_left, first_late}
-use Rattle.unit_timing.specs.Text.{Text}
+use Rattle.unit_timing.specs.PesPacket.{PesPacket}
 use Rattle.tstd.specs.Carried.{units_of, timed_texts}
 
 -- an entry of the stream, with its stamp and the size of its PES packet
 pub texts_own : (id base0 stream i due size : ℕ) (units : List (ℕ × AccessUnit)) (u : ℕ × AccessUnit) → i < length units → u ≡ get_or units i u → (u.0 == stream) ≡ true →
     due ≡ u.1.dts → size ≡ length (unit_text id base0 u.1) →
-    timed_texts id base0 (units_of stream (drop i units)) ≡ record { due = due; size = size } ∷ timed_texts id base0 (units_of stream (drop (i + 1) units))
+    timed_texts id base0 (units_of stream (drop i units)) ≡ record { dts = due; size = size } ∷ timed_texts id base0 (units_of stream (drop (i + 1) units))
 texts_own id base0 stream i due size units u below at own stamp is = rw (drop-cons units i u below, add-one i, sym at, own, stamp, is) refl
 
 -- of another
@@ -37,14 +37,14 @@ pub late_end : (late : Option ℕ) → option_or late None ≡ late
 late_end None = refl
 late_end (Some n) = refl
 
-pub size_next : (text : Text) (texts : List Text) → sum_by (λ t. t.size) (text ∷ texts) ≡ text.size + sum_by (λ t. t.size) texts
+pub size_next : (text : PesPacket) (texts : List PesPacket) → sum_by (λ t. t.size) (text ∷ texts) ≡ text.size + sum_by (λ t. t.size) texts
 size_next text texts = sum_by-cons (λ t. t.size) text texts
 
 -- a text, and those behind it
-pub late_more : (rate rx slots number size due : ℕ) (late : Option ℕ) (is : Bool) (texts : List Text) (left left' : List ℕ) (rate' rx' : ℕ) → rate' ≡ rate → rx' ≡ rx →
-    is ≡ (is_due rate' slots (record { due = due; size = size }) && not (has_left rate' rx' (record { due = due; size = size }) left)) → left' ≡ drop size left →
+pub late_more : (rate rx slots number size due : ℕ) (late : Option ℕ) (is : Bool) (texts : List PesPacket) (left left' : List ℕ) (rate' rx' : ℕ) → rate' ≡ rate → rx' ≡ rx →
+    is ≡ (is_due rate' slots (record { dts = due; size = size }) && not (has_left rate' rx' (record { dts = due; size = size }) left)) → left' ≡ drop size left →
     option_or (option_or late (if is then Some number else None)) (first_late rate rx slots (number + 1) texts left')
-    ≡ option_or late (first_late rate rx slots number (record { due = due; size = size } ∷ texts) left)
+    ≡ option_or late (first_late rate rx slots number (record { dts = due; size = size } ∷ texts) left)
 unfolding first_late
 late_more rate rx slots number size due late is texts left left' rate' rx' same_rate same_rx decided rest =
     rw (late_next late is number (first_late rate rx slots (number + 1) texts left'), decided, rest, same_rate, same_rx, add-one number) refl

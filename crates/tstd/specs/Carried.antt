@@ -6,7 +6,7 @@ use Rattle.pes_packet.specs.Spelling.{unit_text}
 use Rattle.ts_packet.specs.Views.{PacketView}
 use Rattle.ts_packet.specs.PidList.{entries_of, is_of_pid, pid_list}
 use Rattle.unit_timing.specs.Schedule.{Packet}
-use Rattle.unit_timing.specs.Text.{Text}
+use Rattle.unit_timing.specs.PesPacket.{PesPacket}
 
 -- the units of a stream in their order, of units each with the number of its stream
 abbrev pub units_of : ℕ → List (ℕ × AccessUnit) → List AccessUnit
@@ -17,8 +17,8 @@ abbrev pub texts_of : ℕ → ℕ → List AccessUnit → List (List ℕ)
 texts_of id base0 units = map (unit_text id base0) units
 
 -- and their PES packets as timing sees them: the size in bytes, and the decoding time stamp
-abbrev pub timed_texts : ℕ → ℕ → List AccessUnit → List Text
-timed_texts id base0 units = map (λ u. record { due = u.dts; size = length (unit_text id base0 u) }) units
+abbrev pub timed_texts : ℕ → ℕ → List AccessUnit → List PesPacket
+timed_texts id base0 units = map (λ u. record { dts = u.dts; size = length (unit_text id base0 u) }) units
 
 -- the payload of a packet, no bytes where it has none
 abbrev pub payload_of : PacketView → List ℕ

@@ -5,14 +5,14 @@
 use Rattle.std.specs.Prelude.{◌≡◌, ℕ, ◌+◌, ◌/◌, List, [], ◌∷◌, length, slice_get, Option, Some, None}
 use Rattle.clock27.specs.Arrival.{arrivals}
 use Rattle.clock27.specs.Departure.{departures}
-use Rattle.clock27.specs.Fullness.{held}
+use Rattle.clock27.specs.Fullness.{fullness}
 use Rattle.clock27.specs.Peak.{IsPeak}
 use Rattle.description.specs.Described.{Described, DescribedProgram, DescribedStream}
 use Rattle.pes_packet.specs.AccessUnits.{AccessUnit}
 use Rattle.unit_timing.specs.Arrived.{first_late}
-use Rattle.unit_timing.specs.MainBuffer.{main_held}
+use Rattle.unit_timing.specs.MainBuffer.{mb_fullness}
 use Rattle.unit_timing.specs.Schedule.{Packet}
-use Rattle.unit_timing.specs.SystemBuffer as tables
+use Rattle.unit_timing.specs.SystemBuffer.{system_tb_fullness, bsys_fullness}
 use Rattle.unit_timing.specs.Transport.{slots_of, text_left}
 use Rattle.tstd.specs.Carried.{units_of, timed_texts, packets_on, table_packets}
 use Rattle.tstd.specs.declared.fullness.StreamFullness.{StreamFullness}
@@ -26,13 +26,13 @@ pub record Measured : Type 0 where
   pub late : Option LateUnit
 
 -- the bytes in the transport buffer of a stream at the moment x, filled by these packets
-abbrev pub transport_held : ℕ → ℕ → List Packet → ℕ → ℕ
-transport_held rate rx packets x = held x (arrivals rx (slots_of packets)) (departures rate 0 (arrivals rx (slots_of packets)))
+abbrev pub tb_fullness : ℕ → ℕ → List Packet → ℕ → ℕ
+tb_fullness rate rx packets x = fullness x (arrivals rx (slots_of packets)) (departures rate 0 (arrivals rx (slots_of packets)))
 
 -- the greatest numbers of bytes over all moments in the two buffers of a stream, filled by these packets with these units
 pub record IsStreamFullness (rate base0 : ℕ) (s : DescribedStream) (units : List AccessUnit) (packets : List Packet) (f : StreamFullness) : Type 0 where
-  pub transport : IsPeak (transport_held rate s.rx packets) f.transport
-  pub main : IsPeak (λ x. main_held rate s.rx x (timed_texts s.stream_id base0 units) (text_left rate s.rx 0 packets)) f.main
+  pub transport : IsPeak (tb_fullness rate s.rx packets) f.transport
+  pub main : IsPeak (λ x. mb_fullness rate s.rx x (timed_texts s.stream_id base0 units) (text_left rate s.rx 0 packets)) f.main
 
 -- of each stream of a description
 pub record StreamsMeasured (d : Described) (units : List (ℕ × AccessUnit)) (bytes : List ℕ) (found : List StreamFullness) : Type 0 where
@@ -43,8 +43,8 @@ pub record StreamsMeasured (d : Described) (units : List (ℕ × AccessUnit)) (b
 -- the greatest numbers of bytes over all moments in the two buffers of a program's tables, filled by the packets with
 -- these indices
 pub record IsSystemFullness (rate : ℕ) (slots : List ℕ) (f : SystemFullness) : Type 0 where
-  pub transport : IsPeak (λ x. tables.transport_held rate x slots) f.transport
-  pub system : IsPeak (λ x. tables.system_held rate x slots) f.system
+  pub transport : IsPeak (λ x. tables.tb_fullness rate x slots) f.transport
+  pub system : IsPeak (λ x. bsys_fullness rate x slots) f.system
 
 -- of each program of a description
 pub record SystemsMeasured (d : Described) (bytes : List ℕ) (found : List SystemFullness) : Type 0 where

@@ -3,31 +3,31 @@ use Rattle.std.proofs.Common.{◌≡◌, ℕ, suc, ◌+◌, ◌-◌, ◌<◌, �
 use Rattle.std.proofs.lemmas.Bool.{cases_lt}
 use Rattle.std.proofs.lemmas.List.{take_all, take-append-le, length-append}
 use Rattle.std.proofs.lemmas.List.Sums.{sum_by-cons, sum_by-append}
-use Rattle.unit_timing.specs.Text.{Text, pieces_of, packets_of, Spaced, Declared, Sized, next_due, last_packets, SpacedMoreLaw, SizedMoreLaw, GroupMoreLaw}
+use Rattle.unit_timing.specs.PesPacket.{PesPacket, pieces_of, packets_of, Spaced, Declared, Sized, next_due, last_packets, SpacedMoreLaw, SizedMoreLaw, GroupMoreLaw}
 
-spaced_more : (apart from : ℕ) (texts : List Text) (text : Text) → Spaced apart from texts → next_due apart from texts ≤ text.due →
+spaced_more : (apart from : ℕ) (texts : List PesPacket) (text : PesPacket) → Spaced apart from texts → next_due apart from texts ≤ text.dts →
     Spaced apart from (texts ++ text ∷ [])
 unfolding Spaced next_due
 spaced_more apart from [] text spaced le = (le, tt)
-spaced_more apart from (first ∷ texts) text spaced le = (spaced.0, spaced_more apart (first.due + apart) texts text spaced.1 le)
+spaced_more apart from (first ∷ texts) text spaced le = (spaced.0, spaced_more apart (first.dts + apart) texts text spaced.1 le)
 
-spaced_back : (apart from : ℕ) (texts : List Text) (text : Text) → Spaced apart from (texts ++ text ∷ []) →
-    Spaced apart from texts × (next_due apart from texts ≤ text.due)
+spaced_back : (apart from : ℕ) (texts : List PesPacket) (text : PesPacket) → Spaced apart from (texts ++ text ∷ []) →
+    Spaced apart from texts × (next_due apart from texts ≤ text.dts)
 unfolding Spaced next_due
 spaced_back apart from [] text spaced = (tt, spaced.0)
 spaced_back apart from (first ∷ texts) text spaced =
-    let rest = spaced_back apart (first.due + apart) texts text spaced.1 in
+    let rest = spaced_back apart (first.dts + apart) texts text spaced.1 in
     ((spaced.0, rest.0), rest.1)
 
 pub spaced_more_law : SpacedMoreLaw
 spaced_more_law = record { more = spaced_more; back = spaced_back }
 
-sized_more : (largest : ℕ) (texts : List Text) (text : Text) → Sized largest texts → text.size ≤ largest → Sized largest (texts ++ text ∷ [])
+sized_more : (largest : ℕ) (texts : List PesPacket) (text : PesPacket) → Sized largest texts → text.size ≤ largest → Sized largest (texts ++ text ∷ [])
 unfolding Sized
 sized_more largest [] text sized le = (le, tt)
 sized_more largest (first ∷ texts) text sized le = (sized.0, sized_more largest texts text sized.1 le)
 
-sized_back : (largest : ℕ) (texts : List Text) (text : Text) → Sized largest (texts ++ text ∷ []) → Sized largest texts × (text.size ≤ largest)
+sized_back : (largest : ℕ) (texts : List PesPacket) (text : PesPacket) → Sized largest (texts ++ text ∷ []) → Sized largest texts × (text.size ≤ largest)
 unfolding Sized
 sized_back largest [] text sized = (tt, sized.0)
 sized_back largest (first ∷ texts) text sized = let rest = sized_back largest texts text sized.1 in ((sized.0, rest.0), rest.1)
@@ -36,36 +36,36 @@ pub sized_more_law : SizedMoreLaw
 sized_more_law = record { more = sized_more; back = sized_back }
 
 -- the first m + 1 texts with a further one behind them all: they are those from before, or all and the further one
-full_group : (m : ℕ) (texts : List Text) (text : Text) → m < length texts → packets_of (take (suc m) (texts ++ text ∷ [])) ≡ packets_of (take (suc m) texts)
+full_group : (m : ℕ) (texts : List PesPacket) (text : PesPacket) → m < length texts → packets_of (take (suc m) (texts ++ text ∷ [])) ≡ packets_of (take (suc m) texts)
 full_group m texts text lt = let le : suc m ≤ length texts = omega arith in rw (take-append-le (suc m) texts (text ∷ [])) refl
 
-open_group : (m : ℕ) (texts : List Text) (text : Text) → length texts ≤ m → packets_of (take (suc m) (texts ++ text ∷ [])) ≡ last_packets m texts + pieces_of text
+open_group : (m : ℕ) (texts : List PesPacket) (text : PesPacket) → length texts ≤ m → packets_of (take (suc m) (texts ++ text ∷ [])) ≡ last_packets m texts + pieces_of text
 open_group m texts text le =
     let short : length (texts ++ text ∷ []) ≤ suc m = rw (length-append texts (text ∷ [])) (omega arith) in
     let none : length texts - m ≡ 0 = omega arith in
     rw (take_all (suc m) (texts ++ text ∷ []) short, none, sum_by-append pieces_of texts (text ∷ []), sum_by-cons pieces_of text []) (omega arith)
 
 -- the last m texts are the same without the first, where there are more
-last_rest : (m : ℕ) (first : Text) (texts : List Text) → m ≤ length texts → last_packets m (first ∷ texts) ≡ last_packets m texts
+last_rest : (m : ℕ) (first : PesPacket) (texts : List PesPacket) → m ≤ length texts → last_packets m (first ∷ texts) ≡ last_packets m texts
 last_rest m first texts le = let e : suc (length texts) - m ≡ suc (length texts - m) = omega arith in rw e refl
 
-last_all : (m : ℕ) (first : Text) (texts : List Text) → length texts < m → last_packets m (first ∷ texts) ≡ pieces_of first + last_packets m texts
+last_all : (m : ℕ) (first : PesPacket) (texts : List PesPacket) → length texts < m → last_packets m (first ∷ texts) ≡ pieces_of first + last_packets m texts
 last_all m first texts lt =
     let e : suc (length texts) - m ≡ 0 = omega arith in
     let z : length texts - m ≡ 0 = omega arith in
     rw (e, z) (sum_by-cons pieces_of first texts)
 
-fewer_last : (m : ℕ) (first : Text) (texts : List Text) → last_packets m texts ≤ last_packets m (first ∷ texts)
+fewer_last : (m : ℕ) (first : PesPacket) (texts : List PesPacket) → last_packets m texts ≤ last_packets m (first ∷ texts)
 fewer_last m first texts = elim (cases_lt (length texts) m) [
   | inl lt ↦ omega (arith, last_all m first texts lt)
   | inr le ↦ omega (arith, last_rest m first texts le)
 ]
 
-declared_more : (m most n : ℕ) (texts : List Text) (text : Text) → Declared (suc m) most n texts → pieces_of text ≤ n →
+declared_more : (m most n : ℕ) (texts : List PesPacket) (text : PesPacket) → Declared (suc m) most n texts → pieces_of text ≤ n →
     last_packets m texts + pieces_of text ≤ most → Declared (suc m) most n (texts ++ text ∷ [])
 unfolding Declared
 declared_more m most n [] text d few fits =
-    let short : length {A = Text} [] ≤ m = omega arith in
+    let short : length {A = PesPacket} [] ≤ m = omega arith in
     (few, omega (arith, open_group m [] text short, fits), tt)
 declared_more m most n (first ∷ texts) text d few fits = (
   d.0,
@@ -76,11 +76,11 @@ declared_more m most n (first ∷ texts) text d few fits = (
   declared_more m most n texts text d.2 few (omega (arith, fewer_last m first texts, fits)),
 )
 
-declared_back : (m most n : ℕ) (texts : List Text) (text : Text) → Declared (suc m) most n (texts ++ text ∷ []) →
+declared_back : (m most n : ℕ) (texts : List PesPacket) (text : PesPacket) → Declared (suc m) most n (texts ++ text ∷ []) →
     Declared (suc m) most n texts × (pieces_of text ≤ n) × (last_packets m texts + pieces_of text ≤ most)
 unfolding Declared
 declared_back m most n [] text d =
-    let short : length {A = Text} [] ≤ m = omega arith in
+    let short : length {A = PesPacket} [] ≤ m = omega arith in
     (tt, d.0, omega (arith, open_group m [] text short, d.1))
 declared_back m most n (first ∷ texts) text d =
     let rest = declared_back m most n texts text d.2 in

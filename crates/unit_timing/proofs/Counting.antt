@@ -9,12 +9,12 @@ use Rattle.clock27.specs.Arrival.{bytes_from, arrivals}
 use Rattle.clock27.specs.Departure.{departures, last_left}
 use Rattle.clock27.specs.Release.{release}
 use Rattle.clock27.proofs.Leaving.{earliest, row}
-use Rattle.own_slots.specs.Slots.{passed, own_slots}
-use Rattle.own_slots.proofs.Counting.{passed_own, passed_other, passed_lt}
-use Rattle.unit_timing.specs.Text.{Text, pieces_of}
-use Rattle.unit_timing.specs.Schedule.{begin, cut, sent}
+use Rattle.own_slots.specs.Slots.{own_before, own_slots}
+use Rattle.own_slots.proofs.Counting.{own_before_own, own_before_other, own_before_lt}
+use Rattle.unit_timing.specs.PesPacket.{PesPacket, pieces_of}
+use Rattle.unit_timing.specs.Schedule.{first_slot, cut, packets_in_slots}
 use Rattle.unit_timing.specs.Transport.{of_payloads, text_left}
-use Rattle.unit_timing.specs.MainBuffer.{is_kept, main_held}
+use Rattle.unit_timing.specs.MainBuffer.{is_kept, mb_fullness}
 use Rattle.unit_timing.proofs.Filling.{text_left-cons}
 use Rattle.unit_timing.proofs.Sending.{slots_of-cut, text_left-append, length-left-cut, sent_nothing}
 use Rattle.unit_timing.proofs.Arriving.{behind_text}
@@ -65,24 +65,24 @@ text_later rate r prev size low (s ∷ slots) all =
     (text_later rate r (last_left rate prev first) (size - 184) low slots (All-tail (λ s. low ≤ 188 * s * r) s slots all)))
 
 -- no own slot from number b on stands before a slot that at most b have passed
-pub later_slots : (own : ℕ → Bool) (e s n b : ℕ) → passed own e ≤ b + passed own s → All (λ t. e ≤ t) (drop b (own_slots own s n))
+pub later_slots : (own : ℕ → Bool) (e s n b : ℕ) → own_before own e ≤ b + own_before own s → All (λ t. e ≤ t) (drop b (own_slots own s n))
 unfolding own_slots
 later_slots own e s zero b h = rw (drop_all {X = ℕ} b [] (omega arith)) (All-nil (λ t. e ≤ t))
 later_slots own e s (suc n) zero h = elim (cases_Bool (own s)) [
   | inl y ↦ rw y (All-cons (λ t. e ≤ t) s (own_slots own (suc s) n)
-      (elim (cases_lt s e) [ inl lt ↦ absurd (omega (arith, h, passed_lt own s e y lt)) | inr le ↦ le ])
-      (later_slots own e (suc s) n zero (omega (arith, h, passed_own own s y))))
-  | inr o ↦ rw o (later_slots own e (suc s) n zero (omega (arith, h, passed_other own s o)))
+      (elim (cases_lt s e) [ inl lt ↦ absurd (omega (arith, h, own_before_lt own s e y lt)) | inr le ↦ le ])
+      (later_slots own e (suc s) n zero (omega (arith, h, own_before_own own s y))))
+  | inr o ↦ rw o (later_slots own e (suc s) n zero (omega (arith, h, own_before_other own s o)))
 ]
 later_slots own e s (suc n) (suc b) h = elim (cases_Bool (own s)) [
-  | inl y ↦ rw y (later_slots own e (suc s) n b (omega (arith, h, passed_own own s y)))
-  | inr o ↦ rw o (later_slots own e (suc s) n (suc b) (omega (arith, h, passed_other own s o)))
+  | inl y ↦ rw y (later_slots own e (suc s) n b (omega (arith, h, own_before_own own s y)))
+  | inr o ↦ rw o (later_slots own e (suc s) n (suc b) (omega (arith, h, own_before_other own s o)))
 ]
 
 -- the departures of a text, in those of all that is sent from it on
-pub text_part : (own : ℕ → Bool) (rate lead r n b p size prev next : ℕ) (texts : List Text) → size ≤ 184 * p →
+pub text_part : (own : ℕ → Bool) (rate lead r n b p size prev next : ℕ) (texts : List PesPacket) → size ≤ 184 * p →
     take size (text_left rate r prev (cut size (take p (drop b (own_slots own 0 n))))
-    ++ text_left rate r next (sent own rate lead (b + p) texts (own_slots own 0 n)))
+    ++ text_left rate r next (packets_in_slots own rate lead (b + p) texts (own_slots own 0 n)))
     ≡ text_left rate r prev (cut size (take p (drop b (own_slots own 0 n))))
 text_part own rate lead r n b p size prev next texts small =
     let slots = own_slots own 0 n in
@@ -91,39 +91,39 @@ text_part own rate lead r n b p size prev next texts small =
     rw (length-left-cut rate r size prev (take p (drop b slots)), length-take p (drop b slots), length-drop b slots) refl in
     elim (cases_lt (length slots) (b + p)) [
       | inl short ↦
-          let nothing : text_left rate r next (sent own rate lead (b + p) texts slots) ≡ [] =
+          let nothing : text_left rate r next (packets_in_slots own rate lead (b + p) texts slots) ≡ [] =
           rw (sent_nothing own rate lead (b + p) texts slots (omega arith)) (unfold of_payloads in refl) in
           rw (nothing, append-nil left) (take_all size left (omega arith))
-      | inr whole ↦ take_at left (text_left rate r next (sent own rate lead (b + p) texts slots)) size (omega arith)
+      | inr whole ↦ take_at left (text_left rate r next (packets_in_slots own rate lead (b + p) texts slots)) size (omega arith)
     ]
 
-pub released : (own : ℕ → Bool) (rate lead free : ℕ) (text : Text) → passed own (release rate lead text.due) ≤ begin own rate lead free text
-unfolding begin
+pub released : (own : ℕ → Bool) (rate lead free : ℕ) (text : PesPacket) → own_before own (release rate lead text.dts) ≤ first_slot own rate lead free text
+unfolding first_slot
 released own rate lead free text = omega arith
 
 -- so a text's packets stand in slots from its release on
-pub text_slots : (own : ℕ → Bool) (rate lead free n : ℕ) (text : Text) →
-    All (λ s. release rate lead text.due ≤ s) (take (pieces_of text) (drop (begin own rate lead free text) (own_slots own 0 n)))
-unfolding passed
+pub text_slots : (own : ℕ → Bool) (rate lead free n : ℕ) (text : PesPacket) →
+    All (λ s. release rate lead text.dts ≤ s) (take (pieces_of text) (drop (first_slot own rate lead free text) (own_slots own 0 n)))
+unfolding own_before
 text_slots own rate lead free n text =
-    All-take (λ s. release rate lead text.due ≤ s) (pieces_of text) (drop (begin own rate lead free text) (own_slots own 0 n))
-    (later_slots own (release rate lead text.due) 0 n (begin own rate lead free text) (omega (arith, released own rate lead free text)))
+    All-take (λ s. release rate lead text.dts ≤ s) (pieces_of text) (drop (first_slot own rate lead free text) (own_slots own 0 n))
+    (later_slots own (release rate lead text.dts) 0 n (first_slot own rate lead free text) (omega (arith, released own rate lead free text)))
 
 -- the bytes of the main buffer are those of the first text and those of the later ones
-pub main_held-cons : (own : ℕ → Bool) (rate lead r n x free prev : ℕ) (text : Text) (texts : List Text) →
-    main_held rate r x (text ∷ texts) (text_left rate r prev (sent own rate lead free (text ∷ texts) (own_slots own 0 n)))
-    ≡ kept rate r x text.due (text_left rate r prev (cut text.size (take (pieces_of text) (drop (begin own rate lead free text) (own_slots own 0 n)))))
-    + main_held rate r x texts (text_left rate r (last_left rate prev (arrivals r (take (pieces_of text) (drop (begin own rate lead free text) (own_slots own 0 n)))))
-    (sent own rate lead (begin own rate lead free text + pieces_of text) texts (own_slots own 0 n)))
-unfolding main_held sent kept
-main_held-cons own rate lead r n x free prev text texts =
+pub mb_fullness-cons : (own : ℕ → Bool) (rate lead r n x free prev : ℕ) (text : PesPacket) (texts : List PesPacket) →
+    mb_fullness rate r x (text ∷ texts) (text_left rate r prev (packets_in_slots own rate lead free (text ∷ texts) (own_slots own 0 n)))
+    ≡ kept rate r x text.dts (text_left rate r prev (cut text.size (take (pieces_of text) (drop (first_slot own rate lead free text) (own_slots own 0 n)))))
+    + mb_fullness rate r x texts (text_left rate r (last_left rate prev (arrivals r (take (pieces_of text) (drop (first_slot own rate lead free text) (own_slots own 0 n)))))
+    (packets_in_slots own rate lead (first_slot own rate lead free text + pieces_of text) texts (own_slots own 0 n)))
+unfolding mb_fullness packets_in_slots kept
+mb_fullness-cons own rate lead r n x free prev text texts =
     let slots = own_slots own 0 n in
-    let b = begin own rate lead free text in
+    let b = first_slot own rate lead free text in
     let p = pieces_of text in
     let xs = take p (drop b slots) in
     let next = last_left rate prev (arrivals r xs) in
     let small : text.size ≤ 184 * pieces_of text = omega arith in
-    let joined : text_left rate r prev (cut text.size xs ++ sent own rate lead (b + p) texts slots)
-    ≡ text_left rate r prev (cut text.size xs) ++ text_left rate r next (sent own rate lead (b + p) texts slots) =
-    text_left-append rate r prev (cut text.size xs) (sent own rate lead (b + p) texts slots) ∙ rw (slots_of-cut text.size xs) refl in
+    let joined : text_left rate r prev (cut text.size xs ++ packets_in_slots own rate lead (b + p) texts slots)
+    ≡ text_left rate r prev (cut text.size xs) ++ text_left rate r next (packets_in_slots own rate lead (b + p) texts slots) =
+    text_left-append rate r prev (cut text.size xs) (packets_in_slots own rate lead (b + p) texts slots) ∙ rw (slots_of-cut text.size xs) refl in
     rw (joined, text_part own rate lead r n b p text.size prev next texts small, behind_text own rate lead r n b p text.size prev next texts small) refl

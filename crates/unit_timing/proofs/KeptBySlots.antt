@@ -8,15 +8,15 @@ use Rattle.clock27.specs.Arrival.{bytes_from, arrivals}
 use Rattle.clock27.specs.Departure.{departures, last_left}
 use Rattle.clock27.specs.Release.{release}
 use Rattle.clock27.proofs.Leaving.{length-departures}
-use Rattle.own_slots.specs.Slots.{passed, own_slots, Rises, Spares}
-use Rattle.own_slots.proofs.Counting.{passed_own, passed_le}
-use Rattle.unit_timing.specs.Text.{Text, pieces_of}
-use Rattle.unit_timing.specs.Schedule.{Packet, begin, cut, sent}
+use Rattle.own_slots.specs.Slots.{own_before, own_slots, Rises, Spares}
+use Rattle.own_slots.proofs.Counting.{own_before_own, own_before_le}
+use Rattle.unit_timing.specs.PesPacket.{PesPacket, pieces_of}
+use Rattle.unit_timing.specs.Schedule.{Packet, first_slot, cut, packets_in_slots}
 use Rattle.unit_timing.specs.Transport.{slots_of, of_payloads, text_left}
-use Rattle.unit_timing.specs.MainBuffer.{main_held, BySlots}
+use Rattle.unit_timing.specs.MainBuffer.{mb_fullness, BySlots}
 use Rattle.unit_timing.proofs.Filling.{text_left-cons, length-bytes_from}
 use Rattle.unit_timing.proofs.Sending.{slots_of-cut, rises_from, rising_run}
-use Rattle.unit_timing.proofs.Counting.{kept, kept-append, kept_le, kept_after, kept_before, packet_later, text_slots, main_held-cons}
+use Rattle.unit_timing.proofs.Counting.{kept, kept-append, kept_le, kept_after, kept_before, packet_later, text_slots, mb_fullness-cons}
 
 -- a packet and the stamp of its text
 record Piece : Type 0 where
@@ -26,15 +26,15 @@ record Piece : Type 0 where
 abbrev pieces : ℕ → List ℕ → List Piece
 pieces due slots = map (λ (s : ℕ). let p : Piece = record { slot = s; due = due } in p) slots
 
-unfoldable all_pieces : (ℕ → Bool) → ℕ → ℕ → ℕ → List Text → List ℕ → List Piece
+unfoldable all_pieces : (ℕ → Bool) → ℕ → ℕ → ℕ → List PesPacket → List ℕ → List Piece
 all_pieces own rate lead free [] slots = []
 all_pieces own rate lead free (text ∷ texts) slots =
-    pieces text.due (take (pieces_of text) (drop (begin own rate lead free text) slots))
-    ++ all_pieces own rate lead (begin own rate lead free text + pieces_of text) texts slots
+    pieces text.dts (take (pieces_of text) (drop (first_slot own rate lead free text) slots))
+    ++ all_pieces own rate lead (first_slot own rate lead free text + pieces_of text) texts slots
 
 -- it has begun before x, and x lies before the stamp
 abbrev is_live : ℕ → ℕ → ℕ → Piece → Bool
-is_live rate r x p = nat_lt (188 * p.slot * r) x && nat_lt (x * 720000) (p.due * rate * r)
+is_live rate r x p = nat_lt (188 * p.slot * r) x && nat_lt (x * 720000) (p.dts * rate * r)
 
 unfoldable live : ℕ → ℕ → ℕ → List Piece → ℕ
 live rate r x [] = 0
@@ -87,22 +87,22 @@ kept_pieces rate r x due prev size (s ∷ slots) pos =
     rw (text_left-cons rate r prev (record { slot = s; size = min 184 size }) (cut (size - 184) slots), kept-append rate r x due one rest)
     (omega (arith, kept_packet rate r x due prev s size pos, kept_pieces rate r x due (last_left rate prev first) (size - 184) slots pos))
 
-main_pieces : (own : ℕ → Bool) (rate lead r n x : ℕ) → 0 < rate → (texts : List Text) (free prev : ℕ) →
-    main_held rate r x texts (text_left rate r prev (sent own rate lead free texts (own_slots own 0 n)))
+main_pieces : (own : ℕ → Bool) (rate lead r n x : ℕ) → 0 < rate → (texts : List PesPacket) (free prev : ℕ) →
+    mb_fullness rate r x texts (text_left rate r prev (packets_in_slots own rate lead free texts (own_slots own 0 n)))
     ≤ 184 * live rate r x (all_pieces own rate lead free texts (own_slots own 0 n))
 unfolding all_pieces
-main_pieces own rate lead r n x pos [] free prev = unfold main_held in (omega arith)
+main_pieces own rate lead r n x pos [] free prev = unfold mb_fullness in (omega arith)
 main_pieces own rate lead r n x pos (text ∷ texts) free prev =
     let slots = own_slots own 0 n in
-    let b = begin own rate lead free text in
+    let b = first_slot own rate lead free text in
     let xs = take (pieces_of text) (drop b slots) in
     rw (
-      main_held-cons own rate lead r n x free prev text texts,
-      live-append rate r x (pieces text.due xs) (all_pieces own rate lead (b + pieces_of text) texts slots),
+      mb_fullness-cons own rate lead r n x free prev text texts,
+      live-append rate r x (pieces text.dts xs) (all_pieces own rate lead (b + pieces_of text) texts slots),
     )
     (omega (
       arith,
-      kept_pieces rate r x text.due prev text.size xs pos,
+      kept_pieces rate r x text.dts prev text.size xs pos,
       main_pieces own rate lead r n x pos texts (b + pieces_of text) (last_left rate prev (arrivals r xs)),
     ))
 
@@ -114,57 +114,57 @@ slots_in-pieces : (due : ℕ) (slots : List ℕ) → slots_in (pieces due slots)
 slots_in-pieces due [] = refl
 slots_in-pieces due (s ∷ slots) = ap (λ l. s ∷ l) (slots_in-pieces due slots)
 
-slots_in-all : (own : ℕ → Bool) (rate lead free : ℕ) (texts : List Text) (slots : List ℕ) →
-    slots_in (all_pieces own rate lead free texts slots) ≡ slots_of (sent own rate lead free texts slots)
-unfolding all_pieces sent
+slots_in-all : (own : ℕ → Bool) (rate lead free : ℕ) (texts : List PesPacket) (slots : List ℕ) →
+    slots_in (all_pieces own rate lead free texts slots) ≡ slots_of (packets_in_slots own rate lead free texts slots)
+unfolding all_pieces packets_in_slots
 slots_in-all own rate lead free [] slots = refl
 slots_in-all own rate lead free (text ∷ texts) slots =
-    let b = begin own rate lead free text in
+    let b = first_slot own rate lead free text in
     let p = pieces_of text in
     let xs = take p (drop b slots) in
     rw (
-      map-append (λ (p : Piece). p.slot) (pieces text.due xs) (all_pieces own rate lead (b + p) texts slots),
-      slots_in-pieces text.due xs,
-      map-append (λ (p : Packet). p.slot) (cut text.size xs) (sent own rate lead (b + p) texts slots),
+      map-append (λ (p : Piece). p.slot) (pieces text.dts xs) (all_pieces own rate lead (b + p) texts slots),
+      slots_in-pieces text.dts xs,
+      map-append (λ (p : Packet). p.slot) (cut text.size xs) (packets_in_slots own rate lead (b + p) texts slots),
       slots_of-cut text.size xs,
       slots_in-all own rate lead (b + p) texts slots,
     ) refl
 
 -- none is early
 abbrev NotEarly : ℕ → ℕ → Piece → Type 0
-NotEarly rate lead p = p.due * rate ≤ p.slot * 135360000 + lead * rate
+NotEarly rate lead p = p.dts * rate ≤ p.slot * 135360000 + lead * rate
 
 not_early : (rate lead due s : ℕ) → release rate lead due ≤ s → due * rate ≤ s * 135360000 + lead * rate
 not_early rate lead due s le =
     let split : due ≤ (due - lead) + lead = omega arith in
     omega (arith, le, mul-le-mul_right rate split)
 
-none_early : (own : ℕ → Bool) (rate lead n : ℕ) (texts : List Text) (free : ℕ) → All (NotEarly rate lead) (all_pieces own rate lead free texts (own_slots own 0 n))
+none_early : (own : ℕ → Bool) (rate lead n : ℕ) (texts : List PesPacket) (free : ℕ) → All (NotEarly rate lead) (all_pieces own rate lead free texts (own_slots own 0 n))
 unfolding all_pieces
 none_early own rate lead n [] free = All-nil (NotEarly rate lead)
 none_early own rate lead n (text ∷ texts) free =
     let slots = own_slots own 0 n in
-    let b = begin own rate lead free text in
+    let b = first_slot own rate lead free text in
     let xs = take (pieces_of text) (drop b slots) in
-    All-append (NotEarly rate lead) (pieces text.due xs) (all_pieces own rate lead (b + pieces_of text) texts slots)
-    (All-map (NotEarly rate lead) (λ (s : ℕ). let p : Piece = record { slot = s; due = text.due } in p) xs
-    (All-weaker (λ s. release rate lead text.due ≤ s) (λ s. text.due * rate ≤ s * 135360000 + lead * rate)
-    (λ s le. not_early rate lead text.due s le) xs (text_slots own rate lead free n text)))
+    All-append (NotEarly rate lead) (pieces text.dts xs) (all_pieces own rate lead (b + pieces_of text) texts slots)
+    (All-map (NotEarly rate lead) (λ (s : ℕ). let p : Piece = record { slot = s; due = text.dts } in p) xs
+    (All-weaker (λ s. release rate lead text.dts ≤ s) (λ s. text.dts * rate ≤ s * 135360000 + lead * rate)
+    (λ s le. not_early rate lead text.dts s le) xs (text_slots own rate lead free n text)))
     (none_early own rate lead n texts (b + pieces_of text))
 
 -- those that are live stand before a slot, and so are no more than the own slots up to it
 live_before : (own : ℕ → Bool) (rate r x limit : ℕ) → ((s : ℕ) → 188 * s * r < x → s < limit) → (ps : List Piece) (from : ℕ) → from ≤ limit → Rises own from (slots_in ps) →
-    live rate r x ps + passed own from ≤ passed own limit
+    live rate r x ps + own_before own from ≤ own_before own limit
 unfolding Rises
-live_before own rate r x limit before [] from le rises = unfold live in (omega (arith, passed_le own from limit le))
+live_before own rate r x limit before [] from le rises = unfold live in (omega (arith, own_before_le own from limit le))
 live_before own rate r x limit before (p ∷ ps) from le rises =
     elim (cases_Bool (is_live rate r x p)) [
       | inl is ↦
-          let parts = and_parts (nat_lt (188 * p.slot * r) x) (nat_lt (x * 720000) (p.due * rate * r)) is in
+          let parts = and_parts (nat_lt (188 * p.slot * r) x) (nat_lt (x * 720000) (p.dts * rate * r)) is in
           let lt = before p.slot (ltb-true (188 * p.slot * r) x parts.0) in
           let rest = live_before own rate r x limit before ps (suc p.slot) (omega arith) rises.2 in
           let one = live_one rate r x p ps is in
-          omega (arith, one, rest, passed_own own p.slot rises.1, passed_le own from p.slot rises.0)
+          omega (arith, one, rest, own_before_own own p.slot rises.1, own_before_le own from p.slot rises.0)
       | inr not ↦
           let rest = live_before own rate r x limit before ps from le (rises_from own from (suc p.slot) (slots_in ps) (omega (arith, rises.0)) rises.2) in
           let none = live_none rate r x p ps not in
@@ -192,9 +192,9 @@ live_few : (own : ℕ → Bool) (rate lead r x w m : ℕ) → 0 < r → lead * r
 live_few own rate lead r x w m pos wide spares [] from rises early = unfold live in (omega arith)
 live_few own rate lead r x w m pos wide spares (p ∷ ps) from rises early = elim (cases_Bool (is_live rate r x p)) [
   | inl is ↦
-      let parts = and_parts (nat_lt (188 * p.slot * r) x) (nat_lt (x * 720000) (p.due * rate * r)) is in
-      let stamp = ltb-true (x * 720000) (p.due * rate * r) parts.1 in
-      let near = λ (t : ℕ) (h : 188 * t * r < x). apart_slots p.slot t r x p.due rate lead w stamp (All-head (NotEarly rate lead) p ps early) wide h pos in
+      let parts = and_parts (nat_lt (188 * p.slot * r) x) (nat_lt (x * 720000) (p.dts * rate * r)) is in
+      let stamp = ltb-true (x * 720000) (p.dts * rate * r) parts.1 in
+      let near = λ (t : ℕ) (h : 188 * t * r < x). apart_slots p.slot t r x p.dts rate lead w stamp (All-head (NotEarly rate lead) p ps early) wide h pos in
       let here : Rises own p.slot (slots_in (p ∷ ps)) = rises_here own from p.slot (slots_in ps) rises in
       let all = live_before own rate r x (p.slot + w) near (p ∷ ps) p.slot (omega arith) here in
       omega (arith, all, spares p.slot)

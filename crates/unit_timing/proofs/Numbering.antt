@@ -5,11 +5,11 @@ use Rattle.std.proofs.lemmas.Bool.{cases_Bool, lt-ltb, le-ltb}
 use Rattle.std.proofs.lemmas.List.{take_at, drop_at, append_assoc, drop-drop}
 use Rattle.clock27.specs.Arrival.{arrivals}
 use Rattle.clock27.proofs.Pairing.{second_law}
-use Rattle.own_slots.specs.Slots.{passed, own_slots}
-use Rattle.own_slots.proofs.Counting.{passed_own, passed_other}
+use Rattle.own_slots.specs.Slots.{own_before, own_slots}
+use Rattle.own_slots.proofs.Counting.{own_before_own, own_before_other}
 use Rattle.own_slots.proofs.Working.{work_scale_law}
-use Rattle.unit_timing.specs.Text.{Text, pieces_of}
-use Rattle.unit_timing.specs.Schedule.{Packet, begin, piece_at, packet_in, pick, cut, sent, SlotwiseLaw}
+use Rattle.unit_timing.specs.PesPacket.{PesPacket, pieces_of}
+use Rattle.unit_timing.specs.Schedule.{Packet, first_slot, piece_at, packet_in, pick, cut, packets_in_slots, SlotwiseLaw}
 use Rattle.unit_timing.specs.SystemBuffer.{SystemLaw}
 use Rattle.unit_timing.specs.Run.{run_bytes, indices, IndicesLaw}
 use Rattle.unit_timing.proofs.Filling.{transport_room}
@@ -32,16 +32,16 @@ unfoldable picked : (ℕ → Option ℕ) → ℕ → List ℕ → List Packet
 picked f i [] = []
 picked f i (s ∷ slots) = packet_in s (f i) ++ picked f (suc i) slots
 
-pick_picked : (own : ℕ → Bool) (f : ℕ → Option ℕ) (s n : ℕ) → pick own f (own_slots own s n) ≡ picked f (passed own s) (own_slots own s n)
+pick_picked : (own : ℕ → Bool) (f : ℕ → Option ℕ) (s n : ℕ) → pick own f (own_slots own s n) ≡ picked f (own_before own s) (own_slots own s n)
 unfolding pick picked own_slots
 pick_picked own f s zero = refl
 pick_picked own f s (suc n) = elim (cases_Bool (own s)) [
   | inl y ↦
-      let next : passed own (suc s) ≡ suc (passed own s) = omega (arith, passed_own own s y) in
+      let next : own_before own (suc s) ≡ suc (own_before own s) = omega (arith, own_before_own own s y) in
       let rest = pick_picked own f (suc s) n in
-      rw y (ap (λ l. packet_in s (f (passed own s)) ++ l) (rw next at rest))
+      rw y (ap (λ l. packet_in s (f (own_before own s)) ++ l) (rw next at rest))
   | inr o ↦
-      let next : passed own (suc s) ≡ passed own s = omega (arith, passed_other own s o) in
+      let next : own_before own (suc s) ≡ own_before own s = omega (arith, own_before_other own s o) in
       let rest = pick_picked own f (suc s) n in
       rw o (rw next at rest)
 ]
@@ -85,31 +85,31 @@ picked_cut f (suc p) size i (s ∷ slots) pieces =
     ) refl
 
 -- what own slot number i carries: nothing before the text, its pieces, and then what the later texts give it
-carried_before : (own : ℕ → Bool) (rate lead free i : ℕ) (text : Text) (texts : List Text) → i < begin own rate lead free text →
+carried_before : (own : ℕ → Bool) (rate lead free i : ℕ) (text : PesPacket) (texts : List PesPacket) → i < first_slot own rate lead free text →
     piece_at own rate lead free (text ∷ texts) i ≡ None
 unfolding piece_at
-carried_before own rate lead free i text texts lt = rw (lt-ltb i (begin own rate lead free text) lt) refl
+carried_before own rate lead free i text texts lt = rw (lt-ltb i (first_slot own rate lead free text) lt) refl
 
-carried_piece : (own : ℕ → Bool) (rate lead free j : ℕ) (text : Text) (texts : List Text) → j < pieces_of text →
-    piece_at own rate lead free (text ∷ texts) (begin own rate lead free text + j) ≡ Some (min 184 (text.size - 184 * j))
+carried_piece : (own : ℕ → Bool) (rate lead free j : ℕ) (text : PesPacket) (texts : List PesPacket) → j < pieces_of text →
+    piece_at own rate lead free (text ∷ texts) (first_slot own rate lead free text + j) ≡ Some (min 184 (text.size - 184 * j))
 unfolding piece_at
 carried_piece own rate lead free j text texts lt =
-    let b = begin own rate lead free text in
-    let from : begin own rate lead free text ≤ begin own rate lead free text + j = omega arith in
-    let below : begin own rate lead free text + j < begin own rate lead free text + pieces_of text = omega arith in
-    let e : begin own rate lead free text + j - begin own rate lead free text ≡ j = omega arith in
+    let b = first_slot own rate lead free text in
+    let from : first_slot own rate lead free text ≤ first_slot own rate lead free text + j = omega arith in
+    let below : first_slot own rate lead free text + j < first_slot own rate lead free text + pieces_of text = omega arith in
+    let e : first_slot own rate lead free text + j - first_slot own rate lead free text ≡ j = omega arith in
     rw (le-ltb (b + j) b from, lt-ltb (b + j) (b + pieces_of text) below, e) refl
 
-carried_after : (own : ℕ → Bool) (rate lead free i : ℕ) (text : Text) (texts : List Text) → begin own rate lead free text + pieces_of text ≤ i →
-    piece_at own rate lead free (text ∷ texts) i ≡ piece_at own rate lead (begin own rate lead free text + pieces_of text) texts i
+carried_after : (own : ℕ → Bool) (rate lead free i : ℕ) (text : PesPacket) (texts : List PesPacket) → first_slot own rate lead free text + pieces_of text ≤ i →
+    piece_at own rate lead free (text ∷ texts) i ≡ piece_at own rate lead (first_slot own rate lead free text + pieces_of text) texts i
 unfolding piece_at
 carried_after own rate lead free i text texts le =
-    let b = begin own rate lead free text in
-    let from : begin own rate lead free text ≤ i = omega arith in
+    let b = first_slot own rate lead free text in
+    let from : first_slot own rate lead free text ≤ i = omega arith in
     rw (le-ltb i b from, le-ltb i (b + pieces_of text) le) refl
 
-pub free_le : (own : ℕ → Bool) (rate lead free : ℕ) (text : Text) → free ≤ begin own rate lead free text
-unfolding begin
+pub free_le : (own : ℕ → Bool) (rate lead free : ℕ) (text : PesPacket) → free ≤ first_slot own rate lead free text
+unfolding first_slot
 free_le own rate lead free text = omega arith
 
 picked_nothing : (own : ℕ → Bool) (rate lead i : ℕ) (slots : List ℕ) → picked (piece_at own rate lead i []) i slots ≡ []
@@ -117,15 +117,15 @@ unfolding picked piece_at
 picked_nothing own rate lead i [] = refl
 picked_nothing own rate lead i (s ∷ slots) = picked_nothing own rate lead (suc i) slots
 
-picked_texts : (own : ℕ → Bool) (rate lead free : ℕ) (texts : List Text) (slots : List ℕ) →
-    picked (piece_at own rate lead free texts) free (drop free slots) ≡ sent own rate lead free texts slots
-unfolding sent
+picked_texts : (own : ℕ → Bool) (rate lead free : ℕ) (texts : List PesPacket) (slots : List ℕ) →
+    picked (piece_at own rate lead free texts) free (drop free slots) ≡ packets_in_slots own rate lead free texts slots
+unfolding packets_in_slots
 picked_texts own rate lead free [] slots = picked_nothing own rate lead free (drop free slots)
 picked_texts own rate lead free (text ∷ texts) slots =
-    let b = begin own rate lead free text in
+    let b = first_slot own rate lead free text in
     let p = pieces_of text in
     let f = piece_at own rate lead free (text ∷ texts) in
-    let to : free + (begin own rate lead free text - free) ≡ begin own rate lead free text = omega (arith, free_le own rate lead free text) in
+    let to : free + (first_slot own rate lead free text - free) ≡ first_slot own rate lead free text = omega (arith, free_le own rate lead free text) in
     let before = picked_none f (b - free) free (drop free slots) (λ j from below. carried_before own rate lead free j text texts (omega arith)) in
     let pieces = picked_cut f p text.size b (drop b slots) (λ j below. carried_piece own rate lead free j text texts below) in
     let after = picked_same f (piece_at own rate lead (b + p) texts) (b + p) (drop (b + p) slots) (λ j le. carried_after own rate lead free j text texts le) in
@@ -143,6 +143,6 @@ picked_texts own rate lead free (text ∷ texts) slots =
     ) refl
 
 pub slotwise_law : SlotwiseLaw
-unfolding passed
+unfolding own_before
 slotwise_law own rate lead n texts =
     pick_picked own (piece_at own rate lead 0 texts) 0 n ∙ picked_texts own rate lead 0 texts (own_slots own 0 n)

@@ -7,11 +7,11 @@ use Rattle.std.proofs.lemmas.List.Elements.{All-nil, All-cons}
 use Rattle.clock27.specs.Arrival.{bytes_from, arrivals}
 use Rattle.clock27.specs.Departure.{departures, last_left}
 use Rattle.clock27.proofs.Leaving.{last_left-append, length-departures}
-use Rattle.own_slots.specs.Slots.{passed, Rises, own_slots}
+use Rattle.own_slots.specs.Slots.{own_before, Rises, own_slots}
 use Rattle.own_slots.specs.Work.{BoundsWork}
-use Rattle.own_slots.proofs.Counting.{passed_own, passed_other, before_from, list_law}
-use Rattle.unit_timing.specs.Text.{Text, pieces_of}
-use Rattle.unit_timing.specs.Schedule.{Packet, begin, cut, sent}
+use Rattle.own_slots.proofs.Counting.{own_before_own, own_before_other, before_from, list_law}
+use Rattle.unit_timing.specs.PesPacket.{PesPacket, pieces_of}
+use Rattle.unit_timing.specs.Schedule.{Packet, first_slot, cut, packets_in_slots}
 use Rattle.unit_timing.specs.Transport.{slots_of, of_payloads, text_left}
 use Rattle.unit_timing.proofs.Filling.{Level, level_le, level_packet, length-bytes_from, text_left-cons}
 use Rattle.unit_timing.proofs.Numbering.{free_le}
@@ -92,35 +92,35 @@ level_packets own rate r room peak W from prev (s ∷ slots) b rises h =
     (level_packets own rate r room peak W (suc s) (last_left rate prev (bytes_from r (188 * s) 188)) slots b rises.2 (level_packet own rate r room peak W s prev b rises.1 here))
 
 -- the own slots of a run
-pub length-own_slots : (own : ℕ → Bool) (s n : ℕ) → length (own_slots own s n) + passed own s ≡ passed own (s + n)
+pub length-own_slots : (own : ℕ → Bool) (s n : ℕ) → length (own_slots own s n) + own_before own s ≡ own_before own (s + n)
 unfolding own_slots
 length-own_slots own s zero = let e : s + 0 ≡ s = omega arith in rw e (omega arith)
 length-own_slots own s (suc n) =
     let e : s + suc n ≡ suc s + n = omega arith in
     let rest = length-own_slots own (suc s) n in
     elim (cases_Bool (own s)) [
-      | inl y ↦ rw (y, e) (omega (arith, rest, passed_own own s y))
-      | inr o ↦ rw (o, e) (omega (arith, rest, passed_other own s o))
+      | inl y ↦ rw (y, e) (omega (arith, rest, own_before_own own s y))
+      | inr o ↦ rw (o, e) (omega (arith, rest, own_before_other own s o))
     ]
 
 -- the first m of them stand before a slot that m have passed
-pub first_before : (own : ℕ → Bool) (e s n m : ℕ) → m + passed own s ≤ passed own e → All (λ t. t < e) (take m (own_slots own s n))
+pub first_before : (own : ℕ → Bool) (e s n m : ℕ) → m + own_before own s ≤ own_before own e → All (λ t. t < e) (take m (own_slots own s n))
 unfolding own_slots
 first_before own e s zero m h = rw (take_all {A = ℕ} m [] (omega arith)) (All-nil (λ t. t < e))
 first_before own e s (suc n) zero h = All-nil (λ t. t < e)
 first_before own e s (suc n) (suc m) h = elim (cases_Bool (own s)) [
   | inl y ↦ rw y (All-cons (λ t. t < e) s (take m (own_slots own (suc s) n)) (before_from own s e (omega arith))
-      (first_before own e (suc s) n m (omega (arith, passed_own own s y))))
-  | inr o ↦ rw o (first_before own e (suc s) n (suc m) (omega (arith, passed_other own s o)))
+      (first_before own e (suc s) n m (omega (arith, own_before_own own s y))))
+  | inr o ↦ rw o (first_before own e (suc s) n (suc m) (omega (arith, own_before_other own s o)))
 ]
 
 -- nothing is sent where all own slots are taken
-pub sent_nothing : (own : ℕ → Bool) (rate lead free : ℕ) (texts : List Text) (slots : List ℕ) → length slots ≤ free → sent own rate lead free texts slots ≡ []
-unfolding sent cut
+pub sent_nothing : (own : ℕ → Bool) (rate lead free : ℕ) (texts : List PesPacket) (slots : List ℕ) → length slots ≤ free → packets_in_slots own rate lead free texts slots ≡ []
+unfolding packets_in_slots cut
 sent_nothing own rate lead free [] slots le = refl
 sent_nothing own rate lead free (text ∷ texts) slots le =
-    let b = begin own rate lead free text in
-    let later : length slots ≤ begin own rate lead free text = omega (arith, free_le own rate lead free text) in
+    let b = first_slot own rate lead free text in
+    let later : length slots ≤ first_slot own rate lead free text = omega (arith, free_le own rate lead free text) in
     rw (
       drop_all b slots later,
       take_all {A = ℕ} (pieces_of text) [] (omega arith),
@@ -133,11 +133,11 @@ rises_join own from [] ys first rest = rest
 rises_join own from (s ∷ xs) ys first rest = (first.0, first.1, rises_join own (suc s) xs ys first.2 rest)
 
 -- behind what is skipped the own slots still rise
-pub rises_begin : (own : ℕ → Bool) (rate lead free from : ℕ) (text : Text) (slots : List ℕ) → Rises own from (drop free slots) →
-    Rises own from (drop (begin own rate lead free text) slots)
+pub rises_begin : (own : ℕ → Bool) (rate lead free from : ℕ) (text : PesPacket) (slots : List ℕ) → Rises own from (drop free slots) →
+    Rises own from (drop (first_slot own rate lead free text) slots)
 rises_begin own rate lead free from text slots rises =
-    let b = begin own rate lead free text in
-    let to : free + (begin own rate lead free text - free) ≡ begin own rate lead free text = omega (arith, free_le own rate lead free text) in
+    let b = first_slot own rate lead free text in
+    let to : free + (first_slot own rate lead free text - free) ≡ first_slot own rate lead free text = omega (arith, free_le own rate lead free text) in
     rw (drop-drop (b - free) free slots, to) at (rises_drop own from (b - free) (drop free slots) rises)
 
 -- and so they do behind p packets
@@ -147,19 +147,19 @@ rises_behind own from b p slots rises =
     let parts : Rises own from (take p (drop b slots) ++ drop (b + p) slots) = rw (← drop-drop p b slots, take-append-drop p (drop b slots)) rises in
     rises_after own from (take p (drop b slots)) (drop (b + p) slots) parts
 
-rising_sent : (own : ℕ → Bool) (rate lead : ℕ) (slots : List ℕ) (texts : List Text) (free from : ℕ) → Rises own from (drop free slots) →
-    Rises own from (slots_of (sent own rate lead free texts slots))
-unfolding sent
+rising_sent : (own : ℕ → Bool) (rate lead : ℕ) (slots : List ℕ) (texts : List PesPacket) (free from : ℕ) → Rises own from (drop free slots) →
+    Rises own from (slots_of (packets_in_slots own rate lead free texts slots))
+unfolding packets_in_slots
 rising_sent own rate lead slots [] free from rises = unfold Rises in tt
 rising_sent own rate lead slots (text ∷ texts) free from rises =
-    let b = begin own rate lead free text in
+    let b = first_slot own rate lead free text in
     let p = pieces_of text in
     let xs = take p (drop b slots) in
     let here = rises_begin own rate lead free from text slots rises in
-    rw (map-append (λ (p : Packet). p.slot) (cut text.size xs) (sent own rate lead (b + p) texts slots), slots_of-cut text.size xs)
-    (rises_join own from xs (slots_of (sent own rate lead (b + p) texts slots)) (rises_take own from p (drop b slots) here)
+    rw (map-append (λ (p : Packet). p.slot) (cut text.size xs) (packets_in_slots own rate lead (b + p) texts slots), slots_of-cut text.size xs)
+    (rises_join own from xs (slots_of (packets_in_slots own rate lead (b + p) texts slots)) (rises_take own from p (drop b slots) here)
     (rising_sent own rate lead slots texts (b + p) (slot_after from xs) (rises_behind own from b p slots here)))
 
 -- the packets of a run stand in rising own slots
-pub rising_run : (own : ℕ → Bool) (rate lead n : ℕ) (texts : List Text) → Rises own 0 (slots_of (sent own rate lead 0 texts (own_slots own 0 n)))
+pub rising_run : (own : ℕ → Bool) (rate lead n : ℕ) (texts : List PesPacket) → Rises own 0 (slots_of (packets_in_slots own rate lead 0 texts (own_slots own 0 n)))
 rising_run own rate lead n texts = rising_sent own rate lead (own_slots own 0 n) texts 0 0 (list_law own 0 n)

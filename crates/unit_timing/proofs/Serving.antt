@@ -11,11 +11,11 @@ use Rattle.own_slots.proofs.Placing.{per_period_le}
 use Rattle.own_slots.proofs.Pacing.{rate_law, share_law}
 use Rattle.own_slots.proofs.Working.{work_law, switch_work_law}
 use Rattle.own_slots.proofs.Joining.{switch_rate_law, switch_spare_law}
-use Rattle.unit_timing.specs.Text.{Text}
+use Rattle.unit_timing.specs.PesPacket.{PesPacket}
 use Rattle.unit_timing.specs.Deadline.{InTime}
 use Rattle.unit_timing.specs.Plans.{Declaration, Keeps, IsProper, waiting_texts, waiting_slots, bytes_by_texts, StreamServed, run_packets, StreamLaw, DeadlineSwitchLaw, MainSwitchLaw, StreamSwitchLaw, ProgramLaw, ProgramSwitchLaw}
 use Rattle.unit_timing.specs.Transport.{slots_of, text_left}
-use Rattle.unit_timing.specs.MainBuffer.{main_held}
+use Rattle.unit_timing.specs.MainBuffer.{mb_fullness}
 use Rattle.unit_timing.proofs.Filling.{transport_room}
 use Rattle.unit_timing.proofs.Stretching.{deadline_law}
 use Rattle.unit_timing.proofs.Arriving.{arrived_law}
@@ -34,9 +34,9 @@ some_slots : (rate : ℕ) (s : Declaration) → 0 < rate → 0 < s.lead → 0 < 
 some_slots rate s pos pos' = let some : 0 < s.lead * rate = mul-pos pos' pos in omega arith
 
 -- from deadlines, work and the main buffer to what is promised
-served : (rate : ℕ) (s : Declaration) (own : ℕ → Bool) (peak : ℕ) (W : ℕ → ℕ) (texts : List Text) → IsProper rate s →
+served : (rate : ℕ) (s : Declaration) (own : ℕ → Bool) (peak : ℕ) (W : ℕ → ℕ) (texts : List PesPacket) → IsProper rate s →
     BoundsWork own rate s.drain 512 peak W → InTime own rate s.lead s.drain peak 0 texts →
-    ((n x : ℕ) → main_held rate s.drain x texts (text_left rate s.drain 0 (run_packets own rate s texts n)) ≤ s.main) → StreamServed own rate s texts
+    ((n x : ℕ) → mb_fullness rate s.drain x texts (text_left rate s.drain 0 (run_packets own rate s texts n)) ≤ s.main) → StreamServed own rate s texts
 served rate s own peak W texts proper work in_time main = record {
   transport = λ n x. transport_room own rate s.drain 512 peak W (slots_of (run_packets own rate s texts n)) x proper.some_rate work (rising_run own rate s.lead n texts);
   arrived = λ n. arrived_law own rate s.lead s.drain 512 peak W texts n proper.some_drain work in_time;
@@ -70,9 +70,9 @@ deadline_switch_law rate s claim next_claim late first second periods texts some
     (c1 * c2 * (s.lead + j * s.interval) * rate * s.drain) s.drain late (lead j below))
     keeps.spaced keeps.grouped
 
-main_fits : (rate : ℕ) (s : Declaration) (own : ℕ → Bool) (m : ℕ) (texts : List Text) (n x : ℕ) → IsProper rate s → Keeps s texts →
+main_fits : (rate : ℕ) (s : Declaration) (own : ℕ → Bool) (m : ℕ) (texts : List PesPacket) (n x : ℕ) → IsProper rate s → Keeps s texts →
     Spares own (waiting_slots rate s) m → min (bytes_by_texts s) (184 * m) ≤ s.main →
-    main_held rate s.drain x texts (text_left rate s.drain 0 (run_packets own rate s texts n)) ≤ s.main
+    mb_fullness rate s.drain x texts (text_left rate s.drain 0 (run_packets own rate s texts n)) ≤ s.main
 main_fits rate s own m texts n x proper keeps spares fits =
     le_trans
     (kept_law own rate s.lead s.drain s.interval s.largest s.group s.group_packets s.pieces (waiting_texts s) (waiting_slots rate s) m texts n x

@@ -5,10 +5,10 @@ use Rattle.std.proofs.lemmas.Bool.{cases_lt}
 use Rattle.std.proofs.lemmas.Nat.{mod_below}
 use Rattle.std.proofs.lemmas.List.Sums.{sum_by-cons}
 use Rattle.clock27.specs.Release.{release}
-use Rattle.own_slots.specs.Slots.{passed}
-use Rattle.unit_timing.specs.Text.{Text, pieces_of, packets_of, Spaced, Paced, Declared}
-use Rattle.unit_timing.specs.Schedule.{begin}
-use Rattle.unit_timing.specs.Deadline.{Ends, InTime, Keeps, StretchLaw, DeadlineLaw}
+use Rattle.own_slots.specs.Slots.{own_before}
+use Rattle.unit_timing.specs.PesPacket.{PesPacket, pieces_of, packets_of, Spaced, Paced, Declared}
+use Rattle.unit_timing.specs.Schedule.{first_slot}
+use Rattle.unit_timing.specs.Deadline.{Ends, InTime, ServesInLead, StretchLaw, DeadlineLaw}
 use Rattle.unit_timing.proofs.Grouping.{groups_few}
 
 -- the window behind the release of a stretch's first text ends in time for the last of its m + 1 texts
@@ -24,16 +24,16 @@ released_soon rate lead due = omega arith
 
 -- a stretch of m texts with `sent` packets in all, the first released at slot rel, `wait` units of 90 kHz after the start: what is known of the
 -- next own slot number that is free, and of the next text
-record Stretch (own : ℕ → Bool) (q : ℕ → ℕ) (rate lead apart rel wait m sent free from : ℕ) (texts : List Text) : Type 0 where
+record Stretch (own : ℕ → Bool) (q : ℕ → ℕ) (rate lead apart rel wait m sent free from : ℕ) (texts : List PesPacket) : Type 0 where
   soon : rel * 135360000 + 1 ≤ wait * rate + 135360000
   near : lead + wait + m * apart ≤ from
-  taken : free ≤ passed own rel + sent
+  taken : free ≤ own_before own rel + sent
   few : (k : ℕ) → sent + packets_of (take k texts) ≤ q (m + k)
 
 -- its next text, at once behind it, ends in time
-next_ends : (own : ℕ → Bool) (q : ℕ → ℕ) (rate lead apart r late rel wait m sent free from : ℕ) (text : Text) (texts : List Text) →
-    Keeps own q rate lead apart r late m → Stretch own q rate lead apart rel wait m sent free from (text ∷ texts) → from ≤ text.due →
-    Ends own rate r late (free + pieces_of text) text.due
+next_ends : (own : ℕ → Bool) (q : ℕ → ℕ) (rate lead apart r late rel wait m sent free from : ℕ) (text : PesPacket) (texts : List PesPacket) →
+    ServesInLead own q rate lead apart r late m → Stretch own q rate lead apart rel wait m sent free from (text ∷ texts) → from ≤ text.dts →
+    Ends own rate r late (free + pieces_of text) text.dts
 next_ends own q rate lead apart r late rel wait m sent free from text texts k s le =
     let few = s.few 1 in
     let one : packets_of (take 1 (text ∷ texts)) ≡ pieces_of text = rw (sum_by-cons pieces_of text []) (omega arith) in
@@ -42,13 +42,13 @@ next_ends own q rate lead apart r late rel wait m sent free from text texts k s 
     record {
       slot = rel + k.window;
       sent = omega (arith, all, k.serves rel, s.taken);
-      early = ends_early rel k.window wait rate r late lead m apart text.due s.soon k.in_time (omega (arith, s.near, le));
+      early = ends_early rel k.window wait rate r late lead m apart text.dts s.soon k.in_time (omega (arith, s.near, le));
     }
 
 -- and is part of it
-next_stretch : (own : ℕ → Bool) (q : ℕ → ℕ) (rate lead apart rel wait m sent free from : ℕ) (text : Text) (texts : List Text) →
-    Stretch own q rate lead apart rel wait m sent free from (text ∷ texts) → from ≤ text.due →
-    Stretch own q rate lead apart rel wait (suc m) (sent + pieces_of text) (free + pieces_of text) (text.due + apart) texts
+next_stretch : (own : ℕ → Bool) (q : ℕ → ℕ) (rate lead apart rel wait m sent free from : ℕ) (text : PesPacket) (texts : List PesPacket) →
+    Stretch own q rate lead apart rel wait m sent free from (text ∷ texts) → from ≤ text.dts →
+    Stretch own q rate lead apart rel wait (suc m) (sent + pieces_of text) (free + pieces_of text) (text.dts + apart) texts
 next_stretch own q rate lead apart rel wait m sent free from text texts s le = record {
   soon = s.soon;
   near = omega (arith, s.near, le);
@@ -60,44 +60,44 @@ next_stretch own q rate lead apart rel wait m sent free from text texts s le = r
 }
 
 -- a text whose release comes behind all that was sent begins a stretch
-new_stretch : (own : ℕ → Bool) (q : ℕ → ℕ) (rate lead apart : ℕ) (text : Text) (texts : List Text) →
-    lead ≤ text.due → ((k : ℕ) → packets_of (take k (text ∷ texts)) ≤ q k) →
-    Stretch own q rate lead apart (release rate lead text.due) (text.due - lead) 0 0 (passed own (release rate lead text.due)) text.due (text ∷ texts)
+new_stretch : (own : ℕ → Bool) (q : ℕ → ℕ) (rate lead apart : ℕ) (text : PesPacket) (texts : List PesPacket) →
+    lead ≤ text.dts → ((k : ℕ) → packets_of (take k (text ∷ texts)) ≤ q k) →
+    Stretch own q rate lead apart (release rate lead text.dts) (text.dts - lead) 0 0 (own_before own (release rate lead text.dts)) text.dts (text ∷ texts)
 new_stretch own q rate lead apart text texts le few = record {
-  soon = released_soon rate lead text.due;
+  soon = released_soon rate lead text.dts;
   near = omega arith;
   taken = omega arith;
   few = λ k. let e : 0 + k ≡ k = omega arith in rw e (omega (arith, few k));
 }
 
-in_stretch : (own : ℕ → Bool) (q : ℕ → ℕ) (rate lead apart r late : ℕ) → ((m : ℕ) → Keeps own q rate lead apart r late m) →
-    (texts : List Text) (rel wait m sent free from : ℕ) → Stretch own q rate lead apart rel wait m sent free from texts →
+in_stretch : (own : ℕ → Bool) (q : ℕ → ℕ) (rate lead apart r late : ℕ) → ((m : ℕ) → ServesInLead own q rate lead apart r late m) →
+    (texts : List PesPacket) (rel wait m sent free from : ℕ) → Stretch own q rate lead apart rel wait m sent free from texts →
     lead ≤ from → Spaced apart from texts → Paced q texts → InTime own rate lead r late free texts
-unfolding Spaced Paced InTime begin
+unfolding Spaced Paced InTime first_slot
 in_stretch own q rate lead apart r late keeps [] rel wait m sent free from s le spaced paced = tt
 in_stretch own q rate lead apart r late keeps (text ∷ texts) rel wait m sent free from s le spaced paced =
-    let after : lead ≤ text.due + apart = omega (arith, spaced.0) in
-    elim (cases_lt free (passed own (release rate lead text.due))) [
+    let after : lead ≤ text.dts + apart = omega (arith, spaced.0) in
+    elim (cases_lt free (own_before own (release rate lead text.dts))) [
       | inl fresh ↦
-          let e : max free (passed own (release rate lead text.due)) ≡ passed own (release rate lead text.due) = omega arith in
-          let here : lead ≤ text.due = omega (arith, spaced.0) in
-          let same : text.due ≤ text.due = omega arith in
+          let e : max free (own_before own (release rate lead text.dts)) ≡ own_before own (release rate lead text.dts) = omega arith in
+          let here : lead ≤ text.dts = omega (arith, spaced.0) in
+          let same : text.dts ≤ text.dts = omega arith in
           let new = new_stretch own q rate lead apart text texts here paced.0 in
           rw e (
-            next_ends own q rate lead apart r late _ _ 0 0 _ text.due text texts (keeps 0) new same,
-            in_stretch own q rate lead apart r late keeps texts _ _ 1 _ _ (text.due + apart)
-                (next_stretch own q rate lead apart _ _ 0 0 _ text.due text texts new same) after spaced.1 paced.1,
+            next_ends own q rate lead apart r late _ _ 0 0 _ text.dts text texts (keeps 0) new same,
+            in_stretch own q rate lead apart r late keeps texts _ _ 1 _ _ (text.dts + apart)
+                (next_stretch own q rate lead apart _ _ 0 0 _ text.dts text texts new same) after spaced.1 paced.1,
           )
       | inr on ↦
-          let e : max free (passed own (release rate lead text.due)) ≡ free = omega arith in
+          let e : max free (own_before own (release rate lead text.dts)) ≡ free = omega arith in
           rw e (
             next_ends own q rate lead apart r late rel wait m sent free from text texts (keeps m) s spaced.0,
-            in_stretch own q rate lead apart r late keeps texts rel wait (suc m) _ _ (text.due + apart)
+            in_stretch own q rate lead apart r late keeps texts rel wait (suc m) _ _ (text.dts + apart)
                 (next_stretch own q rate lead apart rel wait m sent free from text texts s spaced.0) after spaced.1 paced.1,
           )
     ]
 
-few_at_first : (q : ℕ → ℕ) (texts : List Text) → Paced q texts → (k : ℕ) → 0 + packets_of (take k texts) ≤ q (0 + k)
+few_at_first : (q : ℕ → ℕ) (texts : List PesPacket) → Paced q texts → (k : ℕ) → 0 + packets_of (take k texts) ≤ q (0 + k)
 unfolding Paced
 few_at_first q [] paced zero = omega arith
 few_at_first q [] paced (suc k) = omega arith
@@ -120,7 +120,7 @@ abbrev stretched : ℕ → ℕ → ℕ → ℕ → ℕ
 stretched g most n zero = 0
 stretched g most n (suc m) = m / g * most + min (suc (m % g) * n) most
 
-stretched_few : (g most n : ℕ) (texts : List Text) → 0 < g → Declared g most n texts → (k : ℕ) → packets_of (take k texts) ≤ stretched g most n k
+stretched_few : (g most n : ℕ) (texts : List PesPacket) → 0 < g → Declared g most n texts → (k : ℕ) → packets_of (take k texts) ≤ stretched g most n k
 stretched_few g most n texts pos d zero = omega arith
 stretched_few g most n texts pos d (suc m) =
     let below : suc (m % g) ≤ g = omega (arith, mod_below m g pos) in
@@ -128,7 +128,7 @@ stretched_few g most n texts pos d (suc m) =
     let e : m / g * g + suc (m % g) ≡ suc m = omega (arith, div-add-mod m g) in
     rw e at few
 
-stretched_paced : (g most n : ℕ) (texts : List Text) → 0 < g → Declared g most n texts → Paced (stretched g most n) texts
+stretched_paced : (g most n : ℕ) (texts : List PesPacket) → 0 < g → Declared g most n texts → Paced (stretched g most n) texts
 unfolding Paced Declared
 stretched_paced g most n [] pos d = tt
 stretched_paced g most n (text ∷ texts) pos d = ((λ k. stretched_few g most n (text ∷ texts) pos d k), stretched_paced g most n texts pos d.2)

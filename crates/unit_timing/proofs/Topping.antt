@@ -6,8 +6,8 @@ use Rattle.std.proofs.lemmas.Bool.Decides.{nat_tests}
 use Rattle.std.proofs.lemmas.List.Elements.{All-nil, All-cons, All-head, All-tail, All-take, All-drop, All-weaker}
 use Rattle.std.proofs.lemmas.List.Sums.{sum_by-cons}
 use Rattle.clock27.specs.Peak.{greatest_at}
-use Rattle.unit_timing.specs.Text.{Text}
-use Rattle.unit_timing.specs.MainBuffer.{is_kept, main_held, MainPeakLaw}
+use Rattle.unit_timing.specs.PesPacket.{PesPacket}
+use Rattle.unit_timing.specs.MainBuffer.{is_kept, mb_fullness, MainPeakLaw}
 use Rattle.unit_timing.proofs.Counting.{kept, kept_before}
 
 -- y is no later than x, and no byte that has entered by x enters after y
@@ -29,21 +29,21 @@ kept_covered rate r x y due (d ∷ ds) le covers =
     rw (sum_by-cons (λ d. cond (is_kept rate r x due d) 1 0) d ds, sum_by-cons (λ d. cond (is_kept rate r y due d) 1 0) d ds)
     (omega (arith, one_covered rate r x y due d le (All-head (λ d. d ≤ x → d ≤ y) d ds covers), kept_covered rate r x y due ds le (All-tail (λ d. d ≤ x → d ≤ y) d ds covers)))
 
-held_covered : (rate r x y : ℕ) (texts : List Text) (left : List ℕ) → y ≤ x → Covers x y left → main_held rate r x texts left ≤ main_held rate r y texts left
-unfolding main_held kept
-held_covered rate r x y [] left le covers = omega arith
-held_covered rate r x y (text ∷ texts) left le covers =
-    let first = kept_covered rate r x y text.due (take text.size left) le (All-take (λ d. d ≤ x → d ≤ y) text.size left covers) in
-    let rest = held_covered rate r x y texts (drop text.size left) le (All-drop (λ d. d ≤ x → d ≤ y) text.size left covers) in
+fullness_covered : (rate r x y : ℕ) (texts : List PesPacket) (left : List ℕ) → y ≤ x → Covers x y left → mb_fullness rate r x texts left ≤ mb_fullness rate r y texts left
+unfolding mb_fullness kept
+fullness_covered rate r x y [] left le covers = omega arith
+fullness_covered rate r x y (text ∷ texts) left le covers =
+    let first = kept_covered rate r x y text.dts (take text.size left) le (All-take (λ d. d ≤ x → d ≤ y) text.size left covers) in
+    let rest = fullness_covered rate r x y texts (drop text.size left) le (All-drop (λ d. d ≤ x → d ≤ y) text.size left covers) in
     omega (arith, first, rest)
 
 -- before the first byte enters it, it is empty
-held_none : (rate r x : ℕ) (texts : List Text) (left : List ℕ) → All (λ d. x < d) left → main_held rate r x texts left ≡ 0
-unfolding main_held kept
-held_none rate r x [] left all = refl
-held_none rate r x (text ∷ texts) left all =
-    let first = kept_before rate r x text.due (take text.size left) (All-take (λ d. x < d) text.size left all) in
-    let rest = held_none rate r x texts (drop text.size left) (All-drop (λ d. x < d) text.size left all) in
+fullness_none : (rate r x : ℕ) (texts : List PesPacket) (left : List ℕ) → All (λ d. x < d) left → mb_fullness rate r x texts left ≡ 0
+unfolding mb_fullness kept
+fullness_none rate r x [] left all = refl
+fullness_none rate r x (text ∷ texts) left all =
+    let first = kept_before rate r x text.dts (take text.size left) (All-take (λ d. x < d) text.size left all) in
+    let rest = fullness_none rate r x texts (drop text.size left) (All-drop (λ d. x < d) text.size left all) in
     omega (arith, first, rest)
 
 -- the last entry up to x
@@ -106,18 +106,18 @@ greatest_reached f d (e ∷ ds) =
       | inr here ↦ record { at = d; is = omega (arith, here) }
     ]
 
-never_more : (rate r : ℕ) (texts : List Text) (left : List ℕ) (x : ℕ) → main_held rate r x texts left ≤ greatest_at (λ x. main_held rate r x texts left) left
+never_more : (rate r : ℕ) (texts : List PesPacket) (left : List ℕ) (x : ℕ) → mb_fullness rate r x texts left ≤ greatest_at (λ x. mb_fullness rate r x texts left) left
 never_more rate r texts left x = elim (entry x left) [
-  | inl none ↦ omega (arith, held_none rate r x texts left none)
-  | inr e ↦ le_trans (held_covered rate r x e.at texts left e.within e.covers) (e.counted (λ x. main_held rate r x texts left))
+  | inl none ↦ omega (arith, fullness_none rate r x texts left none)
+  | inr e ↦ le_trans (fullness_covered rate r x e.at texts left e.within e.covers) (e.counted (λ x. mb_fullness rate r x texts left))
 ]
 
 pub main_peak_law : MainPeakLaw
 main_peak_law rate r texts [] = record {
   never_more = never_more rate r texts [];
   moment = 0;
-  reached = unfold greatest_at in (held_none rate r 0 texts [] (All-nil (λ d. 0 < d)));
+  reached = unfold greatest_at in (fullness_none rate r 0 texts [] (All-nil (λ d. 0 < d)));
 }
 main_peak_law rate r texts (d ∷ left) =
-    let g = greatest_reached (λ x. main_held rate r x texts (d ∷ left)) d left in
+    let g = greatest_reached (λ x. mb_fullness rate r x texts (d ∷ left)) d left in
     record { never_more = never_more rate r texts (d ∷ left); moment = g.at; reached = g.is }

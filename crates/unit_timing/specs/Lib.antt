@@ -5,5 +5,5 @@ pub mod Plans
 pub mod Run
 pub mod Schedule
 pub mod SystemBuffer
-pub mod Text
+pub mod PesPacket
 pub mod Transport

@@ -2,20 +2,20 @@
 use Rattle.std.specs.Prelude.{ℕ, suc, ◌+◌, ◌-◌, ◌*◌, ◌/◌, ◌<◌, ◌≤◌, max, min, Bool, List, length}
 use Rattle.clock27.specs.Arrival.{arrivals}
 use Rattle.clock27.specs.Departure.{departures}
-use Rattle.clock27.specs.Fullness.{held}
+use Rattle.clock27.specs.Fullness.{fullness}
 use Rattle.clock27.specs.Release.{slot_units}
 use Rattle.own_slots.specs.Slots.{Rises, own_slots}
 use Rattle.own_slots.specs.Period.{own, per_period}
 use Rattle.own_slots.specs.Spread.{spread, most_within}
 use Rattle.own_slots.specs.Work.{HoldsWork, work_left}
 use Rattle.own_slots.specs.Switch.{joined, shift}
-use Rattle.unit_timing.specs.Text.{Text, Spaced, Sized, Declared, grouped}
-use Rattle.unit_timing.specs.Schedule.{Packet, sent}
+use Rattle.unit_timing.specs.PesPacket.{PesPacket, Spaced, Sized, Declared, grouped}
+use Rattle.unit_timing.specs.Schedule.{Packet, packets_in_slots}
 use Rattle.unit_timing.specs.Transport.{slots_of, text_left}
 use Rattle.unit_timing.specs.Deadline.{InTime}
 use Rattle.unit_timing.specs.Arrived.{AllLeft}
-use Rattle.unit_timing.specs.MainBuffer.{main_held}
-use Rattle.unit_timing.specs.SystemBuffer.{transport_held, system_held}
+use Rattle.unit_timing.specs.MainBuffer.{mb_fullness}
+use Rattle.unit_timing.specs.SystemBuffer.{system_tb_fullness, bsys_fullness}
 
 -- what is declared of a stream: times in units of 90 kHz, rates in bits a second, sizes in bytes
 pub record Declaration : Type 0 where
@@ -29,7 +29,7 @@ pub record Declaration : Type 0 where
   pub group_packets : ℕ  -- so many packets together
 
 -- texts within the declaration
-pub record Keeps (s : Declaration) (texts : List Text) : Type 0 where
+pub record Keeps (s : Declaration) (texts : List PesPacket) : Type 0 where
   pub spaced : Spaced s.interval s.lead texts
   pub sized : Sized s.largest texts
   pub grouped : Declared s.group s.group_packets s.pieces texts
@@ -80,31 +80,31 @@ pub record StreamJoins (rate : ℕ) (s : Declaration) (claim start peak : ℕ) (
   pub main_fits : min (bytes_by_texts s) (bytes_by_slots rate s claim first + bytes_by_slots rate s next_claim second) ≤ s.main
 
 -- the packets of these texts in a run of n slots
-abbrev pub run_packets : (ℕ → Bool) → ℕ → Declaration → List Text → ℕ → List Packet
-run_packets own rate s texts n = sent own rate s.lead 0 texts (own_slots own 0 n)
+abbrev pub run_packets : (ℕ → Bool) → ℕ → Declaration → List PesPacket → ℕ → List Packet
+run_packets own rate s texts n = packets_in_slots own rate s.lead 0 texts (own_slots own 0 n)
 
 -- what is promised of a stream in runs of any length: at each moment the transport buffer holds at most 512 bytes and the main buffer at most
 -- its size, and each text that is due has left the transport buffer whole by its stamp
-pub record StreamServed (own : ℕ → Bool) (rate : ℕ) (s : Declaration) (texts : List Text) : Type 0 where
+pub record StreamServed (own : ℕ → Bool) (rate : ℕ) (s : Declaration) (texts : List PesPacket) : Type 0 where
   pub transport : (n x : ℕ) →
-      held x (arrivals s.drain (slots_of (run_packets own rate s texts n))) (departures rate 0 (arrivals s.drain (slots_of (run_packets own rate s texts n)))) ≤ 512
+      fullness x (arrivals s.drain (slots_of (run_packets own rate s texts n))) (departures rate 0 (arrivals s.drain (slots_of (run_packets own rate s texts n)))) ≤ 512
   pub arrived : (n : ℕ) → AllLeft rate s.drain n texts (text_left rate s.drain 0 (run_packets own rate s texts n))
-  pub main : (n x : ℕ) → main_held rate s.drain x texts (text_left rate s.drain 0 (run_packets own rate s texts n)) ≤ s.main
+  pub main : (n x : ℕ) → mb_fullness rate s.drain x texts (text_left rate s.drain 0 (run_packets own rate s texts n)) ≤ s.main
 
 abbrev pub StreamLaw : Type 0
-StreamLaw = (rate : ℕ) (s : Declaration) (claim start peak : ℕ) (marks : List Bool) (texts : List Text) →
+StreamLaw = (rate : ℕ) (s : Declaration) (claim start peak : ℕ) (marks : List Bool) (texts : List PesPacket) →
     IsProper rate s → StreamHolds rate s claim start peak marks → Keeps s texts → StreamServed (own marks) rate s texts
 
 abbrev pub StreamSwitchLaw : Type 0
 StreamSwitchLaw = (rate : ℕ) (s : Declaration) (claim start peak : ℕ) (first : List Bool) (next_claim next_start next_peak : ℕ) (second : List Bool)
-    (periods : ℕ) (texts : List Text) →
+    (periods : ℕ) (texts : List PesPacket) →
     IsProper rate s → StreamHolds rate s claim start peak first → StreamHolds rate s next_claim next_start next_peak second →
     StreamJoins rate s claim start peak first next_claim next_start next_peak second → Keeps s texts →
     StreamServed (joined (own first) (own second) (periods * length first)) rate s texts
 
 -- the deadlines alone: both plans pay for their groups, and the lead covers both spreads and the shift
 abbrev pub DeadlineSwitchLaw : Type 0
-DeadlineSwitchLaw = (rate : ℕ) (s : Declaration) (claim next_claim late : ℕ) (first second : List Bool) (periods : ℕ) (texts : List Text) →
+DeadlineSwitchLaw = (rate : ℕ) (s : Declaration) (claim next_claim late : ℕ) (first second : List Bool) (periods : ℕ) (texts : List PesPacket) →
     0 < s.group → 0 < per_period first → 0 < per_period second → spread first ≤ claim → spread second ≤ next_claim →
     s.group_packets * length first * slot_units ≤ per_period first * s.group * s.interval * rate →
     s.group_packets * length second * slot_units ≤ per_period second * s.group * s.interval * rate →
@@ -118,10 +118,10 @@ DeadlineSwitchLaw = (rate : ℕ) (s : Declaration) (claim next_claim late : ℕ)
 
 -- the main buffer alone
 abbrev pub MainSwitchLaw : Type 0
-MainSwitchLaw = (rate : ℕ) (s : Declaration) (claim next_claim : ℕ) (first second : List Bool) (periods : ℕ) (texts : List Text) (n x : ℕ) →
+MainSwitchLaw = (rate : ℕ) (s : Declaration) (claim next_claim : ℕ) (first second : List Bool) (periods : ℕ) (texts : List PesPacket) (n x : ℕ) →
     IsProper rate s → 0 < per_period first → 0 < per_period second → spread first ≤ claim → spread second ≤ next_claim →
     min (bytes_by_texts s) (bytes_by_slots rate s claim first + bytes_by_slots rate s next_claim second) ≤ s.main → Keeps s texts →
-    main_held rate s.drain x texts (text_left rate s.drain 0 (run_packets (joined (own first) (own second) (periods * length first)) rate s texts n)) ≤ s.main
+    mb_fullness rate s.drain x texts (text_left rate s.drain 0 (run_packets (joined (own first) (own second) (periods * length first)) rate s texts n)) ≤ s.main
 
 -- the conditions on the slots of a program's tables: the claims of its transport buffer, and those of its system buffer
 pub record ProgramHolds (rate transport_start transport_peak system_start system_peak : ℕ) (marks : List Bool) : Type 0 where
@@ -130,8 +130,8 @@ pub record ProgramHolds (rate transport_start transport_peak system_start system
 
 -- what is promised of its buffers at each moment, whichever of its slots are used
 pub record ProgramServed (own : ℕ → Bool) (rate : ℕ) : Type 0 where
-  pub transport : (slots : List ℕ) (x : ℕ) → Rises own 0 slots → transport_held rate x slots ≤ 512
-  pub system : (slots : List ℕ) (x : ℕ) → Rises own 0 slots → system_held rate x slots ≤ 1536
+  pub transport : (slots : List ℕ) (x : ℕ) → Rises own 0 slots → system_tb_fullness rate x slots ≤ 512
+  pub system : (slots : List ℕ) (x : ℕ) → Rises own 0 slots → bsys_fullness rate x slots ≤ 1536
 
 abbrev pub ProgramLaw : Type 0
 ProgramLaw = (rate transport_start transport_peak system_start system_peak : ℕ) (marks : List Bool) → 0 < rate → 0 < length marks →

@@ -2,7 +2,7 @@
 use Rattle.std.specs.Prelude.{ℕ, ◌+◌, ◌-◌, ◌*◌, ◌<◌, ◌≤◌, Bool, List, [], ◌∷◌, ◌++◌, take, drop, map, All}
 use Rattle.clock27.specs.Arrival.{arrivals}
 use Rattle.clock27.specs.Departure.{departures}
-use Rattle.clock27.specs.Fullness.{held}
+use Rattle.clock27.specs.Fullness.{fullness}
 use Rattle.own_slots.specs.Slots.{Rises}
 use Rattle.own_slots.specs.Work.{BoundsWork}
 use Rattle.unit_timing.specs.Schedule.{Packet}
@@ -23,7 +23,7 @@ text_left rate r prev packets = of_payloads packets (departures rate prev (arriv
 abbrev pub RoomLaw : Type 0
 RoomLaw = (own : ℕ → Bool) (rate r room peak : ℕ) (W : ℕ → ℕ) (slots : List ℕ) (x : ℕ) → 0 < rate →
     BoundsWork own rate r room peak W → Rises own 0 slots →
-    held x (arrivals r slots) (departures rate 0 (arrivals r slots)) ≤ room
+    fullness x (arrivals r slots) (departures rate 0 (arrivals r slots)) ≤ room
 
 -- and the bytes of packets that stand before slot e have left it by e's begin and the greatest work after an own slot
 abbrev pub TextLaw : Type 0

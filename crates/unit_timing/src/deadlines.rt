@@ -1,5 +1,5 @@
 //! Deadlines of texts.
-ghost use Rattle.unit_timing.specs.Text.{GroupLaw};
+ghost use Rattle.unit_timing.specs.PesPacket.{GroupLaw};
 ghost use Rattle.unit_timing.specs.Deadline.{StretchLaw, DeadlineLaw};
 
 /// Texts that are sent on end come in time, so all do.

@@ -1,5 +1,5 @@
 //! One text more.
-ghost use Rattle.unit_timing.specs.Text.{SpacedMoreLaw, SizedMoreLaw, GroupMoreLaw};
+ghost use Rattle.unit_timing.specs.PesPacket.{SpacedMoreLaw, SizedMoreLaw, GroupMoreLaw};
 
 /// A list of texts within a declaration stays within it by a further text exactly where that text
 /// is late enough behind the last, is not too large, and fits the group that it ends.

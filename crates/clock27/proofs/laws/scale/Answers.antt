@@ -1,4 +1,4 @@
-use Rattle.clock27.proofs.Scaling.{departures-scale, arrivals-scale, held-scale}
+use Rattle.clock27.proofs.Scaling.{departures-scale, arrivals-scale, fullness-scale}
 use Rattle.clock27.proofs.laws.scale.Goals as goal
 
 pub returns-clause-departures : goal.returns-clause-departures
@@ -7,5 +7,5 @@ returns-clause-departures c = departures-scale
 pub returns-clause-arrivals : goal.returns-clause-arrivals
 returns-clause-arrivals c = arrivals-scale
 
-pub returns-clause-held : goal.returns-clause-held
-returns-clause-held c = held-scale
+pub returns-clause-fullness : goal.returns-clause-fullness
+returns-clause-fullness c = fullness-scale

@@ -4,5 +4,5 @@ use Rattle.clock27.proofs.laws.tandem.Goals as goal
 pub returns-clause-departures : goal.returns-clause-departures
 returns-clause-departures c = tandem_law
 
-pub returns-clause-held : goal.returns-clause-held
-returns-clause-held c = second_law
+pub returns-clause-fullness : goal.returns-clause-fullness
+returns-clause-fullness c = second_law

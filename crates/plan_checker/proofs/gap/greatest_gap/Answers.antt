@@ -1,5 +1,5 @@
 use Rattle.std.proofs.Common.{◌≡◌, ℕ, ◌+◌, ◌-◌, length, arith, ap, sym, ◌∙◌}
-use Rattle.own_slots.specs.Slots.{passed}
+use Rattle.own_slots.specs.Slots.{own_before}
 use Rattle.own_slots.specs.Period.{own, position}
 use Rattle.own_slots.specs.Extremes.{greatest}
 use Rattle.own_slots.specs.Gaps.{ahead}
@@ -9,12 +9,12 @@ use Rattle.slot_plan.specs.Items.{marks}
 use Rattle.plan_checker.proofs.gap.greatest_gap.Goals as goal
 use Rattle.plan_checker.proofs.gap.greatest_gap.Goals.{then-owns, else-owns}
 use Rattle.plan_checker.proofs.Extremes.{max_is}
-use Rattle.plan_checker.proofs.Marking.{mark_at, length_marks, passed_none, passed_after_other, position_ahead, position_own, position_near, one_ahead}
+use Rattle.plan_checker.proofs.Marking.{mark_at, length_marks, own_before_none, own_before_after_other, position_ahead, position_own, position_near, one_ahead}
 
 pub loop-at-init : goal.loop-at-init
 loop-at-init c = record {
   found = sym (greatest_none (ahead (marks c.args.item c.args.slots.now) c.args.row));
-  next = let e : c.args.row ≡ passed (own (marks c.args.item c.args.slots.now)) 0 + c.args.row = omega (arith, passed_none c.args.item c.args.slots.now) in
+  next = let e : c.args.row ≡ own_before (own (marks c.args.item c.args.slots.now)) 0 + c.args.row = omega (arith, own_before_none c.args.item c.args.slots.now) in
       c.position-ahead.ensures ∙ ap (position (marks c.args.item c.args.slots.now)) e;
 }
 
@@ -57,7 +57,7 @@ loop-at-preserved c = elim c.if-owns.branch [
       let n = mark_at c.args.item c.args.slots.now c.loop-at.at _ c.loop-at-test.true ∙ sym c.owns.ensures ∙ w.if-owns.false in
       record {
         found = w.greatest-is ∙ c.loop-at.invariant.found ∙ sym (gap_same (marks c.args.item c.args.slots.now) c.args.row c.loop-at.at n);
-        next = w.ahead-is ∙ c.loop-at.invariant.next ∙ sym (ap (λ (v : ℕ). position (marks c.args.item c.args.slots.now) (v + c.args.row)) (passed_after_other c.args.item c.args.slots.now c.loop-at.at n));
+        next = w.ahead-is ∙ c.loop-at.invariant.next ∙ sym (ap (λ (v : ℕ). position (marks c.args.item c.args.slots.now) (v + c.args.row)) (own_before_after_other c.args.item c.args.slots.now c.loop-at.at n));
       }
 ]
 

@@ -1,5 +1,5 @@
 use Rattle.std.proofs.Common.{◌≡◌, ◌+◌}
-use Rattle.own_slots.specs.Slots.{passed}
+use Rattle.own_slots.specs.Slots.{own_before}
 use Rattle.own_slots.specs.Period.{own, position}
 use Rattle.own_slots.specs.Extremes.{greatest}
 use Rattle.own_slots.specs.Gaps.{ahead}
@@ -9,5 +9,5 @@ use Rattle.plan_checker.proofs.gap.greatest_gap.Given as goal
 abbrev pub invariant-loop-at : goal.invariant-loop-at
 invariant-loop-at l = record {
   found : l.greatest ≡ greatest l.at (ahead (marks l.item l.slots) l.row);
-  next : l.ahead ≡ position (marks l.item l.slots) (passed (own (marks l.item l.slots)) l.at + l.row);
+  next : l.ahead ≡ position (marks l.item l.slots) (own_before (own (marks l.item l.slots)) l.at + l.row);
 }

@@ -1,12 +1,12 @@
 use Rattle.std.proofs.Common.{◌≡◌, ◌+◌, length, arith, ap, sym, ◌∙◌}
-use Rattle.own_slots.specs.Slots.{passed}
+use Rattle.own_slots.specs.Slots.{own_before}
 use Rattle.own_slots.specs.Period.{own}
 use Rattle.slot_plan.specs.Items.{marks}
 use Rattle.plan_checker.proofs.positions.next_own_slot.Goals as goal
-use Rattle.plan_checker.proofs.Marking.{mark_cyclic, some_slots, position_here, passed_after_own, passed_after_other, a_period_on}
+use Rattle.plan_checker.proofs.Marking.{mark_cyclic, some_slots, position_here, own_before_after_own, own_before_after_other, a_period_on}
 
 pub loop-at-init : goal.loop-at-init
-loop-at-init c = passed_after_own c.args.item c.args.slots.now c.args.from c.requires.own
+loop-at-init c = own_before_after_own c.args.item c.args.slots.now c.args.from c.requires.own
 
 pub returns-then-owns : goal.returns-then-owns
 returns-then-owns c =
@@ -16,11 +16,11 @@ returns-then-owns c =
 
 pub loop-at-preserved : goal.loop-at-preserved
 loop-at-preserved c =
-    passed_after_other c.args.item c.args.slots.now c.loop-at.at
+    own_before_after_other c.args.item c.args.slots.now c.loop-at.at
     (mark_cyclic c.args.item c.args.slots.now c.loop-at.at _ (some_slots c.args.item c.args.slots.now c.requires.some) ∙ sym c.owns.ensures ∙ c.if-owns.false)
     ∙ c.loop-at.invariant
 
 pub returns : goal.returns
 returns c =
     let e : c.loop-at.at ≡ c.args.from + length c.args.slots.now = omega (arith, some_slots c.args.item c.args.slots.now c.requires.some) in
-    sym (a_period_on c.args.item c.args.slots.now c.args.from _ c.requires.own (sym (ap (passed (own (marks c.args.item c.args.slots.now))) e) ∙ c.loop-at.invariant) c.requires.some)
+    sym (a_period_on c.args.item c.args.slots.now c.args.from _ c.requires.own (sym (ap (own_before (own (marks c.args.item c.args.slots.now))) e) ∙ c.loop-at.invariant) c.requires.some)

@@ -6,11 +6,11 @@ use Rattle.slot_plan.specs.Items.{marks}
 use Rattle.plan_checker.proofs.spread.spread_of.Goals as goal
 use Rattle.plan_checker.proofs.spread.spread_of.Goals.{then-owns, else-owns}
 use Rattle.plan_checker.proofs.Extremes.{max_is, min_is}
-use Rattle.plan_checker.proofs.Marking.{mark_at, length_marks, passed_none, passed_after_own, passed_after_other, few_passed, raised_here}
+use Rattle.plan_checker.proofs.Marking.{mark_at, length_marks, own_before_none, own_before_after_own, own_before_after_other, few_own_before, raised_here}
 
 pub loop-at-init : goal.loop-at-init
 loop-at-init c = record {
-  counted = sym (passed_none c.args.item c.args.slots.now);
+  counted = sym (own_before_none c.args.item c.args.slots.now);
   high = sym (highest_none (marks c.args.item c.args.slots.now));
   low = ap (λ (n : ℕ). 2 * n * length c.args.slots.now) c.own_count-count.ensures.count
       ∙ ap (λ (n : ℕ). 2 * per_period (marks c.args.item c.args.slots.now) * n) (sym (length_marks c.args.item c.args.slots.now))
@@ -22,7 +22,7 @@ overflow_sub-raised c = omega (
   arith,
   c.loop-at.invariant.counted,
   c.own_count-count.ensures.count,
-  few_passed c.args.item c.args.slots.now c.loop-at.at c.loop-at.auto.at-end,
+  few_own_before c.args.item c.args.slots.now c.loop-at.at c.loop-at.auto.at-end,
 )
 
 pub overflow_add-number : goal.overflow_add-number
@@ -33,7 +33,7 @@ overflow_add-number c = record {
     c.loop-at.invariant.counted,
     c.own_count-count.ensures.count,
     c.own_count-count.ensures.most,
-    few_passed c.args.item c.args.slots.now c.loop-at.at c.loop-at.auto.at-end,
+    few_own_before c.args.item c.args.slots.now c.loop-at.at c.loop-at.auto.at-end,
   );
 }
 
@@ -43,14 +43,14 @@ loop-at-preserved c = elim c.if-owns.branch [
       let y = mark_at c.args.item c.args.slots.now c.loop-at.at _ c.loop-at-test.true ∙ sym c.owns.ensures ∙ w.if-owns.true in
       let here = raised_here c.args.item c.args.slots.now c.own_count-count.result c.loop-at.at c.loop-at.number c.own_count-count.ensures.count c.loop-at.invariant.counted in
       record {
-        counted = omega (arith, w.number-is, c.loop-at.invariant.counted, passed_after_own c.args.item c.args.slots.now c.loop-at.at y);
+        counted = omega (arith, w.number-is, c.loop-at.invariant.counted, own_before_after_own c.args.item c.args.slots.now c.loop-at.at y);
         high = omega (arith, w.highest-is, w.max-highest.ensures, max_is c.loop-at.highest (c.own_count-count.result * c.loop-at.at + (c.own_count-count.result - c.loop-at.number) * length c.args.slots.now), here, c.loop-at.invariant.high, highest_more (marks c.args.item c.args.slots.now) c.loop-at.at y);
         low = omega (arith, w.lowest-is, w.min-lowest.ensures, min_is c.loop-at.lowest (c.own_count-count.result * c.loop-at.at + (c.own_count-count.result - c.loop-at.number) * length c.args.slots.now), here, c.loop-at.invariant.low, lowest_more (marks c.args.item c.args.slots.now) c.loop-at.at y);
       }
   | else-owns w ↦
       let n = mark_at c.args.item c.args.slots.now c.loop-at.at _ c.loop-at-test.true ∙ sym c.owns.ensures ∙ w.if-owns.false in
       record {
-        counted = omega (arith, w.number-is, c.loop-at.invariant.counted, passed_after_other c.args.item c.args.slots.now c.loop-at.at n);
+        counted = omega (arith, w.number-is, c.loop-at.invariant.counted, own_before_after_other c.args.item c.args.slots.now c.loop-at.at n);
         high = w.highest-is ∙ c.loop-at.invariant.high ∙ sym (highest_same (marks c.args.item c.args.slots.now) c.loop-at.at n);
         low = w.lowest-is ∙ c.loop-at.invariant.low ∙ sym (lowest_same (marks c.args.item c.args.slots.now) c.loop-at.at n);
       }

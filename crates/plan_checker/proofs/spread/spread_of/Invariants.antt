@@ -1,5 +1,5 @@
 use Rattle.std.proofs.Common.{◌≡◌}
-use Rattle.own_slots.specs.Slots.{passed}
+use Rattle.own_slots.specs.Slots.{own_before}
 use Rattle.own_slots.specs.Period.{own}
 use Rattle.own_slots.specs.Spread.{highest, lowest}
 use Rattle.slot_plan.specs.Items.{marks}
@@ -7,7 +7,7 @@ use Rattle.plan_checker.proofs.spread.spread_of.Given as goal
 
 abbrev pub invariant-loop-at : goal.invariant-loop-at
 invariant-loop-at l = record {
-  counted : l.number ≡ passed (own (marks l.item l.slots)) l.at;
+  counted : l.number ≡ own_before (own (marks l.item l.slots)) l.at;
   high : l.highest ≡ highest (marks l.item l.slots) l.at;
   low : l.lowest ≡ lowest (marks l.item l.slots) l.at;
 }

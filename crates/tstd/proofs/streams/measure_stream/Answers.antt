@@ -8,7 +8,7 @@ use Rattle.unit_timing.specs.Transport.{slots_of, text_left}
 use Rattle.unit_timing.proofs.Topping.{main_peak_law}
 use Rattle.tstd.specs.Carried.{units_of, timed_texts}
 use Rattle.tstd.specs.Listing.{packets_from}
-use Rattle.tstd.specs.Measured.{transport_held}
+use Rattle.tstd.specs.Measured.{tb_fullness}
 use Rattle.tstd.specs.Queues.{longest_stay}
 use Rattle.tstd.specs.Walking.{left_ahead}
 use Rattle.tstd.proofs.Peaks.{stay_peak, peak_few, length-arrivals}
@@ -59,7 +59,7 @@ overflow_cast-fullness g c =
     sym (rw none at end.ended) ∙ end.longest ∙ all.longest ∙ rw c.from.ensures at walk.longest in
     let some : 0 < c.args.rate = omega (arith, c.requires.least) in
     let drain : 0 < s.rx = omega (arith, c.requires.stream.least_rx) in
-    let peak : IsPeak (transport_held c.args.rate s.rx packets) c.most.result = rw (c.most.ensures, step)
+    let peak : IsPeak (tb_fullness c.args.rate s.rx packets) c.most.result = rw (c.most.ensures, step)
     (stay_peak c.args.rate c.next-end.new.self.queue.longest times some (arrivals_climb s.rx (slots_of packets) drain (packets_climb s.pid 0 c.args.packets.now)) longest) in
     omega (
       arith,

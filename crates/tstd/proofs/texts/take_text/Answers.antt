@@ -25,7 +25,7 @@ returns-in_default-clause-left g c =
 pub returns-in_default-clause-most : goal.returns-in_default-clause-most
 returns-in_default-clause-most g c = λ due texts until.
     let inv = c.loop-taken.invariant in
-    most_none c.loop-taken.walk c.next.new.self c.loop-taken.buffer texts (record { due = due; size = c.args.size - c.loop-taken.taken } ∷ texts)
+    most_none c.loop-taken.walk c.next.new.self c.loop-taken.buffer texts (record { dts = due; size = c.args.size - c.loop-taken.taken } ∷ texts)
     c.in_default.ensures.ahead c.in_default.ensures.none ∙ inv.most due texts until
 
 pub loop-taken-preserved : goal.loop-taken-preserved
@@ -53,7 +53,7 @@ loop-taken-preserved g c =
           inv.until ∙ until ∙ sym (ap (λ (n : ℕ). gone n c.loop-taken.walk.rx due) inv.step ∙ ap (λ (n : ℕ). gone c.args.walk.now.queue.step n due) inv.rx) in
           most_byte c.loop-taken.walk c.next.new.self c.loop-taken.buffer c.enter.new.self due (c.args.size - (i + 1)) time texts
           e.ahead e.last pos' e.rx e.step c.enter.ensures.there c.enter.ensures.most ends
-          ∙ ap (λ (n : ℕ). most_of c.loop-taken.walk c.loop-taken.buffer (record { due = due; size = n } ∷ texts)) (sym left) ∙ inv.most due texts until;
+          ∙ ap (λ (n : ℕ). most_of c.loop-taken.walk c.loop-taken.buffer (record { dts = due; size = n } ∷ texts)) (sym left) ∙ inv.most due texts until;
       longest = e.longest ∙ inv.longest;
       rx = e.rx ∙ inv.rx;
       step = e.step ∙ inv.step;

@@ -1,6 +1,6 @@
 use Rattle.std.proofs.Common.{◌≡◌, ◌∙◌, ℕ, ◌+◌, ◌≤◌, ◌==◌, ◌∷◌, true, false, length, drop, arith, ap, sym}
 use Rattle.unit_timing.specs.Arrived.{first_late}
-use Rattle.unit_timing.specs.Text.{Text}
+use Rattle.unit_timing.specs.PesPacket.{PesPacket}
 use Rattle.tstd.specs.Carried.{units_of, timed_texts}
 use Rattle.tstd.specs.Entering.{most_of}
 use Rattle.tstd.specs.Walking.{left_ahead}
@@ -36,7 +36,7 @@ loop-entry-preserved g c =
     let u = c.entry-item.result in
     let due = c.due_of.result in
     let size = c.size_of.result in
-    let text : Text = record { due = due; size = size } in
+    let text : PesPacket = record { dts = due; size = size } in
     let own : (u.0 == c.args.stream) ≡ true = sym c.is_of.ensures ∙ c.if-not-is_of.false in
     let same : (id : ℕ) → timed_texts id c.args.base0 (units_of c.args.stream (drop i units)) ≡ text ∷ timed_texts id c.args.base0 (units_of c.args.stream (drop (i + 1) units)) =
     λ id. texts_own id c.args.base0 c.args.stream i due size units u c.loop-entry-test.true c.entry-item.is own c.due_of.ensures (c.size_of.ensures.size id) in
