@@ -1,6 +1,6 @@
 -- A stream whose findings are taken away as they come: the caller of `take` has them in a vector of its own, the caller of
 -- `push` reads them and forgets them.
-use Rattle.std.specs.Prelude.{◌≡◌, ℕ, ◌/◌, ◌-◌, ◌^◌, ◌<◌, ◌==◌, true, false, List, [], ◌∷◌, ◌++◌, length, map, fold, All}
+use Rattle.std.specs.Prelude.{◌≡◌, ℕ, ◌/◌, ◌-◌, ◌^◌, ◌<◌, ◌==◌, true, false, List, [], ◌∷◌, ◌++◌, length, map, All}
 use Rattle.std.specs.List.{concat}
 use Rattle.ts_packet.specs.PidList.{pid_list}
 use Rattle.demux.specs.Views.{FindingView}
