@@ -11,3 +11,4 @@ pub mod WholeStream
 pub mod Ending
 pub mod Bounding
 pub mod Giving
+pub mod TakenAway

@@ -8,3 +8,4 @@ pub mod Machine
 pub mod Codes
 pub mod Stream
 pub mod Laws
+pub mod TakenAway

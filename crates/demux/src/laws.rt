@@ -2,6 +2,7 @@
 
 ghost use Rattle.demux.specs.Laws.{EachPidAlone, PacketsDecide, PiecesJoin, TakenAsPushed};
 ghost use Rattle.demux.specs.Machine.{RunFindsAll};
+ghost use Rattle.demux.specs.TakenAway.{AllAreFound, NothingAtFirst, PacketAdds, PacketsAdd, PidFoundSoFar, PieceAdds};
 
 /// Packet by packet, with a state that keeps the last packet and what is open, the findings are those that the packets of
 /// the PID have as a whole, with the end of the stream and without it.
@@ -29,4 +30,19 @@ pub fn each_pid_alone()
 /// agree on the number of packets.
 pub fn packets_decide()
     ensures { PacketsDecide }
+{}
+
+/// A caller who takes the findings away as they come, after a packet or several that were taken or a piece that was pushed,
+/// has all that are found, joined in their order; at the end the last ones follow.
+pub fn nothing_is_lost()
+    ensures at_first { NothingAtFirst }
+    ensures packet { PacketAdds }
+    ensures packets { PacketsAdd }
+    ensures piece { PieceAdds }
+    ensures all { AllAreFound }
+{}
+
+/// Those of a PID are then the findings of its packets, with the end of the stream and without it.
+pub fn each_pid_so_far()
+    ensures { PidFoundSoFar }
 {}

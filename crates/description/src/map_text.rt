@@ -1,6 +1,6 @@
 //! The program map section of a program (ISO/IEC 13818-1, 2.4.4.8).
 
-ghost use Rattle.std.specs.Prelude.{◌≡◌, ◌≤◌, ◌+◌, ◌++◌, [], ◌∷◌, All, length, sum_by};
+ghost use Rattle.std.specs.Prelude.{◌≡◌, ◌≤◌, ◌<◌, ◌+◌, ◌++◌, [], ◌∷◌, All, length, sum_by};
 ghost use Rattle.arrayvec.specs.ArrayVec.{array_vec_len};
 ghost use Rattle.psi_tables.specs.ProgramMap.{stream_loop_of, streams_of, streams_text, pmt_section};
 ghost use Rattle.psi_tables.specs.Spelling.{section_text};
@@ -109,7 +109,8 @@ fn write_section<'a>(
     streams: Streams<'a>,
     out: &mut ArrayVec<u8, 4096>,
 )
-    requires { 13 + length program_info.now + length (streams_text (streams_of streams)) ≤ 1021 }
+    requires pid { pcr_pid < 8192 }
+    requires room { 13 + length program_info.now + length (streams_text (streams_of streams)) ≤ 1021 }
     ensures { out.new.items ≡ section_text (pmt_section (record { header = spec.single_header number; pcr_pid = pcr_pid; program_info = program_info.now; streams = streams_of streams.entry })) }
 {
     let section = Pmt {

@@ -128,6 +128,6 @@ fn append_programs(out: &mut ArrayVec<u8, 4096>, programs: Programs<'_>)
     ensures len { array_vec_len out.new ≡ array_vec_len out.old + 4 * length (programs_of programs.entry) }
 {
     for program in programs {
-        append(out, &program.text());
+        append(out, &program.bytes());
     }
 }

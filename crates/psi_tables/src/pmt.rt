@@ -96,7 +96,8 @@ impl Pmt<'_> {
     /// `out` as it was. It takes no memory.
     #[tactic(auto, unfolding(crate::specs::Spelling::section_text, crate::specs::ProgramMap::pmt_section, crate::specs::ProgramMap::pmt_header))]
     pub fn write_to(&self, out: &mut ArrayVec<u8, 4096>) -> Result<(), SectionError>
-        requires { self.now.header.version_number < 32 }
+        requires version { self.now.header.version_number < 32 }
+        requires pcr_pid { self.now.pcr_pid < 8192 }
         ensures variant { IsOk result ↔ (9 + length (pmt_body (pmt_view self.now)) ≤ 1021) }
         ensures ok { OnOk result (out.new.items ≡ section_text (pmt_section (pmt_view self.now))) }
         ensures too_long { IfErr result (λ e. e ≡ SectionError.TooLong) }
@@ -116,7 +117,8 @@ impl Pmt<'_> {
 
     /// The bytes of the section in a vector of their own.
     pub fn write<A: Allocator>(&self, alloc: A) -> Result<Vec<u8, A>, WriteError>
-        requires { self.now.header.version_number < 32 }
+        requires version { self.now.header.version_number < 32 }
+        requires pcr_pid { self.now.pcr_pid < 8192 }
         ensures ok { IfOk result (λ bytes. bytes.items ≡ section_text (pmt_section (pmt_view self.now))) }
         ensures too_long { 1021 < 9 + length (pmt_body (pmt_view self.now)) → result ≡ Err (WriteError.Refused SectionError.TooLong) }
         ensures memory { 9 + length (pmt_body (pmt_view self.now)) ≤ 1021 → IfErr result (λ e. e ≡ WriteError.Memory) }
@@ -173,6 +175,6 @@ fn append_streams(out: &mut ArrayVec<u8, 4096>, streams: Streams<'_>)
     ensures len { array_vec_len out.new ≡ array_vec_len out.old + length (streams_text (streams_of streams.entry)) }
 {
     for stream in streams {
-        stream.append_to(out);
+        stream.append_entry(out);
     }
 }

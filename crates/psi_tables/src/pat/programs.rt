@@ -1,6 +1,6 @@
 //! The loop of programs in a PAT.
 
-ghost use Rattle.std.specs.Prelude.{◌≡◌, [], ◌↔◌, length, IsTrue};
+ghost use Rattle.std.specs.Prelude.{◌≡◌, ◌<◌, [], ◌↔◌, length, IsTrue};
 ghost use Rattle.std.specs.Iterator.{YieldsFirst, item_count};
 ghost use Rattle.psi_tables.specs.ProgramAssociation.{program_of, program_text, programs_in, programs_of};
 
@@ -21,8 +21,16 @@ pub struct Programs<'a> {
 
 impl Program {
     /// The entry as it is written, reserved bits 1.
-    #[tactic(auto, unfolding(crate::specs::ProgramAssociation::program_text))]
     pub fn text(self) -> [u8; 4]
+        requires { self.pid < 8192 }
+        ensures { result ≡ program_text self }
+    {
+        self.bytes()
+    }
+
+    // The entry of a PID that is known to have 13 bits, as one that was read.
+    #[tactic(auto, unfolding(crate::specs::ProgramAssociation::program_text))]
+    pub(super) fn bytes(self) -> [u8; 4]
         ensures { result ≡ program_text self }
     {
         let [a, b] = self.program_number.to_be_bytes();

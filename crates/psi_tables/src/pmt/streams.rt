@@ -87,14 +87,25 @@ impl<'a> Iterator for Streams<'a> {
 }
 
 impl<'a> Stream<'a> {
-    ghost use Rattle.std.specs.Prelude.{◌+◌, ◌≤◌, ◌++◌};
+    ghost use Rattle.std.specs.Prelude.{◌+◌, ◌<◌, ◌≤◌, ◌++◌};
     ghost use Rattle.arrayvec.specs.ArrayVec.{array_vec_len};
     ghost use Rattle.psi_tables.specs.Loops.{entry_view, entry_text};
     ghost use Rattle.psi_tables.specs.ProgramMap.{stream_view, stream_of, stream_entry, stream_text};
 
     /// Appends the entry as it is written, reserved bits 1.
-    #[tactic(auto, unfolding(crate::specs::ProgramMap::stream_text, crate::specs::ProgramMap::stream_entry, crate::specs::Loops::entry_text, crate::specs::ProgramMap::pid_text, crate::specs::ProgramMap::info_length_text))]
     pub fn append_to<const N: usize>(&self, out: &mut ArrayVec<u8, N>)
+        requires pid { self.now.elementary_pid < 8192 }
+        requires length { length self.now.descriptors.now < 4096 }
+        requires room { array_vec_len out.old + 5 + length self.now.descriptors.now ≤ N }
+        ensures items { out.new.items ≡ out.old.items ++ stream_text (stream_view self.now) }
+        ensures len { array_vec_len out.new ≡ array_vec_len out.old + 5 + length self.now.descriptors.now }
+    {
+        self.append_entry(out);
+    }
+
+    // Appends an entry whose PID and number of descriptor bytes are known to have room, as those of one that was read.
+    #[tactic(auto, unfolding(crate::specs::ProgramMap::stream_text, crate::specs::ProgramMap::stream_entry, crate::specs::Loops::entry_text, crate::specs::ProgramMap::pid_text, crate::specs::ProgramMap::info_length_text))]
+    pub(super) fn append_entry<const N: usize>(&self, out: &mut ArrayVec<u8, N>)
         requires { array_vec_len out.old + 5 + length self.now.descriptors.now ≤ N }
         ensures items { out.new.items ≡ out.old.items ++ stream_text (stream_view self.now) }
         ensures len { array_vec_len out.new ≡ array_vec_len out.old + 5 + length self.now.descriptors.now }

@@ -2,5 +2,5 @@ use Rattle.std.proofs.Common.{arith}
 use Rattle.psi_tables.proofs.StreamTexts.{length_streams_step}
 use Rattle.psi_tables.proofs.pmt.append_streams.Goals as goal
 
-pub append_to-requires : goal.append_to-requires
-append_to-requires c = (omega arith, omega (arith, length_streams_step _ _ _ c.in-Some.ensures.steps))
+pub append_entry-requires : goal.append_entry-requires
+append_entry-requires c = (omega arith, omega (arith, length_streams_step _ _ _ c.in-Some.ensures.steps))
