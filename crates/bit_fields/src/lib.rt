@@ -6,8 +6,12 @@
 //! ISO/IEC 13818-1, 2.2.6). In this workspace such a table is the statement
 //! `number bytes ≡ fields ((8, sync) ∷ (1, error) ∷ (13, pid) ∷ ..)`, and each reader of a format is
 //! proved against it. Definitions stand in `specs/`, the lemmas that readers cite in `proofs/`.
+//!
+//! Writers append their texts to a vector of fixed capacity: `append`.
 #![tactic(auto)]
 
+mod appending;
 mod laws;
 
+pub use appending::append;
 pub use laws::{bytes_join, fields_join};

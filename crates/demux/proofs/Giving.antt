@@ -1,9 +1,12 @@
 -- What is given: what it says, and which of its bytes are slices of a packet.
-use Rattle.std.proofs.Common.{◌≡◌, Bool, true, false, List, [], ◌∷◌, ◌++◌, map, refl, sym, ap, ap₂, ◌∙◌}
-use Rattle.std.specs.Prelude.{◌&&◌, ◌||◌}
+use Rattle.std.proofs.Common.{◌≡◌, ℕ, ◌==◌, Ok, Bool, true, false, List, [], ◌∷◌, ◌++◌, map, refl, sym, ap, ap₂, ◌∙◌}
+use Rattle.std.specs.Prelude.{◌&&◌, ◌||◌, if◌then◌else◌}
 use Rattle.std.specs.List.{list_any}
 use Rattle.std.proofs.lemmas.List.{map-append}
-use Rattle.demux.specs.Views.{Found, FindingView}
+use Rattle.ts_packet.specs.Views.{PacketView}
+use Rattle.demux.specs.Machine.{found_by}
+use Rattle.demux.specs.Stream.{States, entry_of, findings_by, state_of, untold, within_by}
+use Rattle.demux.specs.Views.{Found, FindingView, IsErrored}
 use Rattle.demux.specs.declared.finding.Finding.{Finding}
 use Rattle.demux.specs.declared.place.Place.{Place}
 use Rattle.demux.specs.Shown.{Finds, GivenView, KeepsJoined, finding_view, given, given_view, is_span, told, SaysTheSame}
@@ -93,3 +96,31 @@ same_joined old new h = λ k. any_of new ∙ ap any (spans_of new ∙ ap (map (�
 
 pub same_says : {A : Type 0} (old new : List (Finding A)) → SaysTheSame old new → map finding_view new ≡ map finding_view old
 same_says old new h = says_of new ∙ ap (map (λ (g : GivenView). g.finding)) h ∙ sym (says_of old)
+
+otherwise : {X : Type 0} (a b : Bool) (x y z : X) → a ≡ false → b ≡ false → (if a then x else (if b then y else z)) ≡ z
+otherwise a b x y z e p = rw (e, p) refl
+
+-- what a packet that was read without an error, on a PID but that of null packets, finds is what its PID's state finds
+pub read_says : {A : Type 0} (index : ℕ) (bytes : List ℕ) (states : States) (packet : PacketView) (lent : Bool) (old new : List (Finding A)) →
+    packet.header.error_indicator ≡ false → (packet.header.pid == 8191) ≡ false →
+    Finds (record { packet = index; pid = packet.header.pid; lent = lent }) old new (found_by (state_of packet.header.pid states) (entry_of index bytes packet)) →
+    map finding_view new ≡ map finding_view old ++ findings_by index bytes states (Ok packet)
+unfolding findings_by
+read_says index bytes states packet lent old new e p h =
+    let place : Place = record { packet = index; pid = packet.header.pid; lent = lent } in
+    let found = found_by (state_of packet.header.pid states) (entry_of index bytes packet) in
+    says place old new found h
+    ∙ ap (λ (more : List FindingView). map finding_view old ++ more)
+    (sym (otherwise packet.header.error_indicator (packet.header.pid == 8191) (untold index IsErrored ∷ []) [] (map (told packet.header.pid index) found) e p))
+
+pub read_spans : {A : Type 0} (index : ℕ) (bytes : List ℕ) (states : States) (packet : PacketView) (lent : Bool) (old new : List (Finding A)) →
+    packet.header.error_indicator ≡ false → (packet.header.pid == 8191) ≡ false →
+    Finds (record { packet = index; pid = packet.header.pid; lent = lent }) old new (found_by (state_of packet.header.pid states) (entry_of index bytes packet)) →
+    map is_span new ≡ map is_span old ++ map (λ (within : Bool). within && lent) (within_by index bytes states (Ok packet))
+unfolding within_by
+read_spans index bytes states packet lent old new e p h =
+    let place : Place = record { packet = index; pid = packet.header.pid; lent = lent } in
+    let found = found_by (state_of packet.header.pid states) (entry_of index bytes packet) in
+    spans place old new found h
+    ∙ ap (λ (within : List Bool). map is_span old ++ map (λ (b : Bool). b && lent) within)
+    (sym (otherwise packet.header.error_indicator (packet.header.pid == 8191) (false ∷ []) [] (map (λ (f : Found). f.within) found) e p))

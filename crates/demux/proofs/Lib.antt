@@ -1,6 +1,5 @@
 pub mod Lists
 pub mod Walking
-pub mod Contents
 pub mod Deciding
 pub mod Opening
 pub mod Running

@@ -1,27 +1,19 @@
 -- What a packet of a PID is to the packet before it: the same once more, or one whose counter does not follow
 -- (ISO/IEC 13818-1, 2.4.3.3).
-use Rattle.std.specs.Prelude.{ℕ, ◌+◌, ◌%◌, ◌==◌, ◌&&◌, ◌||◌, not, Bool, true, false, if◌then◌else◌, List, [], ◌∷◌, ◌++◌, take, drop, Option, Some, None, is_some}
+use Rattle.std.specs.Prelude.{ℕ, ◌+◌, ◌%◌, ◌==◌, ◌&&◌, ◌||◌, not, Bool, true, false, if◌then◌else◌, List, [], ◌∷◌, Option, Some, None, is_some}
 use Rattle.std.specs.Str.{bytes_eq}
 use Rattle.ts_packet.specs.Views.{AdaptationView, WithFlags}
 use Rattle.ts_packet.specs.PidList.{Entry}
-
--- an adaptation field has a program clock reference
-abbrev pub has_pcr : Option AdaptationView → Bool
-has_pcr (Some (WithFlags parts)) = is_some parts.pcr
-has_pcr _ = false
+use Rattle.ts_packet.specs.PcrBytes.{has_pcr, without_pcr}
 
 -- discontinuity_indicator
 abbrev pub is_discontinuity : Option AdaptationView → Bool
 is_discontinuity (Some (WithFlags parts)) = parts.discontinuity
 is_discontinuity _ = false
 
--- the bytes of a packet but those of a program clock reference: bytes 6 to 11
-unfoldable pub content_of : Bool → List ℕ → List ℕ
-content_of true bytes = take 6 bytes ++ drop 12 bytes
-content_of false bytes = bytes
-
+-- its bytes but those of a program clock reference
 abbrev pub content : Entry → List ℕ
-content entry = content_of (has_pcr entry.packet.adaptation) entry.bytes
+content entry = without_pcr (has_pcr entry.packet.adaptation) entry.bytes
 
 -- what is kept of a packet for the mark of the next one
 pub record LastView : Type 0 where

@@ -9,8 +9,6 @@ mod demultiplexer;
 mod endings;
 mod error;
 mod finding;
-#[cfg(test)]
-mod hostile;
 mod last;
 mod laws;
 mod marks;
@@ -19,10 +17,6 @@ mod packets;
 mod payload_bytes;
 mod pid_state;
 mod place;
-#[cfg(test)]
-mod reference;
-#[cfg(test)]
-mod reference_marks;
 mod roles;
 mod sections;
 mod states;

@@ -5,7 +5,7 @@ ghost use Rattle.demux.specs.Marks as marks;
 ghost use Rattle.demux.specs.Shown.{entry_with, mark_broken, mark_duplicate};
 
 use crate::last::Last;
-use ts_packet::{Adaptation, Packet};
+use ts_packet::{Adaptation, Packet, has_pcr};
 
 /// What a packet is to the one before it.
 #[derive(Clone, Copy)]
@@ -15,16 +15,6 @@ pub(crate) enum Mark {
     Follows,
     /// the counter that was to come, and the one that came
     Breaks(u8, u8),
-}
-
-/// Whether an adaptation field has a program clock reference.
-fn has_pcr(packet: &Packet<'_>) -> bool
-    ensures { result ≡ marks.has_pcr (packet_view packet.now).adaptation }
-{
-    match packet.adaptation {
-        Some(Adaptation::Flagged(parts)) => parts.pcr.is_some(),
-        _ => false,
-    }
 }
 
 /// discontinuity_indicator.

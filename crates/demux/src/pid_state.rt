@@ -4,7 +4,7 @@ ghost use Rattle.ts_packet.specs.Views.{packet_view, bytes_view};
 ghost use Rattle.demux.specs.Roles as roles;
 ghost use Rattle.demux.specs.Findings as findings;
 ghost use Rattle.demux.specs.Machine as machine;
-ghost use Rattle.demux.specs.Shown.{Finds, KeepsJoined, Says, SaysTheSame, Spans, carried_lent, carried_role, entry_with, kept_by, mark_broken, mark_duplicate, marked_findings, marked_role, payload_lent, payload_list};
+ghost use Rattle.demux.specs.Shown.{Finds, KeepsJoined, Says, SaysTheSame, carried_lent, carried_role, entry_with, kept_by, mark_broken, mark_duplicate, marked_findings, marked_role, payload_lent, payload_list};
 
 use crate::beginnings::begin_pes;
 use crate::endings::{cut_short, end, end_before, go_on};
@@ -187,9 +187,9 @@ impl<A: Allocator + Clone> PidState<A> {
         }
     }
 
-    // Takes a packet of the PID.
+    /// Takes a packet of the PID; its payload is lent, or only passes.
     #[tactic(auto, unfolding(crate::specs::Marks::mark, crate::specs::Machine::step_marked, crate::specs::Findings::found_at, crate::specs::Roles::role, crate::specs::Roles::role_of))]
-    fn advance<'p, 'a: 'p>(
+    pub fn step<'p, 'a: 'p>(
         &mut self,
         alloc: &A,
         place: Place,
@@ -209,29 +209,6 @@ impl<A: Allocator + Clone> PidState<A> {
         let role = role_of(&packet.header, payload);
         read(alloc, place, mark, role, &mut self.part, found)?;
         self.last = Some(seen(mark, place.packet, packet, bytes));
-        Ok(())
-    }
-
-    /// Takes a packet of the PID; its payload is lent, or only passes.
-    #[tactic(auto, using(crate::proofs::Giving::says, crate::proofs::Giving::spans))]
-    pub fn step<'p, 'a: 'p>(
-        &mut self,
-        alloc: &A,
-        place: Place,
-        bytes: &[u8; 188],
-        packet: &Packet<'_>,
-        payload: Option<PayloadBytes<'p, 'a>>,
-        found: &mut Vec<Finding<'a, A>, A>,
-    ) -> Result<(), AllocError>
-        requires payload { option_map payload_list payload ≡ bytes_view packet.now.payload }
-        requires lent { payload_lent place.lent payload ≡ place.lent }
-        ensures state { OnOk result (self.new ≡ machine.step self.old (entry_with place.packet bytes.now packet.now)) }
-        ensures found { OnOk result (Says place found.old.items found.new.items (machine.found_by self.old (entry_with place.packet bytes.now packet.now))) }
-        ensures spans { OnOk result (Spans place found.old.items found.new.items (machine.found_by self.old (entry_with place.packet bytes.now packet.now))) }
-        ensures err { OnErr result (self.new ≡ self.old) }
-        ensures none { OnErr result (SaysTheSame found.old.items found.new.items) }
-    {
-        self.advance(alloc, place, bytes, packet, payload, found)?;
         Ok(())
     }
 

@@ -4,7 +4,7 @@ ghost use Rattle.indexmap.specs.IndexMap.{index_map_len, get, values, set_value_
 ghost use Rattle.ts_packet.specs.Views.{bytes_view};
 ghost use Rattle.demux.specs.Machine as machine;
 ghost use Rattle.demux.specs.Stream.{ended_found, state_of, with_state};
-ghost use Rattle.demux.specs.Shown.{Says, SaysTheSame, Spans, entry_with, finding_view, KeepsJoined, payload_lent, payload_list, told};
+ghost use Rattle.demux.specs.Shown.{Finds, SaysTheSame, entry_with, finding_view, KeepsJoined, payload_lent, payload_list, told};
 ghost use Rattle.demux.specs.Findings as findings;
 
 use crate::finding::Finding;
@@ -34,9 +34,7 @@ fn step_at<'p, 'a: 'p, A: Allocator + Copy>(
     ensures states { (state : machine.PidState) → slice_get (values states.old) index ≡ Some state →
         OnOk result (states.new.entries ≡ set_value_at states.old.entries index (machine.step state (entry_with place.packet bytes.now packet.now))) }
     ensures found { (state : machine.PidState) → slice_get (values states.old) index ≡ Some state →
-        OnOk result (Says place found.old.items found.new.items (machine.found_by state (entry_with place.packet bytes.now packet.now))) }
-    ensures spans { (state : machine.PidState) → slice_get (values states.old) index ≡ Some state →
-        OnOk result (Spans place found.old.items found.new.items (machine.found_by state (entry_with place.packet bytes.now packet.now))) }
+        OnOk result (Finds place found.old.items found.new.items (machine.found_by state (entry_with place.packet bytes.now packet.now))) }
     ensures err { (state : machine.PidState) → slice_get (values states.old) index ≡ Some state →
         OnErr result (states.new.entries ≡ set_value_at states.old.entries index state) }
     ensures none { OnErr result (SaysTheSame found.old.items found.new.items) }
@@ -60,8 +58,7 @@ fn step_first<'p, 'a: 'p, A: Allocator + Copy>(
     requires payload { option_map payload_list payload ≡ bytes_view packet.now.payload }
     requires lent { payload_lent place.lent payload ≡ place.lent }
     ensures states { OnOk result (states.new.entries ≡ with_state place.pid (machine.step machine.fresh (entry_with place.packet bytes.now packet.now)) states.old.entries) }
-    ensures found { OnOk result (Says place found.old.items found.new.items (machine.found_by machine.fresh (entry_with place.packet bytes.now packet.now))) }
-    ensures spans { OnOk result (Spans place found.old.items found.new.items (machine.found_by machine.fresh (entry_with place.packet bytes.now packet.now))) }
+    ensures found { OnOk result (Finds place found.old.items found.new.items (machine.found_by machine.fresh (entry_with place.packet bytes.now packet.now))) }
     ensures err { OnErr result (states.new.entries ≡ states.old.entries) }
     ensures none { OnErr result (SaysTheSame found.old.items found.new.items) }
 {
@@ -88,9 +85,7 @@ pub(crate) fn step_pid<'p, 'a: 'p, A: Allocator + Copy>(
     ensures states { let state = state_of place.pid states.old.entries in
         OnOk result (states.new.entries ≡ with_state place.pid (machine.step state (entry_with place.packet bytes.now packet.now)) states.old.entries) }
     ensures found { let state = state_of place.pid states.old.entries in
-        OnOk result (Says place found.old.items found.new.items (machine.found_by state (entry_with place.packet bytes.now packet.now))) }
-    ensures spans { let state = state_of place.pid states.old.entries in
-        OnOk result (Spans place found.old.items found.new.items (machine.found_by state (entry_with place.packet bytes.now packet.now))) }
+        OnOk result (Finds place found.old.items found.new.items (machine.found_by state (entry_with place.packet bytes.now packet.now))) }
     ensures err { OnErr result (states.new.entries ≡ states.old.entries) }
     ensures none { OnErr result (SaysTheSame found.old.items found.new.items) }
 {

@@ -1,10 +1,15 @@
-//! Worked streams, damaged ones, and refused memory. What is expected was worked out by hand from the rules of the standard.
-use crate::{Demux, DemuxError, Finding, Kind, Part, What, reference, whole};
-use linked_list_allocator::LocalHeap;
+//! Worked streams. What is expected was worked out by hand from the rules of the standard.
+mod damage;
+mod limits;
+mod memory;
+mod reference;
+mod reference_marks;
+
+use crate::{Demux, DemuxError, Finding, Kind, Part, What, whole};
 use std::alloc::{AllocError, Allocator, Global};
 use std::test::Fail;
 
-// A packet of PID 256 with a PES packet of three bytes, 41 42 43, with PTS 90,000, behind stuffing.
+// A packet of PID 256 with a PES packet of three bytes, 41 42 43, with PTS 90,000, after stuffing.
 pub fn pes_packet() -> [u8; 188] {
     let mut bytes = [0xFFu8; 188];
     let front = [0x47, 0x41, 0x00, 0x30, 0xA6, 0x00];
@@ -111,7 +116,7 @@ pub fn in_pieces(alloc: Global, stream: &[u8], size: usize) -> Result<String, Fa
 }
 
 // The worked packet, the same again, the same with another last byte, and 100 bytes of one more.
-fn worked_stream(alloc: Global) -> Result<Vec<u8>, AllocError> {
+pub fn worked_stream(alloc: Global) -> Result<Vec<u8>, AllocError> {
     let mut other = pes_packet();
     other[187] = 0x44;
     let mut stream = Vec::new(alloc);
@@ -123,7 +128,7 @@ fn worked_stream(alloc: Global) -> Result<Vec<u8>, AllocError> {
     Ok(stream)
 }
 
-const WORKED: &str =
+pub const WORKED: &str =
     "0 256 pes 192 false 3 from 0 pes true\n1 256 duplicate\n2 256 counter 1 0\n2 256 pes 192 false 3 from 2 pes true\n3 none truncated 100\n";
 
 #[test]
@@ -212,7 +217,7 @@ fn a_section(rt: HostRuntime) -> Result<(), Fail> {
     Ok(())
 }
 
-// The same section in two packets: the first has its first 10 bytes, in the second stuffing comes behind the rest.
+// The same section in two packets: the first has its first 10 bytes, in the second stuffing follows the rest.
 pub fn section_in_two() -> ([u8; 188], [u8; 188]) {
     let pat = pat_packet();
     let mut first = [0xFFu8; 188];
@@ -317,96 +322,5 @@ fn a_pes_packet_that_is_too_long(rt: HostRuntime) -> Result<(), Fail> {
     let want =
         "45590 257 truncated 8388744 from 0 pes false\n45601 257 pes 224 true 175 from 45600 pes false\n";
     assert_eq!(rt; lines(alloc, demux.findings())?.as_str(), want);
-    Ok(())
-}
-
-// What is left of a piece of which so much was taken.
-fn behind(piece: &[u8], error: DemuxError) -> &[u8] {
-    match error {
-        DemuxError::Memory { taken } => piece.get(taken..).unwrap_or(&[]),
-        DemuxError::Ended => piece,
-    }
-}
-
-// Memory is refused while a block of the heap is taken, and is there once it is given back: nothing is lost.
-#[test]
-fn refused_pieces(rt: HostRuntime) -> Result<(), Fail> {
-    let alloc = rt.alloc();
-    let stream = worked_stream(alloc)?;
-    let mut refused = 0u32;
-    for left in 0..48usize {
-        let heap = LocalHeap::new(alloc, 65_536)?;
-        let block: Vec<u8, &LocalHeap> = Vec::with_capacity(&heap, 65_536 - 64 - 128 * left)?;
-        let mut demux = Demux::new(&heap);
-        let mut rest: &[u8] = &[];
-        if let Err(error) = demux.push(&stream) {
-            refused = refused.saturating_add(1);
-            rest = behind(&stream, error);
-        }
-        drop(block);
-        demux.push(rest)?;
-        demux.finish()?;
-        assert_eq!(rt; lines(alloc, demux.findings())?.as_str(), WORKED);
-    }
-    assert!(rt; 0 < refused, "never refused");
-    assert!(rt; refused < 48, "always refused");
-    Ok(())
-}
-
-// Takes the greatest block that a heap has, but for so many times 64 bytes.
-fn fill<'h>(heap: &'h LocalHeap, left: usize) -> Result<Vec<u8, &'h LocalHeap>, AllocError> {
-    let mut blocks = 0;
-    for n in 0..1_024usize {
-        let block: Result<Vec<u8, &LocalHeap>, AllocError> = Vec::with_capacity(heap, 64 * n);
-        if block.is_ok() {
-            blocks = n;
-        }
-    }
-    Vec::with_capacity(heap, 64 * blocks.saturating_sub(left).min(1_023))
-}
-
-// The same packet by packet, with an end of the stream: what is refused changes nothing, and succeeds once there is memory.
-#[test]
-fn refused_packets(rt: HostRuntime) -> Result<(), Fail> {
-    let alloc = rt.alloc();
-    let packets = [
-        long_packet(true, 0),
-        long_packet(false, 1),
-        long_packet(true, 2),
-    ];
-    let mut refused = false;
-    for left in 0..48usize {
-        let heap = LocalHeap::new(alloc, 65_536)?;
-        let mut found = Vec::with_capacity(&heap, 4)?;
-        let mut demux = Demux::new(&heap);
-        for packet in &packets {
-            let block = fill(&heap, left)?;
-            assert!(rt; demux.aligned());
-            let first = demux.take(packet, &mut found);
-            drop(block);
-            if first.is_err() {
-                refused = true;
-                assert_eq!(rt; first, Err(DemuxError::Memory { taken: 0 }));
-                assert!(rt; demux.aligned());
-                demux.take(packet, &mut found)?;
-            }
-        }
-        assert_eq!(rt;
-            lines(alloc, &found)?.as_str(),
-            "2 257 pes 224 false 359 from 0 pes false\n"
-        );
-        let block = fill(&heap, left)?;
-        let first = demux.finish();
-        drop(block);
-        if first.is_err() {
-            refused = true;
-            demux.finish()?;
-        }
-        assert_eq!(rt;
-            lines(alloc, demux.findings())?.as_str(),
-            "3 257 pes 224 true 175 from 2 pes false\n"
-        );
-    }
-    assert!(rt; refused, "never refused");
     Ok(())
 }

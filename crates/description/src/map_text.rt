@@ -12,8 +12,9 @@ use crate::description::Description;
 use crate::program::Program;
 use crate::stream::Stream;
 use arrayvec::ArrayVec;
+use bit_fields::append;
 use dvb_tables::{push_iso_639_language, push_stream_identifier};
-use psi_tables::{LongHeader, Pmt, Stream as PmtStream, StreamLoop, Streams, append};
+use psi_tables::{LongHeader, Pmt, Stream as PmtStream, StreamLoop, Streams};
 
 fn push_tag(out: &mut ArrayVec<u8, 709>, tag: Option<u8>)
     requires { array_vec_len out.old + 3 ≤ 709 }

@@ -10,7 +10,7 @@ use crate::program::Program;
 use crate::table_kind::{TableKind, has_event};
 use arrayvec::ArrayVec;
 use dvb_tables::{Tdt, utc_time};
-use psi_tables::append;
+use bit_fields::append;
 
 // The time and date section.
 fn write_time(moment: u64, out: &mut ArrayVec<u8, 4096>)

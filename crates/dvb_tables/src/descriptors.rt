@@ -8,7 +8,7 @@ ghost use Rattle.dvb_tables.specs.Descriptors.{iso_639_language_descriptor, netw
 use crate::character_coding::Text;
 use crate::schedule::Event;
 use arrayvec::ArrayVec;
-use psi_tables::append;
+use bit_fields::append;
 
 /// Appends the ISO_639_language_descriptor (ISO/IEC 13818-1, 2.6.18) of one language.
 #[tactic(auto, unfolding(crate::specs::Descriptors::iso_639_language_descriptor))]

@@ -5,7 +5,8 @@ ghost use Rattle.psi_tables.specs.Loops.{loop_at};
 
 use crate::event_entry::{EventEntries, EventEntry};
 use arrayvec::ArrayVec;
-use psi_tables::{SectionError, append, is_whole_loop};
+use bit_fields::append;
+use psi_tables::{SectionError, is_whole_loop};
 
 /// The bytes that a section has room for behind the front of an event information table.
 pub const GREATEST_EVENT_LOOP: usize = 4078;

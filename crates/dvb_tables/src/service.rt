@@ -5,7 +5,8 @@ ghost use Rattle.psi_tables.specs.Loops.{loop_at};
 
 use crate::running_status::RunningStatus;
 use arrayvec::ArrayVec;
-use psi_tables::{Entry, SectionError, append, entry_at, is_whole_loop};
+use bit_fields::append;
+use psi_tables::{Entry, SectionError, entry_at, is_whole_loop};
 
 /// One service of a service description section. The descriptors are kept as bytes, whole descriptors or
 /// not.

@@ -4,7 +4,8 @@ ghost use Rattle.std.specs.Prelude.{◌≡◌, length, is_some, true};
 ghost use Rattle.psi_tables.specs.Loops.{loop_at};
 
 use arrayvec::ArrayVec;
-use psi_tables::{Entry, SectionError, append, entry_at, is_whole_loop};
+use bit_fields::append;
+use psi_tables::{Entry, SectionError, entry_at, is_whole_loop};
 
 /// One transport stream of a network. The descriptors are kept as bytes, whole descriptors or not.
 #[derive(Clone, Copy, Debug)]

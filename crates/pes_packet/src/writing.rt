@@ -1,12 +1,12 @@
 //! PES headers written (ISO/IEC 13818-1, 2.4.3.6, table 2-21).
 
-ghost use Rattle.std.specs.Prelude.{◌≡◌, ◌+◌, ◌<◌, ◌≤◌, ◌^◌, ◌++◌, length, IsTrue};
-ghost use Rattle.arrayvec.specs.ArrayVec.{array_vec_len};
+ghost use Rattle.std.specs.Prelude.{◌≡◌, ◌<◌, ◌≤◌, ◌^◌, IsTrue};
 ghost use Rattle.pes_packet.specs.StreamIds.{fits_packet};
 ghost use Rattle.pes_packet.specs.Spelling.{start_text, packet_length, pts_header, pts_dts_header, header_text};
 
 use crate::time_stamps::stamp_text;
 use arrayvec::ArrayVec;
+use bit_fields::append;
 
 // Stamps are taken modulo this on the wire.
 const STAMPS: u64 = 1 << 33;
@@ -27,14 +27,6 @@ pub fn write_header(id: u8, size: usize, pts: u64, dts: u64) -> ArrayVec<u8, 19>
     } else {
         pts_dts_header(id, size, pts, dts)
     }
-}
-
-fn append(header: &mut ArrayVec<u8, 19>, bytes: &[u8])
-    requires { array_vec_len header.old + length bytes.now ≤ 19 }
-    ensures items { header.new.items ≡ header.old.items ++ bytes.now }
-    ensures len { array_vec_len header.new ≡ array_vec_len header.old + length bytes.now }
-{
-    let _ = header.try_extend_from_slice(bytes);
 }
 
 // PES_packet_length of so many bytes, 0 where 16 bits do not count them.

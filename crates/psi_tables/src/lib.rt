@@ -27,9 +27,7 @@ pub use pat::{PAT_PID, PAT_TABLE_ID, Pat, Program, ProgramLoop, Programs};
 pub use pmt::{PMT_TABLE_ID, Pmt, Stream, StreamLoop, Streams};
 pub use section::{LongHeader, Section, SectionHeader};
 pub use table::table_header_at;
-pub use writing::{
-    GREATEST_LENGTH, GREATEST_TABLE_LENGTH, append, begin_section, end_section, to_vec,
-};
+pub use writing::{GREATEST_LENGTH, GREATEST_TABLE_LENGTH, begin_section, end_section, to_vec};
 
 #[cfg(test)]
 mod tests;

@@ -15,8 +15,9 @@ ghost use Rattle.psi_tables.specs.ProgramAssociation.{PatView, IsPat, programs_t
 use crate::error::{SectionError, WriteError};
 use crate::section::{LongHeader, Section, SectionHeader};
 use crate::table::table_header_at;
-use crate::writing::{GREATEST_TABLE_LENGTH, append, begin_section, end_section, to_vec};
+use crate::writing::{GREATEST_TABLE_LENGTH, begin_section, end_section, to_vec};
 use arrayvec::ArrayVec;
+use bit_fields::append;
 pub use program_loop::ProgramLoop;
 pub use programs::{Program, Programs};
 use std::alloc::Allocator;

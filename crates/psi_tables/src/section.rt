@@ -7,8 +7,9 @@ ghost use Rattle.psi_tables.specs.Reading.{start_at, is_bad_length, long_header_
 
 use crate::crc::check_word;
 use crate::error::{SectionError, WriteError};
-use crate::writing::{GREATEST_LENGTH, append, begin_section, end_section, to_vec};
+use crate::writing::{GREATEST_LENGTH, begin_section, end_section, to_vec};
 use arrayvec::ArrayVec;
+use bit_fields::append;
 use std::alloc::Allocator;
 
 /// The fields of the long form, section_syntax_indicator 1, behind section_length.

@@ -1,7 +1,7 @@
 //! Writing a section into a vector of fixed capacity: what stands before the body, the body, and
 //! what stands behind it. The writers of tables are made of these parts.
 
-ghost use Rattle.std.specs.Prelude.{◌≡◌, ◌+◌, ◌≤◌, ◌<◌, ◌++◌, length, IfOk, IfErr};
+ghost use Rattle.std.specs.Prelude.{◌≡◌, ◌+◌, ◌≤◌, ◌<◌, IfOk, IfErr};
 ghost use Rattle.arrayvec.specs.ArrayVec.{array_vec_len};
 ghost use Rattle.psi_tables.specs.CheckWord.{check_word};
 ghost use Rattle.psi_tables.specs.Spelling.{word_text, start_text, long_header_text, section_length, front_length, crc_length, header_text, ended_text, HeaderFits};
@@ -10,6 +10,7 @@ use crate::crc::check_word;
 use crate::error::WriteError;
 use crate::section::{LongHeader, SectionHeader};
 use arrayvec::ArrayVec;
+use bit_fields::append;
 use std::alloc::{AllocError, Allocator};
 
 /// A vector of these bytes.
@@ -29,15 +30,6 @@ pub const GREATEST_LENGTH: usize = 4093;
 /// The greatest section_length of PAT and PMT, and of NIT and SDT (ISO/IEC 13818-1, 2.4.4.5 and
 /// 2.4.4.9; EN 300 468, 5.2).
 pub const GREATEST_TABLE_LENGTH: usize = 1021;
-
-/// Appends bytes.
-pub fn append<const N: usize>(out: &mut ArrayVec<u8, N>, bytes: &[u8])
-    requires { array_vec_len out.old + length bytes.now ≤ N }
-    ensures items { out.new.items ≡ out.old.items ++ bytes.now }
-    ensures len { array_vec_len out.new ≡ array_vec_len out.old + length bytes.now }
-{
-    let _ = out.try_extend_from_slice(bytes);
-}
 
 /// Begins a section: leaves in `out` what stands before a body of `body_length` bytes, and nothing
 /// else. The body is to be appended, and then `end_section` called with the same header.

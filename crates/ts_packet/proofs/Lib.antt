@@ -7,3 +7,4 @@ pub mod Answering
 pub mod Written
 pub mod PlainWritten
 pub mod Listing
+pub mod PcrBytes

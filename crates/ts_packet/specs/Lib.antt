@@ -9,3 +9,4 @@ pub mod Laws
 pub mod Device
 pub mod Counting
 pub mod Faulty
+pub mod PcrBytes

@@ -1,19 +1,11 @@
-//! Appending the parts of a packet.
-ghost use Rattle.std.specs.Prelude.{◌≡◌, ◌+◌, ◌≤◌, ◌++◌, length, replicate};
+//! Appending stuffing.
+ghost use Rattle.std.specs.Prelude.{◌≡◌, ◌+◌, ◌≤◌, ◌++◌, replicate};
 ghost use Rattle.arrayvec.specs.ArrayVec.{array_vec_len};
 
 use arrayvec::ArrayVec;
+use bit_fields::append;
 
 const FILL: [u8; 184] = [0xff; 184];
-
-/// Appends the bytes.
-pub fn append<const N: usize>(packet: &mut ArrayVec<u8, N>, bytes: &[u8])
-    requires { array_vec_len packet.old + length bytes.now ≤ N }
-    ensures items { packet.new.items ≡ packet.old.items ++ bytes.now }
-    ensures len { array_vec_len packet.new ≡ array_vec_len packet.old + length bytes.now }
-{
-    let _fits = packet.try_extend_from_slice(bytes);
-}
 
 /// Appends `n` bytes 0xFF.
 pub fn append_fill<const N: usize>(packet: &mut ArrayVec<u8, N>, n: usize)

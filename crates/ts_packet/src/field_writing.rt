@@ -7,10 +7,10 @@ ghost use Rattle.ts_packet.specs.Views.{reference_view, parts_view, adaptation_v
 ghost use Rattle.ts_packet.specs.Writing.{optional_text, reference_text, countdown_text, counted_text, parts_text, adaptation_text, AdaptationFits, PartsFit};
 
 use crate::adaptation::{Adaptation, AdaptationParts, ClockReference};
-use crate::appending::append;
 use crate::fitting::parts_size;
 use crate::fixed_texts::{flags_of, reference_text};
 use arrayvec::ArrayVec;
+use bit_fields::append;
 
 fn append_reference(packet: &mut ArrayVec<u8, 188>, reference: Option<ClockReference>)
     requires fits { IfSome (option_map reference_view reference) ReferenceFits }

@@ -1,4 +1,5 @@
 //! Laws of the definitions. Each function does nothing: its contract is the law.
+ghost use Rattle.ts_packet.specs.PcrBytes.{PcrStands};
 ghost use Rattle.ts_packet.specs.Laws.{ReadOnce, PacketsAgain, PayloadsAgain, ClocksAgain, NullAgain, FirstCut, PiecesListed};
 
 /// The bytes of a packet say one thing, and it is read.
@@ -34,4 +35,9 @@ pub fn first_cut()
 /// The packets of pieces on one PID, read back from their bytes, are those pieces in order.
 pub fn pieces_listed()
     ensures { PiecesListed }
+{}
+
+/// In a packet with a program clock reference, bytes 6 to 11 are it.
+pub fn pcr_stands()
+    ensures { PcrStands }
 {}

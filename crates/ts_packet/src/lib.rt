@@ -6,8 +6,8 @@
 //!
 //! Definitions stand in `specs/`: `Syntax` has the standard's tables of fields as a relation, `Reading` the function on
 //! lists that names the refusals, `Writing` and `Packets` what is written, `PidList` the packets of one PID in a byte
-//! stream, and `Device` what is known of a device whose failed calls are counted. The functions of `laws` say how
-//! these hang together.
+//! stream, `PcrBytes` which bytes of a packet a program clock reference has, and `Device` what is known of a device whose
+//! failed calls are counted. The functions of `laws` say how these hang together.
 #![tactic(auto)]
 
 // What a packet is.
@@ -18,6 +18,7 @@ mod packet;
 // Reading, from the first byte on.
 mod field_reading;
 mod packet_reading;
+mod pcr_bytes;
 
 // Writing, by appending.
 mod appending;
@@ -40,6 +41,7 @@ pub use header::Header;
 pub use packet::{Packet, PacketError};
 pub use packet_reading::read_packet;
 pub use packet_writing::write_packet;
+pub use pcr_bytes::{has_pcr, is_same_without_pcr};
 pub use plain_packets::{NULL_PID, append_payload_packet, null_packet, write_payload, write_pcr};
 
 #[cfg(test)]

@@ -7,11 +7,11 @@ ghost use Rattle.ts_packet.specs.Views.{adaptation_view, bytes_view};
 ghost use Rattle.ts_packet.specs.Writing.{payload_text, packet_text, PacketFits, packet_of};
 
 use crate::adaptation::Adaptation;
-use crate::appending::append;
 use crate::field_writing::append_adaptation;
 use crate::fixed_texts::header_text;
 use crate::header::Header;
 use arrayvec::ArrayVec;
+use bit_fields::append;
 
 /// The array that a full vector holds.
 pub fn whole(packet: ArrayVec<u8, 188>) -> [u8; 188]

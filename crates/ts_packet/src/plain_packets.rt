@@ -6,11 +6,12 @@ ghost use Rattle.ts_packet.specs.Packets.{plain_header, filler, payload_packet, 
 ghost use Rattle.ts_packet.specs.Writing.{optional_text, adaptation_text};
 
 use crate::adaptation::ClockReference;
-use crate::appending::{append, append_fill};
+use crate::appending::append_fill;
 use crate::fixed_texts::{header_text, reference_text};
 use crate::header::Header;
 use crate::packet_writing::whole;
 use arrayvec::ArrayVec;
+use bit_fields::append;
 use clock27::Pcr;
 
 /// The PID of null packets (ISO/IEC 13818-1, table 2-3).

@@ -1,5 +1,6 @@
 //! Known packets, and what no clause says.
 
+mod device_calls;
 mod devices;
 mod packets_read;
 mod packets_written;

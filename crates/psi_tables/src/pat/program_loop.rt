@@ -4,8 +4,8 @@ ghost use Rattle.std.specs.Prelude.{◌≡◌, ◌%◌, length};
 
 use crate::error::SectionError;
 use crate::pat::programs::{Program, Programs};
-use crate::writing::append;
 use arrayvec::ArrayVec;
+use bit_fields::append;
 
 /// The entries of a PAT that is being put together: up to 253, which is all that a section has room
 /// for. It holds them in place and takes no memory.

@@ -6,8 +6,8 @@ ghost use Rattle.psi_tables.specs.Loops.{loop_at};
 use crate::entries::{Entry, entry_at, is_whole_loop};
 use crate::error::SectionError;
 use crate::pmt::fields::{info_length_text, pid_text};
-use crate::writing::append;
 use arrayvec::ArrayVec;
+use bit_fields::append;
 
 /// An elementary stream of a program.
 #[derive(Clone, Copy, Debug)]

@@ -1,4 +1,8 @@
 //! A count of failures beside any reader or writer.
+//!
+//! Proved of any device: what `read_some` and `write_some` answer counts one failure more where it is an `Err` and none
+//! where it is not, and known bytes are those of the inner device. That each call makes one call of the inner device and
+//! hands on its answer is tested (`tests/device_calls`): no contract over any device can say it.
 ghost use Rattle.std.specs.Prelude.{◌≡◌};
 ghost use Rattle.ts_packet.specs.Device.{CountsOne};
 ghost use Rattle.ts_packet.specs.Counting.{inner_of, failures_of};

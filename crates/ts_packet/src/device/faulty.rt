@@ -6,7 +6,7 @@ ghost use Rattle.std.specs.Io.KnownBytes.{ReadConsumes, WriteAppends};
 use std::io::{self, Error, ErrorKind, Read, Write};
 
 /// A reader or writer that gives or takes at most so many bytes in at most so many calls. A call that wants a byte
-/// beyond them fails.
+/// beyond them fails. That a call within them fails only where the inner device does is tested.
 #[derive(Drop)]
 pub struct Failing<T> {
     inner: T,

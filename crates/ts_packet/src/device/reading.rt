@@ -2,7 +2,7 @@
 ghost use Rattle.std.specs.Prelude.{◌≡◌, ℕ, ◌≤◌, List, length, OnOk, OnErr, IfOk, IfErr, ◌<◌};
 ghost use Rattle.std.specs.Io.{ReadsAtMost};
 ghost use Rattle.std.specs.Io.KnownBytes.{ReadConsumes};
-ghost use Rattle.ts_packet.specs.Device.{CountsFailure, Failed, ReadsPart};
+ghost use Rattle.ts_packet.specs.Device.{CountsFailure, CountsOne, ReadsPart};
 
 use super::fault::DeviceFault;
 use std::io::{self, Read};
@@ -35,7 +35,7 @@ pub fn read_part<R: Source>(from: &mut R, part: &mut [u8]) -> Result<usize, Devi
     ensures short { IfErr result (λ fault. fault.taken < length part.new) }
 
     ensures clean { OnOk result (R.fault_count from.new ≡ R.fault_count from.old) }
-    ensures fault { OnErr result (Failed (R.fault_count from.old) (R.fault_count from.new)) }
+    ensures fault { OnErr result (CountsOne (R.fault_count from.old) (R.fault_count from.new)) }
     ensures later { R.fault_count from.old ≤ R.fault_count from.new }
 {
     let mut taken = 0;

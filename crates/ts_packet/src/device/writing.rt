@@ -2,7 +2,7 @@
 ghost use Rattle.std.specs.Prelude.{◌≡◌, ℕ, ◌≤◌, ◌<◌, List, length, take, OnOk, OnErr, IfOk, IfErr};
 ghost use Rattle.std.specs.Io.{WritesAtMost};
 ghost use Rattle.std.specs.Io.KnownBytes.{WriteAppends, Appends};
-ghost use Rattle.ts_packet.specs.Device.{CountsFailure, Failed, taken_of};
+ghost use Rattle.ts_packet.specs.Device.{CountsFailure, CountsOne, taken_of};
 
 use super::fault::DeviceFault;
 use std::io::{self, Write};
@@ -33,7 +33,7 @@ pub fn write_part<W: Sink>(to: &mut W, part: &[u8]) -> Result<(), DeviceFault>
     ensures short { IfErr result (λ fault. fault.taken < length part.now) }
 
     ensures clean { OnOk result (W.fault_count to.new ≡ W.fault_count to.old) }
-    ensures fault { OnErr result (Failed (W.fault_count to.old) (W.fault_count to.new)) }
+    ensures fault { OnErr result (CountsOne (W.fault_count to.old) (W.fault_count to.new)) }
     ensures later { W.fault_count to.old ≤ W.fault_count to.new }
 {
     let mut taken = 0;

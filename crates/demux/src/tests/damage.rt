@@ -1,0 +1,99 @@
+//! Streams that were damaged on their way, against the plain program that looks back over all packets.
+use super::{in_pieces, lines, long_packet, pat_packet, pes_packet, reference, section_in_two};
+use crate::whole;
+use std::alloc::{AllocError, Global};
+use std::test::Fail;
+
+// A PES packet of 262 bytes begins in a packet of PID 258.
+fn bounded_packet() -> [u8; 188] {
+    let mut bytes = long_packet(true, 0);
+    bytes[2] = 0x02;
+    bytes[8] = 0x01;
+    bytes
+}
+
+// Packets of four PIDs: PES packets with a length and without, sections alone, two in a payload and in two packets.
+fn sound_packets(alloc: Global) -> Result<Vec<[u8; 188]>, AllocError> {
+    let (first, second) = section_in_two();
+    let mut bounded_more = long_packet(false, 1);
+    bounded_more[2] = 0x02;
+    let mut packed = pat_packet();
+    packed[3] = 0x13;
+    let pat = pat_packet();
+    packed[21..37].copy_from_slice(&pat[5..21]);
+    let mut packets = Vec::new(alloc);
+    packets.extend_from_slice(&[
+        long_packet(true, 0),
+        pes_packet(),
+        pat,
+        long_packet(false, 1),
+        first,
+        bounded_packet(),
+    ])?;
+    packets.extend_from_slice(&[
+        second,
+        long_packet(true, 2),
+        bounded_more,
+        packed,
+        long_packet(false, 3),
+    ])?;
+    Ok(packets)
+}
+
+// A number from 0 to 99 by chance.
+fn draw(seed: &mut u32) -> u32 {
+    *seed = seed.wrapping_mul(1_664_525).wrapping_add(1_013_904_223);
+    *seed / 65_536 % 100
+}
+
+// A packet on its way, lost, doubled, tripled, scrambled, flagged in error, or broken in its header.
+fn put(packet: &[u8; 188], chance: u32, stream: &mut Vec<u8>) -> Result<(), AllocError> {
+    let mut bytes = *packet;
+    match chance {
+        0..8 => return Ok(()),
+        8..18 => stream.extend_from_slice(&bytes)?,
+        18..24 => {
+            stream.extend_from_slice(&bytes)?;
+            stream.extend_from_slice(&bytes)?;
+        }
+        24..28 => bytes[3] |= 0x80,
+        28..32 => bytes[1] |= 0x80,
+        32..36 => bytes[3] &= 0x0F,
+        36..40 => bytes[4] ^= 0x11,
+        40..44 => bytes[3] ^= 0x05,
+        _ => {}
+    }
+    stream.extend_from_slice(&bytes)
+}
+
+// The packets with neighbours swapped and damage done, and the last one cut.
+fn hostile_stream(alloc: Global, seed: &mut u32) -> Result<Vec<u8>, AllocError> {
+    let mut packets = sound_packets(alloc)?;
+    for i in 1..packets.len() {
+        if draw(seed) < 15 {
+            packets.swap(i - 1, i);
+        }
+    }
+    let mut stream = Vec::new(alloc);
+    for packet in &packets {
+        put(packet, draw(seed), &mut stream)?;
+    }
+    stream.truncate(stream.len().saturating_sub(draw(seed) as usize));
+    Ok(stream)
+}
+
+#[test]
+fn hostile_streams(rt: HostRuntime) -> Result<(), Fail> {
+    let alloc = rt.alloc();
+    let mut seed = 1;
+    for _ in 0..40 {
+        let stream = hostile_stream(alloc, &mut seed)?;
+        let want = reference::lines(alloc, &stream)?;
+        assert_eq!(rt; in_pieces(alloc, &stream, 50)?.as_str(), want.as_str());
+        assert_eq!(rt;
+            lines(alloc, &whole(alloc, &stream)?)?.as_str(),
+            want.as_str()
+        );
+    }
+    Ok(())
+}

@@ -1,0 +1,97 @@
+//! Refused memory.
+use super::{WORKED, lines, long_packet, worked_stream};
+use crate::{Demux, DemuxError};
+use linked_list_allocator::LocalHeap;
+use std::alloc::AllocError;
+use std::test::Fail;
+
+// What is left of a piece of which so much was taken.
+fn left_of(piece: &[u8], error: DemuxError) -> &[u8] {
+    match error {
+        DemuxError::Memory { taken } => piece.get(taken..).unwrap_or(&[]),
+        DemuxError::Ended => piece,
+    }
+}
+
+// Memory is refused while a block of the heap is taken, and is there once it is given back: nothing is lost.
+#[test]
+fn refused_pieces(rt: HostRuntime) -> Result<(), Fail> {
+    let alloc = rt.alloc();
+    let stream = worked_stream(alloc)?;
+    let mut refused = 0u32;
+    for left in 0..48usize {
+        let heap = LocalHeap::new(alloc, 65_536)?;
+        let block: Vec<u8, &LocalHeap> = Vec::with_capacity(&heap, 65_536 - 64 - 128 * left)?;
+        let mut demux = Demux::new(&heap);
+        let mut rest: &[u8] = &[];
+        if let Err(error) = demux.push(&stream) {
+            refused = refused.saturating_add(1);
+            rest = left_of(&stream, error);
+        }
+        drop(block);
+        demux.push(rest)?;
+        demux.finish()?;
+        assert_eq!(rt; lines(alloc, demux.findings())?.as_str(), WORKED);
+    }
+    assert!(rt; 0 < refused, "never refused");
+    assert!(rt; refused < 48, "always refused");
+    Ok(())
+}
+
+// Takes the greatest block that a heap has, but for so many times 64 bytes.
+fn fill<'h>(heap: &'h LocalHeap, left: usize) -> Result<Vec<u8, &'h LocalHeap>, AllocError> {
+    let mut blocks = 0;
+    for n in 0..1_024usize {
+        let block: Result<Vec<u8, &LocalHeap>, AllocError> = Vec::with_capacity(heap, 64 * n);
+        if block.is_ok() {
+            blocks = n;
+        }
+    }
+    Vec::with_capacity(heap, 64 * blocks.saturating_sub(left).min(1_023))
+}
+
+// The same packet by packet, with an end of the stream: what is refused changes nothing, and succeeds once there is memory.
+#[test]
+fn refused_packets(rt: HostRuntime) -> Result<(), Fail> {
+    let alloc = rt.alloc();
+    let packets = [
+        long_packet(true, 0),
+        long_packet(false, 1),
+        long_packet(true, 2),
+    ];
+    let mut refused = false;
+    for left in 0..48usize {
+        let heap = LocalHeap::new(alloc, 65_536)?;
+        let mut found = Vec::with_capacity(&heap, 4)?;
+        let mut demux = Demux::new(&heap);
+        for packet in &packets {
+            let block = fill(&heap, left)?;
+            assert!(rt; demux.aligned());
+            let first = demux.take(packet, &mut found);
+            drop(block);
+            if first.is_err() {
+                refused = true;
+                assert_eq!(rt; first, Err(DemuxError::Memory { taken: 0 }));
+                assert!(rt; demux.aligned());
+                demux.take(packet, &mut found)?;
+            }
+        }
+        assert_eq!(rt;
+            lines(alloc, &found)?.as_str(),
+            "2 257 pes 224 false 359 from 0 pes false\n"
+        );
+        let block = fill(&heap, left)?;
+        let first = demux.finish();
+        drop(block);
+        if first.is_err() {
+            refused = true;
+            demux.finish()?;
+        }
+        assert_eq!(rt;
+            lines(alloc, demux.findings())?.as_str(),
+            "3 257 pes 224 true 175 from 2 pes false\n"
+        );
+    }
+    assert!(rt; refused, "never refused");
+    Ok(())
+}
