@@ -21,10 +21,10 @@ use Rattle.unit_timing.proofs.Counting.{kept, kept-append, kept_le, kept_after, 
 -- a packet and the stamp of its text
 record Piece : Type 0 where
   slot : ℕ
-  due : ℕ
+  dts : ℕ
 
 abbrev pieces : ℕ → List ℕ → List Piece
-pieces due slots = map (λ (s : ℕ). let p : Piece = record { slot = s; due = due } in p) slots
+pieces due slots = map (λ (s : ℕ). let p : Piece = record { slot = s; dts = due } in p) slots
 
 unfoldable all_pieces : (ℕ → Bool) → ℕ → ℕ → ℕ → List PesPacket → List ℕ → List Piece
 all_pieces own rate lead free [] slots = []
@@ -56,7 +56,7 @@ live_none rate r x p ps not = rw not (omega arith)
 -- only then it has bytes in the main buffer, 184 at most
 kept_packet : (rate r x due prev s size : ℕ) → 0 < rate →
     kept rate r x due (drop (188 - min 184 size) (departures rate prev (bytes_from r (188 * s) 188)))
-    ≤ 184 * (let n : ℕ = cond (is_live rate r x (record { slot = s; due = due })) 1 0 in n)
+    ≤ 184 * (let n : ℕ = cond (is_live rate r x (record { slot = s; dts = due })) 1 0 in n)
 kept_packet rate r x due prev s size pos =
     let first = bytes_from r (188 * s) 188 in
     let ds = drop (188 - min 184 size) (departures rate prev first) in
@@ -68,7 +68,7 @@ kept_packet rate r x due prev s size pos =
       | inl begun ↦ elim (cases_lt (x * 720000) (due * rate * r)) [
         | inr late ↦ omega (arith, kept_after rate r x due ds late)
         | inl before ↦
-            let is : is_live rate r x (record { slot = s; due = due }) ≡ true =
+            let is : is_live rate r x (record { slot = s; dts = due }) ≡ true =
             and_from _ _ (lt-ltb (188 * s * r) x begun) (lt-ltb (x * 720000) (due * rate * r) before) in
             let many : length ds ≡ min 184 size =
             rw (length-drop (188 - min 184 size) (departures rate prev first), length-departures rate prev first, length-bytes_from r (188 * s) 188) (omega arith) in
@@ -147,7 +147,7 @@ none_early own rate lead n (text ∷ texts) free =
     let b = first_slot own rate lead free text in
     let xs = take (pieces_of text) (drop b slots) in
     All-append (NotEarly rate lead) (pieces text.dts xs) (all_pieces own rate lead (b + pieces_of text) texts slots)
-    (All-map (NotEarly rate lead) (λ (s : ℕ). let p : Piece = record { slot = s; due = text.dts } in p) xs
+    (All-map (NotEarly rate lead) (λ (s : ℕ). let p : Piece = record { slot = s; dts = text.dts } in p) xs
     (All-weaker (λ s. release rate lead text.dts ≤ s) (λ s. text.dts * rate ≤ s * 135360000 + lead * rate)
     (λ s le. not_early rate lead text.dts s le) xs (text_slots own rate lead free n text)))
     (none_early own rate lead n texts (b + pieces_of text))
