@@ -7,3 +7,5 @@ pub mod Answering
 pub mod Written
 pub mod PlainWritten
 pub mod Listing
+pub mod Runs
+pub mod Counts

@@ -9,3 +9,5 @@ pub mod Laws
 pub mod Device
 pub mod Counting
 pub mod Faulty
+pub mod Contents
+pub mod RunLaws
