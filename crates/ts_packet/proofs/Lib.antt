@@ -8,3 +8,5 @@ pub mod Written
 pub mod PlainWritten
 pub mod Listing
 pub mod PcrBytes
+pub mod Runs
+pub mod Counts

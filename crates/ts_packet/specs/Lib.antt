@@ -10,3 +10,5 @@ pub mod Device
 pub mod Counting
 pub mod Faulty
 pub mod PcrBytes
+pub mod Contents
+pub mod RunLaws

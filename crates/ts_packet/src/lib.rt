@@ -30,6 +30,7 @@ mod plain_packets;
 
 // How the definitions hang together.
 pub mod laws;
+pub mod run_laws;
 
 // Readers and writers whose failed calls are counted.
 mod device;

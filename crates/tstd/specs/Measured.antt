@@ -43,7 +43,7 @@ pub record StreamsMeasured (d : Described) (units : List (ℕ × AccessUnit)) (b
 -- the greatest numbers of bytes over all moments in the two buffers of a program's tables, filled by the packets with
 -- these indices
 pub record IsSystemFullness (rate : ℕ) (slots : List ℕ) (f : SystemFullness) : Type 0 where
-  pub transport : IsPeak (λ x. tables.tb_fullness rate x slots) f.transport
+  pub transport : IsPeak (λ x. system_tb_fullness rate x slots) f.transport
   pub system : IsPeak (λ x. bsys_fullness rate x slots) f.system
 
 -- of each program of a description

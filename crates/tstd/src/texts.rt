@@ -55,11 +55,11 @@ pub fn measure_text<A: Allocator>(
     requires sound { IsSound buffer.old }
     requires held { buffer.old.held ≤ walk.old.byte }
     requires some { 0 < size }
-    ensures late { let text : PesPacket = record { due = due; size = size } in
+    ensures late { let text : PesPacket = record { dts = due; size = size } in
         IfOk result (λ late. late ≡ (is_due walk.old.queue.step slots text
         && not (has_left walk.old.queue.step walk.old.rx text (left_ahead walk.old)))) }
     ensures left { OnOk result (left_ahead walk.new ≡ drop size (left_ahead walk.old)) }
-    ensures most { OnOk result ((texts : List PesPacket) → let text : PesPacket = record { due = due; size = size } in
+    ensures most { OnOk result ((texts : List PesPacket) → let text : PesPacket = record { dts = due; size = size } in
         most_of walk.new buffer.new texts ≡ most_of walk.old buffer.old (text ∷ texts)) }
     ensures longest { OnOk result (longest_of walk.new ≡ longest_of walk.old) }
     ensures rx { OnOk result (walk.new.rx ≡ walk.old.rx) }

@@ -1,0 +1,5 @@
+use Rattle.table_rounds.proofs.Placing.{place_found}
+use Rattle.table_rounds.proofs.laws.place_found.Goals as goal
+
+pub returns : goal.returns
+returns c = place_found

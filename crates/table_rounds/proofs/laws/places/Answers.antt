@@ -1,0 +1,5 @@
+use Rattle.table_rounds.proofs.Placing.{place_law}
+use Rattle.table_rounds.proofs.laws.places.Goals as goal
+
+pub returns : goal.returns
+returns c = place_law

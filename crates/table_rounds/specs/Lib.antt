@@ -1,0 +1,4 @@
+pub mod Tables
+pub mod Parts
+pub mod Turns
+pub mod Laws

@@ -1,0 +1,27 @@
+//! Laws of the definitions. Each function does nothing: its contract is the law.
+ghost use Rattle.table_rounds.specs.Laws.{FirstTurnLaw, OwnSlotLaw, OtherSlotLaw, PlaceLaw, PlaceFoundLaw};
+
+/// A new state stands for its table before slot 0.
+pub fn first_turn()
+    ensures { FirstTurnLaw }
+{}
+
+/// At an own slot the state gives what the table carries there, and stands for the table in the next slot.
+pub fn own_slot()
+    ensures { OwnSlotLaw }
+{}
+
+/// In a slot that is not the table's the state stays as it is.
+pub fn other_slot()
+    ensures { OtherSlotLaw }
+{}
+
+/// Part q of a section is in place q after those of the sections before it.
+pub fn places()
+    ensures { PlaceLaw }
+{}
+
+/// Each place of a round has one part of one section.
+pub fn place_found()
+    ensures { PlaceFoundLaw }
+{}
