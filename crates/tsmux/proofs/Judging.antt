@@ -1,4 +1,4 @@
--- What the readers and the checker of the crates below say, in the terms of a job.
+-- What the readers of a description and a plan say, in the terms of a job.
 use Rattle.std.proofs.Common.{◌≡◌, ◌⊎◌, ℕ, ◌+◌, ◌-◌, ◌≤◌, Bool, true, false, List, [], ◌∷◌, ◌++◌, length, take, drop, sym, ap, subst, ◌∙◌, arith, length-append, Result, Ok, Err, inl, inr}
 use Rattle.std.specs.Prelude.{if◌then◌else◌}
 use Rattle.std.specs.Str.{IsUtf8, is_utf8}
@@ -17,10 +17,7 @@ use Rattle.slot_plan.specs.Reading.{plan_at}
 use Rattle.slot_plan.specs.Text.{plan_text}
 use Rattle.slot_plan.proofs.TextPlans.{plan-complete}
 use Rattle.std.proofs.lemmas.List.{take_rest}
-use Rattle.std.proofs.KnownBytes.{Appends-nil}
-use Rattle.tsmux.specs.Lines.{Port, Tells, line_text}
-use Rattle.tsmux.specs.Passing.{Stopped}
-use Rattle.tsmux.specs.Checking.{NamesLine, described, planned}
+use Rattle.tsmux.specs.Jobs.{NamesLine, described, planned}
 
 -- text that is UTF-8
 pub described_text : (bytes text : List ℕ) → text ≡ bytes → IsUtf8 bytes → description_of (parse_document text) ≡ described bytes
@@ -57,14 +54,3 @@ planned_rest text plan size s = rw (take_rest text size) (planned_front text pla
 pub names_line : (text : List ℕ) (error : PlanTextError) → Refuses text error → NamesLine (planned text) error
 names_line text (bad_text.Line line) r = planned_bad text line r
 names_line text bad_text.Memory r = tt
-
--- a line whose numbers are known otherwise
-pub one_number : (old new : Port) (name : List ℕ) (a x : ℕ) → a ≡ x → Tells old new (line_text name (a ∷ [])) → Tells old new (line_text name (x ∷ []))
-one_number old new name a x e t = subst (λ (n : ℕ). Tells old new (line_text name (n ∷ []))) e t
-
-pub two_numbers : (old new : Port) (name : List ℕ) (a b x y : ℕ) → a ≡ x → b ≡ y → Tells old new (line_text name (a ∷ b ∷ [])) → Tells old new (line_text name (x ∷ y ∷ []))
-two_numbers old new name a b x y e f t =
-    subst (λ (n : ℕ). Tells old new (line_text name (x ∷ n ∷ []))) f (subst (λ (n : ℕ). Tells old new (line_text name (n ∷ b ∷ []))) e t)
-
-pub none_written : (text : List ℕ) (port : Port) → Stopped text port port
-none_written text port = record { taken = 0; appends = Appends-nil port.bytes }

@@ -29,7 +29,7 @@ dts_of Absent = None
 dts_of (Pts pts) = None
 dts_of (PtsDts pts dts) = Some dts
 
--- `pes ID pts X dts Y size N`, N the bytes behind the header; ` open` where the stream ended before its end was known
+-- `pes ID pts X dts Y size N`, N the bytes after the header; ` open` where the stream ended before its end was known
 abbrev pub pes_text : PesHeader → Bool → ℕ → List ℕ
 pes_text header unended size = codes " pes " ++ decimal header.id ++ codes " pts " ++ stamp_text (pts_of header.stamps)
     ++ codes " dts " ++ stamp_text (dts_of header.stamps) ++ codes " size " ++ decimal size ++ (if unended then codes " open" else [])
@@ -37,7 +37,7 @@ pes_text header unended size = codes " pes " ++ decimal header.id ++ codes " pts
 abbrev pub section_text : ℕ → ℕ → List ℕ
 section_text table_id size = codes " section " ++ decimal table_id ++ codes " size " ++ decimal size
 
--- what is found, behind its place
+-- what is found, after its place
 unfoldable pub what_text : WhatView → List ℕ
 what_text IsDuplicate = codes " duplicate"
 what_text (BreaksCounter expected found) = codes " counter " ++ decimal expected ++ codes " " ++ decimal found

@@ -1,5 +1,6 @@
 -- What the words ask for.
-use Rattle.std.specs.Prelude.{ℕ, IsTrue, ◌<◌, ◌&&◌, Bool, true, false, List, [], ◌∷◌, Option, Some, None, nat_le, nat_lt, length, if◌then◌else◌, codes, option_and_then}
+use Rattle.std.specs.Prelude.{ℕ, IsTrue, ◌<◌, ◌&&◌, Bool, true, false, List, [], ◌∷◌, Option, Some, None, nat_le, nat_lt, length, if◌then◌else◌, codes, map, option_and_then}
+use Rattle.std.specs.Borrow.{Bor}
 use Rattle.std.specs.Char.{is_ascii_digit}
 use Rattle.std.specs.List.{list_all}
 use Rattle.std.specs.Str.{bytes_eq}
@@ -62,9 +63,13 @@ unfoldable pub requested_of : List Text → Kinds → Option (Text × List Row) 
 requested_of [] faults named = Some (Carry (record { hex = true; pid = 256; id = 192 }))
 requested_of (w ∷ words) faults named = unless_faulty faults (subcommand_request named)
 
--- what the words ask for, none where they are no use of the program
+-- what the words ask for, none where they are a usage error
 abbrev pub requested : List Text → Option Request
 requested words = requested_of words (fault_of tsmux_app words) (subcommand_of tsmux_app words)
+
+-- the same of words in memory
+abbrev pub asked : List (Bor (List ℕ)) → Option Request
+asked words = requested (map (λ s. s.now) words)
 
 -- the options of a request are in their ranges
 abbrev pub Fits : Option Request → Type 0

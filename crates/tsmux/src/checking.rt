@@ -1,121 +1,73 @@
-//! `check`: a job's description, its plan, and with `--switch` the second plan behind it.
-ghost use Rattle.std.specs.Prelude.{◌≡◌, ◌⊎◌, Err, Ok, IfOk, IfErr};
-ghost use Rattle.plan_checker.specs.Refused.{failed};
-ghost use Rattle.tsmux.specs.Halts.{Performs};
-ghost use Rattle.tsmux.specs.Jobs.{job_at};
-ghost use Rattle.tsmux.specs.Checking.{NamesLine, checked, described, fault_of, of_job, of_description, of_plan, of_second, outcome_of, planned, second_fault_of};
+//! `check`: what is first wrong with a job.
+ghost use Rattle.std.specs.Prelude.{◌≡◌, IfOk, option_map};
+ghost use Rattle.tsmux.specs.Checking.{Checks, fault_in, verdict_of};
+ghost use Rattle.tsmux.specs.Devices.{reads, writes};
+ghost use Rattle.tsmux.specs.JobFaults.{fault_view};
+ghost use Rattle.tsmux.specs.Jobs.{job_of};
+ghost use Rattle.tsmux.specs.Lines.{Tells};
+ghost use Rattle.tsmux.specs.Passing.{WritesLine};
+ghost use Rattle.tsmux.specs.Performing.{Performs};
 
 use crate::halt::{Halt, halted};
-use crate::jobs::job_at;
-use crate::verdict::{Verdict, say, status_of, tell_fault};
+use crate::job_fault::{JobError, JobFault, is_refusal, tell_fault, write_fault};
+use crate::jobs::read_job;
+use crate::lines::write_line;
 use crate::whole_input::read_whole;
-use description::{DescError, Description, Fault};
-use plan_checker::{CheckedPlan, Refusal, check, check_switch};
-use slot_plan::{Plan, PlanTextError};
 use std::alloc::{AllocError, Global};
-use std::str;
 use ts_packet::{Sink, Source};
 
-/// What the bytes are read as.
-fn described(alloc: Global, bytes: &[u8]) -> Result<Description, DescError>
-    ensures { (result ≡ Err DescError.Memory) ⊎ (result ≡ described bytes.now) }
+/// What is first wrong with the job that bytes are, if anything is.
+fn judge(alloc: Global, switch: bool, bytes: &[u8]) -> Result<Option<JobFault>, AllocError>
+    ensures { IfOk result (λ fault. option_map fault_view fault ≡ fault_in (job_of switch bytes.now)) }
 {
-    match str::from_utf8(bytes) {
-        Ok(text) => Description::read(alloc, text),
-        Err(_) => Err(DescError::Refused(Fault::Text)),
+    match read_job(alloc, switch, bytes) {
+        Ok(_) => Ok(None),
+        Err(JobError::Fault(fault)) => Ok(Some(fault)),
+        Err(JobError::Memory) => Err(AllocError),
     }
 }
 
-/// The plan at the front of a text, and the rest.
-fn planned(alloc: Global, text: &[u8]) -> Result<(Plan, &[u8]), PlanTextError>
-    ensures read { IfOk result (λ read. planned text.entry.now ≡ Ok (read.0, read.1.now)) }
-    ensures refused { IfErr result (NamesLine (planned text.entry.now)) }
+/// Writes what is said on the output: that the plans are accepted, or the condition that is not kept.
+#[tactic(auto, unfolding(crate::specs::Checking::verdict_of))]
+fn say<W: Sink>(fault: Option<JobFault>, output: &mut W) -> Result<(), Halt>
+    ensures { WritesLine (verdict_of (option_map fault_view fault)).output (writes W.Sink output.old output.new) result }
 {
-    match Plan::read_text(alloc, text) {
-        Ok((plan, size)) => Ok((plan, &text[size..])),
-        Err(error) => Err(error),
-    }
-}
-
-/// The plan as one that serves the description, or the first condition that it does not keep.
-fn serving(description: Description, plan: Plan) -> Result<CheckedPlan, Refusal>
-    ensures fault { failed result ≡ fault_of description plan }
-    ensures description { IfOk result (λ first. first.description ≡ description) }
-    ensures plan { IfOk result (λ first. first.plan ≡ plan) }
-{
-    match check(description, plan) {
-        Ok(first) => Ok(first),
-        Err((refusal, _, _)) => Err(refusal),
-    }
-}
-
-/// The first condition that a second plan behind a first does not keep, if there is one.
-fn following(first: CheckedPlan, second: Plan) -> Result<(), Refusal>
-    ensures { failed result ≡ second_fault_of first.description first.plan second }
-{
-    match check_switch(first, second) {
-        Ok(_) => Ok(()),
-        Err((refusal, _, _)) => Err(refusal),
-    }
-}
-
-/// What is said of a second plan behind a first.
-#[tactic(auto, unfolding(crate::specs::Checking::outcome_of, crate::specs::Checking::checked))]
-fn judge_second(alloc: Global, first: CheckedPlan, text: &[u8]) -> Result<Verdict, AllocError>
-    ensures { IfOk result (λ verdict. outcome_of verdict ≡ of_second first.description first.plan (planned text.now)) }
-{
-    match planned(alloc, text) {
-        Err(PlanTextError::Line(line)) => Ok(Verdict::SecondPlanLine(line)),
-        Err(PlanTextError::Memory) => Err(AllocError),
-        Ok((second, _)) => match following(first, second) {
-            Err(refusal) => Ok(Verdict::SecondRefused(refusal)),
-            Ok(()) => Ok(Verdict::Accepted),
-        },
-    }
-}
-
-/// What is said of the plans for a description.
-#[tactic(auto, unfolding(crate::specs::Checking::outcome_of, crate::specs::Checking::checked))]
-fn judge_plans(
-    alloc: Global,
-    switch: bool,
-    description: Description,
-    text: &[u8],
-) -> Result<Verdict, AllocError>
-    ensures { IfOk result (λ verdict. outcome_of verdict ≡ of_plan switch description (planned text.now)) }
-{
-    match planned(alloc, text) {
-        Err(PlanTextError::Line(line)) => Ok(Verdict::PlanLine(line)),
-        Err(PlanTextError::Memory) => Err(AllocError),
-        Ok((plan, rest)) => match serving(description, plan) {
-            Err(refusal) => Ok(Verdict::Refused(refusal)),
-            Ok(first) => {
-                if switch {
-                    judge_second(alloc, first, rest)
-                } else {
-                    Ok(Verdict::Accepted)
-                }
+    match fault {
+        None => write_line(output, "accepted", &[]),
+        Some(fault) => {
+            if is_refusal(fault) {
+                write_fault(fault, output)
+            } else {
+                Ok(())
             }
-        },
+        }
     }
 }
 
-/// What is said of a job.
-#[tactic(auto, unfolding(crate::specs::Checking::outcome_of, crate::specs::Checking::checked))]
-fn judge(alloc: Global, switch: bool, bytes: &[u8]) -> Result<Verdict, AllocError>
-    ensures { IfOk result (λ verdict. outcome_of verdict ≡ checked switch bytes.now) }
+/// Tells what is no matter of the conditions.
+#[tactic(auto, unfolding(crate::specs::Checking::verdict_of))]
+fn tell_other<E: Sink>(fault: Option<JobFault>, faults: &mut E)
+    ensures { Tells (writes E.Sink faults.old faults.new) (verdict_of (option_map fault_view fault)).told }
 {
-    let Some((description, plans)) = job_at(bytes) else {
-        return Ok(Verdict::NoPlan);
-    };
-    match described(alloc, description) {
-        Err(DescError::Refused(fault)) => Ok(Verdict::Description(fault)),
-        Err(DescError::Memory) => Err(AllocError),
-        Ok(description) => judge_plans(alloc, switch, description, plans),
+    if let Some(fault) = fault {
+        if !is_refusal(fault) {
+            tell_fault(fault, faults);
+        }
     }
 }
 
-/// Says what the first fault of the input's job is, and answers the status.
+/// The status.
+#[tactic(auto, unfolding(crate::specs::Checking::verdict_of))]
+fn status_of(fault: Option<JobFault>) -> u8
+    ensures { result ≡ (verdict_of (option_map fault_view fault)).status }
+{
+    match fault {
+        None => 0,
+        Some(_) => 1,
+    }
+}
+
+/// Says what is first wrong with the input's job, and answers the status.
 pub fn check_job<R: Source, W: Sink, E: Sink>(
     alloc: Global,
     switch: bool,
@@ -123,25 +75,19 @@ pub fn check_job<R: Source, W: Sink, E: Sink>(
     output: &mut W,
     faults: &mut E,
 ) -> u8
-    ensures { Performs (checked switch)
-        (record { bytes = R.remaining input.old; failed = R.fault_count input.old })
-        (record { bytes = R.remaining input.new; failed = R.fault_count input.new })
-        (record { bytes = W.contents output.old; failed = W.fault_count output.old })
-        (record { bytes = W.contents output.new; failed = W.fault_count output.new })
-        (record { bytes = E.contents faults.old; failed = E.fault_count faults.old })
-        (record { bytes = E.contents faults.new; failed = E.fault_count faults.new })
-        result }
+    ensures { Performs (Checks switch) (reads R.Source input.old input.new)
+        (writes W.Sink output.old output.new) (writes E.Sink faults.old faults.new) result }
 {
     let bytes = match read_whole(alloc, input) {
         Ok(bytes) => bytes,
         Err(halt) => return halted(faults, halt),
     };
-    let Ok(verdict) = judge(alloc, switch, &bytes) else {
+    let Ok(fault) = judge(alloc, switch, &bytes) else {
         return halted(faults, Halt::Memory);
     };
-    if let Err(halt) = say(verdict, output) {
+    if let Err(halt) = say(fault, output) {
         return halted(faults, halt);
     }
-    tell_fault(verdict, faults);
-    status_of(verdict)
+    tell_other(fault, faults);
+    status_of(fault)
 }

@@ -2,10 +2,11 @@
 ghost use Rattle.std.specs.Prelude.{◌≡◌, ◌++◌, ◌<◌, [], false, true, IfOk, OnOk, length, map, string_bytes};
 ghost use Rattle.demux.specs.Shown.{finding_view};
 ghost use Rattle.demux.specs.Stream as stream;
-ghost use Rattle.tsmux.specs.Demultiplexing.{IsBetween, ListsPackets, demultiplexed, findings_of};
+ghost use Rattle.tsmux.specs.Devices.{reads, writes};
+ghost use Rattle.tsmux.specs.Demultiplexing.{Demultiplexes, ListsPackets, findings_of};
 ghost use Rattle.tsmux.specs.FindingLines.{finding_lines, has_fault};
-ghost use Rattle.tsmux.specs.Halts.{Performs};
 ghost use Rattle.tsmux.specs.Passing.{Passes, WritesAll};
+ghost use Rattle.tsmux.specs.Performing.{Streams};
 
 use crate::finding_lines::{has_fault, write_findings};
 use crate::halt::{Halt, halted};
@@ -21,8 +22,7 @@ const ROOM: usize = 1 << 12;
 /// Passes the lines of findings on, and says whether one is a fault.
 fn list<W: Sink>(found: &[Finding<'_>], text: &mut String, output: &mut W) -> Result<bool, Halt>
     ensures passes { Passes (string_bytes text.old) (string_bytes text.new) (finding_lines (map finding_view found.now))
-        (record { bytes = W.contents output.old; failed = W.fault_count output.old })
-        (record { bytes = W.contents output.new; failed = W.fault_count output.new }) result }
+        (writes W.Sink output.old output.new) result }
     ensures fault { IfOk result (λ faulty. faulty ≡ has_fault (map finding_view found.now)) }
 {
     let Ok(()) = write_findings(text, found) else {
@@ -40,13 +40,13 @@ fn list_packet<'a, W: Sink>(
     text: &mut String,
     output: &mut W,
 ) -> Result<bool, Halt>
-    requires between { IsBetween demux.old }
+    requires aligned { stream.is_aligned demux.old ≡ true }
     requires empty { found.old.items ≡ [] }
     ensures state { OnOk result (demux.new ≡ stream.taken demux.old packet.now) }
     ensures empty { OnOk result (found.new.items ≡ []) }
+    ensures aligned { stream.is_aligned demux.new ≡ true }
     ensures passes { Passes (string_bytes text.old) (string_bytes text.new) (finding_lines (stream.found_in demux.old packet.now))
-        (record { bytes = W.contents output.old; failed = W.fault_count output.old })
-        (record { bytes = W.contents output.new; failed = W.fault_count output.new }) result }
+        (writes W.Sink output.old output.new) result }
     ensures fault { IfOk result (λ faulty. faulty ≡ has_fault (stream.found_in demux.old packet.now)) }
 {
     let Ok(()) = demux.take(packet, found) else {
@@ -68,16 +68,15 @@ fn list_packets<'a, W: Sink>(
     requires start { demux.old ≡ stream.start }
     requires empty { string_bytes text.old ≡ [] }
     ensures { ListsPackets (λ rest. rest.now) bytes.entry.now demux.new (string_bytes text.new)
-        (record { bytes = W.contents output.old; failed = W.fault_count output.old })
-        (record { bytes = W.contents output.new; failed = W.fault_count output.new }) result }
+        (writes W.Sink output.old output.new) result }
 {
     let mut faulty = false;
     let mut found = Vec::new(alloc);
     let mut rest = bytes;
-    while let Some((packet, behind)) = rest.split_first_chunk::<188>() {
+    while let Some((packet, after)) = rest.split_first_chunk::<188>() {
         let here = list_packet(demux, packet, &mut found, text, output)?;
         faulty |= here;
-        rest = behind;
+        rest = after;
     }
     Ok((faulty, rest))
 }
@@ -90,8 +89,7 @@ fn list_end<W: Sink>(
     output: &mut W,
 ) -> Result<bool, Halt>
     ensures passes { Passes (string_bytes text.old) (string_bytes text.new) (finding_lines (stream.finished (stream.pushed demux.old rest.now)).found)
-        (record { bytes = W.contents output.old; failed = W.fault_count output.old })
-        (record { bytes = W.contents output.new; failed = W.fault_count output.new }) result }
+        (writes W.Sink output.old output.new) result }
     ensures fault { IfOk result (λ faulty. faulty ≡ has_fault (stream.finished (stream.pushed demux.old rest.now)).found) }
 {
     let Ok(()) = demux.push(rest) else {
@@ -106,8 +104,7 @@ fn list_end<W: Sink>(
 /// Lists all that is found in a stream, and says whether there is a fault.
 fn list_whole<W: Sink>(alloc: Global, bytes: &[u8], output: &mut W) -> Result<bool, Halt>
     ensures writes { WritesAll (finding_lines (findings_of bytes.now))
-        (record { bytes = W.contents output.old; failed = W.fault_count output.old })
-        (record { bytes = W.contents output.new; failed = W.fault_count output.new }) result }
+        (writes W.Sink output.old output.new) result }
     ensures fault { IfOk result (λ faulty. faulty ≡ has_fault (findings_of bytes.now)) }
 {
     let Ok(mut text) = String::with_capacity(alloc, PIECE + ROOM) else {
@@ -127,13 +124,10 @@ pub fn demultiplex<R: Source, W: Sink, E: Sink>(
     output: &mut W,
     faults: &mut E,
 ) -> u8
-    ensures { Performs demultiplexed
-        (record { bytes = R.remaining input.old; failed = R.fault_count input.old })
-        (record { bytes = R.remaining input.new; failed = R.fault_count input.new })
-        (record { bytes = W.contents output.old; failed = W.fault_count output.old })
-        (record { bytes = W.contents output.new; failed = W.fault_count output.new })
-        (record { bytes = E.contents faults.old; failed = E.fault_count faults.old })
-        (record { bytes = E.contents faults.new; failed = E.fault_count faults.new })
+    ensures { Streams Demultiplexes
+        (reads R.Source input.old input.new)
+        (writes W.Sink output.old output.new)
+        (writes E.Sink faults.old faults.new)
         result }
 {
     let bytes = match read_whole(alloc, input) {

@@ -48,7 +48,7 @@ fn dts_of(stamps: Stamps) -> Option<u64>
     }
 }
 
-/// Appends a PES packet with its stream_id, its stamps and the bytes behind its header.
+/// Appends a PES packet with its stream_id, its stamps and the bytes after its header.
 fn write_pes(
     text: &mut String,
     header: &PesHeader,

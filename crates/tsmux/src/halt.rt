@@ -1,5 +1,6 @@
 //! Why a subcommand ends before its time.
 ghost use Rattle.std.specs.Prelude.{◌≡◌};
+ghost use Rattle.tsmux.specs.Devices.{writes};
 ghost use Rattle.tsmux.specs.Lines.{Tells};
 ghost use Rattle.tsmux.specs.Halts.{halt_line};
 
@@ -20,8 +21,7 @@ pub enum Halt {
 /// Tells why a subcommand ended before its time, and answers the status.
 pub fn halted<E: Sink>(faults: &mut E, halt: Halt) -> u8
     ensures status { result ≡ 3 }
-    ensures tells { Tells (record { bytes = E.contents faults.old; failed = E.fault_count faults.old })
-        (record { bytes = E.contents faults.new; failed = E.fault_count faults.new }) (halt_line halt) }
+    ensures tells { Tells (writes E.Sink faults.old faults.new) (halt_line halt) }
 {
     match halt {
         Halt::Read => tell(faults, "read", &[]),

@@ -1,8 +1,9 @@
 //! Lines of text: a name, numbers in decimal digits, and LF.
 ghost use Rattle.std.specs.Prelude.{◌≡◌, ◌++◌, ◌∷◌, [], ◌+◌, ◌*◌, ◌≤◌, length, decimal};
 ghost use Rattle.arrayvec.specs.ArrayVec.{array_vec_len};
+ghost use Rattle.tsmux.specs.Devices.{writes};
 ghost use Rattle.tsmux.specs.Lines.{line_text, Tells};
-ghost use Rattle.tsmux.specs.Passing.{WritesAll};
+ghost use Rattle.tsmux.specs.Passing.{WritesLine};
 
 use crate::halt::Halt;
 use arrayvec::ArrayVec;
@@ -12,7 +13,7 @@ use ts_packet::{Sink, write_part};
 /// The room of a line: a name of up to 40 bytes, five numbers of up to 128 bits with a space before each, and LF.
 const ROOM: usize = 256;
 
-/// Puts bytes behind those of a line.
+/// Appends bytes to a line.
 fn append(line: &mut ArrayVec<u8, ROOM>, bytes: &[u8])
     requires { array_vec_len line.old + length bytes.now ≤ 256 }
     ensures items { line.new.items ≡ line.old.items ++ bytes.now }
@@ -21,7 +22,7 @@ fn append(line: &mut ArrayVec<u8, ROOM>, bytes: &[u8])
     let _ = line.try_extend_from_slice(bytes);
 }
 
-/// Puts a space and a number behind the bytes of a line.
+/// Appends a space and a number to a line.
 fn append_number(line: &mut ArrayVec<u8, ROOM>, number: u128)
     requires { array_vec_len line.old + 41 ≤ 256 }
     ensures items { line.new.items ≡ line.old.items ++ (32 ∷ decimal number) }
@@ -52,9 +53,8 @@ fn line(name: &str, numbers: &[u128]) -> ArrayVec<u8, ROOM>
 pub fn write_line<W: Sink>(to: &mut W, name: &str, numbers: &[u128]) -> Result<(), Halt>
     requires name { length name.now ≤ 40 }
     requires numbers { length numbers.now ≤ 5 }
-    ensures { WritesAll (line_text name.now numbers.now)
-        (record { bytes = W.contents to.old; failed = W.fault_count to.old })
-        (record { bytes = W.contents to.new; failed = W.fault_count to.new }) result }
+    ensures { WritesLine (line_text name.now numbers.now)
+        (writes W.Sink to.old to.new) result }
 {
     let text = line(name, numbers);
     match write_part(to, text.as_slice()) {
@@ -67,8 +67,7 @@ pub fn write_line<W: Sink>(to: &mut W, name: &str, numbers: &[u128]) -> Result<(
 pub fn tell<W: Sink>(to: &mut W, name: &str, numbers: &[u128])
     requires name { length name.now ≤ 40 }
     requires numbers { length numbers.now ≤ 5 }
-    ensures { Tells (record { bytes = W.contents to.old; failed = W.fault_count to.old })
-        (record { bytes = W.contents to.new; failed = W.fault_count to.new }) (line_text name.now numbers.now) }
+    ensures { Tells (writes W.Sink to.old to.new) (line_text name.now numbers.now) }
 {
     let text = line(name, numbers);
     let _ = write_part(to, text.as_slice());

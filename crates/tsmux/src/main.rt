@@ -1,17 +1,21 @@
 //! `tsmux`: a constant-rate MPEG-2 transport stream multiplexer (ISO/IEC 13818-1, EN 300 468, TR 101 290).
 //!
 //! `command_line`, `options` and `request` read the words. Each subcommand has a module: `carrying`; `demultiplexing`, with
-//! the lines of `finding_lines` on their way by `passing`; `checking`, of the jobs that `jobs` cuts, with the `verdict`.
-//! `whole_input` reads an input, `lines` writes lines of numbers, `halt` is what ends a subcommand before its time.
-//! `program` is `run`, the whole program over any reader and writers, which `main` joins to the real ones.
+//! the lines of `finding_lines` on their way by `passing`; `checking`, of the job that `jobs` reads, with `job_fault`, what
+//! is first wrong with it. `whole_input` reads an input, `lines` writes lines of numbers, `fault_lines` those of records and
+//! units, `halt` is what ends a subcommand before its time. `program` is `run`, the whole program over any reader and
+//! writers, which `main` joins to the real ones.
 #![tactic(auto)]
 
 mod carrying;
 mod checking;
 mod command_line;
 mod demultiplexing;
+mod fault_lines;
 mod finding_lines;
 mod halt;
+mod job_fault;
+mod job_parts;
 mod jobs;
 mod lines;
 mod options;
@@ -20,10 +24,10 @@ mod program;
 mod request;
 #[cfg(test)]
 mod tests;
-mod verdict;
 mod whole_input;
 
-use program::run;
+use halt::{Halt, halted};
+use program::{run, tell_usage};
 use std::env;
 use std::io::BufReader;
 use std::process::ExitCode;
@@ -33,23 +37,23 @@ use ts_packet::Counted;
 const INPUT_ROOM: usize = 1 << 18;
 
 fn main(rt: HostRuntime) -> ExitCode {
-    let Ok(reader) = BufReader::with_capacity(rt.alloc(), INPUT_ROOM, rt.stdin()) else {
-        return ExitCode::from(3);
-    };
-    let mut input = Counted::new(reader);
-    let mut output = Counted::new(rt.stdout());
     let mut faults = Counted::new(rt.stderr());
     let Ok(args) = env::args(&rt) else {
-        return ExitCode::from(2);
+        return ExitCode::from(tell_usage(&mut faults));
     };
     let words: Vec<String> = match args.skip(1).collect(rt.alloc()) {
         Ok(words) => words,
-        Err(_) => return ExitCode::from(3),
+        Err(_) => return ExitCode::from(halted(&mut faults, Halt::Memory)),
     };
     let texts: Vec<&str> = match words.iter().map(|word| word.as_str()).collect(rt.alloc()) {
         Ok(texts) => texts,
-        Err(_) => return ExitCode::from(3),
+        Err(_) => return ExitCode::from(halted(&mut faults, Halt::Memory)),
     };
+    let Ok(reader) = BufReader::with_capacity(rt.alloc(), INPUT_ROOM, rt.stdin()) else {
+        return ExitCode::from(halted(&mut faults, Halt::Memory));
+    };
+    let mut input = Counted::new(reader);
+    let mut output = Counted::new(rt.stdout());
     let status = run(
         rt.alloc(),
         texts.as_slice(),

@@ -1,5 +1,6 @@
 //! Text on its way to a writer, in pieces of 64 KiB.
 ghost use Rattle.std.specs.Prelude.{◌≡◌, [], ◌++◌, OnOk, string_bytes};
+ghost use Rattle.tsmux.specs.Devices.{writes};
 ghost use Rattle.tsmux.specs.Passing.{Passes};
 
 use crate::halt::Halt;
@@ -8,11 +9,10 @@ use ts_packet::{Sink, write_part};
 /// The bytes of a piece.
 pub const PIECE: usize = 1 << 16;
 
-/// Writes the text that is held.
+/// Writes the text that waits.
 pub fn flush<W: Sink>(text: &mut String, to: &mut W) -> Result<(), Halt>
     ensures passes { Passes (string_bytes text.old) (string_bytes text.new) []
-        (record { bytes = W.contents to.old; failed = W.fault_count to.old })
-        (record { bytes = W.contents to.new; failed = W.fault_count to.new }) result }
+        (writes W.Sink to.old to.new) result }
     ensures all { OnOk result (string_bytes text.new ≡ []) }
 {
     let Ok(()) = write_part(to, text.as_bytes()) else {
@@ -22,11 +22,10 @@ pub fn flush<W: Sink>(text: &mut String, to: &mut W) -> Result<(), Halt>
     Ok(())
 }
 
-/// Writes the text that is held once it is a piece.
+/// Writes the text that waits once it is a piece.
 pub fn flush_piece<W: Sink>(text: &mut String, to: &mut W) -> Result<(), Halt>
     ensures { Passes (string_bytes text.old) (string_bytes text.new) []
-        (record { bytes = W.contents to.old; failed = W.fault_count to.old })
-        (record { bytes = W.contents to.new; failed = W.fault_count to.new }) result }
+        (writes W.Sink to.old to.new) result }
 {
     if text.len() < PIECE {
         Ok(())

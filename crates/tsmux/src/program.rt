@@ -1,23 +1,24 @@
 //! The program over any reader and writers.
-ghost use Rattle.std.specs.Prelude.{◌≡◌, ◌⊎◌, Bool, None, Some, map};
-ghost use Rattle.tsmux.specs.Request.{requested};
+ghost use Rattle.std.specs.Prelude.{◌≡◌, ◌⊎◌, Bool, None, Some};
 ghost use Rattle.tsmux.specs.Carrying.{Carries};
-ghost use Rattle.tsmux.specs.Checking.{checked};
-ghost use Rattle.tsmux.specs.Demultiplexing.{demultiplexed};
-ghost use Rattle.tsmux.specs.Halts.{Performs};
-ghost use Rattle.tsmux.specs.Program.{IsUsage, LacksMemory};
-ghost use Rattle.tsmux.specs.declared.request.Request.TheVariants as asked;
+ghost use Rattle.tsmux.specs.Checking.{Checks};
+ghost use Rattle.tsmux.specs.Demultiplexing.{Demultiplexes};
+ghost use Rattle.tsmux.specs.Devices.{reads, writes};
+ghost use Rattle.tsmux.specs.Performing.{LacksMemory, Performs, Streams};
+ghost use Rattle.tsmux.specs.Program.{IsUsage};
+ghost use Rattle.tsmux.specs.Request.{asked};
 ghost use Rattle.tsmux.specs.declared.request.Carriage.{Carriage};
+ghost use Rattle.tsmux.specs.declared.request.Request.TheVariants.{Carry, Check, Demux};
 
 use crate::carrying::carry_records;
 use crate::checking::check_job;
 use crate::demultiplexing::demultiplex;
-use crate::lines::tell;
+use crate::halt::{Halt, halted};
 use crate::request::{Request, requested};
 use std::alloc::Global;
 use ts_packet::{Sink, Source, write_part};
 
-/// What is told where the words are no use of the program.
+/// What is told of a usage error.
 const USAGE: &str =
     "usage: tsmux carry [--hex] [--pid 32..8190] [--id 189|192..239] < RECORDS > PACKETS
        tsmux demux < PACKETS > FINDINGS
@@ -25,8 +26,16 @@ const USAGE: &str =
 with no words: tsmux carry --hex
 ";
 
+/// Tells how the program is used, and answers the status.
+pub fn tell_usage<E: Sink>(faults: &mut E) -> u8
+    ensures { result ≡ 2 }
+{
+    let _ = write_part(faults, USAGE.as_bytes());
+    2
+}
+
 /// The whole program: it reads the input, writes the output, tells of faults on the second writer, and answers the exit
-/// status: 0 good, 1 refused or a fault found, 2 the words are no use of the program, 3 a device or want of memory.
+/// status: 0 good, 1 refused or a fault found, 2 a usage error, 3 a device or want of memory.
 pub fn run<R: Source, W: Sink, E: Sink>(
     alloc: Global,
     words: &[&str],
@@ -35,87 +44,25 @@ pub fn run<R: Source, W: Sink, E: Sink>(
     faults: &mut E,
 ) -> u8
     // Unit records to packets.
-    ensures carry { (c : Carriage) → requested (map (λ s. s.now) words.now) ≡ Some (asked.Carry c) →
-        Carries c
-        (record { bytes = R.remaining input.old; failed = R.fault_count input.old })
-        (record { bytes = R.remaining input.new; failed = R.fault_count input.new })
-        (record { bytes = W.contents output.old; failed = W.fault_count output.old })
-        (record { bytes = W.contents output.new; failed = W.fault_count output.new })
-        (record { bytes = E.contents faults.old; failed = E.fault_count faults.old })
-        (record { bytes = E.contents faults.new; failed = E.fault_count faults.new })
-        result
-        ⊎ LacksMemory
-        (record { bytes = R.remaining input.old; failed = R.fault_count input.old })
-        (record { bytes = R.remaining input.new; failed = R.fault_count input.new })
-        (record { bytes = W.contents output.old; failed = W.fault_count output.old })
-        (record { bytes = W.contents output.new; failed = W.fault_count output.new })
-        (record { bytes = E.contents faults.old; failed = E.fault_count faults.old })
-        (record { bytes = E.contents faults.new; failed = E.fault_count faults.new })
-        result }
+    ensures carry { (c : Carriage) → asked words.now ≡ Some (Carry c) →
+        Carries c (reads R.Source input.old input.new) (writes W.Sink output.old output.new) (writes E.Sink faults.old faults.new) result
+        ⊎ LacksMemory (reads R.Source input.old input.new) (writes W.Sink output.old output.new) (writes E.Sink faults.old faults.new) result }
     // Packets to a line for each finding.
-    ensures demux { requested (map (λ s. s.now) words.now) ≡ Some asked.Demux →
-        Performs demultiplexed
-        (record { bytes = R.remaining input.old; failed = R.fault_count input.old })
-        (record { bytes = R.remaining input.new; failed = R.fault_count input.new })
-        (record { bytes = W.contents output.old; failed = W.fault_count output.old })
-        (record { bytes = W.contents output.new; failed = W.fault_count output.new })
-        (record { bytes = E.contents faults.old; failed = E.fault_count faults.old })
-        (record { bytes = E.contents faults.new; failed = E.fault_count faults.new })
-        result
-        ⊎ LacksMemory
-        (record { bytes = R.remaining input.old; failed = R.fault_count input.old })
-        (record { bytes = R.remaining input.new; failed = R.fault_count input.new })
-        (record { bytes = W.contents output.old; failed = W.fault_count output.old })
-        (record { bytes = W.contents output.new; failed = W.fault_count output.new })
-        (record { bytes = E.contents faults.old; failed = E.fault_count faults.old })
-        (record { bytes = E.contents faults.new; failed = E.fault_count faults.new })
-        result }
+    ensures demux { asked words.now ≡ Some Demux →
+        Streams Demultiplexes (reads R.Source input.old input.new) (writes W.Sink output.old output.new) (writes E.Sink faults.old faults.new) result }
     // A job to what is said of it.
-    ensures check { (switch : Bool) → requested (map (λ s. s.now) words.now) ≡ Some (asked.Check switch) →
-        Performs (checked switch)
-        (record { bytes = R.remaining input.old; failed = R.fault_count input.old })
-        (record { bytes = R.remaining input.new; failed = R.fault_count input.new })
-        (record { bytes = W.contents output.old; failed = W.fault_count output.old })
-        (record { bytes = W.contents output.new; failed = W.fault_count output.new })
-        (record { bytes = E.contents faults.old; failed = E.fault_count faults.old })
-        (record { bytes = E.contents faults.new; failed = E.fault_count faults.new })
-        result
-        ⊎ LacksMemory
-        (record { bytes = R.remaining input.old; failed = R.fault_count input.old })
-        (record { bytes = R.remaining input.new; failed = R.fault_count input.new })
-        (record { bytes = W.contents output.old; failed = W.fault_count output.old })
-        (record { bytes = W.contents output.new; failed = W.fault_count output.new })
-        (record { bytes = E.contents faults.old; failed = E.fault_count faults.old })
-        (record { bytes = E.contents faults.new; failed = E.fault_count faults.new })
-        result }
+    ensures check { (switch : Bool) → asked words.now ≡ Some (Check switch) →
+        Performs (Checks switch) (reads R.Source input.old input.new) (writes W.Sink output.old output.new) (writes E.Sink faults.old faults.new) result }
     // All other words.
-    ensures usage { requested (map (λ s. s.now) words.now) ≡ None →
-        IsUsage
-        (record { bytes = R.remaining input.old; failed = R.fault_count input.old })
-        (record { bytes = R.remaining input.new; failed = R.fault_count input.new })
-        (record { bytes = W.contents output.old; failed = W.fault_count output.old })
-        (record { bytes = W.contents output.new; failed = W.fault_count output.new })
-        result
-        ⊎ LacksMemory
-        (record { bytes = R.remaining input.old; failed = R.fault_count input.old })
-        (record { bytes = R.remaining input.new; failed = R.fault_count input.new })
-        (record { bytes = W.contents output.old; failed = W.fault_count output.old })
-        (record { bytes = W.contents output.new; failed = W.fault_count output.new })
-        (record { bytes = E.contents faults.old; failed = E.fault_count faults.old })
-        (record { bytes = E.contents faults.new; failed = E.fault_count faults.new })
-        result }
+    ensures usage { asked words.now ≡ None →
+        IsUsage (reads R.Source input.old input.new) (writes W.Sink output.old output.new) result
+        ⊎ LacksMemory (reads R.Source input.old input.new) (writes W.Sink output.old output.new) (writes E.Sink faults.old faults.new) result }
 {
     match requested(alloc, words) {
         Ok(Some(Request::Carry(carriage))) => carry_records(alloc, carriage, input, output, faults),
         Ok(Some(Request::Demux)) => demultiplex(alloc, input, output, faults),
         Ok(Some(Request::Check { switch })) => check_job(alloc, switch, input, output, faults),
-        Ok(None) => {
-            let _ = write_part(faults, USAGE.as_bytes());
-            2
-        }
-        Err(_) => {
-            tell(faults, "memory", &[]);
-            3
-        }
+        Ok(None) => tell_usage(faults),
+        Err(_) => halted(faults, Halt::Memory),
     }
 }

@@ -1,5 +1,5 @@
 //! What the words of the command line ask for.
-ghost use Rattle.std.specs.Prelude.{◌≡◌, ℕ, IfOk, IfSome, map, option_map, ◌<◌, ◌≤◌};
+ghost use Rattle.std.specs.Prelude.{◌≡◌, ℕ, IfOk, IfSome, option_map, ◌<◌, ◌≤◌};
 ghost use Rattle.clap.specs.Words.{Row, Text, found_of, rows_of, subcommand_rows_of};
 ghost use Rattle.tsmux.specs.Request as asked;
 
@@ -89,10 +89,9 @@ fn subcommand_request(matches: &ArgMatches<'_>) -> Option<Request>
     }
 }
 
-/// What the words ask for: none where they are no use of the program. No words are those of
-/// `carry --hex`.
+/// What the words ask for: none where they are a usage error. No words are those of `carry --hex`.
 pub fn requested(alloc: Global, words: &[&str]) -> Result<Option<Request>, AllocError>
-    ensures value { IfOk result (λ r. r ≡ asked.requested (map (λ s. s.now) words.now)) }
+    ensures value { IfOk result (λ r. r ≡ asked.asked words.now) }
     ensures fits { IfOk result (λ r. asked.Fits r) }
 {
     if words.is_empty() {

@@ -98,6 +98,28 @@ fn takes_options(rt: HostRuntime) -> Result<(), Fail> {
     Ok(())
 }
 
+/// All options at once, in each order, and a number with leading zeros.
+#[test]
+fn takes_all_options(rt: HostRuntime) -> Result<(), Fail> {
+    let alloc = rt.alloc();
+    let words = ["carry", "--hex", "--pid", "8190", "--id", "239"];
+    let outcome = ran_on(alloc, words.as_slice(), RECORD.as_slice());
+    assert_told(&rt, &outcome, 0, b"");
+    assert_eq!(rt; outcome.output.len(), 377);
+    assert!(rt; outcome.output.as_slice().starts_with(b"475ffe30a600ff"));
+    assert!(rt;
+        outcome
+            .output
+            .as_slice()
+            .ends_with(b"000001ef000b808005210005bf21414243\n")
+    );
+    let turned = ["carry", "--id=000239", "--pid", "08190", "--hex"];
+    let again = ran_on(alloc, turned.as_slice(), RECORD.as_slice());
+    assert_told(&rt, &again, 0, b"");
+    assert_eq!(rt; again.output.as_slice(), outcome.output.as_slice());
+    Ok(())
+}
+
 /// A record that ends early, a unit that is too soon, and a size that is refused by its first five bytes.
 #[test]
 fn tells_of_a_refusal(rt: HostRuntime) -> Result<(), Fail> {
@@ -126,7 +148,7 @@ fn assert_usage(rt: &impl Abort, alloc: Global, words: &[&str]) {
     assert!(rt; outcome.faults.as_slice().starts_with(b"usage: tsmux carry"));
 }
 
-/// Words that are no use of the program.
+/// Words that are a usage error.
 #[test]
 fn tells_the_usage(rt: HostRuntime) -> Result<(), Fail> {
     let alloc = rt.alloc();
@@ -140,6 +162,20 @@ fn tells_the_usage(rt: HostRuntime) -> Result<(), Fail> {
     assert_usage(&rt, alloc, ["carry", "--pid", "8191"].as_slice());
     assert_usage(&rt, alloc, ["carry", "--pid", "+40"].as_slice());
     assert_usage(&rt, alloc, ["carry", "--pid", ""].as_slice());
+    assert_usage(&rt, alloc, ["carry", "--pid", "-40"].as_slice());
+    assert_usage(&rt, alloc, ["carry", "--pid", "4x"].as_slice());
+    assert_usage(&rt, alloc, ["carry", "--pid"].as_slice());
+    assert_usage(
+        &rt,
+        alloc,
+        ["carry", "--pid", "18446744073709551872"].as_slice(),
+    );
+    assert_usage(
+        &rt,
+        alloc,
+        ["carry", "--pid", "40", "--pid", "40"].as_slice(),
+    );
+    assert_usage(&rt, alloc, ["carry", "--id", "188"].as_slice());
     assert_usage(&rt, alloc, ["carry", "--id", "191"].as_slice());
     assert_usage(&rt, alloc, ["carry", "--id", "240"].as_slice());
     assert_usage(&rt, alloc, ["demux", "--hex"].as_slice());

@@ -2,7 +2,8 @@
 ghost use Rattle.std.specs.Prelude.{◌≡◌, ◌⊎◌, ◌+◌, ◌<◌, ◌≤◌, ◌++◌, ℕ, List, [], Some, IfOk, IfErr, OnOk, OnErr, length, take};
 ghost use Rattle.std.specs.Result.{result_map_both};
 ghost use Rattle.ts_packet.specs.Device.{Failed};
-ghost use Rattle.tsmux.specs.Halts.{ReadsInput, ReadsMore, longest_input};
+ghost use Rattle.tsmux.specs.Devices.{reads};
+ghost use Rattle.tsmux.specs.WholeInput.{ReadsInput, ReadsMore, longest_input};
 
 use crate::halt::Halt;
 use std::alloc::Global;
@@ -25,11 +26,10 @@ fn room(alloc: Global, size: usize) -> Result<Vec<u8>, Halt>
     }
 }
 
-/// Puts the next bytes of the input behind those that were read, and says whether it ended there.
+/// Appends the next bytes of the input to those that were read, and says whether it ended there.
 fn read_more<R: Source>(input: &mut R, piece: &mut [u8], bytes: &mut Vec<u8>) -> Result<bool, Halt>
     requires { 0 < length piece.old }
-    ensures { ReadsMore (record { bytes = R.remaining input.old; failed = R.fault_count input.old })
-        (record { bytes = R.remaining input.new; failed = R.fault_count input.new }) bytes.old.items bytes.new.items result }
+    ensures { ReadsMore (reads R.Source input.old input.new) bytes.old.items bytes.new.items result }
 {
     let Ok(n) = read_part(input, piece) else {
         return Err(Halt::Read);
@@ -55,8 +55,7 @@ fn within(bytes: Vec<u8>) -> Result<Vec<u8>, Halt>
 /// Reads the whole input piece by piece.
 fn read_by<R: Source>(alloc: Global, input: &mut R, piece: &mut [u8]) -> Result<Vec<u8>, Halt>
     requires { 0 < length piece.old }
-    ensures { ReadsInput (record { bytes = R.remaining input.old; failed = R.fault_count input.old })
-        (record { bytes = R.remaining input.new; failed = R.fault_count input.new })
+    ensures { ReadsInput (reads R.Source input.old input.new)
         (result_map_both (λ bytes. bytes.items) (λ halt. halt) result) }
 {
     let mut bytes = Vec::new(alloc);
@@ -70,8 +69,7 @@ fn read_by<R: Source>(alloc: Global, input: &mut R, piece: &mut [u8]) -> Result<
 
 /// Reads the whole input, of 2^40 bytes at most.
 pub fn read_whole<R: Source>(alloc: Global, input: &mut R) -> Result<Vec<u8>, Halt>
-    ensures { ReadsInput (record { bytes = R.remaining input.old; failed = R.fault_count input.old })
-        (record { bytes = R.remaining input.new; failed = R.fault_count input.new })
+    ensures { ReadsInput (reads R.Source input.old input.new)
         (result_map_both (λ bytes. bytes.items) (λ halt. halt) result) }
 {
     let mut piece = room(alloc, PIECE)?;

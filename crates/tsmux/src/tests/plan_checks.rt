@@ -79,7 +79,7 @@ fn accepts_a_plan(rt: HostRuntime) -> Result<(), Fail> {
     Ok(())
 }
 
-/// A plan without its stream's claims, alone and behind one that serves: the refusal is on the output.
+/// A plan without its stream's claims, alone and after one that serves: the refusal is on the output.
 #[test]
 fn refuses_a_plan(rt: HostRuntime) -> Result<(), Fail> {
     let alloc = rt.alloc();

@@ -1,6 +1,6 @@
 use Rattle.std.proofs.Common.{◌∙◌, ℕ, Vec, Global}
-use Rattle.tsmux.specs.Lines.{Port}
-use Rattle.tsmux.proofs.Reading.{behind_more, read_to_end}
+use Rattle.tsmux.specs.Devices.{Port}
+use Rattle.tsmux.proofs.Reading.{after_more, read_to_end}
 use Rattle.tsmux.proofs.whole_input.read_by.Goals as goal
 
 pub returns-then-branch : goal.returns-then-branch
@@ -18,5 +18,5 @@ loop-input-preserved g c =
     let new : Port = record { bytes = g.R.Read.remaining c.read_more.new.input; failed = g.R.Source.fault_count c.read_more.new.input } in
     record {
       clean = c.in_ok-read_more.ensures.clean ∙ c.loop-input.invariant.clean;
-      known = behind_more old mid new c.loop-input.bytes.items c.read_more.new.bytes.items c.in_ok-read_more.field-0 c.loop-input.invariant.known c.in_ok-read_more.ensures;
+      known = after_more old mid new c.loop-input.bytes.items c.read_more.new.bytes.items c.in_ok-read_more.field-0 c.loop-input.invariant.known c.in_ok-read_more.ensures;
     }

@@ -1,6 +1,6 @@
 use Rattle.std.proofs.Common.{◌∙◌, inl, inr}
 use Rattle.tsmux.proofs.Judging.{described_text, no_text}
-use Rattle.tsmux.proofs.checking.described.Goals as goal
+use Rattle.tsmux.proofs.jobs.described.Goals as goal
 
 pub returns-in-Ok : goal.returns-in-Ok
 returns-in-Ok c = elim c.read.ensures [

@@ -1,5 +1,5 @@
 use Rattle.tsmux.proofs.Judging.{names_line, planned_rest}
-use Rattle.tsmux.proofs.checking.planned.Goals as goal
+use Rattle.tsmux.proofs.jobs.planned.Goals as goal
 
 pub returns-in-Ok-clause-read : goal.returns-in-Ok-clause-read
 returns-in-Ok-clause-read c = planned_rest c.args.text.now c.in-Ok.plan c.in-Ok.size c.in-Ok.ensures.read

@@ -1,10 +1,10 @@
-use Rattle.tsmux.specs.Checking.{fault_of}
-use Rattle.tsmux.proofs.checking.serving.Goals as goal
+use Rattle.tsmux.specs.Jobs.{second_fault_of}
+use Rattle.tsmux.proofs.jobs.following.Goals as goal
 
 pub returns-in-Ok-clause-fault : goal.returns-in-Ok-clause-fault
-unfolding fault_of
+unfolding second_fault_of
 returns-in-Ok-clause-fault c = c.in-Ok.ensures.refusal
 
 pub returns-clause-fault : goal.returns-clause-fault
-unfolding fault_of
+unfolding second_fault_of
 returns-clause-fault c = c.in-Err.ensures.refusal
