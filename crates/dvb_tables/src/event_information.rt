@@ -18,9 +18,6 @@ use psi_tables::{
 };
 use std::alloc::Allocator;
 
-/// The PID on which EITs are carried.
-pub const EIT_PID: u16 = 0x12;
-
 /// The table_id of an event information section of present and following events of the actual transport
 /// stream.
 pub const EIT_TABLE_ID: u8 = 0x4e;

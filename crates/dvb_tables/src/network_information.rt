@@ -18,9 +18,6 @@ use psi_tables::{
 };
 use std::alloc::Allocator;
 
-/// The PID on which NITs are carried.
-pub const NIT_PID: u16 = 0x10;
-
 /// The table_id of a network information section of the actual network.
 pub const NIT_TABLE_ID: u8 = 0x40;
 

@@ -17,9 +17,6 @@ use psi_tables::{
 };
 use std::alloc::Allocator;
 
-/// The PID on which SDTs are carried.
-pub const SDT_PID: u16 = 0x11;
-
 /// The table_id of a service description section of the actual transport stream.
 pub const SDT_TABLE_ID: u8 = 0x42;
 
