@@ -17,7 +17,7 @@ left_more t noted more all x left rest e m h =
     ap (λ (ys : List GivenView). ys ++ map t rest) m ∙ append_assoc noted (map t (x ∷ [])) (map t rest)
     ∙ ap (λ (xs : List Found). noted ++ map t xs) (sym e) ∙ h
 
--- notes one behind another, put to others
+-- notes one after another, put to others
 pub three_noted : {X : Type 0} (f : X → GivenView) (t : Found → GivenView) (out new n0 n1 n2 n3 : List X) (a : Found) (cut rest : List Found) →
     n0 ≡ [] → map f n1 ≡ map f n0 ++ map t (a ∷ []) → map f n2 ≡ map f n1 ++ map t cut → map f n3 ≡ map f n2 ++ map t rest → new ≡ out ++ n3 →
     map f new ≡ map f out ++ map t ((a ∷ cut) ++ rest)

@@ -1,4 +1,4 @@
--- What is open behind a packet, from what is open before it.
+-- What is open after a packet, from what is open before it.
 use Rattle.std.proofs.Common.{◌≡◌, ℕ, Bool, true, false, List, [], ◌∷◌, ◌++◌, Option, Some, None, refl, sym, ap, ◌∙◌, append_assoc}
 use Rattle.std.specs.Prelude.{option_and_then, option_map, ◌||◌, is_some}
 use Rattle.std.proofs.lemmas.List.{append-nil}
@@ -13,7 +13,7 @@ use Rattle.demux.proofs.Deciding.{last_undecided, undecided_before}
 some_is_not_none : (w : WhatView) → ◌≡◌ {A = Option WhatView} (Some w) None → ⊥
 some_is_not_none w e = absurd cc
 
--- what begins with more bytes behind it is the same with these bytes
+-- what begins with more bytes after it is the same with these bytes
 begins_more : (packet : ℕ) (r : Role) (a b : List ℕ) → begins packet r (a ++ b) ≡ option_map (λ p. grown p b) (begins packet r a)
 unfolding begins
 begins_more packet CarriesNothing a b = refl
@@ -27,7 +27,7 @@ begins_more packet (Points before bytes) a b = by_rest (last_in 0 bytes)
 begins_more packet PointsPast a b = refl
 begins_more packet (Continues payload) a b = refl
 
--- what begins with nothing behind it, if it is undecided
+-- what begins with nothing after it, if it is undecided
 begins_new : (packet : ℕ) (r : Role) (held : Option Begun) → role_divides r ≡ true → option_and_then undecided (begins packet r []) ≡ next_part packet r held
 unfolding begins next_part undecided unless_decided
 begins_new packet CarriesNothing held d = absurd cc
@@ -41,7 +41,7 @@ begins_new packet (Points before bytes) held d = by_rest (last_in 0 bytes) refl
 begins_new packet PointsPast held d = refl
 begins_new packet (Continues payload) held d = absurd cc
 
--- behind a break nothing is open but what begins
+-- after a break nothing is open but what begins
 begins_broken : (packet : ℕ) (r : Role) → option_and_then undecided (begins packet r []) ≡ next_part packet r None
 unfolding begins next_part
 begins_broken packet CarriesNothing = refl
@@ -82,12 +82,12 @@ stays_none packet (BeginsPes payload) d = absurd cc
 stays_none packet (Points before bytes) d = absurd cc
 stays_none packet PointsPast d = absurd cc
 
--- behind a packet that divides
+-- after a packet that divides
 divided : (m : Marked) (before : List Marked) → divides m ≡ true → open_part (m ∷ before) ≡ option_and_then undecided (begins m.entry.index (role m) [])
 unfolding open_part stretch divider joined
 divided m before d = rw d refl
 
--- behind a packet that does not
+-- after a packet that does not
 stretch_more : (m : Marked) (before : List Marked) → divides m ≡ false → stretch (m ∷ before) ≡ option_map (λ p. grown p (continuing (role m))) (stretch before)
 unfolding stretch divider joined
 stretch_more m before d = rw d (by_divider (divider before))
@@ -113,7 +113,7 @@ role_decides : (m : Marked) (t : Bool) → m.broken ≡ None → role_divides (r
 unfolding divides
 role_decides m t e r = ap (λ (b : Option (ℕ × ℕ)). is_some b || role_divides (role m)) e ∙ r
 
--- what is open behind a packet
+-- what is open after a packet
 pub open_more : (m : Marked) (before : List Marked) → open_part (m ∷ before) ≡ next_part m.entry.index (role m) (unbroken m.broken (open_part before))
 unfolding unbroken
 open_more m before = by_break m.broken refl

@@ -19,7 +19,7 @@ completed_whole : (s : StreamState) (held : List ℕ) → length held ≡ 188 �
 unfolding completed
 completed_whole s held h = rw (is_whole (length held) h) refl
 
--- one piece behind another
+-- one piece after another
 pub pushed_append : (s : StreamState) (xs ys : List ℕ) → pushed s (xs ++ ys) ≡ pushed (pushed s xs) ys
 pushed_append s [] ys = refl
 pushed_append s (x ∷ xs) ys = pushed_append (completed s (s.held ++ x ∷ [])) xs ys

@@ -18,7 +18,7 @@ step_opens before s entry h =
     let m = mark s.last entry in
     ap (λ (held : Option Begun). next_part m.entry.index (role m) (unbroken m.broken held)) h ∙ sym (open_more m before)
 
--- with what is open behind the packets so far, the last one of them first
+-- with what is open after the packets so far, the last one of them first
 runs_on : (before : List Marked) (s : PidState) (entries : List Entry) → s.part ≡ open_part before → run s entries ≡ findings_behind before (marked s.last entries)
 unfolding run findings_behind step_marked mark
 runs_on before s [] h = refl

@@ -31,7 +31,7 @@ unfoldable pub joined : List Marked → List ℕ
 joined [] = []
 joined (m ∷ before) = if divides m then [] else joined before ++ continuing (role m)
 
--- what begins in a packet and does not end by its own bytes, with these bytes behind them
+-- what begins in a packet and does not end by its own bytes, with these bytes after them
 unfoldable pub begins : ℕ → Role → List ℕ → Option Begun
 begins packet (BeginsPes payload) more = Some (record { packet = packet; form = OfPes; bytes = payload ++ more })
 begins packet (Points before bytes) more = option_map (λ rest. section packet (rest ++ more)) (last_in 0 bytes)
@@ -48,7 +48,7 @@ unless_decided part (Some what) = None
 unfoldable pub undecided : Begun → Option Begun
 undecided part = unless_decided part (decided part.form part.bytes)
 
--- the section or PES packet that is open behind these packets
+-- the section or PES packet that is open after these packets
 unfoldable pub open_part : List Marked → Option Begun
 open_part before = option_and_then undecided (stretch before)
 
@@ -123,7 +123,7 @@ found_at m held = if m.duplicate then plain IsDuplicate ∷ [] else by_break m.e
 abbrev pub at_packet : ℕ → Found → At
 at_packet packet found = record { packet = packet; found = found }
 
--- those at packets behind others, of which the last one is first
+-- those at packets after others, of which the last one is first
 unfoldable pub findings_behind : List Marked → List Marked → List At
 findings_behind before [] = []
 findings_behind before (m ∷ ms) = map (at_packet m.entry.index) (found_at m (open_part before)) ++ findings_behind (m ∷ before) ms
@@ -132,6 +132,6 @@ findings_behind before (m ∷ ms) = map (at_packet m.entry.index) (found_at m (o
 abbrev pub findings : List Entry → List At
 findings entries = findings_behind [] (marked None entries)
 
--- with those that the end of the stream decides, behind so many whole packets
+-- with those that the end of the stream decides, after so many whole packets
 abbrev pub findings_to_end : ℕ → List Entry → List At
 findings_to_end count entries = findings entries ++ map (at_packet count) (ended true (open_part (reverse (marked None entries))))

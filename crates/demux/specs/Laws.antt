@@ -6,7 +6,7 @@ use Rattle.demux.specs.Findings.{findings, findings_to_end}
 use Rattle.demux.specs.Shown.{told}
 use Rattle.demux.specs.Stream.{StreamState, start, is_aligned, pushed, taken, found_in, finished}
 
--- pieces one behind another are one piece
+-- pieces one after another are one piece
 abbrev pub PiecesJoin : Type 0
 PiecesJoin = (s : StreamState) (piece more : List ℕ) → pushed (pushed s piece) more ≡ pushed s (piece ++ more)
 

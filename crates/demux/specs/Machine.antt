@@ -16,7 +16,7 @@ pub record PidState : Type 0 where
 abbrev pub fresh : PidState
 fresh = record { last = None; part = None }
 
--- what is open behind a packet, by what it does, with what is open before it
+-- what is open after a packet, by what it does, with what is open before it
 unfoldable pub next_part : ℕ → Role → Option Begun → Option Begun
 next_part packet CarriesNothing held = held
 next_part packet Scrambles held = None
@@ -34,7 +34,7 @@ unbroken (Some b) held = None
 unfoldable pub step_marked : Marked → PidState → PidState
 step_marked m s = record { last = Some (seen m); part = next_part m.entry.index (role m) (unbroken m.broken s.part) }
 
--- the state behind a packet, and what is found at it
+-- the state after a packet, and what is found at it
 abbrev pub step : PidState → Entry → PidState
 step s entry = step_marked (mark s.last entry) s
 

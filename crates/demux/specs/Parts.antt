@@ -76,7 +76,7 @@ plain what = record { begun = None; what = what; within = false }
 abbrev pub grown : Begun → List ℕ → Begun
 grown part more = record part { bytes = part.bytes ++ more }
 
--- Sections one behind the other, up to a byte FF in a table_id's place (ISO/IEC 13818-1, 2.4.4).
+-- Sections one after the other, up to a byte FF in a table_id's place (ISO/IEC 13818-1, 2.4.4).
 
 abbrev pub section : ℕ → List ℕ → Begun
 section packet bytes = record { packet = packet; form = OfSection; bytes = bytes }
@@ -95,7 +95,7 @@ unfoldable pub taken_by : List ℕ → WhatView → ℕ
 taken_by bytes (IsBadSection section_errors.Length) = length bytes
 taken_by bytes what = said_size bytes
 
--- those that are decided, of the bytes behind the first k
+-- those that are decided, of the bytes after the first k
 unfoldable pub sections_in : ℕ → ℕ → List ℕ → List Found
 sections_in packet k [] = []
 sections_in packet (suc k) (b ∷ bytes) = sections_in packet k bytes

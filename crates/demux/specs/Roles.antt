@@ -22,7 +22,7 @@ pub data Role : Type 0 where
 abbrev pub may_begin_pes : List ℕ → Bool
 may_begin_pes payload = list_all (λ p. p.0 == p.1) (zip (0x00 ∷ 0x00 ∷ 0x01 ∷ []) payload)
 
--- pointer_field and the bytes behind it
+-- pointer_field and the bytes after it
 unfoldable pub pointed : List ℕ → Role
 pointed [] = PointsPast
 pointed (n ∷ bytes) = if nat_lt (length bytes) n then PointsPast else Points (take n bytes) (drop n bytes)

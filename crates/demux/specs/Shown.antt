@@ -89,10 +89,6 @@ Finds place old new found = map given_view new ≡ map given_view old ++ map (gi
 abbrev pub Says : {A : Type 0} → Place → List (Finding A) → List (Finding A) → List Found → Type 0
 Says place old new found = map finding_view new ≡ map finding_view old ++ map (told place.pid place.packet) found
 
--- whose bytes are slices of the packet
-abbrev pub Spans : {A : Type 0} → Place → List (Finding A) → List (Finding A) → List Found → Type 0
-Spans place old new found = map is_span new ≡ map is_span old ++ map (λ b. b && place.lent) (map (λ f. f.within) found)
-
 -- the findings say what they said
 abbrev pub SaysTheSame : {A : Type 0} → List (Finding A) → List (Finding A) → Type 0
 SaysTheSame old new = map given_view new ≡ map given_view old

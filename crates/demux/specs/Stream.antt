@@ -33,7 +33,7 @@ untold packet what = record { packet = packet; pid = None; begun = None; what = 
 abbrev pub entry_of : ℕ → List ℕ → PacketView → Entry
 entry_of index bytes packet = record { index = index; bytes = bytes; packet = packet }
 
--- the states behind 188 bytes: those that are no packet, a packet with transport_error_indicator and a null packet change
+-- the states after 188 bytes: those that are no packet, a packet with transport_error_indicator and a null packet change
 -- none
 unfoldable pub states_by : ℕ → List ℕ → States → Result PacketView PacketError → States
 states_by index bytes states (Err error) = states
@@ -73,7 +73,7 @@ start = record { packets = 0; states = []; held = []; found = []; ended = false 
 abbrev pub next_packet : ℕ → ℕ
 next_packet packets = min (packets + 1) (2 ^ 64 - 1)
 
--- behind a packet
+-- after a packet
 unfoldable pub taken : StreamState → List ℕ → StreamState
 taken s bytes = record s { packets = next_packet s.packets; states = states_by s.packets bytes s.states (packet_at bytes) }
 
@@ -93,7 +93,7 @@ passed s bytes = record (taken s bytes) { held = []; found = s.found ++ found_in
 unfoldable pub completed : StreamState → List ℕ → StreamState
 completed s held = if length held == 188 then passed s held else record s { held = held }
 
--- behind bytes, one by one
+-- after bytes, one by one
 abbrev pub pushed : StreamState → List ℕ → StreamState
 pushed s [] = s
 pushed s (byte ∷ bytes) = pushed (completed s (s.held ++ byte ∷ [])) bytes
@@ -106,7 +106,7 @@ held_found packets held = untold packets (IsTruncated held) ∷ []
 unfoldable pub ended_found : ℕ → States → List FindingView
 ended_found packets states = flat_map (λ entry. map (told entry.0 packets) (ended true entry.1.part)) states
 
--- behind the end of the stream
+-- after the end of the stream
 abbrev pub finished : StreamState → StreamState
 finished s = if s.ended then s else record s { held = []; found = s.found ++ (held_found s.packets s.held ++ ended_found s.packets s.states); ended = true }
 

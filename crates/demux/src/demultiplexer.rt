@@ -93,7 +93,7 @@ impl<A: Allocator + Copy> Demux<A> {
         self.found.clear();
     }
 
-    // Takes a packet whose bytes are not kept; none are held behind it.
+    // Takes a packet whose bytes are not kept; none are held after it.
     #[tactic(auto, unfolding(crate::specs::Stream::taken, crate::specs::Stream::found_in))]
     fn pass(&mut self, bytes: &[u8; 188]) -> Result<(), AllocError>
         ensures ok { OnOk result (self.new ≡ stream.passed self.old bytes.now) }

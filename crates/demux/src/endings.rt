@@ -16,7 +16,7 @@ use crate::verdicts::decide;
 use pes_packet::read_header;
 use std::alloc::{AllocError, Allocator};
 
-// The bytes behind the first `n`.
+// The bytes after the first `n`.
 fn rest_of(bytes: &[u8], n: usize) -> &[u8]
     ensures { result.now ≡ drop n bytes.now }
 {

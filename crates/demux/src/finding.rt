@@ -39,7 +39,7 @@ pub enum What<'a, A: Allocator = Global> {
     /// bytes where a section should stand: `Length` or `CheckWord`, or `Body` for a pointer_field that points past the end
     /// of its packet
     BadSection(SectionError),
-    /// a PES packet: its header, whether the stream ended before its end was known, and the bytes behind the header
+    /// a PES packet: its header, whether the stream ended before its end was known, and the bytes after the header
     Pes {
         header: PesHeader,
         unended: bool,

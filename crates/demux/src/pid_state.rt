@@ -36,7 +36,7 @@ impl<A: Allocator> Model for PidState<A> {
     ghost view = { λ s. record { last = s.last; part = s.part } };
 }
 
-// What a start, a scrambled packet or a wrong pointer_field finds, and what is open behind it.
+// What a start, a scrambled packet or a wrong pointer_field finds, and what is open after it.
 #[tactic(auto, unfolding(crate::specs::Findings::by_role, crate::specs::Machine::next_part, crate::specs::Findings::goes_on))]
 fn divide<'p, 'a: 'p, A: Allocator + Clone>(
     alloc: &A,

@@ -32,7 +32,7 @@ fn may_begin_pes(payload: &[u8]) -> bool
         .all(|(wanted, byte)| wanted == byte)
 }
 
-// pointer_field and the bytes behind it.
+// pointer_field and the bytes after it.
 #[tactic(auto, unfolding(crate::specs::Roles::pointed))]
 fn pointed<'p, 'a: 'p>(payload: PayloadBytes<'p, 'a>) -> Carried<'p, 'a>
     ensures role { carried_role result ≡ roles.pointed (payload_list payload.entry) }

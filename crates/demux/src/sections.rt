@@ -1,4 +1,4 @@
-//! Sections one behind the other in a payload, up to a byte FF in a table_id's place (ISO/IEC 13818-1, 2.4.4).
+//! Sections one after the other in a payload, up to a byte FF in a table_id's place (ISO/IEC 13818-1, 2.4.4).
 ghost use Rattle.std.specs.Prelude.{◌≡◌, ◌<◌, ◌≤◌, IfOk, OnOk, option_map, length, drop};
 ghost use Rattle.demux.specs.Parts as parts;
 ghost use Rattle.demux.specs.Shown.{Finds, is_lent, payload_list, what_of};

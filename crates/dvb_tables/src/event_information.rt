@@ -12,14 +12,11 @@ ghost use Rattle.dvb_tables.specs.EventInformation.{EitView, IsEit, eit_view, ei
 use crate::event_entry::EventEntries;
 use crate::event_loop::EventLoop;
 use arrayvec::ArrayVec;
+use bit_fields::append;
 use psi_tables::{
-    GREATEST_LENGTH, LongHeader, Section, SectionError, SectionHeader, WriteError, append,
-    begin_section, end_section, table_header_at, to_vec,
+    GREATEST_LENGTH, LongHeader, Section, SectionError, SectionHeader, WriteError, begin_section, end_section, table_header_at, to_vec,
 };
 use std::alloc::Allocator;
-
-/// The PID on which EITs are carried.
-pub const EIT_PID: u16 = 0x12;
 
 /// The table_id of an event information section of present and following events of the actual transport
 /// stream.

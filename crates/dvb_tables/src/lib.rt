@@ -43,16 +43,16 @@ pub use descriptors::{
     push_stream_identifier,
 };
 pub use event_entry::{EventEntries, EventEntry};
-pub use event_information::{EIT_PID, EIT_TABLE_ID, EitPf};
+pub use event_information::{EIT_TABLE_ID, EitPf};
 pub use event_loop::{EventLoop, GREATEST_EVENT_LOOP};
 pub use julian_date::{MjdError, mjd};
-pub use network_information::{NIT_PID, NIT_TABLE_ID, Nit};
+pub use network_information::{NIT_TABLE_ID, Nit};
 pub use present_and_following::present_following;
 pub use running_status::RunningStatus;
 pub use schedule::Event;
 pub use service::{Service, Services};
-pub use service_description::{SDT_PID, SDT_TABLE_ID, Sdt};
+pub use service_description::{SDT_TABLE_ID, Sdt};
 pub use service_loop::{GREATEST_SERVICE_LOOP, ServiceLoop};
-pub use time_and_date::{TDT_PID, TDT_TABLE_ID, Tdt};
+pub use time_and_date::{TDT_TABLE_ID, Tdt};
 pub use transport_stream::{TransportStream, TransportStreams};
 pub use transport_stream_loop::{GREATEST_TRANSPORT_STREAM_LOOP, TransportStreamLoop};

@@ -12,14 +12,11 @@ ghost use Rattle.dvb_tables.specs.NetworkInformation.{NitView, IsNit, nit_view, 
 
 use crate::transport_stream::TransportStreams;
 use arrayvec::ArrayVec;
+use bit_fields::append;
 use psi_tables::{
-    GREATEST_TABLE_LENGTH, LongHeader, Section, SectionError, SectionHeader, WriteError, append,
-    begin_section, end_section, entry_at, table_header_at, to_vec,
+    GREATEST_TABLE_LENGTH, LongHeader, Section, SectionError, SectionHeader, WriteError, begin_section, end_section, entry_at, table_header_at, to_vec,
 };
 use std::alloc::Allocator;
-
-/// The PID on which NITs are carried.
-pub const NIT_PID: u16 = 0x10;
 
 /// The table_id of a network information section of the actual network.
 pub const NIT_TABLE_ID: u8 = 0x40;

@@ -11,14 +11,11 @@ ghost use Rattle.dvb_tables.specs.ServiceDescription.{SdtView, IsSdt, sdt_view, 
 
 use crate::service::Services;
 use arrayvec::ArrayVec;
+use bit_fields::append;
 use psi_tables::{
-    GREATEST_TABLE_LENGTH, LongHeader, Section, SectionError, SectionHeader, WriteError, append,
-    begin_section, end_section, table_header_at, to_vec,
+    GREATEST_TABLE_LENGTH, LongHeader, Section, SectionError, SectionHeader, WriteError, begin_section, end_section, table_header_at, to_vec,
 };
 use std::alloc::Allocator;
-
-/// The PID on which SDTs are carried.
-pub const SDT_PID: u16 = 0x11;
 
 /// The table_id of a service description section of the actual transport stream.
 pub const SDT_TABLE_ID: u8 = 0x42;

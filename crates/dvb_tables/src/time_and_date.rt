@@ -10,9 +10,6 @@ use arrayvec::ArrayVec;
 use psi_tables::{LongHeader, Section, SectionError, SectionHeader, WriteError, to_vec};
 use std::alloc::Allocator;
 
-/// The PID on which TDTs are carried.
-pub const TDT_PID: u16 = 0x14;
-
 /// The table_id of a time and date section.
 pub const TDT_TABLE_ID: u8 = 0x70;
 

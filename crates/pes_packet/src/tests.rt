@@ -4,6 +4,7 @@ use crate::{
     PesError, PesHeader, Stamps, Unit, fits_packet, greatest_size, has_flags, is_unit_id,
     read_header, write_header,
 };
+use std::process::Abort;
 
 // 90,000 as a PTS alone, and a header with a PTS and a DTS that passed 2^33 - 1.
 const PTS_HEADER: [u8; 14] = [
@@ -104,58 +105,96 @@ fn refusals_are_numbered(rt: HostRuntime) {
     }
 }
 
-// What a PES header of 19 bytes with a PTS and a DTS is after one byte was changed, by the table of its fields.
-fn changed(at: usize, byte: u8) -> Option<PesError> {
-    match at {
-        0 | 1 => if byte == 0x00 {
-            None
-        } else {
-            Some(PesError::Prefix)
-        },
-        2 => if byte == 0x01 {
-            None
-        } else {
-            Some(PesError::Prefix)
-        },
-        // Each changed stream_id but 0xff has flag bytes too.
-        3 => None,
-        // PES_packet_length counts the other 13 bytes of the header, or is 0.
-        4 => None,
-        5 => None,
-        6 => if byte == 0x80 {
-            None
-        } else {
-            Some(PesError::BadFlags)
-        },
-        7 => match byte {
-            0x00 | 0x80 | 0xff => None,
-            _ => Some(PesError::BadFlags),
-        },
-        8 => if byte == 0x00 {
-            Some(PesError::Length)
-        } else {
-            Some(PesError::Short)
-        },
-        9 | 11 | 13 | 14 | 16 | 18 => if byte % 2 == 1 {
-            None
-        } else {
-            Some(PesError::Marker)
-        },
-        _ => None,
+// How many bytes the table of fields gives a header of at least nine bytes, or its refusal.
+fn rule(bytes: &[u8]) -> Result<usize, PesError> {
+    let [0x00, 0x00, 0x01, id, high, low, first, second, count, data @ ..] = bytes else {
+        return Err(PesError::Prefix);
+    };
+    if matches!(*id, 0xbc | 0xbe | 0xbf | 0xf0 | 0xf1 | 0xf2 | 0xf8 | 0xff) {
+        return Ok(6);
+    }
+    let Some(data) = data.get(..*count as usize) else {
+        return Err(PesError::Short);
+    };
+    let stamps: usize = match (*first / 64, *second / 64) {
+        (2, 0) => 0,
+        (2, 2) => 5,
+        (2, 3) => 10,
+        _ => return Err(PesError::BadFlags),
+    };
+    let len = *high as usize * 256 + *low as usize;
+    if (len != 0 && len < 3 + data.len()) || data.len() < stamps {
+        return Err(PesError::Length);
+    }
+    for (at, byte) in data.iter().take(stamps).enumerate() {
+        if at % 5 % 2 == 0 && *byte % 2 == 0 {
+            return Err(PesError::Marker);
+        }
+    }
+    Ok(9 + data.len())
+}
+
+// Each change of one byte is answered as the rule says.
+fn changes_of<const N: usize>(rt: &impl Abort, header: [u8; N]) {
+    for at in 0..N {
+        for byte in [0x00, 0x7f, 0x80, 0xff] {
+            let mut bytes = header;
+            bytes[at] = byte;
+            let size = match read_header(&bytes) {
+                Ok((_, size)) => Ok(size),
+                Err(refusal) => Err(refusal),
+            };
+            assert_eq!(rt; size, rule(&bytes), "byte {at} as {byte}");
+        }
     }
 }
 
 #[test]
 fn changed_bytes_are_judged(rt: HostRuntime) {
-    for at in 0..19 {
-        for byte in [0x00, 0x7f, 0x80, 0xff] {
-            let mut bytes = PTS_DTS_HEADER;
-            bytes[at] = byte;
-            match changed(at, byte) {
-                None => assert!(rt; read_header(&bytes).is_ok(), "byte {at}"),
-                Some(refusal) => assert_eq!(rt; read_header(&bytes), Err(refusal), "byte {at}"),
-            }
-        }
+    changes_of(&rt, PTS_HEADER);
+    changes_of(&rt, PTS_DTS_HEADER);
+}
+
+// Of two refusals at once the first in the order Prefix, Short, BadFlags, Length, Marker is given.
+#[test]
+fn the_first_of_two_refusals_is_given(rt: HostRuntime) {
+    let cases: [(&[u8], PesError); 6] = [
+        // A wrong prefix, cut.
+        (&[0x00, 0x01], PesError::Prefix),
+        // Cut header data, after PTS_DTS_flags 01.
+        (
+            &[0x00, 0x00, 0x01, 0xc0, 0x00, 0x00, 0x80, 0x40, 0x05, 0x21],
+            PesError::Short,
+        ),
+        // PTS_DTS_flags 01, and a PES_packet_length of 1.
+        (
+            &[0x00, 0x00, 0x01, 0xc0, 0x00, 0x01, 0x80, 0x40, 0x00],
+            PesError::BadFlags,
+        ),
+        // Flag bytes that do not begin with 10, and a marker bit 0.
+        (
+            &[
+                0x00, 0x00, 0x01, 0xc0, 0x00, 0x00, 0x00, 0x80, 0x05, 0x20, 0x00, 0x01, 0x00, 0x01,
+            ],
+            PesError::BadFlags,
+        ),
+        // A PES_packet_length of 7, and a marker bit 0.
+        (
+            &[
+                0x00, 0x00, 0x01, 0xc0, 0x00, 0x07, 0x80, 0x80, 0x05, 0x20, 0x00, 0x01, 0x00, 0x01,
+            ],
+            PesError::Length,
+        ),
+        // No room for the DTS, and a marker bit 0 in the PTS.
+        (
+            &[
+                0x00, 0x00, 0x01, 0xc0, 0x00, 0x00, 0x80, 0xc0, 0x05, 0x20, 0x00, 0x01, 0x00, 0x01,
+            ],
+            PesError::Length,
+        ),
+    ];
+    for (bytes, refusal) in cases.iter() {
+        assert_eq!(rt; read_header(bytes), Err(*refusal));
     }
 }
 

@@ -23,7 +23,7 @@ pub use laws::{
     check_word_ends, longer_reads_the_same, pats_are_read_again, pmts_are_read_again,
     sections_are_read_again,
 };
-pub use pat::{PAT_PID, PAT_TABLE_ID, Pat, Program, ProgramLoop, Programs};
+pub use pat::{PAT_TABLE_ID, Pat, Program, ProgramLoop, Programs};
 pub use pmt::{PMT_TABLE_ID, Pmt, Stream, StreamLoop, Streams};
 pub use section::{LongHeader, Section, SectionHeader};
 pub use table::table_header_at;

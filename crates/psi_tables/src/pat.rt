@@ -22,9 +22,6 @@ pub use program_loop::ProgramLoop;
 pub use programs::{Program, Programs};
 use std::alloc::Allocator;
 
-/// The PID on which PATs are carried.
-pub const PAT_PID: u16 = 0;
-
 /// The table_id of a program association section.
 pub const PAT_TABLE_ID: u8 = 0x00;
 

@@ -162,7 +162,7 @@ fn joined(alloc: Global, marked: &Marked, part: Option<Part>) -> Result<Option<P
     }
 }
 
-// What is open behind the packets of a PID: all bytes since it began, unless they decide.
+// What is open after the packets of a PID: all bytes since it began, unless they decide.
 fn open_part(alloc: Global, before: &[Marked], pid: u16) -> Result<Option<Part>, AllocError> {
     let mut part = None;
     for marked in before {

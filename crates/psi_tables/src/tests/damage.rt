@@ -140,3 +140,39 @@ fn body_rule(body: &[u8]) -> Option<SectionError> {
         Some(SectionError::Body)
     }
 }
+
+/// Of two refusals at once a section is answered the first in the order Short, Length, Short, CheckWord.
+#[test]
+fn the_first_of_two_refusals_is_given(rt: HostRuntime) {
+    let mut wrong = PAT;
+    wrong[15] = 0;
+    // Cut, with a wrong check word.
+    assert_eq!(rt; size_read(&wrong[..15]), Err(SectionError::Short));
+    // A section_length of 4,094 in three bytes, and of 8 in the long form before a wrong check word.
+    assert_eq!(rt; size_read(&[0x00, 0xbf, 0xfe]), Err(SectionError::Length));
+    wrong[2] = 8;
+    assert_eq!(rt; size_read(&wrong), Err(SectionError::Length));
+    assert_eq!(rt; size_read(&wrong[..2]), Err(SectionError::Short));
+}
+
+/// Of two refusals at once a table is answered the first in the order Syntax, Length, Body.
+#[test]
+fn the_first_of_two_refusals_of_a_table_is_given(rt: HostRuntime) {
+    let body = [0xff; 1013];
+    let Ok((section, _)) = Section::read(&PAT) else {
+        panic!(rt; "no section");
+    };
+    // 1,013 bytes are too many, and end within an entry of either table.
+    let long = Section {
+        header: section.header,
+        body: &body,
+    };
+    assert_eq!(rt; Pat::read(&long).err(), Some(SectionError::Length));
+    assert_eq!(rt; Pmt::read(&long).err(), Some(SectionError::Syntax));
+    let cut = Section {
+        header: section.header,
+        body: &body[..1011],
+    };
+    assert_eq!(rt; Pat::read(&cut).err(), Some(SectionError::Body));
+    assert_eq!(rt; Pmt::read(&cut).err(), Some(SectionError::Syntax));
+}

@@ -2,11 +2,12 @@
 
 use crate::tests::vectors::{PAT, PMT, SDT, TDT};
 use crate::{
-    LongHeader, Section, SectionError, SectionHeader, WriteError, append, begin_section,
+    LongHeader, Section, SectionError, SectionHeader, WriteError, begin_section,
     check_word, check_word_ends, end_section, longer_reads_the_same, sections_are_read_again,
     to_vec,
 };
 use arrayvec::ArrayVec;
+use bit_fields::append;
 use std::alloc::Global;
 use std::process::Abort;
 use std::test::Fail;
