@@ -10,6 +10,7 @@ use Rattle.clock27.specs.Departure.{departures}
 use Rattle.clock27.specs.Fullness.{fullness}
 use Rattle.own_slots.specs.Slots.{Rises}
 use Rattle.own_slots.specs.Work.{BoundsWork}
+use Rattle.unit_timing.specs.Buffers.{system_tb_drain, bsys_drain}
 
 -- the arrivals of the bytes of the packets with these indices
 abbrev pub system_arrivals : List ℕ → List ℕ
@@ -33,5 +34,5 @@ bsys_fullness rate x slots = fullness x (system_tb_left rate slots) (bsys_left r
 -- neither overflows, where the work of each by itself fits
 abbrev pub SystemLaw : Type 0
 SystemLaw = (own : ℕ → Bool) (rate : ℕ) (slots : List ℕ) (x : ℕ) → 0 < rate → Rises own 0 slots →
-    ((room peak : ℕ) (W : ℕ → ℕ) → BoundsWork own rate 1000000 room peak W → system_tb_fullness rate x slots ≤ room)
-    × ((room peak : ℕ) (W : ℕ → ℕ) → BoundsWork own rate 80000 room peak W → bsys_fullness rate x slots ≤ room)
+    ((room peak : ℕ) (W : ℕ → ℕ) → BoundsWork own rate system_tb_drain room peak W → system_tb_fullness rate x slots ≤ room)
+    × ((room peak : ℕ) (W : ℕ → ℕ) → BoundsWork own rate bsys_drain room peak W → bsys_fullness rate x slots ≤ room)

@@ -1,7 +1,7 @@
-//! One text more.
+//! One unit more.
 ghost use Rattle.unit_timing.specs.PesPacket.{SpacedMoreLaw, SizedMoreLaw, GroupMoreLaw};
 
-/// A list of texts within a declaration stays within it by a further text exactly where that text
+/// A list of units within a declaration stays within it by a further unit exactly where that unit
 /// is late enough behind the last, is not too large, and fits the group that it ends.
 pub fn one_more()
     ensures spaced { SpacedMoreLaw }

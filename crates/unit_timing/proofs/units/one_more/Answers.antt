@@ -1,5 +1,5 @@
 use Rattle.unit_timing.proofs.Adding.{spaced_more_law, sized_more_law, group_more_law}
-use Rattle.unit_timing.proofs.texts.one_more.Goals as goal
+use Rattle.unit_timing.proofs.units.one_more.Goals as goal
 
 pub returns-clause-spaced : goal.returns-clause-spaced
 returns-clause-spaced c = spaced_more_law
