@@ -1,6 +1,5 @@
 -- How long a byte and a slot of 188 bytes take: at R bits a second each lasts a whole number of units, divided by R. (A
--- slot in units of
--- 90 kHz is `slot_units` of Release.)
+-- slot in units of 90 kHz is `slot_units` of Release.)
 use Rattle.std.specs.Prelude.{ℕ, ◌+◌, ◌*◌, ◌/◌}
 
 -- a byte in ticks of 27 MHz: 8 * 27,000,000

@@ -35,7 +35,7 @@ sized_back largest (first ∷ units) unit sized = let rest = sized_back largest 
 pub sized_more_law : SizedMoreLaw
 sized_more_law = record { more = sized_more; back = sized_back }
 
--- the first m + 1 units with a further one behind them all: they are those from before, or all and the further one
+-- the first m + 1 units with a further one after them all: they are those from before, or all and the further one
 full_group : (m : ℕ) (units : List PesPacket) (unit : PesPacket) → m < length units → packets_of (take (suc m) (units ++ unit ∷ [])) ≡ packets_of (take (suc m) units)
 full_group m units unit lt = let le : suc m ≤ length units = omega arith in rw (take-append-le (suc m) units (unit ∷ [])) refl
 

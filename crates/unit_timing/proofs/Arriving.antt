@@ -28,7 +28,8 @@ cut_before e size (s ∷ slots) all =
     All-cons (λ p. p.slot < e) (record { slot = s; size = min 184 size }) (cut (size - 184) slots) (All-head (λ t. t < e) s slots all)
     (cut_before e (size - 184) slots (All-tail (λ t. t < e) s slots all))
 
--- the unit whose own slots b to b + p - 1 have passed before slot e of the run is there whole, and has left by e's begin and the peak
+-- the unit whose own slots b to b + p - 1 stand before slot e of the run is there whole, and has left by e's
+-- begin and the peak
 pub unit_there : (own : ℕ → Bool) (rate r room peak : ℕ) (W : ℕ → ℕ) (n e b p size from prev : ℕ) → BoundsWork own rate r room peak W →
     b + p ≤ own_before own e → e ≤ n → size ≤ 184 * p → Rises own from (drop b (own_slots own 0 n)) → Level r W from prev →
     (length (pes_left rate r prev (cut size (take p (drop b (own_slots own 0 n))))) ≡ size)
@@ -45,7 +46,7 @@ unit_there own rate r room peak W n e b p size from prev bounds packets_in_slots
       left_by own rate r room peak W e (cut size xs) from prev bounds (rw (slots_of-cut size xs) (rises_take own from p (drop b slots) rises)) h (cut_before e size xs all),
     )
 
--- what is left of the departures behind a unit is that of the later units
+-- what is left of the departures after a unit is that of the later units
 pub after_unit : (own : ℕ → Bool) (rate lead r n b p size prev next : ℕ) (units : List PesPacket) → size ≤ 184 * p →
     drop size (pes_left rate r prev (cut size (take p (drop b (own_slots own 0 n))))
     ++ pes_left rate r next (packets_in_slots own rate lead (b + p) units (own_slots own 0 n)))

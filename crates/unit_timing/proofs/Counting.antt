@@ -64,7 +64,7 @@ unit_later rate r prev size low (s ∷ slots) all =
     (All-drop (λ d. low + rate ≤ d) (188 - min 184 size) (departures rate prev first) (packet_later rate r prev s low (All-head (λ s. low ≤ 188 * s * r) s slots all)))
     (unit_later rate r (last_left rate prev first) (size - 184) low slots (All-tail (λ s. low ≤ 188 * s * r) s slots all)))
 
--- no own slot from number b on stands before a slot that at most b have passed
+-- no own slot from number b on stands before a slot before which at most b stand
 pub later_slots : (own : ℕ → Bool) (e s n b : ℕ) → own_before own e ≤ b + own_before own s → All (λ t. e ≤ t) (drop b (own_slots own s n))
 unfolding own_slots
 later_slots own e s zero b h = rw (drop_all {X = ℕ} b [] (omega arith)) (All-nil (λ t. e ≤ t))

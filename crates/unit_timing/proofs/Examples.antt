@@ -11,7 +11,8 @@ use Rattle.unit_timing.specs.Arrived.{first_late}
 use Rattle.unit_timing.specs.MainBuffer.{mb_fullness}
 use Rattle.unit_timing.specs.SystemBuffer.{system_tb_fullness, bsys_fullness}
 
--- the PAT in slot 2 and the PMT in slot 3 at 1,504,000 bits a second: at the last byte's arrival the transport buffer holds 127 bytes
+-- the PAT in slot 2 and the PMT in slot 3 at 1,504,000 bits a second: at the last byte's arrival the transport buffer
+-- holds 127 bytes
 system_transport : system_tb_fullness 1504000 1502000000 (2 ∷ 3 ∷ []) ≡ 127
 unfolding arrivals bytes_from departures fullness
 system_transport = refl

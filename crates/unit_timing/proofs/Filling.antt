@@ -61,7 +61,7 @@ stays-append wait [] (d ∷ ds) ts' ds' e h h' = cc
 stays-append wait (t ∷ ts) [] ts' ds' e h h' = cc
 stays-append wait (t ∷ ts) (d ∷ ds) ts' ds' e h h' = (h.0, stays-append wait ts ds ts' ds' (cc) h.1 h')
 
--- the bytes of one packet, where it fits behind what is there
+-- the bytes of one packet, where it fits after what is there
 packet_stays : (rate r room i n prev : ℕ) → prev + n * rate ≤ i * r + room * rate → n * rate ≤ room * rate →
     Stays (room * rate) (bytes_from r i n) (departures rate prev (bytes_from r i n))
 unfolding bytes_from departures Stays
@@ -85,7 +85,7 @@ transport_room own rate r room peak W slots x pos b rises =
     let start : Level r W 0 0 = omega arith in
     room_law x rate room (arrivals r slots) pos (all_stay own rate r room peak W slots 0 0 b rises start)
 
--- one packet, and those behind it
+-- one packet, and those after it
 pub pes_left-cons : (rate r prev : ℕ) (p : Packet) (packets : List Packet) → pes_left rate r prev (p ∷ packets)
     ≡ drop (188 - p.size) (departures rate prev (bytes_from r (188 * p.slot) 188)) ++ pes_left rate r (last_left rate prev (bytes_from r (188 * p.slot) 188)) packets
 unfolding of_payloads arrivals

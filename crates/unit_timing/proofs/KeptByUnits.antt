@@ -72,7 +72,7 @@ unfolding Spaced
 spaced_from apart low from [] le spaced = tt
 spaced_from apart low from (unit ∷ units) le spaced = (le_trans le spaced.0, spaced.1)
 
--- a live unit that is due at least j distances after another live one is less than u units behind it
+-- a live unit that is due at least j distances after another live one is less than u units after it
 still_near : (rate lead r x apart u first j due : ℕ) → x * 720000 < first * rate * r → lead ≤ u * apart → first + j * apart ≤ due →
     (due - lead) * rate * r ≤ x * 720000 → j < u
 still_near rate lead r x apart u first j due before wide le begun = elim (cases_lt j u) [

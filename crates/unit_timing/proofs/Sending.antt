@@ -81,7 +81,7 @@ unfolding Rises slot_after
 rises_after own from [] ys rises = rises
 rises_after own from (s ∷ xs) ys rises = rises_after own (suc s) xs ys rises.2
 
--- the last byte of these packets lies within the work bound behind them
+-- the last byte of these packets lies within the work bound after them
 pub level_packets : (own : ℕ → Bool) (rate r room peak : ℕ) (W : ℕ → ℕ) (from prev : ℕ) (slots : List ℕ) → BoundsWork own rate r room peak W → Rises own from slots →
     Level r W from prev → Level r W (slot_after from slots) (last_left rate prev (arrivals r slots))
 unfolding Rises slot_after arrivals
@@ -103,7 +103,7 @@ length-own_slots own s (suc n) =
       | inr o ↦ rw (o, e) (omega (arith, rest, own_before_other own s o))
     ]
 
--- the first m of them stand before a slot that m have passed
+-- the first m of them stand before a slot before which m stand
 pub first_before : (own : ℕ → Bool) (e s n m : ℕ) → m + own_before own s ≤ own_before own e → All (λ t. t < e) (take m (own_slots own s n))
 unfolding own_slots
 first_before own e s zero m h = rw (take_all {A = ℕ} m [] (omega arith)) (All-nil (λ t. t < e))
@@ -132,7 +132,7 @@ unfolding Rises slot_after
 rises_join own from [] ys first rest = rest
 rises_join own from (s ∷ xs) ys first rest = (first.0, first.1, rises_join own (suc s) xs ys first.2 rest)
 
--- behind what is skipped the own slots still rise
+-- after what is skipped the own slots still rise
 pub rises_begin : (own : ℕ → Bool) (rate lead free from : ℕ) (unit : PesPacket) (slots : List ℕ) → Rises own from (drop free slots) →
     Rises own from (drop (first_slot own rate lead free unit) slots)
 rises_begin own rate lead free from unit slots rises =
@@ -140,7 +140,7 @@ rises_begin own rate lead free from unit slots rises =
     let to : free + (first_slot own rate lead free unit - free) ≡ first_slot own rate lead free unit = omega (arith, free_le own rate lead free unit) in
     rw (drop-drop (b - free) free slots, to) at (rises_drop own from (b - free) (drop free slots) rises)
 
--- and so they do behind p packets
+-- and so they do after p packets
 pub rises_behind : (own : ℕ → Bool) (from b p : ℕ) (slots : List ℕ) → Rises own from (drop b slots) →
     Rises own (slot_after from (take p (drop b slots))) (drop (b + p) slots)
 rises_behind own from b p slots rises =

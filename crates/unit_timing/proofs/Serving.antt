@@ -79,9 +79,9 @@ deadline_switch_law rate s claim first next second periods units some one two ne
     (switch_rate_law first second periods claim.spread next.spread one two near next_near) (mul-pos one two) some
     (slower s.group_packets (length first) (length second) c1 c2 s.group s.interval rate rate_one rate_two)
     (λ j below.
-        let e : suc j - 1 ≡ j = omega arith in
-        lead_form claim.spread next.spread c1 c2 (min (suc j * s.pieces) s.group_packets) cost (shift first second)
-        (c1 * c2 * (s.lead + j * s.interval) * rate * s.drain) s.drain late (rw e at (lead (suc j) (omega arith) (omega arith))))
+    let e : suc j - 1 ≡ j = omega arith in
+    lead_form claim.spread next.spread c1 c2 (min (suc j * s.pieces) s.group_packets) cost (shift first second)
+    (c1 * c2 * (s.lead + j * s.interval) * rate * s.drain) s.drain late (rw e at (lead (suc j) (omega arith) (omega arith))))
     keeps.spaced keeps.grouped
 
 main_fits : (rate : ℕ) (s : Declaration) (own : ℕ → Bool) (m : ℕ) (units : List PesPacket) (n x : ℕ) → IsProper rate s → Keeps s units →

@@ -11,7 +11,7 @@ use Rattle.unit_timing.specs.Schedule.{first_slot}
 use Rattle.unit_timing.specs.Deadline.{Ends, InTime, ServesInLead, StretchLaw, DeadlineLaw}
 use Rattle.unit_timing.proofs.Grouping.{groups_few}
 
--- the window behind the release of a stretch's first unit ends in time for the last of its m + 1 units
+-- the window after the release of a stretch's first unit ends in time for the last of its m + 1 units
 ends_early : (rel w wait rate r late lead m apart due : ℕ) → rel * 135360000 + 1 ≤ wait * rate + 135360000 →
     (w + 1) * 135360000 * r + late * 720000 ≤ (lead + m * apart) * rate * r → lead + wait + m * apart ≤ due →
     (rel + w) * 135360000 * r + late * 720000 ≤ due * rate * r
@@ -22,15 +22,15 @@ ends_early rel w wait rate r late lead m apart due soon keeps near =
 released_soon : (rate lead due : ℕ) → release rate lead due * 135360000 + 1 ≤ (due - lead) * rate + 135360000
 released_soon rate lead due = omega arith
 
--- a stretch of m units with `sent` packets in all, the first released at slot rel, `wait` units of 90 kHz after the start: what is known of the
--- next own slot number that is free, and of the next unit
+-- a stretch of m units with `sent` packets in all, the first released at slot rel, `wait` units of 90 kHz after the
+-- start: what is known of the next own slot number that is free, and of the next unit
 record Stretch (own : ℕ → Bool) (q : ℕ → ℕ) (rate lead apart rel wait m sent free from : ℕ) (units : List PesPacket) : Type 0 where
   soon : rel * 135360000 + 1 ≤ wait * rate + 135360000
   near : lead + wait + m * apart ≤ from
   taken : free ≤ own_before own rel + sent
   few : (k : ℕ) → sent + packets_of (take k units) ≤ q (m + k)
 
--- its next unit, at once behind it, ends in time
+-- its next unit, at once after it, ends in time
 next_ends : (own : ℕ → Bool) (q : ℕ → ℕ) (rate lead apart r late rel wait m sent free from : ℕ) (unit : PesPacket) (units : List PesPacket) →
     ServesInLead own q rate lead apart r late m → Stretch own q rate lead apart rel wait m sent free from (unit ∷ units) → from ≤ unit.dts →
     Ends own rate r late (free + pieces_of unit) unit.dts
@@ -59,7 +59,7 @@ next_stretch own q rate lead apart rel wait m sent free from unit units s le = r
       rw e (omega (arith, s.few (suc k), cons));
 }
 
--- a unit whose release comes behind all that was sent begins a stretch
+-- a unit whose release comes after all that was sent begins a stretch
 new_stretch : (own : ℕ → Bool) (q : ℕ → ℕ) (rate lead apart : ℕ) (unit : PesPacket) (units : List PesPacket) →
     lead ≤ unit.dts → ((k : ℕ) → packets_of (take k (unit ∷ units)) ≤ q k) →
     Stretch own q rate lead apart (release rate lead unit.dts) (unit.dts - lead) 0 0 (own_before own (release rate lead unit.dts)) unit.dts (unit ∷ units)

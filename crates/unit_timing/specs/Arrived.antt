@@ -14,11 +14,13 @@ use Rattle.unit_timing.specs.Transport.{pes_left}
 abbrev pub is_due : ℕ → ℕ → PesPacket → Bool
 is_due rate n unit = nat_le (unit.dts * rate) (n * slot_units)
 
--- of the departures of what is written of a stream, from this unit on: all bytes of the unit are there, and none leaves after its stamp
+-- of the departures of what is written of a stream, from this unit on: all bytes of the unit are there, and none leaves
+-- after its stamp
 abbrev pub has_left : ℕ → ℕ → PesPacket → List ℕ → Bool
 has_left rate r unit left = nat_le unit.size (length left) && list_all (λ d. nat_le (d * byte_units) (unit.dts * rate * r)) (take unit.size left)
 
--- each unit that is due in a run of n slots has left whole by its stamp; `left` has the departures of all bytes of units that are written
+-- each unit that is due in a run of n slots has left whole by its stamp; `left` has the departures of all bytes of
+-- units that are written
 unfoldable pub AllLeft : ℕ → ℕ → ℕ → List PesPacket → List ℕ → Type 0
 AllLeft rate r n [] left = Unit {0}
 AllLeft rate r n (unit ∷ units) left =
@@ -37,7 +39,8 @@ pub record LateLaw : Type 0 where
   pub none_late : (rate r n number : ℕ) (units : List PesPacket) (left : List ℕ) → AllLeft rate r n units left → first_late rate r n number units left ≡ None
   pub all_left : (rate r n number : ℕ) (units : List PesPacket) (left : List ℕ) → first_late rate r n number units left ≡ None → AllLeft rate r n units left
 
--- where each unit ends in time and the work after an own slot is at most the time kept for it, each due unit leaves, in a run of any length
+-- where each unit ends in time and the work after an own slot is at most the time kept for it, each due unit leaves, in
+-- a run of any length
 abbrev pub ArrivedLaw : Type 0
 ArrivedLaw = (own : ℕ → Bool) (rate lead r room peak : ℕ) (W : ℕ → ℕ) (units : List PesPacket) (n : ℕ) → 0 < r →
     BoundsWork own rate r room peak W → InTime own rate lead r peak 0 units →

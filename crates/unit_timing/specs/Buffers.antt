@@ -1,5 +1,5 @@
--- The buffers of the transport stream system target decoder that have one size for all (ISO/IEC 13818-1, 2.4.2.3): sizes in bytes, drains
--- in bits a second.
+-- The buffers of the transport stream system target decoder that have one size for all (ISO/IEC 13818-1, 2.4.2.3):
+-- sizes in bytes, drains in bits a second.
 use Rattle.std.specs.Prelude.{ℕ}
 
 -- a transport buffer, TB

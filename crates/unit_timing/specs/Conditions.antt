@@ -1,5 +1,5 @@
--- The conditions on a stream's own slots, and on those of a program's tables, in one plan and in two plans in turn. Each compares two whole
--- numbers, which stand here once: as numbers of the declaration and of the own slots.
+-- The conditions on a stream's own slots, and on those of a program's tables, in one plan and in two plans in turn.
+-- Each compares two whole numbers, which stand here once: as numbers of the declaration and of the own slots.
 use Rattle.std.specs.Prelude.{ℕ, ◌+◌, ◌-◌, ◌*◌, ◌/◌, ◌<◌, ◌≤◌, max, min, Bool, List, length}
 use Rattle.clock27.specs.Release.{slot_units}
 use Rattle.clock27.specs.Units.{byte_units}
@@ -71,7 +71,8 @@ time_given rate s count m = count * (s.lead + (m - 1) * s.interval) * rate * s.d
 abbrev pub slots_needed : Declaration → Share → ℕ → ℕ
 slots_needed s own m = own.spread + packets_in_row s m * own.period + own.count
 
--- and over two plans, times the own slots of both: both spreads, the slower of the two paces, and the shift of the second's own slots
+-- and over two plans, times the own slots of both: both spreads, the slower of the two paces, and the shift of the
+-- second's own slots
 abbrev pub slots_across : Share → Share → ℕ → ℕ → ℕ
 slots_across first second late packets = first.spread * second.count + second.spread * first.count
     + packets * max (first.period * second.count) (second.period * first.count)

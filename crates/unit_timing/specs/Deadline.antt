@@ -1,7 +1,8 @@
 -- Deadlines: every unit is sent whole early enough that its last byte leaves the transport buffer by its decoding time.
 --
--- Times at a buffer that is drained at r bits a second are in units of 8 / (R * r) seconds: a slot begins at 188 * r * slot, and a moment x
--- lies at or before a stamp of `due` units of 90 kHz where x * 720,000 ≤ due * R * r, 720,000 being 8 * 90,000.
+-- Times at a buffer that is drained at r bits a second are in units of 8 / (R * r) seconds: a slot begins at 188 * r *
+-- slot, and a moment x lies at or before a stamp of `due` units of 90 kHz where x * 720,000 ≤ due * R * r, 720,000
+-- being 8 * 90,000.
 use Rattle.std.specs.Prelude.{ℕ, suc, ◌+◌, ◌*◌, ◌<◌, ◌≤◌, min, Bool, List, [], ◌∷◌}
 use Rattle.clock27.specs.Release.{slot_units}
 use Rattle.clock27.specs.Units.{byte_units}
@@ -9,7 +10,7 @@ use Rattle.own_slots.specs.Slots.{own_before, Serves, ServesAt}
 use Rattle.unit_timing.specs.PesPacket.{PesPacket, pieces_of, Spaced, Paced, Declared}
 use Rattle.unit_timing.specs.Schedule.{first_slot}
 
--- there is a slot before which `number` own slots have passed, and which begins at least `late` before the stamp `due`
+-- there is a slot before which `number` own slots stand, and which begins at least `late` before the stamp `due`
 pub record Ends (own : ℕ → Bool) (rate r late number due : ℕ) : Type 0 where
   pub slot : ℕ
   pub sent : number ≤ own_before own slot
@@ -22,8 +23,8 @@ InTime own rate lead r late free (unit ∷ units) =
     Ends own rate r late (first_slot own rate lead free unit + pieces_of unit) unit.dts
     × InTime own rate lead r late (first_slot own rate lead free unit + pieces_of unit) units
 
--- m + 1 units that are sent on end, the first as soon as it is released, come in time: their packets fit a window of own slots that ends
--- `late` before the last of them is due
+-- m + 1 units that are sent on end, the first as soon as it is released, come in time: their packets fit a window of
+-- own slots that ends `late` before the last of them is due
 pub record ServesInLead (own : ℕ → Bool) (q : ℕ → ℕ) (rate lead apart r late m : ℕ) : Type 0 where
   pub window : ℕ
   pub serves : Serves own window (q (suc m))

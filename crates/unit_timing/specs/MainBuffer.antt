@@ -1,5 +1,5 @@
--- The main buffer of a stream: the bytes of its units enter it as they leave the transport buffer, and leave it at their unit's stamp
--- (ISO/IEC 13818-1, 2.4.2.3; one main buffer for each stream is this profile's).
+-- The main buffer of a stream: the bytes of its units enter it as they leave the transport buffer, and leave it at
+-- their unit's stamp (ISO/IEC 13818-1, 2.4.2.3; one main buffer for each stream is this profile's).
 use Rattle.std.specs.Prelude.{ℕ, ◌+◌, ◌*◌, ◌<◌, ◌≤◌, min, Bool, nat_le, nat_lt, ◌&&◌, List, [], ◌∷◌, take, drop, count_by}
 use Rattle.clock27.specs.Peak.{IsPeak, greatest_at}
 use Rattle.clock27.specs.Release.{slot_units}
@@ -13,8 +13,8 @@ use Rattle.unit_timing.specs.Transport.{pes_left}
 abbrev pub is_kept : ℕ → ℕ → ℕ → ℕ → ℕ → Bool
 is_kept rate r x due d = nat_le d x && nat_lt (x * byte_units) (due * rate * r)
 
--- the bytes in the main buffer at the moment x: of each unit those that are there; `left` has the departures of all bytes of units that
--- are written, from the first unit on
+-- the bytes in the main buffer at the moment x: of each unit those that are there; `left` has the departures of all
+-- bytes of units that are written, from the first unit on
 unfoldable pub mb_fullness : ℕ → ℕ → ℕ → List PesPacket → List ℕ → ℕ
 mb_fullness rate r x [] left = 0
 mb_fullness rate r x (unit ∷ units) left =
@@ -26,7 +26,8 @@ BySlots = (own : ℕ → Bool) (rate lead r w m : ℕ) (units : List PesPacket) 
     lead * rate ≤ w * slot_units → Spares own w m →
     mb_fullness rate r x units (pes_left rate r 0 (packets_in_slots own rate lead 0 units (own_slots own 0 n))) ≤ 184 * m
 
--- and of units that are due within `lead` of one another: u of them at most, where u times their distance is at least `lead`
+-- and of units that are due within `lead` of one another: u of them at most, where u times their distance is at least
+-- `lead`
 abbrev pub BySizes : Type 0
 BySizes = (own : ℕ → Bool) (rate lead r apart largest u : ℕ) (units : List PesPacket) (n x : ℕ) → 0 < rate → 0 < r →
     lead ≤ u * apart → Spaced apart lead units → Sized largest units →
@@ -45,7 +46,8 @@ KeptLaw = (own : ℕ → Bool) (rate lead r apart largest g most each u w m : �
     mb_fullness rate r x units (pes_left rate r 0 (packets_in_slots own rate lead 0 units (own_slots own 0 n)))
     ≤ min (min (u * largest) (184 * grouped g most each u)) (184 * m)
 
--- the greatest fullness over all moments is found at the departures from the transport buffer, whatever the order of the stamps
+-- the greatest fullness over all moments is found at the departures from the transport buffer, whatever the order of
+-- the stamps
 abbrev pub MainPeakLaw : Type 0
 MainPeakLaw = (rate r : ℕ) (units : List PesPacket) (left : List ℕ) →
     IsPeak (λ x. mb_fullness rate r x units left) (greatest_at (λ x. mb_fullness rate r x units left) left)

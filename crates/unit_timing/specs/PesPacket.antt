@@ -1,8 +1,8 @@
 -- The units of a stream, as far as their timing goes.
 use Rattle.std.specs.Prelude.{ℕ, ◌+◌, ◌-◌, ◌*◌, ◌/◌, ◌%◌, ◌<◌, ◌≤◌, min, List, [], ◌∷◌, ◌++◌, length, take, drop, sum_by}
 
--- the unit of a unit is its PES packet, header and data (ISO/IEC 13818-1, 2.4.3.6): its bytes, and when it is due, the decoding time
--- stamp counted in units of 90 kHz from the start of the run
+-- the unit of a unit is its PES packet, header and data (ISO/IEC 13818-1, 2.4.3.6): its bytes, and when it is due, the
+-- decoding time stamp counted in units of 90 kHz from the start of the run
 pub record PesPacket : Type 0 where
   pub dts : ℕ
   pub size : ℕ
@@ -24,7 +24,8 @@ unfoldable pub Paced : (ℕ → ℕ) → List PesPacket → Type 0
 Paced q [] = Unit {0}
 Paced q (unit ∷ units) = ((k : ℕ) → packets_of (take k (unit ∷ units)) ≤ q k) × Paced q units
 
--- each unit has at most n packets, and any g units in a row (all that are left, where they are fewer) have at most `most`
+-- each unit has at most n packets, and any g units in a row (all that are left, where they are fewer) have at most
+-- `most`
 unfoldable pub Declared : ℕ → ℕ → ℕ → List PesPacket → Type 0
 Declared g most n [] = Unit {0}
 Declared g most n (unit ∷ units) = (pieces_of unit ≤ n) × (packets_of (take g (unit ∷ units)) ≤ most) × Declared g most n units
@@ -64,7 +65,8 @@ pub record SizedMoreLaw : Type 0 where
   pub more : (largest : ℕ) (units : List PesPacket) (unit : PesPacket) → Sized largest units → unit.size ≤ largest → Sized largest (units ++ unit ∷ [])
   pub back : (largest : ℕ) (units : List PesPacket) (unit : PesPacket) → Sized largest (units ++ unit ∷ []) → Sized largest units × (unit.size ≤ largest)
 
--- and it keeps the groups exactly where it has at most n packets, and at most `most` with those of the m units before it; groups are of m + 1
+-- and it keeps the groups exactly where it has at most n packets, and at most `most` with those of the m units before
+-- it; groups are of m + 1
 pub record GroupMoreLaw : Type 0 where
   pub more : (m most n : ℕ) (units : List PesPacket) (unit : PesPacket) → Declared (m + 1) most n units →
       pieces_of unit ≤ n → last_packets m units + pieces_of unit ≤ most → Declared (m + 1) most n (units ++ unit ∷ [])

@@ -1,4 +1,5 @@
--- What is declared of a stream, and what is promised of its units and of the buffers of a program's tables, in runs of any length.
+-- What is declared of a stream, and what is promised of its units and of the buffers of a program's tables, in runs of
+-- any length.
 use Rattle.std.specs.Prelude.{ℕ, ◌<◌, ◌≤◌, Bool, List}
 use Rattle.own_slots.specs.Slots.{Rises, own_slots}
 use Rattle.unit_timing.specs.Buffers.{tb_size, bsys_size}
@@ -30,8 +31,8 @@ pub record Keeps (s : Declaration) (units : List PesPacket) : Type 0 where
 abbrev pub run_packets : (ℕ → Bool) → ℕ → Declaration → List PesPacket → ℕ → List Packet
 run_packets own rate s units n = packets_in_slots own rate s.lead 0 units (own_slots own 0 n)
 
--- what is promised of a stream in runs of any length: at each moment the transport buffer holds at most 512 bytes and the main buffer at
--- most its size, and each unit that is due has left the transport buffer whole by its stamp
+-- what is promised of a stream in runs of any length: at each moment the transport buffer holds at most 512 bytes and
+-- the main buffer at most its size, and each unit that is due has left the transport buffer whole by its stamp
 pub record StreamServed (own : ℕ → Bool) (rate : ℕ) (s : Declaration) (units : List PesPacket) : Type 0 where
   pub transport : (n x : ℕ) → tb_fullness rate s.drain x (slots_of (run_packets own rate s units n)) ≤ tb_size
   pub arrived : (n : ℕ) → AllLeft rate s.drain n units (pes_left rate s.drain 0 (run_packets own rate s units n))

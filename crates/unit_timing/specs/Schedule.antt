@@ -9,7 +9,8 @@ pub record Packet : Type 0 where
   pub slot : ℕ
   pub size : ℕ
 
--- the number of the own slot in which a unit begins: none before its release, and none of the first `free`, which are taken
+-- the number of the own slot in which a unit begins: none before its release, and none of the first `free`, which are
+-- taken
 unfoldable pub first_slot : (ℕ → Bool) → ℕ → ℕ → ℕ → PesPacket → ℕ
 first_slot own rate lead free unit = max free (own_before own (release rate lead unit.dts))
 
@@ -36,8 +37,8 @@ unfoldable pub cut : ℕ → List ℕ → List Packet
 cut size [] = []
 cut size (s ∷ slots) = record { slot = s; size = min 184 size } ∷ cut (size - 184) slots
 
--- the packets of these units, one unit after the other, where `slots` has the own slots from number 0 on as far as the run goes, and the
--- first `free` of them are taken
+-- the packets of these units, one unit after the other, where `slots` has the own slots from number 0 on as far as the
+-- run goes, and the first `free` of them are taken
 unfoldable pub packets_in_slots : (ℕ → Bool) → ℕ → ℕ → ℕ → List PesPacket → List ℕ → List Packet
 packets_in_slots own rate lead free [] slots = []
 packets_in_slots own rate lead free (unit ∷ units) slots =

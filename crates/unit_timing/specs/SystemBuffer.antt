@@ -1,9 +1,9 @@
--- The two buffers of a program's tables: all bytes of the packets of the PAT and of the program's PMT enter a transport buffer that is drained at
--- 1,000,000 bits a second, and from there a system buffer that is drained at 80,000 bits a second (ISO/IEC 13818-1, 2.4.2.3; the rates and
--- sizes are this profile's).
+-- The two buffers of a program's tables: all bytes of the packets of the PAT and of the program's PMT enter a transport
+-- buffer that is drained at 1,000,000 bits a second, and from there a system buffer that is drained at 80,000 bits a
+-- second (ISO/IEC 13818-1, 2.4.2.3; the rates and sizes are this profile's).
 --
--- Times are in units of 8 / (R * 2,000,000) seconds: byte i arrives at 2,000,000 * i, and takes 2 * R to leave the first buffer and 25 * R to
--- leave the second.
+-- Times are in units of 8 / (R * 2,000,000) seconds: byte i arrives at 2,000,000 * i, and takes 2 * R to leave the
+-- first buffer and 25 * R to leave the second.
 use Rattle.std.specs.Prelude.{ℕ, ◌*◌, ◌<◌, ◌≤◌, Bool, List}
 use Rattle.clock27.specs.Arrival.{arrivals}
 use Rattle.clock27.specs.Departure.{departures}

@@ -1,4 +1,5 @@
--- The transport buffer of a stream (ISO/IEC 13818-1, 2.4.2.3): all bytes of its packets enter it as they arrive, and leave it at r bits a second.
+-- The transport buffer of a stream (ISO/IEC 13818-1, 2.4.2.3): all bytes of its packets enter it as they arrive, and
+-- leave it at r bits a second.
 use Rattle.std.specs.Prelude.{ℕ, ◌+◌, ◌-◌, ◌*◌, ◌<◌, ◌≤◌, Bool, List, [], ◌∷◌, ◌++◌, take, drop, map, All}
 use Rattle.clock27.specs.Arrival.{arrivals}
 use Rattle.clock27.specs.Departure.{departures}
@@ -10,7 +11,8 @@ use Rattle.unit_timing.specs.Schedule.{Packet}
 abbrev pub slots_of : List Packet → List ℕ
 slots_of packets = map (λ p. p.slot) packets
 
--- of a list with an entry for each byte of these packets, the entries of the payloads: the last `size` of each packet's 188
+-- of a list with an entry for each byte of these packets, the entries of the payloads: the last `size` of each packet's
+-- 188
 unfoldable pub of_payloads : List Packet → List ℕ → List ℕ
 of_payloads [] ds = []
 of_payloads (p ∷ packets) ds = drop (188 - p.size) (take 188 ds) ++ of_payloads packets (drop 188 ds)
@@ -19,7 +21,8 @@ of_payloads (p ∷ packets) ds = drop (188 - p.size) (take 188 ds) ++ of_payload
 abbrev pub tb_fullness : ℕ → ℕ → ℕ → List ℕ → ℕ
 tb_fullness rate r x slots = fullness x (arrivals r slots) (departures rate 0 (arrivals r slots))
 
--- when the payload bytes of these packets leave the transport buffer; `prev` is when the byte before them left, 0 where there is none
+-- when the payload bytes of these packets leave the transport buffer; `prev` is when the byte before them left, 0 where
+-- there is none
 abbrev pub pes_left : ℕ → ℕ → ℕ → List Packet → List ℕ
 pes_left rate r prev packets = of_payloads packets (departures rate prev (arrivals r (slots_of packets)))
 

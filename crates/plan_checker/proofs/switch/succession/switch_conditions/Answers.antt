@@ -2,7 +2,7 @@ use Rattle.std.proofs.Common.{sym}
 use Rattle.std.proofs.lemmas.Result.{err_from_is_err_and}
 use Rattle.slot_plan.proofs.Serving.{serves}
 use Rattle.plan_checker.proofs.Following.{second_fails, second_serves}
-use Rattle.plan_checker.proofs.succession.switch_conditions.Goals as goal
+use Rattle.plan_checker.proofs.switch.succession.switch_conditions.Goals as goal
 
 pub returns-in_err-conditions : goal.returns-in_err-conditions
 returns-in_err-conditions g c =

@@ -7,7 +7,7 @@ use Rattle.slot_plan.specs.Items.{marks}
 use Rattle.plan_checker.proofs.Extremes.{max_is}
 use Rattle.plan_checker.proofs.Marking.{position_own, next_position, position_small}
 use Rattle.plan_checker.proofs.Switching.{gap_after, walked_forward, before_end, gap_here}
-use Rattle.plan_checker.proofs.across.greatest_gap_across.Goals as goal
+use Rattle.plan_checker.proofs.switch.across.greatest_gap_across.Goals as goal
 
 pub loop-step-init : goal.loop-step-init
 loop-step-init c = record {

@@ -2,7 +2,7 @@ use Rattle.std.proofs.Common.{◌++◌}
 use Rattle.std.proofs.lemmas.Result.{err_from_is_err_and}
 use Rattle.slot_plan.specs.SwitchConditions.{pcr_switches, table_switches, stream_works, transport_works, system_works, lead_switches, main_switches}
 use Rattle.plan_checker.proofs.Listing.{then_after, then_before}
-use Rattle.plan_checker.proofs.succession.joint.Goals as goal
+use Rattle.plan_checker.proofs.switch.succession.joint.Goals as goal
 
 pub returns-in_err-pcr_switches : goal.returns-in_err-pcr_switches
 returns-in_err-pcr_switches g c =
