@@ -55,7 +55,9 @@ stream_joins d first second i s follows is =
     record {
       work = at_most_holds WorkSwitch 0 i (work_left d.rate s.rx (stream_claim first i).start (marks (Stream i) first.slots)) (stream_claim second i).start
           (holds_element (λ j t. stream_work_entry d first second j t ∷ []) d.streams i s follows.stream_works is);
-      lead_serves = λ m some below. rw (length_marks (Stream i) first.slots, length_marks (Stream i) second.slots) (lead m some below);
+      lead_serves = λ m some below.
+          let shorter = rw (length_marks (Stream i) first.slots, length_marks (Stream i) second.slots) at (lead m some below) in
+          rw (length_marks (Stream i) first.slots, length_marks (Stream i) second.slots) shorter;
       main_fits = rw (length_marks (Stream i) first.slots, length_marks (Stream i) second.slots) main;
     }
 
