@@ -1,4 +1,4 @@
--- A queue behind another that is no slower.
+-- A queue after another that is no slower.
 use Rattle.std.proofs.Common.{◌≡◌, ℕ, ◌+◌, ◌-◌, ◌≤◌, max, List, [], ◌∷◌, map, refl, arith, cond}
 use Rattle.std.proofs.lemmas.Bool.Decides.{nat_tests}
 use Rattle.clock27.specs.Departure.{departures}
@@ -6,24 +6,24 @@ use Rattle.clock27.specs.Fullness.{is_in_buffer, fullness}
 use Rattle.clock27.specs.Laws.{TandemLaw, SecondLaw}
 
 -- p, e and f are the last departures from the first queue, from the second, and from the second alone
-behind : (first second p e f : ℕ) (ts : List ℕ) → first ≤ second → p ≤ f → max e first ≡ f + first →
+later : (first second p e f : ℕ) (ts : List ℕ) → first ≤ second → p ≤ f → max e first ≡ f + first →
     departures second e (departures first p ts) ≡ map (λ d. d + first) (departures second f ts)
 unfolding departures
-behind first second p e f [] le pf ef = refl
-behind first second p e f (t ∷ ts) le pf ef =
+later first second p e f [] le pf ef = refl
+later first second p e f (t ∷ ts) le pf ef =
     let same : max (max t p + first) e + second ≡ max t f + second + first = omega arith in
     let lower : max t p + first ≤ max t f + second = omega arith in
     let higher : max (max t f + second + first) first ≡ max t f + second + first = omega arith in
-    let rest = behind first second (max t p + first) (max t f + second + first) (max t f + second) ts le lower higher in
+    let rest = later first second (max t p + first) (max t f + second + first) (max t f + second) ts le lower higher in
     rw (same, rest) refl
 
 pub tandem_law : TandemLaw
 tandem_law first second ts le =
     let nothing : 0 ≤ 0 = omega arith in
     let start : max 0 first ≡ 0 + first = omega arith in
-    behind first second 0 0 0 ts le nothing start
+    later first second 0 0 0 ts le nothing start
 
--- a byte held by the second queue would be held by it alone, `first` before
+-- a byte in the second queue would be in it alone, `first` before
 one_earlier : (x first prev t f : ℕ) →
     (let n : ℕ = cond (is_in_buffer x (max t prev + first) (f + first)) 1 0 in n) ≤ (let n : ℕ = cond (is_in_buffer (x - first) t f) 1 0 in n)
 one_earlier x first prev t f = grind (arith, nat_tests)

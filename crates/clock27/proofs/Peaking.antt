@@ -55,16 +55,16 @@ counted_in step x t prev pos come = elim (counted_one x t (max t prev + step)) [
   ]
 ]
 
--- times that climb from behind x are all behind x
-climbs_behind : (x from : ℕ) (ts : List ℕ) → x < from → Climbs from ts → All (λ t. x < t) ts
+-- times that climb from after x are all after x
+climbs_after : (x from : ℕ) (ts : List ℕ) → x < from → Climbs from ts → All (λ t. x < t) ts
 unfolding Climbs
-climbs_behind x from [] lt climbs = All-nil (λ t. x < t)
-climbs_behind x from (t ∷ ts) lt climbs =
+climbs_after x from [] lt climbs = All-nil (λ t. x < t)
+climbs_after x from (t ∷ ts) lt climbs =
     let here : x < t = omega (arith, climbs.0) in
     let next : x < suc t = omega arith in
-    All-cons (λ t. x < t) t ts here (climbs_behind x (suc t) ts next climbs.1)
+    All-cons (λ t. x < t) t ts here (climbs_after x (suc t) ts next climbs.1)
 
--- a byte alone behind the others: it is there, and so are those that leave after it came
+-- a byte alone after the others: it is there, and so are those that leave after it came
 alone : (step t prev : ℕ) → 0 < step → left_in step ((max t prev + step) - t) ≡ left_in step (prev - t) + 1
 alone step t prev pos =
     let e : (max t prev + step) - t ≡ (prev - t) + step = omega arith in
@@ -89,7 +89,7 @@ most_reached step pos t (u ∷ ts) prev from climbs = elim (cases_lt (found step
   | inr here ↦
       let same : t ≤ t = omega arith in
       let next : t < suc t = omega arith in
-      let none = fullness_before t (u ∷ ts) (departures step (max t prev + step) (u ∷ ts)) (climbs_behind t (suc t) (u ∷ ts) next climbs.1) in
+      let none = fullness_before t (u ∷ ts) (departures step (max t prev + step) (u ∷ ts)) (climbs_after t (suc t) (u ∷ ts) next climbs.1) in
       record { at = t; after = climbs.0; is = omega (arith, counted_in step t t prev pos same, alone step t prev pos, none) }
 ]
 
@@ -124,7 +124,7 @@ unfolding Climbs
 climbs_from low from [] le climbs = tt
 climbs_from low from (t ∷ ts) le climbs = (le_trans le climbs.0, climbs.1)
 
--- n bytes in a row, and times behind them
+-- n bytes in a row, and times after them
 climbs_row : (r i n : ℕ) (ts : List ℕ) → 0 < r → Climbs ((i + n) * r) ts → Climbs (i * r) (bytes_from r i n ++ ts)
 unfolding Climbs bytes_from
 climbs_row r i zero ts pos climbs = let e : i + 0 ≡ i = omega arith in rw e at climbs

@@ -1,8 +1,8 @@
 -- When bytes leave a buffer (ISO/IEC 13818-1, 2.4.2.3).
 use Rattle.std.specs.Prelude.{ℕ, ◌+◌, max, List, [], ◌∷◌}
 
--- the departures of bytes that arrive at these times: each leaves `step` after it arrived or after the byte before it left,
--- whichever is later; `prev` is when the byte before the first left, 0 where there is none
+-- the departures of bytes that arrive at these times: each leaves `step` after it arrived or after the byte before it
+-- left, whichever is later; `prev` is when the byte before the first left, 0 where there is none
 unfoldable pub departures : ℕ → ℕ → List ℕ → List ℕ
 departures step prev [] = []
 departures step prev (t ∷ ts) = (max t prev + step) ∷ departures step (max t prev + step) ts

@@ -1,11 +1,11 @@
 -- How many bytes a buffer holds (ISO/IEC 13818-1, 2.4.2.3).
 use Rattle.std.specs.Prelude.{ℕ, ◌+◌, ◌≤◌, Bool, cond, nat_le, nat_lt, ◌&&◌, List, [], ◌∷◌}
 
--- a byte that arrives at t and leaves at d is held at the moment x
+-- a byte that arrives at t and leaves at d is in the buffer at the moment x
 abbrev pub is_in_buffer : ℕ → ℕ → ℕ → Bool
 is_in_buffer x t d = nat_le t x && nat_lt x d
 
--- the number of bytes held at the moment x, of bytes with these arrivals and these departures
+-- the number of bytes in the buffer at the moment x, of bytes with these arrivals and these departures
 unfoldable pub fullness : ℕ → List ℕ → List ℕ → ℕ
 fullness x [] ds = 0
 fullness x (t ∷ ts) [] = 0

@@ -6,7 +6,7 @@ use Rattle.clock27.specs.Fullness.{fullness, Stays}
 use Rattle.clock27.specs.Recurrence.{Recur}
 use Rattle.clock27.specs.Release.{IsReleaseSlot, release}
 
--- the bytes that come later leave as they would behind the last of the earlier ones
+-- the bytes that come later leave as they would after the last of the earlier ones
 abbrev pub DeparturesLaw : Type 0
 DeparturesLaw = (step prev : ℕ) (xs ys : List ℕ) →
     departures step prev (xs ++ ys) ≡ departures step prev xs ++ departures step (last_left step prev xs) ys
@@ -35,33 +35,33 @@ EarliestLaw = (step prev first : ℕ) (ts : List ℕ) → All (λ t. first ≤ t
 abbrev pub RowLaw : Type 0
 RowLaw = (r i n : ℕ) → All (λ t. i * r ≤ t) (bytes_from r i n)
 
--- where no byte stays longer than `room` bytes take to leave, no more than `room` are held at any moment
+-- where no byte stays longer than `room` bytes take to leave, the fullness is at most `room` at any moment
 abbrev pub RoomLaw : Type 0
 RoomLaw = (x step room : ℕ) (ts : List ℕ) → 0 < step → Stays (room * step) ts (departures step 0 ts) → fullness x ts (departures step 0 ts) ≤ room
 
--- the bytes held are those of the first part and those of the rest
+-- the fullness is that of the first part and that of the rest
 abbrev pub FullnessLaw : Type 0
 FullnessLaw = (x : ℕ) (ts ts' ds ds' : List ℕ) → length ts ≡ length ds →
     fullness x (ts ++ ts') (ds ++ ds') ≡ fullness x ts ds + fullness x ts' ds'
 
--- no more are held than have arrivals
+-- it is no more than there are arrivals
 abbrev pub FullnessBound : Type 0
 FullnessBound = (x : ℕ) (ts ds : List ℕ) → fullness x ts ds ≤ length ts
 
--- none is held before all arrivals
+-- it is 0 before all arrivals
 abbrev pub FullnessBefore : Type 0
 FullnessBefore = (x : ℕ) (ts ds : List ℕ) → All (λ t. x < t) ts → fullness x ts ds ≡ 0
 
--- none is held once all have left
+-- it is 0 once all have left
 abbrev pub FullnessAfter : Type 0
 FullnessAfter = (x : ℕ) (ts ds : List ℕ) → All (λ d. d ≤ x) ds → fullness x ts ds ≡ 0
 
--- a queue behind one that is no slower: each byte leaves the second `first` later than it would leave the second alone
+-- a queue after one that is no slower: each byte leaves the second `first` later than it would leave the second alone
 abbrev pub TandemLaw : Type 0
 TandemLaw = (first second : ℕ) (ts : List ℕ) → first ≤ second →
     departures second 0 (departures first 0 ts) ≡ map (λ d. d + first) (departures second 0 ts)
 
--- so the second holds no more than it would alone, `first` before
+-- so the second is no fuller than it would be alone, `first` before
 abbrev pub SecondLaw : Type 0
 SecondLaw = (x first second : ℕ) (ts : List ℕ) → first ≤ second →
     fullness x (departures first 0 ts) (departures second 0 (departures first 0 ts)) ≤ fullness (x - first) ts (departures second 0 ts)
@@ -75,7 +75,7 @@ ScaleLaw = (k step prev : ℕ) (ts : List ℕ) →
 abbrev pub ArrivalsScaleLaw : Type 0
 ArrivalsScaleLaw = (k r : ℕ) (slots : List ℕ) → arrivals (k * r) slots ≡ map (λ t. k * t) (arrivals r slots)
 
--- and the number of bytes held is that at the last moment of the greater units
+-- and the fullness is that at the last moment of the greater units
 abbrev pub FullnessScaleLaw : Type 0
 FullnessScaleLaw = (x k : ℕ) (ts ds : List ℕ) → 0 < k → fullness x (map (λ t. k * t) ts) (map (λ t. k * t) ds) ≡ fullness (x / k) ts ds
 

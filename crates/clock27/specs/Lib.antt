@@ -6,3 +6,4 @@ pub mod Peak
 pub mod Recurrence
 pub mod Reference
 pub mod Release
+pub mod Units

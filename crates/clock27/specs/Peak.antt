@@ -4,7 +4,7 @@ use Rattle.clock27.specs.Arrival.{arrivals}
 use Rattle.clock27.specs.Departure.{departures}
 use Rattle.clock27.specs.Fullness.{fullness}
 
--- n is the greatest f over all moments: it is never passed, and it is reached
+-- n is the greatest f over all moments: none is greater, and it is reached
 pub record IsPeak (f : ℕ → ℕ) (n : ℕ) : Type 0 where
   pub never_more : (x : ℕ) → f x ≤ n
   pub moment : ℕ

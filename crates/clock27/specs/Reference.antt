@@ -1,5 +1,6 @@
 -- Program clock references (ISO/IEC 13818-1, 2.4.3.5).
 use Rattle.std.specs.Prelude.{ℕ, ◌+◌, ◌*◌, ◌/◌, ◌%◌, ◌^◌}
+use Rattle.clock27.specs.Units.{tick_units}
 
 -- program_clock_reference_base and program_clock_reference_extension
 pub record Reference : Type 0 where
@@ -10,9 +11,10 @@ pub record Reference : Type 0 where
 abbrev pub ticks_of : Reference → ℕ
 ticks_of pcr = 300 * pcr.base + pcr.extension
 
--- the clock at byte i of an output of `rate` bits a second, in ticks of 27 MHz, where it stood at `base0` units of 90 kHz at byte 0
+-- the clock at byte i of an output of `rate` bits a second, in ticks of 27 MHz, where it stood at `base0` units of 90
+-- kHz at byte 0
 abbrev pub pcr_ticks : ℕ → ℕ → ℕ → ℕ
-pcr_ticks rate base0 i = (216000000 * i / rate + 300 * base0) % (300 * 2 ^ 33)
+pcr_ticks rate base0 i = (tick_units * i / rate + 300 * base0) % (300 * 2 ^ 33)
 
 -- the reference that says so
 abbrev pub pcr_at : ℕ → ℕ → ℕ → Reference

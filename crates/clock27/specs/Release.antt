@@ -12,4 +12,4 @@ pub record IsReleaseSlot (rate moment slot : ℕ) : Type 0 where
 
 -- that slot for a unit due at `due`, which may be sent from `lead` before
 abbrev pub release : ℕ → ℕ → ℕ → ℕ
-release rate lead due = ((due - lead) * rate + 135359999) / 135360000
+release rate lead due = ((due - lead) * rate + (slot_units - 1)) / slot_units

@@ -34,7 +34,7 @@ pub fn peak()
     ensures departures { DeparturesClimb }
 {}
 
-/// Two queues, the second behind the first and no faster.
+/// Two queues, the second after the first and no faster.
 pub fn tandem()
     ensures departures { TandemLaw }
     ensures fullness { SecondLaw }

@@ -10,6 +10,7 @@
 //! - [`pcr`]: the time of a byte, and program clock references.
 //! - [`stamp`]: stamps of 33 bits.
 //! - [`release`]: the slot in which a unit is released.
+//! - [`units`]: how long a byte and a slot take, in whole numbers.
 //! - [`laws`]: laws of the times of bytes. The definitions in `specs/` say when bytes arrive at a
 //!   buffer, when they leave it, how many it holds, and how often something recurs.
 #![tactic(auto)]
@@ -19,11 +20,13 @@ pub mod pcr;
 pub mod rate;
 pub mod release;
 pub mod stamp;
+pub mod units;
 
 pub use pcr::{Pcr, byte_ticks};
 pub use rate::{Rate, RateError};
 pub use release::release_slot;
 pub use stamp::Stamp33;
+pub use units::{BYTE_UNITS, SLOT_MILLISECONDS, SLOT_UNITS};
 
 #[cfg(test)]
 mod tests;

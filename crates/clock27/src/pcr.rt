@@ -1,15 +1,17 @@
 //! Program clock references (ISO/IEC 13818-1, 2.4.3.5).
 ghost use Rattle.std.specs.Prelude.{◌≡◌, ℕ, ◌+◌, ◌*◌, ◌/◌, ◌^◌, ◌<◌};
 ghost use Rattle.clock27.specs.Reference.{Reference, ticks_of, pcr_ticks, pcr_at};
+ghost use Rattle.clock27.specs.Units.{tick_units};
 
 use crate::rate::Rate;
+use crate::units::TICK_UNITS;
 use std::marker::Model;
 
 /// The time of byte `i` of an output of this rate, in whole ticks of 27 MHz.
 pub fn byte_ticks(rate: Rate, i: u64) -> u128
-    ensures { result ≡ 216000000 * i / rate }
+    ensures { result ≡ tick_units * i / rate }
 {
-    216_000_000 * u128::from(i) / u128::from(rate.bits_per_second())
+    TICK_UNITS * u128::from(i) / u128::from(rate.bits_per_second())
 }
 
 /// A program clock reference: its base counts units of 90 kHz in 33 bits, its extension ticks of

@@ -3,9 +3,7 @@ ghost use Rattle.std.specs.Prelude.{◌≡◌, ◌-◌, ◌*◌, ◌<◌, ◌↔
 ghost use Rattle.clock27.specs.Release.{IsReleaseSlot, release};
 
 use crate::rate::Rate;
-
-/// The units of 90 kHz in a slot, times the rate: `188 * 8 * 90,000`.
-const SLOT_UNITS: u128 = 135_360_000;
+use crate::units::SLOT_UNITS;
 
 /// The first slot that begins no earlier than `lead` before the decoding time `dts`, both in units
 /// of 90 kHz; none where the time lies before the lead.

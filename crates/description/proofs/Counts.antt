@@ -46,7 +46,7 @@ no_fault d h =
     let two = or_none (unknown_key_fault d) (top_fault d) three.0 in
     record { top = two.1; network = three.1; program = four.1; stream = five.1; event = six.1; table = seven.1 }
 
--- a test that is not refused passed, and what is behind it is not refused
+-- a test that is not refused passed, and what is after it is not refused
 pub if_none : {X : Type 0} (b : Bool) (a : Option X) (x : X) → (if b then a else Some x) ≡ None → (b ≡ true) × (a ≡ None)
 if_none true a x h = (refl, h)
 if_none false a x h = absurd (cc)
@@ -76,7 +76,7 @@ pub elements-length : (absent : Bool) (key : List ℕ) (low high : ℕ) (d : Dat
     → HasLength low high (length (elements key d))
 elements-length absent key low high d zero h = tables_of_value absent low high (get key d) zero h
 
--- what is behind a map that gives nothing is nothing
+-- what is after a map that gives nothing is nothing
 pub map_none : {X Y : Type 0} (f : X → Y) (o : Option X) → option_map f o ≡ None → o ≡ None
 map_none f None h = refl
 map_none f (Some x) h = absurd (cc)

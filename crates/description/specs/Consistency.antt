@@ -37,7 +37,7 @@ end_of event = begin_of event + unwrap_or (event_duration event) 1
 abbrev pub overlaps : Data → Data → Bool
 overlaps event earlier = unwrap_or (owner_number earlier) 1 == unwrap_or (owner_number event) 1 && nat_lt (begin_of event) (end_of earlier)
 
--- the place of the first of the events, numbered from n on behind the earlier ones, that overlaps one before it
+-- the place of the first of the events, numbered from n on after the earlier ones, that overlaps one before it
 abbrev pub first_overlap : ℕ → List Data → List Data → Option ℕ
 first_overlap n earlier [] = None
 first_overlap n earlier (event ∷ events) =

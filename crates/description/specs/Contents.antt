@@ -1,5 +1,5 @@
--- What a document describes: each key's value, with the least value of its range where the key is refused. (The document
--- is refused then, and no description has that value.)
+-- What a document describes: each key's value, with the least value of its range where the key is refused. (The
+-- document is refused then, and no description has that value.)
 use Rattle.std.specs.Prelude.{ℕ, ◌==◌, Bool, false, List, [], None, Some, map, filter, unwrap_or, option_map, codes}
 use Rattle.std.specs.List.{filter_map}
 use Rattle.toml.specs.Data.{Data}

@@ -136,7 +136,7 @@ section_count d t = length (section_lengths d t)
 abbrev pub greatest_length : Described → ℕ → ℕ → ℕ
 greatest_length d t j = slice_index_or (section_lengths d t) j 0
 
--- the packets that a section of that length takes behind its pointer_field (ISO/IEC 13818-1, 2.4.4.1)
+-- the packets that a section of that length takes after its pointer_field (ISO/IEC 13818-1, 2.4.4.1)
 abbrev pub places_of : ℕ → ℕ
 places_of l = (1 + l + 183) / 184
 

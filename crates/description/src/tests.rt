@@ -1,5 +1,6 @@
 //! Worked values: a base description, what it says, the refusals of its changes, and its sections.
 
+mod limits;
 mod refusals;
 mod texts;
 mod values;

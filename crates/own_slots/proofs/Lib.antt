@@ -6,4 +6,5 @@ pub mod Pacing
 pub mod Working
 pub mod Recurring
 pub mod Joining
+pub mod Parting
 mod Rows

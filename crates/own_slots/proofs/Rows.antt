@@ -1,4 +1,5 @@
--- Numbers of worked plans, as theorems: a wrong number fails the check. The plan has 120 slots at 1,504,000 bits/s: a stream in each fourth slot from 0 on, PCRs in slots 1, 25, 49, 73 and 97, the PAT in slot 2, the PMT in slot 3.
+-- Numbers of worked plans, as theorems: a wrong number fails the check. The plan has 120 slots at 1,504,000 bits/s: a
+-- stream in each fourth slot from 0 on, PCRs in slots 1, 25, 49, 73 and 97, the PAT in slot 2, the PMT in slot 3.
 use Rattle.std.proofs.Common.{◌≡◌, ℕ, zero, suc, Bool, true, false, List, [], ◌∷◌, ◌++◌, take, replicate, refl}
 use Rattle.own_slots.specs.Slots.{own_before}
 use Rattle.own_slots.specs.Period.{places}
@@ -103,7 +104,8 @@ short_left : work_left 1504000 80000 0 (take 24 system_marks) ≡ 249664000
 unfolding system_marks others work_at
 short_left = refl
 
--- a rate of 38,000,000 in 600 slots, the stream in slots 0 to 4: the greatest work before an own slot with its packet is over 512 bytes' worth
+-- a rate of 38,000,000 in 600 slots, the stream in slots 0 to 4: the greatest work before an own slot with its packet
+-- is over 512 bytes' worth
 crowded_before : most_before 38000000 2000000 0 (repeated 5 (true ∷ []) ++ others 595) ≡ 34592000000
 unfolding repeated others greatest work_at
 crowded_before = refl

@@ -6,3 +6,4 @@ pub mod Spread
 pub mod Work
 pub mod Rounds
 pub mod Switch
+pub mod Parts

@@ -1,4 +1,5 @@
--- A plan is one period of slots, repeated for all time. For one item the period is a list of marks: at each slot, whether it is the item's own.
+-- A plan is one period of slots, repeated for all time. For one item the period is a list of marks: at each slot,
+-- whether it is the item's own.
 use Rattle.std.specs.Prelude.{◌≡◌, ℕ, suc, ◌+◌, ◌-◌, ◌*◌, ◌/◌, ◌%◌, ◌<◌, Bool, true, false, List, [], ◌∷◌, length, slice_index_or}
 use Rattle.own_slots.specs.Slots.{own_before, Enumerates}
 
@@ -20,7 +21,8 @@ per_period marks = length (places 0 marks)
 abbrev pub position : List Bool → ℕ → ℕ
 position marks i = slice_index_or (places 0 marks) (i % per_period marks) 0 + i / per_period marks * length marks
 
--- how far before slot 0 the own slot number -x stands, where the period is continued below 0 (x from 1 on): x periods later it is own slot number x * per_period - x
+-- how far before slot 0 the own slot number -x stands, where the period is continued below 0 (x from 1 on): x periods
+-- later it is own slot number x * per_period - x
 abbrev pub back : List Bool → ℕ → ℕ
 back marks x = x * length marks - position marks (x * per_period marks - x)
 

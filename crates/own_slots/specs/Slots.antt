@@ -1,4 +1,6 @@
--- An item of a plan (a stream, the PCRs of a program, a table, the system tables of a program) is a function of the slot number over all time: is this slot the item's own? All that the timing says of an item is said by one count, the own slots before a slot.
+-- An item of a plan (a stream, the PCRs of a program, a table, the system tables of a program) is a function of the
+-- slot number over all time: is this slot the item's own? All that the timing says of an item is said by one count, the
+-- own slots before a slot.
 use Rattle.std.specs.Prelude.{◌≡◌, ℕ, zero, suc, ◌+◌, ◌*◌, ◌<◌, ◌≤◌, Bool, true, cond, List, [], ◌∷◌}
 
 -- the number of own slots before slot s, and so the number (from 0) of the own slot that stands at s
@@ -14,7 +16,8 @@ Serves own w m = (s : ℕ) → own_before own s + m ≤ own_before own (s + w)
 abbrev pub Spares : (ℕ → Bool) → ℕ → ℕ → Type 0
 Spares own w m = (s : ℕ) → own_before own (s + w) ≤ own_before own s + m
 
--- a pace: m own slots come within each window of w slots, wherever base + m * cost < share * (w + 1); in words, m own slots take m * cost / share slots, and base / share more
+-- a pace: m own slots come within each window of w slots, wherever base + m * cost < share * (w + 1); in words, m own
+-- slots take m * cost / share slots, and base / share more
 abbrev pub ServesAt : (ℕ → Bool) → ℕ → ℕ → ℕ → Type 0
 ServesAt own share cost base = (m w : ℕ) → base + m * cost < share * (w + 1) → Serves own w m
 

@@ -1,15 +1,18 @@
--- Spread: how unevenly the own slots stand in a period of N slots that has c of them. Own slot number i of an even plan would stand at i * N / c.
+-- Spread: how unevenly the own slots stand in a period of N slots that has c of them. Own slot number i of an even plan
+-- would stand at i * N / c.
 use Rattle.std.specs.Prelude.{◌≡◌, ℕ, ◌+◌, ◌-◌, ◌*◌, ◌/◌, ◌<◌, ◌≤◌, Bool, cond, List, length}
 use Rattle.own_slots.specs.Slots.{own_before, Spares, ServesAt}
 use Rattle.own_slots.specs.Period.{own, per_period, position}
 use Rattle.own_slots.specs.Extremes.{greatest, least}
 
--- the greatest (c * P(i) - i * N) - (c * P(j) - j * N) over all pairs i, j of one period, P(i) the position of own slot number i
+-- the greatest (c * P(i) - i * N) - (c * P(j) - j * N) over all pairs i, j of one period, P(i) the position of own slot
+-- number i
 abbrev pub spread : List Bool → ℕ
 spread marks = greatest (per_period marks) (λ i. greatest (per_period marks) (λ j.
     (per_period marks * position marks i + j * length marks) - (per_period marks * position marks j + i * length marks)))
 
--- c * s - i * N, raised by c * N so that it is a natural number: where own slot number i of the period stands, at slot s
+-- c * s - i * N, raised by c * N so that it is a natural number: where own slot number i of the period stands, at slot
+-- s
 abbrev pub raised : ℕ → ℕ → ℕ → ℕ → ℕ
 raised c n s i = c * s + (c - i) * n
 

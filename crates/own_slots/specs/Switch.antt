@@ -1,4 +1,5 @@
--- Two plans: the first for a whole number of its periods, then the second. An item's own slots are counted on over the switch.
+-- Two plans: the first for a whole number of its periods, then the second. An item's own slots are counted on over the
+-- switch.
 use Rattle.std.specs.Prelude.{ℕ, ◌+◌, ◌-◌, ◌*◌, ◌<◌, ◌≤◌, max, Bool, cond, nat_lt, List, length}
 use Rattle.own_slots.specs.Slots.{Serves, Spares, ServesAt}
 use Rattle.own_slots.specs.Period.{own, per_period, position, back}
@@ -14,11 +15,13 @@ joined first second at s = cond (nat_lt s at) (first s) (second (s - at))
 abbrev pub joined_work : (ℕ → ℕ) → (ℕ → ℕ) → ℕ → ℕ → ℕ
 joined_work first second at s = cond (nat_lt s at) (first s) (second (s - at))
 
--- by how many slots the second plan's last own slot stands later, counted from its period's end, than the first plan's: 0 where it stands earlier
+-- by how many slots the second plan's last own slot stands later, counted from its period's end, than the first plan's:
+-- 0 where it stands earlier
 abbrev pub shift : List Bool → List Bool → ℕ
 shift first second = back first 1 - back second 1
 
--- gaps across the switch: the second plan's own slot number k - x comes within g slots of the first plan's own slot number -x, for each x from 1 to k
+-- gaps across the switch: the second plan's own slot number k - x comes within g slots of the first plan's own slot
+-- number -x, for each x from 1 to k
 abbrev pub SwitchGapLaw : Type 0
 SwitchGapLaw = (first second : List Bool) (periods k g : ℕ) → 0 < per_period first → 0 < per_period second →
     gap first k ≤ g → gap second k ≤ g → ((x : ℕ) → 1 ≤ x → x ≤ k → position second (k - x) + back first x ≤ g) →
@@ -32,7 +35,8 @@ SwitchRateLaw = (first second : List Bool) (periods a b : ℕ) → 0 < per_perio
     (max (length first * per_period second) (length second * per_period first))
     (a * per_period second + b * per_period first + per_period first * per_period second * shift first second)
 
--- work over the switch, at a period's end of the first plan: what its period leaves is at most what the second begins with
+-- work over the switch, at a period's end of the first plan: what its period leaves is at most what the second begins
+-- with
 abbrev pub SwitchWorkLaw : Type 0
 SwitchWorkLaw = (rate drain room : ℕ) (start peak : ℕ) (first : List Bool) (next_start next_peak : ℕ) (second : List Bool) (periods : ℕ) →
     0 < length first → 0 < length second → HoldsWork rate drain room start peak first → HoldsWork rate drain room next_start next_peak second →

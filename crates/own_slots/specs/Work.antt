@@ -1,4 +1,6 @@
--- Work of a buffer that is filled by packets in its own slots and drained at a steady rate. With an output of `rate` bits/s and a drain of `drain` bits/s, work is counted in units of 8 / (rate * drain) seconds: a byte is worth `rate` units, and `drain` units pass while a byte of the output is sent. A slot is 188 bytes.
+-- Work of a buffer that is filled by packets in its own slots and drained at a steady rate. With an output of `rate`
+-- bits/s and a drain of `drain` bits/s, work is counted in units of 8 / (rate * drain) seconds: a byte is worth `rate`
+-- units, and `drain` units pass while a byte of the output is sent. A slot is 188 bytes.
 use Rattle.std.specs.Prelude.{◌≡◌, ℕ, ◌+◌, ◌-◌, ◌*◌, ◌%◌, ◌<◌, ◌≤◌, Bool, true, false, cond, List, take, length, slice_index_or, fold}
 use Rattle.own_slots.specs.Period.{own}
 use Rattle.own_slots.specs.Extremes.{greatest}
@@ -31,13 +33,15 @@ most_after rate drain start marks = greatest (length marks) (after_at rate drain
 abbrev pub work_left : ℕ → ℕ → ℕ → List Bool → ℕ
 work_left rate drain start marks = work_at rate drain start marks (length marks)
 
--- the claims of one period: it begins with at most `start` and so may be repeated, never holds more than `room` bytes, and leaves at most `peak` after an own slot
+-- the claims of one period: it begins with at most `start` and so may be repeated, never holds more than `room` bytes,
+-- and leaves at most `peak` after an own slot
 pub record HoldsWork (rate drain room start peak : ℕ) (marks : List Bool) : Type 0 where
   pub fits : most_before rate drain start marks ≤ room * rate
   pub peaks : most_after rate drain start marks ≤ peak
   pub carries : work_left rate drain start marks ≤ start
 
--- at slot s, W bounds the work before the slot and the next bounds it after; an own slot finds room for its packet, and leaves at most `peak`
+-- at slot s, W bounds the work before the slot and the next bounds it after; an own slot finds room for its packet, and
+-- leaves at most `peak`
 pub record WorkStep (own : ℕ → Bool) (rate drain room peak : ℕ) (W : ℕ → ℕ) (s : ℕ) : Type 0 where
   pub idle : own s ≡ false → W s - 188 * drain ≤ W (s + 1)
   pub busy : own s ≡ true → (W s - 188 * drain) + 188 * rate ≤ W (s + 1)

@@ -6,12 +6,14 @@
 //! nothing, and its contract says what holds of the definitions. A crate above calls it where it needs the fact.
 //!
 //! - [`positions`]: which own slot stands where.
+//! - [`parts`]: a part of an item's own slots.
 //! - [`windows`]: gaps and spread of one period, as windows of slots over all time.
 //! - [`work`]: work of a buffer that the own slots fill, from one period to all time.
 //! - [`rounds`]: recurrence of PCRs and of the sections of a table.
 //! - [`switch`]: two plans, the second from a period's end of the first on.
 #![tactic(auto)]
 
+pub mod parts;
 pub mod positions;
 pub mod rounds;
 pub mod switch;

@@ -1,20 +1,23 @@
 -- What a plan may claim of a stream's spread: the stream's deadlines bound it.
 use Rattle.std.specs.Prelude.{ℕ, ◌+◌, ◌-◌, ◌*◌, ◌^◌, ◌<◌, ◌≤◌, None, length, get_or}
-use Rattle.std.proofs.Common.{◌≡◌, refl, arith}
+use Rattle.std.proofs.Common.{◌≡◌, arith}
 use Rattle.std.proofs.lemmas.Nat.{mul-le}
 use Rattle.std.proofs.lemmas.Grind.{common_steps}
 use Rattle.std.proofs.lemmas.List.Elements.{All-get_or}
 use Rattle.clock27.specs.Release.{slot_units}
 use Rattle.own_slots.specs.Period.{per_period}
+use Rattle.unit_timing.specs.Conditions.{packets_in_row, lead_needed, time_given}
 use Rattle.description.specs.Described.{Described, DescribedStream}
 use Rattle.description.specs.Ranges.{IsInRange, IsStream}
 use Rattle.slot_plan.specs.declared.slot.Item.TheVariants.{Stream}
+use Rattle.slot_plan.specs.declared.condition.Condition.TheVariants.{StreamLead}
 use Rattle.slot_plan.specs.Planned.{Planned}
 use Rattle.slot_plan.specs.Items.{marks}
 use Rattle.slot_plan.specs.Entries.{first_failing}
-use Rattle.slot_plan.specs.Conditions.{counting, group_part, packets_of_units, stream_claim, stream_lead_entry, stream_leads}
-use Rattle.slot_plan.proofs.Holding.{holds_at}
-use Rattle.slot_plan.proofs.Elements.{holds_count, no_count}
+use Rattle.slot_plan.specs.Claims.{declaration, stream_claim, stream_share}
+use Rattle.slot_plan.specs.Conditions.{counting, group_part, stream_lead_entry, stream_leads}
+use Rattle.slot_plan.proofs.Holding.{holds_at, at_most_holds}
+use Rattle.slot_plan.proofs.Elements.{holds_count}
 
 cancelled : (a b c : ℕ) → 0 < c → a * c ≤ b * c → a ≤ b
 cancelled a b c some le = grind (arith, common_steps)
@@ -37,8 +40,6 @@ spread_small d p i s ranges is lt few none =
     let here : first_failing (counting (stream_lead_entry d p i s) 1 s.group) ≡ None = rw (zero_on, ← is) at all in
     let one = holds_count (stream_lead_entry d p i s) 1 s.group 0 (omega (arith, stream.some_group)) here in
     let claim = stream_claim p i in let c = per_period (marks (Stream i) p.slots) in
-    let holds = no_count 7 (group_part s 1) i
-    ((claim.spread + packets_of_units s 1 * length p.slots + c) * slot_units * s.rx + c * claim.peak * 720000)
-    (c * (s.lead + (1 - 1) * s.interval) * d.rate * s.rx) refl one in
-    claim_bound claim.spread (packets_of_units s 1) (length p.slots) c s.rx claim.peak s.lead s.interval d.rate
+    let holds = at_most_holds StreamLead (group_part s 1) i (lead_needed (declaration s) (stream_share p i) 1) (time_given d.rate (declaration s) c 1) one in
+    claim_bound claim.spread (packets_in_row (declaration s) 1) (length p.slots) c s.rx claim.peak s.lead s.interval d.rate
     (omega (arith, stream.least_rx)) few stream.most_lead ranges.most_rate holds

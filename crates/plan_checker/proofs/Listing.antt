@@ -109,7 +109,7 @@ shape_fails d p e some = some ∙ ap first_failing (sym same)
     same : entries d p ≡ shape_entries d p
     same = rw (← some) refl
 
--- and those of the timing behind them where none does
+-- and those of the timing after them where none does
 pub shape_holds : (d : Described) (p : Planned) (r : Option Entry) → None ≡ first_failing (shape_entries d p) → r ≡ first_failing (timing_entries d p) →
     r ≡ first_failing (entries d p)
 shape_holds d p r none timing = then_after (shape_entries d p) (timing_entries d p) r none timing ∙ ap first_failing (sym same)

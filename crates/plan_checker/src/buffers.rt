@@ -2,27 +2,18 @@
 
 ghost use Rattle.std.specs.Prelude.{◌≡◌, ◌<◌, ◌⊎◌, ◌∷◌, [], length};
 ghost use Rattle.description.specs.Ranges.{IsStream};
-ghost use Rattle.slot_plan.specs.Entries.{entry, first_failing};
+ghost use Rattle.slot_plan.specs.Entries.{at_most, first_failing};
 ghost use Rattle.slot_plan.specs.Conditions.{stream_buffer_entries, transport_buffer_entries, system_buffer_entries, stream_buffers, transport_buffers, system_buffers};
 ghost use Rattle.slot_plan.specs.Shape.{IsShaped};
-ghost use Rattle.plan_checker.specs.Refused.{code_of, failed};
+ghost use Rattle.plan_checker.specs.Refused.{failed};
 
 use crate::claims::{claim_of_program, claim_of_stream};
 use crate::comparing::at_most;
-use crate::refusal::{Condition, Refusal};
+use crate::refusal::Refusal;
 use crate::work::{Work, work_of};
-use slot_plan::{Description, Item, Plan, Stream};
+use slot_plan::{Condition, Description, Item, Plan, Stream};
 use std::alloc::Allocator;
-
-/// The bytes of a transport buffer and the rate at which a program's is drained, in bits/s.
-const TRANSPORT_ROOM: u64 = 512;
-
-const TRANSPORT_DRAIN: u64 = 1_000_000;
-
-/// The bytes of a program's system buffer and the rate at which it is drained, in bits/s.
-const SYSTEM_ROOM: u64 = 1_536;
-
-const SYSTEM_DRAIN: u64 = 80_000;
+use unit_timing::buffers::{BSYS_DRAIN, BSYS_SIZE, SYSTEM_TB_DRAIN, TB_SIZE};
 
 /// The three parts of a buffer: a packet finds `room`, the work after it is at most `peak`, and a period leaves at most
 /// the work `start` with which it began.
@@ -35,9 +26,9 @@ fn buffer(
     peak: u64,
 ) -> Result<(), Refusal>
     ensures { failed result ≡ first_failing (
-        entry (code_of condition) 1 item work.most_before room
-        ∷ entry (code_of condition) 2 item work.most_after peak
-        ∷ entry (code_of condition) 3 item work.left start ∷ []) }
+        at_most condition 1 item work.most_before room
+        ∷ at_most condition 2 item work.most_after peak
+        ∷ at_most condition 3 item work.left start ∷ []) }
 {
     at_most(condition, 1, item, work.most_before as u128, room as u128)?;
     at_most(condition, 2, item, work.most_after as u128, peak as u128)?;
@@ -74,7 +65,7 @@ fn stream_buffer<A: Allocator>(
     let rate = description.rate().bits_per_second();
     let item = Item::Stream(i as u8);
     let work = work_of(plan.slots(), item, rate, stream.rx as u64, claim.start);
-    let room = TRANSPORT_ROOM * rate;
+    let room = TB_SIZE * rate;
     buffer(
         Condition::TransportBuffer,
         i as u32,
@@ -116,10 +107,10 @@ fn transport_buffer<A: Allocator>(
         plan.slots(),
         item,
         rate,
-        TRANSPORT_DRAIN,
+        SYSTEM_TB_DRAIN,
         claim.transport_start,
     );
-    let room = TRANSPORT_ROOM * rate;
+    let room = TB_SIZE * rate;
     buffer(
         Condition::TransportBuffer,
         number,
@@ -157,8 +148,8 @@ fn system_buffer<A: Allocator>(
     let claim = claim_of_program(plan, i);
     let rate = description.rate().bits_per_second();
     let item = Item::System(i as u8);
-    let work = work_of(plan.slots(), item, rate, SYSTEM_DRAIN, claim.system_start);
-    let room = SYSTEM_ROOM * rate;
+    let work = work_of(plan.slots(), item, rate, BSYS_DRAIN, claim.system_start);
+    let room = BSYS_SIZE * rate;
     buffer(
         Condition::SystemBuffer,
         i as u32,

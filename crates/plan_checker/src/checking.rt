@@ -20,8 +20,9 @@ pub fn conditions<A: Allocator>(description: &Description, plan: &Plan<A>) -> Re
     timing(description, plan)
 }
 
-/// The plan as one that serves the description, where it keeps every condition. Else the first that it does not keep, by
-/// its number, then its item and part (of the shape: by part, then item), with its two numbers; and both are handed back.
+/// The plan as one that serves the description, where it keeps every condition. Else the first that it does not keep,
+/// by its number, then its item and part (of the shape: by part, then item), with its two numbers; and both are handed
+/// back.
 pub fn check<A: Allocator>(
     description: Description,
     plan: Plan<A>,

@@ -1,7 +1,7 @@
 //! What a plan claims of an item.
 
 ghost use Rattle.std.specs.Prelude.{◌≡◌, ◌^◌, ◌<◌, length};
-ghost use Rattle.slot_plan.specs.Conditions.{stream_claim, program_claim};
+ghost use Rattle.slot_plan.specs.Claims.{stream_claim, program_claim};
 
 use slot_plan::{Plan, ProgramEntry, StreamEntry};
 use std::alloc::Allocator;

@@ -9,12 +9,10 @@ ghost use Rattle.plan_checker.specs.Refused.{failed};
 
 use crate::comparing::at_most;
 use crate::gap::greatest_gap;
-use crate::refusal::{Condition, Refusal};
-use slot_plan::{Description, Item, Plan, Program};
+use crate::refusal::Refusal;
+use clock27::SLOT_MILLISECONDS;
+use slot_plan::{Condition, Description, Item, Plan, Program};
 use std::alloc::Allocator;
-
-/// A slot of 1,504 bits, in the thousandths of a second in which limits are given.
-const SLOT_BITS: u128 = 1_504_000;
 
 /// The PCRs of each program recur within its limit.
 pub fn pcr_gaps<A: Allocator>(description: &Description, plan: &Plan<A>) -> Result<(), Refusal>
@@ -38,7 +36,7 @@ fn pcr_gap<A: Allocator>(
     requires small { i < 256 }
     ensures { failed result ≡ first_failing (pcr_gap_entry description.now plan.now i program.now ∷ []) }
 {
-    let gap = greatest_gap(plan.slots(), Item::Pcr(i as u8), 1) as u128 * SLOT_BITS;
+    let gap = greatest_gap(plan.slots(), Item::Pcr(i as u8), 1) as u128 * SLOT_MILLISECONDS;
     let limit = program.pcr_limit() as u128 * description.rate().bits_per_second() as u128;
     at_most(Condition::PcrGap, 0, i as u32, gap, limit)
 }
@@ -65,7 +63,7 @@ fn table_gap<A: Allocator>(
 {
     description.keeps_ranges();
     let places = description.round_places(t) as u64;
-    let gap = greatest_gap(plan.slots(), Item::Table(t as u8), places) as u128 * SLOT_BITS;
+    let gap = greatest_gap(plan.slots(), Item::Table(t as u8), places) as u128 * SLOT_MILLISECONDS;
     let limit = description.table_limit(t) as u128 * description.rate().bits_per_second() as u128;
     at_most(Condition::TableGap, 0, t as u32, gap, limit)
 }

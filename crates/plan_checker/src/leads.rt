@@ -4,18 +4,20 @@ ghost use Rattle.std.specs.Prelude.{◌≡◌, ◌<◌, ◌≤◌, ◌∷◌, []
 ghost use Rattle.own_slots.specs.Period.{per_period};
 ghost use Rattle.description.specs.Ranges.{IsStream};
 ghost use Rattle.description.specs.Tables.{greatest_pieces};
+ghost use Rattle.unit_timing.specs.Conditions.{packets_in_row};
+ghost use Rattle.slot_plan.specs.Claims.{declaration};
 ghost use Rattle.slot_plan.specs.Items.{marks};
 ghost use Rattle.slot_plan.specs.Entries.{first_failing};
-ghost use Rattle.slot_plan.specs.Conditions.{counting, group_part, packets_of_units, stream_lead_entry, stream_leads};
+ghost use Rattle.slot_plan.specs.Conditions.{counting, group_part, stream_lead_entry, stream_leads};
 ghost use Rattle.slot_plan.specs.Shape.{IsShaped};
 ghost use Rattle.plan_checker.specs.Refused.{failed};
 
 use crate::claims::claim_of_stream;
 use crate::comparing::at_most;
 use crate::counting::own_count;
-use crate::refusal::{Condition, Refusal};
+use crate::refusal::Refusal;
 use crate::sides::{lead_given, lead_needed};
-use slot_plan::{Description, Item, Plan, Stream};
+use slot_plan::{Condition, Description, Item, Plan, Stream};
 use std::alloc::Allocator;
 
 /// The packets of a stream's greatest unit, with the longest PES header of 19 bytes (ISO/IEC 13818-1, 2.4.3.7).
@@ -30,7 +32,7 @@ pub fn pieces_of_unit(stream: &Stream) -> u64
 /// The most packets of so many units in a row, at most a group.
 pub fn packets_of_units(stream: &Stream, units: u8) -> u64
     requires { IsStream stream.now }
-    ensures packets { result ≡ packets_of_units stream.now units }
+    ensures packets { result ≡ packets_in_row (declaration stream.now) units }
     ensures few { result ≤ stream.now.group_packets }
 {
     (units as u64 * pieces_of_unit(stream)).min(stream.group_packets as u64)

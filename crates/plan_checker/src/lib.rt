@@ -2,7 +2,6 @@
 //! buffers and deadlines that it does not keep.
 #![tactic(auto)]
 
-mod across;
 mod buffers;
 mod checked_plan;
 mod checked_switch;
@@ -19,7 +18,6 @@ mod refusal;
 mod shape;
 mod sides;
 mod spread;
-mod succession;
 mod switch;
 mod timing;
 mod waiting;
@@ -28,8 +26,9 @@ mod work;
 pub use checked_plan::CheckedPlan;
 pub use checked_switch::CheckedSwitch;
 pub use checking::check;
-pub use refusal::{Condition, Refusal};
-pub use succession::check_switch;
+pub use refusal::Refusal;
+pub use slot_plan::{Condition, Relation};
+pub use switch::succession::check_switch;
 
 #[cfg(test)]
 mod tests;

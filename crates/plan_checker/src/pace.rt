@@ -10,10 +10,10 @@ ghost use Rattle.plan_checker.specs.Refused.{failed};
 use crate::claims::claim_of_stream;
 use crate::comparing::at_most;
 use crate::counting::own_count;
-use crate::refusal::{Condition, Refusal};
+use crate::refusal::Refusal;
 use crate::sides::{rate_given, rate_needed};
 use crate::spread::spread_of;
-use slot_plan::{Description, Item, Plan, Stream};
+use slot_plan::{Condition, Description, Item, Plan, Stream};
 use std::alloc::Allocator;
 
 /// The own slots of each stream stray from even spacing by no more than claimed.

@@ -1,69 +1,9 @@
 //! Why a plan is refused.
 
-ghost use Rattle.std.specs.Prelude.{◌≡◌};
-ghost use Rattle.plan_checker.specs.Refused.{code_of};
-
+use slot_plan::{Condition, Relation};
 use thiserror::Error;
 
-/// What a plan has to keep. The last five are those of a second plan after a first one.
-#[derive(Clone, Copy, Debug, PartialEq, Eq)]
-pub enum Condition {
-    /// The period's length, the items that its slots name and that have slots, the entries of the certificate.
-    Shape,
-    /// PCRs recur within the program's limit (ISO/IEC 13818-1, 2.7.2).
-    PcrGap,
-    /// Sections recur within the table's limit (ETSI TR 101 290, 5.2).
-    TableGap,
-    /// A stream's own slots stray from even spacing by no more than claimed.
-    Spread,
-    /// A stream has slots enough for its units on end.
-    StreamRate,
-    /// A transport buffer of 512 bytes never overflows (ISO/IEC 13818-1, 2.4.2.3).
-    TransportBuffer,
-    /// A unit has left the transport buffer by its decoding time.
-    StreamLead,
-    /// What waits for its decoding time finds room in the main buffer.
-    MainBuffer,
-    /// A program's system buffer of 1,536 bytes never overflows.
-    SystemBuffer,
-    /// PCRs recur across the switch.
-    PcrSwitch,
-    /// Sections recur across the switch.
-    TableSwitch,
-    /// The first plan leaves no more work than the second begins with.
-    WorkSwitch,
-    /// A unit sent across the switch has left the transport buffer by its decoding time.
-    LeadSwitch,
-    /// What waits across the switch finds room in the main buffer.
-    MainSwitch,
-}
-
-impl Condition {
-    /// The number of the condition, 1 to 9 and 12 to 16.
-    pub fn code(self) -> u8
-        ensures { result ≡ code_of self }
-    {
-        match self {
-            Condition::Shape => 1,
-            Condition::PcrGap => 2,
-            Condition::TableGap => 3,
-            Condition::Spread => 4,
-            Condition::StreamRate => 5,
-            Condition::TransportBuffer => 6,
-            Condition::StreamLead => 7,
-            Condition::MainBuffer => 8,
-            Condition::SystemBuffer => 9,
-            Condition::PcrSwitch => 12,
-            Condition::TableSwitch => 13,
-            Condition::WorkSwitch => 14,
-            Condition::LeadSwitch => 15,
-            Condition::MainSwitch => 16,
-        }
-    }
-}
-
-/// The first condition that a plan does not keep: its two numbers should have been `left <= right` (equal, for the
-/// entries of a certificate).
+/// The first condition that a plan does not keep, with the two numbers that do not compare as they have to.
 #[derive(Clone, Copy, Debug, PartialEq, Eq, Error)]
 #[error("condition {condition:?}, part {part}, item {item}: {left} is not within {right}")]
 pub struct Refusal {
@@ -72,6 +12,8 @@ pub struct Refusal {
     pub part: u8,
     /// The number of the item that it is about.
     pub item: u32,
+    /// How the two numbers should have compared.
+    pub relation: Relation,
     pub left: u128,
     pub right: u128,
 }

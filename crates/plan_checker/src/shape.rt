@@ -7,9 +7,12 @@ ghost use Rattle.plan_checker.specs.Refused.{failed};
 
 use crate::comparing::{as_many, at_most};
 use crate::counting::own_count;
-use crate::refusal::{Condition, Refusal};
-use slot_plan::{Description, Item, Plan, Slot};
+use crate::refusal::Refusal;
+use slot_plan::{Condition, Description, Item, Plan, Slot};
 use std::alloc::Allocator;
+
+/// The slots of a period, at most.
+const LONGEST_PERIOD: u128 = 65_536;
 
 /// The conditions of code 1.
 pub fn shape<A: Allocator>(description: &Description, plan: &Plan<A>) -> Result<(), Refusal>
@@ -29,7 +32,7 @@ fn period<A: Allocator>(plan: &Plan<A>) -> Result<(), Refusal>
 {
     let slots = plan.slots().len() as u128;
     at_most(Condition::Shape, 1, 0, 1, slots)?;
-    at_most(Condition::Shape, 2, 0, slots, 65_536)
+    at_most(Condition::Shape, 2, 0, slots, LONGEST_PERIOD)
 }
 
 /// Each slot names an item of the description.
@@ -106,12 +109,16 @@ fn claims<A: Allocator>(description: &Description, plan: &Plan<A>) -> Result<(),
 {
     let certificate = plan.certificate();
     as_many(
+        Condition::Shape,
         5,
+        0,
         certificate.streams.len() as u128,
         description.streams().len() as u128,
     )?;
     as_many(
+        Condition::Shape,
         6,
+        0,
         certificate.programs.len() as u128,
         description.programs().len() as u128,
     )

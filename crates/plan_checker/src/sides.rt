@@ -2,13 +2,10 @@
 
 ghost use Rattle.std.specs.Prelude.{◌≡◌, ◌+◌, ◌-◌, ◌*◌, ◌/◌, ◌^◌, ◌<◌, ◌≤◌, max};
 ghost use Rattle.clock27.specs.Release.{slot_units};
+ghost use Rattle.clock27.specs.Units.{byte_units};
 ghost use Rattle.own_slots.specs.Spread.{most_within};
 
-/// A slot of an output of R bits/s lasts this many units of 90 kHz, divided by R.
-const SLOT_UNITS: u128 = 135_360_000;
-
-/// The bits of a byte times the units of 90 kHz in a second.
-const BYTE_UNITS: u128 = 720_000;
+use clock27::{BYTE_UNITS, SLOT_UNITS};
 
 /// What `packets` packets on end take, at `period` slots a period.
 pub fn rate_needed(packets: u64, period: u64) -> u128
@@ -38,7 +35,7 @@ pub fn lead_needed(spread: u64, packets: u64, period: u64, count: u64, rx: u64, 
     requires count { count ≤ 65536 }
     requires rx { rx ≤ 200000000 }
     requires peak { peak < 10 ^ 18 }
-    ensures { result ≡ (spread + packets * period + count) * slot_units * rx + count * peak * 720000 }
+    ensures { result ≡ (spread + packets * period + count) * slot_units * rx + count * peak * byte_units }
 {
     (spread as u128 + packets as u128 * period as u128 + count as u128) * SLOT_UNITS * rx as u128
         + count as u128 * peak as u128 * BYTE_UNITS

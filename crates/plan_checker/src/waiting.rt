@@ -3,7 +3,9 @@
 ghost use Rattle.std.specs.Prelude.{◌≡◌, ◌^◌, ◌<◌, ◌≤◌, ◌∷◌, [], length};
 ghost use Rattle.description.specs.Ranges.{IsStream};
 ghost use Rattle.slot_plan.specs.Entries.{first_failing};
-ghost use Rattle.slot_plan.specs.Conditions.{grouped_packets, waiting_units, waiting_slots, bytes_by_units, bytes_by_slots, main_buffer_entry, main_buffers};
+ghost use Rattle.unit_timing.specs.Conditions.{grouped_packets, waiting_units, waiting_slots, bytes_by_units, bytes_by_slots};
+ghost use Rattle.slot_plan.specs.Claims.{declaration, stream_share};
+ghost use Rattle.slot_plan.specs.Conditions.{main_buffer_entry, main_buffers};
 ghost use Rattle.slot_plan.specs.Shape.{IsShaped};
 ghost use Rattle.plan_checker.specs.Refused.{failed};
 
@@ -11,16 +13,17 @@ use crate::claims::claim_of_stream;
 use crate::comparing::at_most;
 use crate::counting::own_count;
 use crate::leads::pieces_of_unit;
-use crate::refusal::{Condition, Refusal};
+use crate::refusal::Refusal;
 use crate::sides::slots_within;
-use slot_plan::{Description, Item, Plan, Stream};
+use clock27::SLOT_UNITS;
+use slot_plan::{Condition, Description, Item, Plan, Stream};
 use std::alloc::Allocator;
 
 /// The most packets of so many units in a row: whole groups, and a rest.
 pub fn grouped_packets(stream: &Stream, units: u64) -> u64
     requires ranges { IsStream stream.now }
     requires few { units ≤ 90000 }
-    ensures packets { result ≡ grouped_packets stream.now units }
+    ensures packets { result ≡ grouped_packets (declaration stream.now) units }
     ensures few { result < 2 ^ 50 }
 {
     let group = stream.group as u64;
@@ -31,7 +34,7 @@ pub fn grouped_packets(stream: &Stream, units: u64) -> u64
 /// The units that can wait for their decoding time at once, rounded up.
 pub fn waiting_units(stream: &Stream) -> u64
     requires { IsStream stream.now }
-    ensures units { result ≡ waiting_units stream.now }
+    ensures units { result ≡ waiting_units (declaration stream.now) }
     ensures few { result ≤ 90000 }
 {
     (stream.lead as u64).div_ceil(stream.interval as u64)
@@ -40,17 +43,17 @@ pub fn waiting_units(stream: &Stream) -> u64
 /// The slots in which the packets of these units come.
 pub fn waiting_slots(description: &Description, stream: &Stream) -> u64
     requires { IsStream stream.now }
-    ensures slots { result ≡ waiting_slots description.now stream.now }
+    ensures slots { result ≡ waiting_slots description.now.rate (declaration stream.now) }
     ensures some { 0 < result }
     ensures few { result ≤ 2 ^ 32 }
 {
-    (stream.lead as u64 * description.rate().bits_per_second()).div_ceil(135_360_000)
+    (stream.lead as u64 * description.rate().bits_per_second()).div_ceil(SLOT_UNITS as u64)
 }
 
 /// The bytes that can wait at once: by the sizes of the units, or by their packets.
 pub fn bytes_by_units(stream: &Stream) -> u64
     requires { IsStream stream.now }
-    ensures { result ≡ bytes_by_units stream.now }
+    ensures { result ≡ bytes_by_units (declaration stream.now) }
 {
     let units = waiting_units(stream);
     (units * (19 + stream.size as u64)).min(184 * grouped_packets(stream, units))
@@ -67,7 +70,7 @@ pub fn bytes_by_slots<A: Allocator>(
     requires stream { i < length description.now.streams }
     requires small { i < 256 }
     requires ranges { IsStream stream.now }
-    ensures bytes { result ≡ bytes_by_slots description.now plan.now i stream.now }
+    ensures bytes { result ≡ bytes_by_slots description.now.rate (declaration stream.now) (stream_share plan.now i) }
     ensures few { result < 2 ^ 70 }
 {
     let slots = plan.slots();

@@ -1,20 +1,22 @@
 -- One plan: from its conditions to the premises of the timing laws.
-use Rattle.std.specs.Prelude.{ℕ, suc, ◌+◌, ◌-◌, ◌*◌, ◌<◌, ◌≤◌, min, Bool, List, [], ◌∷◌, Some, length, slice_get, get_or, sum_by, take, map}
+use Rattle.std.specs.Prelude.{ℕ, ◌+◌, ◌-◌, ◌*◌, ◌<◌, ◌≤◌, Bool, List, [], ◌∷◌, Some, length, slice_get, get_or, sum_by, take, map}
 use Rattle.std.proofs.Common.{◌≡◌, refl, sym, subst, arith}
 use Rattle.std.proofs.lemmas.List.{length-map}
 use Rattle.std.proofs.lemmas.List.Elements.{All-get_or}
 use Rattle.std.proofs.lemmas.List.Sums.{sum_by_more_le}
 use Rattle.std.proofs.lemmas.Option.{get_or_from_slice_get, slice_get_within}
-use Rattle.clock27.specs.Release.{slot_units}
 use Rattle.clock27.specs.Recurrence.{Recur}
+use Rattle.clock27.specs.Units.{slot_milliseconds}
 use Rattle.own_slots.specs.Slots.{own_slots}
-use Rattle.own_slots.specs.Period.{own, per_period}
+use Rattle.own_slots.specs.Period.{own}
 use Rattle.own_slots.specs.Gaps.{gap}
 use Rattle.own_slots.specs.Spread.{spread}
 use Rattle.own_slots.specs.Rounds.{starts}
 use Rattle.own_slots.proofs.Gapping.{gap_law}
 use Rattle.own_slots.proofs.Recurring.{pcr_law, table_law}
-use Rattle.unit_timing.specs.Plans.{IsProper, StreamHolds, StreamServed, ProgramHolds, ProgramServed}
+use Rattle.unit_timing.specs.Buffers.{tb_size, system_tb_drain, bsys_size, bsys_drain}
+use Rattle.unit_timing.specs.Plans.{StreamServed, ProgramServed}
+use Rattle.unit_timing.specs.Conditions.{IsProper, StreamClaim, ProgramClaim, rate_needed, rate_given, lead_needed, time_given, bytes_waiting, StreamHolds, ProgramHolds}
 use Rattle.unit_timing.proofs.Serving.{stream_law, program_law}
 use Rattle.description.specs.Described.{Described, DescribedProgram, DescribedStream}
 use Rattle.description.specs.Ranges.{IsInRange, IsStream}
@@ -24,13 +26,15 @@ use Rattle.slot_plan.specs.declared.slot.Item.{Item}
 use Rattle.slot_plan.specs.declared.slot.Item.TheVariants.{Stream, Pcr, Table, System}
 use Rattle.slot_plan.specs.Planned.{Planned}
 use Rattle.slot_plan.specs.Items.{is_own, marks}
-use Rattle.slot_plan.specs.Conditions.{stream_claim, program_claim, counting, group_part, packets_of_units, bytes_by_units, bytes_by_slots, pcr_gap_entry, table_gap_entry, spread_entry, stream_rate_entry, stream_buffer_entries, transport_buffer_entries, stream_lead_entry, main_buffer_entry, system_buffer_entries}
+use Rattle.slot_plan.specs.declared.condition.Condition.TheVariants.{PcrGap, TableGap, Spread, StreamRate, TransportBuffer, StreamLead, MainBuffer, SystemBuffer}
+use Rattle.slot_plan.specs.Claims.{declaration, stream_claim, program_claim, stream_share}
+use Rattle.slot_plan.specs.Conditions.{counting, group_part, pcr_gap_entry, table_gap_entry, spread_entry, stream_rate_entry, stream_buffer_entries, transport_buffer_entries, stream_lead_entry, main_buffer_entry, system_buffer_entries}
 use Rattle.slot_plan.specs.Schedule.{OwnedLaw}
 use Rattle.slot_plan.specs.TableRounds.{first_place}
-use Rattle.slot_plan.proofs.Holding.{holds_item}
+use Rattle.slot_plan.proofs.Holding.{holds_item, at_most_holds}
 use Rattle.slot_plan.proofs.Serving.{Hold, Serves, serves}
-use Rattle.slot_plan.proofs.Elements.{holds_element, holds_count, holds_work, no_count}
-use Rattle.plan_timing.specs.Promised.{declaration, PlanLaw}
+use Rattle.slot_plan.proofs.Elements.{holds_element, holds_count, holds_work}
+use Rattle.plan_timing.specs.Promised.{PlanLaw}
 
 pub length_marks : (item : Item) (slots : List Slot) → length (marks item slots) ≡ length slots
 length_marks item slots = length-map slots (is_own item)
@@ -51,60 +55,66 @@ proper d i s ranges is = let r = stream_ranges d i s ranges is in record {
 
 -- ---- the slots of a stream
 
-lead_holds : (d : Described) (p : Planned) (i : ℕ) (s : DescribedStream) → Hold (counting (stream_lead_entry d p i s) 1 s.group) → (j : ℕ) → j < s.group →
-    ((stream_claim p i).spread + min (suc j * greatest_pieces s) s.group_packets * length p.slots + per_period (marks (Stream i) p.slots)) * slot_units * s.rx
-    + per_period (marks (Stream i) p.slots) * (stream_claim p i).peak * 720000
-    ≤ per_period (marks (Stream i) p.slots) * (s.lead + j * s.interval) * d.rate * s.rx
-lead_holds d p i s hold j below =
-    let c = per_period (marks (Stream i) p.slots) in let claim = stream_claim p i in
-    let back : 1 + j - 1 ≡ j = omega arith in
-    let next : 1 + j ≡ suc j = omega arith in
-    let all = no_count 7 (group_part s (1 + j)) i
-    ((claim.spread + packets_of_units s (1 + j) * length p.slots + c) * slot_units * s.rx + c * claim.peak * 720000)
-    (c * (s.lead + (1 + j - 1) * s.interval) * d.rate * s.rx) refl (holds_count (stream_lead_entry d p i s) 1 s.group j below hold) in
-    rw (back, next) at all
+-- what a plan claims of a stream, and of the slots of a program's tables
+abbrev pub claim_of : Planned → ℕ → StreamClaim
+claim_of p i = let claim = stream_claim p i in record { spread = claim.spread; start = claim.start; peak = claim.peak }
+
+abbrev pub program_claim_of : Planned → ℕ → ProgramClaim
+program_claim_of p i = let claim = program_claim p i in record {
+  transport_start = claim.transport_start;
+  transport_peak = claim.transport_peak;
+  system_start = claim.system_start;
+  system_peak = claim.system_peak;
+}
+
+lead_holds : (d : Described) (p : Planned) (i : ℕ) (s : DescribedStream) → Hold (counting (stream_lead_entry d p i s) 1 s.group) → (m : ℕ) → 0 < m → m ≤ s.group →
+    lead_needed (declaration s) (stream_share p i) m ≤ time_given d.rate (declaration s) (stream_share p i).count m
+lead_holds d p i s hold m some below =
+    let e : 1 + (m - 1) ≡ m = omega arith in
+    at_most_holds StreamLead (group_part s m) i (lead_needed (declaration s) (stream_share p i) m) (time_given d.rate (declaration s) (stream_share p i).count m)
+    (rw e at (holds_count (stream_lead_entry d p i s) 1 s.group (m - 1) (omega arith) hold))
 
 pub stream_holds : (d : Described) (p : Planned) (i : ℕ) (s : DescribedStream) → Serves d p → slice_get d.streams i ≡ Some s →
-    StreamHolds d.rate (declaration s) (stream_claim p i).spread (stream_claim p i).start (stream_claim p i).peak (marks (Stream i) p.slots)
+    StreamHolds d.rate (declaration s) (claim_of p i) (marks (Stream i) p.slots)
 stream_holds d p i s serves is =
     let lt : i < length d.streams = slice_get_within d.streams i s is in
-    let own = marks (Stream i) p.slots in let c = per_period own in let claim = stream_claim p i in
-    let n : length own ≡ length p.slots = length_marks (Stream i) p.slots in
-    let rate = no_count 5 0 i (s.group_packets * length p.slots * slot_units) (c * s.group * s.interval * d.rate) refl
+    let own = stream_share p i in let claim = stream_claim p i in
+    let rate = at_most_holds StreamRate 0 i (rate_needed (declaration s) own) (rate_given d.rate (declaration s) own)
     (holds_element (λ j t. stream_rate_entry d p j t ∷ []) d.streams i s serves.rates is) in
-    let main = no_count 8 0 i (min (bytes_by_units s) (bytes_by_slots d p i s)) s.main refl
+    let main = at_most_holds MainBuffer 0 i (bytes_waiting d.rate (declaration s) own) s.main
     (holds_element (λ j t. main_buffer_entry d p j t ∷ []) d.streams i s serves.main_buffers is) in
     let lead = lead_holds d p i s (holds_element (λ k t. counting (stream_lead_entry d p k t) 1 t.group) d.streams i s serves.leads is) in
     record {
       owned = serves.shape.streams_own i lt;
-      spread_claimed = no_count 4 0 i (spread own) claim.spread refl (holds_item (λ j. spread_entry p j ∷ []) d.streams i serves.spreads lt);
-      rate_serves = rw n rate;
-      work = holds_work 6 i d.rate s.rx 512 claim.start claim.peak own (holds_element (stream_buffer_entries d p) d.streams i s serves.stream_buffers is);
-      lead_serves = λ j below. rw n (lead j below);
-      main_fits = rw n main;
+      spread_claimed = at_most_holds Spread 0 i (spread (marks (Stream i) p.slots)) claim.spread (holds_item (λ j. spread_entry p j ∷ []) d.streams i serves.spreads lt);
+      rate_serves = rw (length_marks (Stream i) p.slots) rate;
+      work = holds_work TransportBuffer i d.rate s.rx tb_size claim.start claim.peak (marks (Stream i) p.slots)
+          (holds_element (stream_buffer_entries d p) d.streams i s serves.stream_buffers is);
+      lead_serves = λ m some below. rw (length_marks (Stream i) p.slots) (lead m some below);
+      main_fits = rw (length_marks (Stream i) p.slots) main;
     }
 
 -- ---- the slots of a program's tables
 
-pub program_holds : (d : Described) (p : Planned) (i : ℕ) → Serves d p → i < length d.programs → let claim = program_claim p i in
-    ProgramHolds d.rate claim.transport_start claim.transport_peak claim.system_start claim.system_peak (marks (System i) p.slots)
+pub program_holds : (d : Described) (p : Planned) (i : ℕ) → Serves d p → i < length d.programs →
+    ProgramHolds d.rate (program_claim_of p i) (marks (System i) p.slots)
 program_holds d p i serves lt = let claim = program_claim p i in record {
-  transport = holds_work 6 (length d.streams + i) d.rate 1000000 512 claim.transport_start claim.transport_peak (marks (System i) p.slots)
+  transport = holds_work TransportBuffer (length d.streams + i) d.rate system_tb_drain tb_size claim.transport_start claim.transport_peak (marks (System i) p.slots)
       (holds_item (transport_buffer_entries d p) d.programs i serves.transport_buffers lt);
-  system = holds_work 9 i d.rate 80000 1536 claim.system_start claim.system_peak (marks (System i) p.slots)
+  system = holds_work SystemBuffer i d.rate bsys_drain bsys_size claim.system_start claim.system_peak (marks (System i) p.slots)
       (holds_item (system_buffer_entries d p) d.programs i serves.system_buffers lt);
 }
 
 -- ---- PCRs and sections
 
 pub pcr_gap_holds : (d : Described) (p : Planned) (i : ℕ) (program : DescribedProgram) → Serves d p → slice_get d.programs i ≡ Some program →
-    gap (marks (Pcr i) p.slots) 1 * 1504000 ≤ program.pcr_limit * d.rate
-pcr_gap_holds d p i program serves is = no_count 2 0 i (gap (marks (Pcr i) p.slots) 1 * 1504000) (program.pcr_limit * d.rate) refl
+    gap (marks (Pcr i) p.slots) 1 * slot_milliseconds ≤ program.pcr_limit * d.rate
+pcr_gap_holds d p i program serves is = at_most_holds PcrGap 0 i (gap (marks (Pcr i) p.slots) 1 * slot_milliseconds) (program.pcr_limit * d.rate)
     (holds_element (λ j q. pcr_gap_entry d p j q ∷ []) d.programs i program serves.pcr_gaps is)
 
 pub table_gap_holds : (d : Described) (p : Planned) (t : ℕ) → Serves d p → t < table_count d →
-    gap (marks (Table t) p.slots) (round_places d t) * 1504000 ≤ table_limit d t * d.rate
-table_gap_holds d p t serves lt = no_count 3 0 t (gap (marks (Table t) p.slots) (round_places d t) * 1504000) (table_limit d t * d.rate) refl
+    gap (marks (Table t) p.slots) (round_places d t) * slot_milliseconds ≤ table_limit d t * d.rate
+table_gap_holds d p t serves lt = at_most_holds TableGap 0 t (gap (marks (Table t) p.slots) (round_places d t) * slot_milliseconds) (table_limit d t * d.rate)
     (holds_item (λ j. table_gap_entry d p j ∷ []) (table_kinds d) t serves.table_gaps lt)
 
 -- a section begins within the round
@@ -122,11 +132,10 @@ pub plan_law : OwnedLaw → PlanLaw
 plan_law law d p ranges serving =
     let k = serves d p serving in
     record {
-      streams = λ i s texts is keeps. subst (λ (o : ℕ → Bool). StreamServed o d.rate (declaration s) texts) (sym (law.alone p.slots (Stream i)))
-          (stream_law d.rate (declaration s) (stream_claim p i).spread (stream_claim p i).start (stream_claim p i).peak (marks (Stream i) p.slots) texts
-          (proper d i s ranges is) (stream_holds d p i s k is) keeps);
-      programs = λ i lt. let claim = program_claim p i in subst (λ (o : ℕ → Bool). ProgramServed o d.rate) (sym (law.alone p.slots (System i)))
-          (program_law d.rate claim.transport_start claim.transport_peak claim.system_start claim.system_peak (marks (System i) p.slots)
+      streams = λ i s units is keeps. subst (λ (o : ℕ → Bool). StreamServed o d.rate (declaration s) units) (sym (law.alone p.slots (Stream i)))
+          (stream_law d.rate (declaration s) (claim_of p i) (marks (Stream i) p.slots) units (proper d i s ranges is) (stream_holds d p i s k is) keeps);
+      programs = λ i lt. subst (λ (o : ℕ → Bool). ProgramServed o d.rate) (sym (law.alone p.slots (System i)))
+          (program_law d.rate (program_claim_of p i) (marks (System i) p.slots)
           (omega (arith, ranges.least_rate)) (some_slots (System i)) (program_holds d p i k lt));
       pcrs = λ i program slots is. let own_marks = marks (Pcr i) p.slots in
           let lt : i < length d.programs = slice_get_within d.programs i program is in

@@ -3,37 +3,25 @@ use Rattle.std.specs.Prelude.{◌≡◌, ℕ, ◌+◌, ◌*◌, ◌<◌, List, S
 use Rattle.clock27.specs.Recurrence.{Recur}
 use Rattle.own_slots.specs.Slots.{own_slots}
 use Rattle.unit_timing.specs.PesPacket.{PesPacket}
-use Rattle.unit_timing.specs.Plans.{Declaration, Keeps, StreamServed, ProgramServed}
+use Rattle.unit_timing.specs.Plans.{Keeps, StreamServed, ProgramServed}
 use Rattle.description.specs.Described.{Described, DescribedProgram, DescribedStream}
 use Rattle.description.specs.Ranges.{IsInRange}
-use Rattle.description.specs.Tables.{table_count, table_limit, section_count, greatest_pieces}
+use Rattle.description.specs.Tables.{table_count, table_limit, section_count}
 use Rattle.slot_plan.specs.declared.slot.Item.TheVariants.{Stream, Pcr, System}
 use Rattle.slot_plan.specs.Planned.{Planned}
 use Rattle.slot_plan.specs.Conditions.{IsServing}
 use Rattle.slot_plan.specs.SwitchConditions.{IsSwitchable}
+pub use Rattle.slot_plan.specs.Claims.{declaration}
 use Rattle.slot_plan.specs.Schedule.{Schedule, single, switched, owned}
 use Rattle.slot_plan.specs.TableRounds.{section_starts}
 
--- what a stream declares of its units, each with a PES header of at most 19 bytes (ISO/IEC 13818-1, 2.4.3.7)
-abbrev pub declaration : DescribedStream → Declaration
-declaration s = record {
-  interval = s.interval;
-  lead = s.lead;
-  drain = s.rx;
-  main = s.main;
-  largest = 19 + s.size;
-  pieces = greatest_pieces s;
-  group = s.group;
-  group_packets = s.group_packets;
-}
-
 -- the promises of a schedule: units that keep a stream's declaration have left its transport buffer by their decoding
 -- times, that buffer never holds more than 512 bytes, nor the stream's main buffer more than its size; the buffers of a
--- program's tables never overflow; the PCRs of a program recur within its limit; each section of a table recurs within the
--- table's limit, from the run's begin to its end
+-- program's tables never overflow; the PCRs of a program recur within its limit; each section of a table recurs within
+-- the table's limit, from the run's begin to its end
 pub record Promised (d : Described) (schedule : Schedule) : Type 0 where
-  pub streams : (i : ℕ) (s : DescribedStream) (texts : List PesPacket) → slice_get d.streams i ≡ Some s → Keeps (declaration s) texts →
-      StreamServed (owned schedule (Stream i)) d.rate (declaration s) texts
+  pub streams : (i : ℕ) (s : DescribedStream) (units : List PesPacket) → slice_get d.streams i ≡ Some s → Keeps (declaration s) units →
+      StreamServed (owned schedule (Stream i)) d.rate (declaration s) units
   pub programs : (i : ℕ) → i < length d.programs → ProgramServed (owned schedule (System i)) d.rate
   pub pcrs : (i : ℕ) (p : DescribedProgram) (slots : ℕ) → slice_get d.programs i ≡ Some p →
       Recur d.rate p.pcr_limit 0 (map (λ s. 188 * s + 10) (own_slots (owned schedule (Pcr i)) 0 slots)) (188 * slots)

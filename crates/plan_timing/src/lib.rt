@@ -1,6 +1,6 @@
 //! What an accepted plan promises, and an accepted switch between two plans, over the definitions alone: in runs of any
-//! length each unit that keeps its stream's declaration arrives in time, no buffer of the transport stream system target
-//! decoder (ISO/IEC 13818-1, 2.4.2) overflows, and PCRs and sections recur within their limits.
+//! length each unit that keeps its stream's declaration arrives in time, no buffer of the transport stream system
+//! target decoder (ISO/IEC 13818-1, 2.4.2) overflows, and PCRs and sections recur within their limits.
 //!
 //! Each function of [`laws`] does nothing, and its contract says what holds of the definitions. A crate above calls it
 //! where it needs the fact.

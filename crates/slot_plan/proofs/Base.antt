@@ -52,7 +52,7 @@ base = record {
 abbrev pub every_fourth : ℕ → List Slot
 every_fourth n = Stream 0 ∷ Null ∷ Null ∷ Null ∷ []
 
--- a line of 24 slots behind the first
+-- a line of 24 slots after the first
 abbrev pub line : List Slot
 line = Stream 0 ∷ Pcr 0 ∷ Null ∷ Null ∷ every_fourth 0 ++ every_fourth 0 ++ every_fourth 0 ++ every_fourth 0 ++ every_fourth 0
 

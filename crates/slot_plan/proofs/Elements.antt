@@ -1,13 +1,13 @@
 -- From lists of conditions to the conditions of one item.
-use Rattle.std.specs.Prelude.{ℕ, zero, suc, ◌+◌, ◌*◌, ◌<◌, ◌≤◌, ◌==◌, false, Bool, List, [], ◌∷◌, Some, slice_get}
-use Rattle.std.proofs.Common.{◌≡◌, refl, arith}
-use Rattle.std.proofs.lemmas.Bool.Decides.{nat_tests}
+use Rattle.std.specs.Prelude.{ℕ, zero, suc, ◌+◌, ◌*◌, ◌<◌, Bool, List, [], ◌∷◌, Some, slice_get}
+use Rattle.std.proofs.Common.{◌≡◌, arith}
 use Rattle.std.proofs.lemmas.Option.{get_or_from_slice_get, slice_get_within}
 use Rattle.own_slots.specs.Work.{HoldsWork, most_before, most_after, work_left}
+use Rattle.slot_plan.specs.declared.condition.Condition.{Condition}
 use Rattle.slot_plan.specs.Numbered.{numbered}
-use Rattle.slot_plan.specs.Entries.{Entry, entry}
+use Rattle.slot_plan.specs.Entries.{Entry, at_most}
 use Rattle.slot_plan.specs.Conditions.{buffer_entries, counting}
-use Rattle.slot_plan.proofs.Holding.{holds_first, holds_both, holds_at, at_most_holds}
+use Rattle.slot_plan.proofs.Holding.{holds_both, holds_at, at_most_holds}
 use Rattle.slot_plan.proofs.Serving.{Hold}
 
 -- those of the element of that number
@@ -16,12 +16,6 @@ holds_element part xs i x hold is =
     let zero_on : 0 + i ≡ i = omega arith in
     let here = holds_at part 0 xs i x hold (slice_get_within xs i x is) in
     rw (zero_on, get_or_from_slice_get xs i x x is) at here
-
--- a condition of another code than 1 compares by at most
-pub no_count : (code part item left right : ℕ) → (code == 1) ≡ false → Hold (entry code part item left right ∷ []) → left ≤ right
-no_count code part item left right other none =
-    let h = (holds_first (entry code part item left right) [] none).0 in
-    let t = rw other at h in grind (arith, nat_tests)
 
 -- of conditions on m, m + 1, .. units that on m + j
 pub holds_count : (f : ℕ → Entry) (m n j : ℕ) → j < n → Hold (counting f m n) → Hold (f (m + j) ∷ [])
@@ -33,16 +27,16 @@ holds_count f m (suc n) (suc j) lt hold =
     rw (← e) (holds_count f (suc m) n j (omega arith) ((holds_both (f m ∷ []) (counting f (suc m) n) hold).1))
 
 -- the three parts of a buffer are its claims
-pub holds_work : (code item rate drain room start peak : ℕ) (marks : List Bool) → Hold (buffer_entries code item rate drain room start peak marks) →
+pub holds_work : (condition : Condition) (item rate drain room start peak : ℕ) (marks : List Bool) → Hold (buffer_entries condition item rate drain room start peak marks) →
     HoldsWork rate drain room start peak marks
-holds_work code item rate drain room start peak marks hold =
-    let fits = entry code 1 item (most_before rate drain start marks) (room * rate) in
-    let peaks = entry code 2 item (most_after rate drain start marks) peak in
-    let carries = entry code 3 item (work_left rate drain start marks) start in
+holds_work condition item rate drain room start peak marks hold =
+    let fits = at_most condition 1 item (most_before rate drain start marks) (room * rate) in
+    let peaks = at_most condition 2 item (most_after rate drain start marks) peak in
+    let carries = at_most condition 3 item (work_left rate drain start marks) start in
     let one = holds_both (fits ∷ []) (peaks ∷ carries ∷ []) hold in
     let two = holds_both (peaks ∷ []) (carries ∷ []) one.1 in
     record {
-      fits = at_most_holds code 1 item (most_before rate drain start marks) (room * rate) refl one.0;
-      peaks = at_most_holds code 2 item (most_after rate drain start marks) peak refl two.0;
-      carries = at_most_holds code 3 item (work_left rate drain start marks) start refl two.1;
+      fits = at_most_holds condition 1 item (most_before rate drain start marks) (room * rate) one.0;
+      peaks = at_most_holds condition 2 item (most_after rate drain start marks) peak two.0;
+      carries = at_most_holds condition 3 item (work_left rate drain start marks) start two.1;
     }

@@ -4,6 +4,7 @@ pub mod Numbering
 pub mod ReadOn
 pub mod Serving
 pub mod Elements
+pub mod Naming
 pub mod TextPieces
 pub mod TextLines
 pub mod TextLists

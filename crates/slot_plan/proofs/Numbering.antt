@@ -19,7 +19,7 @@ numbered-more part xs i d lt =
     let n : 0 + length (take i xs) ≡ i = rw (zero-add, length-take-le i xs (omega arith)) refl in
     rw (take_more xs i d lt, numbered-last part 0 (take i xs) (get_or xs i d), n) refl
 
--- one more element is written behind those before it
+-- one more element is written after those before it
 pub written_more : {A : Type 0} (part : ℕ → A → List ℕ) (xs : List A) (i : ℕ) (d : A) (new now old : List ℕ) → i < length xs →
     new ≡ now ++ part i (get_or xs i d) → now ≡ old ++ numbered part 0 (take i xs) → new ≡ old ++ numbered part 0 (take (i + 1) xs)
 written_more part xs i d new now old lt e f = rw (e, f, numbered-more part xs i d lt, append_assoc) refl

@@ -5,8 +5,9 @@ use Rattle.own_slots.specs.Extremes.{greatest}
 use Rattle.own_slots.specs.Work.{work_at}
 use Rattle.slot_plan.specs.declared.slot.Slot.{Slot}
 use Rattle.slot_plan.specs.declared.slot.Slot.TheVariants.{Stream, Pcr, Table, Null}
+use Rattle.slot_plan.specs.declared.condition.Condition.TheVariants.{Shape, PcrGap, Spread, StreamRate, TransportBuffer, StreamLead, SystemBuffer, LeadSwitch}
 use Rattle.slot_plan.specs.Planned.{Planned, Certified}
-use Rattle.slot_plan.specs.Entries.{Entry, entry, first_failing}
+use Rattle.slot_plan.specs.Entries.{Entry, at_most, as_many, first_failing}
 use Rattle.slot_plan.specs.Conditions.{entries}
 use Rattle.slot_plan.specs.SwitchConditions.{switch_entries}
 use Rattle.description.specs.Described.{Described, DescribedStream}
@@ -38,12 +39,12 @@ lead_1598 : answer (with_stream (record base_stream { lead = 1598 })) base_plan 
 unfolding answer with_stream
 lead_1598 = refl
 
-lead_1597 : answer (with_stream (record base_stream { lead = 1597 })) base_plan ≡ Some (entry 7 0 0 144174643200000000 144113280000000000)
+lead_1597 : answer (with_stream (record base_stream { lead = 1597 })) base_plan ≡ Some (at_most StreamLead 0 0 144174643200000000 144113280000000000)
 unfolding answer with_stream
 lead_1597 = refl
 
 -- cut to its first 24 slots, the system buffer's work grows from period to period
-cut : answer base (with_slots (take 24 base_slots)) ≡ Some (entry 9 3 0 249664000 0)
+cut : answer base (with_slots (take 24 base_slots)) ≡ Some (at_most SystemBuffer 3 0 249664000 0)
 unfolding answer with_slots
 cut = refl
 
@@ -51,11 +52,11 @@ cut = refl
 moved_slots : List Slot
 moved_slots = slice_set (slice_set base_slots 116 Null) 117 (Stream 0)
 
-moved : answer base (with_slots moved_slots) ≡ Some (entry 4 0 0 30 0)
+moved : answer base (with_slots moved_slots) ≡ Some (at_most Spread 0 0 30 0)
 unfolding answer with_slots moved_slots
 moved = refl
 
-moved_spread : answer base (record { slots = moved_slots; certificate = with_spread 30 }) ≡ Some (entry 7 0 0 152296243200000000 144384000000000000)
+moved_spread : answer base (record { slots = moved_slots; certificate = with_spread 30 }) ≡ Some (at_most StreamLead 0 0 152296243200000000 144384000000000000)
 unfolding answer moved_slots with_spread
 moved_spread = refl
 
@@ -63,28 +64,28 @@ moved_spread = refl
 burst_slots : List Slot
 burst_slots = replicate 5 (Stream 0) ++ (Pcr 0 ∷ Table 0 ∷ Table 1 ∷ Table 3 ∷ Table 2 ∷ Table 4 ∷ Table 5 ∷ []) ++ replicate 588 Null
 
-burst : answer (record base { rate = 38000000 }) (record { slots = burst_slots; certificate = with_spread 2380 }) ≡ Some (entry 6 1 0 34592000000 19456000000)
+burst : answer (record base { rate = 38000000 }) (record { slots = burst_slots; certificate = with_spread 2380 }) ≡ Some (at_most TransportBuffer 1 0 34592000000 19456000000)
 unfolding answer burst_slots with_spread
 burst = refl
 
 -- without the PCR in slot 97 the gap round the period's end is 48
-late_pcr : answer base (with_slots (slice_set base_slots 97 Null)) ≡ Some (entry 2 0 0 72192000 60160000)
+late_pcr : answer base (with_slots (slice_set base_slots 97 Null)) ≡ Some (at_most PcrGap 0 0 72192000 60160000)
 unfolding answer with_slots
 late_pcr = refl
 
-no_claim : answer base (record base_plan { certificate = record claims { streams = [] } }) ≡ Some (entry 1 5 0 0 1)
+no_claim : answer base (record base_plan { certificate = record claims { streams = [] } }) ≡ Some (as_many Shape 5 0 0 1)
 unfolding answer
 no_claim = refl
 
-empty : answer base (record { slots = []; certificate = record { streams = []; programs = [] } }) ≡ Some (entry 1 1 0 1 0)
+empty : answer base (record { slots = []; certificate = record { streams = []; programs = [] } }) ≡ Some (at_most Shape 1 0 1 0)
 unfolding answer
 empty = refl
 
-unknown : answer base (with_slots (slice_set base_slots 10 (Stream 1))) ≡ Some (entry 1 3 10 2 1)
+unknown : answer base (with_slots (slice_set base_slots 10 (Stream 1))) ≡ Some (at_most Shape 3 10 2 1)
 unfolding answer with_slots
 unknown = refl
 
-ownerless : answer base (with_slots (slice_set base_slots 9 Null)) ≡ Some (entry 1 4 7 1 0)
+ownerless : answer base (with_slots (slice_set base_slots 9 Null)) ≡ Some (at_most Shape 4 7 1 0)
 unfolding answer with_slots
 ownerless = refl
 
@@ -92,7 +93,7 @@ ownerless = refl
 close : ℕ → ℕ → ℕ → Described
 close lead group packets = with_stream (record base_stream { interval = 720; lead = lead; group = group; group_packets = packets })
 
-alone : answer (close 1600 1 4) base_plan ≡ Some (entry 5 0 0 64972800000 32486400000)
+alone : answer (close 1600 1 4) base_plan ≡ Some (at_most StreamRate 0 0 64972800000 32486400000)
 unfolding answer close with_stream
 alone = refl
 
@@ -100,11 +101,11 @@ pairs : answer (close 1600 2 4) base_plan ≡ None
 unfolding answer close with_stream
 pairs = refl
 
-pairs_of_five : answer (close 1600 2 5) base_plan ≡ Some (entry 5 0 0 81216000000 64972800000)
+pairs_of_five : answer (close 1600 2 5) base_plan ≡ Some (at_most StreamRate 0 0 81216000000 64972800000)
 unfolding answer close with_stream
 pairs_of_five = refl
 
-fours : answer (close 1600 4 8) base_plan ≡ Some (entry 7 2 0 274120243200000000 209356800000000000)
+fours : answer (close 1600 4 8) base_plan ≡ Some (at_most StreamLead 2 0 274120243200000000 209356800000000000)
 unfolding answer close with_stream
 fours = refl
 
@@ -120,7 +121,7 @@ repeated : switch_answer base base_plan base_plan ≡ None
 unfolding switch_answer
 repeated = refl
 
-to_turned : switch_answer base base_plan turned ≡ Some (entry 15 0 0 4568887296000000000 4331520000000000000)
+to_turned : switch_answer base base_plan turned ≡ Some (at_most LeadSwitch 0 0 4568887296000000000 4331520000000000000)
 unfolding switch_answer turned with_slots
 to_turned = refl
 
@@ -128,7 +129,7 @@ to_turned_1688 : switch_answer (with_stream (record base_stream { lead = 1688 })
 unfolding switch_answer turned with_slots with_stream
 to_turned_1688 = refl
 
-to_turned_1687 : switch_answer (with_stream (record base_stream { lead = 1687 })) base_plan turned ≡ Some (entry 15 0 0 4568887296000000000 4567046400000000000)
+to_turned_1687 : switch_answer (with_stream (record base_stream { lead = 1687 })) base_plan turned ≡ Some (at_most LeadSwitch 0 0 4568887296000000000 4567046400000000000)
 unfolding switch_answer turned with_slots with_stream
 to_turned_1687 = refl
 

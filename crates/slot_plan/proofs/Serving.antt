@@ -27,7 +27,7 @@ pub record Serves (d : Described) (p : Planned) : Type 0 where
   pub main_buffers : Hold (main_buffers d p)
   pub system_buffers : Hold (system_buffers d p)
 
-in_turn : (d : Described) (p : Planned) → IsServing d p → Hold (shape_entries d p) × Hold (timing_entries d p)
+pub in_turn : (d : Described) (p : Planned) → IsServing d p → Hold (shape_entries d p) × Hold (timing_entries d p)
 in_turn d p serving = elim (cases_Bool (is_none (first_failing (shape_entries d p)))) [
   | inl none ↦ holds_both (shape_entries d p) (timing_entries d p) (rw none at serving)
   | inr some ↦ absurd (let h : first_failing (shape_entries d p) ≡ None = rw some at serving in let t = rw h at some in cc)
@@ -75,7 +75,7 @@ pub record Follows (d : Described) (first second : Planned) : Type 0 where
   pub leads : Hold (lead_switches d first second)
   pub main_buffers : Hold (main_switches d first second)
 
-joint_in_turn : (d : Described) (first second : Planned) → IsSwitchable d first second → Hold (entries d second) × Hold (joint_entries d first second)
+pub joint_in_turn : (d : Described) (first second : Planned) → IsSwitchable d first second → Hold (entries d second) × Hold (joint_entries d first second)
 joint_in_turn d first second switchable = elim (cases_Bool (is_none (first_failing (entries d second)))) [
   | inl none ↦ holds_both (entries d second) (joint_entries d first second) (rw none at switchable)
   | inr some ↦ absurd (let h : first_failing (entries d second) ≡ None = rw some at switchable in let t = rw h at some in cc)

@@ -13,7 +13,7 @@ use Rattle.slot_plan.specs.Text.{field, slot_text, stream_line, program_line}
 use Rattle.slot_plan.specs.Reading.{number_before, after_word, lettered, slot_at, stream_claims, program_claims, stream_at, program_at}
 use Rattle.slot_plan.proofs.TextPieces.{Exact, some_same, word-complete, word-sound, number-exact, field-exact, after-complete, after-sound, then-some, then-read}
 
--- what stands behind the number in the line of a stream entry, of a program entry
+-- what stands after the number in the line of a stream entry, of a program entry
 stream_tail : StreamEntry → List ℕ
 stream_tail e = field (codes "spread ") e.spread 32 ++ (field (codes "start ") e.start 32 ++ field (codes "peak ") e.peak 10)
 

@@ -11,7 +11,7 @@ use Rattle.slot_plan.specs.Planned.{number_end}
 use Rattle.slot_plan.specs.Text.{field}
 use Rattle.slot_plan.specs.Reading.{after_word, number_on, number_before, field_at, after_number, ◌>>=◌}
 
--- a reader accepts exactly the texts of what it gives, with any text behind them
+-- a reader accepts exactly the texts of what it gives, with any text after them
 pub record Exact {A : Type 0} (read : List ℕ → Option (A × List ℕ)) (text : A → List ℕ) (Valid : A → Type 0) : Type 0 where
   pub sound : (xs : List ℕ) (x : A) (rest : List ℕ) → read xs ≡ Some (x, rest) → Valid x × (xs ≡ text x ++ rest)
   pub complete : (x : A) (rest : List ℕ) → Valid x → read (text x ++ rest) ≡ Some (x, rest)

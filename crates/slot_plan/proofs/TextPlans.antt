@@ -117,7 +117,7 @@ read_from : (xs u v w rest : List ℕ) (n : ℕ) (slots : List Slot) (c : Certif
     slots_at n n v ≡ Ok (slots, w) → certificate_at (3 + slot_lines n) w ≡ Ok (c, rest) → plan_at xs ≡ Ok (record { slots = slots; certificate = c }, rest)
 read_from xs u v w rest n slots c a b d e = rw (a, b, d, e) refl
 
--- the text of a plan is read, whatever stands behind it
+-- the text of a plan is read, whatever stands after it
 pub plan-complete : (p : Planned) (rest : List ℕ) → IsPlan p → plan_at (plan_text p ++ rest) ≡ Ok (p, rest)
 plan-complete p rest is =
     let few = few_slots p is.within in let n = length p.slots in

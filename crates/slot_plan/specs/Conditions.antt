@@ -1,46 +1,45 @@
--- The conditions under which a plan serves a service description: each compares two whole numbers. Code 1 is the shape of
--- the plan; the others stand only where it holds.
--- Rates are in bits a second, a slot is 188 bytes: 1,504 bits. Slot s begins at s * 135,360,000 / rate units of 90 kHz.
-use Rattle.std.specs.Prelude.{◌≡◌, ℕ, zero, suc, ◌+◌, ◌-◌, ◌*◌, ◌/◌, ◌%◌, ◌==◌, min, Bool, None, List, [], ◌∷◌, ◌++◌, length, is_none, slice_index_or, if◌then◌else◌}
-use Rattle.clock27.specs.Release.{slot_units}
+-- The conditions under which a plan serves a service description: each compares two whole numbers. The first, code 1, is
+-- the shape of the plan; the others stand only where it holds. Rates are in bits a second, a slot is 188 bytes.
+use Rattle.std.specs.Prelude.{◌≡◌, ℕ, zero, suc, ◌+◌, ◌-◌, ◌*◌, ◌==◌, Bool, None, List, [], ◌∷◌, ◌++◌, length, is_none, if◌then◌else◌}
+use Rattle.clock27.specs.Units.{slot_milliseconds}
 use Rattle.own_slots.specs.Period.{per_period}
 use Rattle.own_slots.specs.Gaps.{gap}
-use Rattle.own_slots.specs.Spread.{spread, most_within}
+use Rattle.own_slots.specs.Spread.{spread}
 use Rattle.own_slots.specs.Work.{most_before, most_after, work_left}
+use Rattle.unit_timing.specs.Buffers.{tb_size, system_tb_drain, bsys_size, bsys_drain}
+use Rattle.unit_timing.specs.Conditions.{rate_needed, rate_given, lead_needed, time_given, bytes_waiting}
 use Rattle.description.specs.Described.{Described, DescribedProgram, DescribedStream}
-use Rattle.description.specs.Tables.{table_kinds, table_count, table_limit, round_places, greatest_pieces}
+use Rattle.description.specs.Tables.{table_kinds, table_count, table_limit, round_places}
 use Rattle.slot_plan.specs.declared.slot.Slot.{Slot}
 use Rattle.slot_plan.specs.declared.slot.Item.{Item}
 use Rattle.slot_plan.specs.declared.slot.Slot.TheVariants.{Stream, Pcr, Table, Null}
 use Rattle.slot_plan.specs.declared.slot.Item.TheVariants.{Stream as StreamItem, Pcr as PcrItem, Table as TableItem, System}
-use Rattle.slot_plan.specs.declared.certificate.StreamEntry.{StreamEntry}
-use Rattle.slot_plan.specs.declared.certificate.ProgramEntry.{ProgramEntry}
+use Rattle.slot_plan.specs.declared.condition.Condition.{Condition}
+use Rattle.slot_plan.specs.declared.condition.Condition.TheVariants.{Shape, PcrGap, TableGap, Spread, StreamRate, TransportBuffer, StreamLead, MainBuffer, SystemBuffer}
 use Rattle.slot_plan.specs.Numbered.{numbered}
 use Rattle.slot_plan.specs.Planned.{Planned}
 use Rattle.slot_plan.specs.Items.{marks}
-use Rattle.slot_plan.specs.Entries.{Entry, entry, first_failing}
+use Rattle.slot_plan.specs.Claims.{declaration, stream_claim, program_claim, stream_share}
+use Rattle.slot_plan.specs.Entries.{Entry, at_most, as_many, first_failing}
 
--- what a plan claims of stream number i, of program number i
-abbrev pub stream_claim : Planned → ℕ → StreamEntry
-stream_claim p i = slice_index_or p.certificate.streams i (record { spread = 0; start = 0; peak = 0 })
-
-abbrev pub program_claim : Planned → ℕ → ProgramEntry
-program_claim p i = slice_index_or p.certificate.programs i (record { transport_start = 0; transport_peak = 0; system_start = 0; system_peak = 0 })
+-- the slots of a period, at most
+abbrev pub longest_period : ℕ
+longest_period = 65536
 
 -- code 1, part 3: a slot names an item that the description has
 abbrev pub named_entry : Described → ℕ → Slot → Entry
-named_entry d s (Stream number) = entry 1 3 s (number + 1) (length d.streams)
-named_entry d s (Pcr number) = entry 1 3 s (number + 1) (length d.programs)
-named_entry d s (Table number) = entry 1 3 s (number + 1) (table_count d)
-named_entry d s Null = entry 1 3 s 0 0
+named_entry d s (Stream number) = at_most Shape 3 s (number + 1) (length d.streams)
+named_entry d s (Pcr number) = at_most Shape 3 s (number + 1) (length d.programs)
+named_entry d s (Table number) = at_most Shape 3 s (number + 1) (table_count d)
+named_entry d s Null = at_most Shape 3 s 0 0
 
 -- code 1, part 4: an item has a slot
 abbrev pub owner_entry : Planned → ℕ → Item → Entry
-owner_entry p number item = entry 1 4 number 1 (per_period (marks item p.slots))
+owner_entry p number item = at_most Shape 4 number 1 (per_period (marks item p.slots))
 
 -- code 1, parts 1 and 2: a period has slots, and not too many
 abbrev pub length_entries : Planned → List Entry
-length_entries p = entry 1 1 0 1 (length p.slots) ∷ entry 1 2 0 (length p.slots) 65536 ∷ []
+length_entries p = at_most Shape 1 0 1 (length p.slots) ∷ at_most Shape 2 0 (length p.slots) longest_period ∷ []
 
 -- code 1, part 3 for each slot
 abbrev pub name_entries : Described → Planned → List Entry
@@ -58,7 +57,8 @@ table_owner_entries d p = numbered (λ t _. owner_entry p (length d.streams + le
 
 -- code 1, parts 5 and 6: the certificate has an entry for each stream and each program
 abbrev pub claim_entries : Described → Planned → List Entry
-claim_entries d p = entry 1 5 0 (length p.certificate.streams) (length d.streams) ∷ entry 1 6 0 (length p.certificate.programs) (length d.programs) ∷ []
+claim_entries d p = as_many Shape 5 0 (length p.certificate.streams) (length d.streams)
+    ∷ as_many Shape 6 0 (length p.certificate.programs) (length d.programs) ∷ []
 
 -- code 1: the shape of a plan
 abbrev pub shape_entries : Described → Planned → List Entry
@@ -66,43 +66,38 @@ shape_entries d p = length_entries p ++ (name_entries d p ++ (stream_owner_entri
 
 -- code 2: the PCRs of a program recur within its limit, in ms (ISO/IEC 13818-1, 2.7.2)
 abbrev pub pcr_gap_entry : Described → Planned → ℕ → DescribedProgram → Entry
-pcr_gap_entry d p i program = entry 2 0 i (gap (marks (PcrItem i) p.slots) 1 * 1504000) (program.pcr_limit * d.rate)
+pcr_gap_entry d p i program = at_most PcrGap 0 i (gap (marks (PcrItem i) p.slots) 1 * slot_milliseconds) (program.pcr_limit * d.rate)
 
 -- code 3: each section of a table recurs within the table's limit, in ms (ETSI TR 101 290, 5.2)
 abbrev pub table_gap_entry : Described → Planned → ℕ → Entry
-table_gap_entry d p t = entry 3 0 t (gap (marks (TableItem t) p.slots) (round_places d t) * 1504000) (table_limit d t * d.rate)
+table_gap_entry d p t = at_most TableGap 0 t (gap (marks (TableItem t) p.slots) (round_places d t) * slot_milliseconds) (table_limit d t * d.rate)
 
 -- code 4: a stream's slots are spread as claimed
 abbrev pub spread_entry : Planned → ℕ → Entry
-spread_entry p i = entry 4 0 i (spread (marks (StreamItem i) p.slots)) (stream_claim p i).spread
+spread_entry p i = at_most Spread 0 i (spread (marks (StreamItem i) p.slots)) (stream_claim p i).spread
 
 -- code 5: a stream has slots enough for its groups of units on end
 abbrev pub stream_rate_entry : Described → Planned → ℕ → DescribedStream → Entry
-stream_rate_entry d p i s = entry 5 0 i
-    (s.group_packets * length p.slots * slot_units)
-    (per_period (marks (StreamItem i) p.slots) * s.group * s.interval * d.rate)
+stream_rate_entry d p i s = let own = stream_share p i in
+    at_most StreamRate 0 i (rate_needed (declaration s) own) (rate_given d.rate (declaration s) own)
 
--- the three parts of a buffer of that room in bytes: each packet finds room, the work after a packet is at most the peak,
--- a period leaves at most the work with which it began
-abbrev pub buffer_entries : ℕ → ℕ → ℕ → ℕ → ℕ → ℕ → ℕ → List Bool → List Entry
-buffer_entries code item rate drain room start peak own =
-    entry code 1 item (most_before rate drain start own) (room * rate)
-    ∷ entry code 2 item (most_after rate drain start own) peak
-    ∷ entry code 3 item (work_left rate drain start own) start ∷ []
+-- the three parts of a buffer of that room in bytes: each packet finds room, the work after a packet is at most the
+-- peak, a period leaves at most the work with which it began
+abbrev pub buffer_entries : Condition → ℕ → ℕ → ℕ → ℕ → ℕ → ℕ → List Bool → List Entry
+buffer_entries condition item rate drain room start peak own =
+    at_most condition 1 item (most_before rate drain start own) (room * rate)
+    ∷ at_most condition 2 item (most_after rate drain start own) peak
+    ∷ at_most condition 3 item (work_left rate drain start own) start ∷ []
 
 -- code 6: the transport buffer of a stream, of 512 bytes (ISO/IEC 13818-1, 2.4.2.3)
 abbrev pub stream_buffer_entries : Described → Planned → ℕ → DescribedStream → List Entry
 stream_buffer_entries d p i s = let claim = stream_claim p i in
-    buffer_entries 6 i d.rate s.rx 512 claim.start claim.peak (marks (StreamItem i) p.slots)
+    buffer_entries TransportBuffer i d.rate s.rx tb_size claim.start claim.peak (marks (StreamItem i) p.slots)
 
 -- code 6: the transport buffer of a program's system packets, drained at 1,000,000 bits a second
 abbrev pub transport_buffer_entries : Described → Planned → ℕ → List Entry
 transport_buffer_entries d p i = let claim = program_claim p i in
-    buffer_entries 6 (length d.streams + i) d.rate 1000000 512 claim.transport_start claim.transport_peak (marks (System i) p.slots)
-
--- the most packets of m units in a row, 1 to `group` of them
-abbrev pub packets_of_units : DescribedStream → ℕ → ℕ
-packets_of_units s m = min (m * greatest_pieces s) s.group_packets
+    buffer_entries TransportBuffer (length d.streams + i) d.rate system_tb_drain tb_size claim.transport_start claim.transport_peak (marks (System i) p.slots)
 
 -- the part of a condition on m units in a row: 0 where a stream has no groups
 abbrev pub group_part : DescribedStream → ℕ → ℕ
@@ -110,44 +105,22 @@ group_part s m = if s.group == 1 then 0 else m
 
 -- code 7: the last of m units in a row has left the transport buffer by its decoding time
 abbrev pub stream_lead_entry : Described → Planned → ℕ → DescribedStream → ℕ → Entry
-stream_lead_entry d p i s m = let c = per_period (marks (StreamItem i) p.slots) in let claim = stream_claim p i in
-    entry 7 (group_part s m) i
-    ((claim.spread + packets_of_units s m * length p.slots + c) * slot_units * s.rx + c * claim.peak * 720000)
-    (c * (s.lead + (m - 1) * s.interval) * d.rate * s.rx)
+stream_lead_entry d p i s m = let own = stream_share p i in
+    at_most StreamLead (group_part s m) i (lead_needed (declaration s) own m) (time_given d.rate (declaration s) own.count m)
 
 -- an entry for each of the n numbers from m on
 abbrev pub counting : (ℕ → Entry) → ℕ → ℕ → List Entry
 counting f m zero = []
 counting f m (suc n) = f m ∷ counting f (suc m) n
 
--- the most packets of m units in a row, any number of them: whole groups, and a rest
-abbrev pub grouped_packets : DescribedStream → ℕ → ℕ
-grouped_packets s m = m / s.group * s.group_packets + min (m % s.group * greatest_pieces s) s.group_packets
-
--- the units that can wait for their decoding time at once, rounded up, and the slots in which their packets come
-abbrev pub waiting_units : DescribedStream → ℕ
-waiting_units s = (s.lead + (s.interval - 1)) / s.interval
-
-abbrev pub waiting_slots : Described → DescribedStream → ℕ
-waiting_slots d s = (s.lead * d.rate + (slot_units - 1)) / slot_units
-
--- the bytes of the units that can wait at once: by their sizes, or by their packets
-abbrev pub bytes_by_units : DescribedStream → ℕ
-bytes_by_units s = min (waiting_units s * (19 + s.size)) (184 * grouped_packets s (waiting_units s))
-
--- the bytes that can wait at once, by the slots in which they come
-abbrev pub bytes_by_slots : Described → Planned → ℕ → DescribedStream → ℕ
-bytes_by_slots d p i s =
-    184 * most_within (per_period (marks (StreamItem i) p.slots)) (length p.slots) (stream_claim p i).spread (waiting_slots d s)
-
 -- code 8: what waits for its decoding time finds room in the main buffer
 abbrev pub main_buffer_entry : Described → Planned → ℕ → DescribedStream → Entry
-main_buffer_entry d p i s = entry 8 0 i (min (bytes_by_units s) (bytes_by_slots d p i s)) s.main
+main_buffer_entry d p i s = at_most MainBuffer 0 i (bytes_waiting d.rate (declaration s) (stream_share p i)) s.main
 
 -- code 9: a program's system buffer, of 1,536 bytes and drained at 80,000 bits a second
 abbrev pub system_buffer_entries : Described → Planned → ℕ → List Entry
 system_buffer_entries d p i = let claim = program_claim p i in
-    buffer_entries 9 i d.rate 80000 1536 claim.system_start claim.system_peak (marks (System i) p.slots)
+    buffer_entries SystemBuffer i d.rate bsys_drain bsys_size claim.system_start claim.system_peak (marks (System i) p.slots)
 
 -- each code for all its items, in their order
 abbrev pub pcr_gaps : Described → Planned → List Entry

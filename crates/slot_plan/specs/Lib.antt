@@ -7,9 +7,11 @@ pub mod Text
 pub mod Reading
 pub mod Readings
 pub mod Entries
+pub mod Claims
 pub mod Conditions
 pub mod Shape
 pub mod SwitchConditions
 pub mod PlanTexts
 pub mod Schedule
 pub mod TableRounds
+pub mod ServingLaws

@@ -1,4 +1,4 @@
--- a plan as contracts see it, and which slots and certificates make one
+-- A plan as contracts see it, and which slots and certificates make one
 use Rattle.std.specs.Prelude.{ℕ, ◌^◌, ◌&&◌, ◌||◌, Bool, List, length, nat_lt, if◌then◌else◌, Option, Some, None}
 use Rattle.std.specs.List.{list_all}
 use Rattle.slot_plan.specs.declared.slot.Slot.{Slot}
@@ -16,6 +16,13 @@ pub record Certified : Type 0 where
 pub record Planned : Type 0 where
   pub slots : List Slot
   pub certificate : Certified
+
+-- slots of a plan, and entries of a kind, at most
+abbrev pub most_slots : ℕ
+most_slots = 99999
+
+abbrev pub most_entries : ℕ
+most_entries = 256
 
 -- each number of a certificate is below this
 abbrev pub number_end : ℕ
@@ -37,6 +44,6 @@ has_small_numbers c = list_all is_small_stream c.streams && list_all is_small_pr
 -- the first thing that stands against a plan of these slots with this certificate
 abbrev pub plan_error : List Slot → Certified → Option PlanError
 plan_error slots certificate =
-    if nat_lt 99999 (length slots) then Some Slots
-    else (if nat_lt 256 (length certificate.streams) || nat_lt 256 (length certificate.programs) then Some Entries
+    if nat_lt most_slots (length slots) then Some Slots
+    else (if nat_lt most_entries (length certificate.streams) || nat_lt most_entries (length certificate.programs) then Some Entries
     else (if has_small_numbers certificate then None else Some Number))

@@ -5,7 +5,7 @@ use Rattle.slot_plan.specs.declared.slot.Slot.{Slot}
 use Rattle.slot_plan.specs.declared.slot.Slot.TheVariants.{Stream, Pcr, Table, Null}
 use Rattle.slot_plan.specs.declared.certificate.StreamEntry.{StreamEntry}
 use Rattle.slot_plan.specs.declared.certificate.ProgramEntry.{ProgramEntry}
-use Rattle.slot_plan.specs.Planned.{Planned, Certified, number_end}
+use Rattle.slot_plan.specs.Planned.{Planned, Certified, number_end, most_slots, most_entries}
 use Rattle.slot_plan.specs.Text.{slot_ending}
 
 -- one reader, and then another on what it gave; nothing stays nothing
@@ -82,7 +82,8 @@ abbrev pub with_first : {X : Type 0} → X → Result (List X × List ℕ) ℕ �
 with_first x (Ok r) = Ok (x ∷ r.0, r.1)
 with_first x (Err line) = Err line
 
--- a list read from its first element on: what stands there, if anything, and then the rest of the list; else the line is bad
+-- a list read from its first element on: what stands there, if anything, and then the rest of the list; else the line
+-- is bad
 abbrev pub continued : {X : Type 0} → ℕ → (List ℕ → Result (List X × List ℕ) ℕ) → Option (X × List ℕ) → Result (List X × List ℕ) ℕ
 continued line next None = Err line
 continued line next (Some r) = with_first r.0 (next r.1)
@@ -123,19 +124,20 @@ abbrev pub ◌>>>◌ : {A B : Type 0} → Result A ℕ → (A → Result B ℕ) 
 (Ok x) >>> f = f x
 (Err line) >>> f = Err line
 
--- the entries behind the slots, the first on that line, and the end
+-- the entries after the slots, the first on that line, and the end
 abbrev pub certificate_at : ℕ → List ℕ → Result (Certified × List ℕ) ℕ
 certificate_at line xs =
-    streams_at 256 line 0 xs >>> (λ streams.
-    programs_at 256 (line + length streams.0) 0 streams.1 >>> (λ programs.
+    streams_at most_entries line 0 xs >>> (λ streams.
+    programs_at most_entries (line + length streams.0) 0 streams.1 >>> (λ programs.
     or_line (line + length streams.0 + length programs.0) (after_word (codes "end\n") programs.1) >>> (λ rest.
     Ok (record { streams = streams.0; programs = programs.0 }, rest))))
 
 -- `period N`, N at most 99,999
 abbrev pub period_at : List ℕ → Option (ℕ × List ℕ)
-period_at xs = field_at (codes "period ") 10 xs >>= (λ n. if nat_lt 99999 n.0 then None else Some n)
+period_at xs = field_at (codes "period ") 10 xs >>= (λ n. if nat_lt most_slots n.0 then None else Some n)
 
--- the plan whose text stands at the front, and the rest; or the number of the first line that is not as it must be, from 1
+-- the plan whose text stands at the front, and the rest; or the number of the first line that is not as it must be,
+-- from 1
 abbrev pub plan_at : List ℕ → Result (Planned × List ℕ) ℕ
 plan_at xs =
     or_line 1 (after_word (codes "tsplan 1\n") xs) >>> (λ behind.

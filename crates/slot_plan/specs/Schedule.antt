@@ -1,4 +1,5 @@
--- What each slot of a run carries: one plan over and over, or one plan for a whole number of its periods and then a second.
+-- What each slot of a run carries: one plan over and over, or one plan for a whole number of its periods and then a
+-- second.
 use Rattle.std.specs.Prelude.{◌≡◌, ℕ, ◌-◌, ◌*◌, ◌%◌, Bool, List, Option, None, Some, length, nat_lt, slice_index_or, if◌then◌else◌}
 use Rattle.own_slots.specs.Period.{own}
 use Rattle.own_slots.specs.Switch.{joined}
@@ -21,7 +22,7 @@ pub record Schedule : Type 0 where
 abbrev pub single : List Slot → Schedule
 single slots = record { first = slots; following = None }
 
--- a second plan behind so many periods of the first
+-- a second plan after so many periods of the first
 abbrev pub switched : List Slot → ℕ → List Slot → Schedule
 switched first periods second = record { first = first; following = Some (record { slots = second; from = periods * length first }) }
 

@@ -1,19 +1,23 @@
 -- The conditions under which a plan may be followed, at the end of one of its periods, by a second plan of the same
 -- description.
-use Rattle.std.specs.Prelude.{◌≡◌, ℕ, suc, ◌+◌, ◌-◌, ◌*◌, max, min, Bool, List, [], ◌∷◌, ◌++◌, length, is_none, None, if◌then◌else◌}
-use Rattle.clock27.specs.Release.{slot_units}
-use Rattle.own_slots.specs.Period.{per_period, position, back}
+use Rattle.std.specs.Prelude.{◌≡◌, ℕ, suc, ◌+◌, ◌-◌, ◌*◌, Bool, List, [], ◌∷◌, ◌++◌, length, is_none, None, if◌then◌else◌}
+use Rattle.clock27.specs.Units.{slot_milliseconds}
+use Rattle.own_slots.specs.Period.{position, back}
 use Rattle.own_slots.specs.Extremes.{greatest}
 use Rattle.own_slots.specs.Work.{work_left}
 use Rattle.own_slots.specs.Switch.{shift}
+use Rattle.unit_timing.specs.Buffers.{system_tb_drain, bsys_drain}
+use Rattle.unit_timing.specs.Conditions.{lead_across, time_given, bytes_across}
 use Rattle.description.specs.Described.{Described, DescribedProgram, DescribedStream}
 use Rattle.description.specs.Tables.{table_kinds, table_limit, round_places}
 use Rattle.slot_plan.specs.declared.slot.Item.TheVariants.{Stream as StreamItem, Pcr as PcrItem, Table as TableItem, System}
+use Rattle.slot_plan.specs.declared.condition.Condition.TheVariants.{PcrSwitch, TableSwitch, WorkSwitch, LeadSwitch, MainSwitch}
 use Rattle.slot_plan.specs.Numbered.{numbered}
 use Rattle.slot_plan.specs.Planned.{Planned}
 use Rattle.slot_plan.specs.Items.{marks}
-use Rattle.slot_plan.specs.Entries.{Entry, entry, first_failing}
-use Rattle.slot_plan.specs.Conditions.{stream_claim, program_claim, packets_of_units, group_part, counting, bytes_by_units, bytes_by_slots, entries}
+use Rattle.slot_plan.specs.Entries.{Entry, at_most, first_failing}
+use Rattle.slot_plan.specs.Claims.{declaration, stream_claim, program_claim, stream_share}
+use Rattle.slot_plan.specs.Conditions.{group_part, counting, entries}
 
 -- the greatest gap across the switch between k own slots in a row: from own slot -x of the first plan to own slot k - x
 -- of the second, x from 1 to k
@@ -23,44 +27,40 @@ gap_across first second k = greatest k (λ x. position second (k - suc x) + back
 -- code 12: the PCRs of a program recur across the switch
 abbrev pub pcr_switch_entry : Described → Planned → Planned → ℕ → DescribedProgram → Entry
 pcr_switch_entry d first second i program =
-    entry 12 0 i (gap_across (marks (PcrItem i) first.slots) (marks (PcrItem i) second.slots) 1 * 1504000) (program.pcr_limit * d.rate)
+    at_most PcrSwitch 0 i (gap_across (marks (PcrItem i) first.slots) (marks (PcrItem i) second.slots) 1 * slot_milliseconds) (program.pcr_limit * d.rate)
 
 -- code 13: each section of a table recurs across the switch
 abbrev pub table_switch_entry : Described → Planned → Planned → ℕ → Entry
 table_switch_entry d first second t =
-    entry 13 0 t (gap_across (marks (TableItem t) first.slots) (marks (TableItem t) second.slots) (round_places d t) * 1504000) (table_limit d t * d.rate)
+    at_most TableSwitch 0 t (gap_across (marks (TableItem t) first.slots) (marks (TableItem t) second.slots) (round_places d t) * slot_milliseconds) (table_limit d t * d.rate)
 
 -- code 14: the work that a period of the first plan leaves in a buffer is at most that with which the second begins
 abbrev pub work_switch_entry : ℕ → ℕ → ℕ → ℕ → List Bool → ℕ → Entry
-work_switch_entry item rate drain start own next_start = entry 14 0 item (work_left rate drain start own) next_start
+work_switch_entry item rate drain start own next_start = at_most WorkSwitch 0 item (work_left rate drain start own) next_start
 
 abbrev pub stream_work_entry : Described → Planned → Planned → ℕ → DescribedStream → Entry
 stream_work_entry d first second i s =
     work_switch_entry i d.rate s.rx (stream_claim first i).start (marks (StreamItem i) first.slots) (stream_claim second i).start
 
 abbrev pub transport_work_entry : Described → Planned → Planned → ℕ → Entry
-transport_work_entry d first second i = work_switch_entry (length d.streams + i) d.rate 1000000
+transport_work_entry d first second i = work_switch_entry (length d.streams + i) d.rate system_tb_drain
     (program_claim first i).transport_start (marks (System i) first.slots) (program_claim second i).transport_start
 
 abbrev pub system_work_entry : Described → Planned → Planned → ℕ → Entry
-system_work_entry d first second i = work_switch_entry (length d.streams + length d.programs + i) d.rate 80000
+system_work_entry d first second i = work_switch_entry (length d.streams + length d.programs + i) d.rate bsys_drain
     (program_claim first i).system_start (marks (System i) first.slots) (program_claim second i).system_start
 
 -- code 15: the last of m units in a row, sent across the switch, has left the transport buffer by its decoding time
 abbrev pub lead_switch_entry : Described → Planned → Planned → ℕ → DescribedStream → ℕ → Entry
-lead_switch_entry d first second i s m =
-    let own = marks (StreamItem i) first.slots in let next = marks (StreamItem i) second.slots in
-    let c = per_period own in let e = per_period next in
-    let claim = stream_claim first i in let next_claim = stream_claim second i in
-    entry 15 (group_part s m) i
-    ((claim.spread * e + next_claim.spread * c + packets_of_units s m * max (length first.slots * e) (length second.slots * c)
-    + c * e * (shift own next + 1)) * slot_units * s.rx + c * e * max claim.peak next_claim.peak * 720000)
-    (c * e * (s.lead + (m - 1) * s.interval) * d.rate * s.rx)
+lead_switch_entry d first second i s m = let own = stream_share first i in let next = stream_share second i in
+    at_most LeadSwitch (group_part s m) i
+    (lead_across (declaration s) own next (shift (marks (StreamItem i) first.slots) (marks (StreamItem i) second.slots)) m)
+    (time_given d.rate (declaration s) (own.count * next.count) m)
 
 -- code 16: what waits for its decoding time across the switch finds room in the main buffer
 abbrev pub main_switch_entry : Described → Planned → Planned → ℕ → DescribedStream → Entry
 main_switch_entry d first second i s =
-    entry 16 0 i (min (bytes_by_units s) (bytes_by_slots d first i s + bytes_by_slots d second i s)) s.main
+    at_most MainSwitch 0 i (bytes_across d.rate (declaration s) (stream_share first i) (stream_share second i)) s.main
 
 -- each code for all its items, in their order
 abbrev pub pcr_switches : Described → Planned → Planned → List Entry

@@ -1,5 +1,5 @@
--- The rounds of a table: its sections take places one after another, and the table's own slots, counted over the run, are
--- the places in turn.
+-- The rounds of a table: its sections take places one after another, and the table's own slots, counted over the run,
+-- are the places in turn.
 use Rattle.std.specs.Prelude.{ℕ, zero, suc, ◌-◌, ◌*◌, ◌/◌, ◌%◌, ◌==◌, ◌&&◌, Bool, List, [], ◌∷◌, take, sum_by, nat_lt, if◌then◌else◌}
 use Rattle.own_slots.specs.Slots.{own_before}
 use Rattle.own_slots.specs.Rounds.{starts}
@@ -38,6 +38,7 @@ abbrev pub slot_number : (ℕ → Bool) → ℕ → ℕ → ℕ
 slot_number own n zero = 0
 slot_number own n (suc s) = if own s && (own_before own s == n) then s else slot_number own n s
 
--- the slot of place 0 of the round that the table's own slot in slot s belongs to: the table's text is that of its moment
+-- the slot of place 0 of the round that the table's own slot in slot s belongs to: the table's text is that of its
+-- moment
 abbrev pub round_begin : Described → Schedule → ℕ → ℕ → ℕ
 round_begin d schedule t s = slot_number (owned schedule (Table t)) (table_slot schedule t s / round_places d t * round_places d t) (suc s)

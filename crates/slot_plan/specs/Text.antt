@@ -1,5 +1,5 @@
--- The text of a plan: each line ends with LF, one space stands between words, numbers are decimal without leading zeros.
--- A plan has one text.
+-- The text of a plan: each line ends with LF, one space stands between words, numbers are decimal without leading
+-- zeros. A plan has one text.
 use Rattle.std.specs.Prelude.{ℕ, suc, ◌%◌, ◌==◌, ◌||◌, List, [], ◌∷◌, ◌++◌, length, codes, decimal, if◌then◌else◌}
 use Rattle.slot_plan.specs.declared.slot.Slot.{Slot}
 use Rattle.slot_plan.specs.declared.slot.Slot.TheVariants.{Stream, Pcr, Table, Null}

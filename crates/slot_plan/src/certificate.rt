@@ -3,6 +3,12 @@
 use std::alloc::{Allocator, Global};
 use std::marker::Model;
 
+/// Entries of a kind, at most.
+pub const MOST_ENTRIES: u32 = 256;
+
+/// Each number of a certificate is below this.
+pub const NUMBER_END: u64 = 1_000_000_000_000_000_000;
+
 /// What a plan claims of one stream. `spread` is in slots times own slots a period; `start` and `peak`
 /// are work of its transport buffer, counted in units of 8 / (rate * leak rate) seconds.
 #[derive(Clone, Copy, Debug, PartialEq, Eq)]

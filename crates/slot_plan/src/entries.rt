@@ -32,7 +32,7 @@ fn lettered(letter: u8, number: u8) -> Option<Slot>
     }
 }
 
-/// A word with its space, the number given, and the text after the space behind it.
+/// A word with its space, the number given, and the text after the space after it.
 fn after_number<'a>(word: &[u8], number: u64, text: &'a [u8]) -> Option<&'a [u8]>
     ensures { option_map (λ rest. rest.now) result ≡ after_number word.now number text.now }
 {

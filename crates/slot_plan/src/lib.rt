@@ -3,15 +3,18 @@
 #![tactic(auto)]
 
 mod certificate;
+mod condition;
 mod entries;
 pub mod laws;
 mod plan;
 mod reader;
+pub mod serving_plans;
 mod slot;
 mod text;
 mod words;
 
 pub use certificate::{Certificate, ProgramEntry, StreamEntry};
+pub use condition::{Condition, Relation};
 pub use description::{Description, Network, PrivateTable, Program, Stream, TableKind};
 pub use plan::{Plan, PlanError};
 pub use reader::PlanTextError;

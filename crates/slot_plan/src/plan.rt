@@ -7,9 +7,9 @@ ghost use Rattle.slot_plan.specs.PlanTexts.{StandsAtFront, Refuses};
 ghost use Rattle.slot_plan.specs.PlanErrors.{plan_refusal};
 ghost use Rattle.slot_plan.specs.Planned.{plan_error, has_small_numbers, is_small_stream, is_small_program};
 
-use crate::certificate::{Certificate, ProgramEntry, StreamEntry};
+use crate::certificate::{Certificate, MOST_ENTRIES, NUMBER_END, ProgramEntry, StreamEntry};
 use crate::reader::{PlanTextError, plan_at};
-use crate::slot::Slot;
+use crate::slot::{MOST_SLOTS, Slot};
 use crate::text::{write_head, write_programs, write_slots, write_streams};
 use std::alloc::{AllocError, Allocator, Global};
 use std::marker::Model;
@@ -92,7 +92,7 @@ impl<A: Allocator> Plan<A> {
 }
 
 impl<A: Allocator + Clone> Plan<A> {
-    /// The plan whose text stands at the front, and the number of bytes of its text; what stands behind it is
+    /// The plan whose text stands at the front, and the number of bytes of its text; what stands after it is
     /// not looked at. Else the number of the first line that is not as it must be, from 1; where the text ends
     /// too soon, of the line that is missing or cut.
     pub fn read_text(alloc: A, text: &[u8]) -> Result<(Plan<A>, usize), PlanTextError>
@@ -105,19 +105,13 @@ impl<A: Allocator + Clone> Plan<A> {
     }
 }
 
-const MOST_SLOTS: usize = 99_999;
-
-const MOST_ENTRIES: usize = 256;
-
-const NUMBER_END: u64 = 1_000_000_000_000_000_000;
-
 fn error_of<A: Allocator>(slots: &Vec<Slot, A>, certificate: &Certificate<A>) -> Option<PlanError>
     ensures { result ≡ plan_error slots.now.items certificate.now }
 {
-    if slots.len() > MOST_SLOTS {
+    if slots.len() > MOST_SLOTS as usize {
         Some(PlanError::Slots)
-    } else if certificate.streams.len() > MOST_ENTRIES
-        || certificate.programs.len() > MOST_ENTRIES
+    } else if certificate.streams.len() > MOST_ENTRIES as usize
+        || certificate.programs.len() > MOST_ENTRIES as usize
     {
         Some(PlanError::Entries)
     } else if has_small_numbers(certificate) {

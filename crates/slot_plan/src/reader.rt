@@ -5,9 +5,9 @@ ghost use Rattle.slot_plan.specs.Text.{slot_ending};
 ghost use Rattle.slot_plan.specs.Reading.{slots_at, streams_at, programs_at, begins_with, period_at, certificate_at, plan_at};
 ghost use Rattle.slot_plan.specs.Readings.{Reads};
 
-use crate::certificate::{Certificate, ProgramEntry, StreamEntry};
+use crate::certificate::{Certificate, MOST_ENTRIES, ProgramEntry, StreamEntry};
 use crate::entries::{program_at, slot_at, stream_at};
-use crate::slot::Slot;
+use crate::slot::{MOST_SLOTS, Slot};
 use crate::text::SLOTS_ON_A_LINE;
 use crate::words::{after_word, field_at};
 use std::alloc::Allocator;
@@ -22,9 +22,6 @@ pub enum PlanTextError {
     #[error("out of memory")]
     Memory,
 }
-
-/// Entries of a kind, at most.
-pub const MOST_ENTRIES: u32 = 256;
 
 /// What ends slot number `index` of a period.
 fn slot_ending(period: u32, index: u32) -> u8
@@ -124,7 +121,7 @@ pub fn programs_at<A: Allocator>(
     Ok((entries, rest))
 }
 
-/// The entries behind the slots, the first of them on that line, and the text after them.
+/// The entries after the slots, the first of them on that line, and the text after them.
 fn certificate_at<A: Allocator + Clone>(
     alloc: A,
     line: u32,
@@ -152,7 +149,7 @@ fn period_at(text: &[u8]) -> Option<(u32, &[u8])>
     ensures most { IfSome result (λ read. read.0 ≤ 99999) }
 {
     let (period, rest) = field_at(b"period ", b'\n', text)?;
-    if period > 99_999 {
+    if period > MOST_SLOTS as u64 {
         None
     } else {
         Some((period as u32, rest))

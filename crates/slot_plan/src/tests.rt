@@ -1,7 +1,8 @@
 //! The text of a small plan, both ways, and the limits of plans.
 
 use crate::{
-    Certificate, Item, Plan, PlanError, PlanTextError, ProgramEntry, Slot, StreamEntry, laws,
+    Certificate, Condition, Item, Plan, PlanError, PlanTextError, ProgramEntry, Slot, StreamEntry,
+    laws,
 };
 use std::alloc::Global;
 use std::test::Fail;
@@ -231,4 +232,39 @@ fn owners(rt: HostRuntime) {
     assert!(rt; Item::System(2).owns(Slot::Table(3)));
     assert!(rt; !Item::System(2).owns(Slot::Table(2)));
     assert!(rt; !Item::System(2).owns(Slot::Null));
+}
+
+/// The greatest text: 99,999 slots, of streams, tables and null packets in turn, and 256 entries of each kind.
+#[test]
+fn greatest_text_both_ways(rt: HostRuntime) -> Result<(), Fail> {
+    let mut slots = Vec::new(rt.alloc());
+    for s in 0..99_999_u32 {
+        slots.push(match s % 3 {
+            0 => Slot::Stream(255),
+            1 => Slot::Table(255),
+            _ => Slot::Null,
+        })?;
+    }
+    let number = 999_999_999_999_999_999;
+    let certificate = certificate_of(rt.alloc(), 256, 256, number)?;
+    let Ok(plan) = Plan::new(slots, certificate) else {
+        return Err(Fail::from("no plan"));
+    };
+    let text = plan.write_text(rt.alloc())?;
+    let (read, bytes) = Plan::read_text(rt.alloc(), text.as_bytes())?;
+    assert_eq!(rt; bytes, text.as_bytes().len());
+    assert!(rt; read.slots() == plan.slots());
+    assert_eq!(rt; read.certificate().streams.len(), 256);
+    assert_eq!(rt; read.certificate().programs.len(), 256);
+    let last = read.certificate().programs.last().copied();
+    assert_eq!(rt; last.map(|entry| entry.system_peak), Some(number));
+    Ok(())
+}
+
+#[test]
+fn numbers_of_conditions(rt: HostRuntime) {
+    assert_eq!(rt; Condition::Shape.code(), 1);
+    assert_eq!(rt; Condition::SystemBuffer.code(), 9);
+    assert_eq!(rt; Condition::PcrSwitch.code(), 12);
+    assert_eq!(rt; Condition::MainSwitch.code(), 16);
 }

@@ -3,8 +3,7 @@
 ghost use Rattle.std.specs.Prelude.{◌≡◌, ◌^◌, ◌<◌, ◌≤◌, option_map, IfSome};
 ghost use Rattle.slot_plan.specs.Reading.{after_word, number_on, number_before, field_at};
 
-/// Each number of a certificate is below this.
-pub const NUMBER_END: u64 = 1_000_000_000_000_000_000;
+use crate::certificate::NUMBER_END;
 
 /// The text after a word.
 pub fn after_word<'a>(word: &[u8], text: &'a [u8]) -> Option<&'a [u8]>

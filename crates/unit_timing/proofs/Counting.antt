@@ -1,4 +1,4 @@
--- The bytes of one text, or of one packet, in the main buffer.
+-- The bytes of one unit, or of one packet, in the main buffer.
 use Rattle.std.proofs.Common.{◌≡◌, ℕ, zero, suc, ◌+◌, ◌-◌, ◌*◌, ◌<◌, ◌≤◌, min, Bool, false, cond, nat_le, List, [], ◌∷◌, ◌++◌, length, take, drop, refl, ◌∙◌, inl, inr, arith, All, count_by}
 use Rattle.std.proofs.Math.Nat.{le_trans}
 use Rattle.std.proofs.lemmas.Bool.{cases_Bool, cases_lt, le-ltb, lt-leb, and_right}
@@ -13,13 +13,13 @@ use Rattle.own_slots.specs.Slots.{own_before, own_slots}
 use Rattle.own_slots.proofs.Counting.{own_before_own, own_before_other, own_before_lt}
 use Rattle.unit_timing.specs.PesPacket.{PesPacket, pieces_of}
 use Rattle.unit_timing.specs.Schedule.{first_slot, cut, packets_in_slots}
-use Rattle.unit_timing.specs.Transport.{of_payloads, text_left}
+use Rattle.unit_timing.specs.Transport.{of_payloads, pes_left}
 use Rattle.unit_timing.specs.MainBuffer.{is_kept, mb_fullness}
-use Rattle.unit_timing.proofs.Filling.{text_left-cons}
-use Rattle.unit_timing.proofs.Sending.{slots_of-cut, text_left-append, length-left-cut, sent_nothing}
-use Rattle.unit_timing.proofs.Arriving.{behind_text}
+use Rattle.unit_timing.proofs.Filling.{pes_left-cons}
+use Rattle.unit_timing.proofs.Sending.{slots_of-cut, pes_left-append, length-left-cut, sent_nothing}
+use Rattle.unit_timing.proofs.Arriving.{after_unit}
 
--- how many of the bytes that leave at these times are in the main buffer at x, for one text
+-- how many of the bytes that leave at these times are in the main buffer at x, for one unit
 unfoldable pub kept : ℕ → ℕ → ℕ → ℕ → List ℕ → ℕ
 kept rate r x due ds = count_by (is_kept rate r x due) ds
 
@@ -53,18 +53,18 @@ packet_later rate r prev s low le =
     earliest rate prev low (bytes_from r (188 * s) 188)
     (All-weaker (λ t. 188 * s * r ≤ t) (λ t. low ≤ t) (λ t h. le_trans le h) (bytes_from r (188 * s) 188) (row r (188 * s) 188))
 
--- and those of a text after its first slot has
-pub text_later : (rate r prev size low : ℕ) (slots : List ℕ) → All (λ s. low ≤ 188 * s * r) slots → All (λ d. low + rate ≤ d) (text_left rate r prev (cut size slots))
+-- and those of a unit after its first slot has
+pub unit_later : (rate r prev size low : ℕ) (slots : List ℕ) → All (λ s. low ≤ 188 * s * r) slots → All (λ d. low + rate ≤ d) (pes_left rate r prev (cut size slots))
 unfolding cut
-text_later rate r prev size low [] all = unfold of_payloads in All-nil (λ d. low + rate ≤ d)
-text_later rate r prev size low (s ∷ slots) all =
+unit_later rate r prev size low [] all = unfold of_payloads in All-nil (λ d. low + rate ≤ d)
+unit_later rate r prev size low (s ∷ slots) all =
     let first = bytes_from r (188 * s) 188 in
-    rw (text_left-cons rate r prev (record { slot = s; size = min 184 size }) (cut (size - 184) slots))
-    (All-append (λ d. low + rate ≤ d) (drop (188 - min 184 size) (departures rate prev first)) (text_left rate r (last_left rate prev first) (cut (size - 184) slots))
+    rw (pes_left-cons rate r prev (record { slot = s; size = min 184 size }) (cut (size - 184) slots))
+    (All-append (λ d. low + rate ≤ d) (drop (188 - min 184 size) (departures rate prev first)) (pes_left rate r (last_left rate prev first) (cut (size - 184) slots))
     (All-drop (λ d. low + rate ≤ d) (188 - min 184 size) (departures rate prev first) (packet_later rate r prev s low (All-head (λ s. low ≤ 188 * s * r) s slots all)))
-    (text_later rate r (last_left rate prev first) (size - 184) low slots (All-tail (λ s. low ≤ 188 * s * r) s slots all)))
+    (unit_later rate r (last_left rate prev first) (size - 184) low slots (All-tail (λ s. low ≤ 188 * s * r) s slots all)))
 
--- no own slot from number b on stands before a slot that at most b have passed
+-- no own slot from number b on stands before a slot before which at most b stand
 pub later_slots : (own : ℕ → Bool) (e s n b : ℕ) → own_before own e ≤ b + own_before own s → All (λ t. e ≤ t) (drop b (own_slots own s n))
 unfolding own_slots
 later_slots own e s zero b h = rw (drop_all {X = ℕ} b [] (omega arith)) (All-nil (λ t. e ≤ t))
@@ -79,51 +79,51 @@ later_slots own e s (suc n) (suc b) h = elim (cases_Bool (own s)) [
   | inr o ↦ rw o (later_slots own e (suc s) n (suc b) (omega (arith, h, own_before_other own s o)))
 ]
 
--- the departures of a text, in those of all that is sent from it on
-pub text_part : (own : ℕ → Bool) (rate lead r n b p size prev next : ℕ) (texts : List PesPacket) → size ≤ 184 * p →
-    take size (text_left rate r prev (cut size (take p (drop b (own_slots own 0 n))))
-    ++ text_left rate r next (packets_in_slots own rate lead (b + p) texts (own_slots own 0 n)))
-    ≡ text_left rate r prev (cut size (take p (drop b (own_slots own 0 n))))
-text_part own rate lead r n b p size prev next texts small =
+-- the departures of a unit, in those of all that is sent from it on
+pub unit_part : (own : ℕ → Bool) (rate lead r n b p size prev next : ℕ) (units : List PesPacket) → size ≤ 184 * p →
+    take size (pes_left rate r prev (cut size (take p (drop b (own_slots own 0 n))))
+    ++ pes_left rate r next (packets_in_slots own rate lead (b + p) units (own_slots own 0 n)))
+    ≡ pes_left rate r prev (cut size (take p (drop b (own_slots own 0 n))))
+unit_part own rate lead r n b p size prev next units small =
     let slots = own_slots own 0 n in
-    let left = text_left rate r prev (cut size (take p (drop b slots))) in
+    let left = pes_left rate r prev (cut size (take p (drop b slots))) in
     let many : length left ≡ min size (184 * min p (length slots - b)) =
     rw (length-left-cut rate r size prev (take p (drop b slots)), length-take p (drop b slots), length-drop b slots) refl in
     elim (cases_lt (length slots) (b + p)) [
       | inl short ↦
-          let nothing : text_left rate r next (packets_in_slots own rate lead (b + p) texts slots) ≡ [] =
-          rw (sent_nothing own rate lead (b + p) texts slots (omega arith)) (unfold of_payloads in refl) in
+          let nothing : pes_left rate r next (packets_in_slots own rate lead (b + p) units slots) ≡ [] =
+          rw (sent_nothing own rate lead (b + p) units slots (omega arith)) (unfold of_payloads in refl) in
           rw (nothing, append-nil left) (take_all size left (omega arith))
-      | inr whole ↦ take_at left (text_left rate r next (packets_in_slots own rate lead (b + p) texts slots)) size (omega arith)
+      | inr whole ↦ take_at left (pes_left rate r next (packets_in_slots own rate lead (b + p) units slots)) size (omega arith)
     ]
 
-pub released : (own : ℕ → Bool) (rate lead free : ℕ) (text : PesPacket) → own_before own (release rate lead text.dts) ≤ first_slot own rate lead free text
+pub released : (own : ℕ → Bool) (rate lead free : ℕ) (unit : PesPacket) → own_before own (release rate lead unit.dts) ≤ first_slot own rate lead free unit
 unfolding first_slot
-released own rate lead free text = omega arith
+released own rate lead free unit = omega arith
 
--- so a text's packets stand in slots from its release on
-pub text_slots : (own : ℕ → Bool) (rate lead free n : ℕ) (text : PesPacket) →
-    All (λ s. release rate lead text.dts ≤ s) (take (pieces_of text) (drop (first_slot own rate lead free text) (own_slots own 0 n)))
+-- so a unit's packets stand in slots from its release on
+pub unit_slots : (own : ℕ → Bool) (rate lead free n : ℕ) (unit : PesPacket) →
+    All (λ s. release rate lead unit.dts ≤ s) (take (pieces_of unit) (drop (first_slot own rate lead free unit) (own_slots own 0 n)))
 unfolding own_before
-text_slots own rate lead free n text =
-    All-take (λ s. release rate lead text.dts ≤ s) (pieces_of text) (drop (first_slot own rate lead free text) (own_slots own 0 n))
-    (later_slots own (release rate lead text.dts) 0 n (first_slot own rate lead free text) (omega (arith, released own rate lead free text)))
+unit_slots own rate lead free n unit =
+    All-take (λ s. release rate lead unit.dts ≤ s) (pieces_of unit) (drop (first_slot own rate lead free unit) (own_slots own 0 n))
+    (later_slots own (release rate lead unit.dts) 0 n (first_slot own rate lead free unit) (omega (arith, released own rate lead free unit)))
 
--- the bytes of the main buffer are those of the first text and those of the later ones
-pub mb_fullness-cons : (own : ℕ → Bool) (rate lead r n x free prev : ℕ) (text : PesPacket) (texts : List PesPacket) →
-    mb_fullness rate r x (text ∷ texts) (text_left rate r prev (packets_in_slots own rate lead free (text ∷ texts) (own_slots own 0 n)))
-    ≡ kept rate r x text.dts (text_left rate r prev (cut text.size (take (pieces_of text) (drop (first_slot own rate lead free text) (own_slots own 0 n)))))
-    + mb_fullness rate r x texts (text_left rate r (last_left rate prev (arrivals r (take (pieces_of text) (drop (first_slot own rate lead free text) (own_slots own 0 n)))))
-    (packets_in_slots own rate lead (first_slot own rate lead free text + pieces_of text) texts (own_slots own 0 n)))
+-- the bytes of the main buffer are those of the first unit and those of the later ones
+pub mb_fullness-cons : (own : ℕ → Bool) (rate lead r n x free prev : ℕ) (unit : PesPacket) (units : List PesPacket) →
+    mb_fullness rate r x (unit ∷ units) (pes_left rate r prev (packets_in_slots own rate lead free (unit ∷ units) (own_slots own 0 n)))
+    ≡ kept rate r x unit.dts (pes_left rate r prev (cut unit.size (take (pieces_of unit) (drop (first_slot own rate lead free unit) (own_slots own 0 n)))))
+    + mb_fullness rate r x units (pes_left rate r (last_left rate prev (arrivals r (take (pieces_of unit) (drop (first_slot own rate lead free unit) (own_slots own 0 n)))))
+    (packets_in_slots own rate lead (first_slot own rate lead free unit + pieces_of unit) units (own_slots own 0 n)))
 unfolding mb_fullness packets_in_slots kept
-mb_fullness-cons own rate lead r n x free prev text texts =
+mb_fullness-cons own rate lead r n x free prev unit units =
     let slots = own_slots own 0 n in
-    let b = first_slot own rate lead free text in
-    let p = pieces_of text in
+    let b = first_slot own rate lead free unit in
+    let p = pieces_of unit in
     let xs = take p (drop b slots) in
     let next = last_left rate prev (arrivals r xs) in
-    let small : text.size ≤ 184 * pieces_of text = omega arith in
-    let joined : text_left rate r prev (cut text.size xs ++ packets_in_slots own rate lead (b + p) texts slots)
-    ≡ text_left rate r prev (cut text.size xs) ++ text_left rate r next (packets_in_slots own rate lead (b + p) texts slots) =
-    text_left-append rate r prev (cut text.size xs) (packets_in_slots own rate lead (b + p) texts slots) ∙ rw (slots_of-cut text.size xs) refl in
-    rw (joined, text_part own rate lead r n b p text.size prev next texts small, behind_text own rate lead r n b p text.size prev next texts small) refl
+    let small : unit.size ≤ 184 * pieces_of unit = omega arith in
+    let joined : pes_left rate r prev (cut unit.size xs ++ packets_in_slots own rate lead (b + p) units slots)
+    ≡ pes_left rate r prev (cut unit.size xs) ++ pes_left rate r next (packets_in_slots own rate lead (b + p) units slots) =
+    pes_left-append rate r prev (cut unit.size xs) (packets_in_slots own rate lead (b + p) units slots) ∙ rw (slots_of-cut unit.size xs) refl in
+    rw (joined, unit_part own rate lead r n b p unit.size prev next units small, after_unit own rate lead r n b p unit.size prev next units small) refl

@@ -12,7 +12,7 @@ use Rattle.clock27.proofs.Holding.{room_law}
 use Rattle.own_slots.specs.Slots.{Rises}
 use Rattle.own_slots.specs.Work.{BoundsWork}
 use Rattle.unit_timing.specs.Schedule.{Packet}
-use Rattle.unit_timing.specs.Transport.{slots_of, of_payloads, text_left, RoomLaw, TextLaw}
+use Rattle.unit_timing.specs.Transport.{slots_of, of_payloads, pes_left, RoomLaw, LeftLaw}
 
 -- a last departure lies within the work bound at slot s
 abbrev pub Level : ℕ → (ℕ → ℕ) → ℕ → ℕ → Type 0
@@ -61,7 +61,7 @@ stays-append wait [] (d ∷ ds) ts' ds' e h h' = cc
 stays-append wait (t ∷ ts) [] ts' ds' e h h' = cc
 stays-append wait (t ∷ ts) (d ∷ ds) ts' ds' e h h' = (h.0, stays-append wait ts ds ts' ds' (cc) h.1 h')
 
--- the bytes of one packet, where it fits behind what is there
+-- the bytes of one packet, where it fits after what is there
 packet_stays : (rate r room i n prev : ℕ) → prev + n * rate ≤ i * r + room * rate → n * rate ≤ room * rate →
     Stays (room * rate) (bytes_from r i n) (departures rate prev (bytes_from r i n))
 unfolding bytes_from departures Stays
@@ -85,11 +85,11 @@ transport_room own rate r room peak W slots x pos b rises =
     let start : Level r W 0 0 = omega arith in
     room_law x rate room (arrivals r slots) pos (all_stay own rate r room peak W slots 0 0 b rises start)
 
--- one packet, and those behind it
-pub text_left-cons : (rate r prev : ℕ) (p : Packet) (packets : List Packet) → text_left rate r prev (p ∷ packets)
-    ≡ drop (188 - p.size) (departures rate prev (bytes_from r (188 * p.slot) 188)) ++ text_left rate r (last_left rate prev (bytes_from r (188 * p.slot) 188)) packets
+-- one packet, and those after it
+pub pes_left-cons : (rate r prev : ℕ) (p : Packet) (packets : List Packet) → pes_left rate r prev (p ∷ packets)
+    ≡ drop (188 - p.size) (departures rate prev (bytes_from r (188 * p.slot) 188)) ++ pes_left rate r (last_left rate prev (bytes_from r (188 * p.slot) 188)) packets
 unfolding of_payloads arrivals
-text_left-cons rate r prev p packets =
+pes_left-cons rate r prev p packets =
     let first = bytes_from r (188 * p.slot) 188 in
     let many : length (departures rate prev first) ≡ 188 = length-departures rate prev first ∙ length-bytes_from r (188 * p.slot) 188 in
     rw (
@@ -98,22 +98,22 @@ text_left-cons rate r prev p packets =
       drop_at (departures rate prev first) (departures rate (last_left rate prev first) (arrivals r (slots_of packets))) 188 many,
     ) refl
 
-pub texts_by : (own : ℕ → Bool) (rate r room peak : ℕ) (W : ℕ → ℕ) (e : ℕ) (packets : List Packet) (from prev : ℕ) → BoundsWork own rate r room peak W →
-    Rises own from (slots_of packets) → Level r W from prev → All (λ p. p.slot < e) packets → All (λ d. d ≤ 188 * r * e + peak) (text_left rate r prev packets)
+pub left_by : (own : ℕ → Bool) (rate r room peak : ℕ) (W : ℕ → ℕ) (e : ℕ) (packets : List Packet) (from prev : ℕ) → BoundsWork own rate r room peak W →
+    Rises own from (slots_of packets) → Level r W from prev → All (λ p. p.slot < e) packets → All (λ d. d ≤ 188 * r * e + peak) (pes_left rate r prev packets)
 unfolding Rises
-texts_by own rate r room peak W e [] from prev b rises h before = unfold of_payloads in All-nil (λ d. d ≤ 188 * r * e + peak)
-texts_by own rate r room peak W e (p ∷ packets) from prev b rises h before =
+left_by own rate r room peak W e [] from prev b rises h before = unfold of_payloads in All-nil (λ d. d ≤ 188 * r * e + peak)
+left_by own rate r room peak W e (p ∷ packets) from prev b rises h before =
     let here = level_le own rate r room peak W from p.slot prev b rises.0 h in
     let first = bytes_from r (188 * p.slot) 188 in
     let last = peak_packet own rate r room peak W p.slot prev e b rises.1 here (All-head (λ p. p.slot < e) p packets before) in
-    rw (text_left-cons rate r prev p packets)
-    (All-append (λ d. d ≤ 188 * r * e + peak) (drop (188 - p.size) (departures rate prev first)) (text_left rate r (last_left rate prev first) packets)
+    rw (pes_left-cons rate r prev p packets)
+    (All-append (λ d. d ≤ 188 * r * e + peak) (drop (188 - p.size) (departures rate prev first)) (pes_left rate r (last_left rate prev first) packets)
     (All-drop (λ d. d ≤ 188 * r * e + peak) (188 - p.size) (departures rate prev first)
     (All-weaker (λ d. d ≤ last_left rate prev first) (λ d. d ≤ 188 * r * e + peak) (λ d le. le_trans le last) (departures rate prev first) (rising rate prev first)))
-    (texts_by own rate r room peak W e packets (suc p.slot) (last_left rate prev first) b rises.2 (level_packet own rate r room peak W p.slot prev b rises.1 here)
+    (left_by own rate r room peak W e packets (suc p.slot) (last_left rate prev first) b rises.2 (level_packet own rate r room peak W p.slot prev b rises.1 here)
     (All-tail (λ p. p.slot < e) p packets before)))
 
-pub text_law : TextLaw
-text_law own rate r room peak W packets e b rises before =
+pub left_law : LeftLaw
+left_law own rate r room peak W packets e b rises before =
     let start : Level r W 0 0 = omega arith in
-    texts_by own rate r room peak W e packets 0 0 b rises start before
+    left_by own rate r room peak W e packets 0 0 b rises start before

@@ -12,13 +12,13 @@ use Rattle.own_slots.specs.Slots.{own_before, own_slots, Rises, Spares}
 use Rattle.own_slots.proofs.Counting.{own_before_own, own_before_le}
 use Rattle.unit_timing.specs.PesPacket.{PesPacket, pieces_of}
 use Rattle.unit_timing.specs.Schedule.{Packet, first_slot, cut, packets_in_slots}
-use Rattle.unit_timing.specs.Transport.{slots_of, of_payloads, text_left}
+use Rattle.unit_timing.specs.Transport.{slots_of, of_payloads, pes_left}
 use Rattle.unit_timing.specs.MainBuffer.{mb_fullness, BySlots}
-use Rattle.unit_timing.proofs.Filling.{text_left-cons, length-bytes_from}
+use Rattle.unit_timing.proofs.Filling.{pes_left-cons, length-bytes_from}
 use Rattle.unit_timing.proofs.Sending.{slots_of-cut, rises_from, rising_run}
-use Rattle.unit_timing.proofs.Counting.{kept, kept-append, kept_le, kept_after, kept_before, packet_later, text_slots, mb_fullness-cons}
+use Rattle.unit_timing.proofs.Counting.{kept, kept-append, kept_le, kept_after, kept_before, packet_later, unit_slots, mb_fullness-cons}
 
--- a packet and the stamp of its text
+-- a packet and the stamp of its unit
 record Piece : Type 0 where
   slot : ℕ
   dts : ℕ
@@ -28,9 +28,9 @@ pieces due slots = map (λ (s : ℕ). let p : Piece = record { slot = s; dts = d
 
 unfoldable all_pieces : (ℕ → Bool) → ℕ → ℕ → ℕ → List PesPacket → List ℕ → List Piece
 all_pieces own rate lead free [] slots = []
-all_pieces own rate lead free (text ∷ texts) slots =
-    pieces text.dts (take (pieces_of text) (drop (first_slot own rate lead free text) slots))
-    ++ all_pieces own rate lead (first_slot own rate lead free text + pieces_of text) texts slots
+all_pieces own rate lead free (unit ∷ units) slots =
+    pieces unit.dts (take (pieces_of unit) (drop (first_slot own rate lead free unit) slots))
+    ++ all_pieces own rate lead (first_slot own rate lead free unit + pieces_of unit) units slots
 
 -- it has begun before x, and x lies before the stamp
 abbrev is_live : ℕ → ℕ → ℕ → Piece → Bool
@@ -77,33 +77,33 @@ kept_packet rate r x due prev s size pos =
     ]
 
 kept_pieces : (rate r x due prev size : ℕ) (slots : List ℕ) → 0 < rate →
-    kept rate r x due (text_left rate r prev (cut size slots)) ≤ 184 * live rate r x (pieces due slots)
+    kept rate r x due (pes_left rate r prev (cut size slots)) ≤ 184 * live rate r x (pieces due slots)
 unfolding cut live
 kept_pieces rate r x due prev size [] pos = unfold of_payloads in (omega (arith, kept_le rate r x due []))
 kept_pieces rate r x due prev size (s ∷ slots) pos =
     let first = bytes_from r (188 * s) 188 in
     let one = drop (188 - min 184 size) (departures rate prev first) in
-    let rest = text_left rate r (last_left rate prev first) (cut (size - 184) slots) in
-    rw (text_left-cons rate r prev (record { slot = s; size = min 184 size }) (cut (size - 184) slots), kept-append rate r x due one rest)
+    let rest = pes_left rate r (last_left rate prev first) (cut (size - 184) slots) in
+    rw (pes_left-cons rate r prev (record { slot = s; size = min 184 size }) (cut (size - 184) slots), kept-append rate r x due one rest)
     (omega (arith, kept_packet rate r x due prev s size pos, kept_pieces rate r x due (last_left rate prev first) (size - 184) slots pos))
 
-main_pieces : (own : ℕ → Bool) (rate lead r n x : ℕ) → 0 < rate → (texts : List PesPacket) (free prev : ℕ) →
-    mb_fullness rate r x texts (text_left rate r prev (packets_in_slots own rate lead free texts (own_slots own 0 n)))
-    ≤ 184 * live rate r x (all_pieces own rate lead free texts (own_slots own 0 n))
+main_pieces : (own : ℕ → Bool) (rate lead r n x : ℕ) → 0 < rate → (units : List PesPacket) (free prev : ℕ) →
+    mb_fullness rate r x units (pes_left rate r prev (packets_in_slots own rate lead free units (own_slots own 0 n)))
+    ≤ 184 * live rate r x (all_pieces own rate lead free units (own_slots own 0 n))
 unfolding all_pieces
 main_pieces own rate lead r n x pos [] free prev = unfold mb_fullness in (omega arith)
-main_pieces own rate lead r n x pos (text ∷ texts) free prev =
+main_pieces own rate lead r n x pos (unit ∷ units) free prev =
     let slots = own_slots own 0 n in
-    let b = first_slot own rate lead free text in
-    let xs = take (pieces_of text) (drop b slots) in
+    let b = first_slot own rate lead free unit in
+    let xs = take (pieces_of unit) (drop b slots) in
     rw (
-      mb_fullness-cons own rate lead r n x free prev text texts,
-      live-append rate r x (pieces text.dts xs) (all_pieces own rate lead (b + pieces_of text) texts slots),
+      mb_fullness-cons own rate lead r n x free prev unit units,
+      live-append rate r x (pieces unit.dts xs) (all_pieces own rate lead (b + pieces_of unit) units slots),
     )
     (omega (
       arith,
-      kept_pieces rate r x text.dts prev text.size xs pos,
-      main_pieces own rate lead r n x pos texts (b + pieces_of text) (last_left rate prev (arrivals r xs)),
+      kept_pieces rate r x unit.dts prev unit.size xs pos,
+      main_pieces own rate lead r n x pos units (b + pieces_of unit) (last_left rate prev (arrivals r xs)),
     ))
 
 -- the packets stand in rising own slots
@@ -114,20 +114,20 @@ slots_in-pieces : (due : ℕ) (slots : List ℕ) → slots_in (pieces due slots)
 slots_in-pieces due [] = refl
 slots_in-pieces due (s ∷ slots) = ap (λ l. s ∷ l) (slots_in-pieces due slots)
 
-slots_in-all : (own : ℕ → Bool) (rate lead free : ℕ) (texts : List PesPacket) (slots : List ℕ) →
-    slots_in (all_pieces own rate lead free texts slots) ≡ slots_of (packets_in_slots own rate lead free texts slots)
+slots_in-all : (own : ℕ → Bool) (rate lead free : ℕ) (units : List PesPacket) (slots : List ℕ) →
+    slots_in (all_pieces own rate lead free units slots) ≡ slots_of (packets_in_slots own rate lead free units slots)
 unfolding all_pieces packets_in_slots
 slots_in-all own rate lead free [] slots = refl
-slots_in-all own rate lead free (text ∷ texts) slots =
-    let b = first_slot own rate lead free text in
-    let p = pieces_of text in
+slots_in-all own rate lead free (unit ∷ units) slots =
+    let b = first_slot own rate lead free unit in
+    let p = pieces_of unit in
     let xs = take p (drop b slots) in
     rw (
-      map-append (λ (p : Piece). p.slot) (pieces text.dts xs) (all_pieces own rate lead (b + p) texts slots),
-      slots_in-pieces text.dts xs,
-      map-append (λ (p : Packet). p.slot) (cut text.size xs) (packets_in_slots own rate lead (b + p) texts slots),
-      slots_of-cut text.size xs,
-      slots_in-all own rate lead (b + p) texts slots,
+      map-append (λ (p : Piece). p.slot) (pieces unit.dts xs) (all_pieces own rate lead (b + p) units slots),
+      slots_in-pieces unit.dts xs,
+      map-append (λ (p : Packet). p.slot) (cut unit.size xs) (packets_in_slots own rate lead (b + p) units slots),
+      slots_of-cut unit.size xs,
+      slots_in-all own rate lead (b + p) units slots,
     ) refl
 
 -- none is early
@@ -139,18 +139,18 @@ not_early rate lead due s le =
     let split : due ≤ (due - lead) + lead = omega arith in
     omega (arith, le, mul-le-mul_right rate split)
 
-none_early : (own : ℕ → Bool) (rate lead n : ℕ) (texts : List PesPacket) (free : ℕ) → All (NotEarly rate lead) (all_pieces own rate lead free texts (own_slots own 0 n))
+none_early : (own : ℕ → Bool) (rate lead n : ℕ) (units : List PesPacket) (free : ℕ) → All (NotEarly rate lead) (all_pieces own rate lead free units (own_slots own 0 n))
 unfolding all_pieces
 none_early own rate lead n [] free = All-nil (NotEarly rate lead)
-none_early own rate lead n (text ∷ texts) free =
+none_early own rate lead n (unit ∷ units) free =
     let slots = own_slots own 0 n in
-    let b = first_slot own rate lead free text in
-    let xs = take (pieces_of text) (drop b slots) in
-    All-append (NotEarly rate lead) (pieces text.dts xs) (all_pieces own rate lead (b + pieces_of text) texts slots)
-    (All-map (NotEarly rate lead) (λ (s : ℕ). let p : Piece = record { slot = s; dts = text.dts } in p) xs
-    (All-weaker (λ s. release rate lead text.dts ≤ s) (λ s. text.dts * rate ≤ s * 135360000 + lead * rate)
-    (λ s le. not_early rate lead text.dts s le) xs (text_slots own rate lead free n text)))
-    (none_early own rate lead n texts (b + pieces_of text))
+    let b = first_slot own rate lead free unit in
+    let xs = take (pieces_of unit) (drop b slots) in
+    All-append (NotEarly rate lead) (pieces unit.dts xs) (all_pieces own rate lead (b + pieces_of unit) units slots)
+    (All-map (NotEarly rate lead) (λ (s : ℕ). let p : Piece = record { slot = s; dts = unit.dts } in p) xs
+    (All-weaker (λ s. release rate lead unit.dts ≤ s) (λ s. unit.dts * rate ≤ s * 135360000 + lead * rate)
+    (λ s le. not_early rate lead unit.dts s le) xs (unit_slots own rate lead free n unit)))
+    (none_early own rate lead n units (b + pieces_of unit))
 
 -- those that are live stand before a slot, and so are no more than the own slots up to it
 live_before : (own : ℕ → Bool) (rate r x limit : ℕ) → ((s : ℕ) → 188 * s * r < x → s < limit) → (ps : List Piece) (from : ℕ) → from ≤ limit → Rises own from (slots_in ps) →
@@ -204,7 +204,7 @@ live_few own rate lead r x w m pos wide spares (p ∷ ps) from rises early = eli
 ]
 
 pub by_slots : BySlots
-by_slots own rate lead r w m texts n x pos pos' wide spares =
-    let ps = all_pieces own rate lead 0 texts (own_slots own 0 n) in
-    let few = live_few own rate lead r x w m pos' wide spares ps 0 (rw (slots_in-all own rate lead 0 texts (own_slots own 0 n)) (rising_run own rate lead n texts)) (none_early own rate lead n texts 0) in
-    omega (arith, main_pieces own rate lead r n x pos texts 0 0, few)
+by_slots own rate lead r w m units n x pos pos' wide spares =
+    let ps = all_pieces own rate lead 0 units (own_slots own 0 n) in
+    let few = live_few own rate lead r x w m pos' wide spares ps 0 (rw (slots_in-all own rate lead 0 units (own_slots own 0 n)) (rising_run own rate lead n units)) (none_early own rate lead n units 0) in
+    omega (arith, main_pieces own rate lead r n x pos units 0 0, few)

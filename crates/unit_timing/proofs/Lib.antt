@@ -5,7 +5,7 @@ pub mod Examples
 pub mod Filling
 pub mod Grouping
 pub mod KeptBySlots
-pub mod KeptByTexts
+pub mod KeptByUnits
 pub mod Numbering
 pub mod Serving
 pub mod Sending

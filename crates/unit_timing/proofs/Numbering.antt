@@ -1,4 +1,4 @@
--- Slot by slot and text by text; the two buffers of a program's tables; packets in the finished bytes.
+-- Slot by slot and unit by unit; the two buffers of a program's tables.
 use Rattle.std.proofs.Common.{◌≡◌, ℕ, zero, suc, ◌+◌, ◌-◌, ◌*◌, ◌<◌, ◌≤◌, min, Bool, Option, Some, None, List, [], ◌∷◌, ◌++◌, take, drop, refl, ap, ◌∙◌, inl, inr, arith}
 use Rattle.std.proofs.Math.Nat.{le_trans}
 use Rattle.std.proofs.lemmas.Bool.{cases_Bool, lt-ltb, le-ltb}
@@ -11,7 +11,6 @@ use Rattle.own_slots.proofs.Working.{work_scale_law}
 use Rattle.unit_timing.specs.PesPacket.{PesPacket, pieces_of}
 use Rattle.unit_timing.specs.Schedule.{Packet, first_slot, piece_at, packet_in, pick, cut, packets_in_slots, SlotwiseLaw}
 use Rattle.unit_timing.specs.SystemBuffer.{SystemLaw}
-use Rattle.unit_timing.specs.Run.{run_bytes, indices, IndicesLaw}
 use Rattle.unit_timing.proofs.Filling.{transport_room}
 
 pub system_law : SystemLaw
@@ -20,12 +19,6 @@ system_law own rate slots x pos rises = (
   (λ room peak W b. le_trans (second_law x (2 * rate) (25 * rate) (arrivals 2000000 slots) (omega arith))
       (transport_room own (25 * rate) 2000000 room (25 * peak) (λ s. 25 * W s) slots (x - 2 * rate) (omega arith) (work_scale_law own rate 80000 room peak 25 W b) rises)),
 )
-
-pub indices_law : IndicesLaw
-unfolding run_bytes indices own_slots
-indices_law packet test s zero len = refl
-indices_law packet test s (suc n) len =
-    rw (take_at (packet s) (run_bytes packet (suc s) n) 188 (len s), drop_at (packet s) (run_bytes packet (suc s) n) 188 (len s), indices_law packet test (suc s) n len) refl
 
 -- the packets in these slots, the first of which is own slot number i
 unfoldable picked : (ℕ → Option ℕ) → ℕ → List ℕ → List Packet
@@ -84,51 +77,51 @@ picked_cut f (suc p) size i (s ∷ slots) pieces =
           rw (e, z) (pieces (suc j) (omega arith))),
     ) refl
 
--- what own slot number i carries: nothing before the text, its pieces, and then what the later texts give it
-carried_before : (own : ℕ → Bool) (rate lead free i : ℕ) (text : PesPacket) (texts : List PesPacket) → i < first_slot own rate lead free text →
-    piece_at own rate lead free (text ∷ texts) i ≡ None
+-- what own slot number i carries: nothing before the unit, its pieces, and then what the later units give it
+carried_before : (own : ℕ → Bool) (rate lead free i : ℕ) (unit : PesPacket) (units : List PesPacket) → i < first_slot own rate lead free unit →
+    piece_at own rate lead free (unit ∷ units) i ≡ None
 unfolding piece_at
-carried_before own rate lead free i text texts lt = rw (lt-ltb i (first_slot own rate lead free text) lt) refl
+carried_before own rate lead free i unit units lt = rw (lt-ltb i (first_slot own rate lead free unit) lt) refl
 
-carried_piece : (own : ℕ → Bool) (rate lead free j : ℕ) (text : PesPacket) (texts : List PesPacket) → j < pieces_of text →
-    piece_at own rate lead free (text ∷ texts) (first_slot own rate lead free text + j) ≡ Some (min 184 (text.size - 184 * j))
+carried_piece : (own : ℕ → Bool) (rate lead free j : ℕ) (unit : PesPacket) (units : List PesPacket) → j < pieces_of unit →
+    piece_at own rate lead free (unit ∷ units) (first_slot own rate lead free unit + j) ≡ Some (min 184 (unit.size - 184 * j))
 unfolding piece_at
-carried_piece own rate lead free j text texts lt =
-    let b = first_slot own rate lead free text in
-    let from : first_slot own rate lead free text ≤ first_slot own rate lead free text + j = omega arith in
-    let below : first_slot own rate lead free text + j < first_slot own rate lead free text + pieces_of text = omega arith in
-    let e : first_slot own rate lead free text + j - first_slot own rate lead free text ≡ j = omega arith in
-    rw (le-ltb (b + j) b from, lt-ltb (b + j) (b + pieces_of text) below, e) refl
+carried_piece own rate lead free j unit units lt =
+    let b = first_slot own rate lead free unit in
+    let from : first_slot own rate lead free unit ≤ first_slot own rate lead free unit + j = omega arith in
+    let below : first_slot own rate lead free unit + j < first_slot own rate lead free unit + pieces_of unit = omega arith in
+    let e : first_slot own rate lead free unit + j - first_slot own rate lead free unit ≡ j = omega arith in
+    rw (le-ltb (b + j) b from, lt-ltb (b + j) (b + pieces_of unit) below, e) refl
 
-carried_after : (own : ℕ → Bool) (rate lead free i : ℕ) (text : PesPacket) (texts : List PesPacket) → first_slot own rate lead free text + pieces_of text ≤ i →
-    piece_at own rate lead free (text ∷ texts) i ≡ piece_at own rate lead (first_slot own rate lead free text + pieces_of text) texts i
+carried_after : (own : ℕ → Bool) (rate lead free i : ℕ) (unit : PesPacket) (units : List PesPacket) → first_slot own rate lead free unit + pieces_of unit ≤ i →
+    piece_at own rate lead free (unit ∷ units) i ≡ piece_at own rate lead (first_slot own rate lead free unit + pieces_of unit) units i
 unfolding piece_at
-carried_after own rate lead free i text texts le =
-    let b = first_slot own rate lead free text in
-    let from : first_slot own rate lead free text ≤ i = omega arith in
-    rw (le-ltb i b from, le-ltb i (b + pieces_of text) le) refl
+carried_after own rate lead free i unit units le =
+    let b = first_slot own rate lead free unit in
+    let from : first_slot own rate lead free unit ≤ i = omega arith in
+    rw (le-ltb i b from, le-ltb i (b + pieces_of unit) le) refl
 
-pub free_le : (own : ℕ → Bool) (rate lead free : ℕ) (text : PesPacket) → free ≤ first_slot own rate lead free text
+pub free_le : (own : ℕ → Bool) (rate lead free : ℕ) (unit : PesPacket) → free ≤ first_slot own rate lead free unit
 unfolding first_slot
-free_le own rate lead free text = omega arith
+free_le own rate lead free unit = omega arith
 
 picked_nothing : (own : ℕ → Bool) (rate lead i : ℕ) (slots : List ℕ) → picked (piece_at own rate lead i []) i slots ≡ []
 unfolding picked piece_at
 picked_nothing own rate lead i [] = refl
 picked_nothing own rate lead i (s ∷ slots) = picked_nothing own rate lead (suc i) slots
 
-picked_texts : (own : ℕ → Bool) (rate lead free : ℕ) (texts : List PesPacket) (slots : List ℕ) →
-    picked (piece_at own rate lead free texts) free (drop free slots) ≡ packets_in_slots own rate lead free texts slots
+picked_units : (own : ℕ → Bool) (rate lead free : ℕ) (units : List PesPacket) (slots : List ℕ) →
+    picked (piece_at own rate lead free units) free (drop free slots) ≡ packets_in_slots own rate lead free units slots
 unfolding packets_in_slots
-picked_texts own rate lead free [] slots = picked_nothing own rate lead free (drop free slots)
-picked_texts own rate lead free (text ∷ texts) slots =
-    let b = first_slot own rate lead free text in
-    let p = pieces_of text in
-    let f = piece_at own rate lead free (text ∷ texts) in
-    let to : free + (first_slot own rate lead free text - free) ≡ first_slot own rate lead free text = omega (arith, free_le own rate lead free text) in
-    let before = picked_none f (b - free) free (drop free slots) (λ j from below. carried_before own rate lead free j text texts (omega arith)) in
-    let pieces = picked_cut f p text.size b (drop b slots) (λ j below. carried_piece own rate lead free j text texts below) in
-    let after = picked_same f (piece_at own rate lead (b + p) texts) (b + p) (drop (b + p) slots) (λ j le. carried_after own rate lead free j text texts le) in
+picked_units own rate lead free [] slots = picked_nothing own rate lead free (drop free slots)
+picked_units own rate lead free (unit ∷ units) slots =
+    let b = first_slot own rate lead free unit in
+    let p = pieces_of unit in
+    let f = piece_at own rate lead free (unit ∷ units) in
+    let to : free + (first_slot own rate lead free unit - free) ≡ first_slot own rate lead free unit = omega (arith, free_le own rate lead free unit) in
+    let before = picked_none f (b - free) free (drop free slots) (λ j from below. carried_before own rate lead free j unit units (omega arith)) in
+    let pieces = picked_cut f p unit.size b (drop b slots) (λ j below. carried_piece own rate lead free j unit units below) in
+    let after = picked_same f (piece_at own rate lead (b + p) units) (b + p) (drop (b + p) slots) (λ j le. carried_after own rate lead free j unit units le) in
     rw (
       picked_split f (b - free) free (drop free slots),
       before,
@@ -139,10 +132,10 @@ picked_texts own rate lead free (text ∷ texts) slots =
       pieces,
       drop-drop p b slots,
       after,
-      picked_texts own rate lead (b + p) texts slots,
+      picked_units own rate lead (b + p) units slots,
     ) refl
 
 pub slotwise_law : SlotwiseLaw
 unfolding own_before
-slotwise_law own rate lead n texts =
-    pick_picked own (piece_at own rate lead 0 texts) 0 n ∙ picked_texts own rate lead 0 texts (own_slots own 0 n)
+slotwise_law own rate lead n units =
+    pick_picked own (piece_at own rate lead 0 units) 0 n ∙ picked_units own rate lead 0 units (own_slots own 0 n)

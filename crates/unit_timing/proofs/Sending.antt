@@ -1,4 +1,4 @@
--- The packets of texts in a stream's own slots.
+-- The packets of units in a stream's own slots.
 use Rattle.std.proofs.Common.{◌≡◌, ℕ, zero, suc, ◌+◌, ◌-◌, ◌*◌, ◌<◌, ◌≤◌, min, Bool, List, [], ◌∷◌, ◌++◌, length, take, drop, refl, ap, ◌∙◌, inl, inr, arith, All}
 use Rattle.std.proofs.Math.Nat.{le_trans}
 use Rattle.std.proofs.lemmas.Bool.{cases_Bool}
@@ -12,8 +12,8 @@ use Rattle.own_slots.specs.Work.{BoundsWork}
 use Rattle.own_slots.proofs.Counting.{own_before_own, own_before_other, before_from, list_law}
 use Rattle.unit_timing.specs.PesPacket.{PesPacket, pieces_of}
 use Rattle.unit_timing.specs.Schedule.{Packet, first_slot, cut, packets_in_slots}
-use Rattle.unit_timing.specs.Transport.{slots_of, of_payloads, text_left}
-use Rattle.unit_timing.proofs.Filling.{Level, level_le, level_packet, length-bytes_from, text_left-cons}
+use Rattle.unit_timing.specs.Transport.{slots_of, of_payloads, pes_left}
+use Rattle.unit_timing.proofs.Filling.{Level, level_le, level_packet, length-bytes_from, pes_left-cons}
 use Rattle.unit_timing.proofs.Numbering.{free_le}
 
 pub slots_of-cut : (size : ℕ) (slots : List ℕ) → slots_of (cut size slots) ≡ slots
@@ -21,24 +21,24 @@ unfolding cut
 slots_of-cut size [] = refl
 slots_of-cut size (s ∷ slots) = ap (λ l. s ∷ l) (slots_of-cut (size - 184) slots)
 
-pub text_left-append : (rate r prev : ℕ) (ps qs : List Packet) →
-    text_left rate r prev (ps ++ qs) ≡ text_left rate r prev ps ++ text_left rate r (last_left rate prev (arrivals r (slots_of ps))) qs
-text_left-append rate r prev [] qs = unfold of_payloads arrivals last_left in refl
-text_left-append rate r prev (p ∷ ps) qs =
+pub pes_left-append : (rate r prev : ℕ) (ps qs : List Packet) →
+    pes_left rate r prev (ps ++ qs) ≡ pes_left rate r prev ps ++ pes_left rate r (last_left rate prev (arrivals r (slots_of ps))) qs
+pes_left-append rate r prev [] qs = unfold of_payloads arrivals last_left in refl
+pes_left-append rate r prev (p ∷ ps) qs =
     let first = bytes_from r (188 * p.slot) 188 in
     let next = last_left rate prev first in
     let last : last_left rate prev (arrivals r (slots_of (p ∷ ps))) ≡ last_left rate next (arrivals r (slots_of ps)) =
     unfold arrivals in last_left-append rate prev first (arrivals r (slots_of ps)) in
     rw (
       last,
-      text_left-cons rate r prev p (ps ++ qs),
-      text_left-cons rate r prev p ps,
-      text_left-append rate r next ps qs,
-      append_assoc (drop (188 - p.size) (departures rate prev first)) (text_left rate r next ps) (text_left rate r (last_left rate next (arrivals r (slots_of ps))) qs),
+      pes_left-cons rate r prev p (ps ++ qs),
+      pes_left-cons rate r prev p ps,
+      pes_left-append rate r next ps qs,
+      append_assoc (drop (188 - p.size) (departures rate prev first)) (pes_left rate r next ps) (pes_left rate r (last_left rate next (arrivals r (slots_of ps))) qs),
     ) refl
 
--- all that these slots can carry of the text leaves
-pub length-left-cut : (rate r size prev : ℕ) (slots : List ℕ) → length (text_left rate r prev (cut size slots)) ≡ min size (184 * length slots)
+-- all that these slots can carry of the unit leaves
+pub length-left-cut : (rate r size prev : ℕ) (slots : List ℕ) → length (pes_left rate r prev (cut size slots)) ≡ min size (184 * length slots)
 unfolding cut
 length-left-cut rate r size prev [] = unfold of_payloads in (omega arith)
 length-left-cut rate r size prev (s ∷ slots) =
@@ -46,8 +46,8 @@ length-left-cut rate r size prev (s ∷ slots) =
     let many : length (departures rate prev first) ≡ 188 = length-departures rate prev first ∙ length-bytes_from r (188 * s) 188 in
     let rest = length-left-cut rate r (size - 184) (last_left rate prev first) slots in
     rw (
-      text_left-cons rate r prev (record { slot = s; size = min 184 size }) (cut (size - 184) slots),
-      length-append (drop (188 - min 184 size) (departures rate prev first)) (text_left rate r (last_left rate prev first) (cut (size - 184) slots)),
+      pes_left-cons rate r prev (record { slot = s; size = min 184 size }) (cut (size - 184) slots),
+      length-append (drop (188 - min 184 size) (departures rate prev first)) (pes_left rate r (last_left rate prev first) (cut (size - 184) slots)),
       length-drop (188 - min 184 size) (departures rate prev first),
       many,
       rest,
@@ -81,7 +81,7 @@ unfolding Rises slot_after
 rises_after own from [] ys rises = rises
 rises_after own from (s ∷ xs) ys rises = rises_after own (suc s) xs ys rises.2
 
--- the last byte of these packets lies within the work bound behind them
+-- the last byte of these packets lies within the work bound after them
 pub level_packets : (own : ℕ → Bool) (rate r room peak : ℕ) (W : ℕ → ℕ) (from prev : ℕ) (slots : List ℕ) → BoundsWork own rate r room peak W → Rises own from slots →
     Level r W from prev → Level r W (slot_after from slots) (last_left rate prev (arrivals r slots))
 unfolding Rises slot_after arrivals
@@ -103,7 +103,7 @@ length-own_slots own s (suc n) =
       | inr o ↦ rw (o, e) (omega (arith, rest, own_before_other own s o))
     ]
 
--- the first m of them stand before a slot that m have passed
+-- the first m of them stand before a slot before which m stand
 pub first_before : (own : ℕ → Bool) (e s n m : ℕ) → m + own_before own s ≤ own_before own e → All (λ t. t < e) (take m (own_slots own s n))
 unfolding own_slots
 first_before own e s zero m h = rw (take_all {A = ℕ} m [] (omega arith)) (All-nil (λ t. t < e))
@@ -115,16 +115,16 @@ first_before own e s (suc n) (suc m) h = elim (cases_Bool (own s)) [
 ]
 
 -- nothing is sent where all own slots are taken
-pub sent_nothing : (own : ℕ → Bool) (rate lead free : ℕ) (texts : List PesPacket) (slots : List ℕ) → length slots ≤ free → packets_in_slots own rate lead free texts slots ≡ []
+pub sent_nothing : (own : ℕ → Bool) (rate lead free : ℕ) (units : List PesPacket) (slots : List ℕ) → length slots ≤ free → packets_in_slots own rate lead free units slots ≡ []
 unfolding packets_in_slots cut
 sent_nothing own rate lead free [] slots le = refl
-sent_nothing own rate lead free (text ∷ texts) slots le =
-    let b = first_slot own rate lead free text in
-    let later : length slots ≤ first_slot own rate lead free text = omega (arith, free_le own rate lead free text) in
+sent_nothing own rate lead free (unit ∷ units) slots le =
+    let b = first_slot own rate lead free unit in
+    let later : length slots ≤ first_slot own rate lead free unit = omega (arith, free_le own rate lead free unit) in
     rw (
       drop_all b slots later,
-      take_all {A = ℕ} (pieces_of text) [] (omega arith),
-      sent_nothing own rate lead (b + pieces_of text) texts slots (omega (arith, later)),
+      take_all {A = ℕ} (pieces_of unit) [] (omega arith),
+      sent_nothing own rate lead (b + pieces_of unit) units slots (omega (arith, later)),
     ) refl
 
 rises_join : (own : ℕ → Bool) (from : ℕ) (xs ys : List ℕ) → Rises own from xs → Rises own (slot_after from xs) ys → Rises own from (xs ++ ys)
@@ -132,34 +132,34 @@ unfolding Rises slot_after
 rises_join own from [] ys first rest = rest
 rises_join own from (s ∷ xs) ys first rest = (first.0, first.1, rises_join own (suc s) xs ys first.2 rest)
 
--- behind what is skipped the own slots still rise
-pub rises_begin : (own : ℕ → Bool) (rate lead free from : ℕ) (text : PesPacket) (slots : List ℕ) → Rises own from (drop free slots) →
-    Rises own from (drop (first_slot own rate lead free text) slots)
-rises_begin own rate lead free from text slots rises =
-    let b = first_slot own rate lead free text in
-    let to : free + (first_slot own rate lead free text - free) ≡ first_slot own rate lead free text = omega (arith, free_le own rate lead free text) in
+-- after what is skipped the own slots still rise
+pub rises_begin : (own : ℕ → Bool) (rate lead free from : ℕ) (unit : PesPacket) (slots : List ℕ) → Rises own from (drop free slots) →
+    Rises own from (drop (first_slot own rate lead free unit) slots)
+rises_begin own rate lead free from unit slots rises =
+    let b = first_slot own rate lead free unit in
+    let to : free + (first_slot own rate lead free unit - free) ≡ first_slot own rate lead free unit = omega (arith, free_le own rate lead free unit) in
     rw (drop-drop (b - free) free slots, to) at (rises_drop own from (b - free) (drop free slots) rises)
 
--- and so they do behind p packets
+-- and so they do after p packets
 pub rises_behind : (own : ℕ → Bool) (from b p : ℕ) (slots : List ℕ) → Rises own from (drop b slots) →
     Rises own (slot_after from (take p (drop b slots))) (drop (b + p) slots)
 rises_behind own from b p slots rises =
     let parts : Rises own from (take p (drop b slots) ++ drop (b + p) slots) = rw (← drop-drop p b slots, take-append-drop p (drop b slots)) rises in
     rises_after own from (take p (drop b slots)) (drop (b + p) slots) parts
 
-rising_sent : (own : ℕ → Bool) (rate lead : ℕ) (slots : List ℕ) (texts : List PesPacket) (free from : ℕ) → Rises own from (drop free slots) →
-    Rises own from (slots_of (packets_in_slots own rate lead free texts slots))
+rising_sent : (own : ℕ → Bool) (rate lead : ℕ) (slots : List ℕ) (units : List PesPacket) (free from : ℕ) → Rises own from (drop free slots) →
+    Rises own from (slots_of (packets_in_slots own rate lead free units slots))
 unfolding packets_in_slots
 rising_sent own rate lead slots [] free from rises = unfold Rises in tt
-rising_sent own rate lead slots (text ∷ texts) free from rises =
-    let b = first_slot own rate lead free text in
-    let p = pieces_of text in
+rising_sent own rate lead slots (unit ∷ units) free from rises =
+    let b = first_slot own rate lead free unit in
+    let p = pieces_of unit in
     let xs = take p (drop b slots) in
-    let here = rises_begin own rate lead free from text slots rises in
-    rw (map-append (λ (p : Packet). p.slot) (cut text.size xs) (packets_in_slots own rate lead (b + p) texts slots), slots_of-cut text.size xs)
-    (rises_join own from xs (slots_of (packets_in_slots own rate lead (b + p) texts slots)) (rises_take own from p (drop b slots) here)
-    (rising_sent own rate lead slots texts (b + p) (slot_after from xs) (rises_behind own from b p slots here)))
+    let here = rises_begin own rate lead free from unit slots rises in
+    rw (map-append (λ (p : Packet). p.slot) (cut unit.size xs) (packets_in_slots own rate lead (b + p) units slots), slots_of-cut unit.size xs)
+    (rises_join own from xs (slots_of (packets_in_slots own rate lead (b + p) units slots)) (rises_take own from p (drop b slots) here)
+    (rising_sent own rate lead slots units (b + p) (slot_after from xs) (rises_behind own from b p slots here)))
 
 -- the packets of a run stand in rising own slots
-pub rising_run : (own : ℕ → Bool) (rate lead n : ℕ) (texts : List PesPacket) → Rises own 0 (slots_of (packets_in_slots own rate lead 0 texts (own_slots own 0 n)))
-rising_run own rate lead n texts = rising_sent own rate lead (own_slots own 0 n) texts 0 0 (list_law own 0 n)
+pub rising_run : (own : ℕ → Bool) (rate lead n : ℕ) (units : List PesPacket) → Rises own 0 (slots_of (packets_in_slots own rate lead 0 units (own_slots own 0 n)))
+rising_run own rate lead n units = rising_sent own rate lead (own_slots own 0 n) units 0 0 (list_law own 0 n)

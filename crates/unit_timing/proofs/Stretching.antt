@@ -1,4 +1,4 @@
--- Texts that are sent on end.
+-- Units that are sent on end.
 use Rattle.std.proofs.Common.{◌≡◌, ℕ, zero, suc, ◌+◌, ◌-◌, ◌*◌, ◌/◌, ◌%◌, ◌<◌, ◌≤◌, max, min, Bool, List, [], ◌∷◌, take, inl, inr, arith}
 use Rattle.std.proofs.Math.Nat.{mul-le-mul_right, le_of_mul-le-mul_left, mul-div-le, lt-mul-div-succ, div-add-mod}
 use Rattle.std.proofs.lemmas.Bool.{cases_lt}
@@ -11,7 +11,7 @@ use Rattle.unit_timing.specs.Schedule.{first_slot}
 use Rattle.unit_timing.specs.Deadline.{Ends, InTime, ServesInLead, StretchLaw, DeadlineLaw}
 use Rattle.unit_timing.proofs.Grouping.{groups_few}
 
--- the window behind the release of a stretch's first text ends in time for the last of its m + 1 texts
+-- the window after the release of a stretch's first unit ends in time for the last of its m + 1 units
 ends_early : (rel w wait rate r late lead m apart due : ℕ) → rel * 135360000 + 1 ≤ wait * rate + 135360000 →
     (w + 1) * 135360000 * r + late * 720000 ≤ (lead + m * apart) * rate * r → lead + wait + m * apart ≤ due →
     (rel + w) * 135360000 * r + late * 720000 ≤ due * rate * r
@@ -22,116 +22,116 @@ ends_early rel w wait rate r late lead m apart due soon keeps near =
 released_soon : (rate lead due : ℕ) → release rate lead due * 135360000 + 1 ≤ (due - lead) * rate + 135360000
 released_soon rate lead due = omega arith
 
--- a stretch of m texts with `sent` packets in all, the first released at slot rel, `wait` units of 90 kHz after the start: what is known of the
--- next own slot number that is free, and of the next text
-record Stretch (own : ℕ → Bool) (q : ℕ → ℕ) (rate lead apart rel wait m sent free from : ℕ) (texts : List PesPacket) : Type 0 where
+-- a stretch of m units with `sent` packets in all, the first released at slot rel, `wait` units of 90 kHz after the
+-- start: what is known of the next own slot number that is free, and of the next unit
+record Stretch (own : ℕ → Bool) (q : ℕ → ℕ) (rate lead apart rel wait m sent free from : ℕ) (units : List PesPacket) : Type 0 where
   soon : rel * 135360000 + 1 ≤ wait * rate + 135360000
   near : lead + wait + m * apart ≤ from
   taken : free ≤ own_before own rel + sent
-  few : (k : ℕ) → sent + packets_of (take k texts) ≤ q (m + k)
+  few : (k : ℕ) → sent + packets_of (take k units) ≤ q (m + k)
 
--- its next text, at once behind it, ends in time
-next_ends : (own : ℕ → Bool) (q : ℕ → ℕ) (rate lead apart r late rel wait m sent free from : ℕ) (text : PesPacket) (texts : List PesPacket) →
-    ServesInLead own q rate lead apart r late m → Stretch own q rate lead apart rel wait m sent free from (text ∷ texts) → from ≤ text.dts →
-    Ends own rate r late (free + pieces_of text) text.dts
-next_ends own q rate lead apart r late rel wait m sent free from text texts k s le =
+-- its next unit, at once after it, ends in time
+next_ends : (own : ℕ → Bool) (q : ℕ → ℕ) (rate lead apart r late rel wait m sent free from : ℕ) (unit : PesPacket) (units : List PesPacket) →
+    ServesInLead own q rate lead apart r late m → Stretch own q rate lead apart rel wait m sent free from (unit ∷ units) → from ≤ unit.dts →
+    Ends own rate r late (free + pieces_of unit) unit.dts
+next_ends own q rate lead apart r late rel wait m sent free from unit units k s le =
     let few = s.few 1 in
-    let one : packets_of (take 1 (text ∷ texts)) ≡ pieces_of text = rw (sum_by-cons pieces_of text []) (omega arith) in
+    let one : packets_of (take 1 (unit ∷ units)) ≡ pieces_of unit = rw (sum_by-cons pieces_of unit []) (omega arith) in
     let e : m + 1 ≡ suc m = omega arith in
-    let all : sent + pieces_of text ≤ q (suc m) = rw (e, one) at few in
+    let all : sent + pieces_of unit ≤ q (suc m) = rw (e, one) at few in
     record {
       slot = rel + k.window;
       sent = omega (arith, all, k.serves rel, s.taken);
-      early = ends_early rel k.window wait rate r late lead m apart text.dts s.soon k.in_time (omega (arith, s.near, le));
+      early = ends_early rel k.window wait rate r late lead m apart unit.dts s.soon k.in_time (omega (arith, s.near, le));
     }
 
 -- and is part of it
-next_stretch : (own : ℕ → Bool) (q : ℕ → ℕ) (rate lead apart rel wait m sent free from : ℕ) (text : PesPacket) (texts : List PesPacket) →
-    Stretch own q rate lead apart rel wait m sent free from (text ∷ texts) → from ≤ text.dts →
-    Stretch own q rate lead apart rel wait (suc m) (sent + pieces_of text) (free + pieces_of text) (text.dts + apart) texts
-next_stretch own q rate lead apart rel wait m sent free from text texts s le = record {
+next_stretch : (own : ℕ → Bool) (q : ℕ → ℕ) (rate lead apart rel wait m sent free from : ℕ) (unit : PesPacket) (units : List PesPacket) →
+    Stretch own q rate lead apart rel wait m sent free from (unit ∷ units) → from ≤ unit.dts →
+    Stretch own q rate lead apart rel wait (suc m) (sent + pieces_of unit) (free + pieces_of unit) (unit.dts + apart) units
+next_stretch own q rate lead apart rel wait m sent free from unit units s le = record {
   soon = s.soon;
   near = omega (arith, s.near, le);
   taken = omega (arith, s.taken);
   few = λ k.
       let e : suc m + k ≡ m + suc k = omega arith in
-      let cons = sum_by-cons pieces_of text (take k texts) in
+      let cons = sum_by-cons pieces_of unit (take k units) in
       rw e (omega (arith, s.few (suc k), cons));
 }
 
--- a text whose release comes behind all that was sent begins a stretch
-new_stretch : (own : ℕ → Bool) (q : ℕ → ℕ) (rate lead apart : ℕ) (text : PesPacket) (texts : List PesPacket) →
-    lead ≤ text.dts → ((k : ℕ) → packets_of (take k (text ∷ texts)) ≤ q k) →
-    Stretch own q rate lead apart (release rate lead text.dts) (text.dts - lead) 0 0 (own_before own (release rate lead text.dts)) text.dts (text ∷ texts)
-new_stretch own q rate lead apart text texts le few = record {
-  soon = released_soon rate lead text.dts;
+-- a unit whose release comes after all that was sent begins a stretch
+new_stretch : (own : ℕ → Bool) (q : ℕ → ℕ) (rate lead apart : ℕ) (unit : PesPacket) (units : List PesPacket) →
+    lead ≤ unit.dts → ((k : ℕ) → packets_of (take k (unit ∷ units)) ≤ q k) →
+    Stretch own q rate lead apart (release rate lead unit.dts) (unit.dts - lead) 0 0 (own_before own (release rate lead unit.dts)) unit.dts (unit ∷ units)
+new_stretch own q rate lead apart unit units le few = record {
+  soon = released_soon rate lead unit.dts;
   near = omega arith;
   taken = omega arith;
   few = λ k. let e : 0 + k ≡ k = omega arith in rw e (omega (arith, few k));
 }
 
 in_stretch : (own : ℕ → Bool) (q : ℕ → ℕ) (rate lead apart r late : ℕ) → ((m : ℕ) → ServesInLead own q rate lead apart r late m) →
-    (texts : List PesPacket) (rel wait m sent free from : ℕ) → Stretch own q rate lead apart rel wait m sent free from texts →
-    lead ≤ from → Spaced apart from texts → Paced q texts → InTime own rate lead r late free texts
+    (units : List PesPacket) (rel wait m sent free from : ℕ) → Stretch own q rate lead apart rel wait m sent free from units →
+    lead ≤ from → Spaced apart from units → Paced q units → InTime own rate lead r late free units
 unfolding Spaced Paced InTime first_slot
 in_stretch own q rate lead apart r late keeps [] rel wait m sent free from s le spaced paced = tt
-in_stretch own q rate lead apart r late keeps (text ∷ texts) rel wait m sent free from s le spaced paced =
-    let after : lead ≤ text.dts + apart = omega (arith, spaced.0) in
-    elim (cases_lt free (own_before own (release rate lead text.dts))) [
+in_stretch own q rate lead apart r late keeps (unit ∷ units) rel wait m sent free from s le spaced paced =
+    let after : lead ≤ unit.dts + apart = omega (arith, spaced.0) in
+    elim (cases_lt free (own_before own (release rate lead unit.dts))) [
       | inl fresh ↦
-          let e : max free (own_before own (release rate lead text.dts)) ≡ own_before own (release rate lead text.dts) = omega arith in
-          let here : lead ≤ text.dts = omega (arith, spaced.0) in
-          let same : text.dts ≤ text.dts = omega arith in
-          let new = new_stretch own q rate lead apart text texts here paced.0 in
+          let e : max free (own_before own (release rate lead unit.dts)) ≡ own_before own (release rate lead unit.dts) = omega arith in
+          let here : lead ≤ unit.dts = omega (arith, spaced.0) in
+          let same : unit.dts ≤ unit.dts = omega arith in
+          let new = new_stretch own q rate lead apart unit units here paced.0 in
           rw e (
-            next_ends own q rate lead apart r late _ _ 0 0 _ text.dts text texts (keeps 0) new same,
-            in_stretch own q rate lead apart r late keeps texts _ _ 1 _ _ (text.dts + apart)
-                (next_stretch own q rate lead apart _ _ 0 0 _ text.dts text texts new same) after spaced.1 paced.1,
+            next_ends own q rate lead apart r late _ _ 0 0 _ unit.dts unit units (keeps 0) new same,
+            in_stretch own q rate lead apart r late keeps units _ _ 1 _ _ (unit.dts + apart)
+                (next_stretch own q rate lead apart _ _ 0 0 _ unit.dts unit units new same) after spaced.1 paced.1,
           )
       | inr on ↦
-          let e : max free (own_before own (release rate lead text.dts)) ≡ free = omega arith in
+          let e : max free (own_before own (release rate lead unit.dts)) ≡ free = omega arith in
           rw e (
-            next_ends own q rate lead apart r late rel wait m sent free from text texts (keeps m) s spaced.0,
-            in_stretch own q rate lead apart r late keeps texts rel wait (suc m) _ _ (text.dts + apart)
-                (next_stretch own q rate lead apart rel wait m sent free from text texts s spaced.0) after spaced.1 paced.1,
+            next_ends own q rate lead apart r late rel wait m sent free from unit units (keeps m) s spaced.0,
+            in_stretch own q rate lead apart r late keeps units rel wait (suc m) _ _ (unit.dts + apart)
+                (next_stretch own q rate lead apart rel wait m sent free from unit units s spaced.0) after spaced.1 paced.1,
           )
     ]
 
-few_at_first : (q : ℕ → ℕ) (texts : List PesPacket) → Paced q texts → (k : ℕ) → 0 + packets_of (take k texts) ≤ q (0 + k)
+few_at_first : (q : ℕ → ℕ) (units : List PesPacket) → Paced q units → (k : ℕ) → 0 + packets_of (take k units) ≤ q (0 + k)
 unfolding Paced
 few_at_first q [] paced zero = omega arith
 few_at_first q [] paced (suc k) = omega arith
-few_at_first q (text ∷ texts) paced k = let e : 0 + k ≡ k = omega arith in rw e (omega (arith, paced.0 k))
+few_at_first q (unit ∷ units) paced k = let e : 0 + k ≡ k = omega arith in rw e (omega (arith, paced.0 k))
 
 -- the run begins with an empty stretch
 pub stretch_law : StretchLaw
-stretch_law own q rate lead apart r late texts keeps spaced paced =
-    let start : Stretch own q rate lead apart 0 0 0 0 0 lead texts = record {
+stretch_law own q rate lead apart r late units keeps spaced paced =
+    let start : Stretch own q rate lead apart 0 0 0 0 0 lead units = record {
       soon = omega arith;
       near = omega arith;
       taken = omega arith;
-      few = few_at_first q texts paced;
+      few = few_at_first q units paced;
     } in
     let same : lead ≤ lead = omega arith in
-    in_stretch own q rate lead apart r late keeps texts 0 0 0 0 0 lead start same spaced paced
+    in_stretch own q rate lead apart r late keeps units 0 0 0 0 0 lead start same spaced paced
 
--- the most packets of k texts in a row: whole groups, and the last one filled by one text to all
+-- the most packets of k units in a row: whole groups, and the last one filled by one unit to all
 abbrev stretched : ℕ → ℕ → ℕ → ℕ → ℕ
 stretched g most n zero = 0
 stretched g most n (suc m) = m / g * most + min (suc (m % g) * n) most
 
-stretched_few : (g most n : ℕ) (texts : List PesPacket) → 0 < g → Declared g most n texts → (k : ℕ) → packets_of (take k texts) ≤ stretched g most n k
-stretched_few g most n texts pos d zero = omega arith
-stretched_few g most n texts pos d (suc m) =
+stretched_few : (g most n : ℕ) (units : List PesPacket) → 0 < g → Declared g most n units → (k : ℕ) → packets_of (take k units) ≤ stretched g most n k
+stretched_few g most n units pos d zero = omega arith
+stretched_few g most n units pos d (suc m) =
     let below : suc (m % g) ≤ g = omega (arith, mod_below m g pos) in
-    let few = groups_few g most n (suc (m % g)) (m / g) texts below d in
+    let few = groups_few g most n (suc (m % g)) (m / g) units below d in
     let e : m / g * g + suc (m % g) ≡ suc m = omega (arith, div-add-mod m g) in
     rw e at few
 
-stretched_paced : (g most n : ℕ) (texts : List PesPacket) → 0 < g → Declared g most n texts → Paced (stretched g most n) texts
+stretched_paced : (g most n : ℕ) (units : List PesPacket) → 0 < g → Declared g most n units → Paced (stretched g most n) units
 unfolding Paced Declared
 stretched_paced g most n [] pos d = tt
-stretched_paced g most n (text ∷ texts) pos d = ((λ k. stretched_few g most n (text ∷ texts) pos d k), stretched_paced g most n texts pos d.2)
+stretched_paced g most n (unit ∷ units) pos d = ((λ k. stretched_few g most n (unit ∷ units) pos d k), stretched_paced g most n units pos d.2)
 
 -- q groups, paid for by the rate, and a last one with `few` packets, by the lead
 window_early : (share w base q most few cost r late g apart rate lead j : ℕ) → 0 < share →
@@ -142,8 +142,8 @@ window_early share w base q most few cost r late g apart rate lead j pos wide fa
     le_of_mul-le-mul_left {k = share} (omega (arith, mul-le-mul_right (135360000 * r) wide, mul-le-mul_right (q * r) fast, soon)) pos
 
 pub deadline_law : DeadlineLaw
-deadline_law own share cost base g most n rate lead apart r late texts serves some pos fast soon spaced declared =
-    stretch_law own (stretched g most n) rate lead apart r late texts
+deadline_law own share cost base g most n rate lead apart r late units serves some pos fast soon spaced declared =
+    stretch_law own (stretched g most n) rate lead apart r late units
     (λ m.
     let whole : m / g * g + m % g ≡ m = omega (arith, div-add-mod m g) in
     let early = window_early share ((base + stretched g most n (suc m) * cost) / share) base (m / g) most (min (suc (m % g) * n) most) cost r late g apart rate lead
@@ -153,4 +153,4 @@ deadline_law own share cost base g most n rate lead apart r late texts serves so
       serves = serves (stretched g most n (suc m)) _ (lt-mul-div-succ (base + stretched g most n (suc m) * cost) some);
       in_time = rw whole at early;
     })
-    spaced (stretched_paced g most n texts pos declared)
+    spaced (stretched_paced g most n units pos declared)

@@ -29,21 +29,21 @@ kept_covered rate r x y due (d ∷ ds) le covers =
     rw (sum_by-cons (λ d. cond (is_kept rate r x due d) 1 0) d ds, sum_by-cons (λ d. cond (is_kept rate r y due d) 1 0) d ds)
     (omega (arith, one_covered rate r x y due d le (All-head (λ d. d ≤ x → d ≤ y) d ds covers), kept_covered rate r x y due ds le (All-tail (λ d. d ≤ x → d ≤ y) d ds covers)))
 
-fullness_covered : (rate r x y : ℕ) (texts : List PesPacket) (left : List ℕ) → y ≤ x → Covers x y left → mb_fullness rate r x texts left ≤ mb_fullness rate r y texts left
+fullness_covered : (rate r x y : ℕ) (units : List PesPacket) (left : List ℕ) → y ≤ x → Covers x y left → mb_fullness rate r x units left ≤ mb_fullness rate r y units left
 unfolding mb_fullness kept
 fullness_covered rate r x y [] left le covers = omega arith
-fullness_covered rate r x y (text ∷ texts) left le covers =
-    let first = kept_covered rate r x y text.dts (take text.size left) le (All-take (λ d. d ≤ x → d ≤ y) text.size left covers) in
-    let rest = fullness_covered rate r x y texts (drop text.size left) le (All-drop (λ d. d ≤ x → d ≤ y) text.size left covers) in
+fullness_covered rate r x y (unit ∷ units) left le covers =
+    let first = kept_covered rate r x y unit.dts (take unit.size left) le (All-take (λ d. d ≤ x → d ≤ y) unit.size left covers) in
+    let rest = fullness_covered rate r x y units (drop unit.size left) le (All-drop (λ d. d ≤ x → d ≤ y) unit.size left covers) in
     omega (arith, first, rest)
 
 -- before the first byte enters it, it is empty
-fullness_none : (rate r x : ℕ) (texts : List PesPacket) (left : List ℕ) → All (λ d. x < d) left → mb_fullness rate r x texts left ≡ 0
+fullness_none : (rate r x : ℕ) (units : List PesPacket) (left : List ℕ) → All (λ d. x < d) left → mb_fullness rate r x units left ≡ 0
 unfolding mb_fullness kept
 fullness_none rate r x [] left all = refl
-fullness_none rate r x (text ∷ texts) left all =
-    let first = kept_before rate r x text.dts (take text.size left) (All-take (λ d. x < d) text.size left all) in
-    let rest = fullness_none rate r x texts (drop text.size left) (All-drop (λ d. x < d) text.size left all) in
+fullness_none rate r x (unit ∷ units) left all =
+    let first = kept_before rate r x unit.dts (take unit.size left) (All-take (λ d. x < d) unit.size left all) in
+    let rest = fullness_none rate r x units (drop unit.size left) (All-drop (λ d. x < d) unit.size left all) in
     omega (arith, first, rest)
 
 -- the last entry up to x
@@ -106,18 +106,18 @@ greatest_reached f d (e ∷ ds) =
       | inr here ↦ record { at = d; is = omega (arith, here) }
     ]
 
-never_more : (rate r : ℕ) (texts : List PesPacket) (left : List ℕ) (x : ℕ) → mb_fullness rate r x texts left ≤ greatest_at (λ x. mb_fullness rate r x texts left) left
-never_more rate r texts left x = elim (entry x left) [
-  | inl none ↦ omega (arith, fullness_none rate r x texts left none)
-  | inr e ↦ le_trans (fullness_covered rate r x e.at texts left e.within e.covers) (e.counted (λ x. mb_fullness rate r x texts left))
+never_more : (rate r : ℕ) (units : List PesPacket) (left : List ℕ) (x : ℕ) → mb_fullness rate r x units left ≤ greatest_at (λ x. mb_fullness rate r x units left) left
+never_more rate r units left x = elim (entry x left) [
+  | inl none ↦ omega (arith, fullness_none rate r x units left none)
+  | inr e ↦ le_trans (fullness_covered rate r x e.at units left e.within e.covers) (e.counted (λ x. mb_fullness rate r x units left))
 ]
 
 pub main_peak_law : MainPeakLaw
-main_peak_law rate r texts [] = record {
-  never_more = never_more rate r texts [];
+main_peak_law rate r units [] = record {
+  never_more = never_more rate r units [];
   moment = 0;
-  reached = unfold greatest_at in (fullness_none rate r 0 texts [] (All-nil (λ d. 0 < d)));
+  reached = unfold greatest_at in (fullness_none rate r 0 units [] (All-nil (λ d. 0 < d)));
 }
-main_peak_law rate r texts (d ∷ left) =
-    let g = greatest_reached (λ x. mb_fullness rate r x texts (d ∷ left)) d left in
-    record { never_more = never_more rate r texts (d ∷ left); moment = g.at; reached = g.is }
+main_peak_law rate r units (d ∷ left) =
+    let g = greatest_reached (λ x. mb_fullness rate r x units (d ∷ left)) d left in
+    record { never_more = never_more rate r units (d ∷ left); moment = g.at; reached = g.is }

@@ -1,4 +1,5 @@
--- The transport buffer of a stream (ISO/IEC 13818-1, 2.4.2.3): all bytes of its packets enter it as they arrive, and leave it at r bits a second.
+-- The transport buffer of a stream (ISO/IEC 13818-1, 2.4.2.3): all bytes of its packets enter it as they arrive, and
+-- leave it at r bits a second.
 use Rattle.std.specs.Prelude.{ℕ, ◌+◌, ◌-◌, ◌*◌, ◌<◌, ◌≤◌, Bool, List, [], ◌∷◌, ◌++◌, take, drop, map, All}
 use Rattle.clock27.specs.Arrival.{arrivals}
 use Rattle.clock27.specs.Departure.{departures}
@@ -10,23 +11,29 @@ use Rattle.unit_timing.specs.Schedule.{Packet}
 abbrev pub slots_of : List Packet → List ℕ
 slots_of packets = map (λ p. p.slot) packets
 
--- of a list with an entry for each byte of these packets, the entries of the payloads: the last `size` of each packet's 188
+-- of a list with an entry for each byte of these packets, the entries of the payloads: the last `size` of each packet's
+-- 188
 unfoldable pub of_payloads : List Packet → List ℕ → List ℕ
 of_payloads [] ds = []
 of_payloads (p ∷ packets) ds = drop (188 - p.size) (take 188 ds) ++ of_payloads packets (drop 188 ds)
 
--- when the payload bytes of these packets leave the transport buffer; `prev` is when the byte before them left, 0 where there is none
-abbrev pub text_left : ℕ → ℕ → ℕ → List Packet → List ℕ
-text_left rate r prev packets = of_payloads packets (departures rate prev (arrivals r (slots_of packets)))
+-- how many bytes it holds at the moment x, of the packets in these slots
+abbrev pub tb_fullness : ℕ → ℕ → ℕ → List ℕ → ℕ
+tb_fullness rate r x slots = fullness x (arrivals r slots) (departures rate 0 (arrivals r slots))
+
+-- when the payload bytes of these packets leave the transport buffer; `prev` is when the byte before them left, 0 where
+-- there is none
+abbrev pub pes_left : ℕ → ℕ → ℕ → List Packet → List ℕ
+pes_left rate r prev packets = of_payloads packets (departures rate prev (arrivals r (slots_of packets)))
 
 -- the buffer never holds more than `room` bytes, where the work fits
 abbrev pub RoomLaw : Type 0
 RoomLaw = (own : ℕ → Bool) (rate r room peak : ℕ) (W : ℕ → ℕ) (slots : List ℕ) (x : ℕ) → 0 < rate →
     BoundsWork own rate r room peak W → Rises own 0 slots →
-    fullness x (arrivals r slots) (departures rate 0 (arrivals r slots)) ≤ room
+    tb_fullness rate r x slots ≤ room
 
 -- and the bytes of packets that stand before slot e have left it by e's begin and the greatest work after an own slot
-abbrev pub TextLaw : Type 0
-TextLaw = (own : ℕ → Bool) (rate r room peak : ℕ) (W : ℕ → ℕ) (packets : List Packet) (e : ℕ) →
+abbrev pub LeftLaw : Type 0
+LeftLaw = (own : ℕ → Bool) (rate r room peak : ℕ) (W : ℕ → ℕ) (packets : List Packet) (e : ℕ) →
     BoundsWork own rate r room peak W → Rises own 0 (slots_of packets) → All (λ p. p.slot < e) packets →
-    All (λ d. d ≤ 188 * r * e + peak) (text_left rate r 0 packets)
+    All (λ d. d ≤ 188 * r * e + peak) (pes_left rate r 0 packets)

@@ -1,12 +1,12 @@
-//! Texts that have left the transport buffer.
+//! Units that have left the transport buffer.
 ghost use Rattle.unit_timing.specs.Arrived.{ArrivedLaw, LateLaw};
 
-/// In a run of any length each due text has left the transport buffer whole by its stamp.
-pub fn due_texts()
+/// In a run of any length each due unit has left the transport buffer whole by its stamp.
+pub fn due_units()
     ensures { ArrivedLaw }
 {}
 
-/// The first late text is none exactly where each due text has left, in any order of stamps.
-pub fn late_texts()
+/// The first late unit is none exactly where each due unit has left, in any order of stamps.
+pub fn late_units()
     ensures { LateLaw }
 {}

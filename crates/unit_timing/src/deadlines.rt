@@ -1,13 +1,13 @@
-//! Deadlines of texts.
+//! Deadlines of units.
 ghost use Rattle.unit_timing.specs.PesPacket.{GroupLaw};
 ghost use Rattle.unit_timing.specs.Deadline.{StretchLaw, DeadlineLaw};
 
-/// Texts that are sent on end come in time, so all do.
+/// Units that are sent on end come in time, so all do.
 pub fn stretches()
     ensures { StretchLaw }
 {}
 
-/// Declared groups bound the packets of any texts in a row.
+/// Declared groups bound the packets of any units in a row.
 pub fn groups()
     ensures { GroupLaw }
 {}

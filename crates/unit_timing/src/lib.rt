@@ -2,26 +2,28 @@
 //! (ISO/IEC 13818-1, 2.4.2), over the definitions alone.
 //!
 //! A stream's own slots are a function `own : ℕ → Bool` of the slot number, for one plan or for two;
-//! its units are a list of texts, each with its size and the time when it is due. The definitions in
-//! `specs/` say which own slot carries which part of which text, when its bytes leave the transport
+//! its units are a list of PES packets, each with its size and its decoding time stamp. The definitions in
+//! `specs/` say which own slot carries which part of which unit, when its bytes leave the transport
 //! buffer, and how many bytes each buffer holds. Each function here is a law: it does nothing, and
 //! its contract says what holds of the definitions.
 //!
+//! - [`buffers`]: the buffers that have one size for all.
 //! - [`transport`]: the transport buffer never overflows, and each packet leaves in time.
-//! - [`deadlines`]: from the pace of the own slots to the deadline of each text.
-//! - [`arrived`]: each due text has left the transport buffer whole by its stamp.
+//! - [`deadlines`]: from the pace of the own slots to the deadline of each unit.
+//! - [`arrived`]: each due unit has left the transport buffer whole by its stamp.
 //! - [`main_buffer`]: what the main buffer holds.
 //! - [`system_buffers`]: the two buffers of a program's tables.
-//! - [`schedule`]: slot by slot is text by text, and the packets' indices in the finished bytes.
-//! - [`texts`]: one text more within the declaration.
+//! - [`schedule`]: slot by slot is unit by unit.
+//! - [`units`]: one unit more within the declaration.
 //! - [`plans`]: all of this for one plan and for two, from the conditions on their slots.
 #![tactic(auto)]
 
 pub mod arrived;
+pub mod buffers;
 pub mod deadlines;
 pub mod main_buffer;
 pub mod plans;
 pub mod schedule;
 pub mod system_buffers;
-pub mod texts;
 pub mod transport;
+pub mod units;

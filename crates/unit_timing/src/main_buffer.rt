@@ -1,8 +1,8 @@
 //! The main buffer.
 ghost use Rattle.unit_timing.specs.MainBuffer.{BySlots, BySizes, ByGroups, KeptLaw, MainPeakLaw};
 
-/// What the main buffer holds at any moment, counted by slots, by the sizes of texts and by the
-/// packets of groups. Texts that are late count too.
+/// What the main buffer holds at any moment, counted by slots, by the sizes of units and by the
+/// packets of groups. Units that are late count too.
 pub fn kept()
     ensures by_slots { BySlots }
     ensures by_sizes { BySizes }

@@ -1,13 +1,13 @@
 //! One plan, or two plans in turn: from the conditions on their slots to what is promised of the buffers.
-ghost use Rattle.unit_timing.specs.Plans.{StreamLaw, DeadlineSwitchLaw, MainSwitchLaw, StreamSwitchLaw, ProgramLaw, ProgramSwitchLaw};
+ghost use Rattle.unit_timing.specs.PlanLaws.{StreamLaw, DeadlineSwitchLaw, MainSwitchLaw, StreamSwitchLaw, ProgramLaw, ProgramSwitchLaw};
 
-/// A stream whose slots hold the conditions, with texts within its declaration: each due text
+/// A stream whose slots hold the conditions, with units within its declaration: each due unit
 /// leaves whole by its stamp, and neither buffer overflows, in runs of any length.
 pub fn stream()
     ensures { StreamLaw }
 {}
 
-/// Over two plans, the first for any number of its periods, each text is sent in time.
+/// Over two plans, the first for any number of its periods, each unit is sent in time.
 pub fn deadline_switch()
     ensures { DeadlineSwitchLaw }
 {}

@@ -1,5 +1,5 @@
 //! The transport buffer.
-ghost use Rattle.unit_timing.specs.Transport.{RoomLaw, TextLaw};
+ghost use Rattle.unit_timing.specs.Transport.{RoomLaw, LeftLaw};
 
 /// Where the work of each own slot finds room for its packet, the transport buffer never holds more
 /// bytes than its room, whichever own slots are used.
@@ -8,6 +8,6 @@ pub fn room()
 {}
 
 /// The payload bytes of packets before a slot have left by that slot's begin and the peak of work.
-pub fn text()
-    ensures { TextLaw }
+pub fn left()
+    ensures { LeftLaw }
 {}

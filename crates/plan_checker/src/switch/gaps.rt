@@ -9,14 +9,12 @@ ghost use Rattle.slot_plan.specs.Shape.{IsShaped};
 ghost use Rattle.slot_plan.specs.SwitchConditions.{pcr_switch_entry, pcr_switches, table_switch_entry, table_switches};
 ghost use Rattle.plan_checker.specs.Refused.{failed};
 
-use crate::across::greatest_gap_across;
 use crate::comparing::at_most;
-use crate::refusal::{Condition, Refusal};
-use slot_plan::{Description, Item, Plan, Program};
+use crate::refusal::Refusal;
+use crate::switch::across::greatest_gap_across;
+use clock27::SLOT_MILLISECONDS;
+use slot_plan::{Condition, Description, Item, Plan, Program};
 use std::alloc::Allocator;
-
-/// The bits of a slot, times the milliseconds in a second.
-const SLOT_MILLISECONDS: u128 = 1_504_000;
 
 /// The PCRs of each program recur over the switch (ISO/IEC 13818-1, 2.7.2).
 pub fn pcr_switches<A: Allocator>(

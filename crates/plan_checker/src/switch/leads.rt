@@ -9,14 +9,14 @@ ghost use Rattle.slot_plan.specs.SwitchConditions.{lead_switch_entry, lead_switc
 ghost use Rattle.plan_checker.specs.Refused.{failed};
 ghost use Rattle.plan_checker.specs.Joint.{across, across_entry, IsSmallAcross};
 
-use crate::across::shift_of;
 use crate::claims::claim_of_stream;
 use crate::comparing::at_most;
 use crate::counting::own_count;
 use crate::leads::{group_part, packets_of_units};
-use crate::refusal::{Condition, Refusal};
+use crate::refusal::Refusal;
+use crate::switch::across::shift_of;
 use crate::switch::sides::{Across, Share, slots_needed, time_given, time_needed};
-use slot_plan::{Description, Item, Plan, Stream};
+use slot_plan::{Condition, Description, Item, Plan, Stream};
 use std::alloc::Allocator;
 
 /// The deadlines of all streams, of 1 to `group` units in a row.
@@ -61,14 +61,15 @@ fn across_of<A: Allocator>(
             count: own_count(first.slots(), item),
             period: first.slots().len() as u64,
             spread: claim.spread,
+            peak: claim.peak,
         },
         second: Share {
             count: own_count(second.slots(), item),
             period: second.slots().len() as u64,
             spread: next_claim.spread,
+            peak: next_claim.peak,
         },
         shift: shift_of(first.slots(), second.slots(), item),
-        peak: claim.peak.max(next_claim.peak),
     }
 }
 
@@ -103,11 +104,12 @@ fn deadline(rate: u64, stream: &Stream, i: usize, across: Across, units: u8) -> 
     let packets = packets_of_units(stream, units);
     let count = across.first.count as u128 * across.second.count as u128;
     let slots = slots_needed(across, packets);
+    let peak = across.first.peak.max(across.second.peak);
     at_most(
         Condition::LeadSwitch,
         group_part(stream, units),
         i as u32,
-        time_needed(slots, count, stream.rx as u64, across.peak),
+        time_needed(slots, count, stream.rx as u64, peak),
         time_given(
             count,
             stream.lead as u64,

@@ -8,9 +8,9 @@ ghost use Rattle.slot_plan.specs.SwitchConditions.{main_switch_entry, main_switc
 ghost use Rattle.plan_checker.specs.Refused.{failed};
 
 use crate::comparing::at_most;
-use crate::refusal::{Condition, Refusal};
+use crate::refusal::Refusal;
 use crate::waiting::{bytes_by_slots, bytes_by_units};
-use slot_plan::{Description, Plan, Stream};
+use slot_plan::{Condition, Description, Plan, Stream};
 use std::alloc::Allocator;
 
 /// The main buffers of all streams (ISO/IEC 13818-1, 2.4.2.3).

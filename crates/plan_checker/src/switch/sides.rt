@@ -2,30 +2,28 @@
 
 ghost use Rattle.std.specs.Prelude.{◌≡◌, ◌+◌, ◌-◌, ◌*◌, ◌^◌, ◌<◌, ◌≤◌};
 ghost use Rattle.clock27.specs.Release.{slot_units};
-ghost use Rattle.plan_checker.specs.Joint.{slots_across, IsSmallAcross};
+ghost use Rattle.clock27.specs.Units.{byte_units};
+ghost use Rattle.unit_timing.specs.Conditions.{slots_across};
+ghost use Rattle.plan_checker.specs.Joint.{timed, IsSmallAcross};
 
-/// A slot of an output of R bits/s lasts this many units of 90 kHz, divided by R.
-const SLOT_UNITS: u128 = 135_360_000;
+use clock27::{BYTE_UNITS, SLOT_UNITS};
 
-/// The bits of a byte times the units of 90 kHz in a second.
-const BYTE_UNITS: u128 = 720_000;
-
-/// A stream's own slots in one plan: their number in a period, its slots, how far they stray at most.
+/// A stream's own slots in one plan: their number in a period, its slots, how far they stray and the work after one at
+/// most.
 #[derive(Clone, Copy, Debug, PartialEq, Eq)]
 pub struct Share {
     pub count: u64,
     pub period: u64,
     pub spread: u64,
+    pub peak: u64,
 }
 
-/// What two plans in turn give a stream: its own slots in each, by how many slots those of the second come later, and
-/// the greater of the two peaks that the plans claim.
+/// What two plans in turn give a stream: its own slots in each, and by how many slots those of the second come later.
 #[derive(Clone, Copy, Debug, PartialEq, Eq)]
 pub struct Across {
     pub first: Share,
     pub second: Share,
     pub shift: u64,
-    pub peak: u64,
 }
 
 /// The slots that `packets` packets take over the switch, times the own slots of both periods: the spreads, the
@@ -35,14 +33,13 @@ pub fn slots_needed(across: Across, packets: u64) -> u128
     requires spread { across.first.spread < 2 ^ 33 }
     requires next_spread { across.second.spread < 2 ^ 33 }
     requires packets { packets ≤ 2 ^ 21 }
-    ensures slots { result ≡ slots_across across packets }
+    ensures slots { result ≡ slots_across (timed across.first) (timed across.second) across.shift packets }
     ensures bound { result < 2 ^ 54 }
 {
     let Across {
         first,
         second,
         shift,
-        ..
     } = across;
     let pace = u64::max(first.period * second.count, second.period * first.count);
     let strayed = first.spread * second.count + second.spread * first.count;
@@ -56,7 +53,7 @@ pub fn time_needed(slots: u128, count: u128, rx: u64, peak: u64) -> u128
     requires count { count ≤ 2 ^ 32 }
     requires rx { rx ≤ 200000000 }
     requires peak { peak < 10 ^ 18 }
-    ensures { result ≡ slots * slot_units * rx + count * peak * 720000 }
+    ensures { result ≡ slots * slot_units * rx + count * peak * byte_units }
 {
     slots * SLOT_UNITS * rx as u128 + count * peak as u128 * BYTE_UNITS
 }

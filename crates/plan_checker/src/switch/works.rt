@@ -9,16 +9,11 @@ ghost use Rattle.plan_checker.specs.Refused.{failed};
 
 use crate::claims::{claim_of_program, claim_of_stream};
 use crate::comparing::at_most;
-use crate::refusal::{Condition, Refusal};
+use crate::refusal::Refusal;
 use crate::work::work_of;
-use slot_plan::{Description, Item, Plan, Slot, Stream};
+use slot_plan::{Condition, Description, Item, Plan, Slot, Stream};
 use std::alloc::Allocator;
-
-/// The rate at which a transport buffer of tables is emptied, in bits a second (ISO/IEC 13818-1, 2.4.2.3).
-const TRANSPORT_DRAIN: u64 = 1_000_000;
-
-/// The rate at which a system buffer is emptied, in bits a second.
-const SYSTEM_DRAIN: u64 = 80_000;
+use unit_timing::buffers::{BSYS_DRAIN, SYSTEM_TB_DRAIN};
 
 /// One buffer: its item's number, what fills it, its drain and the works with which the two plans' periods begin.
 fn work_switch(
@@ -120,7 +115,7 @@ fn transport_work<A: Allocator>(
         Item::System(i as u8),
         description.streams().len() + i,
         description.rate().bits_per_second(),
-        TRANSPORT_DRAIN,
+        SYSTEM_TB_DRAIN,
         claim_of_program(first, i).transport_start,
         claim_of_program(second, i).transport_start,
     )
@@ -158,7 +153,7 @@ fn system_work<A: Allocator>(
         Item::System(i as u8),
         description.streams().len() + description.programs().len() + i,
         description.rate().bits_per_second(),
-        SYSTEM_DRAIN,
+        BSYS_DRAIN,
         claim_of_program(first, i).system_start,
         claim_of_program(second, i).system_start,
     )

@@ -7,7 +7,7 @@ use Rattle.slot_plan.specs.Conditions.{length_entries, name_entries, stream_owne
 use Rattle.plan_checker.proofs.Listing.{then_after, then_before}
 use Rattle.plan_checker.proofs.shape.shape.Goals as goal
 
--- the conditions behind those of each step
+-- the conditions after those of each step
 abbrev after_program_owners : Described → Planned → List Entry
 after_program_owners d q = table_owner_entries d q ++ claim_entries d q
 

@@ -7,7 +7,7 @@ use Rattle.slot_plan.specs.Conditions.{pcr_gaps, table_gaps, spreads, stream_rat
 use Rattle.plan_checker.proofs.Listing.{then_after, then_before}
 use Rattle.plan_checker.proofs.timing.timing.Goals as goal
 
--- the conditions behind those of each step
+-- the conditions after those of each step
 abbrev after_stream_leads : Described → Planned → List Entry
 after_stream_leads d q = main_buffers d q ++ system_buffers d q
 

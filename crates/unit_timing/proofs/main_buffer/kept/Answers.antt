@@ -1,5 +1,5 @@
 use Rattle.unit_timing.proofs.KeptBySlots.{by_slots}
-use Rattle.unit_timing.proofs.KeptByTexts.{by_sizes, by_groups, kept_law}
+use Rattle.unit_timing.proofs.KeptByUnits.{by_sizes, by_groups, kept_law}
 use Rattle.unit_timing.proofs.main_buffer.kept.Goals as goal
 
 pub returns-clause-by_slots : goal.returns-clause-by_slots

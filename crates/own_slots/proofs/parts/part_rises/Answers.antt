@@ -1,0 +1,5 @@
+use Rattle.own_slots.proofs.Parting.{part_law}
+use Rattle.own_slots.proofs.parts.part_rises.Goals as goal
+
+pub returns : goal.returns
+returns c = part_law

@@ -1,5 +1,0 @@
-use Rattle.unit_timing.proofs.Arriving.{arrived_law}
-use Rattle.unit_timing.proofs.arrived.due_texts.Goals as goal
-
-pub returns : goal.returns
-returns c = arrived_law

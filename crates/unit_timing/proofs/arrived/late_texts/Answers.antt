@@ -1,5 +1,0 @@
-use Rattle.unit_timing.proofs.Telling.{late_law}
-use Rattle.unit_timing.proofs.arrived.late_texts.Goals as goal
-
-pub returns : goal.returns
-returns c = late_law

@@ -1,0 +1,140 @@
+-- The conditions on a stream's own slots, and on those of a program's tables, in one plan and in two plans in turn.
+-- Each compares two whole numbers, which stand here once: as numbers of the declaration and of the own slots.
+use Rattle.std.specs.Prelude.{ℕ, ◌+◌, ◌-◌, ◌*◌, ◌/◌, ◌<◌, ◌≤◌, max, min, Bool, List, length}
+use Rattle.clock27.specs.Release.{slot_units}
+use Rattle.clock27.specs.Units.{byte_units}
+use Rattle.own_slots.specs.Period.{per_period}
+use Rattle.own_slots.specs.Spread.{spread, most_within}
+use Rattle.own_slots.specs.Work.{HoldsWork, work_left}
+use Rattle.own_slots.specs.Switch.{shift}
+use Rattle.unit_timing.specs.Buffers.{tb_size, system_tb_drain, bsys_size, bsys_drain}
+use Rattle.unit_timing.specs.PesPacket.{grouped}
+use Rattle.unit_timing.specs.Plans.{Declaration}
+
+-- numbers that are not 0
+pub record IsProper (rate : ℕ) (s : Declaration) : Type 0 where
+  pub some_rate : 0 < rate
+  pub some_interval : 0 < s.interval
+  pub some_lead : 0 < s.lead
+  pub some_drain : 0 < s.drain
+  pub some_group : 0 < s.group
+
+-- ---- what a plan claims
+
+-- of a stream's own slots: their spread, the work with which a period begins, the greatest work after an own slot
+pub record StreamClaim : Type 0 where
+  pub spread : ℕ
+  pub start : ℕ
+  pub peak : ℕ
+
+-- of the slots of a program's tables: the works of the transport buffer, and those of the system buffer
+pub record ProgramClaim : Type 0 where
+  pub transport_start : ℕ
+  pub transport_peak : ℕ
+  pub system_start : ℕ
+  pub system_peak : ℕ
+
+-- a stream's own slots in numbers: how many of a period's slots they are, and what is claimed of them
+pub record Share : Type 0 where
+  pub count : ℕ
+  pub period : ℕ
+  pub spread : ℕ
+  pub peak : ℕ
+
+abbrev pub share_of : StreamClaim → List Bool → Share
+share_of claim marks = record { count = per_period marks; period = length marks; spread = claim.spread; peak = claim.peak }
+
+-- ---- groups of units on end have slots enough
+
+-- the slots that the packets of a group take, and those in the time of a group
+abbrev pub rate_needed : Declaration → Share → ℕ
+rate_needed s own = s.group_packets * own.period * slot_units
+
+abbrev pub rate_given : ℕ → Declaration → Share → ℕ
+rate_given rate s own = own.count * s.group * s.interval * rate
+
+-- ---- the last of m units on end has left the transport buffer by its stamp
+
+-- the most packets of m units in a row, at most a group of them
+abbrev pub packets_in_row : Declaration → ℕ → ℕ
+packets_in_row s m = min (m * s.pieces) s.group_packets
+
+-- when it has left at the latest, of so many own slots: its slots, times their number, and the work after the last
+abbrev pub time_needed : Declaration → ℕ → ℕ → ℕ → ℕ
+time_needed s count slots peak = slots * slot_units * s.drain + count * peak * byte_units
+
+-- its stamp
+abbrev pub time_given : ℕ → Declaration → ℕ → ℕ → ℕ
+time_given rate s count m = count * (s.lead + (m - 1) * s.interval) * rate * s.drain
+
+-- the slots of m units in one plan, times its own slots
+abbrev pub slots_needed : Declaration → Share → ℕ → ℕ
+slots_needed s own m = own.spread + packets_in_row s m * own.period + own.count
+
+-- and over two plans, times the own slots of both: both spreads, the slower of the two paces, and the shift of the
+-- second's own slots
+abbrev pub slots_across : Share → Share → ℕ → ℕ → ℕ
+slots_across first second late packets = first.spread * second.count + second.spread * first.count
+    + packets * max (first.period * second.count) (second.period * first.count)
+    + first.count * second.count * (late + 1)
+
+abbrev pub lead_needed : Declaration → Share → ℕ → ℕ
+lead_needed s own m = time_needed s own.count (slots_needed s own m) own.peak
+
+abbrev pub lead_across : Declaration → Share → Share → ℕ → ℕ → ℕ
+lead_across s first second late m =
+    time_needed s (first.count * second.count) (slots_across first second late (packets_in_row s m)) (max first.peak second.peak)
+
+-- ---- what waits for its stamp finds room in the main buffer
+
+-- the units that can wait at once, rounded up, and the slots in which their packets come
+abbrev pub waiting_units : Declaration → ℕ
+waiting_units s = (s.lead + (s.interval - 1)) / s.interval
+
+abbrev pub waiting_slots : ℕ → Declaration → ℕ
+waiting_slots rate s = (s.lead * rate + (slot_units - 1)) / slot_units
+
+-- the most packets of m units in a row, any number of them: whole groups, and a rest
+abbrev pub grouped_packets : Declaration → ℕ → ℕ
+grouped_packets s m = grouped s.group s.group_packets s.pieces m
+
+-- the bytes that can wait at once: by the sizes of the units or by their packets, and by the slots of one plan
+abbrev pub bytes_by_units : Declaration → ℕ
+bytes_by_units s = min (waiting_units s * s.largest) (184 * grouped_packets s (waiting_units s))
+
+abbrev pub bytes_by_slots : ℕ → Declaration → Share → ℕ
+bytes_by_slots rate s own = 184 * most_within own.count own.period own.spread (waiting_slots rate s)
+
+abbrev pub bytes_waiting : ℕ → Declaration → Share → ℕ
+bytes_waiting rate s own = min (bytes_by_units s) (bytes_by_slots rate s own)
+
+abbrev pub bytes_across : ℕ → Declaration → Share → Share → ℕ
+bytes_across rate s first second = min (bytes_by_units s) (bytes_by_slots rate s first + bytes_by_slots rate s second)
+
+-- ---- the conditions
+
+-- on a stream's own slots in one plan
+pub record StreamHolds (rate : ℕ) (s : Declaration) (claim : StreamClaim) (marks : List Bool) : Type 0 where
+  pub owned : 0 < per_period marks
+  pub spread_claimed : spread marks ≤ claim.spread
+  pub rate_serves : rate_needed s (share_of claim marks) ≤ rate_given rate s (share_of claim marks)
+  pub work : HoldsWork rate s.drain tb_size claim.start claim.peak marks
+  pub lead_serves : (m : ℕ) → 0 < m → m ≤ s.group → lead_needed s (share_of claim marks) m ≤ time_given rate s (per_period marks) m
+  pub main_fits : bytes_waiting rate s (share_of claim marks) ≤ s.main
+
+-- the further conditions on two plans in turn
+pub record StreamJoins (rate : ℕ) (s : Declaration) (claim : StreamClaim) (first : List Bool) (next : StreamClaim) (second : List Bool) : Type 0 where
+  pub work : work_left rate s.drain claim.start first ≤ next.start
+  pub lead_serves : (m : ℕ) → 0 < m → m ≤ s.group →
+      lead_across s (share_of claim first) (share_of next second) (shift first second) m ≤ time_given rate s (per_period first * per_period second) m
+  pub main_fits : bytes_across rate s (share_of claim first) (share_of next second) ≤ s.main
+
+-- on the slots of a program's tables in one plan
+pub record ProgramHolds (rate : ℕ) (claim : ProgramClaim) (marks : List Bool) : Type 0 where
+  pub transport : HoldsWork rate system_tb_drain tb_size claim.transport_start claim.transport_peak marks
+  pub system : HoldsWork rate bsys_drain bsys_size claim.system_start claim.system_peak marks
+
+-- and on two plans in turn
+pub record ProgramJoins (rate : ℕ) (claim : ProgramClaim) (first : List Bool) (next : ProgramClaim) : Type 0 where
+  pub transport : work_left rate system_tb_drain claim.transport_start first ≤ next.transport_start
+  pub system : work_left rate bsys_drain claim.system_start first ≤ next.system_start
