@@ -13,3 +13,4 @@ pub mod SwitchConditions
 pub mod PlanTexts
 pub mod Schedule
 pub mod TableRounds
+pub mod SlotPids
