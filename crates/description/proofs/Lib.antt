@@ -18,3 +18,6 @@ pub mod EventPlaces
 pub mod TableTexts
 pub mod TextLengths
 pub mod Places
+pub mod PidCounts
+pub mod Pids
+pub mod SectionCounts

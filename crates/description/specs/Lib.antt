@@ -17,3 +17,4 @@ pub mod Contents
 pub mod Consistency
 pub mod Reading
 pub mod SectionTexts
+pub mod Pids

@@ -52,6 +52,9 @@ mod map_text;
 mod network_text;
 mod section_text;
 mod services_text;
+
+// What holds of every description.
+pub mod laws;
 #[cfg(test)]
 mod tests;
 

@@ -9,4 +9,5 @@ pub mod TextPieces
 pub mod TextLines
 pub mod TextLists
 pub mod TextPlans
+pub mod SlotPids
 mod Rows

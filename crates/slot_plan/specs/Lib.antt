@@ -15,3 +15,4 @@ pub mod PlanTexts
 pub mod Schedule
 pub mod TableRounds
 pub mod ServingLaws
+pub mod SlotPids

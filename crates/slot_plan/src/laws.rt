@@ -2,6 +2,7 @@
 
 ghost use Rattle.slot_plan.specs.PlanTexts.{ReadsExactly, OneText};
 ghost use Rattle.slot_plan.specs.Schedule.{OwnedLaw};
+ghost use Rattle.slot_plan.specs.SlotPids.{SlotsApartLaw, SlotsBelowLaw};
 
 /// A plan is read exactly where its text stands, and that text is the plan's only one.
 pub fn plan_text()
@@ -13,4 +14,10 @@ pub fn plan_text()
 /// they are those of both, joined.
 pub fn own_slots()
     ensures { OwnedLaw }
+{}
+
+/// Slots that name two parts of a description have two PIDs, and none has that of null packets.
+pub fn slot_pids()
+    ensures apart { SlotsApartLaw }
+    ensures below { SlotsBelowLaw }
 {}

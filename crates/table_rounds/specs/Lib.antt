@@ -2,3 +2,4 @@ pub mod Tables
 pub mod Parts
 pub mod Turns
 pub mod Laws
+pub mod Payloads

@@ -1,4 +1,5 @@
 //! Laws of the definitions. Each function does nothing: its contract is the law.
+ghost use Rattle.table_rounds.specs.Payloads.{TableCarriedLaw, FirstPartLaw, PartFitsLaw};
 ghost use Rattle.table_rounds.specs.Laws.{FirstTurnLaw, OwnSlotLaw, OtherSlotLaw, PlaceLaw, PlaceFoundLaw};
 
 /// A new state stands for its table before slot 0.
@@ -24,4 +25,20 @@ pub fn places()
 /// Each place of a round has one part of one section.
 pub fn place_found()
     ensures { PlaceFoundLaw }
+{}
+
+/// In the bytes of an output the packets of a table carry the parts of its sections in their places, with counters that
+/// count on.
+pub fn table_carried()
+    ensures { TableCarriedLaw }
+{}
+
+/// A section begins in the slot of its first place: it is never too short for that.
+pub fn first_part()
+    ensures { FirstPartLaw }
+{}
+
+/// What an own slot carries can be a packet.
+pub fn part_fits()
+    ensures { PartFitsLaw }
 {}

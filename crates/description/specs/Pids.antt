@@ -1,0 +1,37 @@
+-- The PIDs on which a description's output has packets, and that no two of its parts share one.
+use Rattle.std.specs.Prelude.{◌≡◌, ℕ, ◌+◌, ◌<◌, ◌≤◌, List, ◌++◌, Some, length, map, slice_get}
+use Rattle.description.specs.Described.{Described, DescribedProgram, DescribedStream}
+use Rattle.description.specs.Ranges.{IsInRange, IsProgram, IsStream}
+use Rattle.description.specs.Tables.{kind_pid, table_kinds, table_count, table_pid, section_count, round_places}
+
+-- those of the tables in the order of their numbers, of the programs' clocks, of the streams
+abbrev pub all_pids : Described → List ℕ
+all_pids d = map (kind_pid d) (table_kinds d) ++ (map (λ p. p.pcr_pid) d.programs ++ map (λ s. s.pid) d.streams)
+
+-- none stands there twice
+abbrev pub PidsApartLaw : Type 0
+PidsApartLaw = (d : Described) (i j pid : ℕ) → IsInRange d → slice_get (all_pids d) i ≡ Some pid → slice_get (all_pids d) j ≡ Some pid → i ≡ j
+
+-- each is below that of null packets (ISO/IEC 13818-1, table 2-3)
+abbrev pub PidsBelowLaw : Type 0
+PidsBelowLaw = (d : Described) (i pid : ℕ) → IsInRange d → slice_get (all_pids d) i ≡ Some pid → pid < 8191
+
+-- where they stand
+pub record PidPlaces (d : Described) : Type 0 where
+  pub table : (t : ℕ) → t < table_count d → slice_get (all_pids d) t ≡ Some (table_pid d t)
+  pub clock : (i : ℕ) (p : DescribedProgram) → slice_get d.programs i ≡ Some p → slice_get (all_pids d) (table_count d + i) ≡ Some p.pcr_pid
+  pub stream : (k : ℕ) (s : DescribedStream) → slice_get d.streams k ≡ Some s → slice_get (all_pids d) (table_count d + length d.programs + k) ≡ Some s.pid
+
+abbrev pub PidPlacesLaw : Type 0
+PidPlacesLaw = (d : Described) → PidPlaces d
+
+-- a stream and a program by their numbers are in their ranges
+abbrev pub StreamRangeLaw : Type 0
+StreamRangeLaw = (d : Described) (k : ℕ) (s : DescribedStream) → IsInRange d → slice_get d.streams k ≡ Some s → IsStream s
+
+abbrev pub ProgramRangeLaw : Type 0
+ProgramRangeLaw = (d : Described) (i : ℕ) (p : DescribedProgram) → IsInRange d → slice_get d.programs i ≡ Some p → IsProgram p
+
+-- each table has a section, and at most 32 of them; so its round has a place
+abbrev pub SectionsLaw : Type 0
+SectionsLaw = (d : Described) (t : ℕ) → IsInRange d → t < table_count d → (0 < section_count d t) × (section_count d t ≤ 32) × (0 < round_places d t)

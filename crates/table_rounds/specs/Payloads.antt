@@ -1,0 +1,37 @@
+-- What the packets of a table carry.
+use Rattle.std.specs.Prelude.{◌≡◌, ℕ, ◌%◌, ◌^◌, ◌<◌, ◌==◌, true, false, List, Some, map, slice_get}
+use Rattle.std.specs.List.{flat_map}
+use Rattle.own_slots.specs.Slots.{own_slots}
+use Rattle.ts_packet.specs.PidList.{Entry, is_of_pid, pid_list}
+use Rattle.ts_packet.specs.Contents.{Content, ContentFits, view_of, run_bytes, Payload, payload_at, Piece, put}
+use Rattle.ts_packet.specs.RunLaws.{Fits}
+use Rattle.table_rounds.specs.Tables.{Table, place_at, part_at, table_content}
+
+-- the payloads of a table in its own slots among n
+abbrev pub table_payloads : Table → ℕ → List Payload
+table_payloads table n = flat_map (λ s. put s (part_at table s)) (own_slots table.own 0 n)
+
+-- what stands in the finished bytes of n slots of a table
+pub record TableCarried (table : Table) (n : ℕ) (bytes : List ℕ) : Type 0 where
+  -- packet number j of the PID has the continuity_counter j modulo 16 (ISO/IEC 13818-1, 2.4.3.3)
+  pub counters : (j : ℕ) (e : Entry) → slice_get (pid_list table.pid bytes) j ≡ Some e → e.packet.header.continuity_counter ≡ j % 16
+  -- its packets carry the parts of the sections in the places of the own slots, each section as it is at the moment of its round
+  pub payloads : map payload_at (pid_list table.pid bytes) ≡ table_payloads table n
+
+-- an output in which the table, and nothing else, is on its PID
+pub record IsAlone (table : Table) (content : ℕ → Content) : Type 0 where
+  pub fits : Fits content
+  pub no_null : (table.pid == 8191) ≡ false
+  pub own : (t : ℕ) → table.own t ≡ true → content t ≡ table_content table t
+  pub others : (t : ℕ) → table.own t ≡ false → is_of_pid table.pid (view_of (content t)) ≡ false
+
+abbrev pub TableCarriedLaw : Type 0
+TableCarriedLaw = (table : Table) (n : ℕ) (content : ℕ → Content) → IsAlone table content → TableCarried table n (run_bytes content 0 n)
+
+-- the first part of a section is there, whatever its length: pointer_field, and the section's bytes
+abbrev pub FirstPartLaw : Type 0
+FirstPartLaw = (table : Table) (s j : ℕ) → place_at table s ≡ record { section = j; part = 0 } → (piece : Piece) × (part_at table s ≡ Some piece) × (piece.start ≡ true)
+
+-- what an own slot carries can be a packet
+abbrev pub PartFitsLaw : Type 0
+PartFitsLaw = (table : Table) (s : ℕ) → table.pid < 2 ^ 13 → ContentFits (table_content table s)
