@@ -1,13 +1,11 @@
 -- What the readers of a description and a plan say, in the terms of a job.
-use Rattle.std.proofs.Common.{◌≡◌, ◌⊎◌, ℕ, ◌+◌, ◌-◌, ◌≤◌, Bool, true, false, List, [], ◌∷◌, ◌++◌, length, take, drop, sym, ap, subst, ◌∙◌, arith, length-append, Result, Ok, Err, inl, inr}
+use Rattle.std.proofs.Common.{◌≡◌, ℕ, ◌+◌, ◌-◌, ◌≤◌, Bool, true, false, List, ◌++◌, length, take, drop, sym, ap, ◌∙◌, arith, length-append, Ok, Err}
 use Rattle.std.specs.Prelude.{if◌then◌else◌}
 use Rattle.std.specs.Str.{IsUtf8, is_utf8}
 use Rattle.std.proofs.lemmas.Str.{IsUtf8-from_is_utf8, is_utf8-from_IsUtf8}
 use Rattle.toml.specs.Parse.{parse_document}
-use Rattle.description.specs.Described.{Described}
 use Rattle.description.specs.Reading.{description_of}
 use Rattle.description.specs.declared.fault.Fault.TheVariants as fault
-use Rattle.description.specs.declared.fault.DescError.{DescError}
 use Rattle.description.specs.declared.fault.DescError.TheVariants as refused_by
 use Rattle.slot_plan.specs.Planned.{Planned}
 use Rattle.slot_plan.specs.PlanTexts.{Refuses, StandsAtFront}

@@ -1,7 +1,6 @@
 -- A job as it is read, and the line that tells what is first wrong with it.
-use Rattle.std.specs.Prelude.{◌≡◌, ℕ, Bool, true, false, List, [], ◌∷◌, Option, Some, None, Result, Ok, Err, codes, ⊤}
+use Rattle.std.specs.Prelude.{◌≡◌, ℕ, Bool, true, false, List, [], ◌∷◌, Some, None, Result, Ok, Err, codes, ⊤}
 use Rattle.description.specs.Codes.{fault_code, fault_item}
-use Rattle.slot_plan.specs.Entries.{Entry}
 use Rattle.plan_checker.specs.Refused.{entry_of}
 use Rattle.tsmux.specs.Lines.{line_text}
 use Rattle.tsmux.specs.Jobs.{BadDescription, BadLine, BadSecondLine, Fails, HasNoPlan, JobFaultView, JobView, SecondFails}
