@@ -5,4 +5,5 @@ pub mod Syntax
 pub mod Reading
 pub mod Spelling
 pub mod Payloads
+pub mod Units
 pub mod Laws

@@ -14,6 +14,7 @@ use clock27::Rate;
 use std::marker::Model;
 
 /// A table between two of its own slots: the place that comes next, the moment of the round, and the section under way.
+#[derive(Drop)]
 pub struct TableTurn {
     pid: u16,
     rate: Rate,

@@ -8,7 +8,8 @@ use Rattle.std.proofs.lemmas.List.Sums.{sum_by-cons}
 use Rattle.pes_packet.specs.AccessUnits.{AccessUnit}
 use Rattle.pes_packet.specs.Spelling.{on_wire, header_text, unit_text}
 use Rattle.tstd.specs.Walking.{given}
-use Rattle.tstd.specs.Carried.{units_of, texts_of, timed_texts}
+use Rattle.pes_packet.specs.Units.{units_of, texts_of}
+use Rattle.tstd.specs.Carried.{timed_texts}
 
 -- a stamp on the wire stays as it is
 wire_again : (a : ℕ) → on_wire (on_wire a) ≡ on_wire a

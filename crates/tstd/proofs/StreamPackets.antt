@@ -15,7 +15,7 @@ use Rattle.unit_timing.specs.PesPacket.{PesPacket}
 use Rattle.unit_timing.specs.Transport.{slots_of, of_payloads}
 use Rattle.tstd.specs.declared.departures.Departures.{Departures}
 use Rattle.tstd.specs.declared.main_buffer.MainBuffer.{MainBuffer}
-use Rattle.tstd.specs.Carried.{payload_of}
+use Rattle.ts_packet.specs.Contents.{payload_of}
 use Rattle.tstd.specs.Entering.{most_of}
 use Rattle.tstd.specs.Keeping.{there_at}
 use Rattle.tstd.specs.Listing.{size_in, listed, packets_from, payload_in, payloads_from, is_of_tables, tables_from}

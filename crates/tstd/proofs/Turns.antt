@@ -14,7 +14,9 @@ use Rattle.unit_timing.specs.Schedule.{Packet}
 use Rattle.tstd.specs.declared.fullness.StreamFullness.{StreamFullness}
 use Rattle.tstd.specs.declared.fullness.SystemFullness.{SystemFullness}
 use Rattle.tstd.specs.declared.fullness.LateUnit.{LateUnit}
-use Rattle.tstd.specs.Carried.{units_of, texts_of, timed_texts, packets_on, payloads_on, table_packets, carries}
+use Rattle.pes_packet.specs.Units.{units_of, texts_of}
+use Rattle.ts_packet.specs.Contents.{payloads_on}
+use Rattle.tstd.specs.Carried.{timed_texts, packets_on, table_packets, carries}
 use Rattle.tstd.specs.Fitting.{fits_of}
 use Rattle.tstd.specs.Listing.{packets_from, payloads_from, tables_from}
 use Rattle.tstd.specs.Measured.{IsStreamFullness, IsSystemFullness, late_of, late_or, late_from}

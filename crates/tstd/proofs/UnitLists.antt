@@ -9,7 +9,8 @@ use Rattle.pes_packet.specs.AccessUnits.{AccessUnit}
 use Rattle.pes_packet.specs.Spelling.{unit_text}
 use Rattle.unit_timing.specs.Arrived.{is_due, has_left, first_late}
 use Rattle.unit_timing.specs.PesPacket.{PesPacket}
-use Rattle.tstd.specs.Carried.{units_of, timed_texts}
+use Rattle.pes_packet.specs.Units.{units_of}
+use Rattle.tstd.specs.Carried.{timed_texts}
 
 -- an entry of the stream, with its stamp and the size of its PES packet
 pub texts_own : (id base0 stream i due size : ℕ) (units : List (ℕ × AccessUnit)) (u : ℕ × AccessUnit) → i < length units → u ≡ get_or units i u → (u.0 == stream) ≡ true →

@@ -8,7 +8,8 @@ use Rattle.ts_packet.specs.declared.packet.PacketError.{PacketError}
 use Rattle.ts_packet.specs.Views.{PacketView}
 use Rattle.ts_packet.specs.Reading.{packet_at}
 use Rattle.ts_packet.specs.PidList.{cut_packets}
-use Rattle.tstd.specs.Carried.{units_of, carries}
+use Rattle.pes_packet.specs.Units.{units_of}
+use Rattle.tstd.specs.Carried.{carries}
 use Rattle.tstd.specs.declared.refusal.MeasureError.{MeasureError}
 use Rattle.tstd.specs.declared.refusal.MeasureError.TheVariants.{Length, Packet, Carried, Memory}
 

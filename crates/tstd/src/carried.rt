@@ -4,7 +4,7 @@ ghost use Rattle.std.specs.List.{starts_with, concat, list_all};
 ghost use Rattle.pes_packet.specs.Spelling.{header_text, unit_text};
 ghost use Rattle.pes_packet.specs.StreamIds.{fits_packet};
 ghost use Rattle.tstd.specs.Agreeing.{bytes_ahead};
-ghost use Rattle.tstd.specs.Carried.{units_of, texts_of};
+ghost use Rattle.pes_packet.specs.Units.{units_of, texts_of};
 ghost use Rattle.tstd.specs.Fitting.{fits_of};
 ghost use Rattle.tstd.specs.Listing.{payloads_from};
 

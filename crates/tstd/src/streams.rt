@@ -1,7 +1,8 @@
 //! The two buffers of a stream.
 ghost use Rattle.std.specs.Prelude.{◌≡◌, ◌*◌, ◌<◌, ◌≤◌, ◌^◌, length, IfOk, sum_by};
 ghost use Rattle.description.specs.Ranges.{IsStream};
-ghost use Rattle.tstd.specs.Carried.{units_of, timed_texts};
+ghost use Rattle.pes_packet.specs.Units.{units_of};
+ghost use Rattle.tstd.specs.Carried.{timed_texts};
 ghost use Rattle.tstd.specs.Listing.{packets_from};
 ghost use Rattle.tstd.specs.Measured.{IsStreamFullness, late_of};
 

@@ -3,7 +3,8 @@ ghost use Rattle.std.specs.Prelude.{◌≡◌, ℕ, ◌==◌, ◌+◌, ◌<◌, 
 ghost use Rattle.std.specs.Option.{option_or};
 ghost use Rattle.pes_packet.specs.Spelling.{on_wire, unit_text};
 ghost use Rattle.unit_timing.specs.Arrived.{first_late};
-ghost use Rattle.tstd.specs.Carried.{units_of, timed_texts};
+ghost use Rattle.pes_packet.specs.Units.{units_of};
+ghost use Rattle.tstd.specs.Carried.{timed_texts};
 ghost use Rattle.tstd.specs.Entering.{most_of};
 ghost use Rattle.tstd.specs.Keeping.{IsSound};
 ghost use Rattle.tstd.specs.Walking.{left_ahead, longest_of};

@@ -5,7 +5,7 @@ use Rattle.ts_packet.specs.Views.{PacketView}
 use Rattle.ts_packet.specs.Reading.{packet_at}
 use Rattle.ts_packet.specs.PidList.{is_of_pid}
 use Rattle.unit_timing.specs.Schedule.{Packet}
-use Rattle.tstd.specs.Carried.{payload_of}
+use Rattle.ts_packet.specs.Contents.{payload_of}
 
 -- the size of the payload that a packet carries on a PID, if it is one of that PID
 unfoldable pub size_in : ℕ → Result PacketView PacketError → Option ℕ

@@ -1,7 +1,7 @@
 use Rattle.std.proofs.Common.{◌≡◌, nat_eq, drop}
 use Rattle.std.specs.List.{starts_with, concat}
 use Rattle.tstd.specs.Agreeing.{bytes_ahead}
-use Rattle.tstd.specs.Carried.{units_of, texts_of}
+use Rattle.pes_packet.specs.Units.{units_of, texts_of}
 use Rattle.tstd.specs.Listing.{payloads_from}
 use Rattle.tstd.proofs.carried.carries.Given as goal
 

@@ -1,7 +1,8 @@
 use Rattle.std.proofs.Common.{◌≡◌, ◌∙◌, ◌+◌, ◌<◌, ◌≤◌, ◌∷◌, [], drop, arith, sym, length, get_or}
 use Rattle.std.proofs.lemmas.Bool.{and_parts}
 use Rattle.std.proofs.lemmas.List.{length-append}
-use Rattle.tstd.specs.Carried.{units_of, carries}
+use Rattle.pes_packet.specs.Units.{units_of}
+use Rattle.tstd.specs.Carried.{carries}
 use Rattle.tstd.specs.Listing.{packets_from}
 use Rattle.tstd.specs.Refusals.{all_carried}
 use Rattle.tstd.proofs.Turns.{streams_next, carried_next, late_step, late_done, late_same, full_same, enough}

@@ -2,7 +2,8 @@ use Rattle.std.proofs.Common.{◌≡◌, ℕ, length, slice_get, Some, drop, tru
 use Rattle.std.specs.Option.{option_or}
 use Rattle.description.specs.Described.{DescribedStream}
 use Rattle.tstd.specs.declared.fullness.StreamFullness.{StreamFullness}
-use Rattle.tstd.specs.Carried.{packets_on, units_of}
+use Rattle.pes_packet.specs.Units.{units_of}
+use Rattle.tstd.specs.Carried.{packets_on}
 use Rattle.tstd.specs.Measured.{IsStreamFullness, late_from, late_unit}
 use Rattle.tstd.specs.Refusals.{all_carried}
 use Rattle.tstd.proofs.rounds.measure_streams.Given as goal

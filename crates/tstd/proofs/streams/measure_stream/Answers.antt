@@ -6,7 +6,8 @@ use Rattle.clock27.specs.Peak.{IsPeak}
 use Rattle.clock27.proofs.Peaking.{arrivals_climb}
 use Rattle.unit_timing.specs.Transport.{slots_of, text_left}
 use Rattle.unit_timing.proofs.Topping.{main_peak_law}
-use Rattle.tstd.specs.Carried.{units_of, timed_texts}
+use Rattle.pes_packet.specs.Units.{units_of}
+use Rattle.tstd.specs.Carried.{timed_texts}
 use Rattle.tstd.specs.Listing.{packets_from}
 use Rattle.tstd.specs.Measured.{tb_fullness}
 use Rattle.tstd.specs.Queues.{longest_stay}

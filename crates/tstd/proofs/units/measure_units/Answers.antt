@@ -1,7 +1,8 @@
 use Rattle.std.proofs.Common.{◌≡◌, ◌∙◌, ℕ, ◌+◌, ◌≤◌, ◌==◌, ◌∷◌, true, false, length, drop, arith, ap, sym}
 use Rattle.unit_timing.specs.Arrived.{first_late}
 use Rattle.unit_timing.specs.PesPacket.{PesPacket}
-use Rattle.tstd.specs.Carried.{units_of, timed_texts}
+use Rattle.pes_packet.specs.Units.{units_of}
+use Rattle.tstd.specs.Carried.{timed_texts}
 use Rattle.tstd.specs.Entering.{most_of}
 use Rattle.tstd.specs.Walking.{left_ahead}
 use Rattle.tstd.proofs.UnitLists.{texts_own, texts_other, texts_end, late_more, late_end, size_next, fewer_left}

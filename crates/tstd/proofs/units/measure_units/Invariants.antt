@@ -1,7 +1,8 @@
 use Rattle.std.proofs.Common.{◌≡◌, ℕ, ◌≤◌, length, drop, sum_by}
 use Rattle.std.specs.Option.{option_or}
 use Rattle.unit_timing.specs.Arrived.{first_late}
-use Rattle.tstd.specs.Carried.{units_of, timed_texts}
+use Rattle.pes_packet.specs.Units.{units_of}
+use Rattle.tstd.specs.Carried.{timed_texts}
 use Rattle.tstd.specs.Entering.{most_of}
 use Rattle.tstd.specs.Keeping.{IsSound}
 use Rattle.tstd.specs.Walking.{left_ahead, longest_of}

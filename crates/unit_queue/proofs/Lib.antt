@@ -1,0 +1,6 @@
+pub mod Waiting
+pub mod Leftover
+pub mod Stepping
+pub mod Judging
+pub mod Holding
+pub mod Carrying

@@ -1,0 +1,5 @@
+use Rattle.unit_queue.proofs.laws.other_slot.Goals as goal
+use Rattle.unit_queue.proofs.Holding.{other_slot_law}
+
+pub returns : goal.returns
+returns c = other_slot_law

@@ -1,0 +1,68 @@
+-- Why a unit is refused: one ordered list, of which the first cause is given.
+use Rattle.std.specs.Prelude.{ℕ, ◌+◌, ◌-◌, ◌^◌, ◌==◌, ◌||◌, nat_lt, nat_le, Bool, if◌then◌else◌, Option, Some, None, Result, Ok, Err, List, length, map}
+use Rattle.clock27.specs.Release.{release}
+use Rattle.pes_packet.specs.AccessUnits.{AccessUnit}
+use Rattle.unit_timing.specs.PesPacket.{next_due, last_packets}
+use Rattle.unit_queue.specs.Lanes.{Lane, timed, packet_count}
+use Rattle.unit_queue.specs.Places.{left_before}
+use Rattle.unit_queue.specs.declared.refusal.FeedError.{FeedError}
+use Rattle.unit_queue.specs.declared.refusal.FeedError.TheVariants.{Empty, TooLarge, TooSoon, BadPts, Late, TooFar, Full, Group}
+
+-- the first of two causes
+unfoldable pub or_cause : Option FeedError → Option FeedError → Option FeedError
+or_cause (Some cause) next = Some cause
+or_cause None next = next
+
+-- the PTS is before the DTS, or more than a second after it
+abbrev pub is_bad_pts : ℕ → ℕ → Bool
+is_bad_pts dts pts = nat_lt pts dts || nat_lt (dts + 90_000) pts
+
+-- of the unit by itself and its distance from the one before: it has at most `largest` bytes, and no DTS below `earliest` is accepted
+unfoldable pub own_cause : ℕ → ℕ → AccessUnit → Option FeedError
+own_cause largest earliest u =
+    if length u.bytes == 0 then Some Empty
+    else (if nat_lt largest (length u.bytes) then Some TooLarge
+    else (if nat_lt u.dts earliest then Some TooSoon
+    else (if is_bad_pts u.dts u.pts then Some BadPts
+    else None)))
+
+-- of its time
+unfoldable pub time_cause : Bool → ℕ → Option FeedError
+time_cause late dts = if late then Some Late else (if nat_lt (2 ^ 52) dts then Some TooFar else None)
+
+-- of the room for it, and of its group
+unfoldable pub room_cause : Bool → Bool → Option FeedError
+room_cause full over = if full then Some Full else (if over then Some Group else None)
+
+-- the whole list
+abbrev pub first_cause : ℕ → ℕ → Bool → Bool → Bool → AccessUnit → Option FeedError
+first_cause largest earliest late full over u = or_cause (own_cause largest earliest u) (or_cause (time_cause late u.dts) (room_cause full over))
+
+-- the DTS is before the lead, or the slot of the unit's release is written
+abbrev pub is_late : Lane → ℕ → AccessUnit → Bool
+is_late l slots u = nat_lt u.dts l.rules.lead || nat_lt (release l.rules.rate l.rules.lead u.dts) slots
+
+-- `capacity` units are not sent whole
+abbrev pub is_full : Lane → ℕ → ℕ → List AccessUnit → Bool
+is_full l slots capacity us = nat_le capacity (length (left_before l slots us).units)
+
+-- its packets and those of the units before it in its group are more than the stream declares
+abbrev pub exceeds_group : Lane → List AccessUnit → AccessUnit → Bool
+exceeds_group l us u = nat_lt l.rules.group_packets (last_packets (l.rules.group - 1) (map (timed l) us) + packet_count l u)
+
+-- the least DTS of the next unit
+abbrev pub earliest_of : Lane → List AccessUnit → ℕ
+earliest_of l us = next_due l.rules.interval 0 (map (timed l) us)
+
+-- why a stream that has accepted these units, with so many slots written, refuses a further one
+abbrev pub unit_cause : Lane → ℕ → ℕ → List AccessUnit → AccessUnit → Option FeedError
+unit_cause l slots capacity us u = first_cause l.rules.size (earliest_of l us) (is_late l slots u) (is_full l slots capacity us) (exceeds_group l us u) u
+
+-- why a call refused a unit, none where it accepted it
+abbrev pub refusal : {V W : Type 0} → Result V (FeedError × W) → Option FeedError
+refusal (Ok x) = None
+refusal (Err e) = Some e.0
+
+abbrev pub error_of : {V : Type 0} → Result V FeedError → Option FeedError
+error_of (Ok x) = None
+error_of (Err cause) = Some cause

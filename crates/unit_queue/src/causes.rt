@@ -1,0 +1,66 @@
+//! The causes of a refusal, in their order.
+
+ghost use Rattle.std.specs.Prelude.{◌≡◌};
+ghost use Rattle.unit_queue.specs.Causes.{is_bad_pts, own_cause, time_cause, room_cause};
+
+use crate::refusal::FeedError;
+use pes_packet::Unit;
+use std::alloc::Allocator;
+
+// No DTS over this is accepted.
+const LAST_DTS: u64 = 1 << 52;
+
+/// The first cause that lies in the unit by itself and in its distance from the one before: it has 1 to `largest` bytes,
+/// its DTS is `earliest` or later, and its PTS at most 90,000 after its DTS.
+#[tactic(auto, unfolding(crate::specs::Causes::own_cause))]
+pub fn own_cause<A: Allocator>(largest: usize, earliest: u64, unit: &Unit<A>) -> Option<FeedError>
+    ensures { result ≡ own_cause largest earliest unit.now }
+{
+    let size = unit.bytes.len();
+    if size == 0 {
+        Some(FeedError::Empty)
+    } else if size > largest {
+        Some(FeedError::TooLarge)
+    } else if unit.dts < earliest {
+        Some(FeedError::TooSoon)
+    } else if is_bad_pts(unit.dts, unit.pts) {
+        Some(FeedError::BadPts)
+    } else {
+        None
+    }
+}
+
+/// The first cause that lies in its time: it is late, or its DTS is over 2^52.
+#[tactic(auto, unfolding(crate::specs::Causes::time_cause))]
+pub fn time_cause(late: bool, dts: u64) -> Option<FeedError>
+    ensures { result ≡ time_cause late dts }
+{
+    if late {
+        Some(FeedError::Late)
+    } else if dts > LAST_DTS {
+        Some(FeedError::TooFar)
+    } else {
+        None
+    }
+}
+
+/// The first cause that lies in the room for it: the queue is full, or the unit's group has too many packets.
+#[tactic(auto, unfolding(crate::specs::Causes::room_cause))]
+pub(crate) fn room_cause(full: bool, over: bool) -> Option<FeedError>
+    ensures { result ≡ room_cause full over }
+{
+    if full {
+        Some(FeedError::Full)
+    } else if over {
+        Some(FeedError::Group)
+    } else {
+        None
+    }
+}
+
+// Whether the PTS is before the DTS, or more than a second after it.
+fn is_bad_pts(dts: u64, pts: u64) -> bool
+    ensures { result ≡ is_bad_pts dts pts }
+{
+    pts < dts || pts - dts > 90_000
+}

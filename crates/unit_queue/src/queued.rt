@@ -1,0 +1,121 @@
+//! A unit that waits.
+
+ghost use Rattle.std.specs.Prelude.{◌≡◌, ◌≤◌, ◌<◌, ◌+◌, ◌-◌, ◌++◌, ◌==◌, ◌||◌, ◌^◌, nat_lt, true, length, take, drop};
+ghost use Rattle.arrayvec.specs.ArrayVec.{array_vec_len};
+ghost use Rattle.pes_packet.specs.Payloads.{piece_count};
+ghost use Rattle.ts_packet.specs.Contents.{packet_of};
+ghost use Rattle.unit_queue.specs.Queues.{Queued};
+ghost use Rattle.unit_queue.specs.Steps.{rest_of, some_bytes};
+
+use arrayvec::ArrayVec;
+use pes_packet::Unit;
+use std::alloc::Allocator;
+use std::marker::Model;
+use ts_packet::{null_packet, write_payload};
+
+/// The most bytes of a payload.
+pub(crate) const PAYLOAD: usize = 184;
+
+/// A unit that is not sent whole, with the slot of its release and its PES header, which are made once.
+#[derive(Drop)]
+pub(crate) struct QueuedUnit<A: Allocator> {
+    pub release: u64,
+    header: ArrayVec<u8, 19>,
+    bytes: Vec<u8, A>,
+}
+
+impl<A: Allocator> Model for QueuedUnit<A> {
+    ghost use Rattle.unit_queue.specs.Queues.{Queued};
+
+    ghost Value = { Queued };
+
+    ghost view = { λ unit. record { release = unit.release; header = unit.header.items; bytes = unit.bytes.items } };
+}
+
+impl<A: Allocator> QueuedUnit<A> {
+    /// A unit with the slot of its release and its header.
+    pub fn new(release: u64, header: ArrayVec<u8, 19>, unit: Unit<A>) -> QueuedUnit<A>
+        ensures { result ≡ record { release = release; header = header.items; bytes = unit.bytes } }
+    {
+        QueuedUnit {
+            release,
+            header,
+            bytes: unit.bytes,
+        }
+    }
+
+    /// The packet of the piece after the first `sent` bytes of the PES packet, and whether further pieces follow it.
+    pub fn piece(&self, pid: u16, counter: u8, sent: usize) -> ([u8; 188], bool)
+        requires pid { pid < 2 ^ 13 }
+        ensures packet { result.0 ≡ packet_of (some_bytes pid counter (sent == 0) (take 184 (rest_of self.now sent))) }
+        ensures more { result.1 ≡ nat_lt 184 (length (rest_of self.now sent)) }
+        ensures within { result.1 ≡ true → sent + 184 < 2 ^ 64 }
+    {
+        let size = self.header.len();
+        if sent < size {
+            let first = self.first_payload(sent);
+            let more = size - sent + self.bytes.len() > PAYLOAD;
+            (payload_packet(pid, counter, sent == 0, &first), more)
+        } else {
+            let rest = self.bytes_from(sent - size);
+            let (payload, _) = rest.split_at(rest.len().min(PAYLOAD));
+            (
+                payload_packet(pid, counter, sent == 0, payload),
+                rest.len() > PAYLOAD,
+            )
+        }
+    }
+
+    // The bytes of the unit from one on.
+    #[tactic(auto, using(std::proofs::lemmas::List::drop_min))]
+    fn bytes_from(&self, start: usize) -> &[u8]
+        ensures { result.now ≡ drop start self.now.bytes }
+    {
+        let (_, rest) = self.bytes.split_at(start.min(self.bytes.len()));
+        rest
+    }
+
+    // A payload that begins in the header.
+    fn first_payload(&self, sent: usize) -> ArrayVec<u8, 184>
+        requires { sent < length self.now.header }
+        ensures { result.items ≡ take 184 (rest_of self.now sent) }
+    {
+        let (_, header) = self.header.split_at(sent);
+        let room = PAYLOAD - header.len();
+        let (front, _) = self.bytes.split_at(self.bytes.len().min(room));
+        let mut payload = ArrayVec::new();
+        append(&mut payload, header);
+        append(&mut payload, front);
+        payload
+    }
+}
+
+/// The packets that so many bytes fill.
+pub(crate) fn packet_count(size: usize) -> u64
+    requires { size < 2 ^ 63 }
+    ensures { result ≡ piece_count size }
+{
+    size.div_ceil(PAYLOAD) as u64
+}
+
+// Appends bytes for which there is room.
+fn append(payload: &mut ArrayVec<u8, 184>, bytes: &[u8])
+    requires { array_vec_len payload.old + length bytes.now ≤ 184 }
+    ensures items { payload.new.items ≡ payload.old.items ++ bytes.now }
+    ensures len { array_vec_len payload.new ≡ array_vec_len payload.old + length bytes.now }
+{
+    let _ = payload.try_extend_from_slice(bytes);
+}
+
+// The packet of a payload, the null packet where it has no bytes.
+#[tactic(auto, unfolding(crate::specs::Steps::some_bytes, ts_packet::specs::Contents::packet_of))]
+fn payload_packet(pid: u16, counter: u8, start: bool, payload: &[u8]) -> [u8; 188]
+    requires pid { pid < 2 ^ 13 }
+    requires most { length payload.now ≤ 184 }
+    ensures { result ≡ packet_of (some_bytes pid counter start payload.now) }
+{
+    if payload.is_empty() {
+        return null_packet();
+    }
+    write_payload(pid, start, counter % 16, payload)
+}
