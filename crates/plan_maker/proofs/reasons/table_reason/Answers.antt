@@ -1,0 +1,10 @@
+use Rattle.std.proofs.Common.{arith}
+use Rattle.plan_checker.proofs.Counts.{few_tables}
+use Rattle.plan_checker.proofs.Rounds.{few_places}
+use Rattle.plan_maker.proofs.reasons.table_reason.Goals as goal
+
+pub overflow_cast-t : goal.overflow_cast-t
+overflow_cast-t c = record { fits = omega (arith, few_tables c.args.description.now c.keeps_ranges.ensures) }
+
+pub least_limit-requires : goal.least_limit-requires
+least_limit-requires c = omega (arith, few_places c.args.description.now c.keeps_ranges.ensures c.args.t, c.round_places-places.ensures)
