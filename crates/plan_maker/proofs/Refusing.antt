@@ -24,7 +24,7 @@ use Rattle.slot_plan.specs.Conditions.{IsServing, stream_claim, pcr_gap_entry, t
 use Rattle.slot_plan.proofs.Holding.{holds_at, holds_item, holds_first, at_most_holds}
 use Rattle.slot_plan.proofs.Serving.{serves}
 use Rattle.plan_checker.proofs.Marking.{length_marks}
-use Rattle.plan_maker.specs.declared.reasons.Reason.{Reason}
+use Rattle.plan_maker.specs.declared.reasoning.Reason.{Reason}
 use Rattle.plan_maker.specs.Reasons.{pcr_reason, table_reason, drain_reason, pcr_reasons, table_reasons, drain_reasons, reasons_of, ReasonLaw}
 
 -- ---- lists of reasons
@@ -47,16 +47,16 @@ not_less a b le = grind (arith, nat_tests)
 
 -- ---- gaps
 
+own_before_none : (f : ℕ → Bool) → own_before f 0 ≡ 0
+unfolding own_before
+own_before_none f = refl
+
 few_before : (f : ℕ → Bool) (s : ℕ) → own_before f s ≤ s
-few_before f s = all f s
-  where
-    all : (f : ℕ → Bool) (s : ℕ) → own_before f s ≤ s
-    unfolding own_before
-    all f zero = omega arith
-    all f (suc s) = elim (cases_Bool (f s)) [
-      | inl y ↦ omega (arith, all f s, own_before_own f s y)
-      | inr n ↦ omega (arith, all f s, own_before_other f s n)
-    ]
+few_before f zero = omega (arith, own_before_none f)
+few_before f (suc s) = elim (cases_Bool (f s)) [
+  | inl y ↦ omega (arith, few_before f s, own_before_own f s y)
+  | inr n ↦ omega (arith, few_before f s, own_before_other f s n)
+]
 
 -- k own slots on end take at least k slots
 least_gap : (marks : List Bool) (k : ℕ) → 0 < per_period marks → k ≤ gap marks k
@@ -65,10 +65,6 @@ least_gap marks k pos = omega (arith, gap_law marks k (gap marks k) pos (omega a
 -- ---- work
 
 -- a period's work is at least what its packets bring, less what its slots drain
-own_before_none : (f : ℕ → Bool) → own_before f 0 ≡ 0
-unfolding own_before
-own_before_none f = refl
-
 own_here : (marks : List Bool) (s : ℕ) (b : Bool) → s < length marks → get_or marks s false ≡ b → own marks s ≡ b
 own_here marks s b lt is = let e : s % length marks ≡ s = mod-eq_of_lt lt in ap (λ (i : ℕ). get_or marks i false) e ∙ is
 

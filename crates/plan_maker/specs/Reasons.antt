@@ -7,8 +7,8 @@ use Rattle.description.specs.Tables.{table_kinds, table_limit, round_places}
 use Rattle.slot_plan.specs.Numbered.{numbered}
 use Rattle.slot_plan.specs.Planned.{Planned}
 use Rattle.slot_plan.specs.Conditions.{IsServing}
-use Rattle.plan_maker.specs.declared.reasons.Reason.{Reason}
-use Rattle.plan_maker.specs.declared.reasons.Reason.TheVariants.{PcrLimit, TableLimit, SlowDrain}
+use Rattle.plan_maker.specs.declared.reasoning.Reason.{Reason}
+use Rattle.plan_maker.specs.declared.reasoning.Reason.TheVariants.{PcrLimit, TableLimit, SlowDrain}
 
 -- the least limit in ms within which so many slots of 1,504 bits come
 abbrev pub least_limit : Described → ℕ → ℕ

@@ -2,7 +2,7 @@
 #![tactic(auto)]
 
 mod making;
-mod reasons;
+mod reasoning;
 
 // The plain plan.
 mod ordering;
@@ -20,7 +20,7 @@ mod spread;
 mod work;
 
 pub use making::{MakeError, make};
-pub use reasons::{Reason, no_plan_serves, reasons};
+pub use reasoning::{Reason, no_plan_serves, reasons};
 
 #[cfg(test)]
 mod tests;

@@ -1,6 +1,6 @@
 //! Plans made for worked and for full services; refused memory.
 
-use crate::{MakeError, make};
+use crate::{MakeError, Reason, make, reasons};
 use linked_list_allocator::LocalHeap;
 use plan_checker::CheckedPlan;
 use slot_plan::{Description, Plan, Slot};
@@ -63,22 +63,28 @@ fn described(alloc: Global, text: &str) -> Result<Description, Fail> {
     }
 }
 
-/// A radio service of so many programs at that rate, with two streams of 256 kbit/s each.
+/// A radio service of so many programs at that rate, each with two streams of a unit of 768 bytes every 24 ms.
 fn radio(alloc: Global, programs: usize, rate: u32) -> Result<Description, Fail> {
+    let head = format!(in alloc; "rate = {rate}\nstart = \"1993-10-13T12:45:00\"\nts_id = 1\n")?;
     let mut text = String::new(alloc);
-    write!(text; "rate = {rate}\nstart = \"1993-10-13T12:45:00\"\nts_id = 1\n")?;
-    write!(text; "original_network_id = 1\nsdt = true\ntdt = true\n")?;
+    text.push_str(head.as_str())?;
+    text.push_str("original_network_id = 1\nsdt = true\ntdt = true\n")?;
     for program in 0..programs {
         let number = program.saturating_add(1);
-        let pmt = number.saturating_add(4_095);
-        let pcr = number.saturating_add(1_023);
-        write!(text; "[[program]]\nnumber = {number}\npmt_pid = {pmt}\npcr_pid = {pcr}\n")?;
-        write!(text; "service_type = 2\nname = \"A\"\n")?;
-        for second in 0..2usize {
-            let pid = number.saturating_add(2_047).saturating_add(second.saturating_mul(32));
-            write!(text; "[[stream]]\nprogram = {number}\npid = {pid}\nid = 192\ntype = 3\n")?;
-            write!(text; "interval = 2160\nsize = 768\nlead = 4300\n")?;
-        }
+        let pmt = program.saturating_add(4_096);
+        let pcr = program.saturating_add(1_024);
+        let lines = format!(in alloc;
+            "[[program]]\nnumber = {number}\npmt_pid = {pmt}\npcr_pid = {pcr}\nservice_type = 2\nname = \"A\"\n"
+        )?;
+        text.push_str(lines.as_str())?;
+    }
+    for stream in 0..programs.saturating_mul(2) {
+        let number = (stream / 2).saturating_add(1);
+        let pid = stream.saturating_add(2_048);
+        let lines = format!(in alloc;
+            "[[stream]]\nprogram = {number}\npid = {pid}\nid = 192\ntype = 3\ninterval = 2160\nsize = 768\nlead = 4300\n"
+        )?;
+        text.push_str(lines.as_str())?;
     }
     described(alloc, text.as_str())
 }
@@ -91,7 +97,7 @@ fn used<A: Allocator>(plan: &Plan<A>) -> usize {
 fn found(alloc: Global, description: Description) -> Result<CheckedPlan, Fail> {
     match make(alloc, description) {
         Ok(checked) => Ok(checked),
-        Err((error, _)) => Err(Fail::from(error)),
+        Err(_) => Err(Fail::from("no plan")),
     }
 }
 
@@ -111,8 +117,7 @@ fn too_many_units(rt: HostRuntime) -> Result<(), Fail> {
     };
     assert_eq!(rt; error, MakeError::NotFound);
     assert_eq!(rt; error.code(), 1);
-    let stream = description.streams().first().ok_or(Fail::from("no stream"))?;
-    assert_eq!(rt; stream.interval, 1);
+    assert_eq!(rt; description.streams().len(), 1);
     Ok(())
 }
 
@@ -130,7 +135,7 @@ fn full_service(rt: HostRuntime) -> Result<(), Fail> {
     let checked = found(rt.alloc(), radio(rt.alloc(), 4, 3_600_000)?)?;
     let slots = checked.plan().slots().len();
     let used = used(checked.plan());
-    assert!(rt; used * 10 >= slots * 9, "{used} of {slots} slots");
+    assert!(rt; used.saturating_mul(10) >= slots.saturating_mul(9), "{used} of {slots} slots");
     Ok(())
 }
 
@@ -165,6 +170,50 @@ fn refused_memory(rt: HostRuntime) -> Result<(), Fail> {
                 refused = refused.saturating_add(1);
                 description = back;
             }
+        }
+    }
+    Err(Fail::from("never enough memory"))
+}
+
+/// Numbers that no plan can keep, with the least ones that stand in its way no more.
+#[test]
+fn reasons_of_descriptions(rt: HostRuntime) -> Result<(), Fail> {
+    for (interval, reason) in [
+        ("interval = 2160", None),
+        (
+            "interval = 1",
+            Some(Reason::SlowDrain(0, 541_440_000)),
+        ),
+        (
+            "interval = 270",
+            Some(Reason::SlowDrain(0, 2_005_334)),
+        ),
+        ("interval = 271", None),
+    ] {
+        let description = with_stream(rt.alloc(), interval)?;
+        let reasons = reasons(rt.alloc(), &description)?;
+        assert_eq!(rt; reasons.first().copied(), reason, "{interval}");
+    }
+    let slow = radio(rt.alloc(), 1, 100_000)?;
+    let found = reasons(rt.alloc(), &slow)?;
+    assert_eq!(rt; found.len(), 0);
+    Ok(())
+}
+
+/// Memory for reasons refused by heaps of rising sizes, until there is enough.
+#[test]
+fn refused_reasons(rt: HostRuntime) -> Result<(), Fail> {
+    let description = with_stream(rt.alloc(), "interval = 1")?;
+    let mut refused: usize = 0;
+    for blocks in 0..64usize {
+        let heap = LocalHeap::new(rt.alloc(), blocks * 16 + 64)?;
+        match reasons(&heap, &description) {
+            Ok(found) => {
+                assert_eq!(rt; found.len(), 1);
+                assert!(rt; refused > 0, "never refused");
+                return Ok(());
+            }
+            Err(_) => refused = refused.saturating_add(1),
         }
     }
     Err(Fail::from("never enough memory"))

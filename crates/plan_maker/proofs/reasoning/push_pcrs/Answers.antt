@@ -1,7 +1,7 @@
 use Rattle.std.proofs.Common.{◌≡◌, ◌<◌, ◌≤◌, ◌++◌, length, get_or}
 use Rattle.plan_maker.specs.Reasons.{pcr_reason}
 use Rattle.plan_maker.proofs.Items.{parts_pushed, all_parts_pushed}
-use Rattle.plan_maker.proofs.reasons.push_pcrs.Goals as goal
+use Rattle.plan_maker.proofs.reasoning.push_pcrs.Goals as goal
 
 pub loop-i-preserved : goal.loop-i-preserved
 loop-i-preserved g c =

@@ -2,7 +2,7 @@ use Rattle.std.proofs.Common.{◌<◌, ◌≤◌, ◌++◌, length, rules}
 use Rattle.description.specs.Tables.{table_kinds}
 use Rattle.plan_maker.specs.Reasons.{table_reason}
 use Rattle.plan_maker.proofs.Items.{number_parts_pushed, all_parts_pushed}
-use Rattle.plan_maker.proofs.reasons.push_tables.Goals as goal
+use Rattle.plan_maker.proofs.reasoning.push_tables.Goals as goal
 
 pub loop-t-preserved : goal.loop-t-preserved
 loop-t-preserved g c =
