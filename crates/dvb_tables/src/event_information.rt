@@ -14,7 +14,8 @@ use crate::event_loop::EventLoop;
 use arrayvec::ArrayVec;
 use bit_fields::append;
 use psi_tables::{
-    GREATEST_LENGTH, LongHeader, Section, SectionError, SectionHeader, WriteError, begin_section, end_section, table_header_at, to_vec,
+    GREATEST_LENGTH, LongHeader, Section, SectionError, SectionHeader, WriteError, begin_section,
+    end_section, table_header_at, to_vec,
 };
 use std::alloc::Allocator;
 

@@ -14,7 +14,8 @@ use crate::transport_stream::TransportStreams;
 use arrayvec::ArrayVec;
 use bit_fields::append;
 use psi_tables::{
-    GREATEST_TABLE_LENGTH, LongHeader, Section, SectionError, SectionHeader, WriteError, begin_section, end_section, entry_at, table_header_at, to_vec,
+    GREATEST_TABLE_LENGTH, LongHeader, Section, SectionError, SectionHeader, WriteError,
+    begin_section, end_section, entry_at, table_header_at, to_vec,
 };
 use std::alloc::Allocator;
 

@@ -107,7 +107,19 @@ fn refusals_are_numbered(rt: HostRuntime) {
 
 // How many bytes the table of fields gives a header of at least nine bytes, or its refusal.
 fn rule(bytes: &[u8]) -> Result<usize, PesError> {
-    let [0x00, 0x00, 0x01, id, high, low, first, second, count, data @ ..] = bytes else {
+    let [
+        0x00,
+        0x00,
+        0x01,
+        id,
+        high,
+        low,
+        first,
+        second,
+        count,
+        data @ ..,
+    ] = bytes
+    else {
         return Err(PesError::Prefix);
     };
     if matches!(*id, 0xbc | 0xbe | 0xbf | 0xf0 | 0xf1 | 0xf2 | 0xf8 | 0xff) {

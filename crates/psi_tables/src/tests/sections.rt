@@ -2,9 +2,8 @@
 
 use crate::tests::vectors::{PAT, PMT, SDT, TDT};
 use crate::{
-    LongHeader, Section, SectionError, SectionHeader, WriteError, begin_section,
-    check_word, check_word_ends, end_section, longer_reads_the_same, sections_are_read_again,
-    to_vec,
+    LongHeader, Section, SectionError, SectionHeader, WriteError, begin_section, check_word,
+    check_word_ends, end_section, longer_reads_the_same, sections_are_read_again, to_vec,
 };
 use arrayvec::ArrayVec;
 use bit_fields::append;
