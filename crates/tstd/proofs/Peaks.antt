@@ -8,13 +8,13 @@ use Rattle.clock27.specs.Arrival.{bytes_from, arrivals}
 use Rattle.clock27.specs.Departure.{departures}
 use Rattle.clock27.specs.Fullness.{fullness}
 use Rattle.clock27.specs.Peak.{IsPeak, Climbs, found, most_found}
-use Rattle.clock27.proofs.Holding.{held_le}
+use Rattle.clock27.proofs.Holding.{fullness_le}
 use Rattle.clock27.proofs.Peaking.{peak_law, arrivals_climb, departures_climb}
 use Rattle.clock27.proofs.Leaving.{length-departures}
 use Rattle.tstd.specs.declared.queue.Queue.{Queue}
 use Rattle.tstd.specs.declared.fullness.SystemFullness.{SystemFullness}
 use Rattle.tstd.specs.Measured.{IsSystemFullness}
-use Rattle.tstd.specs.Queues.{all_arrived, longest_stay, bytes_within}
+use Rattle.tstd.specs.State.Queues.{all_arrived, longest_stay, bytes_within}
 use Rattle.tstd.proofs.Climbing.{climbs_low}
 use Rattle.tstd.proofs.Passing.{passed-longest}
 use Rattle.tstd.proofs.Rows.{length-row}
@@ -53,7 +53,7 @@ stay_peak step longest ts pos climbs is = rw (is, most_stays step 0 ts pos) (pea
 
 -- no more bytes are there than have arrived
 pub peak_few : (most : ℕ) (ts ds : List ℕ) → IsPeak (λ x. fullness x ts ds) most → most ≤ length ts
-peak_few most ts ds peak = omega (arith, peak.reached, held_le peak.moment ts ds)
+peak_few most ts ds peak = omega (arith, peak.reached, fullness_le peak.moment ts ds)
 
 -- of bytes that have passed an empty buffer
 pub own_before_stay : (step : ℕ) (q : Queue) (ts : List ℕ) → q ≡ all_arrived (record { step = step; last = 0; longest = 0 }) ts → q.longest ≡ longest_stay step 0 ts

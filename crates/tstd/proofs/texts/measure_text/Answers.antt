@@ -1,6 +1,6 @@
 use Rattle.std.proofs.Common.{◌≡◌, ◌∙◌, ◌∷◌, arith}
 use Rattle.unit_timing.specs.PesPacket.{PesPacket}
-use Rattle.tstd.specs.Gone.{gone}
+use Rattle.tstd.specs.State.Gone.{gone}
 use Rattle.tstd.proofs.Takings.{most_begun}
 use Rattle.tstd.proofs.texts.measure_text.Goals as goal
 
@@ -9,17 +9,17 @@ returns-then-is_due-clause-most g c = λ texts.
     let e = c.take_text-whole.ensures in
     let b = c.in_ok-begin.ensures in
     let walk = c.args.walk.now in
-    let text : PesPacket = record { dts = c.args.dts; size = c.args.size } in
-    let until : c.begin.new.self.current.until ≡ gone walk.queue.step walk.rx c.args.dts =
+    let text : PesPacket = record { dts = c.args.due; size = c.args.size } in
+    let until : c.begin.new.self.current.until ≡ gone walk.queue.step walk.rx c.args.due =
     b.until ∙ c.div_ceil.ensures ∙ rw (c.from.ensures, c.from-2.ensures, c.from-3.ensures) (omega arith) in
-    e.most c.args.dts texts until ∙ most_begun walk c.args.buffer.now c.begin.new.self (text ∷ texts) b.there b.most
+    e.most c.args.due texts until ∙ most_begun walk c.args.buffer.now c.begin.new.self (text ∷ texts) b.there b.most
 
 pub returns-else-is_due-clause-most : goal.returns-else-is_due-clause-most
 returns-else-is_due-clause-most g c = λ texts.
     let e = c.take_text-whole.ensures in
     let b = c.in_ok-begin.ensures in
     let walk = c.args.walk.now in
-    let text : PesPacket = record { dts = c.args.dts; size = c.args.size } in
-    let until : c.begin.new.self.current.until ≡ gone walk.queue.step walk.rx c.args.dts =
+    let text : PesPacket = record { dts = c.args.due; size = c.args.size } in
+    let until : c.begin.new.self.current.until ≡ gone walk.queue.step walk.rx c.args.due =
     b.until ∙ c.div_ceil.ensures ∙ rw (c.from.ensures, c.from-2.ensures, c.from-3.ensures) (omega arith) in
-    e.most c.args.dts texts until ∙ most_begun walk c.args.buffer.now c.begin.new.self (text ∷ texts) b.there b.most
+    e.most c.args.due texts until ∙ most_begun walk c.args.buffer.now c.begin.new.self (text ∷ texts) b.there b.most
