@@ -1,5 +1,8 @@
 //! Whether a plan serves a service description, alone or after another plan: the first condition on slots, gaps,
 //! buffers and deadlines that it does not keep.
+//!
+//! - [`check`]: one plan, to a [`CheckedPlan`] or a [`Refusal`].
+//! - [`check_switch`]: a second plan after a checked one, to a [`CheckedSwitch`] or a [`Refusal`].
 #![tactic(auto)]
 
 mod buffers;

@@ -1,5 +1,12 @@
 //! The plan of a constant-rate transport stream: which packet slot of a period carries what, the claims
 //! that a checker needs to see that no buffer overflows and no deadline is missed, and the plan's text.
+//!
+//! - [`Slot`] and [`Item`]: what a packet slot carries, and what owns it.
+//! - [`Certificate`]: what a plan claims of its buffers.
+//! - [`Plan`]: slots and certificate, and their text both ways.
+//! - [`Condition`]: what a plan has to keep; `specs/Conditions` and `specs/SwitchConditions` say it in numbers.
+//! - [`laws`]: the plan's text is its only one; the own slots over a run.
+//! - [`serving_plans`]: what is known of a plan that serves a description.
 #![tactic(auto)]
 
 mod certificate;

@@ -7,7 +7,7 @@ use Rattle.std.proofs.lemmas.List.{drop_all, length-append}
 use Rattle.std.proofs.lemmas.List.Sums.{sum_by-cons}
 use Rattle.pes_packet.specs.AccessUnits.{AccessUnit}
 use Rattle.pes_packet.specs.Spelling.{on_wire, header_text, unit_text}
-use Rattle.tstd.specs.Walking.{given}
+use Rattle.tstd.specs.State.Walking.{given}
 use Rattle.pes_packet.specs.Units.{units_of, texts_of}
 use Rattle.tstd.specs.Carried.{timed_texts}
 

@@ -10,7 +10,7 @@ use Rattle.clock27.proofs.Peaking.{departures_climb}
 use Rattle.clock27.proofs.Leaving.{departures-append}
 use Rattle.unit_timing.specs.Schedule.{Packet}
 use Rattle.unit_timing.specs.Transport.{slots_of, of_payloads}
-use Rattle.tstd.specs.Walking.{left_from, left_ahead, packets_ahead}
+use Rattle.tstd.specs.State.Walking.{left_from, left_ahead, packets_ahead}
 use Rattle.tstd.specs.declared.departures.Departures.{Departures}
 
 pub climbs_low : (low from : ℕ) (ts : List ℕ) → low ≤ from → Climbs from ts → Climbs low ts
@@ -18,7 +18,7 @@ unfolding Climbs
 climbs_low low from [] le climbs = tt
 climbs_low low from (t ∷ ts) le climbs = (le_trans le climbs.0, climbs.1)
 
--- other times behind the first ones, where they climb as those that were there
+-- other times after the first ones, where they climb as those that were there
 climbs_put : (from : ℕ) (es ds xs : List ℕ) → Climbs from (es ++ ds) → ((low : ℕ) → Climbs low ds → Climbs low xs) → Climbs from (es ++ xs)
 unfolding Climbs
 climbs_put from [] ds xs climbs same = same from climbs

@@ -7,9 +7,9 @@ use Rattle.clock27.specs.Peak.{Climbs, greatest_at}
 use Rattle.unit_timing.specs.MainBuffer.{is_kept, mb_fullness}
 use Rattle.unit_timing.specs.PesPacket.{PesPacket}
 use Rattle.unit_timing.proofs.Counting.{kept, kept_before}
-use Rattle.tstd.specs.Gone.{gone}
-use Rattle.tstd.specs.Kept.{one_there}
-use Rattle.tstd.specs.Entering.{most_ahead}
+use Rattle.tstd.specs.State.Gone.{gone}
+use Rattle.tstd.specs.State.Kept.{one_there}
+use Rattle.tstd.specs.State.Entering.{most_ahead}
 use Rattle.tstd.proofs.Climbing.{climbs_behind, greatest_same, greatest_ext}
 
 -- a whole moment lies before a stamp exactly where it lies before the first whole moment that does not

@@ -2,7 +2,7 @@
 use Rattle.std.proofs.Common.{◌≡◌, ◌∙◌, ℕ, max, List, [], ◌∷◌, ◌++◌, refl, arith}
 use Rattle.clock27.specs.Departure.{last_left}
 use Rattle.tstd.specs.declared.queue.Queue.{Queue}
-use Rattle.tstd.specs.Queues.{arrived, all_arrived, longest_stay}
+use Rattle.tstd.specs.State.Queues.{arrived, all_arrived, longest_stay}
 
 pub passed-step : (q : Queue) (ts : List ℕ) → (all_arrived q ts).step ≡ q.step
 passed-step q [] = refl
@@ -13,7 +13,7 @@ unfolding last_left
 passed-last q [] = refl
 passed-last q (t ∷ ts) = passed-last (arrived q t) ts
 
--- the longest stay of these bytes and of those behind them
+-- the longest stay of these bytes and of those after them
 pub passed-longest : (q : Queue) (ts us : List ℕ) →
     max (all_arrived q ts).longest (longest_stay q.step (last_left q.step q.last ts) us) ≡ max q.longest (longest_stay q.step q.last (ts ++ us))
 unfolding last_left longest_stay

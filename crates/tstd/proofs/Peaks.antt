@@ -14,7 +14,7 @@ use Rattle.clock27.proofs.Leaving.{length-departures}
 use Rattle.tstd.specs.declared.queue.Queue.{Queue}
 use Rattle.tstd.specs.declared.fullness.SystemFullness.{SystemFullness}
 use Rattle.tstd.specs.Measured.{IsSystemFullness}
-use Rattle.tstd.specs.Queues.{all_arrived, longest_stay, bytes_within}
+use Rattle.tstd.specs.State.Queues.{all_arrived, longest_stay, bytes_within}
 use Rattle.tstd.proofs.Climbing.{climbs_low}
 use Rattle.tstd.proofs.Passing.{passed-longest}
 use Rattle.tstd.proofs.Rows.{length-row}

@@ -3,7 +3,7 @@ use Rattle.std.proofs.Common.{◌≡◌, ℕ, zero, suc, ◌+◌, ◌-◌, ◌*�
 use Rattle.std.proofs.Math.Nat.{mul-le-mul_left}
 use Rattle.clock27.specs.Arrival.{bytes_from}
 use Rattle.tstd.specs.declared.queue.Queue.{Queue}
-use Rattle.tstd.specs.Queues.{arrived, all_arrived}
+use Rattle.tstd.specs.State.Queues.{arrived, all_arrived}
 
 -- one byte more of those up to `end`
 pub row_step : (q : Queue) (drain byte end : ℕ) → byte < end →
@@ -14,7 +14,7 @@ row_step q drain byte end below =
     let s : byte + 1 ≡ suc byte = add-one byte in
     rw e (rw s refl)
 
--- bytes that arrive at a rate leave at no more than one a step behind them
+-- bytes that arrive at a rate leave at no more than one a step after them
 pub row_pace : (byte drain last step : ℕ) → drain ≤ 2 ^ 28 → step ≤ 2 ^ 33 → last ≤ byte * 2 ^ 34 →
     max (byte * drain) last + step ≤ (byte + 1) * 2 ^ 34
 row_pace byte drain last step slow short paced = omega (arith, mul-le-mul_left byte slow, short, paced)
@@ -29,7 +29,7 @@ row_end q drain byte end le =
     let e : end - byte ≡ 0 = omega arith in
     rw e refl
 
--- rows behind one another
+-- rows after one another
 pub row_split : (r i a b : ℕ) → bytes_from r i (a + b) ≡ bytes_from r i a ++ bytes_from r (i + a) b
 unfolding bytes_from
 row_split r i zero b = let e : i + 0 ≡ i = omega arith in rw (zero-add b, e) refl

@@ -16,10 +16,10 @@ use Rattle.unit_timing.specs.Transport.{slots_of, of_payloads}
 use Rattle.tstd.specs.declared.departures.Departures.{Departures}
 use Rattle.tstd.specs.declared.main_buffer.MainBuffer.{MainBuffer}
 use Rattle.ts_packet.specs.Contents.{payload_of}
-use Rattle.tstd.specs.Entering.{most_of}
-use Rattle.tstd.specs.Keeping.{there_at}
-use Rattle.tstd.specs.Listing.{size_in, listed, packets_from, payload_in, payloads_from, is_of_tables, tables_from}
-use Rattle.tstd.specs.Walking.{left_ahead, given}
+use Rattle.tstd.specs.State.Entering.{most_of}
+use Rattle.tstd.specs.State.Keeping.{there_at}
+use Rattle.tstd.specs.State.Listing.{size_in, listed, packets_from, payload_in, payloads_from, is_of_tables, tables_from}
+use Rattle.tstd.specs.State.Walking.{left_ahead, given}
 use Rattle.tstd.proofs.Climbing.{climbs_low, greatest_ext}
 
 listed_climb : (index : ℕ) (o : Option ℕ) (packets : List Packet) → Climbs (suc index) (slots_of packets) → Climbs index (slots_of (listed index o packets))

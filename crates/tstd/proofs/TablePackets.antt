@@ -10,8 +10,8 @@ use Rattle.clock27.specs.Peak.{Climbs}
 use Rattle.clock27.proofs.Leaving.{departures-append}
 use Rattle.ts_packet.specs.Reading.{packet_at}
 use Rattle.tstd.specs.declared.queue.Queue.{Queue}
-use Rattle.tstd.specs.Listing.{is_of_tables, tables_from}
-use Rattle.tstd.specs.Queues.{arrived, all_arrived}
+use Rattle.tstd.specs.State.Listing.{is_of_tables, tables_from}
+use Rattle.tstd.specs.State.Queues.{arrived, all_arrived}
 use Rattle.tstd.proofs.Climbing.{climbs_low}
 use Rattle.tstd.proofs.Passing.{passed-step, passed-last}
 

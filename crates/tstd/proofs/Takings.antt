@@ -8,11 +8,11 @@ use Rattle.unit_timing.specs.MainBuffer.{mb_fullness}
 use Rattle.unit_timing.specs.PesPacket.{PesPacket}
 use Rattle.tstd.specs.declared.departures.Departures.{Departures}
 use Rattle.tstd.specs.declared.main_buffer.MainBuffer.{MainBuffer}
-use Rattle.tstd.specs.Entering.{most_of, most_ahead}
-use Rattle.tstd.specs.Gone.{gone}
-use Rattle.tstd.specs.Keeping.{there_at}
-use Rattle.tstd.specs.Kept.{one_there}
-use Rattle.tstd.specs.Walking.{left_ahead}
+use Rattle.tstd.specs.State.Entering.{most_of, most_ahead}
+use Rattle.tstd.specs.State.Gone.{gone}
+use Rattle.tstd.specs.State.Keeping.{there_at}
+use Rattle.tstd.specs.State.Kept.{one_there}
+use Rattle.tstd.specs.State.Walking.{left_ahead}
 use Rattle.tstd.proofs.Climbing.{ahead_climbs, greatest_ext}
 use Rattle.tstd.proofs.Entries.{byte_entered, text_entered}
 

@@ -5,7 +5,7 @@ use Rattle.std.proofs.Math.Seq.{drop-cons}
 use Rattle.std.proofs.lemmas.Bool.{cases_Bool, leb-true, le-leb, and_parts, and_from}
 use Rattle.std.proofs.lemmas.Bool.Decides.{nat_tests}
 use Rattle.tstd.specs.declared.stays.Stay.{Stay}
-use Rattle.tstd.specs.Kept.{is_there, number_there, all_there, all_bytes, all_until, one_there}
+use Rattle.tstd.specs.State.Kept.{is_there, number_there, all_there, all_bytes, all_until, one_there}
 
 -- one more of those from i on
 pub bytes_next : (stays : List Stay) (i : ℕ) (d : Stay) → i < length stays → all_bytes (drop i stays) ≡ (get_or stays i d).bytes + all_bytes (drop (i + 1) stays)

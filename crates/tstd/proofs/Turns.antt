@@ -17,8 +17,8 @@ use Rattle.tstd.specs.declared.fullness.LateUnit.{LateUnit}
 use Rattle.pes_packet.specs.Units.{units_of, texts_of}
 use Rattle.ts_packet.specs.Contents.{payloads_on}
 use Rattle.tstd.specs.Carried.{timed_texts, packets_on, table_packets, carries}
-use Rattle.tstd.specs.Fitting.{fits_of}
-use Rattle.tstd.specs.Listing.{packets_from, payloads_from, tables_from}
+use Rattle.tstd.specs.State.Fitting.{fits_of}
+use Rattle.tstd.specs.State.Listing.{packets_from, payloads_from, tables_from}
 use Rattle.tstd.specs.Measured.{IsStreamFullness, IsSystemFullness, late_of, late_or, late_from}
 use Rattle.tstd.specs.Refusals.{is_declared, all_carried}
 use Rattle.tstd.proofs.Agreements.{beginning_few, sizes_joined}

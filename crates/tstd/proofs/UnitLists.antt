@@ -27,7 +27,7 @@ texts_other id base0 stream i units u below at other = rw (drop-cons units i u b
 pub texts_end : (id base0 stream i : ℕ) (units : List (ℕ × AccessUnit)) → length units ≤ i → timed_texts id base0 (units_of stream (drop i units)) ≡ []
 texts_end id base0 stream i units over = rw (drop_all i units over) refl
 
--- the first late one of those so far, of this one, and of those behind it
+-- the first late one of those so far, of this one, and of those after it
 pub late_next : (late : Option ℕ) (is : Bool) (number : ℕ) (later : Option ℕ) →
     option_or (option_or late (if is then Some number else None)) (later) ≡ option_or late (cond is (Some number) later)
 late_next None true number later = refl
@@ -41,7 +41,7 @@ late_end (Some n) = refl
 pub size_next : (text : PesPacket) (texts : List PesPacket) → sum_by (λ t. t.size) (text ∷ texts) ≡ text.size + sum_by (λ t. t.size) texts
 size_next text texts = sum_by-cons (λ t. t.size) text texts
 
--- a text, and those behind it
+-- a text, and those after it
 pub late_more : (rate rx slots number size due : ℕ) (late : Option ℕ) (is : Bool) (texts : List PesPacket) (left left' : List ℕ) (rate' rx' : ℕ) → rate' ≡ rate → rx' ≡ rx →
     is ≡ (is_due rate' slots (record { dts = due; size = size }) && not (has_left rate' rx' (record { dts = due; size = size }) left)) → left' ≡ drop size left →
     option_or (option_or late (if is then Some number else None)) (first_late rate rx slots (number + 1) texts left')

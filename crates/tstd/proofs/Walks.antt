@@ -4,15 +4,15 @@ use Rattle.clock27.specs.Arrival.{bytes_from, arrivals}
 use Rattle.clock27.specs.Departure.{departures, last_left}
 use Rattle.clock27.proofs.Leaving.{departures-append, length-departures}
 use Rattle.unit_timing.specs.Schedule.{Packet}
-use Rattle.unit_timing.specs.Transport.{slots_of, of_payloads, text_left}
+use Rattle.unit_timing.specs.Transport.{slots_of, of_payloads, pes_left}
 use Rattle.std.proofs.Common.{Some, None}
 use Rattle.ts_packet.specs.Reading.{packet_at}
 use Rattle.tstd.specs.declared.departures.Departures.{Departures}
 use Rattle.tstd.specs.declared.queue.Queue.{Queue}
-use Rattle.tstd.specs.Listing.{size_in, packets_from}
-use Rattle.tstd.specs.Queues.{arrived, all_arrived, longest_stay}
+use Rattle.tstd.specs.State.Listing.{size_in, packets_from}
+use Rattle.tstd.specs.State.Queues.{arrived, all_arrived, longest_stay}
 use Rattle.tstd.proofs.Passing.{passed-step, passed-last, passed-longest}
-use Rattle.tstd.specs.Walking.{left_from, longest_from, left_ahead, longest_of, packets_ahead}
+use Rattle.tstd.specs.State.Walking.{left_from, longest_from, left_ahead, longest_of, packets_ahead}
 use Rattle.tstd.proofs.Rows.{row_split, length-row}
 
 -- a packet is the bytes before its payload, and the payload
@@ -22,7 +22,8 @@ packet_row rx index size few =
     let e : (188 - size) + size ≡ 188 = omega arith in
     ap (bytes_from rx (188 * index)) (sym e) ∙ row_split rx (188 * index) (188 - size) size
 
--- of lists of departures one behind another: those of the first two are the front, and those of the second the front's end
+-- of lists of departures one after another: those of the first two are the front, and those of the second the front's
+-- end
 front_end : (a b c : List ℕ) (n m : ℕ) → length a ≡ n → length b ≡ m → drop n (take (n + m) (a ++ (b ++ c))) ≡ b
 front_end a b c n m la lb =
     let both : length (a ++ b) ≡ n + m = length-append a b ∙ rw (la, lb) refl in
@@ -37,7 +38,7 @@ behind_front a b c n m la lb =
 -- the walk goes into a packet
 pub into_packet : (step last rx index size : ℕ) (packets : List Packet) → size ≤ 188 →
     left_from step (last_left step last (bytes_from rx (188 * index) (188 - size))) rx (188 * index + (188 - size)) size packets
-    ≡ text_left step rx last (record { slot = index; size = size } ∷ packets)
+    ≡ pes_left step rx last (record { slot = index; size = size } ∷ packets)
 unfolding of_payloads arrivals
 into_packet step last rx index size packets few =
     let front = bytes_from rx (188 * index) (188 - size) in

@@ -1,13 +1,5 @@
-pub mod Agreeing
 pub mod Carried
-pub mod Codes
-pub mod Entering
-pub mod Fitting
-pub mod Gone
-pub mod Keeping
-pub mod Kept
-pub mod Listing
 pub mod Measured
-pub mod Queues
 pub mod Refusals
-pub mod Walking
+pub mod Codes
+pub mod State

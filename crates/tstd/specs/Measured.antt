@@ -1,11 +1,9 @@
--- How full the buffers of the decoder model are (ISO/IEC 13818-1, 2.4.2.3), and which units come late, of finished bytes.
+-- How full the buffers of the decoder model are (ISO/IEC 13818-1, 2.4.2.3), and which units come late, of finished
+-- bytes.
 --
 -- At a stream's buffers times are in units of 8 / (rate * rx) seconds, at those of a program's tables in units of 8 /
 -- (rate * 2,000,000) seconds.
 use Rattle.std.specs.Prelude.{◌≡◌, ℕ, ◌+◌, ◌/◌, List, [], ◌∷◌, length, slice_get, Option, Some, None}
-use Rattle.clock27.specs.Arrival.{arrivals}
-use Rattle.clock27.specs.Departure.{departures}
-use Rattle.clock27.specs.Fullness.{fullness}
 use Rattle.clock27.specs.Peak.{IsPeak}
 use Rattle.description.specs.Described.{Described, DescribedProgram, DescribedStream}
 use Rattle.pes_packet.specs.AccessUnits.{AccessUnit}
@@ -13,7 +11,7 @@ use Rattle.unit_timing.specs.Arrived.{first_late}
 use Rattle.unit_timing.specs.MainBuffer.{mb_fullness}
 use Rattle.unit_timing.specs.Schedule.{Packet}
 use Rattle.unit_timing.specs.SystemBuffer.{system_tb_fullness, bsys_fullness}
-use Rattle.unit_timing.specs.Transport.{slots_of, text_left}
+use Rattle.unit_timing.specs.Transport.{slots_of, tb_fullness, pes_left}
 use Rattle.pes_packet.specs.Units.{units_of}
 use Rattle.tstd.specs.Carried.{timed_texts, packets_on, table_packets}
 use Rattle.tstd.specs.declared.fullness.StreamFullness.{StreamFullness}
@@ -26,14 +24,11 @@ pub record Measured : Type 0 where
   pub programs : List SystemFullness
   pub late : Option LateUnit
 
--- the bytes in the transport buffer of a stream at the moment x, filled by these packets
-abbrev pub tb_fullness : ℕ → ℕ → List Packet → ℕ → ℕ
-tb_fullness rate rx packets x = fullness x (arrivals rx (slots_of packets)) (departures rate 0 (arrivals rx (slots_of packets)))
-
--- the greatest numbers of bytes over all moments in the two buffers of a stream, filled by these packets with these units
+-- the greatest numbers of bytes over all moments in the two buffers of a stream, filled by these packets with these
+-- units
 pub record IsStreamFullness (rate base0 : ℕ) (s : DescribedStream) (units : List AccessUnit) (packets : List Packet) (f : StreamFullness) : Type 0 where
-  pub transport : IsPeak (tb_fullness rate s.rx packets) f.transport
-  pub main : IsPeak (λ x. mb_fullness rate s.rx x (timed_texts s.stream_id base0 units) (text_left rate s.rx 0 packets)) f.main
+  pub transport : IsPeak (λ x. tb_fullness rate s.rx x (slots_of packets)) f.transport
+  pub main : IsPeak (λ x. mb_fullness rate s.rx x (timed_texts s.stream_id base0 units) (pes_left rate s.rx 0 packets)) f.main
 
 -- of each stream of a description
 pub record StreamsMeasured (d : Described) (units : List (ℕ × AccessUnit)) (bytes : List ℕ) (found : List StreamFullness) : Type 0 where
@@ -57,9 +52,9 @@ pub record SystemsMeasured (d : Described) (bytes : List ℕ) (found : List Syst
 -- whole by its decoding time stamp
 abbrev pub late_of : ℕ → ℕ → ℕ → DescribedStream → List AccessUnit → List Packet → Option ℕ
 late_of rate base0 slots s units packets =
-    first_late rate s.rx slots 0 (timed_texts s.stream_id base0 units) (text_left rate s.rx 0 packets)
+    first_late rate s.rx slots 0 (timed_texts s.stream_id base0 units) (pes_left rate s.rx 0 packets)
 
--- a late unit of a stream, before those of the streams behind it
+-- a late unit of a stream, before those of the streams after it
 abbrev pub late_or : ℕ → Option ℕ → Option LateUnit → Option LateUnit
 late_or stream None later = later
 late_or stream (Some number) later = Some (record { stream = stream; number = number })

@@ -13,7 +13,7 @@ use Rattle.tstd.specs.Carried.{carries}
 use Rattle.tstd.specs.declared.refusal.MeasureError.{MeasureError}
 use Rattle.tstd.specs.declared.refusal.MeasureError.TheVariants.{Length, Packet, Carried, Memory}
 
--- a packet that can't be read, or else what is refused of those behind it
+-- a packet that can't be read, or else what is refused of those after it
 abbrev pub unread_or : ℕ → Result PacketView PacketError → Option MeasureError → Option MeasureError
 unread_or index (Err error) later = Some (Packet index error)
 unread_or index (Ok packet) later = later

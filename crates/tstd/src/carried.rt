@@ -3,10 +3,10 @@ ghost use Rattle.std.specs.Prelude.{◌≡◌, ◌+◌, ◌++◌, ◌&&◌, true
 ghost use Rattle.std.specs.List.{starts_with, concat, list_all};
 ghost use Rattle.pes_packet.specs.Spelling.{header_text, unit_text};
 ghost use Rattle.pes_packet.specs.StreamIds.{fits_packet};
-ghost use Rattle.tstd.specs.Agreeing.{bytes_ahead};
+ghost use Rattle.tstd.specs.State.Agreeing.{bytes_ahead};
 ghost use Rattle.pes_packet.specs.Units.{units_of, texts_of};
-ghost use Rattle.tstd.specs.Fitting.{fits_of};
-ghost use Rattle.tstd.specs.Listing.{payloads_from};
+ghost use Rattle.tstd.specs.State.Fitting.{fits_of};
+ghost use Rattle.tstd.specs.State.Listing.{payloads_from};
 
 use crate::payloads::{Payloads, agrees};
 use crate::units::{is_of, on_wire};
@@ -62,7 +62,7 @@ fn entry_agrees<B: Allocator>(
 }
 
 /// Whether the payloads of a PID are a beginning of the PES packets of a stream's units.
-#[tactic(auto, unfolding(crate::specs::Agreeing::bytes_ahead))]
+#[tactic(auto, unfolding(crate::specs::State::Agreeing::bytes_ahead))]
 pub fn carries<B: Allocator>(
     pid: u16,
     id: u8,

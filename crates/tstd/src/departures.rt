@@ -29,19 +29,19 @@ pub struct Departures<'a> {
 
 impl<'a> Departures<'a> {
     ghost use Rattle.clock27.specs.Arrival.{arrivals};
-    ghost use Rattle.unit_timing.specs.Transport.{slots_of, text_left};
-    ghost use Rattle.tstd.specs.Listing.{packets_from};
-    ghost use Rattle.tstd.specs.Queues.{longest_stay};
-    ghost use Rattle.tstd.specs.Walking.{left_ahead, longest_of, given};
+    ghost use Rattle.unit_timing.specs.Transport.{slots_of, pes_left};
+    ghost use Rattle.tstd.specs.State.Listing.{packets_from};
+    ghost use Rattle.tstd.specs.State.Queues.{longest_stay};
+    ghost use Rattle.tstd.specs.State.Walking.{left_ahead, longest_of, given};
 
     /// A walk from the first packet of the output on.
-    #[tactic(auto, unfolding(crate::specs::Walking::left_ahead, crate::specs::Walking::longest_of, clock27::specs::Arrival::bytes_from, clock27::specs::Departure::departures, clock27::specs::Departure::last_left))]
+    #[tactic(auto, unfolding(crate::specs::State::Walking::left_ahead, crate::specs::State::Walking::longest_of, clock27::specs::Arrival::bytes_from, clock27::specs::Departure::departures, clock27::specs::Departure::last_left))]
     pub fn new(pid: u16, rx: u64, rate: u64, packets: &'a [[u8; 188]]) -> Departures<'a>
         requires rx { rx ≤ 200000000 }
         requires some { 0 < rate }
         requires rate { rate ≤ 100000000 }
         requires count { 188 * length packets.now < 2 ^ 63 }
-        ensures ahead { left_ahead result ≡ text_left rate rx 0 (packets_from pid 0 packets.entry.now) }
+        ensures ahead { left_ahead result ≡ pes_left rate rx 0 (packets_from pid 0 packets.entry.now) }
         ensures longest { longest_of result ≡ longest_stay rate 0 (arrivals rx (slots_of (packets_from pid 0 packets.entry.now))) }
         ensures rx { result.rx ≡ rx }
         ensures step { result.queue.step ≡ rate }

@@ -17,7 +17,7 @@ pub struct StreamFullness {
 pub struct SystemFullness {
     /// In their transport buffer.
     pub transport: u64,
-    /// In the system buffer behind it.
+    /// In the system buffer after it.
     pub system: u64,
 }
 

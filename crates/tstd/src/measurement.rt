@@ -12,11 +12,11 @@ use description::Description;
 use pes_packet::Unit;
 use std::alloc::Allocator;
 
-/// Measures the finished bytes of a transport stream, from its first packet on, with the units that it carries, each with
-/// the number of its stream: the greatest number of bytes that each buffer of the decoder model holds over all moments,
-/// and the first unit that is due in the run and has not left its transport buffer whole by its decoding time (ISO/IEC
-/// 13818-1, 2.4.2.3). Stamps count units of 90 kHz from the first byte, and may be in any order. Packets with the error
-/// indicator are left out.
+/// Measures the finished bytes of a transport stream, from its first packet on, with the units that it carries, each
+/// with the number of its stream: the greatest number of bytes that each buffer of the decoder model holds over all
+/// moments, and the first unit that is due in the run and has not left its transport buffer whole by its decoding time
+/// (ISO/IEC 13818-1, 2.4.2.3). Stamps count units of 90 kHz from the first byte, and may be in any order. Packets with
+/// the error indicator are left out.
 pub fn measure<A: Allocator + Clone, B: Allocator>(
     alloc: A,
     description: &Description,

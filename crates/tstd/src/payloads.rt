@@ -2,8 +2,8 @@
 ghost use Rattle.std.specs.Prelude.{◌≡◌, ◌+◌, ◌++◌, ◌&&◌, [], List, ℕ, length, nat_eq, IfNone};
 ghost use Rattle.std.specs.Bool.{OnTrue, OnFalse};
 ghost use Rattle.std.specs.List.{starts_with};
-ghost use Rattle.tstd.specs.Agreeing.{bytes_ahead};
-ghost use Rattle.tstd.specs.Walking.{given};
+ghost use Rattle.tstd.specs.State.Agreeing.{bytes_ahead};
+ghost use Rattle.tstd.specs.State.Walking.{given};
 
 use crate::packets::payload_on;
 
@@ -18,7 +18,7 @@ pub struct Payloads<'a> {
 
 impl Payloads<'_> {
     // Goes into the next packet, if there is one.
-    #[tactic(auto, unfolding(crate::specs::Agreeing::bytes_ahead, crate::specs::Listing::payloads_from))]
+    #[tactic(auto, unfolding(crate::specs::State::Agreeing::bytes_ahead, crate::specs::State::Listing::payloads_from))]
     fn go_on(&mut self) -> bool
         requires { self.old.rest.now ≡ [] }
         ensures ahead { bytes_ahead self.new ≡ bytes_ahead self.old }
@@ -34,7 +34,7 @@ impl Payloads<'_> {
     }
 
     /// The next byte, if there is one.
-    #[tactic(auto, unfolding(crate::specs::Agreeing::bytes_ahead))]
+    #[tactic(auto, unfolding(crate::specs::State::Agreeing::bytes_ahead))]
     pub fn next(&mut self) -> Option<u8>
         ensures ahead { bytes_ahead self.old ≡ given result (bytes_ahead self.new) }
         ensures none { IfNone result (bytes_ahead self.new ≡ []) }

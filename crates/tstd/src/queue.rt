@@ -1,7 +1,7 @@
 //! A buffer that bytes pass one after another.
 ghost use Rattle.std.specs.Prelude.{◌≡◌, ◌+◌, ◌*◌, ◌<◌, ◌≤◌, ◌^◌, max};
 ghost use Rattle.clock27.specs.Arrival.{bytes_from};
-ghost use Rattle.tstd.specs.Queues.{arrived, all_arrived, bytes_within};
+ghost use Rattle.tstd.specs.State.Queues.{arrived, all_arrived, bytes_within};
 
 /// A buffer that a byte takes `step` to leave, on any scale of times.
 #[derive(Clone, Copy)]

@@ -1,6 +1,6 @@
 //! Bytes in a main buffer.
 ghost use Rattle.std.specs.Prelude.{◌≡◌, ◌<◌, ◌^◌, true, filter};
-ghost use Rattle.tstd.specs.Kept.{is_there, all_bytes, all_until};
+ghost use Rattle.tstd.specs.State.Kept.{is_there, all_bytes, all_until};
 
 use std::alloc::Allocator;
 

@@ -3,7 +3,7 @@ ghost use Rattle.std.specs.Prelude.{◌≡◌, ◌*◌, ◌<◌, ◌≤◌, ◌^
 ghost use Rattle.description.specs.Ranges.{IsStream};
 ghost use Rattle.pes_packet.specs.Units.{units_of};
 ghost use Rattle.tstd.specs.Carried.{timed_texts};
-ghost use Rattle.tstd.specs.Listing.{packets_from};
+ghost use Rattle.tstd.specs.State.Listing.{packets_from};
 ghost use Rattle.tstd.specs.Measured.{IsStreamFullness, late_of};
 
 use crate::departures::Departures;
@@ -14,8 +14,8 @@ use description::Stream;
 use pes_packet::Unit;
 use std::alloc::{AllocError, Allocator};
 
-/// The greatest numbers of bytes in the buffers of a stream, and the number of its first late unit, of packets that carry
-/// its units.
+/// The greatest numbers of bytes in the buffers of a stream, and the number of its first late unit, of packets that
+/// carry its units.
 pub fn measure_stream<A: Allocator, B: Allocator>(
     alloc: A,
     rate: u64,

@@ -2,9 +2,9 @@
 ghost use Rattle.std.specs.Prelude.{◌≡◌, ◌+◌, ◌*◌, ◌<◌, ◌≤◌, ◌^◌, length};
 ghost use Rattle.clock27.specs.Arrival.{bytes_from};
 ghost use Rattle.clock27.specs.Departure.{departures};
-ghost use Rattle.tstd.specs.Listing.{tables_from};
+ghost use Rattle.tstd.specs.State.Listing.{tables_from};
 ghost use Rattle.tstd.specs.Measured.{IsSystemFullness};
-ghost use Rattle.tstd.specs.Queues.{all_arrived};
+ghost use Rattle.tstd.specs.State.Queues.{all_arrived};
 
 use crate::fullness::SystemFullness;
 use crate::packets::is_of_tables;

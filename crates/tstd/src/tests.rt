@@ -68,7 +68,7 @@ fn packet(alloc: Global, first: u32, count: u16, s: u16) -> Result<[u8; 188], Al
         return piece(
             alloc,
             576,
-            first % 1_000_000 + 2_160 * u32::from(m),
+            first % 100_000_000 + 2_160 * u32::from(m),
             (q / 4) as u8,
         );
     }
@@ -158,6 +158,27 @@ fn a_hundred_units_keep_the_limits(rt: HostRuntime) -> Result<(), Fail> {
         units.push(unit(alloc, 0, 1_600 + 2_160 * u32::from(m), 576)?)?;
     }
     let bytes = run(alloc, 1_600, 100, 2_420)?;
+    match measure(alloc, &base(&rt, alloc), units.as_slice(), &bytes) {
+        Ok(found) => assert!(rt; is_found(&found, (1, 590), (127, 346), None)),
+        Err(error) => panic!(rt; "{error}"),
+    }
+    Ok(())
+}
+
+// The same 42 times on end: 4,200 units in 100,800 packets.
+#[test]
+fn a_hundred_thousand_packets_are_measured(rt: HostRuntime) -> Result<(), Fail> {
+    let alloc = rt.alloc();
+    let mut units = Vec::new(alloc);
+    let mut bytes = Vec::new(alloc);
+    for block in 0..42u8 {
+        let first = 1_600 + 216_000 * u32::from(block);
+        for m in 0..100u16 {
+            units.push(unit(alloc, 0, first + 2_160 * u32::from(m), 576)?)?;
+        }
+        bytes.extend_from_slice(&run(alloc, first, 100, 2_400)?)?;
+    }
+    assert_eq!(rt; bytes.len(), 18_950_400);
     match measure(alloc, &base(&rt, alloc), units.as_slice(), &bytes) {
         Ok(found) => assert!(rt; is_found(&found, (1, 590), (127, 346), None)),
         Err(error) => panic!(rt; "{error}"),

@@ -2,36 +2,32 @@
 ghost use Rattle.std.specs.Prelude.{◌≡◌, ℕ, ◌∷◌, ◌*◌, ◌<◌, ◌≤◌, ◌&&◌, not, nat_le, List, length, take, drop, IfOk, OnOk};
 ghost use Rattle.std.specs.List.{list_all};
 ghost use Rattle.std.specs.Bool.{OnTrue};
+ghost use Rattle.clock27.specs.Units.{byte_units};
 ghost use Rattle.unit_timing.specs.Arrived.{is_due, has_left};
 ghost use Rattle.unit_timing.specs.PesPacket.{PesPacket};
-ghost use Rattle.tstd.specs.Entering.{most_of, EntersText};
-ghost use Rattle.tstd.specs.Keeping.{IsSound};
-ghost use Rattle.tstd.specs.Walking.{left_ahead, longest_of};
+ghost use Rattle.tstd.specs.State.Entering.{most_of, EntersText};
+ghost use Rattle.tstd.specs.State.Keeping.{IsSound};
+ghost use Rattle.tstd.specs.State.Walking.{left_ahead, longest_of};
 
 use crate::departures::Departures;
 use crate::main_buffer::MainBuffer;
+use clock27::{BYTE_UNITS, SLOT_UNITS};
 use std::alloc::{AllocError, Allocator};
-
-// The units of 90 kHz in a slot, times the rate: 188 * 8 * 90,000.
-const SLOT_UNITS: u128 = 135_360_000;
-
-// The units of 90 kHz in a second, times the bits of a byte.
-const STAMP_UNITS: u128 = 720_000;
 
 // A text of this size goes from one buffer into the other; whether all its bytes come.
 fn take_text<A: Allocator>(walk: &mut Departures<'_>, buffer: &mut MainBuffer<A>, size: u64) -> bool
     requires sound { IsSound buffer.old }
-    requires held { buffer.old.held ≤ walk.old.byte }
+    requires fullness { buffer.old.fullness ≤ walk.old.byte }
     ensures whole { result ≡ nat_le size (length (left_ahead walk.old)) }
     ensures left { left_ahead walk.new ≡ drop size (left_ahead walk.old) }
     ensures in_time { OnTrue result (0 < size → (limit : ℕ) →
-        list_all (λ d. nat_le (d * 720000) limit) (take size (left_ahead walk.old)) ≡ nat_le (walk.new.queue.last * 720000) limit) }
+        list_all (λ d. nat_le (d * byte_units) limit) (take size (left_ahead walk.old)) ≡ nat_le (walk.new.queue.last * byte_units) limit) }
     ensures most { EntersText walk.old walk.new buffer.old buffer.new size }
     ensures longest { longest_of walk.new ≡ longest_of walk.old }
     ensures rx { walk.new.rx ≡ walk.old.rx }
     ensures step { walk.new.queue.step ≡ walk.old.queue.step }
     ensures sound { IsSound buffer.new }
-    ensures held { buffer.new.held ≤ walk.new.byte }
+    ensures fullness { buffer.new.fullness ≤ walk.new.byte }
 {
     let mut taken = 0;
     while taken < size {
@@ -53,7 +49,7 @@ pub fn measure_text<A: Allocator>(
     size: u64,
 ) -> Result<bool, AllocError>
     requires sound { IsSound buffer.old }
-    requires held { buffer.old.held ≤ walk.old.byte }
+    requires fullness { buffer.old.fullness ≤ walk.old.byte }
     requires some { 0 < size }
     ensures late { let text : PesPacket = record { dts = due; size = size } in
         IfOk result (λ late. late ≡ (is_due walk.old.queue.step slots text
@@ -65,12 +61,12 @@ pub fn measure_text<A: Allocator>(
     ensures rx { OnOk result (walk.new.rx ≡ walk.old.rx) }
     ensures step { OnOk result (walk.new.queue.step ≡ walk.old.queue.step) }
     ensures sound { OnOk result (IsSound buffer.new) }
-    ensures held { OnOk result (buffer.new.held ≤ walk.new.byte) }
+    ensures fullness { OnOk result (buffer.new.fullness ≤ walk.new.byte) }
 {
     let limit = u128::from(due) * u128::from(walk.queue.step) * u128::from(walk.rx);
-    buffer.begin(limit.div_ceil(STAMP_UNITS))?;
+    buffer.begin(limit.div_ceil(BYTE_UNITS))?;
     let whole = take_text(walk, buffer, size);
-    let in_time = whole && walk.queue.last * STAMP_UNITS <= limit;
+    let in_time = whole && walk.queue.last * BYTE_UNITS <= limit;
     let is_due = u128::from(due) * u128::from(walk.queue.step) <= u128::from(slots) * SLOT_UNITS;
     Ok(is_due && !in_time)
 }

@@ -5,9 +5,9 @@ ghost use Rattle.pes_packet.specs.Spelling.{on_wire, unit_text};
 ghost use Rattle.unit_timing.specs.Arrived.{first_late};
 ghost use Rattle.pes_packet.specs.Units.{units_of};
 ghost use Rattle.tstd.specs.Carried.{timed_texts};
-ghost use Rattle.tstd.specs.Entering.{most_of};
-ghost use Rattle.tstd.specs.Keeping.{IsSound};
-ghost use Rattle.tstd.specs.Walking.{left_ahead, longest_of};
+ghost use Rattle.tstd.specs.State.Entering.{most_of};
+ghost use Rattle.tstd.specs.State.Keeping.{IsSound};
+ghost use Rattle.tstd.specs.State.Walking.{left_ahead, longest_of};
 
 use crate::departures::Departures;
 use crate::main_buffer::MainBuffer;
@@ -69,7 +69,8 @@ fn first_of(late: Option<u64>, is_late: bool, number: u64) -> Option<u64>
     }
 }
 
-/// The units of a stream go from one buffer into the other, in a run of so many slots; the number of the first late one.
+/// The units of a stream go from one buffer into the other, in a run of so many slots; the number of the first late
+/// one.
 pub fn measure_units<A: Allocator, B: Allocator>(
     walk: &mut Departures<'_>,
     buffer: &mut MainBuffer<A>,
@@ -79,7 +80,7 @@ pub fn measure_units<A: Allocator, B: Allocator>(
     units: &[(u8, Unit<B>)],
 ) -> Result<Option<u64>, AllocError>
     requires sound { IsSound buffer.old }
-    requires held { buffer.old.held ≤ walk.old.byte }
+    requires fullness { buffer.old.fullness ≤ walk.old.byte }
     requires carried { (id : ℕ) × (length (left_ahead walk.old) ≤ sum_by (λ t. t.size) (timed_texts id base0 (units_of stream units.now))) }
     ensures late { IfOk result (λ late. (id : ℕ) →
         late ≡ first_late walk.old.queue.step walk.old.rx slots 0 (timed_texts id base0 (units_of stream units.now)) (left_ahead walk.old)) }

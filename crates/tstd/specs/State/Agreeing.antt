@@ -1,6 +1,6 @@
 -- What is left of a walk over the payload bytes of a PID.
 use Rattle.std.specs.Prelude.{ℕ, List, ◌++◌}
-use Rattle.tstd.specs.Listing.{payloads_from}
+use Rattle.tstd.specs.State.Listing.{payloads_from}
 use Rattle.tstd.specs.declared.payloads.Payloads.{Payloads}
 
 -- the bytes that it has not given

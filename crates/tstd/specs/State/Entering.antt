@@ -5,9 +5,9 @@ use Rattle.unit_timing.specs.MainBuffer.{mb_fullness}
 use Rattle.unit_timing.specs.PesPacket.{PesPacket}
 use Rattle.tstd.specs.declared.departures.Departures.{Departures}
 use Rattle.tstd.specs.declared.main_buffer.MainBuffer.{MainBuffer}
-use Rattle.tstd.specs.Gone.{gone}
-use Rattle.tstd.specs.Keeping.{there_at}
-use Rattle.tstd.specs.Walking.{left_ahead}
+use Rattle.tstd.specs.State.Gone.{gone}
+use Rattle.tstd.specs.State.Keeping.{there_at}
+use Rattle.tstd.specs.State.Walking.{left_ahead}
 
 -- the most bytes at the entry of one of the bytes that leave the transport buffer at these times, of these texts;
 -- `before` has the bytes of the texts before

@@ -3,9 +3,9 @@ use Rattle.std.specs.Prelude.{ℕ, max, List, [], ◌∷◌, ◌++◌, Option, S
 use Rattle.clock27.specs.Arrival.{bytes_from, arrivals}
 use Rattle.clock27.specs.Departure.{departures, last_left}
 use Rattle.unit_timing.specs.Schedule.{Packet}
-use Rattle.unit_timing.specs.Transport.{slots_of, text_left}
-use Rattle.tstd.specs.Listing.{packets_from}
-use Rattle.tstd.specs.Queues.{longest_stay}
+use Rattle.unit_timing.specs.Transport.{slots_of, pes_left}
+use Rattle.tstd.specs.State.Listing.{packets_from}
+use Rattle.tstd.specs.State.Queues.{longest_stay}
 use Rattle.tstd.specs.declared.departures.Departures.{Departures}
 
 -- the packets that a walk has not reached
@@ -15,7 +15,7 @@ packets_ahead walk = packets_from walk.pid walk.index walk.packets.now
 -- the departures of payload bytes: those of the packet under way, from `byte` on, and those of the packets ahead
 abbrev pub left_from : ℕ → ℕ → ℕ → ℕ → ℕ → List Packet → List ℕ
 left_from step last rx byte left packets =
-    departures step last (bytes_from rx byte left) ++ text_left step rx (last_left step last (bytes_from rx byte left)) packets
+    departures step last (bytes_from rx byte left) ++ pes_left step rx (last_left step last (bytes_from rx byte left)) packets
 
 -- the longest stay of a byte in the buffer: `longest`, or that of a byte still to come
 abbrev pub longest_from : ℕ → ℕ → ℕ → ℕ → ℕ → ℕ → List Packet → ℕ

@@ -1,9 +1,9 @@
 use Rattle.std.proofs.Common.{◌≡◌, ◌∙◌, ℕ, ◌+◌, ◌==◌, true, false, List, drop, length, refl, sym, ap, nat_eq}
 use Rattle.std.specs.List.{starts_with, concat}
 use Rattle.pes_packet.specs.StreamIds.{fits_packet}
-use Rattle.tstd.specs.Agreeing.{bytes_ahead}
+use Rattle.tstd.specs.State.Agreeing.{bytes_ahead}
 use Rattle.pes_packet.specs.Units.{units_of, texts_of}
-use Rattle.tstd.specs.Fitting.{fits_of}
+use Rattle.tstd.specs.State.Fitting.{fits_of}
 use Rattle.tstd.proofs.Agreements.{texts_first, texts_past, texts_none, all_at, own_fits, end_agrees}
 use Rattle.tstd.proofs.carried.carries.Goals as goal
 

@@ -1,8 +1,8 @@
 use Rattle.std.proofs.Common.{◌≡◌, nat_eq, drop}
 use Rattle.std.specs.List.{starts_with, concat}
-use Rattle.tstd.specs.Agreeing.{bytes_ahead}
+use Rattle.tstd.specs.State.Agreeing.{bytes_ahead}
 use Rattle.pes_packet.specs.Units.{units_of, texts_of}
-use Rattle.tstd.specs.Listing.{payloads_from}
+use Rattle.tstd.specs.State.Listing.{payloads_from}
 use Rattle.tstd.proofs.carried.carries.Given as goal
 
 abbrev pub invariant-loop-entry : goal.invariant-loop-entry

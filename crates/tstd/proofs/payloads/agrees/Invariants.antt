@@ -1,6 +1,6 @@
 use Rattle.std.proofs.Common.{◌≡◌, ℕ, List, ◌++◌, drop, nat_eq}
 use Rattle.std.specs.List.{starts_with}
-use Rattle.tstd.specs.Agreeing.{bytes_ahead}
+use Rattle.tstd.specs.State.Agreeing.{bytes_ahead}
 use Rattle.tstd.proofs.payloads.agrees.Given as goal
 
 abbrev pub invariant-loop-byte : goal.invariant-loop-byte

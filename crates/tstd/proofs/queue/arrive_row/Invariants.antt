@@ -1,6 +1,6 @@
 use Rattle.std.proofs.Common.{◌≡◌, ◌-◌, ◌*◌, ◌^◌, ◌≤◌}
 use Rattle.clock27.specs.Arrival.{bytes_from}
-use Rattle.tstd.specs.Queues.{all_arrived}
+use Rattle.tstd.specs.State.Queues.{all_arrived}
 use Rattle.tstd.proofs.queue.arrive_row.Given as goal
 
 abbrev pub invariant-loop-byte : goal.invariant-loop-byte

@@ -1,6 +1,6 @@
 use Rattle.std.proofs.Common.{◌≡◌, ◌∙◌, ℕ, ◌∷◌, [], arith, get_or, subst}
 use Rattle.std.proofs.lemmas.List.{length-append}
-use Rattle.tstd.specs.Listing.{tables_from}
+use Rattle.tstd.specs.State.Listing.{tables_from}
 use Rattle.tstd.specs.Measured.{IsSystemFullness}
 use Rattle.tstd.proofs.Turns.{systems_next}
 use Rattle.tstd.proofs.rounds.measure_systems.Goals as goal

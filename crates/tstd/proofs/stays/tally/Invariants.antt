@@ -1,5 +1,5 @@
 use Rattle.std.proofs.Common.{◌≡◌, ℕ, ◌+◌, ◌≤◌, drop, true}
-use Rattle.tstd.specs.Kept.{all_bytes, all_until}
+use Rattle.tstd.specs.State.Kept.{all_bytes, all_until}
 use Rattle.tstd.proofs.stays.tally.Given as goal
 
 abbrev pub invariant-loop-stay : goal.invariant-loop-stay

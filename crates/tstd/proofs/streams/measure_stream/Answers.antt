@@ -4,14 +4,13 @@ use Rattle.clock27.specs.Arrival.{arrivals}
 use Rattle.clock27.specs.Departure.{departures}
 use Rattle.clock27.specs.Peak.{IsPeak}
 use Rattle.clock27.proofs.Peaking.{arrivals_climb}
-use Rattle.unit_timing.specs.Transport.{slots_of, text_left}
+use Rattle.unit_timing.specs.Transport.{slots_of, tb_fullness, pes_left}
 use Rattle.unit_timing.proofs.Topping.{main_peak_law}
 use Rattle.pes_packet.specs.Units.{units_of}
 use Rattle.tstd.specs.Carried.{timed_texts}
-use Rattle.tstd.specs.Listing.{packets_from}
-use Rattle.tstd.specs.Measured.{tb_fullness}
-use Rattle.tstd.specs.Queues.{longest_stay}
-use Rattle.tstd.specs.Walking.{left_ahead}
+use Rattle.tstd.specs.State.Listing.{packets_from}
+use Rattle.tstd.specs.State.Queues.{longest_stay}
+use Rattle.tstd.specs.State.Walking.{left_ahead}
 use Rattle.tstd.proofs.Peaks.{stay_peak, peak_few, length-arrivals}
 use Rattle.tstd.proofs.StreamPackets.{packets_climb, packets_few, payloads_few, none_given, most_found_all}
 use Rattle.tstd.proofs.streams.measure_stream.Goals as goal
@@ -31,7 +30,7 @@ returns-clause-fullness g c =
     let packets = packets_from s.pid 0 c.args.packets.now in
     let times = arrivals s.rx (slots_of packets) in
     let texts = timed_texts s.stream_id c.args.base0 (units_of c.args.number c.args.units.now) in
-    let left = text_left c.args.rate s.rx 0 packets in
+    let left = pes_left c.args.rate s.rx 0 packets in
     let none : c.next-end.result ≡ None = none_given c.next-end.result (left_ahead c.next-end.new.self) (left_ahead c.measure_units.new.walk) all.left end.ahead in
     let step : c.next-end.new.self.queue.step ≡ c.args.rate = end.step ∙ all.step ∙ walk.step in
     let longest : c.next-end.new.self.queue.longest ≡ longest_stay c.args.rate 0 times =
@@ -60,7 +59,7 @@ overflow_cast-fullness g c =
     sym (rw none at end.ended) ∙ end.longest ∙ all.longest ∙ rw c.from.ensures at walk.longest in
     let some : 0 < c.args.rate = omega (arith, c.requires.least) in
     let drain : 0 < s.rx = omega (arith, c.requires.stream.least_rx) in
-    let peak : IsPeak (tb_fullness c.args.rate s.rx packets) c.most.result = rw (c.most.ensures, step)
+    let peak : IsPeak (λ x. tb_fullness c.args.rate s.rx x (slots_of packets)) c.most.result = rw (c.most.ensures, step)
     (stay_peak c.args.rate c.next-end.new.self.queue.longest times some (arrivals_climb s.rx (slots_of packets) drain (packets_climb s.pid 0 c.args.packets.now)) longest) in
     omega (
       arith,

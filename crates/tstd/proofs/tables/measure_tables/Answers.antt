@@ -2,8 +2,8 @@ use Rattle.std.proofs.Common.{◌∙◌, ◌+◌, ◌*◌, ◌<◌, ◌≤◌, l
 use Rattle.clock27.specs.Arrival.{arrivals, bytes_from}
 use Rattle.clock27.specs.Departure.{departures}
 use Rattle.tstd.specs.declared.queue.Queue.{Queue}
-use Rattle.tstd.specs.Listing.{tables_from}
-use Rattle.tstd.specs.Queues.{all_arrived, bytes_within}
+use Rattle.tstd.specs.State.Listing.{tables_from}
+use Rattle.tstd.specs.State.Queues.{all_arrived, bytes_within}
 use Rattle.tstd.proofs.TablePackets.{tables_own, tables_other, tables_end, packet_arrives, packet_passes, tables_rise, tables_few}
 use Rattle.tstd.proofs.Peaks.{tables_peak, tables_bytes}
 use Rattle.tstd.proofs.Passing.{passed-step}

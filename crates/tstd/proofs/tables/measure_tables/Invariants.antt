@@ -1,8 +1,8 @@
 use Rattle.std.proofs.Common.{◌≡◌, ◌*◌, ◌^◌, ◌≤◌, drop}
 use Rattle.clock27.specs.Arrival.{arrivals}
 use Rattle.clock27.specs.Departure.{departures}
-use Rattle.tstd.specs.Listing.{tables_from}
-use Rattle.tstd.specs.Queues.{all_arrived}
+use Rattle.tstd.specs.State.Listing.{tables_from}
+use Rattle.tstd.specs.State.Queues.{all_arrived}
 use Rattle.tstd.proofs.tables.measure_tables.Given as goal
 
 abbrev pub invariant-loop-index : goal.invariant-loop-index

@@ -1,6 +1,6 @@
 use Rattle.std.proofs.Common.{◌≡◌, ◌∙◌, ◌∷◌, arith}
 use Rattle.unit_timing.specs.PesPacket.{PesPacket}
-use Rattle.tstd.specs.Gone.{gone}
+use Rattle.tstd.specs.State.Gone.{gone}
 use Rattle.tstd.proofs.Takings.{most_begun}
 use Rattle.tstd.proofs.texts.measure_text.Goals as goal
 

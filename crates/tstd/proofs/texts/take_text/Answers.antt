@@ -1,9 +1,9 @@
 use Rattle.std.proofs.Common.{◌≡◌, ◌∙◌, ℕ, suc, ◌+◌, ◌-◌, ◌≤◌, ◌<◌, ◌∷◌, length, drop, ◌*◌, nat_le, nat_eq, arith, ap, sym, add-one}
 use Rattle.std.proofs.lemmas.Bool.{lt-leb}
 use Rattle.std.proofs.lemmas.List.{drop_all}
-use Rattle.tstd.specs.Entering.{most_of}
-use Rattle.tstd.specs.Gone.{gone}
-use Rattle.tstd.specs.Walking.{left_ahead}
+use Rattle.tstd.specs.State.Entering.{most_of}
+use Rattle.tstd.specs.State.Gone.{gone}
+use Rattle.tstd.specs.State.Walking.{left_ahead}
 use Rattle.tstd.proofs.Takings.{most_none, most_byte, most_whole, all_next, drop_next, there_next, none_next, last_decides, none_of_some}
 use Rattle.tstd.proofs.Climbing.{head_climbs}
 use Rattle.tstd.proofs.texts.take_text.Goals as goal
@@ -59,7 +59,7 @@ loop-taken-preserved g c =
       step = e.step ∙ inv.step;
       until = c.enter.ensures.until ∙ inv.until;
       sound = c.enter.ensures.sound;
-      held = omega (arith, c.enter.ensures.held, inv.held, e.beyond);
+      fullness = omega (arith, c.enter.ensures.fullness, inv.fullness, e.beyond);
     }
 
 pub returns-clause-most : goal.returns-clause-most

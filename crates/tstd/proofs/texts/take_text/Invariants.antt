@@ -1,10 +1,10 @@
 use Rattle.std.proofs.Common.{◌≡◌, ℕ, ◌-◌, ◌*◌, ◌≤◌, nat_le, nat_eq, ◌||◌, List, ◌∷◌, length, take, drop}
 use Rattle.std.specs.List.{list_all}
 use Rattle.unit_timing.specs.PesPacket.{PesPacket}
-use Rattle.tstd.specs.Entering.{most_of}
-use Rattle.tstd.specs.Gone.{gone}
-use Rattle.tstd.specs.Keeping.{IsSound}
-use Rattle.tstd.specs.Walking.{left_ahead, longest_of}
+use Rattle.tstd.specs.State.Entering.{most_of}
+use Rattle.tstd.specs.State.Gone.{gone}
+use Rattle.tstd.specs.State.Keeping.{IsSound}
+use Rattle.tstd.specs.State.Walking.{left_ahead, longest_of}
 use Rattle.tstd.proofs.texts.take_text.Given as goal
 
 abbrev pub invariant-loop-taken : goal.invariant-loop-taken
@@ -22,7 +22,7 @@ invariant-loop-taken g l = record {
   step : l.walk.queue.step ≡ l.fn.walk.queue.step;
   until : l.buffer.current.until ≡ l.fn.buffer.current.until;
   sound : IsSound l.buffer;
-  held : l.buffer.held ≤ l.walk.byte;
+  fullness : l.buffer.fullness ≤ l.walk.byte;
 }
 
 abbrev pub decreases-loop-taken : goal.decreases-loop-taken

@@ -3,8 +3,8 @@ use Rattle.unit_timing.specs.Arrived.{first_late}
 use Rattle.unit_timing.specs.PesPacket.{PesPacket}
 use Rattle.pes_packet.specs.Units.{units_of}
 use Rattle.tstd.specs.Carried.{timed_texts}
-use Rattle.tstd.specs.Entering.{most_of}
-use Rattle.tstd.specs.Walking.{left_ahead}
+use Rattle.tstd.specs.State.Entering.{most_of}
+use Rattle.tstd.specs.State.Walking.{left_ahead}
 use Rattle.tstd.proofs.UnitLists.{texts_own, texts_other, texts_end, late_more, late_end, size_next, fewer_left}
 use Rattle.tstd.proofs.Walks.{nothing}
 use Rattle.tstd.proofs.units.measure_units.Goals as goal
@@ -24,7 +24,7 @@ loop-entry-preserved-then-not-is_of g c =
       rx = inv.rx;
       step = inv.step;
       sound = inv.sound;
-      held = inv.held;
+      fullness = inv.fullness;
       number = omega (arith, inv.number);
     }
 
@@ -57,7 +57,7 @@ loop-entry-preserved g c =
       rx = e.rx ∙ inv.rx;
       step = e.step ∙ inv.step;
       sound = e.sound;
-      held = e.held;
+      fullness = e.fullness;
       number = omega (arith, inv.number);
     }
 

@@ -3,9 +3,9 @@ use Rattle.std.specs.Option.{option_or}
 use Rattle.unit_timing.specs.Arrived.{first_late}
 use Rattle.pes_packet.specs.Units.{units_of}
 use Rattle.tstd.specs.Carried.{timed_texts}
-use Rattle.tstd.specs.Entering.{most_of}
-use Rattle.tstd.specs.Keeping.{IsSound}
-use Rattle.tstd.specs.Walking.{left_ahead, longest_of}
+use Rattle.tstd.specs.State.Entering.{most_of}
+use Rattle.tstd.specs.State.Keeping.{IsSound}
+use Rattle.tstd.specs.State.Walking.{left_ahead, longest_of}
 use Rattle.tstd.proofs.units.measure_units.Given as goal
 
 abbrev pub invariant-loop-entry : goal.invariant-loop-entry
@@ -19,6 +19,6 @@ invariant-loop-entry g l = record {
   rx : l.walk.rx ≡ l.fn.walk.rx;
   step : l.walk.queue.step ≡ l.fn.walk.queue.step;
   sound : IsSound l.buffer;
-  held : l.buffer.held ≤ l.walk.byte;
+  fullness : l.buffer.fullness ≤ l.walk.byte;
   number : l.number ≤ l.entry-index;
 }

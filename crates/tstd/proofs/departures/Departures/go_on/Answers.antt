@@ -1,6 +1,6 @@
 use Rattle.std.proofs.Common.{◌≡◌, ◌∙◌, ◌+◌, ◌-◌, ◌*◌, ◌<◌, ◌≤◌, length, arith, sym, ap}
 use Rattle.clock27.specs.Arrival.{bytes_from}
-use Rattle.tstd.specs.Walking.{left_ahead, longest_of, left_from, longest_from}
+use Rattle.tstd.specs.State.Walking.{left_ahead, longest_of, left_from, longest_from}
 use Rattle.tstd.proofs.Passing.{passed-step}
 use Rattle.tstd.proofs.Walks.{go_into, go_into_longest, go_past}
 use Rattle.tstd.proofs.departures.Departures.go_on.Goals as goal

@@ -1,5 +1,5 @@
 use Rattle.std.proofs.Common.{◌≡◌, ◌∙◌, ◌*◌, ◌<◌, arith, sym, refl}
-use Rattle.tstd.specs.Walking.{left_ahead, longest_of}
+use Rattle.tstd.specs.State.Walking.{left_ahead, longest_of}
 use Rattle.tstd.proofs.Walks.{walk_ended, walk_longest, walk_given, walk_given_longest}
 use Rattle.tstd.proofs.departures.Departures.next.Goals as goal
 

@@ -1,5 +1,5 @@
 use Rattle.std.proofs.Common.{◌≡◌, ◌≤◌, length}
-use Rattle.tstd.specs.Walking.{left_ahead, longest_of}
+use Rattle.tstd.specs.State.Walking.{left_ahead, longest_of}
 use Rattle.tstd.proofs.departures.Departures.next.Given as goal
 
 abbrev pub invariant-loop-self : goal.invariant-loop-self

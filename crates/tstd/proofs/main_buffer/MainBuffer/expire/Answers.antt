@@ -1,5 +1,5 @@
 use Rattle.std.proofs.Common.{◌≡◌, ◌<◌, filter, refl, arith}
-use Rattle.tstd.specs.Kept.{is_there, all_bytes}
+use Rattle.tstd.specs.State.Kept.{is_there, all_bytes}
 use Rattle.tstd.proofs.Tallying.{fewer_bytes, there_filtered, filtered_there, early_there}
 use Rattle.tstd.proofs.main_buffer.MainBuffer.expire.Goals as goal
 
@@ -25,8 +25,8 @@ returns-then-moment-self-clause-now g c =
     rw (c.tally-bytes.ensures.bytes, c.as_slice.ensures.value, c.drop_gone.ensures) refl in
     rw c.drop_gone.ensures (omega (arith, sum, filtered_there c.args.moment c.args.self.now.stays.items))
 
-pub returns-then-moment-self-clause-held : goal.returns-then-moment-self-clause-held
-returns-then-moment-self-clause-held g c =
+pub returns-then-moment-self-clause-fullness : goal.returns-then-moment-self-clause-fullness
+returns-then-moment-self-clause-fullness g c =
     let s = c.requires.sound in
     let sum : c.tally-bytes.result.0 ≡ all_bytes (filter (is_there c.args.moment) c.args.self.now.stays.items) =
     rw (c.tally-bytes.ensures.bytes, c.as_slice.ensures.value, c.drop_gone.ensures) refl in

@@ -1,5 +1,5 @@
 use Rattle.std.proofs.Common.{refl, arith}
-use Rattle.tstd.specs.Kept.{all_there, all_bytes, all_until}
+use Rattle.tstd.specs.State.Kept.{all_there, all_bytes, all_until}
 use Rattle.tstd.proofs.Tallying.{none_there}
 use Rattle.tstd.proofs.main_buffer.MainBuffer.new.Goals as goal
 
