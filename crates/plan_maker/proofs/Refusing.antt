@@ -1,7 +1,6 @@
 -- Where a description has a reason, no plan serves it.
-use Rattle.std.proofs.Common.{◌≡◌, ℕ, zero, suc, ◌+◌, ◌-◌, ◌*◌, ◌%◌, ◌<◌, ◌≤◌, Bool, true, false, List, [], ◌∷◌, ◌++◌, length, get_or, nat_lt, None, refl, ap, sym, ◌∙◌, inl, inr, arith, add-one}
-use Rattle.std.specs.Prelude.{if◌then◌else◌}
-use Rattle.std.proofs.Math.Nat.{mul-le-mul_left, mul-le-mul_right, mod-eq_of_lt}
+use Rattle.std.proofs.Common.{◌≡◌, ℕ, zero, suc, ◌+◌, ◌*◌, ◌%◌, ◌<◌, ◌≤◌, Bool, true, false, List, [], ◌∷◌, length, get_or, nat_lt, refl, ap, ◌∙◌, inl, inr, arith, add-one}
+use Rattle.std.proofs.Math.Nat.{mul-le-mul_left, mod-eq_of_lt}
 use Rattle.std.proofs.lemmas.Bool.{cases_Bool, cases_lt}
 use Rattle.std.proofs.lemmas.Bool.Decides.{nat_tests}
 use Rattle.clock27.specs.Release.{slot_units}
@@ -19,13 +18,13 @@ use Rattle.slot_plan.specs.declared.slot.Item.TheVariants.{Stream, Pcr, Table}
 use Rattle.slot_plan.specs.Numbered.{numbered}
 use Rattle.slot_plan.specs.Planned.{Planned}
 use Rattle.slot_plan.specs.Items.{marks}
-use Rattle.slot_plan.specs.Entries.{entry, first_failing}
+use Rattle.slot_plan.specs.Entries.{entry}
 use Rattle.slot_plan.specs.Conditions.{IsServing, stream_claim, pcr_gap_entry, table_gap_entry, stream_rate_entry, stream_buffer_entries}
 use Rattle.slot_plan.proofs.Holding.{holds_at, holds_item, holds_first, at_most_holds}
 use Rattle.slot_plan.proofs.Serving.{serves}
 use Rattle.plan_checker.proofs.Marking.{length_marks}
 use Rattle.plan_maker.specs.declared.reasoning.Reason.{Reason}
-use Rattle.plan_maker.specs.Reasons.{pcr_reason, table_reason, drain_reason, pcr_reasons, table_reasons, drain_reasons, reasons_of, ReasonLaw}
+use Rattle.plan_maker.specs.Reasons.{pcr_reason, table_reason, drain_reason, pcr_reasons, table_reasons, drain_reasons, ReasonLaw}
 
 -- ---- lists of reasons
 
@@ -131,7 +130,7 @@ module _ (d : Described) (p : Planned) (serving : IsServing d p) where
       let carries : work_left d.rate stream.rx claim.start own ≤ claim.start = at_most_holds 6 3 i (work_left d.rate stream.rx claim.start own) claim.start refl last in
       let pace : per_period own * d.rate ≤ length p.slots * stream.rx = rw (length_marks (Stream i) p.slots) at (drains d.rate stream.rx claim.start own carries) in
       rw (not_less (stream.group * stream.interval * stream.rx) (stream.group_packets * slot_units)
-        (divided (length p.slots) stream.group_packets (per_period own) (stream.group * stream.interval) d.rate stream.rx s.shape.some_slots (regroup (stream.group_packets * length p.slots * slot_units) (per_period own) stream.group stream.interval d.rate le) pace)) refl
+      (divided (length p.slots) stream.group_packets (per_period own) (stream.group * stream.interval) d.rate stream.rx s.shape.some_slots (regroup (stream.group_packets * length p.slots * slot_units) (per_period own) stream.group stream.interval d.rate le) pace)) refl
     where
       regroup : (m c g t r : ℕ) → m ≤ c * g * t * r → m ≤ c * (g * t) * r
       regroup m c g t r h = let same : c * g * t ≡ c * (g * t) = grind arith in omega (arith, h, ap (λ (n : ℕ). n * r) same)

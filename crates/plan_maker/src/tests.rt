@@ -91,7 +91,10 @@ fn radio(alloc: Global, programs: usize, rate: u32) -> Result<Description, Fail>
 
 /// How many slots of a plan are not null.
 fn used<A: Allocator>(plan: &Plan<A>) -> usize {
-    plan.slots().iter().filter(|slot| **slot != Slot::Null).count()
+    plan.slots()
+        .iter()
+        .filter(|slot| **slot != Slot::Null)
+        .count()
 }
 
 fn found(alloc: Global, description: Description) -> Result<CheckedPlan, Fail> {
@@ -135,7 +138,10 @@ fn full_service(rt: HostRuntime) -> Result<(), Fail> {
     let checked = found(rt.alloc(), radio(rt.alloc(), 4, 3_000_000)?)?;
     let slots = checked.plan().slots().len();
     let used = used(checked.plan());
-    assert!(rt; used.saturating_mul(10) >= slots.saturating_mul(9), "{used} of {slots} slots");
+    assert!(rt;
+        used.saturating_mul(10) >= slots.saturating_mul(9),
+        "{used} of {slots} slots"
+    );
     Ok(())
 }
 
@@ -180,14 +186,8 @@ fn refused_memory(rt: HostRuntime) -> Result<(), Fail> {
 fn reasons_of_descriptions(rt: HostRuntime) -> Result<(), Fail> {
     for (interval, reason) in [
         ("interval = 2160", None),
-        (
-            "interval = 1",
-            Some(Reason::SlowDrain(0, 541_440_000)),
-        ),
-        (
-            "interval = 270",
-            Some(Reason::SlowDrain(0, 2_005_334)),
-        ),
+        ("interval = 1", Some(Reason::SlowDrain(0, 541_440_000))),
+        ("interval = 270", Some(Reason::SlowDrain(0, 2_005_334))),
         ("interval = 271", None),
     ] {
         let description = with_stream(rt.alloc(), interval)?;
@@ -212,7 +212,10 @@ fn refused_reasons(rt: HostRuntime) -> Result<(), Fail> {
             blocks.push(block)?;
         }
     }
-    assert!(rt; reasons(&heap, &description).is_err(), "memory in a full heap");
+    assert!(rt;
+        reasons(&heap, &description).is_err(),
+        "memory in a full heap"
+    );
     drop(blocks);
     let found = reasons(&heap, &description)?;
     assert_eq!(rt; found.len(), 1);
