@@ -44,7 +44,7 @@ IsBytes-append_right (b ∷ xs) ys h = IsBytes-append_right xs ys (IsBytes-tail 
 pub Takes-none : (bytes : List ℕ) → IsBytes bytes → Takes bytes [] bytes
 Takes-none bytes h = record { is = refl; rest_fits = h }
 
--- one text behind another
+-- one text after another
 pub Takes-then : (a x b y c : List ℕ) → Takes a x b → Takes b y c → Takes a (x ++ y) c
 Takes-then a x b y c p q = record { is = p.is ∙ ap (λ (t : List ℕ). x ++ t) q.is ∙ sym (append_assoc x y c); rest_fits = q.rest_fits }
 

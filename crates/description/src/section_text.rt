@@ -9,8 +9,8 @@ use crate::description::Description;
 use crate::program::Program;
 use crate::table_kind::{TableKind, has_event};
 use arrayvec::ArrayVec;
-use dvb_tables::{Tdt, utc_time};
 use bit_fields::append;
+use dvb_tables::{Tdt, utc_time};
 
 // The time and date section.
 fn write_time(moment: u64, out: &mut ArrayVec<u8, 4096>)

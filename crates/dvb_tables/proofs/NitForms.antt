@@ -23,7 +23,7 @@ use Rattle.dvb_tables.proofs.TransportStreamLoops.{transport_streams_is, transpo
 counted : (a b : ℕ) → a < 256 → b < 256 → IsCount (a ∷ b ∷ []) (a % 16 * 256 + b)
 counted a b ha hb = record { len = refl; reserved = a / 16; spelled = omega arith; four_bits = omega arith; twelve_bits = omega arith }
 
--- the head of an entry of two bytes is a count of what stands behind it
+-- the head of an entry of two bytes is a count of what stands after it
 count_found : (e : EntryView) → IsEntry 2 e → IsBytes e.head → IsCount e.head (length e.descriptors)
 unfolding descriptors_length
 count_found e entry fits =
@@ -63,7 +63,7 @@ to_the_end_is (Some p) loop e =
     let a = accepted (length p.1 == 0) p.0.descriptors Body loop e in
     record { front = p; there = refl; ends = empty p.1 (eqb-true (length p.1) 0 a.0); is = a.1 }
 
--- what was found behind the header
+-- what was found after the header
 record Behind (header : LongHeader) (o : Option (EntryView × List ℕ)) (t : NitView) : Type 0 where
   front : EntryView × List ℕ
   there : o ≡ Some front

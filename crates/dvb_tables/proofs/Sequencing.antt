@@ -1,4 +1,4 @@
--- Values one behind another, and the entries of a loop that say them.
+-- Values one after another, and the entries of a loop that say them.
 use Rattle.std.proofs.Common.{◌≡◌, ℕ, ◌+◌, ◌<◌, zero, suc, Bool, true, refl, List, [], ◌∷◌, ◌++◌, length, map, sym, ap, ap₂, ◌∙◌, subst, append_assoc, append-nil, arith, length-append}
 use Rattle.std.specs.Prelude.{flat_map, is_some, Option, Some, All, unwrap_or, Result, Ok, Err, cond, slice_index_or}
 use Rattle.bit_fields.specs.Fields.{IsBytes}
@@ -34,7 +34,7 @@ pub record SaysAll {A : Type 0} (k : ℕ) (of : EntryView → A) (bytes : List �
   pub entries : AreEntries k bytes es
   pub values : map of es ≡ xs
 
--- values one behind another are what entries say
+-- values one after another are what entries say
 pub entries_of : {A : Type 0} (k : ℕ) (Is : List ℕ → A → Type 0) (of : EntryView → A)
     → ((text : List ℕ) (x : A) → Is text x → IsBytes text → Says k of text x)
     → (bytes : List ℕ) (xs : List A) → IsBytes bytes → IsSequence Is bytes xs → SaysAll k of bytes xs
@@ -77,14 +77,14 @@ all_head P x xs h = h 0 x (omega arith)
 pub all_tail : {A : Type 0} (P : A → Type 0) (x : A) (xs : List A) → All P (x ∷ xs) → All P xs
 all_tail P x xs h k d less = h (suc k) d (omega arith)
 
--- what is written one behind another is a sequence
+-- what is written one after another is a sequence
 pub written_sequence : {A : Type 0} (Is : List ℕ → A → Type 0) (text : A → List ℕ) (Fits : A → Type 0)
     → ((x : A) → Fits x → Is (text x) x) → (xs : List A) → All Fits xs → IsSequence Is (flat_map text xs) xs
 written_sequence Is text Fits each [] h = refl
 written_sequence Is text Fits each (x ∷ xs) h =
     (text x, flat_map text xs, refl, each x (all_head Fits x xs h), written_sequence Is text Fits each xs (all_tail Fits x xs h))
 
--- what is written one behind another is what entries say
+-- what is written one after another is what entries say
 pub written_entries : {A : Type 0} (k : ℕ) (of : EntryView → A) (text : A → List ℕ) (Fits : A → Type 0)
     → ((x : A) → Fits x → Says k of (text x) x) → (xs : List A) → All Fits xs → SaysAll k of (flat_map text xs) xs
 written_entries k of text Fits each [] h = record { es = []; entries = refl; values = refl }
@@ -106,7 +106,7 @@ pub values_read : {A : Type 0} (k : ℕ) (of : EntryView → A) (bytes : List �
 values_read k of bytes xs some h =
     ap (λ (o : Option (List EntryView)). map of (unwrap_or o [])) (loop_at-read k bytes h.es some h.entries) ∙ h.values
 
--- one value more behind a loop
+-- one value more after a loop
 pub values_behind : {A : Type 0} (k : ℕ) (of : EntryView → A) (bytes text : List ℕ) (es : List EntryView) (x : A) → AreEntries k bytes es → Says k of text x
     → SaysAll k of (bytes ++ text) (map of es ++ x ∷ [])
 values_behind k of bytes text es x before one =

@@ -1,4 +1,4 @@
--- What stands behind the bytes that a descriptor counts.
+-- What stands after the bytes that a descriptor counts.
 use Rattle.std.proofs.Common.{◌≡◌, ℕ, zero, suc, ◌+◌, ◌<◌, ◌≤◌, Bool, true, false, cond, nat_lt, IsTrue, Option, None, Some, refl, List, [], ◌∷◌, ◌++◌, length, take, drop, sym, ap, ◌∙◌, subst, append_assoc, arith, ◌↔◌}
 use Rattle.std.proofs.lemmas.List.{take-append-drop, length-drop, length-append}
 use Rattle.dvb_tables.specs.Descriptors.{descriptor}
@@ -6,7 +6,7 @@ use Rattle.dvb_tables.specs.DescriptorLoops.{AreDescriptors, ends_whole, are_who
 use Rattle.dvb_tables.specs.Laws.{WholeDescriptors}
 use Rattle.std.proofs.lemmas.Bool.{ltb-false, ltb-true}
 
--- where the bytes are there, what counts is what stands behind them
+-- where the bytes are there, what counts is what stands after them
 pub ends_behind : (n : ℕ) (bytes : List ℕ) → n ≤ length bytes → ends_whole n bytes ≡ ends_whole 0 (drop n bytes)
 unfolding ends_whole
 ends_behind zero bytes h = refl
@@ -20,7 +20,7 @@ ends_short zero bytes h = absurd (omega arith)
 ends_short (suc n) [] h = refl
 ends_short (suc n) (b ∷ bytes) h = ends_short n bytes (omega arith)
 
--- the bytes that were counted, and the descriptors behind them
+-- the bytes that were counted, and the descriptors after them
 record Ends (n : ℕ) (bytes : List ℕ) : Type 0 where
   body : List ℕ
   rest : List ℕ
@@ -58,7 +58,7 @@ ends_there (suc n) (b ∷ bytes) h =
     let e = ends_there n bytes h in
     record { body = b ∷ e.body; rest = e.rest; ds = e.ds; is = ap (λ (t : List ℕ). b ∷ t) e.is; len = ap suc e.len; there = e.there }
 
--- descriptors one behind another are accepted
+-- descriptors one after another are accepted
 whole_there : (bytes : List ℕ) (ds : List (ℕ × List ℕ)) → AreDescriptors bytes ds → ends_whole 0 bytes ≡ true
 unfolding ends_whole
 whole_there bytes [] h = rw h refl
@@ -100,7 +100,7 @@ nothing : (body rest : List ℕ) → length body ≡ 0 → body ++ rest ≡ rest
 nothing [] rest e = refl
 nothing (x ∷ body) rest e = absurd (omega arith)
 
--- the test accepts exactly the descriptors one behind another
+-- the test accepts exactly the descriptors one after another
 pub whole_descriptors : WholeDescriptors
 unfolding are_whole_descriptors
 whole_descriptors bytes = (

@@ -13,11 +13,11 @@ is_plain_character b =
 unfoldable pub is_plain : List ℕ → Bool
 is_plain text = list_all is_plain_character text
 
--- a text of UTF-8 bytes as it is written: plain in the default table, or behind 0x15, which selects UTF-8
+-- a text of UTF-8 bytes as it is written: plain in the default table, or after 0x15, which selects UTF-8
 abbrev pub text_bytes : List ℕ → List ℕ
 text_bytes text = if is_plain text then text else 0x15 ∷ text
 
--- the text that coded bytes are: behind 0x15 UTF-8, else what stands there
+-- the text that coded bytes are: after 0x15 UTF-8, else what stands there
 unfoldable pub decoded : List ℕ → List ℕ
 decoded [] = []
 decoded (b ∷ bytes) = if b == 0x15 then bytes else b ∷ bytes

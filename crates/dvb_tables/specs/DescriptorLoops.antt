@@ -1,13 +1,13 @@
--- Loops of descriptors (ISO/IEC 13818-1, 2.6): descriptors one behind another.
+-- Loops of descriptors (ISO/IEC 13818-1, 2.6): descriptors one after another.
 use Rattle.std.specs.Prelude.{◌≡◌, ℕ, zero, suc, nat_lt, if◌then◌else◌, Bool, true, false, List, [], ◌∷◌, ◌++◌, length, drop, Option, None, Some}
 use Rattle.dvb_tables.specs.Descriptors.{descriptor}
 
--- bytes are descriptors one behind another, each a tag and the bytes behind its length
+-- bytes are descriptors one after another, each a tag and the bytes after its length
 abbrev pub AreDescriptors : List ℕ → List (ℕ × List ℕ) → Type 0
 AreDescriptors bytes [] = bytes ≡ []
 AreDescriptors bytes (d ∷ ds) = (rest : List ℕ) × (bytes ≡ descriptor d.0 d.1 ++ rest) × AreDescriptors rest ds
 
--- whether bytes are the last n bytes of a descriptor, and whole descriptors behind them
+-- whether bytes are the last n bytes of a descriptor, and whole descriptors after them
 unfoldable pub ends_whole : ℕ → List ℕ → Bool
 ends_whole zero [] = true
 ends_whole (suc n) [] = false
@@ -19,7 +19,7 @@ ends_whole (suc n) (b ∷ bytes) = ends_whole n bytes
 unfoldable pub are_whole_descriptors : List ℕ → Bool
 are_whole_descriptors bytes = ends_whole 0 bytes
 
--- what stands behind the first descriptor; nothing where it is not whole
+-- what stands after the first descriptor; nothing where it is not whole
 unfoldable pub behind_first : List ℕ → Option (List ℕ)
 behind_first [] = None
 behind_first (tag ∷ []) = None

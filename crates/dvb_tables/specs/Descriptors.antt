@@ -1,11 +1,11 @@
 -- Descriptors (ISO/IEC 13818-1, 2.6, and EN 300 468, 6.2).
 use Rattle.std.specs.Prelude.{ℕ, List, [], ◌∷◌, ◌++◌, length}
 
--- a descriptor: its tag, the number of bytes behind it, and these bytes
+-- a descriptor: its tag, the number of bytes after it, and these bytes
 abbrev pub descriptor : ℕ → List ℕ → List ℕ
 descriptor tag body = tag ∷ length body ∷ body
 
--- a text behind the number of its bytes
+-- a text after the number of its bytes
 abbrev pub counted : List ℕ → List ℕ
 counted text = length text ∷ text
 

@@ -22,7 +22,7 @@ TimesAreDigits = (moment : ℕ) → let time = moment % 86400 in number (utc_tim
 abbrev pub TextsAreDecoded : Type 0
 TextsAreDecoded = (text : List ℕ) → decoded (text_bytes text) ≡ text
 
--- the test of descriptors accepts exactly descriptors one behind another
+-- the test of descriptors accepts exactly descriptors one after another
 abbrev pub WholeDescriptors : Type 0
 WholeDescriptors = (bytes : List ℕ) → IsTrue (are_whole_descriptors bytes) ↔ ((ds : List (ℕ × List ℕ)) × AreDescriptors bytes ds)
 

@@ -45,7 +45,7 @@ unfoldable pub to_the_end : Option (EntryView × List ℕ) → Result (List ℕ)
 to_the_end None = Err Body
 to_the_end (Some p) = if length p.1 == 0 then Ok p.0.descriptors else Err Body
 
--- the table that has these descriptors, and these bytes behind them
+-- the table that has these descriptors, and these bytes after them
 unfoldable pub nit_behind : LongHeader → Option (EntryView × List ℕ) → Result NitView SectionError
 nit_behind header None = Err Body
 nit_behind header (Some p) = to_the_end (entry_at 2 p.1) >>= λ loop. transport_streams_at loop >>= λ streams. Ok (record {
@@ -58,7 +58,7 @@ nit_behind header (Some p) = to_the_end (entry_at 2 p.1) >>= λ loop. transport_
 unfoldable pub nit_at : SectionView → Result NitView SectionError
 nit_at s = table_header_at 0x40 1021 s >>= λ header. nit_behind header (entry_at 2 s.body)
 
--- a number of bytes as it is written behind four reserved bits
+-- a number of bytes as it is written after four reserved bits
 unfoldable pub count_text : ℕ → List ℕ
 count_text n = (0xF0 + n / 256) ∷ (n % 256) ∷ []
 

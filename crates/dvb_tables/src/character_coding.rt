@@ -8,7 +8,7 @@ use arrayvec::ArrayVec;
 use std::marker::Model;
 use thiserror::Error;
 
-// Selects UTF-8 for the bytes behind it (EN 300 468, annex A, table A.3).
+// Selects UTF-8 for the bytes after it (EN 300 468, annex A, table A.3).
 const UTF_8: u8 = 0x15;
 
 /// Why a text is refused.

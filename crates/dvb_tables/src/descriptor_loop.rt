@@ -3,8 +3,8 @@
 ghost use Rattle.std.specs.Prelude.{◌≡◌, option_map};
 ghost use Rattle.dvb_tables.specs.DescriptorLoops.{are_whole_descriptors, behind_first};
 
-/// Whether bytes are whole descriptors, one behind another: a descriptor's tag, the number of the bytes
-/// behind it, and these bytes. No bytes are whole descriptors too.
+/// Whether bytes are whole descriptors, one after another: a descriptor's tag, the number of the bytes
+/// after it, and these bytes. No bytes are whole descriptors too.
 pub fn are_whole_descriptors(bytes: &[u8]) -> bool
     ensures { result ≡ are_whole_descriptors bytes.now }
 {
@@ -18,7 +18,7 @@ pub fn are_whole_descriptors(bytes: &[u8]) -> bool
     true
 }
 
-// What stands behind the first descriptor.
+// What stands after the first descriptor.
 #[tactic(auto, unfolding(crate::specs::DescriptorLoops::behind_first))]
 fn behind_first(bytes: &[u8]) -> Option<&[u8]>
     ensures { option_map (λ s. s.now) result ≡ behind_first bytes.now }

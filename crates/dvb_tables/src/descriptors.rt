@@ -1,5 +1,5 @@
 //! Descriptors as they are written (ISO/IEC 13818-1, 2.6, and EN 300 468, 6.2): a tag, the number of
-//! bytes behind it, and these bytes. Each function appends one descriptor.
+//! bytes after it, and these bytes. Each function appends one descriptor.
 
 ghost use Rattle.std.specs.Prelude.{◌≡◌, ◌+◌, ◌<◌, ◌≤◌, ◌++◌, length};
 ghost use Rattle.arrayvec.specs.ArrayVec.{array_vec_len};

@@ -40,7 +40,7 @@ impl EitPf {
     ///
     /// Refusals: `Syntax` for another table_id or the short form; `Length` for a section_length over
     /// 4,093; `Body` where the section ends before the loop or within an event. Times and descriptors are
-    /// kept as bytes, digits or not, whole or not; the bit behind section_syntax_indicator and the
+    /// kept as bytes, digits or not, whole or not; the bit after section_syntax_indicator and the
     /// reserved bits are not looked at.
     pub fn read(section: &Section<'_>) -> Result<EitPf, SectionError>
         // What is read is what the section says.

@@ -8,10 +8,10 @@ use arrayvec::ArrayVec;
 use bit_fields::append;
 use psi_tables::{SectionError, is_whole_loop};
 
-/// The bytes that a section has room for behind the front of an event information table.
+/// The bytes that a section has room for after the front of an event information table.
 pub const GREATEST_EVENT_LOOP: usize = 4078;
 
-/// Whole events, held as their bytes one behind another, without memory: as many as one section has room
+/// Whole events, held as their bytes one after another, without memory: as many as one section has room
 /// for.
 #[derive(Drop)]
 pub struct EventLoop {

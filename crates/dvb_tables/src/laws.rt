@@ -12,7 +12,7 @@ pub fn texts_are_decoded()
     ensures { TextsAreDecoded }
 {}
 
-/// The test of descriptors accepts exactly the bytes that are descriptors one behind another.
+/// The test of descriptors accepts exactly the bytes that are descriptors one after another.
 pub fn descriptors_are_whole()
     ensures { WholeDescriptors }
 {}

@@ -19,7 +19,7 @@ mod character_coding;
 mod descriptor_loop;
 mod descriptors;
 
-// The tables, each behind the entries of its loop.
+// The tables, each after the entries of its loop.
 mod event_entry;
 mod event_information;
 mod event_loop;

@@ -38,7 +38,7 @@ impl<'a> Nit<'a> {
     /// Refusals: `Syntax` for another table_id or the short form; `Length` for a section_length over
     /// 1,021; `Body` where network_descriptors_length passes the end, transport_stream_loop_length does
     /// not end the section, or the loop ends within a transport stream. Descriptors are kept as bytes,
-    /// whole or not; reserved bits and the bit behind section_syntax_indicator are not looked at.
+    /// whole or not; reserved bits and the bit after section_syntax_indicator are not looked at.
     pub fn read(section: &Section<'a>) -> Result<Nit<'a>, SectionError>
         // What is read is what the section says.
         ensures found { IfOk result (λ nit. IsNit (section_view section.now) (nit_view nit)) }
@@ -144,7 +144,7 @@ fn is_too_long(network: usize, streams: usize) -> bool
     network > GREATEST_TABLE_LENGTH - 13 || streams > GREATEST_TABLE_LENGTH - 13 - network
 }
 
-// A number of bytes behind four reserved bits.
+// A number of bytes after four reserved bits.
 #[tactic(auto, unfolding(crate::specs::NetworkInformation::count_text))]
 fn count_text(count: usize) -> [u8; 2]
     requires { count < 4096 }

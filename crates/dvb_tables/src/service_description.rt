@@ -35,7 +35,7 @@ impl<'a> Sdt<'a> {
     ///
     /// Refusals: `Syntax` for another table_id or the short form; `Length` for a section_length over
     /// 1,021; `Body` where the section ends before the loop or within a service. Descriptors are kept as
-    /// bytes, whole or not; reserved bits and the bit behind section_syntax_indicator are not looked at.
+    /// bytes, whole or not; reserved bits and the bit after section_syntax_indicator are not looked at.
     pub fn read(section: &Section<'a>) -> Result<Sdt<'a>, SectionError>
         // What is read is what the section says.
         ensures found { IfOk result (λ sdt. IsSdt (section_view section.now) (sdt_view sdt)) }

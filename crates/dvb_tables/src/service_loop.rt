@@ -7,10 +7,10 @@ use crate::service::{Service, Services};
 use arrayvec::ArrayVec;
 use psi_tables::SectionError;
 
-/// The bytes that a section has room for behind the front of a service description table.
+/// The bytes that a section has room for after the front of a service description table.
 pub const GREATEST_SERVICE_LOOP: usize = 1009;
 
-/// Services that are being put together: whole entries, held as their bytes one behind another, without
+/// Services that are being put together: whole entries, held as their bytes one after another, without
 /// memory; as many as one section has room for.
 #[derive(Drop)]
 pub struct ServiceLoop {

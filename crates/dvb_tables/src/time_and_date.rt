@@ -24,7 +24,7 @@ impl Tdt {
     /// Reads a section as a TDT.
     ///
     /// Refusals: `Syntax` for another table_id or the long form; `Body` for a section_length other than
-    /// 5. The bit behind section_syntax_indicator is not looked at.
+    /// 5. The bit after section_syntax_indicator is not looked at.
     pub fn read(section: &Section<'_>) -> Result<Tdt, SectionError>
         // What is read is what the section says.
         ensures found { IfOk result (λ tdt. IsTdt (section_view section.now) tdt) }

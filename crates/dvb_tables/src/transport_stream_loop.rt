@@ -7,10 +7,10 @@ use crate::transport_stream::{TransportStream, TransportStreams};
 use arrayvec::ArrayVec;
 use psi_tables::SectionError;
 
-/// The bytes that a section has room for behind the front of a network information table.
+/// The bytes that a section has room for after the front of a network information table.
 pub const GREATEST_TRANSPORT_STREAM_LOOP: usize = 1008;
 
-/// Transport streams that are being put together: whole entries, held as their bytes one behind another, without
+/// Transport streams that are being put together: whole entries, held as their bytes one after another, without
 /// memory; as many as one section has room for.
 #[derive(Drop)]
 pub struct TransportStreamLoop {

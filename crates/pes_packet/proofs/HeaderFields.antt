@@ -51,7 +51,7 @@ flags_of first second size stamps hf hs hn two flags = record {
   length_fits = hn;
 }
 
--- what was read behind PES_packet_length
+-- what was read after PES_packet_length
 pub record ReadsBehind (id len : ℕ) (bytes : List ℕ) (header : PesHeader) (size : ℕ) : Type 0 where
   pub behind : List ℕ
   pub rest : List ℕ
@@ -191,7 +191,7 @@ flag_numbers first second count control flags parts n hf hs hc is bc bf bp bn = 
 bad_again : (first second : ℕ) → first / 64 ≡ 2 → (second / 64 ≡ 1 → ⊥) → is_bad_flags first second ≡ false
 bad_again first second two one = or_from _ _ (ap not (eq-eqb _ _ two)) (ne_eqb _ _ one)
 
--- header data is read behind flag bytes
+-- header data is read after flag bytes
 flagged_again : (header : PesHeader) (first second count : ℕ) (stamps others rest : List ℕ)
     → first < 256 → second < 256 → count < 256 → IsBytes stamps
     → IsFlags (first ∷ second ∷ count ∷ []) header.stamps (length stamps + length others)
@@ -244,7 +244,7 @@ behind_by false header behind rest fits stands =
     let size : 6 ≡ 6 + length behind = sym (ap (λ (t : List ℕ). 6 + length t) stands.0) in
     ap (λ (h : PesHeader). Ok (h, 6)) whole ∙ ap (λ (n : ℕ). Ok (header, n)) size
 
--- what stands behind PES_packet_length is read
+-- what stands after PES_packet_length is read
 behind_again : (header : PesHeader) (behind rest : List ℕ) → IsBytes behind → IsBehind (has_flags header.id) behind header
     → cond (has_flags header.id) (flags_at header.id header.len (behind ++ rest)) (Ok (record { id = header.id; len = header.len; stamps = Absent }, 6))
     ≡ Ok (header, 6 + length behind)

@@ -13,7 +13,7 @@ use Rattle.pes_packet.specs.declared.reading.PesHeader.{PesHeader}
 abbrev pub marked : List ℕ → Bool
 marked text = slice_index text 0 % 2 == 1 && slice_index text 2 % 2 == 1 && slice_index text 4 % 2 == 1
 
--- the value of a stamp: 3, 15 and 15 bits, a marker bit behind each
+-- the value of a stamp: 3, 15 and 15 bits, a marker bit after each
 abbrev pub stamp_value : List ℕ → ℕ
 stamp_value text =
     (slice_index text 0 / 2 % 8 * 2 ^ 15 + (slice_index text 1 * 256 + slice_index text 2) / 2) * 2 ^ 15
@@ -59,7 +59,7 @@ is_too_short len size = not (len == 0) && nat_lt len (3 + size)
 abbrev pub is_bad_flags : ℕ → ℕ → Bool
 is_bad_flags first second = not (first / 64 == 2) || second / 64 == 1
 
--- the header data, all at hand, behind flags and lengths
+-- the header data, all at hand, after flags and lengths
 unfoldable pub data_at : ℕ → ℕ → ℕ → ℕ → ℕ → List ℕ → Result (PesHeader × ℕ) PesError
 data_at id len first second size bytes =
     if is_bad_flags first second then Err BadFlags

@@ -10,7 +10,7 @@ start_text id len = 0x00 ∷ 0x00 ∷ 0x01 ∷ id ∷ (len / 256) ∷ (len % 256
 unfoldable pub packet_length : ℕ → ℕ
 packet_length count = if nat_le count 65_535 then count else 0
 
--- a stamp behind its four bits: 3, 15 and 15 bits, a marker bit 1 behind each
+-- a stamp after its four bits: 3, 15 and 15 bits, a marker bit 1 after each
 unfoldable pub stamp_text : ℕ → ℕ → List ℕ
 stamp_text mark stamp =
     (mark * 16 + (stamp / 2 ^ 30 * 2 + 1))

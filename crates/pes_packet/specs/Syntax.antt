@@ -6,14 +6,14 @@ use Rattle.pes_packet.specs.declared.time_stamps.Stamps.{Stamps}
 use Rattle.pes_packet.specs.declared.time_stamps.Stamps.TheVariants.{Absent, Pts, PtsDts}
 use Rattle.pes_packet.specs.declared.reading.PesHeader.{PesHeader}
 
--- a stamp: four bits that are not looked at, then 3, 15 and 15 bits with a marker bit 1 behind each
+-- a stamp: four bits that are not looked at, then 3, 15 and 15 bits with a marker bit 1 after each
 pub record IsStamp (text : List ℕ) (stamp : ℕ) : Type 0 where
   pub len : length text ≡ 5
   pub mark : ℕ
   pub spelled : number text ≡ fields ((4, mark) ∷ (3, stamp / 2 ^ 30) ∷ (1, 1) ∷ (15, stamp / 2 ^ 15 % 2 ^ 15) ∷ (1, 1) ∷ (15, stamp % 2 ^ 15) ∷ (1, 1) ∷ [])
   pub below : stamp < 2 ^ 33
 
--- a PTS, and a DTS behind it
+-- a PTS, and a DTS after it
 pub record IsPtsDts (text : List ℕ) (pts dts : ℕ) : Type 0 where
   pub first : List ℕ
   pub second : List ℕ
@@ -61,7 +61,7 @@ pub record IsFlagged (text : List ℕ) (header : PesHeader) : Type 0 where
   pub stamps_stand : IsStamps stamps header.stamps
   pub counted : (header.len ≡ 0) ⊎ (length text ≤ header.len)
 
--- what stands behind PES_packet_length, by whether the stream_id has flag bytes
+-- what stands after PES_packet_length, by whether the stream_id has flag bytes
 abbrev pub IsBehind : Bool → List ℕ → PesHeader → Type 0
 IsBehind true text header = IsFlagged text header
 IsBehind false text header = (text ≡ []) × (header.stamps ≡ Absent)

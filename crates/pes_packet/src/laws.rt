@@ -18,7 +18,7 @@ pub fn header_sizes()
     ensures { HeaderSizes }
 {}
 
-/// More bytes behind those at hand change no answer of `read_header` but `Short`.
+/// More bytes after those at hand change no answer of `read_header` but `Short`.
 pub fn longer_is_read()
     ensures { LongerIsRead }
 {}

@@ -17,7 +17,7 @@ const START_CODE_PREFIX: [u8; 3] = [0x00, 0x00, 0x01];
 pub struct PesHeader {
     /// stream_id.
     pub id: u8,
-    /// PES_packet_length: the bytes behind it, or 0 where it does not count them.
+    /// PES_packet_length: the bytes after it, or 0 where it does not count them.
     pub len: u16,
     /// The stamps, in units of 90 kHz modulo 2^33.
     pub stamps: Stamps,
@@ -113,7 +113,7 @@ fn is_too_short(len: u16, size: u8) -> bool
     len != 0 && len < 3 + size as u16
 }
 
-// The header data, all at hand, behind flags and lengths.
+// The header data, all at hand, after flags and lengths.
 #[tactic(auto, unfolding(crate::specs::Reading::data_at))]
 fn data_at(
     id: u8,

@@ -84,7 +84,7 @@ pub(crate) fn stamps_at(flags: u8, bytes: &[u8]) -> Result<Stamps, PesError>
     }
 }
 
-// Fifteen bits or three, and the marker bit behind them.
+// Fifteen bits or three, and the marker bit after them.
 fn with_marker(bits: u16) -> u16
     requires { bits < 2 ^ 15 }
     ensures { result ≡ bits * 2 + 1 }
@@ -92,7 +92,7 @@ fn with_marker(bits: u16) -> u16
     bits << 1 | 1
 }
 
-/// Spells a stamp behind its four bits.
+/// Spells a stamp after its four bits.
 #[tactic(auto, unfolding(crate::specs::Spelling::stamp_text))]
 pub(crate) fn stamp_text(mark: u8, stamp: u64) -> [u8; 5]
     requires mark { mark < 16 }

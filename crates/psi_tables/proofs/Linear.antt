@@ -153,7 +153,7 @@ after_own_bytes r h =
     let r3 : ℕ = r2 * 2 ^ 8 % 2 ^ 32 in
     rw (after_own_byte r (r / 2 ^ 24) h refl, after_own_byte r1 (r / 2 ^ 16 % 256) (omega arith) (omega arith), after_own_byte r2 (r / 2 ^ 8 % 256) (omega arith) (omega arith), after_own_byte r3 (r % 256) (omega arith) (omega arith)) (omega arith)
 
--- behind a message stands its check word: the register ends 0
+-- after a message stands its check word: the register ends 0
 pub check_word-own : (xs : List ℕ)
     → check_word (xs ++ ((check_word xs / 2 ^ 24) ∷ (check_word xs / 2 ^ 16 % 256) ∷ (check_word xs / 2 ^ 8 % 256) ∷ (check_word xs % 256) ∷ [])) ≡ 0
 unfolding check_word

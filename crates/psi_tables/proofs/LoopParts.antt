@@ -11,7 +11,7 @@ some_is : {A : Type 0} (b : Bool) (o : Option A) (x : A) → cond b None o ≡ S
 some_is true o x e = absurd cc
 some_is false o x e = (refl, e)
 
--- an entry at the front of bytes, and what stands behind it
+-- an entry at the front of bytes, and what stands after it
 pub record HasEntry (k : ℕ) (bytes : List ℕ) (e : EntryView) (rest : List ℕ) : Type 0 where
   pub is : bytes ≡ entry_text e ++ rest
   pub entry : IsEntry k e
@@ -71,7 +71,7 @@ loop_from-more k (b ∷ bytes) (suc n) (suc m) some hn hm =
     let shorter : length p.1 + k ≤ length (b ∷ bytes) = HasEntry-shorter k (b ∷ bytes) p.0 p.1 (entry_at-is k (b ∷ bytes) p e) in
     ap (λ (o : Option (List EntryView)). option_map (λ es. p.0 ∷ es) o) (loop_from-more k p.1 n m some (omega arith) (omega arith)))
 
--- a loop is its first entry and the loop behind it
+-- a loop is its first entry and the loop after it
 pub loop_at-step : (k : ℕ) (bytes : List ℕ) (p : EntryView × List ℕ) → 0 < k → entry_at k bytes ≡ Some p → loop_at k bytes ≡ option_map (λ es. p.0 ∷ es) (loop_at k p.1)
 unfolding loop_at loop_from
 loop_at-step k [] p some e =
@@ -123,7 +123,7 @@ pub loop_at-is : (k : ℕ) (bytes : List ℕ) (es : List EntryView) → loop_at 
 unfolding loop_at
 loop_at-is k bytes es e = loop_from-is k bytes (length bytes) es e
 
--- a loop behind a loop
+-- a loop after a loop
 pub AreEntries-append : (k : ℕ) (a b : List ℕ) (es fs : List EntryView) → AreEntries k a es → AreEntries k b fs → AreEntries k (a ++ b) (es ++ fs)
 AreEntries-append k a b [] fs h g = subst (λ (x : List ℕ). AreEntries k (x ++ b) fs) (sym h) g
 AreEntries-append k a b (e ∷ es) fs h g =

@@ -47,7 +47,7 @@ table_found s header a b c d descriptors rest ss k is ha hb hc hd named streams 
       streams = streams;
     }
 
--- what stands behind a table's header
+-- what stands after a table's header
 pub record Behind (header : LongHeader) (o : Option (EntryView × List ℕ)) (p : PmtView) : Type 0 where
   pub front : EntryView × List ℕ
   pub there : o ≡ Some front

@@ -11,7 +11,7 @@ length-programs_in (a ∷ b ∷ []) = refl
 length-programs_in (a ∷ b ∷ c ∷ []) = refl
 length-programs_in (a ∷ b ∷ c ∷ d ∷ rest) = let more : length (programs_in rest) ≡ length rest / 4 = length-programs_in rest in omega arith
 
--- an entry behind whole entries
+-- an entry after whole entries
 pub programs_in-push : (bytes : List ℕ) (p : Program) → length bytes % 4 ≡ 0 → p.program_number < 2 ^ 16 → p.pid < 2 ^ 13 → programs_in (bytes ++ program_text p) ≡ programs_in bytes ++ p ∷ []
 unfolding programs_in program_text program_of
 programs_in-push [] p h hn hp =

@@ -23,7 +23,7 @@ sized_form true short short' d e r r' h k = refl
 sized_form false true short' d e r r' h k = absurd (h refl)
 sized_form false false short' d e r r' h k = let q = k refl in guarded short' e r' q.0 ∙ q.1
 
--- longer bytes behind the first three
+-- longer bytes after the first three
 sized_longer : (start : Start) (bytes more : List ℕ) → (sized_at start bytes ≡ Err Short → ⊥) → sized_at start (bytes ++ more) ≡ sized_at start bytes
 unfolding sized_at
 sized_longer start bytes more h =
@@ -43,7 +43,7 @@ section_longer (a ∷ []) more h = absurd (h refl)
 section_longer (a ∷ b ∷ []) more h = absurd (h refl)
 section_longer (a ∷ b ∷ c ∷ bytes) more h = sized_longer _ (a ∷ b ∷ c ∷ bytes) more h
 
--- a whole section behind its first three bytes
+-- a whole section after its first three bytes
 sized_again : (start : Start) (text rest : List ℕ) (s : SectionView) → is_bad_length start.is_long start.section_length ≡ false → length text ≡ 3 + start.section_length
     → whole_at start text ≡ Ok s → sized_at start (text ++ rest) ≡ Ok (s, length text)
 unfolding sized_at
@@ -103,11 +103,11 @@ short_again a b c s reserved rest ha hb hc none spelled htid hres hlen =
     (record { header = record { table_id = s.header.table_id; private_indicator = s.header.private_indicator; long = s.header.long }; body = s.body }) = cc in
     sized_again start (a ∷ b ∷ c ∷ s.body) rest s good (omega arith) (whole_short start a b c s.body form ∙ ap (λ (v : SectionView). Ok v) whole)
 
--- two numbers with 40 bits behind them
+-- two numbers with 40 bits after them
 parts_40 : (x y u v : ℕ) → y < 2 ^ 40 → v < 2 ^ 40 → x * 2 ^ 40 + y ≡ u * 2 ^ 40 + v → (x ≡ u) × (y ≡ v)
 parts_40 x y u v hy hv e = (omega arith, omega arith)
 
--- the five bytes behind the length, by their fields
+-- the five bytes after the length, by their fields
 header_again : (d e f g h : ℕ) (l : LongHeader) (reserved : ℕ) → d < 256 → e < 256 → f < 256 → g < 256 → h < 256
     → number (d ∷ e ∷ f ∷ g ∷ h ∷ []) ≡ fields ((16, l.table_id_extension) ∷ (2, reserved) ∷ (5, l.version_number) ∷ (1, bit l.current_next) ∷ (8, l.section_number) ∷ (8, l.last_section_number) ∷ [])
     → l.table_id_extension < 2 ^ 16 → reserved < 2 ^ 2 → l.version_number < 2 ^ 5 → l.section_number < 2 ^ 8 → l.last_section_number < 2 ^ 8

@@ -49,7 +49,7 @@ stream_of-entry s h =
     let whole : stream_of (stream_entry s) ≡ record { stream_type = s.stream_type; elementary_pid = s.elementary_pid; descriptors = s.descriptors } = cc in
     whole
 
--- a stream behind a whole loop
+-- a stream after a whole loop
 pub record Pushed (bytes : List ℕ) (s : StreamView) : Type 0 where
   pub whole : is_some (loop_at 5 (bytes ++ stream_text s)) ≡ true
   pub streams : streams_in (bytes ++ stream_text s) ≡ streams_in bytes ++ s ∷ []
@@ -72,7 +72,7 @@ pushed bytes s fits h =
           ∙ ap (λ (x : StreamView). map stream_of es ++ x ∷ []) (stream_of-entry s fits);
     }
 
--- streams one behind the other, as they are written
+-- streams one after the other, as they are written
 texts_are : (ss : List StreamView) → StreamsFit ss → AreEntries 5 (flat_map stream_text ss) (map stream_entry ss)
 unfolding stream_text
 texts_are [] h = refl

@@ -9,15 +9,15 @@ use Rattle.psi_tables.specs.ProgramAssociation.{PatView, IsPat, PatFits, pat_at,
 use Rattle.psi_tables.specs.ProgramMap.{PmtView, IsPmt, PmtFits, pmt_at, pmt_section}
 use Rattle.psi_tables.specs.declared.error.SectionError.TheVariants.{Short}
 
--- over a message with its check word behind it the register ends 0
+-- over a message with its check word after it the register ends 0
 abbrev pub CheckWordEnds : Type 0
 CheckWordEnds = (message : List ℕ) → check_word (message ++ word_text (check_word message)) ≡ 0
 
--- bytes behind those that were read make no difference, unless more of them were wanted
+-- bytes after those that were read make no difference, unless more of them were wanted
 abbrev pub LongerReadsTheSame : Type 0
 LongerReadsTheSame = (bytes more : List ℕ) → (section_at bytes ≡ Err Short → ⊥) → section_at (bytes ++ more) ≡ section_at bytes
 
--- a section that can be written is written as a section that says the same, and is read again as it, whatever stands behind it
+-- a section that can be written is written as a section that says the same, and is read again as it, whatever stands after it
 pub record WrittenIsRead (s : SectionView) : Type 0 where
   pub section : IsSection (section_text s) s
   pub read : (rest : List ℕ) → section_at (section_text s ++ rest) ≡ Ok (s, length (section_text s))

@@ -28,7 +28,7 @@ pub record IsProgram (text : List ℕ) (p : Program) : Type 0 where
   pub three_bits : reserved < 2 ^ 3
   pub pid : p.pid < 2 ^ 13
 
--- bytes are entries one behind the other
+-- bytes are entries one after the other
 abbrev pub ArePrograms : List ℕ → List Program → Type 0
 ArePrograms text [] = text ≡ []
 ArePrograms text (p ∷ ps) = (one : List ℕ) × (rest : List ℕ) × (text ≡ one ++ rest) × IsProgram one p × ArePrograms rest ps

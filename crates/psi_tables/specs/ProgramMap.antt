@@ -42,7 +42,7 @@ pub record IsStream (text : List ℕ) (s : StreamView) : Type 0 where
   pub four_bits : reserved_behind < 2 ^ 4
   pub info_length : length s.descriptors < 2 ^ 12
 
--- bytes are entries one behind the other
+-- bytes are entries one after the other
 abbrev pub AreStreams : List ℕ → List StreamView → Type 0
 AreStreams text [] = text ≡ []
 AreStreams text (s ∷ ss) = (one : List ℕ) × (rest : List ℕ) × (text ≡ one ++ rest) × IsStream one s × AreStreams rest ss
@@ -96,11 +96,11 @@ pmt_behind header (Some p) = streams_at p.1 >>= λ streams. Ok (record {
 unfoldable pub pmt_at : SectionView → Result PmtView SectionError
 pmt_at s = table_header_at 0x02 1021 s >>= λ header. pmt_behind header (entry_at 4 s.body)
 
--- the number of bytes of descriptors, as it is written behind four reserved bits
+-- the number of bytes of descriptors, as it is written after four reserved bits
 unfoldable pub info_length_text : ℕ → List ℕ
 info_length_text n = (0xF0 + n / 256 % 16) ∷ (n % 256) ∷ []
 
--- a PID as it is written behind three reserved bits
+-- a PID as it is written after three reserved bits
 unfoldable pub pid_text : ℕ → List ℕ
 pid_text pid = (0xE0 + pid / 256 % 32) ∷ (pid % 256) ∷ []
 

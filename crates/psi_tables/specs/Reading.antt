@@ -21,7 +21,7 @@ start_at (table_id ∷ high ∷ low ∷ rest) =
 unfoldable pub is_bad_length : Bool → ℕ → Bool
 is_bad_length is_long n = if nat_lt 4093 n then true else (if is_long then nat_lt n 9 else false)
 
--- the five bytes behind the length of the long form
+-- the five bytes after the length of the long form
 unfoldable pub long_header_of : List ℕ → LongHeader
 long_header_of bytes = record {
   table_id_extension = slice_index bytes 0 * 256 + slice_index bytes 1;
@@ -31,7 +31,7 @@ long_header_of bytes = record {
   last_section_number = slice_index bytes 4;
 }
 
--- the section that starts so and has these bytes behind its length
+-- the section that starts so and has these bytes after its length
 unfoldable pub short_section : Start → List ℕ → SectionView
 short_section start rest = record {
   header = record { table_id = start.table_id; private_indicator = start.private_indicator; long = None };
@@ -50,7 +50,7 @@ whole_at start text =
     if start.is_long then (if check_word text == 0 then Ok (long_section start (drop 3 text)) else Err CheckWord)
     else Ok (short_section start (drop 3 text))
 
--- the section behind its first three bytes
+-- the section after its first three bytes
 unfoldable pub sized_at : Start → List ℕ → Result (SectionView × ℕ) SectionError
 sized_at start bytes =
     if is_bad_length start.is_long start.section_length then Err Length

@@ -1,4 +1,4 @@
--- The bytes of a section as it is written: reserved bits 1, behind the long form its check word (ISO/IEC 13818-1, 2.4.4).
+-- The bytes of a section as it is written: reserved bits 1, after the long form its check word (ISO/IEC 13818-1, 2.4.4).
 use Rattle.std.specs.Prelude.{ℕ, ◌+◌, ◌*◌, ◌/◌, ◌%◌, ◌^◌, ◌<◌, ◌≤◌, Bool, true, false, List, [], ◌∷◌, ◌++◌, length, Option, None, Some}
 use Rattle.bit_fields.specs.Fields.{bit}
 use Rattle.psi_tables.specs.CheckWord.{check_word}
@@ -15,12 +15,12 @@ unfoldable pub start_text : ℕ → Bool → Bool → ℕ → List ℕ
 start_text table_id is_long private_indicator n =
     table_id ∷ (bit is_long * 128 + (bit private_indicator * 64 + (0x30 + n / 256))) ∷ (n % 256) ∷ []
 
--- the five bytes behind the length of the long form
+-- the five bytes after the length of the long form
 unfoldable pub long_header_text : LongHeader → List ℕ
 long_header_text h =
     (h.table_id_extension / 256) ∷ (h.table_id_extension % 256) ∷ (0xC0 + (h.version_number * 2 + bit h.current_next)) ∷ h.section_number ∷ h.last_section_number ∷ []
 
--- section_length over a body of n bytes: the long form has five bytes before it and four behind it
+-- section_length over a body of n bytes: the long form has five bytes before it and four after it
 abbrev pub section_length : Option LongHeader → ℕ → ℕ
 section_length None n = n
 section_length (Some h) n = 9 + n
@@ -30,7 +30,7 @@ abbrev pub front_length : Option LongHeader → ℕ
 front_length None = 3
 front_length (Some h) = 8
 
--- how many bytes stand behind the body
+-- how many bytes stand after the body
 abbrev pub crc_length : Option LongHeader → ℕ
 crc_length None = 0
 crc_length (Some h) = 4
@@ -44,7 +44,7 @@ front_text table_id private_indicator (Some h) n = start_text table_id true priv
 unfoldable pub header_text : SectionHeader → ℕ → List ℕ
 header_text header n = front_text header.table_id header.private_indicator header.long n
 
--- header and body with what stands behind them: in the long form their check word
+-- header and body with what stands after them: in the long form their check word
 unfoldable pub ended_text : Option LongHeader → List ℕ → List ℕ
 ended_text None text = text
 ended_text (Some h) text = text ++ word_text (check_word text)

@@ -12,7 +12,7 @@ pub struct Entry<'a> {
     pub descriptors: &'a [u8],
 }
 
-/// The entry at the front of `bytes`, with a head of `head_length` bytes, and what stands behind it;
+/// The entry at the front of `bytes`, with a head of `head_length` bytes, and what stands after it;
 /// `None` where it does not fit.
 pub fn entry_at(head_length: usize, bytes: &[u8]) -> Option<(Entry<'_>, &[u8])>
     requires { 2 ≤ head_length }
@@ -20,7 +20,7 @@ pub fn entry_at(head_length: usize, bytes: &[u8]) -> Option<(Entry<'_>, &[u8])>
     ensures head { IfSome result (λ p. length p.0.head.now ≡ head_length) }
     ensures shorter { IfSome result (λ p. length p.1.now + head_length ≤ length bytes.now) }
 
-    // A loop is its first entry and the loop behind it.
+    // A loop is its first entry and the loop after it.
     ensures whole { IfSome result (λ p. is_some (loop_at head_length bytes.now) ≡ is_some (loop_at head_length p.1.now)) }
     ensures next { IfSome result (λ p. is_some (loop_at head_length bytes.now) ≡ true → entries_in head_length bytes.now ≡ entry_view p.0 ∷ entries_in head_length p.1.now) }
     ensures end { IfNone result (is_some (loop_at head_length bytes.now) ≡ true → entries_in head_length bytes.now ≡ []) }

@@ -2,12 +2,12 @@
 
 ghost use Rattle.psi_tables.specs.Laws.{CheckWordEnds, LongerReadsTheSame, SectionsAreReadAgain, PatsAreReadAgain, PmtsAreReadAgain};
 
-/// Over a message with its check word behind it the check word is 0.
+/// Over a message with its check word after it the check word is 0.
 pub fn check_word_ends()
     ensures { CheckWordEnds }
 {}
 
-/// More bytes behind those that were read make no difference, unless the answer was `Short`: a
+/// More bytes after those that were read make no difference, unless the answer was `Short`: a
 /// section is read as soon as it is whole, and its refusal given as soon as it is known.
 pub fn longer_reads_the_same()
     ensures { LongerReadsTheSame }

@@ -37,7 +37,7 @@ impl<'a> Pat<'a> {
     /// Reads a section as a PAT.
     ///
     /// Refusals: `Syntax` for another table_id or the short form; `Length` for a section_length over
-    /// 1,021; `Body` where the section ends within an entry. Reserved bits and the bit behind
+    /// 1,021; `Body` where the section ends within an entry. Reserved bits and the bit after
     /// section_syntax_indicator are not looked at.
     pub fn read(section: &Section<'a>) -> Result<Pat<'a>, SectionError>
         // What is read is what the section says.

@@ -46,7 +46,7 @@ impl<'a> Pmt<'a> {
     /// Refusals: `Syntax` for another table_id or the short form; `Length` for a section_length over
     /// 1,021; `Body` where program_info_length or an ES_info_length passes the end, or the section
     /// ends within an entry. Descriptors are kept as bytes, whole or not; reserved bits and the bit
-    /// behind section_syntax_indicator are not looked at.
+    /// after section_syntax_indicator are not looked at.
     pub fn read(section: &Section<'a>) -> Result<Pmt<'a>, SectionError>
         // What is read is what the section says.
         ensures found { IfOk result (λ pmt. IsPmt (section_view section.now) (pmt_view pmt)) }

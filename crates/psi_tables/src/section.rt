@@ -12,7 +12,7 @@ use arrayvec::ArrayVec;
 use bit_fields::append;
 use std::alloc::Allocator;
 
-/// The fields of the long form, section_syntax_indicator 1, behind section_length.
+/// The fields of the long form, section_syntax_indicator 1, after section_length.
 #[derive(Clone, Copy, Debug, PartialEq, Eq)]
 pub struct LongHeader {
     /// What tells tables of one table_id apart: transport_stream_id, program_number, service_id ..
@@ -48,14 +48,14 @@ impl LongHeader {
 #[derive(Clone, Copy, Debug, PartialEq, Eq)]
 pub struct SectionHeader {
     pub table_id: u8,
-    /// The bit behind section_syntax_indicator: 0 in PAT and PMT, 1 in the tables of EN 300 468.
+    /// The bit after section_syntax_indicator: 0 in PAT and PMT, 1 in the tables of EN 300 468.
     pub private_indicator: bool,
     /// The fields of the long form; none in the short form.
     pub long: Option<LongHeader>,
 }
 
 /// A section. Its body is a slice of the bytes that it was read from, or of those to be written:
-/// what stands behind the header and, in the long form, before CRC_32.
+/// what stands after the header and, in the long form, before CRC_32.
 #[derive(Clone, Copy, Debug)]
 pub struct Section<'a> {
     pub header: SectionHeader,

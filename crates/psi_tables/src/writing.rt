@@ -1,5 +1,5 @@
 //! Writing a section into a vector of fixed capacity: what stands before the body, the body, and
-//! what stands behind it. The writers of tables are made of these parts.
+//! what stands after it. The writers of tables are made of these parts.
 
 ghost use Rattle.std.specs.Prelude.{◌≡◌, ◌+◌, ◌≤◌, ◌<◌, IfOk, IfErr};
 ghost use Rattle.arrayvec.specs.ArrayVec.{array_vec_len};
@@ -64,7 +64,7 @@ pub fn begin_section(out: &mut ArrayVec<u8, 4096>, header: SectionHeader, body_l
     }
 }
 
-/// Ends a section: appends what stands behind the body, in the long form the check word over all
+/// Ends a section: appends what stands after the body, in the long form the check word over all
 /// that stands in `out`.
 #[tactic(auto, unfolding(crate::specs::Spelling::ended_text))]
 pub fn end_section(out: &mut ArrayVec<u8, 4096>, header: SectionHeader)

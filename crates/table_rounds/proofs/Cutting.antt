@@ -22,7 +22,7 @@ filled_up room bytes most = elim (cases_lt (length bytes) room) [
       rw (e, f) (sym (g ∙ sym (append-nil (take room bytes))))
 ]
 
--- behind pointer_field the bytes from one of the section on, where it has as many
+-- after pointer_field the bytes from one of the section on, where it has as many
 pub later_bytes : (text : List ℕ) (from : ℕ) → from ≤ length text → drop from text ++ replicate 184 0xFF ≡ drop (from + 1) (filled text)
 later_bytes text from within =
     let e : from + 1 ≡ suc from = omega arith in

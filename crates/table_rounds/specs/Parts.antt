@@ -10,7 +10,7 @@ places_of l = (1 + l + 183) / 184
 abbrev pub filled : List ℕ → List ℕ
 filled text = 0 ∷ (text ++ replicate 184 0xFF)
 
--- part number q of a section: 184 bytes, none behind the section's end
+-- part number q of a section: 184 bytes, none after the section's end
 unfoldable pub part_of : List ℕ → ℕ → Option Piece
 part_of text q = cond (nat_lt (184 * q) (1 + length text)) (Some (record { start = q == 0; bytes = take 184 (drop (184 * q) (filled text)) })) None
 

@@ -41,11 +41,11 @@ moment_now s turn = cond (turn.section == 0) (turn.start + s * 1504 / turn.rate)
 unfoldable pub begun : (ℕ → ℕ → List ℕ) → ℕ → Turn → Turn
 begun texts s turn = cond (turn.part == 0) (record turn { moment = moment_now s turn; text = texts turn.section (moment_now s turn) }) turn
 
--- the next section, behind the last one the first
+-- the next section, after the last one the first
 unfoldable pub section_advanced : Turn → Turn
 section_advanced turn = record turn { section = cond (nat_lt (turn.section + 1) (length turn.places)) (turn.section + 1) 0; part = 0 }
 
--- the next place of the section, behind the last one the first of the next section
+-- the next place of the section, after the last one the first of the next section
 unfoldable pub advanced : Turn → Turn
 advanced turn = cond (nat_lt (turn.part + 1) (slice_index_or turn.places turn.section 0)) (record turn { part = turn.part + 1 }) (section_advanced turn)
 

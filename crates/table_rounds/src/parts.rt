@@ -68,7 +68,7 @@ fn later_part(text: &[u8], from: usize) -> ArrayVec<u8, 184>
     payload
 }
 
-/// The packet of a part of a section, and whether it has a payload: the null packet behind the section's end. The counter is
+/// The packet of a part of a section, and whether it has a payload: the null packet after the section's end. The counter is
 /// taken modulo 16.
 #[tactic(auto, unfolding(crate::specs::Parts::part_of, crate::specs::Parts::part_content, ts_packet::specs::Contents::packet_of))]
 pub(crate) fn part_packet(pid: u16, counter: u8, text: &[u8], part: usize) -> ([u8; 188], bool)

@@ -118,7 +118,7 @@ parts_read body parts is =
     ∙ rw (discontinuity, random_access, priority) refl in
     rw is.is (bind_at _ _ parts read)
 
--- a length of 0 and nothing behind it
+-- a length of 0 and nothing after it
 no_flags : adaptation_at [] ≡ Ok NoFlags
 unfolding adaptation_at
 no_flags = refl

@@ -35,7 +35,7 @@ reference_is (a ∷ b ∷ c ∷ d ∷ e ∷ f ∷ []) size h =
     }
 reference_is _ size h = absurd (omega arith)
 
--- what a part's reader gave: the part's text, and the bytes behind it
+-- what a part's reader gave: the part's text, and the bytes after it
 record Reads {A : Type 0} (Is : List ℕ → A → Type 0) (flagged : Bool) (bytes : List ℕ) (read : Option A × List ℕ) : Type 0 where
   text : List ℕ
   taken : Takes bytes text read.1
@@ -153,7 +153,7 @@ adaptation_is (flags ∷ bytes) adaptation h e =
     subst (λ (x : AdaptationView). IsAdaptation (length (flags ∷ bytes) ∷ flags ∷ bytes) (Some x)) (ok_is (WithFlags a.0) adaptation a.2)
     (record { body = flags ∷ bytes; is = refl; parted = parts_is flags bytes a.0 h a.1 })
 
--- an adaptation field and the bytes behind it
+-- an adaptation field and the bytes after it
 record FieldReads (most : ℕ) (bytes : List ℕ) (read : AdaptationView × List ℕ) : Type 0 where
   text : List ℕ
   is : bytes ≡ text ++ read.1

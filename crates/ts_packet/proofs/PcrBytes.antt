@@ -44,7 +44,7 @@ forms_differ false true xs ys h k d = eq_sizes xs (take 6 ys ++ drop 12 ys) (λ 
 middle : (front pcr tail : List ℕ) → length front ≡ 6 → length pcr ≡ 6 → pcr_bytes (front ++ (pcr ++ tail)) ≡ pcr
 middle front pcr tail f p = ap (take 6) (drop_at front (pcr ++ tail) 6 f) ∙ take_at pcr tail 6 p
 
--- behind the header's four bytes, the length and the flags
+-- after the header's four bytes, the length and the flags
 stands_in : (bytes front field rest : List ℕ) (parts : PartsView) (pcr : Reference) → bytes ≡ front ++ (field ++ rest) → length front ≡ 4 →
     IsField field parts → parts.pcr ≡ Some pcr → IsReference (pcr_bytes bytes) pcr
 stands_in bytes front field rest parts pcr e n f h =

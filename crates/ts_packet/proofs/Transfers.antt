@@ -15,7 +15,7 @@ front_more a n part within fits =
     let whole : take (length part - a) rest ≡ rest = subst (λ k. take k rest ≡ rest) size (take_all (length rest) rest (le_refl _)) in
     ap (λ l. take a part ++ take n l) whole ∙ sym (take-add a n part)
 
--- the front of a part that was filled before, and what was read behind it
+-- the front of a part that was filled before, and what was read after it
 pub filled_more : (a k n : ℕ) (xs ys : List ℕ) → a ≤ length xs → n ≤ length ys → take (a + n) (put_mid a k xs ys) ≡ take a xs ++ take n ys
 filled_more a k n xs ys within fits =
     let front : take a (put_mid a k xs ys) ≡ take a xs = take-put_mid_below _ _ _ _ _ (le_refl _) within in

@@ -69,7 +69,7 @@ null_view = record {
 unfoldable pub null_text : List ℕ
 null_text = packet_text null_view
 
--- the packets of pieces on one PID, one behind the other: the first has this start indicator and this number, from which each counts on;
+-- the packets of pieces on one PID, one after the other: the first has this start indicator and this number, from which each counts on;
 -- the counter is the number modulo 16
 unfoldable pub packets : ℕ → Bool → ℕ → List (List ℕ) → List ℕ
 packets pid start number [] = []

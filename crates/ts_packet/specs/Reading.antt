@@ -16,18 +16,18 @@ reference_of text = record {
   extension = slice_index text 4 % 2 * 256 + slice_index text 5;
 }
 
--- a clock reference where its flag is set, and the bytes behind it
+-- a clock reference where its flag is set, and the bytes after it
 unfoldable pub reference_at : Bool → List ℕ → Result (Option Reference × List ℕ) PacketError
 reference_at false bytes = Ok (None, bytes)
 reference_at true bytes = if nat_lt (length bytes) 6 then Err PartTooLong else Ok (Some (reference_of (take 6 bytes)), drop 6 bytes)
 
--- splice_countdown where its flag is set, and the bytes behind it
+-- splice_countdown where its flag is set, and the bytes after it
 unfoldable pub countdown_at : Bool → List ℕ → Result (Option ℤ × List ℕ) PacketError
 countdown_at false bytes = Ok (None, bytes)
 countdown_at true [] = Err PartTooLong
 countdown_at true (byte ∷ bytes) = Ok (Some (cast_signed w8 byte), bytes)
 
--- a byte of length and that many bytes where the flag is set, and the bytes behind them
+-- a byte of length and that many bytes where the flag is set, and the bytes after them
 unfoldable pub counted_at : Bool → List ℕ → Result (Option (List ℕ) × List ℕ) PacketError
 counted_at false bytes = Ok (None, bytes)
 counted_at true [] = Err PartTooLong
@@ -53,14 +53,14 @@ parts_at flags bytes = do
     stuffing = extension.1;
   })
 
--- an adaptation field behind its length
+-- an adaptation field after its length
 unfoldable pub adaptation_at : List ℕ → Result AdaptationView PacketError
 adaptation_at [] = Ok NoFlags
 adaptation_at (flags ∷ bytes) = do
   parts ← parts_at flags bytes
   Ok (WithFlags parts)
 
--- an adaptation field of at most so many bytes behind its length, and the bytes behind it
+-- an adaptation field of at most so many bytes after its length, and the bytes after it
 unfoldable pub field_at : ℕ → List ℕ → Result (AdaptationView × List ℕ) PacketError
 field_at most [] = Err FieldTooLong
 field_at most (n ∷ bytes) = if nat_lt most n then Err FieldTooLong else do

@@ -10,7 +10,7 @@ use Rattle.ts_packet.specs.declared.adaptation.Adaptation.{Adaptation}
 use Rattle.ts_packet.specs.declared.adaptation.Adaptation.TheVariants.{Empty, Flagged}
 use Rattle.ts_packet.specs.declared.packet.Packet.{Packet}
 
--- what stands behind the flags of an adaptation field (ISO/IEC 13818-1, 2.4.3.4)
+-- what stands after the flags of an adaptation field (ISO/IEC 13818-1, 2.4.3.4)
 pub record PartsView : Type 0 where
   pub discontinuity : Bool
   pub random_access : Bool

@@ -66,7 +66,7 @@ fn packet_at(bytes: &[u8; 188]) -> Result<Packet<'_>, PacketError>
 }
 
 /// Reads a packet. Its slices lie in these 188 bytes. Where an adaptation field without payload is shorter than 183
-/// bytes, the bytes behind it are not looked at.
+/// bytes, the bytes after it are not looked at.
 pub fn read_packet(bytes: &[u8; 188]) -> Result<Packet<'_>, PacketError>
     // What is read is what the bytes say.
     ensures found { IfOk result (λ packet. IsPacket bytes.now (packet_view packet)) }

@@ -30,7 +30,7 @@ fn plain_header(pid: u16, start: bool, counter: u8) -> Header
     }
 }
 
-// adaptation_field_control of a packet with a payload behind an adaptation field of `fill` bytes in all.
+// adaptation_field_control of a packet with a payload after an adaptation field of `fill` bytes in all.
 #[tactic(auto, using(crate::proofs::Filling::filling))]
 fn control_beside(fill: usize) -> u8
     ensures value { (payload : List ℕ) → result ≡ control_of (filler fill) (Some payload) }

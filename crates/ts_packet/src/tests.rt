@@ -5,7 +5,7 @@ mod devices;
 mod packets_read;
 mod packets_written;
 
-/// A packet with these first bytes and 0xFF behind them.
+/// A packet with these first bytes and 0xFF after them.
 fn packet_of(front: &[u8]) -> [u8; 188] {
     let mut packet = [0xff; 188];
     for (byte, known) in packet.iter_mut().zip(front) {

@@ -8,7 +8,9 @@ use std::test::Fail;
 // The text, of some 40,000 bytes: PIDs and numbers count on, the events of a program are an hour each.
 fn greatest(alloc: Global) -> Result<String, AllocError> {
     let mut text = String::new(alloc);
-    text.push_str("rate = 30000000\nstart = \"1993-10-13T12:45:00\"\nts_id = 1\noriginal_network_id = 1\nsdt = true\ntdt = true\n")?;
+    text.push_str(
+        "rate = 30000000\nstart = \"1993-10-13T12:45:00\"\nts_id = 1\noriginal_network_id = 1\nsdt = true\ntdt = true\n",
+    )?;
     text.push_str("[network]\nid = 1\nname = \"Net\"\n")?;
     for n in 0..16u32 {
         write!(

@@ -40,7 +40,7 @@ impl Program {
 }
 
 impl<'a> Programs<'a> {
-    /// The entries that bytes hold, four bytes each; what is left behind the last whole one is not
+    /// The entries that bytes hold, four bytes each; what is left after the last whole one is not
     /// looked at.
     #[tactic(auto, unfolding(crate::specs::ProgramAssociation::programs_of))]
     pub fn over(bytes: &'a [u8]) -> Programs<'a>

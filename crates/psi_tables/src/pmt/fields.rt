@@ -3,7 +3,7 @@
 ghost use Rattle.std.specs.Prelude.{◌≡◌};
 ghost use Rattle.psi_tables.specs.ProgramMap.{pid_text, info_length_text};
 
-/// A PID behind three reserved bits.
+/// A PID after three reserved bits.
 #[tactic(auto, unfolding(crate::specs::ProgramMap::pid_text))]
 pub fn pid_text(pid: u16) -> [u8; 2]
     ensures { result ≡ pid_text pid }
@@ -12,7 +12,7 @@ pub fn pid_text(pid: u16) -> [u8; 2]
     [0xe0 + (high & 0x1f), low]
 }
 
-/// A number of descriptor bytes behind four reserved bits.
+/// A number of descriptor bytes after four reserved bits.
 #[tactic(auto, unfolding(crate::specs::ProgramMap::info_length_text))]
 pub fn info_length_text(length: usize) -> [u8; 2]
     ensures { result ≡ info_length_text length }

@@ -148,7 +148,7 @@ fn wanted(bytes: &[u8; 188]) -> u8 {
     }
 }
 
-/// The place behind the flagged parts, each with its length where it has one.
+/// The place after the flagged parts, each with its length where it has one.
 fn behind_parts(bytes: &[u8; 188]) -> usize {
     let flags = bytes[5];
     let mut place = 6_usize;
