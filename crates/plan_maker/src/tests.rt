@@ -119,7 +119,7 @@ fn too_many_units(rt: HostRuntime) -> Result<(), Fail> {
         return Err(Fail::from("a plan for a unit every 11 us"));
     };
     assert_eq!(rt; error, MakeError::NotFound);
-    assert_eq!(rt; error.code(), 1);
+    assert_eq!(rt; error.code(), Some(1));
     assert_eq!(rt; description.streams().len(), 1);
     Ok(())
 }
