@@ -51,7 +51,7 @@ gives h old (Ok packet) new ranges st t =
       subst (λ (n : ℕ). n < 2 ^ 40) st.written t.0,
       t.1 ∙ g.packet ∙ ap (λ (n : ℕ). packet_of (content_in old.line h.units h.slots (slot_of old.line.schedule n))) st.written,
       ap (λ (m : Mixer). m.line) t.2 ∙ line_stays old slot,
-      subst (λ (m : Mixer). Stands (slot_more h) m) (sym t.2) g.stands
+      subst (λ (m : Mixer). Stands (slot_more h) m) (sym t.2) g.stands,
     )
 gives h old (Err e) new ranges st t = (subst (λ (n : ℕ). 2 ^ 40 ≤ n) st.written t.0, t.1)
 

@@ -10,10 +10,9 @@
 //! read, packets collected for a writer, the packets of a unit, the run over records; the laws.
 #![tactic(auto)]
 
+mod carrying;
 mod checked_schedule;
 mod done;
-
-mod carrying;
 pub mod laws;
 mod packet_output;
 mod pid_packets;
