@@ -44,6 +44,7 @@ mod refusals;
 // Tables: their numbers, the lengths of their sections.
 mod section_lengths;
 mod table_kind;
+mod table_lengths;
 
 // The bytes of their sections.
 mod association_text;

@@ -5,7 +5,7 @@ use Rattle.pes_packet.specs.AccessUnits.{AccessUnit}
 use Rattle.pes_packet.specs.StreamIds.{greatest_size}
 use Rattle.mux_core.specs.Refusals.{refusal, is_bad_pts}
 use Rattle.mux_core.specs.CarrySteps.{IsAccepted}
-use Rattle.mux_core.specs.declared.refusals.FeedError.TheVariants.{UnknownStream, Empty, TooLarge, TooSoon, BadPts, TooFar}
+use Rattle.unit_queue.specs.declared.refusal.FeedError.TheVariants.{UnknownStream, Empty, TooLarge, TooSoon, BadPts, TooFar}
 
 passes : (a b c d e f : Bool)
     → cond a (Some UnknownStream) (cond b (Some Empty) (cond c (Some TooLarge) (cond d (Some TooSoon) (cond e (Some BadPts) (cond f (Some TooFar) None))))) ≡ None

@@ -5,3 +5,8 @@ pub mod Accepting
 pub mod Runs
 pub mod RecordTexts
 pub mod RunLengths
+pub mod Promising
+pub mod Turning
+pub mod Feeding
+pub mod Knowing
+pub mod Standing

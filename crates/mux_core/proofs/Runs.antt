@@ -10,7 +10,7 @@ use Rattle.mux_core.specs.PidPackets.{unit_packets, unit_count, stream_packets, 
 use Rattle.mux_core.specs.UnitRecords.{record_at, behind_record, size_at, unit_at, greatest_record}
 use Rattle.mux_core.specs.Carrying.{Run, Ending, Finished, UnitRefused, FileRefused, judged, run_step, run_from, run_of, carried, Answers, Writes}
 use Rattle.mux_core.specs.CarrySteps.{HoldsUnit, ReadsNext, EndsRun, answer_of}
-use Rattle.mux_core.specs.declared.refusals.FeedError.{FeedError}
+use Rattle.unit_queue.specs.declared.refusal.FeedError.{FeedError}
 use Rattle.mux_core.specs.declared.unit_records.UnitFileError.{UnitFileError}
 use Rattle.mux_core.specs.declared.unit_records.UnitFileError.TheVariants.{Cut, Size, Device, Memory}
 use Rattle.mux_core.specs.declared.carrying.Stop.{Stop}

@@ -6,7 +6,7 @@ use Rattle.pes_packet.specs.StreamIds.{greatest_size}
 use Rattle.mux_core.specs.Refusals.{refusal}
 use Rattle.mux_core.specs.UnitRecords.{record_at, behind_record}
 use Rattle.mux_core.specs.Carrying.{Run, Finished, UnitRefused, FileRefused}
-use Rattle.mux_core.specs.declared.refusals.FeedError.{FeedError}
+use Rattle.unit_queue.specs.declared.refusal.FeedError.{FeedError}
 use Rattle.mux_core.specs.declared.unit_records.UnitFileError.TheVariants.{Cut, Size, Device, Memory}
 use Rattle.mux_core.specs.declared.carrying.CarryError.{CarryError}
 use Rattle.mux_core.specs.declared.carrying.CarryError.TheVariants.{Unit as AtUnit, File as AtRecord, Memory as NoMemory}

@@ -7,7 +7,7 @@ use Rattle.mux_core.specs.Collecting.{byte_count, Took}
 use Rattle.mux_core.specs.PidPackets.{stream_packets, output}
 use Rattle.mux_core.specs.Refusals.{refusal}
 use Rattle.mux_core.specs.UnitRecords.{record_at, behind_record}
-use Rattle.mux_core.specs.declared.refusals.FeedError.{FeedError}
+use Rattle.unit_queue.specs.declared.refusal.FeedError.{FeedError}
 use Rattle.mux_core.specs.declared.unit_records.UnitFileError.{UnitFileError}
 use Rattle.mux_core.specs.declared.unit_records.UnitFileError.TheVariants.{Cut, Size, Device, Memory}
 use Rattle.mux_core.specs.declared.carrying.CarryError.{CarryError}

@@ -7,3 +7,8 @@ pub mod Collecting
 pub mod Carrying
 pub mod CarrySteps
 pub mod Laws
+pub mod Scheduled
+pub mod TimingLaws
+pub mod Histories
+pub mod Standing
+pub mod Turns

@@ -2,8 +2,8 @@
 use Rattle.std.specs.Prelude.{ℕ, ◌+◌, ◌^◌, ◌==◌, ◌||◌, nat_lt, not, Bool, if◌then◌else◌, length, Option, Some, None}
 use Rattle.pes_packet.specs.AccessUnits.{AccessUnit}
 use Rattle.pes_packet.specs.StreamIds.{greatest_size}
-use Rattle.mux_core.specs.declared.refusals.FeedError.{FeedError}
-use Rattle.mux_core.specs.declared.refusals.FeedError.TheVariants.{UnknownStream, Empty, TooLarge, TooSoon, BadPts, TooFar}
+use Rattle.unit_queue.specs.declared.refusal.FeedError.{FeedError}
+use Rattle.unit_queue.specs.declared.refusal.FeedError.TheVariants.{UnknownStream, Empty, TooLarge, TooSoon, BadPts, TooFar}
 
 -- the PTS is before the DTS, or more than a second after it
 abbrev pub is_bad_pts : ℕ → ℕ → Bool

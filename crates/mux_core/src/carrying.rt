@@ -9,12 +9,13 @@ ghost use Rattle.ts_packet.specs.Device.{Failed};
 
 use crate::packet_output::{OutputFault, PacketOutput};
 use crate::pid_packets::push_unit;
-use crate::refusals::{FeedError, refusal};
+use crate::refusals::refusal;
 use crate::unit_records::{UnitFileError, read_unit};
 use pes_packet::Unit;
 use std::alloc::Allocator;
 use thiserror::Error;
 use ts_packet::{Sink, Source};
+use unit_queue::FeedError;
 
 /// Why records were not carried to their end. The records before the one named have been written.
 #[derive(Clone, Copy, Debug, PartialEq, Eq, Error)]

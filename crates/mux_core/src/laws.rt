@@ -2,7 +2,9 @@
 
 ghost use Rattle.std.specs.Prelude.{ℕ, List};
 ghost use Rattle.pes_packet.specs.AccessUnits.{AccessUnit};
+ghost use Rattle.plan_timing.specs.Promised.{Promised};
 ghost use Rattle.mux_core.specs.Laws.{RecordsAreRead, FitsRecord, RunsAreWhole, PacketsJoin};
+ghost use Rattle.mux_core.specs.TimingLaws.{UnitsArrive, TransportFits, MainFits, SystemFits, PcrsRecur, SectionsRecur, OfPlan, OfSwitch};
 
 /// A record that is written, whatever follows it, is read again, and what follows it is left.
 pub fn records_are_read()
@@ -18,3 +20,79 @@ pub fn runs_are_whole()
 pub fn packets_join()
     ensures { PacketsJoin }
 {}
+
+/// Over a plan whose conditions hold, each unit that is due has left its transport buffer whole by its decoding time.
+pub fn deadlines()
+    ensures { OfPlan UnitsArrive }
+{
+    plan_timing::laws::accepted_plan();
+}
+
+/// Over such a plan no transport buffer of a stream holds more than 512 bytes.
+pub fn transport()
+    ensures { OfPlan TransportFits }
+{
+    plan_timing::laws::accepted_plan();
+}
+
+/// Over such a plan no main buffer holds more than its size.
+pub fn main_buffer()
+    ensures { OfPlan MainFits }
+{
+    plan_timing::laws::accepted_plan();
+}
+
+/// Over such a plan neither of a program's two buffers in tandem, transport buffer and system buffer, overflows.
+pub fn tandem()
+    ensures { OfPlan SystemFits }
+{
+    plan_timing::laws::accepted_plan();
+}
+
+/// Over such a plan PCRs and sections recur within their limits, round each period's end.
+pub fn gaps()
+    ensures pcrs { OfPlan PcrsRecur }
+    ensures sections { OfPlan SectionsRecur }
+{
+    plan_timing::laws::accepted_plan();
+}
+
+/// A plan whose conditions hold over one period keeps all of these promises for all time, and so do two plans in turn.
+pub fn all_time()
+    ensures plan { OfPlan Promised }
+    ensures switch { OfSwitch Promised }
+{
+    plan_timing::laws::accepted_plan();
+    plan_timing::laws::accepted_switch();
+}
+
+/// Over two plans in turn PCRs and sections recur within their limits, across the switch too.
+pub fn switch_gaps()
+    ensures pcrs { OfSwitch PcrsRecur }
+    ensures sections { OfSwitch SectionsRecur }
+{
+    plan_timing::laws::accepted_switch();
+}
+
+/// Over two plans in turn the work that the first leaves finds room in the second: no transport buffer and no system
+/// buffer overflows.
+pub fn switch_work()
+    ensures streams { OfSwitch TransportFits }
+    ensures programs { OfSwitch SystemFits }
+{
+    plan_timing::laws::accepted_switch();
+}
+
+/// Over two plans in turn each unit that is due has left its transport buffer whole by its decoding time.
+pub fn switch_deadlines()
+    ensures { OfSwitch UnitsArrive }
+{
+    plan_timing::laws::accepted_switch();
+}
+
+/// Over two plans in turn no main buffer holds more than its size.
+pub fn switch_main()
+    ensures { OfSwitch MainFits }
+{
+    plan_timing::laws::accepted_switch();
+}

@@ -1,12 +1,18 @@
-//! The multiplexer: records of access units read, and what they become on the wire.
+//! The multiplexer: what each slot of a checked plan carries, records of access units read, and what they become on the
+//! wire.
 //!
-//! `specs/UnitRecords` is the format of a record, `specs/Refusals` says which units are refused, in which order,
-//! `specs/PidPackets` are the packets that a unit becomes on its PID, `specs/Carrying` the output of a whole
-//! input of records. The modules stand in reading order: why a unit is refused, records read, packets
-//! collected for a writer, the packets of a unit, the run over records, the laws.
+//! `specs/Histories` says what each slot carries, from the units that were accepted and the schedule alone,
+//! `specs/Standing` which history a state stands for, `specs/Turns` one slot and one unit of that state. For the records of
+//! one stream without a plan, `specs/UnitRecords` is the format of a record, `specs/PidPackets` are the packets of a unit,
+//! and `specs/Carrying` is the output of a whole input.
+//!
+//! The modules stand in reading order: by which plans slots are filled and where a run ends; why a unit is refused, records
+//! read, packets collected for a writer, the packets of a unit, the run over records; the laws.
 #![tactic(auto)]
 
 mod carrying;
+mod checked_schedule;
+mod done;
 pub mod laws;
 mod packet_output;
 mod pid_packets;
@@ -14,8 +20,9 @@ mod refusals;
 mod unit_records;
 
 pub use carrying::{CarryError, carry};
+pub use done::{Done, NewError};
 pub use pes_packet::Unit;
-pub use refusals::FeedError;
+pub use unit_queue::FeedError;
 pub use unit_records::{UnitFileError, read_unit};
 
 #[cfg(test)]

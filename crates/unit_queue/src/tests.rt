@@ -1,6 +1,9 @@
 //! Worked units and their packets, each refusal, and refused memory: 1,000 slots a second, 90 units of 90 kHz a slot,
 //! each fourth slot the stream's own.
 
+ghost use Rattle.std.specs.Prelude.{◌≤◌, IfSome};
+ghost use Rattle.unit_queue.specs.Queues.{IsRules};
+
 use crate::{FeedError, StreamRules, UnitQueue};
 use clock27::Rate;
 use linked_list_allocator::LocalHeap;
@@ -10,7 +13,10 @@ use std::test::Fail;
 use ts_packet::null_packet;
 
 // Units of at most 576 bytes, 2,160 apart, sent from 1,600 before their DTS on.
-fn rules(group: u8, group_packets: u32) -> Option<StreamRules> {
+fn rules(group: u8, group_packets: u32) -> Option<StreamRules>
+    requires { 1 ≤ group }
+    ensures { IfSome result IsRules }
+{
     let rate = Rate::new(1_504_000).ok()?;
     Some(StreamRules {
         rate,
@@ -55,18 +61,18 @@ fn a_unit_is_four_packets(rt: HostRuntime) -> Result<(), Fail> {
     let mut queue = UnitQueue::new(alloc, rules, 2)?;
     assert_eq!(rt; cause(&mut queue, alloc, 0, 576, 1_600, 1_600)?, None);
     let first = queue.next(0);
-    assert_eq!(rt;
-        first[..18],
-        [
+    assert!(rt;
+        first.starts_with(&[
             0x47, 0x41, 0, 0x10, 0, 0, 1, 0xc0, 2, 0x48, 0x80, 0x80, 5, 0x21, 0, 1, 0x0c, 0x81
-        ]
+        ])
     );
-    assert_eq!(rt; queue.next(4)[..5], [0x47, 0x01, 0, 0x11, 0xa5]);
-    assert_eq!(rt; queue.next(8)[..5], [0x47, 0x01, 0, 0x12, 0xa5]);
+    assert!(rt; queue.next(4).starts_with(&[0x47, 0x01, 0, 0x11, 0xa5]));
+    assert!(rt; queue.next(8).starts_with(&[0x47, 0x01, 0, 0x12, 0xa5]));
     assert_eq!(rt; queue.waiting(), 1);
     let last = queue.next(12);
-    assert_eq!(rt; last[..6], [0x47, 0x01, 0, 0x33, 0x91, 0]);
-    assert_eq!(rt; last[149..151], [0xff, 0xa5]);
+    assert!(rt; last.starts_with(&[0x47, 0x01, 0, 0x33, 0x91, 0]));
+    assert_eq!(rt; last[149], 0xff);
+    assert_eq!(rt; last[150], 0xa5);
     assert_eq!(rt; queue.waiting(), 0);
     assert_eq!(rt; queue.next(16), null_packet());
     Ok(())
@@ -97,7 +103,7 @@ fn a_unit_waits_for_its_release(rt: HostRuntime) -> Result<(), Fail> {
     );
     assert_eq!(rt; cause(&mut late, alloc, 24, 576, 3_760, 3_760)?, None);
     let packet = early.next(24);
-    assert_eq!(rt; packet[..4], [0x47, 0x41, 0, 0x14]);
+    assert!(rt; packet.starts_with(&[0x47, 0x41, 0, 0x14]));
     assert_eq!(rt; packet, late.next(24));
     Ok(())
 }

@@ -1,0 +1,16 @@
+//! The sections of a table, by their greatest lengths.
+
+ghost use Rattle.std.specs.Prelude.{◌≡◌};
+ghost use Rattle.description.specs.Tables.{section_lengths};
+
+use crate::description::Description;
+use arrayvec::ArrayVec;
+
+impl Description {
+    /// The greatest length of each section of a table over all moments, in bytes; none where there is no such table.
+    pub fn section_lengths(&self, table: usize) -> ArrayVec<u16, 32>
+        ensures { result.items ≡ section_lengths self.now table }
+    {
+        self.contents.section_lengths(table)
+    }
+}
