@@ -5,3 +5,6 @@ pub mod ProgramMaps
 pub mod Counting
 pub mod Packets
 pub mod Noting
+pub mod Watching
+pub mod Reports
+pub mod Laws

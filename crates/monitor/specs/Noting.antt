@@ -10,7 +10,7 @@ use Rattle.monitor.specs.declared.fault.Rule.TheVariants as rules
 use Rattle.monitor.specs.declared.counts.Noted.{Noted}
 use Rattle.monitor.specs.Counting.{noted_duplicate, noted_scrambled}
 use Rattle.monitor.specs.Recurrences.{Marks, marked, no_marks}
-use Rattle.monitor.specs.Tables.{TableMarks, new_watch, watched}
+use Rattle.monitor.specs.Tables.{TableMarks, new_watch, table_marked, watched}
 use Rattle.monitor.specs.ProgramMaps.{MapMarks, map_begins, named_by, no_maps}
 
 pub record FindingMarks : Type 0 where
@@ -28,7 +28,7 @@ abbrev pub none_noted : ℕ → FindingMarks
 none_noted rate = record {
   faults = [];
   noted = [];
-  pat = new_watch 0x00 0x00 (500 * rate);
+  pat = table_marked (new_watch 0x00 0x00 (500 * rate)) 0;
   pmt = no_maps (500 * rate);
   nit = new_watch 0x10 0x40 (10000 * rate);
   sdt = new_watch 0x11 0x42 (2000 * rate);

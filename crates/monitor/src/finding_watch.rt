@@ -1,12 +1,15 @@
 //! What is found in a stream's PIDs: counters, sections, and where tables and PES packets begin.
-ghost use Rattle.std.specs.Prelude.{◌≡◌, ◌≤◌, ◌++◌, ◌∷◌, [], OnOk, Some, map};
+ghost use Rattle.std.specs.Prelude.{◌≡◌, ◌≤◌, ◌++◌, ◌∷◌, [], IfOk, OnOk, Some, map};
 ghost use Rattle.demux.specs.Shown.{finding_view, part_bytes, what_view};
+ghost use Rattle.monitor.specs.Reports.{noted_faults};
+ghost use Rattle.monitor.specs.Watching.{pat_marked};
 ghost use Rattle.monitor.specs.Noting.{all_noted, begun_noted, finding_noted, none_noted, section_noted, what_noted};
 
 use crate::counts::{NotedByPid, note_duplicate, note_scrambled};
 use crate::fault::{Fault, Rule};
 use crate::program_maps::ProgramMaps;
 use crate::recurrence::Recurrence;
+use crate::reports::append_late;
 use crate::table_watch::TableWatch;
 use demux::{Finding, Kind, Part, What};
 use indexmap::IndexMap;
@@ -46,22 +49,24 @@ fn bytes_of<'p, A: Allocator>(part: &'p Part<'_, A>) -> &'p [u8]
 }
 
 impl<A: Allocator + Copy> FindingWatch<A> {
-    /// Before the first finding, at a rate of so many bits a second.
-    pub fn new(alloc: A, rate: u64) -> FindingWatch<A>
+    /// Before the first packet, at a rate of so many bits a second.
+    pub fn new(alloc: A, rate: u64) -> Result<FindingWatch<A>, AllocError>
         requires { rate ≤ 100000000 }
-        ensures { result ≡ none_noted rate }
+        ensures { IfOk result (λ watch. watch ≡ none_noted rate) }
     {
-        FindingWatch {
+        let mut pat = TableWatch::new(alloc, 0x00, 0x00, 500 * rate);
+        pat.mark(0)?;
+        Ok(FindingWatch {
             faults: Vec::new(alloc),
             noted: IndexMap::new(alloc),
-            pat: TableWatch::new(alloc, 0x00, 0x00, 500 * rate),
+            pat,
             pmt: ProgramMaps::new(alloc, 500 * rate),
             nit: TableWatch::new(alloc, 0x10, 0x40, 10_000 * rate),
             sdt: TableWatch::new(alloc, 0x11, 0x42, 2_000 * rate),
             eit: TableWatch::new(alloc, 0x12, 0x4E, 2_000 * rate),
             tdt: TableWatch::new(alloc, 0x14, 0x70, 30_000 * rate),
             pts: Recurrence::new(alloc, 700 * rate),
-        }
+        })
     }
 
     // A section that was found at a packet began on a PID.
@@ -159,5 +164,28 @@ impl<A: Allocator + Copy> FindingWatch<A> {
             self.note(finding)?;
         }
         Ok(())
+    }
+
+    /// The last gap of the program association table ends with a stream of so many packets.
+    #[tactic(auto, unfolding(crate::specs::Watching::pat_marked))]
+    pub fn end_pat(&mut self, packets: u64) -> Result<(), AllocError>
+        ensures { OnOk result (self.new ≡ pat_marked self.old packets) }
+    {
+        self.pat.mark(packets)
+    }
+
+    /// Appends the faults, at the end of a stream of so many packets.
+    pub fn append_faults(&self, packets: u64, faults: &mut Vec<Fault, A>) -> Result<(), AllocError>
+        ensures { OnOk result (faults.new.items ≡ faults.old.items ++ noted_faults packets self.now) }
+    {
+        faults.extend_from_slice(self.faults.as_slice())?;
+        append_late(faults, Rule::Pat, self.pat.late())?;
+        append_late(faults, Rule::Pmt, self.pmt.late())?;
+        self.pmt.append_ended(packets, faults)?;
+        append_late(faults, Rule::Nit, self.nit.late())?;
+        append_late(faults, Rule::Sdt, self.sdt.late())?;
+        append_late(faults, Rule::Eit, self.eit.late())?;
+        append_late(faults, Rule::Tdt, self.tdt.late())?;
+        append_late(faults, Rule::Pts, self.pts.late())
     }
 }

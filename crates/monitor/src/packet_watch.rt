@@ -63,7 +63,8 @@ impl<A: Allocator + Copy> PacketWatch<A> {
         }
     }
 
-    fn fail(&mut self, packet: u64, rule: Rule) -> Result<(), AllocError>
+    /// A rule fails at a packet.
+    pub fn fail(&mut self, packet: u64, rule: Rule) -> Result<(), AllocError>
         ensures { OnOk result (self.new ≡ record self.old { faults = self.old.faults ++ (record { packet = packet; rule = rule; pid = None }) ∷ [] }) }
     {
         self.faults.push(Fault {

@@ -1,10 +1,12 @@
 //! The PIDs on which program map sections are to come: those that a program association section names.
-ghost use Rattle.std.specs.Prelude.{◌≡◌, [], OnOk};
+ghost use Rattle.std.specs.Prelude.{◌≡◌, ◌++◌, [], OnOk, flat_map};
+ghost use Rattle.monitor.specs.Reports.{ended_map};
 ghost use Rattle.psi_tables.specs.ProgramAssociation.{pat_at, programs_of};
 ghost use Rattle.psi_tables.specs.Reading.{section_at};
 ghost use Rattle.psi_tables.specs.Views.{section_view};
 ghost use Rattle.monitor.specs.ProgramMaps.{named, named_all, named_by, map_begins, no_maps, programs_by, programs_in_section};
 
+use crate::fault::{Fault, Rule};
 use crate::recurrence::{Late, is_long};
 use indexmap::IndexMap;
 use psi_tables::{Pat, Programs, Section};
@@ -141,6 +143,30 @@ impl<A: Allocator + Copy> ProgramMaps<A> {
                 last: packet,
             },
         )?;
+        Ok(())
+    }
+
+    /// The packets at which a section began too late.
+    pub fn late(&self) -> &[Late]
+        ensures { result.now ≡ self.now.late }
+    {
+        self.late.as_slice()
+    }
+
+    /// Appends the faults of the PIDs on which none began for too long before the end of a stream of so many packets.
+    #[tactic(auto, unfolding(crate::specs::Reports::ended_map))]
+    pub fn append_ended(&self, packets: u64, faults: &mut Vec<Fault, A>) -> Result<(), AllocError>
+        ensures { OnOk result (faults.new.items ≡ faults.old.items ++ flat_map (ended_map self.now.most packets) self.now.named) }
+    {
+        for (pid, named) in &self.named {
+            if is_long(self.most, packets.saturating_sub(named.last)) {
+                faults.push(Fault {
+                    packet: packets,
+                    rule: Rule::Pmt,
+                    pid: Some(*pid),
+                })?;
+            }
+        }
         Ok(())
     }
 }
