@@ -81,7 +81,7 @@ due_there : (own : ℕ → Bool) (rate r room peak : ℕ) (W : ℕ → ℕ) (n b
 due_there own rate r room peak W n b p text from prev bounds pos small here h later ends due =
     let left = text_left rate r prev (cut text.size (take p (drop b (own_slots own 0 n)))) in
     let within = slot_within ends.slot peak text.dts rate r n pos ends.early due in
-    let there = text_there own rate r room peak W n ends.slot b p text.size from prev bounds ends.packets_in_slots within small here h in (
+    let there = text_there own rate r room peak W n ends.slot b p text.size from prev bounds ends.sent within small here h in (
       rw (length-append left later) (omega (arith, there.0)),
       rw (take_at left later text.size there.0)
           (All-weaker (λ d. d ≤ 188 * r * ends.slot + peak) (λ d. d * 720000 ≤ text.dts * rate * r)

@@ -21,10 +21,10 @@ use Rattle.unit_timing.proofs.Counting.{kept, kept-append, kept_le, kept_after, 
 -- a packet and the stamp of its text
 record Piece : Type 0 where
   slot : ℕ
-  due : ℕ
+  dts : ℕ
 
 abbrev pieces : ℕ → List ℕ → List Piece
-pieces due slots = map (λ (s : ℕ). let p : Piece = record { slot = s; due = due } in p) slots
+pieces due slots = map (λ (s : ℕ). let p : Piece = record { slot = s; dts = due } in p) slots
 
 unfoldable all_pieces : (ℕ → Bool) → ℕ → ℕ → ℕ → List PesPacket → List ℕ → List Piece
 all_pieces own rate lead free [] slots = []
