@@ -1,0 +1,5 @@
+pub mod Bounded
+pub mod Certificates
+pub mod Spacings
+pub mod PlainPlan
+pub mod Reasons

@@ -1,0 +1,77 @@
+//! A plan that serves a description.
+
+ghost use Rattle.std.specs.Prelude.{◌≡◌, IfOk, IfErr, false};
+ghost use Rattle.plan_maker.specs.PlainPlan.{plain_plan, serves, Fails};
+ghost use Rattle.plan_maker.specs.declared.making.MakeError.TheVariants.{NotFound};
+
+use crate::plain::plain_plan;
+use crate::search::period_plan;
+use plan_checker::{CheckedPlan, check};
+use slot_plan::{Description, Plan};
+use std::alloc::{AllocError, Allocator};
+use thiserror::Error;
+
+/// Why no plan is given.
+#[derive(Clone, Copy, Debug, PartialEq, Eq, Error)]
+pub enum MakeError {
+    #[error("no plan found")]
+    NotFound,
+    #[error("out of memory")]
+    Memory,
+}
+
+impl MakeError {
+    /// The number of the error: 1 for a plan not found, 0 for want of memory.
+    pub fn code(self) -> u8 {
+        match self {
+            MakeError::NotFound => 1,
+            MakeError::Memory => 0,
+        }
+    }
+}
+
+/// The periods that are tried, in slots.
+const PERIODS: [u64; 9] = [256, 512, 1_024, 2_048, 4_096, 8_192, 16_384, 32_768, 65_536];
+
+/// The plan as one that serves the description, where there is a plan and it does.
+fn served<A: Allocator>(
+    description: Description,
+    plan: Result<Option<Plan<A>>, AllocError>,
+) -> Result<CheckedPlan<A>, (MakeError, Description)>
+    ensures served { IfOk result (λ c. c.description ≡ description) }
+    ensures not_found { IfErr result (λ e. e.0 ≡ NotFound → Fails description plan) }
+    ensures handed_back { IfErr result (λ e. e.1 ≡ description) }
+{
+    match plan {
+        Err(_) => Err((MakeError::Memory, description)),
+        Ok(None) => Err((MakeError::NotFound, description)),
+        Ok(Some(plan)) => match check(description, plan) {
+            Ok(checked) => Ok(checked),
+            Err((_, description, _)) => Err((MakeError::NotFound, description)),
+        },
+    }
+}
+
+/// A plan that serves the description, by the checker's word. It is looked for with the earliest deadline first in
+/// periods of 256 to 65,536 slots; the last that is tried is the plain plan, so that none is found only where that is
+/// missing or refused. The description is handed back with each error.
+pub fn make<A: Allocator + Clone>(
+    alloc: A,
+    description: Description,
+) -> Result<CheckedPlan<A>, (MakeError, Description)>
+    ensures served { IfOk result (λ c. c.description ≡ description) }
+    ensures not_found { IfErr result (λ e. e.0 ≡ NotFound → serves description (plain_plan description) ≡ false) }
+    ensures handed_back { IfErr result (λ e. e.1 ≡ description) }
+{
+    let mut description = description;
+    for period in PERIODS {
+        let plan = period_plan(&alloc, &description, period);
+        match served(description, plan) {
+            Ok(checked) => return Ok(checked),
+            Err((MakeError::Memory, back)) => return Err((MakeError::Memory, back)),
+            Err((MakeError::NotFound, back)) => description = back,
+        }
+    }
+    let plan = plain_plan(alloc, &description);
+    served(description, plan)
+}

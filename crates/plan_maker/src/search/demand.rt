@@ -1,0 +1,140 @@
+//! What each item of a description demands of a period.
+
+ghost use Rattle.std.specs.Prelude.{◌<◌, ◌≤◌};
+ghost use Rattle.description.specs.Tables.{table_count};
+
+use crate::search::recurring::Recurrence;
+use crate::search::streaming::Pace;
+use slot_plan::{Description, Slot};
+use std::alloc::{AllocError, Allocator};
+
+/// What an item needs its own slots for.
+#[derive(Clone, Copy)]
+pub enum Need<'a> {
+    Units(Pace<'a>),
+    Recurring(Recurrence),
+}
+
+impl Need<'_> {
+    /// The least own slots of a period; None where none are enough.
+    pub fn count(self, period: u64) -> Option<u64> {
+        match self {
+            Need::Units(pace) => pace.count(period),
+            Need::Recurring(recurrence) => recurrence.count(period),
+        }
+    }
+
+    /// How far the own slots may stray from even spacing, in slots times own slots; None where they can't be so few.
+    pub fn width(self, period: u64, count: u64) -> Option<u64> {
+        match self {
+            Need::Units(pace) => pace.width(period, count),
+            Need::Recurring(recurrence) => recurrence.width(period, count),
+        }
+    }
+
+    /// Whether more own slots can't help: the main buffer alone leaves them no slot to stand in.
+    pub fn is_full(self, period: u64, count: u64) -> bool {
+        match self {
+            Need::Units(pace) => match pace.main_width(period, count) {
+                Some(width) => width.saturating_add(1) < count as u128,
+                None => true,
+            },
+            Need::Recurring(_) => false,
+        }
+    }
+}
+
+/// An item, what it needs, and its own slots in a period. Of its kind it is the one of that number, from 0.
+#[derive(Clone, Copy)]
+pub struct Demand<'a> {
+    pub slot: Slot,
+    pub need: Need<'a>,
+    pub number: u64,
+    pub kind: u64,
+    pub count: u64,
+}
+
+/// Those of a description in a period of that many slots: streams, PCRs, tables, each by number. None where the period
+/// can't serve one.
+pub fn demands<'a, A: Allocator>(
+    alloc: A,
+    description: &'a Description,
+    period: u64,
+) -> Result<Option<Vec<Demand<'a>, A>>, AllocError> {
+    let mut demands = Vec::new(alloc);
+    push_streams(&mut demands, description, period)?;
+    push_pcrs(&mut demands, description, period)?;
+    push_tables(&mut demands, description, period)?;
+    if demands.iter().any(|demand| demand.count > period) {
+        return Ok(None);
+    }
+    Ok(Some(demands))
+}
+
+/// The demand of an item; where no own slots are enough, one slot more than the period has.
+fn demand_of<'a>(slot: Slot, need: Need<'a>, number: usize, kind: usize, period: u64) -> Demand<'a> {
+    Demand {
+        slot,
+        need,
+        number: number as u64,
+        kind: kind as u64,
+        count: need
+            .count(period)
+            .unwrap_or(u64::MAX)
+            .min(period.saturating_add(1)),
+    }
+}
+
+fn push_streams<'a, A: Allocator>(
+    demands: &mut Vec<Demand<'a>, A>,
+    description: &'a Description,
+    period: u64,
+) -> Result<(), AllocError> {
+    let kind = description.streams().len();
+    let rate = description.rate().bits_per_second();
+    for (i, stream) in description.streams().iter().enumerate() {
+        let need = Need::Units(Pace { stream, rate });
+        demands.push(demand_of(Slot::Stream(i as u8), need, i, kind, period))?;
+    }
+    Ok(())
+}
+
+fn push_pcrs<'a, A: Allocator>(
+    demands: &mut Vec<Demand<'a>, A>,
+    description: &'a Description,
+    period: u64,
+) -> Result<(), AllocError> {
+    let kind = description.programs().len();
+    let rate = description.rate().bits_per_second();
+    for (i, program) in description.programs().iter().enumerate() {
+        let need = Need::Recurring(Recurrence::within(program.pcr_limit() as u64, rate, 1));
+        demands.push(demand_of(Slot::Pcr(i as u8), need, i, kind, period))?;
+    }
+    Ok(())
+}
+
+fn push_tables<'a, A: Allocator>(
+    demands: &mut Vec<Demand<'a>, A>,
+    description: &'a Description,
+    period: u64,
+) -> Result<(), AllocError> {
+    description.keeps_ranges();
+    let kind = description.tables();
+    let rate = description.rate().bits_per_second();
+    for t in 0..kind {
+        let limit = description.table_limit(t) as u64;
+        let places = description.round_places(t) as u64;
+        let need = Need::Recurring(Recurrence::within(limit, rate, places));
+        demands.push(demand_of(Slot::Table(t as u8), need, t, kind, period))?;
+    }
+    Ok(())
+}
+
+/// The own slots of all items together.
+pub fn total(demands: &[Demand<'_>]) -> u64 {
+    let mut total: u64 = 0;
+    for demand in demands {
+        total = total.saturating_add(demand.count);
+    }
+    total
+}

@@ -1,0 +1,35 @@
+//! The spread of an item's own slots.
+
+ghost use Rattle.std.specs.Prelude.{◌≡◌, ◌+◌, ◌*◌, ◌≤◌, length};
+ghost use Rattle.own_slots.specs.Period.{per_period};
+ghost use Rattle.own_slots.specs.Spread.{spread};
+ghost use Rattle.slot_plan.specs.Items.{marks};
+
+use crate::counting::own_count;
+use slot_plan::{Item, Slot};
+
+/// How far the own slots stray from even spacing, in slots times own slots a period: the greatest difference of two
+/// own slots, found in one walk as that of the two extremes; 0 where there is none.
+pub fn spread_of(slots: &[Slot], item: Item) -> u64
+    requires short { length slots.now ≤ 65536 }
+    ensures spread { result ≡ spread (marks item slots.now) }
+    ensures few { result ≤ 2 * 65536 * 65536 }
+{
+    let count = own_count(slots, item);
+    if count == 0 {
+        return 0;
+    }
+    let period = slots.len() as u64;
+    let mut number = 0;
+    let mut highest = 0;
+    let mut lowest = 2 * count * period;
+    for (at, slot) in slots.iter().enumerate() {
+        if item.owns(*slot) {
+            let raised = count * at as u64 + (count - number) * period;
+            highest = highest.max(raised);
+            lowest = lowest.min(raised);
+            number += 1;
+        }
+    }
+    highest.saturating_sub(lowest)
+}

@@ -1,0 +1,220 @@
+//! Plans made for worked and for full services; refused memory.
+
+use crate::{MakeError, Reason, make, reasons};
+use linked_list_allocator::LocalHeap;
+use plan_checker::CheckedPlan;
+use slot_plan::{Description, Plan, Slot};
+use std::alloc::{Allocator, Global};
+use std::test::Fail;
+
+const BASE: &str = "rate = 1504000
+start = \"1993-10-13T12:45:00\"
+ts_id = 1
+original_network_id = 1
+sdt = true
+tdt = true
+
+[network]
+id = 1
+name = \"Net\"
+
+[[program]]
+number = 1
+pmt_pid = 4096
+pcr_pid = 257
+service_type = 2
+name = \"One\"
+
+[[stream]]
+program = 1
+pid = 256
+id = 192
+type = 3
+interval = 2160
+size = 576
+lead = 1600
+
+[[event]]
+program = 1
+id = 7
+start = \"1993-10-13T12:45:00\"
+duration = 5400
+language = \"eng\"
+name = \"News\"
+text = \"\"
+";
+
+/// The base with other numbers of its stream.
+fn with_stream(alloc: Global, interval: &str) -> Result<Description, Fail> {
+    let Some((before, after)) = BASE.split_once("interval = 2160") else {
+        return Err(Fail::from("no stream"));
+    };
+    let mut text = String::new(alloc);
+    text.push_str(before)?;
+    text.push_str(interval)?;
+    text.push_str(after)?;
+    described(alloc, text.as_str())
+}
+
+fn described(alloc: Global, text: &str) -> Result<Description, Fail> {
+    match Description::read(alloc, text) {
+        Ok(description) => Ok(description),
+        Err(_) => Err(Fail::from("no description")),
+    }
+}
+
+/// A radio service of so many programs at that rate, each with two streams of a unit of 768 bytes every 24 ms.
+fn radio(alloc: Global, programs: usize, rate: u32) -> Result<Description, Fail> {
+    let head = format!(in alloc; "rate = {rate}\nstart = \"1993-10-13T12:45:00\"\nts_id = 1\n")?;
+    let mut text = String::new(alloc);
+    text.push_str(head.as_str())?;
+    text.push_str("original_network_id = 1\nsdt = true\ntdt = true\n")?;
+    for program in 0..programs {
+        let number = program.saturating_add(1);
+        let pmt = program.saturating_add(4_096);
+        let pcr = program.saturating_add(1_024);
+        let lines = format!(in alloc;
+            "[[program]]\nnumber = {number}\npmt_pid = {pmt}\npcr_pid = {pcr}\nservice_type = 2\nname = \"A\"\n"
+        )?;
+        text.push_str(lines.as_str())?;
+    }
+    for stream in 0..programs.saturating_mul(2) {
+        let number = (stream / 2).saturating_add(1);
+        let pid = stream.saturating_add(2_048);
+        let lines = format!(in alloc;
+            "[[stream]]\nprogram = {number}\npid = {pid}\nid = 192\ntype = 3\ninterval = 2160\nsize = 768\nlead = 4300\n"
+        )?;
+        text.push_str(lines.as_str())?;
+    }
+    described(alloc, text.as_str())
+}
+
+/// How many slots of a plan are not null.
+fn used<A: Allocator>(plan: &Plan<A>) -> usize {
+    plan.slots().iter().filter(|slot| **slot != Slot::Null).count()
+}
+
+fn found(alloc: Global, description: Description) -> Result<CheckedPlan, Fail> {
+    match make(alloc, description) {
+        Ok(checked) => Ok(checked),
+        Err(_) => Err(Fail::from("no plan")),
+    }
+}
+
+#[test]
+fn base(rt: HostRuntime) -> Result<(), Fail> {
+    let checked = found(rt.alloc(), described(rt.alloc(), BASE)?)?;
+    assert_eq!(rt; checked.plan().slots().len(), 256);
+    assert_eq!(rt; checked.description().streams().len(), 1);
+    Ok(())
+}
+
+#[test]
+fn too_many_units(rt: HostRuntime) -> Result<(), Fail> {
+    let description = with_stream(rt.alloc(), "interval = 1")?;
+    let Err((error, description)) = make(rt.alloc(), description) else {
+        return Err(Fail::from("a plan for a unit every 11 us"));
+    };
+    assert_eq!(rt; error, MakeError::NotFound);
+    assert_eq!(rt; error.code(), 1);
+    assert_eq!(rt; description.streams().len(), 1);
+    Ok(())
+}
+
+#[test]
+fn groups(rt: HostRuntime) -> Result<(), Fail> {
+    let interval = "interval = 720\ngroup = 2\ngroup_packets = 4";
+    let checked = found(rt.alloc(), with_stream(rt.alloc(), interval)?)?;
+    assert_eq!(rt; checked.plan().certificate().streams.len(), 1);
+    Ok(())
+}
+
+/// A service that fills nine tenths of its rate, where evenly spaced slots find no place.
+#[test]
+fn full_service(rt: HostRuntime) -> Result<(), Fail> {
+    let checked = found(rt.alloc(), radio(rt.alloc(), 4, 3_600_000)?)?;
+    let slots = checked.plan().slots().len();
+    let used = used(checked.plan());
+    assert!(rt; used.saturating_mul(10) >= slots.saturating_mul(9), "{used} of {slots} slots");
+    Ok(())
+}
+
+/// The most programs and streams that a description can have.
+#[test]
+fn greatest_service(rt: HostRuntime) -> Result<(), Fail> {
+    let checked = found(rt.alloc(), radio(rt.alloc(), 16, 16_000_000)?)?;
+    assert_eq!(rt; checked.plan().certificate().streams.len(), 32);
+    let Err((error, _)) = make(rt.alloc(), radio(rt.alloc(), 16, 8_000_000)?) else {
+        return Err(Fail::from("a plan for more than the rate"));
+    };
+    assert_eq!(rt; error, MakeError::NotFound);
+    Ok(())
+}
+
+/// Each allocation refused in its turn, by heaps of rising sizes: the description comes back, until there is a plan.
+#[test]
+fn refused_memory(rt: HostRuntime) -> Result<(), Fail> {
+    let mut description = described(rt.alloc(), BASE)?;
+    let mut refused: usize = 0;
+    for blocks in 1..512usize {
+        let heap = LocalHeap::new(rt.alloc(), blocks * 64)?;
+        match make(&heap, description) {
+            Ok(checked) => {
+                assert_eq!(rt; checked.plan().slots().len(), 256);
+                assert!(rt; refused > 4, "{refused} refusals");
+                return Ok(());
+            }
+            Err((error, back)) => {
+                assert_eq!(rt; error, MakeError::Memory);
+                assert_eq!(rt; back.streams().len(), 1);
+                refused = refused.saturating_add(1);
+                description = back;
+            }
+        }
+    }
+    Err(Fail::from("never enough memory"))
+}
+
+/// Numbers that no plan can keep, with the least ones that stand in its way no more.
+#[test]
+fn reasons_of_descriptions(rt: HostRuntime) -> Result<(), Fail> {
+    for (interval, reason) in [
+        ("interval = 2160", None),
+        (
+            "interval = 1",
+            Some(Reason::SlowDrain(0, 541_440_000)),
+        ),
+        (
+            "interval = 270",
+            Some(Reason::SlowDrain(0, 2_005_334)),
+        ),
+        ("interval = 271", None),
+    ] {
+        let description = with_stream(rt.alloc(), interval)?;
+        let reasons = reasons(rt.alloc(), &description)?;
+        assert_eq!(rt; reasons.first().copied(), reason, "{interval}");
+    }
+    let slow = radio(rt.alloc(), 1, 100_000)?;
+    let found = reasons(rt.alloc(), &slow)?;
+    assert_eq!(rt; found.len(), 0);
+    Ok(())
+}
+
+/// Memory for reasons refused by heaps of rising sizes, until there is enough.
+#[test]
+fn refused_reasons(rt: HostRuntime) -> Result<(), Fail> {
+    let description = with_stream(rt.alloc(), "interval = 1")?;
+    let mut refused: usize = 0;
+    for blocks in 0..64usize {
+        let heap = LocalHeap::new(rt.alloc(), blocks * 16 + 64)?;
+        match reasons(&heap, &description) {
+            Ok(found) => {
+                assert_eq!(rt; found.len(), 1);
+                assert!(rt; refused > 0, "never refused");
+                return Ok(());
+            }
+            Err(_) => refused = refused.saturating_add(1),
+        }
+    }
+    Err(Fail::from("never enough memory"))
+}
