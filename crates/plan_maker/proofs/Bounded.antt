@@ -1,7 +1,7 @@
 -- Tests of the first n numbers, one after another.
 use Rattle.std.specs.Prelude.{if◌then◌else◌}
-use Rattle.std.proofs.Common.{◌≡◌, ℕ, zero, suc, ◌+◌, ◌<◌, ◌≤◌, ◌&&◌, Bool, true, false, Option, Some, None, refl, ap, sym, ◌∙◌, inl, inr, arith, add-one}
-use Rattle.std.proofs.lemmas.Bool.{cases_eq, cases_Bool}
+use Rattle.std.proofs.Common.{◌≡◌, ℕ, zero, suc, ◌+◌, ◌<◌, ◌&&◌, Bool, true, false, Option, Some, None, refl, ap, sym, ◌∙◌, inl, inr, arith, add-one}
+use Rattle.std.proofs.lemmas.Bool.{cases_eq}
 use Rattle.plan_maker.specs.Bounded.{every, first_of}
 
 pub every_none : (f : ℕ → Bool) → every 0 f ≡ true

@@ -1,14 +1,13 @@
 -- Where a description has a reason, no plan serves it.
-use Rattle.std.proofs.Common.{◌≡◌, ℕ, zero, suc, ◌+◌, ◌-◌, ◌*◌, ◌%◌, ◌<◌, ◌≤◌, Bool, true, false, List, [], ◌∷◌, ◌++◌, length, get_or, nat_lt, None, refl, ap, sym, ◌∙◌, inl, inr, arith, add-one}
-use Rattle.std.specs.Prelude.{if◌then◌else◌}
-use Rattle.std.proofs.Math.Nat.{mul-le-mul_left, mul-le-mul_right, mod-eq_of_lt}
+use Rattle.std.proofs.Common.{◌≡◌, ℕ, zero, suc, ◌+◌, ◌*◌, ◌%◌, ◌<◌, ◌≤◌, Bool, true, false, List, [], ◌∷◌, length, get_or, nat_lt, refl, ap, ◌∙◌, inl, inr, arith, add-one}
+use Rattle.std.proofs.Math.Nat.{mul-le-mul_left, mod-eq_of_lt}
 use Rattle.std.proofs.lemmas.Bool.{cases_Bool, cases_lt}
 use Rattle.std.proofs.lemmas.Bool.Decides.{nat_tests}
 use Rattle.clock27.specs.Release.{slot_units}
 use Rattle.own_slots.specs.Slots.{own_before}
 use Rattle.own_slots.specs.Period.{own, per_period}
 use Rattle.own_slots.specs.Gaps.{gap}
-use Rattle.own_slots.specs.Work.{work_at, work_left}
+use Rattle.own_slots.specs.Work.{work_at, work_left, most_before, most_after}
 use Rattle.own_slots.proofs.Gapping.{gap_law}
 use Rattle.own_slots.proofs.Counting.{own_before_own, own_before_other}
 use Rattle.own_slots.proofs.Placing.{own_before_period}
@@ -19,13 +18,13 @@ use Rattle.slot_plan.specs.declared.slot.Item.TheVariants.{Stream, Pcr, Table}
 use Rattle.slot_plan.specs.Numbered.{numbered}
 use Rattle.slot_plan.specs.Planned.{Planned}
 use Rattle.slot_plan.specs.Items.{marks}
-use Rattle.slot_plan.specs.Entries.{first_failing}
+use Rattle.slot_plan.specs.Entries.{entry}
 use Rattle.slot_plan.specs.Conditions.{IsServing, stream_claim, pcr_gap_entry, table_gap_entry, stream_rate_entry, stream_buffer_entries}
 use Rattle.slot_plan.proofs.Holding.{holds_at, holds_item, holds_first, at_most_holds}
 use Rattle.slot_plan.proofs.Serving.{serves}
 use Rattle.plan_checker.proofs.Marking.{length_marks}
 use Rattle.plan_maker.specs.declared.reasoning.Reason.{Reason}
-use Rattle.plan_maker.specs.Reasons.{pcr_reason, table_reason, drain_reason, pcr_reasons, table_reasons, drain_reasons, reasons_of, ReasonLaw}
+use Rattle.plan_maker.specs.Reasons.{pcr_reason, table_reason, drain_reason, pcr_reasons, table_reasons, drain_reasons, ReasonLaw}
 
 -- ---- lists of reasons
 
@@ -99,8 +98,9 @@ module _ (d : Described) (p : Planned) (serving : IsServing d p) where
       let s = serves d p serving in
       let pos = s.shape.programs_own i lt in
       let program = get_or d.programs i x in
-      let held = holds_at (λ i program. pcr_gap_entry d p i program ∷ []) 0 d.programs i x s.pcr_gaps lt in
-      let le : gap (marks (Pcr i) p.slots) 1 * 1504000 ≤ program.pcr_limit * d.rate = at_most_holds 2 0 (0 + i) _ _ refl held in
+      let e : 0 + i ≡ i = omega arith in
+      let held = rw e at (holds_at (λ i program. pcr_gap_entry d p i program ∷ []) 0 d.programs i x s.pcr_gaps lt) in
+      let le : gap (marks (Pcr i) p.slots) 1 * 1504000 ≤ program.pcr_limit * d.rate = at_most_holds 2 0 i (gap (marks (Pcr i) p.slots) 1 * 1504000) (program.pcr_limit * d.rate) refl held in
       let least : 1 ≤ gap (marks (Pcr i) p.slots) 1 = least_gap (marks (Pcr i) p.slots) 1 pos in
       rw (not_less (program.pcr_limit * d.rate) 1504000 (omega (arith, le, least))) refl
 
@@ -119,18 +119,21 @@ module _ (d : Described) (p : Planned) (serving : IsServing d p) where
       let stream = get_or d.streams i x in
       let own = marks (Stream i) p.slots in
       let claim = stream_claim p i in
-      let rates = holds_at (λ i s. stream_rate_entry d p i s ∷ []) 0 d.streams i x s.rates lt in
-      let le : stream.group_packets * length p.slots * slot_units ≤ per_period own * stream.group * stream.interval * d.rate = at_most_holds 5 0 (0 + i) _ _ refl rates in
-      let buffers = holds_at (stream_buffer_entries d p) 0 d.streams i x s.stream_buffers lt in
-      let second = (holds_first _ _ buffers).1 in
-      let third = (holds_first _ _ second).1 in
-      let carries : work_left d.rate stream.rx claim.start own ≤ claim.start = at_most_holds 6 3 (0 + i) _ _ refl third in
+      let e : 0 + i ≡ i = omega arith in
+      let rates = rw e at (holds_at (λ i s. stream_rate_entry d p i s ∷ []) 0 d.streams i x s.rates lt) in
+      let le : stream.group_packets * length p.slots * slot_units ≤ per_period own * stream.group * stream.interval * d.rate = at_most_holds 5 0 i (stream.group_packets * length p.slots * slot_units) (per_period own * stream.group * stream.interval * d.rate) refl rates in
+      let buffers = rw e at (holds_at (stream_buffer_entries d p) 0 d.streams i x s.stream_buffers lt) in
+      let first = entry 6 1 i (most_before d.rate stream.rx claim.start own) (512 * d.rate) in
+      let second = entry 6 2 i (most_after d.rate stream.rx claim.start own) claim.peak in
+      let third = entry 6 3 i (work_left d.rate stream.rx claim.start own) claim.start in
+      let last = (holds_first second (third ∷ []) ((holds_first first (second ∷ third ∷ []) buffers).1)).1 in
+      let carries : work_left d.rate stream.rx claim.start own ≤ claim.start = at_most_holds 6 3 i (work_left d.rate stream.rx claim.start own) claim.start refl last in
       let pace : per_period own * d.rate ≤ length p.slots * stream.rx = rw (length_marks (Stream i) p.slots) at (drains d.rate stream.rx claim.start own carries) in
       rw (not_less (stream.group * stream.interval * stream.rx) (stream.group_packets * slot_units)
-        (divided (length p.slots) stream.group_packets (per_period own) (stream.group * stream.interval) d.rate stream.rx s.shape.some_slots (regroup le) pace)) refl
+      (divided (length p.slots) stream.group_packets (per_period own) (stream.group * stream.interval) d.rate stream.rx s.shape.some_slots (regroup (stream.group_packets * length p.slots * slot_units) (per_period own) stream.group stream.interval d.rate le) pace)) refl
     where
-      regroup : {m c g t r : ℕ} → m ≤ c * g * t * r → m ≤ c * (g * t) * r
-      regroup h = omega (arith, h)
+      regroup : (m c g t r : ℕ) → m ≤ c * g * t * r → m ≤ c * (g * t) * r
+      regroup m c g t r h = let same : c * g * t ≡ c * (g * t) = grind arith in omega (arith, h, ap (λ (n : ℕ). n * r) same)
 
       divided : (n m c t r x : ℕ) → 1 ≤ n → m * n * slot_units ≤ c * t * r → c * r ≤ n * x → m * slot_units ≤ t * x
       divided n m c t r x some rate pace = elim (cases_lt (t * x) (m * slot_units)) [

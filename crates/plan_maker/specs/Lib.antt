@@ -1,3 +1,4 @@
+pub mod Codes
 pub mod Bounded
 pub mod Certificates
 pub mod Spacings

@@ -1,6 +1,6 @@
 -- How far apart the plain plan sets the slots of each item: a power of two, as many slots as the item's own condition
 -- lets evenly spaced slots be apart.
-use Rattle.std.specs.Prelude.{ℕ, ◌+◌, ◌*◌, ◌/◌, ◌^◌, List, [], ◌∷◌, ◌++◌, nat_le, if◌then◌else◌}
+use Rattle.std.specs.Prelude.{ℕ, ◌*◌, ◌/◌, ◌^◌, List, [], ◌∷◌, ◌++◌, nat_le, if◌then◌else◌}
 use Rattle.clock27.specs.Release.{slot_units}
 use Rattle.own_slots.specs.Extremes.{greatest}
 use Rattle.description.specs.Described.{Described, DescribedProgram, DescribedStream}

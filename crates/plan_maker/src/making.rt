@@ -21,11 +21,15 @@ pub enum MakeError {
 }
 
 impl MakeError {
-    /// The number of the error: 1 for a plan not found, 0 for want of memory.
-    pub fn code(self) -> u8 {
+    ghost use Rattle.plan_maker.specs.Codes.{code_of};
+
+    /// The number of the error: 1 where no plan is found; want of memory has none.
+    pub fn code(self) -> Option<u8>
+        ensures { result ≡ code_of self }
+    {
         match self {
-            MakeError::NotFound => 1,
-            MakeError::Memory => 0,
+            MakeError::NotFound => Some(1),
+            MakeError::Memory => None,
         }
     }
 }

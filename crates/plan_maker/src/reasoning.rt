@@ -104,7 +104,10 @@ pub fn reasons<A: Allocator>(
     Ok(reasons)
 }
 
-fn push<A: Allocator>(reasons: &mut Vec<Reason, A>, reason: Option<Reason>) -> Result<(), AllocError>
+fn push<A: Allocator>(
+    reasons: &mut Vec<Reason, A>,
+    reason: Option<Reason>,
+) -> Result<(), AllocError>
     ensures { OnOk result (reasons.new.items ≡ reasons.old.items ++ option_to_list reason) }
 {
     if let Some(reason) = reason {

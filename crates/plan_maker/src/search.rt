@@ -61,7 +61,10 @@ fn add_slots(demands: &mut [Demand<'_>], missed: usize, period: u64) -> bool {
     if demand.need.is_full(period, demand.count) {
         return false;
     }
-    demand.count = demand.count.saturating_add(1).saturating_add(demand.count / 64);
+    demand.count = demand
+        .count
+        .saturating_add(1)
+        .saturating_add(demand.count / 64);
     true
 }
 

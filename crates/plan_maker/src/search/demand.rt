@@ -72,7 +72,13 @@ pub fn demands<'a, A: Allocator>(
 }
 
 /// The demand of an item; where no own slots are enough, one slot more than the period has.
-fn demand_of<'a>(slot: Slot, need: Need<'a>, number: usize, kind: usize, period: u64) -> Demand<'a> {
+fn demand_of<'a>(
+    slot: Slot,
+    need: Need<'a>,
+    number: usize,
+    kind: usize,
+    period: u64,
+) -> Demand<'a> {
     Demand {
         slot,
         need,

@@ -1,4 +1,5 @@
-//! Numbers of the search: products that stop at the greatest number in place of wrapping, quotients that are rounded up.
+//! Numbers of the search: products that stop at the greatest number in place of wrapping, and quotients that are
+//! rounded up. No product of a description's numbers comes near 128 bits.
 
 /// The product of the factors; the greatest number where it would be more.
 pub fn product(factors: &[u128]) -> u128 {

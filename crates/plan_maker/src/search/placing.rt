@@ -49,10 +49,16 @@ impl Job {
             self.release = u64::MAX;
             return;
         }
-        let at = self.placed.saturating_mul(period).saturating_add(self.phase);
+        let at = self
+            .placed
+            .saturating_mul(period)
+            .saturating_add(self.phase);
         let last = at.saturating_add(self.width);
         let rounding = self.count.saturating_sub(1);
-        self.release = at.saturating_add(rounding).checked_div(self.count).unwrap_or(0);
+        self.release = at
+            .saturating_add(rounding)
+            .checked_div(self.count)
+            .unwrap_or(0);
         self.due = last
             .checked_div(self.count)
             .unwrap_or(0)

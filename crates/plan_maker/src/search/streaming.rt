@@ -12,7 +12,7 @@ const BYTE_UNITS: u128 = 720_000;
 /// A transport buffer of 512 bytes is the most that a packet waits for.
 const TRANSPORT_ROOM: u128 = 512;
 
-/// The slots by which the search lets a packet be late, beside the condition's own one.
+/// The slots by which the search lets a packet be late: the one that the deadline's condition adds, and two more.
 const JITTER: u128 = 3;
 
 /// The data bytes of a packet.

@@ -1,5 +1,4 @@
-use Rattle.std.proofs.Common.{◌≤◌, ◌≡◌, true, length, arith, refl}
-use Rattle.slot_plan.specs.Planned.{has_small_numbers}
+use Rattle.std.proofs.Common.{◌≤◌, length, arith, refl}
 use Rattle.plan_maker.specs.Certificates.{stream_entry_of, program_entry_of}
 use Rattle.plan_maker.proofs.Fitting.{length_numbered, no_error}
 use Rattle.plan_maker.proofs.certifying.certificate_of.Goals as goal

@@ -1,7 +1,7 @@
-use Rattle.std.proofs.Common.{◌≡◌, ◌<◌, ◌≤◌, [], length, get_or, rules}
+use Rattle.std.proofs.Common.{◌<◌, ◌≤◌, [], length, rules}
 use Rattle.slot_plan.specs.Planned.{is_small_program}
 use Rattle.plan_maker.specs.Certificates.{program_entry_of}
-use Rattle.plan_maker.proofs.Items.{pushed, numbers_pushed, all_pushed, still_all}
+use Rattle.plan_maker.proofs.Items.{numbers_pushed, all_pushed, still_all}
 use Rattle.plan_maker.proofs.certifying.program_entries.Goals as goal
 
 pub loop-i-preserved : goal.loop-i-preserved

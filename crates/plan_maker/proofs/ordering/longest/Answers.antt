@@ -1,4 +1,4 @@
-use Rattle.std.proofs.Common.{◌≡◌, ℕ, max, drop, ◌+◌, arith, ap, sym, ◌∙◌}
+use Rattle.std.proofs.Common.{arith, ap}
 use Rattle.std.proofs.lemmas.List.{drop_all}
 use Rattle.plan_maker.specs.PlainPlan.{longest}
 use Rattle.plan_maker.proofs.Order.{longest_next}

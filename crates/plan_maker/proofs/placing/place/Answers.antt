@@ -1,6 +1,5 @@
-use Rattle.std.proofs.Common.{arith, sym, ap, ◌∙◌, Option, Some}
-use Rattle.std.proofs.Common.{ℕ, List, length}
-use Rattle.plan_maker.specs.PlainPlan.{is_free, with_item}
+use Rattle.std.proofs.Common.{arith, sym, ◌∙◌}
+use Rattle.plan_maker.specs.PlainPlan.{is_free}
 use Rattle.plan_maker.proofs.Bounded.{first_below}
 use Rattle.plan_maker.proofs.Giving.{length-with_item}
 use Rattle.plan_maker.proofs.Order.{placed_one, not_placed_one, never, never_true}

@@ -1,4 +1,4 @@
-use Rattle.std.proofs.Common.{arith, sym, ap, ◌∙◌}
+use Rattle.std.proofs.Common.{◌∙◌}
 use Rattle.plan_maker.proofs.Order.{place_next, place_full, place_other, place_end, never, never_true}
 use Rattle.plan_maker.proofs.placing.place_spacing.Goals as goal
 use Rattle.plan_maker.proofs.placing.place_spacing.Goals.{else-item-spacing-via-then-item-spacing+else-not-place, else-item-spacing-via-else-item-spacing}

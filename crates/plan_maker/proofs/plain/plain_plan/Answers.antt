@@ -1,4 +1,3 @@
-use Rattle.std.proofs.Common.{arith}
 use Rattle.plan_maker.proofs.FewSlots.{few_slots}
 use Rattle.plan_maker.proofs.plain.plain_plan.Goals as goal
 

@@ -1,6 +1,5 @@
-use Rattle.std.proofs.Common.{arith, length, replicate}
+use Rattle.std.proofs.Common.{arith}
 use Rattle.std.proofs.lemmas.List.{length-replicate}
-use Rattle.slot_plan.specs.declared.slot.Slot.{Slot}
 use Rattle.slot_plan.specs.declared.slot.Slot.TheVariants.{Null}
 use Rattle.plan_maker.proofs.plain.plain_slots.Goals as goal
 

@@ -1,4 +1,4 @@
-use Rattle.std.proofs.Common.{◌≡◌, ◌<◌, ◌≤◌, ◌++◌, length, get_or}
+use Rattle.std.proofs.Common.{◌≡◌, ◌<◌, ◌≤◌, length, get_or}
 use Rattle.plan_maker.specs.Reasons.{drain_reason}
 use Rattle.plan_maker.proofs.Items.{parts_pushed, all_parts_pushed}
 use Rattle.plan_maker.proofs.reasoning.push_drains.Goals as goal

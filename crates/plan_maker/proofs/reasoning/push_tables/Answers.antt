@@ -1,4 +1,4 @@
-use Rattle.std.proofs.Common.{◌<◌, ◌≤◌, ◌++◌, length, rules}
+use Rattle.std.proofs.Common.{◌<◌, ◌≤◌, length, rules}
 use Rattle.description.specs.Tables.{table_kinds}
 use Rattle.plan_maker.specs.Reasons.{table_reason}
 use Rattle.plan_maker.proofs.Items.{number_parts_pushed, all_parts_pushed}

@@ -1,6 +1,5 @@
-use Rattle.std.proofs.Common.{◌≡◌, ◌<◌, ◌≤◌, ℕ, [], ◌∷◌, ◌++◌, length, get_or, ap, sym, ◌∙◌}
+use Rattle.std.proofs.Common.{◌≡◌, ◌<◌, ◌≤◌, length, get_or, ap, ◌∙◌}
 use Rattle.slot_plan.specs.declared.slot.Slot.TheVariants.{Stream}
-use Rattle.plan_maker.specs.declared.spacing.Spaced.{Spaced}
 use Rattle.plan_maker.specs.Spacings.{spacing, stream_room}
 use Rattle.plan_maker.proofs.Items.{pushed, all_pushed}
 use Rattle.plan_maker.proofs.spacing.push_streams.Goals as goal

@@ -1,4 +1,4 @@
-use Rattle.std.proofs.Common.{◌≡◌, ◌<◌, ◌≤◌, ℕ, [], ◌∷◌, ◌++◌, length, arith, rules, ap, sym, ◌∙◌}
+use Rattle.std.proofs.Common.{◌≡◌, ◌<◌, ◌≤◌, length, arith, rules, ap, ◌∙◌}
 use Rattle.description.specs.Tables.{table_kinds}
 use Rattle.plan_checker.proofs.Counts.{few_tables}
 use Rattle.slot_plan.specs.declared.slot.Slot.TheVariants.{Table}
