@@ -5,3 +5,4 @@ pub mod Listing
 pub mod Reading
 pub mod Performances
 pub mod Judging
+pub mod PlanTexts

@@ -1,12 +1,12 @@
 -- What an input that was read leads to.
-use Rattle.std.proofs.Common.{◌≡◌, ℕ, List, [], refl, sym, subst, ◌∙◌, Option, Some, None, Ok, Err, inl, inr}
+use Rattle.std.proofs.Common.{◌≡◌, ℕ, List, [], refl, sym, ap, subst, ◌∙◌, Option, Some, None, Ok, Err, inl, inr}
 use Rattle.std.proofs.KnownBytes.{Appends-nil}
 use Rattle.std.specs.Io.KnownBytes.{Appends}
-use Rattle.tsmux.specs.Devices.{HasFailed, IsClean, IsUntouched, Takes, Device}
+use Rattle.tsmux.specs.Devices.{HasFailed, IsClean, IsUntouched, Takes, Device, Port}
 use Rattle.tsmux.specs.Halts.{halt_line}
 use Rattle.tsmux.specs.Lines.{Tells}
 use Rattle.tsmux.specs.Passing.{StopsBy, Stopped, WritesLine}
-use Rattle.tsmux.specs.Performing.{IsLedTo, Outcome, Performs, Streams}
+use Rattle.tsmux.specs.Performing.{IsLedTo, Outcome, Performs, Streams, told}
 use Rattle.tsmux.specs.WholeInput.{IsWhole, ReadsInput}
 use Rattle.tsmux.specs.declared.halt.Halt.{Halt}
 use Rattle.tsmux.specs.declared.halt.Halt.TheVariants.{Read, Write, Memory}
@@ -60,13 +60,14 @@ unwritten Leads bytes outcome input output faults status r l w f t s = inr (inr 
   status_is = s;
 })))
 
--- a line was not written whole
-pub line_unwritten : (V : Type 0) (Leads : List ℕ → Outcome → Type 0) (bytes : List ℕ) (outcome : Outcome) (input output faults : Device) (status : ℕ) (halt : Halt) →
-    ReadsInput input (Ok bytes) → Leads bytes outcome → WritesLine {V = V} outcome.output output (Err halt) → Tells faults (halt_line halt) → status ≡ 3 →
+-- a text was not written whole
+pub text_unwritten : (V : Type 0) (Leads : List ℕ → Outcome → Type 0) (bytes text : List ℕ) (outcome : Outcome) (input output faults : Device) (status : ℕ) (halt : Halt) →
+    ReadsInput input (Ok bytes) → Leads bytes outcome → text ≡ outcome.output → WritesLine {V = V} text output (Err halt) → Tells faults (halt_line halt) → status ≡ 3 →
     Performs Leads input output faults status
-line_unwritten V Leads bytes outcome input output faults status Read r l w t s = absurd w
-line_unwritten V Leads bytes outcome input output faults status Write r l w t s = unwritten Leads bytes outcome input output faults status r l w.0 w.1 t s
-line_unwritten V Leads bytes outcome input output faults status Memory r l w t s = absurd w
+text_unwritten V Leads bytes text outcome input output faults status Read r l e w t s = absurd w
+text_unwritten V Leads bytes text outcome input output faults status Write r l e w t s =
+    unwritten Leads bytes outcome input output faults status r l (subst (λ (x : List ℕ). Stopped x output) e w.0) w.1 t s
+text_unwritten V Leads bytes text outcome input output faults status Memory r l e w t s = absurd w
 
 -- it stopped within its output
 pub stopped : (Leads : List ℕ → Outcome → Type 0) (bytes : List ℕ) (outcome : Outcome) (input output faults : Device) (status : ℕ) (halt : Halt) →
@@ -84,6 +85,12 @@ stopped Leads bytes outcome input output faults status Memory r l w t s = inr (r
   tells = t;
   status_is = s;
 })
+
+-- it told a line, and wrote nothing
+pub told_only : (Leads : List ℕ → Outcome → Type 0) (bytes line : List ℕ) (input output faults : Device) (status : ℕ) →
+    ReadsInput input (Ok bytes) → Leads bytes (told line) → IsUntouched output → Tells faults line → status ≡ 1 → Performs Leads input output faults status
+told_only Leads bytes line input output faults status r l u t s = performed Leads bytes (told line) input output faults status r l
+    (subst (λ (port : Port). Appends output.before.bytes port.bytes []) (sym u) (Appends-nil output.before.bytes)) (ap (λ (port : Port). port.failed) u) t s
 
 -- nothing is told
 pub tells_none : (faults : Device) → IsUntouched faults → Tells faults []

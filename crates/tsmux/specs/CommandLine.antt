@@ -15,6 +15,10 @@ flag_rule name = record (new_rule name) { long = Some name; action = Some SetTru
 abbrev pub carry_app : App
 carry_app = with_rule (with_rule (with_rule (new_app (codes "carry")) (flag_rule (codes "hex"))) (option_rule (codes "pid"))) (option_rule (codes "id"))
 
+-- plan
+abbrev pub plan_app : App
+plan_app = new_app (codes "plan")
+
 -- demux
 abbrev pub demux_app : App
 demux_app = new_app (codes "demux")
@@ -28,4 +32,4 @@ abbrev pub top_app : App
 top_app = record (new_app (codes "tsmux")) { top = record (new_app (codes "tsmux")).top { no_binary_name = true } }
 
 abbrev pub tsmux_app : App
-tsmux_app = with_subcommand (with_subcommand (with_subcommand top_app carry_app.top) demux_app.top) check_app.top
+tsmux_app = with_subcommand (with_subcommand (with_subcommand (with_subcommand top_app carry_app.top) plan_app.top) demux_app.top) check_app.top

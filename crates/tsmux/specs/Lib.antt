@@ -13,4 +13,5 @@ pub mod Demultiplexing
 pub mod Jobs
 pub mod JobFaults
 pub mod Checking
+pub mod Planning
 pub mod Program

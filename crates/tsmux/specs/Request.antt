@@ -7,7 +7,7 @@ use Rattle.std.specs.Str.{bytes_eq}
 use Rattle.std.specs.Str.Parse.{digits_value}
 use Rattle.clap.specs.Words.{Row, Text, Kinds, fault_of, first_of, subcommand_of}
 use Rattle.tsmux.specs.declared.request.Request.{Request}
-use Rattle.tsmux.specs.declared.request.Request.TheVariants.{Carry, Check, Demux}
+use Rattle.tsmux.specs.declared.request.Request.TheVariants.{Carry, Check, Demux, Plan}
 use Rattle.pes_packet.specs.StreamIds.{is_unit_id}
 use Rattle.tsmux.specs.CommandLine.{tsmux_app}
 
@@ -46,8 +46,9 @@ carry_request rows = carriage_of (is_given (first_of (codes "hex") rows))
 unfoldable pub request_of : Text → List Row → Option Request
 request_of name rows =
     if bytes_eq name (codes "carry") then carry_request rows
+    else (if bytes_eq name (codes "plan") then Some Plan
     else (if bytes_eq name (codes "demux") then Some Demux
-    else (if bytes_eq name (codes "check") then Some (Check (is_given (first_of (codes "switch") rows))) else None))
+    else (if bytes_eq name (codes "check") then Some (Check (is_given (first_of (codes "switch") rows))) else None)))
 
 -- of words without a fault
 unfoldable pub subcommand_request : Option (Text × List Row) → Option Request
@@ -75,5 +76,6 @@ asked words = requested (map (λ s. s.now) words)
 abbrev pub Fits : Option Request → Type 0
 Fits None = Unit {0}
 Fits (Some (Carry c)) = (c.pid < 8192) × IsTrue (is_unit_id c.id)
+Fits (Some Plan) = Unit {0}
 Fits (Some Demux) = Unit {0}
 Fits (Some (Check switch)) = Unit {0}

@@ -2,7 +2,7 @@
 ghost use Rattle.std.specs.Prelude.{◌≡◌, true, false, IfOk, codes, map};
 ghost use Rattle.clap.specs.Words.{FailsBy, app_of, fault_of, rule_of, subcommand_of, subcommand_rows_of, with_subcommand};
 ghost use Rattle.clap.specs.declared.builder.command.Command.TheViews.{out-Command as fields_of};
-ghost use Rattle.tsmux.specs.CommandLine.{carry_app, check_app, demux_app, flag_rule, option_rule, tsmux_app};
+ghost use Rattle.tsmux.specs.CommandLine.{carry_app, check_app, demux_app, flag_rule, option_rule, plan_app, tsmux_app};
 
 use clap::{Arg, ArgAction, ArgMatches, Command, Error};
 use std::alloc::{AllocError, Global};
@@ -33,6 +33,13 @@ fn carry<'a>(alloc: Global) -> Result<Command<'a>, AllocError>
         .arg(option(alloc, "id"))
 }
 
+fn plan<'a>(alloc: Global) -> Command<'a>
+    ensures app { app_of result ≡ plan_app }
+    ensures local { (fields_of result).has_globals ≡ false }
+{
+    Command::new(alloc, "plan")
+}
+
 fn demux<'a>(alloc: Global) -> Command<'a>
     ensures app { app_of result ≡ demux_app }
     ensures local { (fields_of result).has_globals ≡ false }
@@ -61,6 +68,7 @@ fn tsmux<'a>(alloc: Global) -> Result<Command<'a>, AllocError>
 {
     let command = Command::new(alloc, "tsmux").no_binary_name(true);
     let command = with(command, carry(alloc)?)?;
+    let command = with(command, plan(alloc))?;
     let command = with(command, demux(alloc))?;
     with(command, check(alloc)?)
 }

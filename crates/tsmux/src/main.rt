@@ -1,7 +1,7 @@
 //! `tsmux`: a constant-rate MPEG-2 transport stream multiplexer (ISO/IEC 13818-1, EN 300 468, TR 101 290).
 //!
 //! `command_line`, `options` and `request` read the words. Each subcommand has a module: `carrying`; `demultiplexing`, with
-//! the lines of `finding_lines` on their way by `passing`; `checking`, of the job that `jobs` reads, with `job_fault`, what
+//! the lines of `finding_lines` on their way by `passing`; `planning`; `checking`, of the job that `jobs` reads, with `job_fault`, what
 //! is first wrong with it. `whole_input` reads an input, `lines` writes lines of numbers, `fault_lines` those of records and
 //! units, `halt` is what ends a subcommand before its time. `program` is `run`, the whole program over any reader and
 //! writers, which `main` joins to the real ones.
@@ -20,6 +20,7 @@ mod jobs;
 mod lines;
 mod options;
 mod passing;
+mod planning;
 mod program;
 mod request;
 #[cfg(test)]

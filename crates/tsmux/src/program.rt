@@ -5,15 +5,17 @@ ghost use Rattle.tsmux.specs.Checking.{Checks};
 ghost use Rattle.tsmux.specs.Demultiplexing.{Demultiplexes};
 ghost use Rattle.tsmux.specs.Devices.{reads, writes};
 ghost use Rattle.tsmux.specs.Performing.{LacksMemory, Performs, Streams};
+ghost use Rattle.tsmux.specs.Planning.{Plans};
 ghost use Rattle.tsmux.specs.Program.{IsUsage};
 ghost use Rattle.tsmux.specs.Request.{asked};
 ghost use Rattle.tsmux.specs.declared.request.Carriage.{Carriage};
-ghost use Rattle.tsmux.specs.declared.request.Request.TheVariants.{Carry, Check, Demux};
+ghost use Rattle.tsmux.specs.declared.request.Request.TheVariants.{Carry, Check, Demux, Plan};
 
 use crate::carrying::carry_records;
 use crate::checking::check_job;
 use crate::demultiplexing::demultiplex;
 use crate::halt::{Halt, halted};
+use crate::planning::make_plan;
 use crate::request::{Request, requested};
 use std::alloc::Global;
 use ts_packet::{Sink, Source, write_part};
@@ -21,6 +23,7 @@ use ts_packet::{Sink, Source, write_part};
 /// What is told of a usage error.
 const USAGE: &str =
     "usage: tsmux carry [--hex] [--pid 32..8190] [--id 189|192..239] < RECORDS > PACKETS
+       tsmux plan < DESCRIPTION > PLAN
        tsmux demux < PACKETS > FINDINGS
        tsmux check [--switch] < JOB
 with no words: tsmux carry --hex
@@ -47,6 +50,9 @@ pub fn run<R: Source, W: Sink, E: Sink>(
     ensures carry { (c : Carriage) → asked words.now ≡ Some (Carry c) →
         Carries c (reads R.Source input.old input.new) (writes W.Sink output.old output.new) (writes E.Sink faults.old faults.new) result
         ⊎ LacksMemory (reads R.Source input.old input.new) (writes W.Sink output.old output.new) (writes E.Sink faults.old faults.new) result }
+    // A description to the text of some plan that serves it.
+    ensures plan { asked words.now ≡ Some Plan →
+        Performs Plans (reads R.Source input.old input.new) (writes W.Sink output.old output.new) (writes E.Sink faults.old faults.new) result }
     // Packets to a line for each finding.
     ensures demux { asked words.now ≡ Some Demux →
         Streams Demultiplexes (reads R.Source input.old input.new) (writes W.Sink output.old output.new) (writes E.Sink faults.old faults.new) result }
@@ -60,6 +66,7 @@ pub fn run<R: Source, W: Sink, E: Sink>(
 {
     match requested(alloc, words) {
         Ok(Some(Request::Carry(carriage))) => carry_records(alloc, carriage, input, output, faults),
+        Ok(Some(Request::Plan)) => make_plan(alloc, input, output, faults),
         Ok(Some(Request::Demux)) => demultiplex(alloc, input, output, faults),
         Ok(Some(Request::Check { switch })) => check_job(alloc, switch, input, output, faults),
         Ok(None) => tell_usage(faults),

@@ -25,6 +25,8 @@ pub struct Carriage {
 pub enum Request {
     /// unit records to packets
     Carry(Carriage),
+    /// a description to the text of a plan
+    Plan,
     /// what is found in packets
     Demux,
     /// whether a plan serves a description, and a second plan may follow it
@@ -70,6 +72,7 @@ fn request_of(name: &str, matches: &ArgMatches<'_>) -> Option<Request>
 {
     match name {
         "carry" => carry_request(matches),
+        "plan" => Some(Request::Plan),
         "demux" => Some(Request::Demux),
         "check" => {
             let switch = options::is_given(options::text_of(matches, "switch"));

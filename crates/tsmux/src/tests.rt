@@ -1,6 +1,7 @@
 //! The program over bytes, and over readers and writers that fail.
 mod finding_list;
 mod plan_checks;
+mod plans;
 
 use crate::program::run;
 use std::alloc::Global;
@@ -178,6 +179,8 @@ fn tells_the_usage(rt: HostRuntime) -> Result<(), Fail> {
     assert_usage(&rt, alloc, ["carry", "--id", "188"].as_slice());
     assert_usage(&rt, alloc, ["carry", "--id", "191"].as_slice());
     assert_usage(&rt, alloc, ["carry", "--id", "240"].as_slice());
+    assert_usage(&rt, alloc, ["plan", "--switch"].as_slice());
+    assert_usage(&rt, alloc, ["plan", "more"].as_slice());
     assert_usage(&rt, alloc, ["demux", "--hex"].as_slice());
     assert_usage(&rt, alloc, ["check", "more"].as_slice());
     assert_usage(&rt, alloc, ["check", "--switch", "--switch"].as_slice());

@@ -6,7 +6,7 @@ use std::test::Fail;
 use ts_packet::{Counted, Failing};
 
 /// A service of one audio stream at 1,504,000 bits/s (1,000 slots a second).
-const DESCRIPTION: &str = "rate = 1504000
+pub const DESCRIPTION: &str = "rate = 1504000
 start = \"1993-10-13T12:45:00\"
 ts_id = 1
 original_network_id = 1
@@ -56,7 +56,8 @@ program 0 tstart 0 tpeak 377504000 bstart 0 bpeak 550464000
 end
 ";
 
-fn job(alloc: Global, parts: &[&str]) -> Result<Vec<u8>, AllocError> {
+/// The parts of a job, joined.
+pub fn job(alloc: Global, parts: &[&str]) -> Result<Vec<u8>, AllocError> {
     let mut bytes = Vec::new(alloc);
     for part in parts {
         bytes.extend_from_slice(part.as_bytes())?;

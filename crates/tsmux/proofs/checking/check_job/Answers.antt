@@ -3,7 +3,7 @@ use Rattle.std.specs.Prelude.{option_map}
 use Rattle.tsmux.specs.Checking.{Checks, checked, fault_in, verdict_of}
 use Rattle.tsmux.specs.JobFaults.{fault_view}
 use Rattle.tsmux.specs.Jobs.{job_of}
-use Rattle.tsmux.proofs.Performances.{line_unwritten, no_room, performed, unread}
+use Rattle.tsmux.proofs.Performances.{text_unwritten, no_room, performed, unread}
 use Rattle.tsmux.proofs.checking.check_job.Goals as goal
 
 pub returns-in-Err : goal.returns-in-Err
@@ -17,7 +17,7 @@ unfolding checked
 returns-in-Err-say g c =
     let is : verdict_of (option_map fault_view c.in-Ok-judge.fault) ≡ checked c.args.switch c.in-Ok.bytes.items =
     ap verdict_of (c.in-Ok-judge.ensures ∙ ap (λ bytes. fault_in (job_of c.args.switch bytes)) c.deref.ensures.value) in
-    line_unwritten (Unit {0}) (Checks c.args.switch) c.in-Ok.bytes.items (verdict_of (option_map fault_view c.in-Ok-judge.fault)) _ _ _ _ c.in-Err-say.halt c.in-Ok.ensures is
+    text_unwritten (Unit {0}) (Checks c.args.switch) c.in-Ok.bytes.items _ (verdict_of (option_map fault_view c.in-Ok-judge.fault)) _ _ _ _ c.in-Err-say.halt c.in-Ok.ensures is refl
     c.in-Err-say.ensures c.halted-in-Err-say.ensures.tells c.halted-in-Err-say.ensures.status
 
 pub returns : goal.returns
