@@ -1,6 +1,7 @@
 -- A job as it is read, and the line that tells what is first wrong with it.
 use Rattle.std.specs.Prelude.{◌≡◌, ℕ, Bool, true, false, List, [], ◌∷◌, Some, None, Result, Ok, Err, codes, ⊤}
 use Rattle.description.specs.Codes.{fault_code, fault_item}
+use Rattle.slot_plan.specs.Entries.{code_of}
 use Rattle.plan_checker.specs.Refused.{entry_of}
 use Rattle.tsmux.specs.Lines.{line_text}
 use Rattle.tsmux.specs.Jobs.{BadDescription, BadLine, BadSecondLine, Fails, HasNoPlan, JobFaultView, JobView, SecondFails}
@@ -50,9 +51,9 @@ abbrev pub fault_numbers : JobFaultView → List ℕ
 fault_numbers HasNoPlan = []
 fault_numbers (BadDescription f) = fault_code f ∷ fault_item f ∷ []
 fault_numbers (BadLine line) = line ∷ []
-fault_numbers (Fails e) = e.code ∷ e.part ∷ e.item ∷ e.left ∷ e.right ∷ []
+fault_numbers (Fails e) = code_of e.condition ∷ e.part ∷ e.item ∷ e.left ∷ e.right ∷ []
 fault_numbers (BadSecondLine line) = line ∷ []
-fault_numbers (SecondFails e) = e.code ∷ e.part ∷ e.item ∷ e.left ∷ e.right ∷ []
+fault_numbers (SecondFails e) = code_of e.condition ∷ e.part ∷ e.item ∷ e.left ∷ e.right ∷ []
 
 abbrev pub fault_line : JobFaultView → List ℕ
 fault_line fault = line_text (fault_name fault) (fault_numbers fault)
