@@ -1,7 +1,7 @@
 -- The lines that tell of a fault in records and units.
 use Rattle.std.specs.Prelude.{ℕ, List, [], ◌∷◌, codes}
 use Rattle.mux_core.specs.Codes.{feed_code, file_code}
-use Rattle.mux_core.specs.declared.refusals.FeedError.{FeedError}
+use Rattle.unit_queue.specs.declared.refusal.FeedError.{FeedError}
 use Rattle.mux_core.specs.declared.unit_records.UnitFileError.{UnitFileError}
 use Rattle.mux_core.specs.declared.unit_records.UnitFileError.TheVariants as unread
 use Rattle.tsmux.specs.Lines.{line_text}
