@@ -2,17 +2,22 @@
 
 BINARY = crates/tsmux/out/tsmux
 
-.PHONY: run test bench binary clean
+.PHONY: run try test bench binary clean
 
 # The main jobs on an example: four seconds of MPEG audio, 167 access units, become transport packets; what is in them is
-# listed; and a plan for the service is checked.
+# listed; and a plan for the service that they belong to is made, and checked.
 run: binary
 	mkdir -p out
 	$(BINARY) carry < examples/radio/radio.units > out/radio.ts
 	@ls -l out/radio.ts
 	$(BINARY) demux < out/radio.ts > out/radio.findings
 	@tail -n 1 out/radio.findings
-	cat examples/radio/radio.toml examples/radio/radio.plan | $(BINARY) check
+	$(BINARY) plan < examples/radio/radio.toml > out/radio.plan
+	cat examples/radio/radio.toml out/radio.plan | $(BINARY) check
+
+# The same program without its proofs, in a minute or two: it makes a plan for the radio service.
+try:
+	cd crates/tsmux && rt try -- plan < ../../examples/radio/radio.toml
 
 # Proves, builds and links the program (with no words and no input it does nothing).
 binary:
@@ -22,13 +27,14 @@ binary:
 test:
 	rt ci
 
-# Speed, as a ratio to a copy of the same bytes in the same run. Needs python3 and cc beside the kit.
+# Speed, as a ratio to a copy of the same bytes in the same run, and how full a multiplex `plan` fills. Needs python3 and cc beside the kit.
 bench: binary
 	python3 bench/carry.py $(BINARY)
 	python3 bench/demux.py $(BINARY)
 	python3 bench/packets.py
 	python3 bench/check.py
 	python3 bench/measure.py
+	python3 bench/plan.py $(BINARY) 40
 
 clean:
 	rm -rf out crates/*/out
