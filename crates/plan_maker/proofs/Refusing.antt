@@ -4,6 +4,9 @@ use Rattle.std.proofs.Math.Nat.{mul-le-mul_left, mod-eq_of_lt}
 use Rattle.std.proofs.lemmas.Bool.{cases_Bool, cases_lt}
 use Rattle.std.proofs.lemmas.Bool.Decides.{nat_tests}
 use Rattle.clock27.specs.Release.{slot_units}
+use Rattle.clock27.specs.Units.{slot_milliseconds}
+use Rattle.unit_timing.specs.Buffers.{tb_size}
+use Rattle.unit_timing.specs.Conditions.{rate_needed, rate_given}
 use Rattle.own_slots.specs.Slots.{own_before}
 use Rattle.own_slots.specs.Period.{own, per_period}
 use Rattle.own_slots.specs.Gaps.{gap}
@@ -18,8 +21,10 @@ use Rattle.slot_plan.specs.declared.slot.Item.TheVariants.{Stream, Pcr, Table}
 use Rattle.slot_plan.specs.Numbered.{numbered}
 use Rattle.slot_plan.specs.Planned.{Planned}
 use Rattle.slot_plan.specs.Items.{marks}
-use Rattle.slot_plan.specs.Entries.{entry}
-use Rattle.slot_plan.specs.Conditions.{IsServing, stream_claim, pcr_gap_entry, table_gap_entry, stream_rate_entry, stream_buffer_entries}
+use Rattle.slot_plan.specs.declared.condition.Condition.TheVariants.{PcrGap, TableGap, StreamRate, TransportBuffer}
+use Rattle.slot_plan.specs.Entries.{at_most}
+use Rattle.slot_plan.specs.Claims.{declaration, stream_claim, stream_share}
+use Rattle.slot_plan.specs.Conditions.{IsServing, pcr_gap_entry, table_gap_entry, stream_rate_entry, stream_buffer_entries}
 use Rattle.slot_plan.proofs.Holding.{holds_at, holds_item, holds_first, at_most_holds}
 use Rattle.slot_plan.proofs.Serving.{serves}
 use Rattle.plan_checker.proofs.Marking.{length_marks}
@@ -100,7 +105,7 @@ module _ (d : Described) (p : Planned) (serving : IsServing d p) where
       let program = get_or d.programs i x in
       let e : 0 + i ≡ i = omega arith in
       let held = rw e at (holds_at (λ i program. pcr_gap_entry d p i program ∷ []) 0 d.programs i x s.pcr_gaps lt) in
-      let le : gap (marks (Pcr i) p.slots) 1 * 1504000 ≤ program.pcr_limit * d.rate = at_most_holds 2 0 i (gap (marks (Pcr i) p.slots) 1 * 1504000) (program.pcr_limit * d.rate) refl held in
+      let le : gap (marks (Pcr i) p.slots) 1 * 1504000 ≤ program.pcr_limit * d.rate = at_most_holds PcrGap 0 i (gap (marks (Pcr i) p.slots) 1 * slot_milliseconds) (program.pcr_limit * d.rate) held in
       let least : 1 ≤ gap (marks (Pcr i) p.slots) 1 = least_gap (marks (Pcr i) p.slots) 1 pos in
       rw (not_less (program.pcr_limit * d.rate) 1504000 (omega (arith, le, least))) refl
 
@@ -109,7 +114,7 @@ module _ (d : Described) (p : Planned) (serving : IsServing d p) where
       let s = serves d p serving in
       let pos = s.shape.tables_own t lt in
       let held = holds_item (λ j. table_gap_entry d p j ∷ []) (table_kinds d) t s.table_gaps lt in
-      let le : gap (marks (Table t) p.slots) (round_places d t) * 1504000 ≤ table_limit d t * d.rate = at_most_holds 3 0 t _ _ refl held in
+      let le : gap (marks (Table t) p.slots) (round_places d t) * 1504000 ≤ table_limit d t * d.rate = at_most_holds TableGap 0 t (gap (marks (Table t) p.slots) (round_places d t) * slot_milliseconds) (table_limit d t * d.rate) held in
       let least : round_places d t ≤ gap (marks (Table t) p.slots) (round_places d t) = least_gap (marks (Table t) p.slots) (round_places d t) pos in
       rw (not_less (table_limit d t * d.rate) (round_places d t * 1504000) (omega (arith, le, least))) refl
 
@@ -121,13 +126,13 @@ module _ (d : Described) (p : Planned) (serving : IsServing d p) where
       let claim = stream_claim p i in
       let e : 0 + i ≡ i = omega arith in
       let rates = rw e at (holds_at (λ i s. stream_rate_entry d p i s ∷ []) 0 d.streams i x s.rates lt) in
-      let le : stream.group_packets * length p.slots * slot_units ≤ per_period own * stream.group * stream.interval * d.rate = at_most_holds 5 0 i (stream.group_packets * length p.slots * slot_units) (per_period own * stream.group * stream.interval * d.rate) refl rates in
+      let le : stream.group_packets * length p.slots * slot_units ≤ per_period own * stream.group * stream.interval * d.rate = at_most_holds StreamRate 0 i (rate_needed (declaration stream) (stream_share p i)) (rate_given d.rate (declaration stream) (stream_share p i)) rates in
       let buffers = rw e at (holds_at (stream_buffer_entries d p) 0 d.streams i x s.stream_buffers lt) in
-      let first = entry 6 1 i (most_before d.rate stream.rx claim.start own) (512 * d.rate) in
-      let second = entry 6 2 i (most_after d.rate stream.rx claim.start own) claim.peak in
-      let third = entry 6 3 i (work_left d.rate stream.rx claim.start own) claim.start in
+      let first = at_most TransportBuffer 1 i (most_before d.rate stream.rx claim.start own) (tb_size * d.rate) in
+      let second = at_most TransportBuffer 2 i (most_after d.rate stream.rx claim.start own) claim.peak in
+      let third = at_most TransportBuffer 3 i (work_left d.rate stream.rx claim.start own) claim.start in
       let last = (holds_first second (third ∷ []) ((holds_first first (second ∷ third ∷ []) buffers).1)).1 in
-      let carries : work_left d.rate stream.rx claim.start own ≤ claim.start = at_most_holds 6 3 i (work_left d.rate stream.rx claim.start own) claim.start refl last in
+      let carries : work_left d.rate stream.rx claim.start own ≤ claim.start = at_most_holds TransportBuffer 3 i (work_left d.rate stream.rx claim.start own) claim.start last in
       let pace : per_period own * d.rate ≤ length p.slots * stream.rx = rw (length_marks (Stream i) p.slots) at (drains d.rate stream.rx claim.start own carries) in
       rw (not_less (stream.group * stream.interval * stream.rx) (stream.group_packets * slot_units)
       (divided (length p.slots) stream.group_packets (per_period own) (stream.group * stream.interval) d.rate stream.rx s.shape.some_slots (regroup (stream.group_packets * length p.slots * slot_units) (per_period own) stream.group stream.interval d.rate le) pace)) refl

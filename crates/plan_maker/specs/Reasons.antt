@@ -1,4 +1,5 @@
 -- Why no plan at all can serve a description: numbers of its own that no slots can keep.
+use Rattle.clock27.specs.Units.{slot_milliseconds}
 use Rattle.std.specs.Prelude.{◌≡◌, ℕ, ◌*◌, List, [], ◌∷◌, ◌++◌, nat_lt, if◌then◌else◌}
 use Rattle.std.specs.Int.{div_ceil}
 use Rattle.clock27.specs.Release.{slot_units}
@@ -12,15 +13,15 @@ use Rattle.plan_maker.specs.declared.reasoning.Reason.TheVariants.{PcrLimit, Tab
 
 -- the least limit in ms within which so many slots of 1,504 bits come
 abbrev pub least_limit : Described → ℕ → ℕ
-least_limit d slots = div_ceil (1504000 * slots) d.rate
+least_limit d slots = div_ceil (slot_milliseconds * slots) d.rate
 
 -- a program's PCRs recur within its limit only where that is not shorter than a slot (ISO/IEC 13818-1, 2.7.2)
 abbrev pub pcr_reason : Described → ℕ → DescribedProgram → List Reason
-pcr_reason d i p = if nat_lt (p.pcr_limit * d.rate) 1504000 then PcrLimit i (least_limit d 1) ∷ [] else []
+pcr_reason d i p = if nat_lt (p.pcr_limit * d.rate) slot_milliseconds then PcrLimit i (least_limit d 1) ∷ [] else []
 
 -- the sections of a table only where its limit is not shorter than the slots of a round (ETSI TR 101 290, 5.2)
 abbrev pub table_reason : Described → ℕ → List Reason
-table_reason d t = if nat_lt (table_limit d t * d.rate) (round_places d t * 1504000) then TableLimit t (least_limit d (round_places d t)) ∷ [] else []
+table_reason d t = if nat_lt (table_limit d t * d.rate) (round_places d t * slot_milliseconds) then TableLimit t (least_limit d (round_places d t)) ∷ [] else []
 
 -- the least drain of a stream's transport buffer in bits a second, for whole packets of its groups of units
 abbrev pub least_drain : DescribedStream → ℕ

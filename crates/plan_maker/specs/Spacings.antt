@@ -1,5 +1,6 @@
 -- How far apart the plain plan sets the slots of each item: a power of two, as many slots as the item's own condition
 -- lets evenly spaced slots be apart.
+use Rattle.clock27.specs.Units.{slot_milliseconds}
 use Rattle.std.specs.Prelude.{ℕ, ◌*◌, ◌/◌, ◌^◌, List, [], ◌∷◌, ◌++◌, nat_le, if◌then◌else◌}
 use Rattle.clock27.specs.Release.{slot_units}
 use Rattle.own_slots.specs.Extremes.{greatest}
@@ -23,11 +24,11 @@ stream_room d s = s.group * s.interval * d.rate / (s.group_packets * slot_units)
 
 -- the slots within which a program needs a PCR (ISO/IEC 13818-1, 2.7.2); a slot is 1,504 bits, the limit in ms
 abbrev pub pcr_room : Described → DescribedProgram → ℕ
-pcr_room d p = p.pcr_limit * d.rate / 1504000
+pcr_room d p = p.pcr_limit * d.rate / slot_milliseconds
 
 -- the slots within which a table needs a packet, where its rounds are sent within its limit (ETSI TR 101 290, 5.2)
 abbrev pub table_room : Described → ℕ → ℕ
-table_room d t = table_limit d t * d.rate / (1504000 * round_places d t)
+table_room d t = table_limit d t * d.rate / (slot_milliseconds * round_places d t)
 
 abbrev pub spaced_streams : Described → List Spaced
 spaced_streams d = numbered (λ i s. record { slot = Stream i; spacing = spacing (stream_room d s) } ∷ []) 0 d.streams
