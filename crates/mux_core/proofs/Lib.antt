@@ -19,3 +19,4 @@ pub mod StreamsAlone
 pub mod StreamsKept
 pub mod Whole
 pub mod Measuring
+pub mod Accepted

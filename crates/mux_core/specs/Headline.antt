@@ -21,7 +21,8 @@ use Rattle.table_rounds.specs.Payloads.{TableCarried, Begins}
 use Rattle.tstd.specs.Carried.{carries, timed_texts, packets_on, table_packets}
 use Rattle.tstd.specs.Measured.{late_of}
 use Rattle.mux_core.specs.Scheduled.{Scheduled}
-use Rattle.mux_core.specs.Histories.{rules_of, lane_of, table_of, content_at}
+use Rattle.mux_core.specs.Histories.{History, rules_of, lane_of, table_of, content_at}
+use Rattle.mux_core.specs.Standing.{Mixer, Stands}
 use Rattle.description.specs.Ranges.{IsInRange}
 use Rattle.plan_timing.specs.Promised.{Promised}
 use Rattle.unit_queue.specs.Queues.{IsRules, Kept}
@@ -85,3 +86,8 @@ pub record UnitsKept (d : Scheduled) (units : ℕ → List AccessUnit) : Type 0 
 abbrev pub HeadlineLaw : Type 0
 HeadlineLaw = (d : Scheduled) (units : ℕ → List AccessUnit) (slots : ℕ) → IsInRange d.description → Promised d.description d.schedule → UnitsKept d units →
     Headline d units slots (run_bytes (content_at d units) 0 slots)
+
+-- so of what a multiplexer stands for, and as far as its bytes go
+abbrev pub StandingLaw : Type 0
+StandingLaw = (h : History) (m : Mixer) (n : ℕ) → IsInRange m.line.description → Promised m.line.description m.line.schedule → Stands h m →
+    Headline m.line h.units n (run_bytes (content_at m.line h.units) 0 n)
