@@ -10,3 +10,13 @@ pub mod Turning
 pub mod Feeding
 pub mod Knowing
 pub mod Standing
+pub mod PartRising
+pub mod Speaking
+pub mod TablesRead
+pub mod Programs
+pub mod Sizes
+pub mod StreamsAlone
+pub mod StreamsKept
+pub mod Whole
+pub mod Measuring
+pub mod Accepted

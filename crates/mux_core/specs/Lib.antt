@@ -12,3 +12,5 @@ pub mod TimingLaws
 pub mod Histories
 pub mod Standing
 pub mod Turns
+pub mod Headline
+pub mod Measuring

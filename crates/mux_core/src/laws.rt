@@ -4,6 +4,8 @@ ghost use Rattle.std.specs.Prelude.{ℕ, List};
 ghost use Rattle.pes_packet.specs.AccessUnits.{AccessUnit};
 ghost use Rattle.plan_timing.specs.Promised.{Promised};
 ghost use Rattle.mux_core.specs.Laws.{RecordsAreRead, FitsRecord, RunsAreWhole, PacketsJoin};
+ghost use Rattle.mux_core.specs.Headline.{HeadlineLaw, StandingLaw};
+ghost use Rattle.mux_core.specs.Measuring.{MeasuredLaw};
 ghost use Rattle.mux_core.specs.TimingLaws.{UnitsArrive, TransportFits, MainFits, SystemFits, PcrsRecur, SectionsRecur, OfPlan, OfSwitch};
 
 /// A record that is written, whatever follows it, is read again, and what follows it is left.
@@ -96,3 +98,15 @@ pub fn switch_main()
 {
     plan_timing::laws::accepted_switch();
 }
+
+/// The finished bytes of a run keep every promise, where the schedule keeps the conditions and each stream's units are
+/// within what it declares; and so of each history that a multiplexer stands for.
+pub fn headline()
+    ensures whole { HeadlineLaw }
+    ensures standing { StandingLaw }
+{}
+
+/// Of bytes that keep every promise, `tstd::measure` finds no late unit and no buffer over its size.
+pub fn measured()
+    ensures { MeasuredLaw }
+{}

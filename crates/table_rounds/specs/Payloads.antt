@@ -1,11 +1,14 @@
 -- What the packets of a table carry.
-use Rattle.std.specs.Prelude.{◌≡◌, ℕ, ◌%◌, ◌^◌, ◌<◌, ◌==◌, true, false, List, Some, map, slice_get}
+use Rattle.std.specs.Prelude.{◌≡◌, ℕ, suc, ◌%◌, ◌^◌, ◌<◌, ◌==◌, true, false, List, Some, length, map, take, slice_get}
 use Rattle.std.specs.List.{flat_map}
 use Rattle.own_slots.specs.Slots.{own_slots}
+use Rattle.own_slots.specs.Rounds.{starts}
 use Rattle.ts_packet.specs.PidList.{Entry, is_of_pid, pid_list}
-use Rattle.ts_packet.specs.Contents.{Content, ContentFits, view_of, run_bytes, Payload, payload_at, Piece, put}
+use Rattle.ts_packet.specs.Contents.{Content, ContentFits, view_of, run_bytes, Payload, payload_of, payload_at, Piece, put}
 use Rattle.ts_packet.specs.RunLaws.{Fits}
-use Rattle.table_rounds.specs.Tables.{Table, place_at, part_at, table_content}
+use Rattle.table_rounds.specs.Parts.{filled}
+use Rattle.table_rounds.specs.Tables.{Table, round_places, place_at, moment_before, part_at, table_content}
+use Rattle.table_rounds.specs.Laws.{first_place}
 
 -- the payloads of a table in its own slots among n
 abbrev pub table_payloads : Table → ℕ → List Payload
@@ -35,3 +38,18 @@ FirstPartLaw = (table : Table) (s j : ℕ) → place_at table s ≡ record { sec
 -- what an own slot carries can be a packet
 abbrev pub PartFitsLaw : Type 0
 PartFitsLaw = (table : Table) (s : ℕ) → table.pid < 2 ^ 13 → ContentFits (table_content table s)
+
+-- in the packet of slot s section j begins: the start indicator is set, and behind pointer_field 0 the payload has the first bytes of
+-- the section, as it is at the moment of its round
+pub record Begins (table : Table) (j s : ℕ) (bytes : List ℕ) : Type 0 where
+  pub number : ℕ
+  pub entry : Entry
+  pub listed : slice_get (pid_list table.pid bytes) number ≡ Some entry
+  pub slot : entry.index ≡ s
+  pub start : entry.packet.header.start_indicator ≡ true
+  pub first : payload_of entry.packet ≡ take 184 (filled (table.text j (moment_before table (suc s))))
+
+-- a section begins in each slot that is its first place
+abbrev pub BeginsLaw : Type 0
+BeginsLaw = (table : Table) (n j s : ℕ) (content : ℕ → Content) → IsAlone table content → j < length table.lengths → s < n →
+    starts table.own (round_places table.lengths) (first_place table.lengths j) s ≡ true → Begins table j s (run_bytes content 0 n)

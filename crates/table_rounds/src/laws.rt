@@ -1,5 +1,5 @@
 //! Laws of the definitions. Each function does nothing: its contract is the law.
-ghost use Rattle.table_rounds.specs.Payloads.{TableCarriedLaw, FirstPartLaw, PartFitsLaw};
+ghost use Rattle.table_rounds.specs.Payloads.{TableCarriedLaw, BeginsLaw, FirstPartLaw, PartFitsLaw};
 ghost use Rattle.table_rounds.specs.Laws.{FirstTurnLaw, OwnSlotLaw, OtherSlotLaw, PlaceLaw, PlaceFoundLaw};
 
 /// A new state stands for its table before slot 0.
@@ -41,4 +41,9 @@ pub fn first_part()
 /// What an own slot carries can be a packet.
 pub fn part_fits()
     ensures { PartFitsLaw }
+{}
+
+/// In the bytes of an output a section begins in each slot that is its first place.
+pub fn begins()
+    ensures { BeginsLaw }
 {}

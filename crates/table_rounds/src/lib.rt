@@ -25,3 +25,6 @@ pub mod laws;
 
 pub use texts::SectionTexts;
 pub use turn::TableTurn;
+
+#[cfg(test)]
+mod tests;

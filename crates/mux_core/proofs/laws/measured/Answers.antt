@@ -1,0 +1,5 @@
+use Rattle.mux_core.proofs.Measuring.{measured}
+use Rattle.mux_core.proofs.laws.measured.Goals as goal
+
+pub returns : goal.returns
+returns c = measured

@@ -1,0 +1,93 @@
+-- What the finished bytes of a run keep, at every moment and in runs of any length: everything that was accepted, on its PID, in order and
+-- in time, and no buffer of the decoder model (ISO/IEC 13818-1, 2.4.2) ever too full.
+use Rattle.std.specs.Prelude.{◌≡◌, ◌⊎◌, ℕ, ◌+◌, ◌*◌, ◌%◌, ◌<◌, ◌≤◌, true, List, length, map, take, slice_get, Some, None, All}
+use Rattle.clock27.specs.Recurrence.{Recur}
+use Rattle.clock27.specs.Reference.{pcr_at}
+use Rattle.pes_packet.specs.AccessUnits.{AccessUnit}
+use Rattle.ts_packet.specs.Packets.{pcr_view}
+use Rattle.ts_packet.specs.PidList.{Entry, entries_of, pid_list}
+use Rattle.ts_packet.specs.Contents.{run_bytes, payload_at}
+use Rattle.description.specs.Described.{DescribedProgram, DescribedStream}
+use Rattle.description.specs.Tables.{table_count, table_limit, section_count}
+use Rattle.slot_plan.specs.declared.slot.Slot.{Slot}
+use Rattle.slot_plan.specs.SlotPids.{slot_pid}
+use Rattle.slot_plan.specs.TableRounds.{section_starts}
+use Rattle.own_slots.specs.Slots.{own_slots}
+use Rattle.unit_timing.specs.MainBuffer.{mb_fullness}
+use Rattle.unit_timing.specs.SystemBuffer.{system_tb_fullness, bsys_fullness}
+use Rattle.unit_timing.specs.Transport.{slots_of, tb_fullness, pes_left}
+use Rattle.unit_queue.specs.Payloads.{piece_in, all_pieces, all_senders, IsReleased}
+use Rattle.table_rounds.specs.Payloads.{TableCarried, Begins}
+use Rattle.tstd.specs.Carried.{carries, timed_texts, packets_on, table_packets}
+use Rattle.tstd.specs.Measured.{late_of}
+use Rattle.mux_core.specs.Scheduled.{Scheduled}
+use Rattle.mux_core.specs.Histories.{History, rules_of, lane_of, table_of, content_at}
+use Rattle.mux_core.specs.Standing.{Mixer, Stands}
+use Rattle.description.specs.Ranges.{IsInRange}
+use Rattle.plan_timing.specs.Promised.{Promised}
+use Rattle.unit_queue.specs.Queues.{IsRules, Kept}
+
+-- of a stream, of which these units were accepted
+pub record StreamKept (d : Scheduled) (k : ℕ) (s : DescribedStream) (units : List AccessUnit) (slots : ℕ) (bytes : List ℕ) : Type 0 where
+  -- the payloads on its PID, joined, are a beginning of its PES packets, joined
+  pub carried : carries s.pid s.stream_id d.description.base0 units bytes ≡ true
+  -- each is of one unit, and has the start indicator exactly where a unit begins
+  pub pieces : map (λ e. piece_in (payload_at e)) (pid_list s.pid bytes) ≡ take (length (pid_list s.pid bytes)) (all_pieces (lane_of d k s) units)
+  -- packet number j has the continuity_counter j modulo 16
+  pub counters : (j : ℕ) (e : Entry) → slice_get (pid_list s.pid bytes) j ≡ Some e → e.packet.header.continuity_counter ≡ j % 16
+  -- no byte of a unit stands in a slot that begins earlier than the lead before its decoding time
+  pub not_early : (j : ℕ) (e : Entry) (u : AccessUnit) → slice_get (pid_list s.pid bytes) j ≡ Some e → slice_get (all_senders (lane_of d k s) units) j ≡ Some u →
+      IsReleased (lane_of d k s) u e.index
+  -- the transport buffer never holds more than 512 bytes
+  pub transport : (x : ℕ) → tb_fullness d.description.rate s.rx x (slots_of (packets_on s.pid bytes)) ≤ 512
+  -- no unit that is due is late: each has left the transport buffer whole by its decoding time
+  pub arrived : late_of d.description.rate d.description.base0 slots s units (packets_on s.pid bytes) ≡ None
+  -- the main buffer never holds more than its size
+  pub main_buffer : (x : ℕ) →
+      mb_fullness d.description.rate s.rx x (timed_texts s.stream_id d.description.base0 units) (pes_left d.description.rate s.rx 0 (packets_on s.pid bytes)) ≤ s.main
+
+-- of a program
+pub record ProgramKept (d : Scheduled) (p : DescribedProgram) (slots : ℕ) (bytes : List ℕ) : Type 0 where
+  -- each packet on its PCR PID has the clock at its byte 10, no payload, and the counter 15
+  pub clocks : map (λ e. e.packet) (pid_list p.pcr_pid bytes)
+      ≡ map (λ e. pcr_view p.pcr_pid (pcr_at d.description.rate d.description.base0 (188 * e.index + 10))) (pid_list p.pcr_pid bytes)
+  -- they recur within the program's limit, from the run's begin to its end
+  pub pcrs_recur : Recur d.description.rate p.pcr_limit 0 (map (λ e. 188 * e.index + 10) (pid_list p.pcr_pid bytes)) (188 * slots)
+  -- of its tables the transport buffer never holds more than 512 bytes, nor the system buffer more than 1,536
+  pub system_transport : (x : ℕ) → system_tb_fullness d.description.rate x (table_packets p.pmt_pid bytes) ≤ 512
+  pub system_buffer : (x : ℕ) → bsys_fullness d.description.rate x (table_packets p.pmt_pid bytes) ≤ 1536
+
+-- of table number t
+pub record TableKept (d : Scheduled) (t slots : ℕ) (bytes : List ℕ) : Type 0 where
+  -- its sections, each as of the moment of its round, with counters that count on
+  pub sections : TableCarried (table_of d t) slots bytes
+  -- in each slot that is the first place of a section, a packet begins that section
+  pub begins : (j s : ℕ) → j < section_count d.description t → s < slots → section_starts d.description d.schedule t j s ≡ true → Begins (table_of d t) j s bytes
+  -- and these slots recur within the table's limit, from the run's begin to its end
+  pub sections_recur : (j : ℕ) → j < section_count d.description t →
+      Recur d.description.rate (table_limit d.description t) 0 (map (λ s. 188 * s) (own_slots (section_starts d.description d.schedule t j) 0 slots)) (188 * slots)
+
+-- of the whole
+pub record Headline (d : Scheduled) (units : ℕ → List AccessUnit) (slots : ℕ) (bytes : List ℕ) : Type 0 where
+  -- 188 bytes a slot
+  pub size : length bytes ≡ 188 * slots
+  -- each packet is on a PID of the description, or is a null packet
+  pub pids : All (λ e. (e.packet.header.pid ≡ 8191) ⊎ ((slot : Slot) × (slot_pid d.description slot ≡ Some e.packet.header.pid))) (entries_of bytes)
+  pub streams : (k : ℕ) (s : DescribedStream) → slice_get d.description.streams k ≡ Some s → StreamKept d k s (units k) slots bytes
+  pub programs : (i : ℕ) (p : DescribedProgram) → slice_get d.description.programs i ≡ Some p → ProgramKept d p slots bytes
+  pub tables : (t : ℕ) → t < table_count d.description → TableKept d t slots bytes
+
+-- each stream's numbers are in their ranges, and its units are within what it declares
+pub record UnitsKept (d : Scheduled) (units : ℕ → List AccessUnit) : Type 0 where
+  pub rules : (k : ℕ) (s : DescribedStream) → slice_get d.description.streams k ≡ Some s → IsRules (rules_of d.description s)
+  pub kept : (k : ℕ) (s : DescribedStream) → slice_get d.description.streams k ≡ Some s → Kept (lane_of d k s) (units k)
+
+-- what a run is promised: a schedule that keeps the conditions, and units that were accepted
+abbrev pub HeadlineLaw : Type 0
+HeadlineLaw = (d : Scheduled) (units : ℕ → List AccessUnit) (slots : ℕ) → IsInRange d.description → Promised d.description d.schedule → UnitsKept d units →
+    Headline d units slots (run_bytes (content_at d units) 0 slots)
+
+-- so of what a multiplexer stands for, and as far as its bytes go
+abbrev pub StandingLaw : Type 0
+StandingLaw = (h : History) (m : Mixer) (n : ℕ) → IsInRange m.line.description → Promised m.line.description m.line.schedule → Stands h m →
+    Headline m.line h.units n (run_bytes (content_at m.line h.units) 0 n)

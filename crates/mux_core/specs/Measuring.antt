@@ -1,0 +1,24 @@
+-- What measuring the finished bytes finds: no late unit, and no buffer over its size.
+use Rattle.std.specs.Prelude.{◌≡◌, ℕ, ◌≤◌, List, slice_get, Some, None}
+use Rattle.pes_packet.specs.AccessUnits.{AccessUnit}
+use Rattle.pes_packet.specs.Units.{units_of}
+use Rattle.description.specs.Described.{Described, DescribedProgram, DescribedStream}
+use Rattle.tstd.specs.Measured.{Measured, StreamsMeasured, SystemsMeasured, late_unit}
+use Rattle.tstd.specs.declared.fullness.StreamFullness.{StreamFullness}
+use Rattle.tstd.specs.declared.fullness.SystemFullness.{SystemFullness}
+use Rattle.mux_core.specs.Scheduled.{Scheduled}
+use Rattle.mux_core.specs.Headline.{Headline}
+
+-- no unit is late, and no buffer is ever fuller than its size
+pub record FindsNoFault (d : Described) (found : Measured) : Type 0 where
+  pub none_late : found.late ≡ None
+  pub streams : (k : ℕ) (s : DescribedStream) (f : StreamFullness) → slice_get d.streams k ≡ Some s → slice_get found.streams k ≡ Some f →
+      (f.transport ≤ 512) × (f.main ≤ s.main)
+  pub programs : (i : ℕ) (p : DescribedProgram) (f : SystemFullness) → slice_get d.programs i ≡ Some p → slice_get found.programs i ≡ Some f →
+      (f.transport ≤ 512) × (f.system ≤ 1536)
+
+-- of bytes that keep what they promise, what `measure` finds
+abbrev pub MeasuredLaw : Type 0
+MeasuredLaw = (d : Scheduled) (units : List (ℕ × AccessUnit)) (slots : ℕ) (bytes : List ℕ) (found : Measured) → Headline d (λ k. units_of k units) slots bytes →
+    StreamsMeasured d.description units bytes found.streams → SystemsMeasured d.description bytes found.programs → found.late ≡ late_unit d.description units bytes →
+    FindsNoFault d.description found

@@ -1,0 +1,5 @@
+use Rattle.table_rounds.proofs.Beginning.{begins}
+use Rattle.table_rounds.proofs.laws.begins.Goals as goal
+
+pub returns : goal.returns
+returns c = begins
