@@ -1,10 +1,9 @@
 -- Queues and turns before slot 0.
-use Rattle.std.specs.Prelude.{ℕ, suc, zero, ◌+◌, ◌<◌, List, [], ◌∷◌, ◌++◌, map, take, length, get_or, Option, Some, None, slice_get, option_map, ⊤}
+use Rattle.std.specs.Prelude.{ℕ, suc, zero, ◌+◌, ◌<◌, List, [], ◌∷◌, ◌++◌, map, take, length, get_or, Option, Some, None, slice_get, option_map}
 use Rattle.std.proofs.Common.{◌≡◌, refl, sym, ◌∙◌, ap, subst, arith}
 use Rattle.std.proofs.Math.Seq.{take-suc}
 use Rattle.std.proofs.lemmas.List.{map-append}
 use Rattle.std.proofs.lemmas.List.Elements.{All-get_or}
-use Rattle.std.proofs.lemmas.Option.{slice_get_within}
 use Rattle.description.specs.Described.{Described, DescribedStream}
 use Rattle.description.specs.Ranges.{IsInRange, IsStream}
 use Rattle.description.specs.Tables.{table_kinds, table_count}
@@ -15,8 +14,8 @@ use Rattle.unit_queue.proofs.Holding.{first_law}
 use Rattle.table_rounds.specs.Turns.{Turn}
 use Rattle.table_rounds.proofs.Turning.{first_turn_holds}
 use Rattle.mux_core.specs.Scheduled.{Scheduled}
-use Rattle.mux_core.specs.Histories.{History, empty_history, rules_of, lane_of, table_of}
-use Rattle.mux_core.specs.Standing.{Mixer, Stands, QueueStands, TurnStands}
+use Rattle.mux_core.specs.Histories.{empty_history, rules_of, lane_of, table_of}
+use Rattle.mux_core.specs.Standing.{Stands, QueueStands, TurnStands}
 use Rattle.mux_core.specs.Making.{first_queue, first_turn, first_turns}
 use Rattle.mux_core.proofs.Knowing.{rules_fit, tables_known}
 
@@ -81,8 +80,13 @@ turn_stands d t (Some kind) ranges is = first_turn_holds (table_of d t) ((tables
 turn_stands d t None ranges is = tt
 
 pub stands_first : (d : Scheduled) (capacity : ℕ) → IsInRange d.description →
-    Stands empty_history (record { line = d; queues = map (first_queue d.description capacity) d.description.streams;
-        turns = first_turns d.description 0 (table_count d.description); capacity = capacity; slots = 0 })
+    Stands empty_history (record {
+      line = d;
+      queues = map (first_queue d.description capacity) d.description.streams;
+      turns = first_turns d.description 0 (table_count d.description);
+      capacity = capacity;
+      slots = 0;
+    })
 stands_first d capacity ranges = record {
   written = refl;
   streams = λ k. subst (λ (q : Option Queue). QueueStands d empty_history capacity k q (slice_get d.description.streams k))

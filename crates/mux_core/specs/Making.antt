@@ -1,5 +1,5 @@
 -- A multiplexer that is made, and why none is.
-use Rattle.std.specs.Prelude.{◌≡◌, ◌⊎◌, zero, suc, [], ◌∷◌, ◌*◌, ◌^◌, ◌||◌, ◌&&◌, ◌==◌, ℕ, nat_lt, nat_le, not, Bool, if◌then◌else◌, Option, Some, None, Result, Ok, Err, List, map, length}
+use Rattle.std.specs.Prelude.{◌≡◌, ◌⊎◌, zero, suc, [], ◌∷◌, ◌*◌, ◌^◌, ◌&&◌, ℕ, nat_le, Bool, if◌then◌else◌, Option, Some, None, Result, Ok, Err, List}
 use Rattle.description.specs.Described.{Described, DescribedStream}
 use Rattle.description.specs.Tables.{table_pid, section_lengths}
 use Rattle.unit_queue.specs.Queues.{Queue}

@@ -15,7 +15,11 @@ use unit_queue::UnitQueue;
 
 /// The next packet of a stream, from its queue.
 #[tactic(auto, unfolding(crate::specs::Turns::queue_sends, crate::specs::Turns::queues_after))]
-pub(crate) fn stream_packet<A: Allocator>(queues: &mut Vec<UnitQueue<A>, A>, k: u8, slot: u64) -> [u8; 188]
+pub(crate) fn stream_packet<A: Allocator>(
+    queues: &mut Vec<UnitQueue<A>, A>,
+    k: u8,
+    slot: u64,
+) -> [u8; 188]
     ensures packet { result ≡ packet_of (queue_sends slot (slice_get queues.old.items k)) }
     ensures queues { queues.new.items ≡ queues_after slot queues.old.items k (slice_get queues.old.items k) }
 {

@@ -92,10 +92,18 @@ fn unit(alloc: Global, dts: u64, pts: u64, size: u32) -> Result<Unit, Fail> {
 }
 
 // Why a unit is refused; its DTS comes back.
-fn fed(mux: &mut Mux, alloc: Global, dts: u64, pts: u64, size: u32) -> Result<Option<FeedError>, Fail> {
+fn fed(
+    mux: &mut Mux,
+    alloc: Global,
+    dts: u64,
+    pts: u64,
+    size: u32,
+) -> Result<Option<FeedError>, Fail> {
     match mux.feed(0, unit(alloc, dts, pts, size)?) {
         Ok(()) => Ok(None),
-        Err((error, unit)) if unit.dts == dts && unit.bytes.len() == size as usize => Ok(Some(error)),
+        Err((error, unit)) if unit.dts == dts && unit.bytes.len() == size as usize => Ok(Some(
+            error,
+        )),
         Err(_) => Err(Fail::from("another unit came back")),
     }
 }
@@ -114,14 +122,30 @@ fn a_unit_in_its_slots(rt: HostRuntime) -> Result<(), Fail> {
     for slot in 0..18u8 {
         let packet = packet(&mut mux)?;
         let head = match slot {
-            0 => [0x47, 0x41, 0x00, 0x10, 0x00, 0x00, 0x01, 0xc0, 0x02, 0x48, 0x80, 0x80],
-            1 => [0x47, 0x01, 0x01, 0x2f, 0xb7, 0x10, 0x00, 0x00, 0x00, 0x2f, 0x7e, 0xec],
-            4 => [0x47, 0x01, 0x00, 0x11, 0xa5, 0xa5, 0xa5, 0xa5, 0xa5, 0xa5, 0xa5, 0xa5],
-            7 => [0x47, 0x40, 0x12, 0x10, 0x00, 0x4e, 0xf0, 0x26, 0x00, 0x01, 0xc3, 0x00],
-            8 => [0x47, 0x01, 0x00, 0x12, 0xa5, 0xa5, 0xa5, 0xa5, 0xa5, 0xa5, 0xa5, 0xa5],
-            9 => [0x47, 0x40, 0x14, 0x10, 0x00, 0x70, 0x70, 0x05, 0xc0, 0x79, 0x12, 0x45],
-            12 => [0x47, 0x01, 0x00, 0x33, 0x91, 0x00, 0xff, 0xff, 0xff, 0xff, 0xff, 0xff],
-            10 | 16 => [0x47, 0x1f, 0xff, 0x10, 0xff, 0xff, 0xff, 0xff, 0xff, 0xff, 0xff, 0xff],
+            0 => [
+                0x47, 0x41, 0x00, 0x10, 0x00, 0x00, 0x01, 0xc0, 0x02, 0x48, 0x80, 0x80,
+            ],
+            1 => [
+                0x47, 0x01, 0x01, 0x2f, 0xb7, 0x10, 0x00, 0x00, 0x00, 0x2f, 0x7e, 0xec,
+            ],
+            4 => [
+                0x47, 0x01, 0x00, 0x11, 0xa5, 0xa5, 0xa5, 0xa5, 0xa5, 0xa5, 0xa5, 0xa5,
+            ],
+            7 => [
+                0x47, 0x40, 0x12, 0x10, 0x00, 0x4e, 0xf0, 0x26, 0x00, 0x01, 0xc3, 0x00,
+            ],
+            8 => [
+                0x47, 0x01, 0x00, 0x12, 0xa5, 0xa5, 0xa5, 0xa5, 0xa5, 0xa5, 0xa5, 0xa5,
+            ],
+            9 => [
+                0x47, 0x40, 0x14, 0x10, 0x00, 0x70, 0x70, 0x05, 0xc0, 0x79, 0x12, 0x45,
+            ],
+            12 => [
+                0x47, 0x01, 0x00, 0x33, 0x91, 0x00, 0xff, 0xff, 0xff, 0xff, 0xff, 0xff,
+            ],
+            10 | 16 => [
+                0x47, 0x1f, 0xff, 0x10, 0xff, 0xff, 0xff, 0xff, 0xff, 0xff, 0xff, 0xff,
+            ],
             _ => continue,
         };
         assert_eq!(rt; packet.get(..12), Some(head.as_slice()), "slot {slot}");
@@ -143,7 +167,10 @@ fn stamps_over_the_end_of_the_clock(rt: HostRuntime) -> Result<(), Fail> {
     ];
     assert_eq!(rt; first.get(4..23), Some(text.as_slice()));
     let clock = packet(&mut mux)?;
-    assert_eq!(rt; clock.get(6..12), Some([0x00, 0x00, 0x00, 0x01, 0x7e, 0xec].as_slice()));
+    assert_eq!(rt;
+        clock.get(6..12),
+        Some([0x00, 0x00, 0x00, 0x01, 0x7e, 0xec].as_slice())
+    );
     Ok(())
 }
 
@@ -151,13 +178,28 @@ fn stamps_over_the_end_of_the_clock(rt: HostRuntime) -> Result<(), Fail> {
 fn units_refused(rt: HostRuntime) -> Result<(), Fail> {
     let alloc = rt.alloc();
     let mut early = mux(alloc, "rate", "rate", 2)?;
-    assert_eq!(rt; fed(&mut early, alloc, 1_600, 1_600, 577)?, Some(FeedError::TooLarge));
-    assert_eq!(rt; fed(&mut early, alloc, 1_600, 91_601, 576)?, Some(FeedError::BadPts));
-    assert_eq!(rt; fed(&mut early, alloc, 1_599, 1_599, 576)?, Some(FeedError::Late));
+    assert_eq!(rt;
+        fed(&mut early, alloc, 1_600, 1_600, 577)?,
+        Some(FeedError::TooLarge)
+    );
+    assert_eq!(rt;
+        fed(&mut early, alloc, 1_600, 91_601, 576)?,
+        Some(FeedError::BadPts)
+    );
+    assert_eq!(rt;
+        fed(&mut early, alloc, 1_599, 1_599, 576)?,
+        Some(FeedError::Late)
+    );
     assert_eq!(rt; fed(&mut early, alloc, 1_600, 1_600, 576)?, None);
-    assert_eq!(rt; fed(&mut early, alloc, 3_759, 3_759, 576)?, Some(FeedError::TooSoon));
+    assert_eq!(rt;
+        fed(&mut early, alloc, 3_759, 3_759, 576)?,
+        Some(FeedError::TooSoon)
+    );
     assert_eq!(rt; fed(&mut early, alloc, 3_760, 3_760, 576)?, None);
-    assert_eq!(rt; fed(&mut early, alloc, 5_920, 5_920, 576)?, Some(FeedError::Full));
+    assert_eq!(rt;
+        fed(&mut early, alloc, 5_920, 5_920, 576)?,
+        Some(FeedError::Full)
+    );
     assert_eq!(rt; early.waiting(0), Some(2));
     let Err((unknown, _)) = early.feed(1, unit(alloc, 1_600, 1_600, 576)?) else {
         return Err(Fail::from("a stream that is not there"));
@@ -165,7 +207,10 @@ fn units_refused(rt: HostRuntime) -> Result<(), Fail> {
     assert_eq!(rt; unknown, FeedError::UnknownStream);
     let mut late = mux(alloc, "rate", "rate", 2)?;
     let _ = packet(&mut late)?;
-    assert_eq!(rt; fed(&mut late, alloc, 1_600, 1_600, 576)?, Some(FeedError::Late));
+    assert_eq!(rt;
+        fed(&mut late, alloc, 1_600, 1_600, 576)?,
+        Some(FeedError::Late)
+    );
     Ok(())
 }
 
@@ -179,7 +224,10 @@ fn a_unit_fed_late_or_early_is_sent_alike(rt: HostRuntime) -> Result<(), Fail> {
     assert_eq!(rt; fed(&mut late, alloc, 1_600, 1_600, 576)?, None);
     for slot in 0..42u8 {
         if slot == 12 {
-            assert_eq!(rt; fed(&mut late, alloc, 3_760, 3_760, 576)?, Some(FeedError::Full));
+            assert_eq!(rt;
+                fed(&mut late, alloc, 3_760, 3_760, 576)?,
+                Some(FeedError::Full)
+            );
         }
         if slot == 13 {
             assert_eq!(rt; fed(&mut late, alloc, 3_760, 3_760, 576)?, None);
@@ -196,9 +244,17 @@ fn a_unit_fed_late_or_early_is_sent_alike(rt: HostRuntime) -> Result<(), Fail> {
 #[test]
 fn units_in_groups(rt: HostRuntime) -> Result<(), Fail> {
     let alloc = rt.alloc();
-    let mut mux = mux(alloc, "lead = 1600", "lead = 1600\ngroup = 2\ngroup_packets = 6", 3)?;
+    let mut mux = mux(
+        alloc,
+        "lead = 1600",
+        "lead = 1600\ngroup = 2\ngroup_packets = 6",
+        3,
+    )?;
     assert_eq!(rt; fed(&mut mux, alloc, 1_600, 1_600, 576)?, None);
-    assert_eq!(rt; fed(&mut mux, alloc, 3_760, 3_760, 355)?, Some(FeedError::Group));
+    assert_eq!(rt;
+        fed(&mut mux, alloc, 3_760, 3_760, 355)?,
+        Some(FeedError::Group)
+    );
     assert_eq!(rt; fed(&mut mux, alloc, 3_760, 3_760, 354)?, None);
     assert_eq!(rt; fed(&mut mux, alloc, 5_920, 5_920, 576)?, None);
     Ok(())
@@ -246,6 +302,9 @@ fn two_plans_in_turn(rt: HostRuntime) -> Result<(), Fail> {
     let null = packet(&mut two)?;
     assert_eq!(rt; null.get(..4), Some([0x47, 0x1f, 0xff, 0x10].as_slice()));
     let clock = packet(&mut two)?;
-    assert_eq!(rt; clock.get(6..12), Some([0x00, 0x00, 0x15, 0x74, 0x7e, 0xec].as_slice()));
+    assert_eq!(rt;
+        clock.get(6..12),
+        Some([0x00, 0x00, 0x15, 0x74, 0x7e, 0xec].as_slice())
+    );
     Ok(())
 }

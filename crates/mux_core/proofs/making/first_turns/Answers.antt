@@ -1,4 +1,4 @@
-use Rattle.std.proofs.Common.{◌≡◌, ◌∙◌, ap, sym}
+use Rattle.std.proofs.Common.{◌∙◌}
 use Rattle.mux_core.proofs.making.first_turns.Goals as goal
 use Rattle.mux_core.proofs.Beginning.{turns_more, turns_none}
 

@@ -1,5 +1,4 @@
 use Rattle.mux_core.proofs.multiplexer.Mux.feed.Goals as goal
-use Rattle.std.specs.Prelude.{IfErr}
 use Rattle.unit_queue.specs.Causes.{refusal}
 use Rattle.mux_core.proofs.Feeding.{takes}
 use Rattle.mux_core.proofs.Knowing.{rules_known}
