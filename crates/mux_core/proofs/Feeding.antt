@@ -1,13 +1,12 @@
 -- One unit: it is refused for the cause that the history gives, and an accepted one is one more of its stream, before which nothing changes.
-use Rattle.std.specs.Prelude.{ℕ, suc, zero, ◌+◌, ◌<◌, cond, nat_eq, set, Bool, true, false, List, [], ◌∷◌, ◌++◌, Option, Some, None, slice_get, option_map, ⊤}
+use Rattle.std.specs.Prelude.{ℕ, suc, zero, ◌+◌, ◌<◌, cond, Bool, true, List, [], ◌∷◌, ◌++◌, Option, Some, None, slice_get, option_map}
 use Rattle.std.proofs.Common.{◌≡◌, ◌≢◌, inl, inr, refl, sym, ◌∙◌, ap, subst, arith}
 use Rattle.std.proofs.lemmas.Bool.{eq-eqb, ne_eqb, cases_eq}
 use Rattle.std.proofs.lemmas.Option.{slice_get_within}
 use Rattle.circular_buffer.proofs.Places.{slice_get-set_same, slice_get-set_other}
 use Rattle.pes_packet.specs.AccessUnits.{AccessUnit}
 use Rattle.ts_packet.specs.Contents.{Content, packet_of, run_bytes}
-use Rattle.description.specs.Described.{Described, DescribedStream}
-use Rattle.description.specs.Tables.{table_kinds}
+use Rattle.description.specs.Described.{DescribedStream}
 use Rattle.slot_plan.specs.declared.slot.Slot.{Slot}
 use Rattle.slot_plan.specs.declared.slot.Slot.TheVariants.{Stream, Pcr, Table, Null}
 use Rattle.slot_plan.specs.declared.slot.Item.TheVariants.{Stream as StreamItem}
@@ -20,7 +19,7 @@ use Rattle.unit_queue.specs.Steps.{accepted}
 use Rattle.unit_queue.specs.Laws.{CauseLaw, FedLaw, LaterUnitLaw}
 use Rattle.mux_core.specs.Scheduled.{Scheduled}
 use Rattle.mux_core.specs.Histories.{History, lane_of, rules_of, stream_in, content_in, content_at, bytes_of, with_unit}
-use Rattle.mux_core.specs.Standing.{Mixer, Stands, QueueStands, TurnStands, Takes, feed_cause, refusal_of}
+use Rattle.mux_core.specs.Standing.{Mixer, Stands, QueueStands, Takes, feed_cause, refusal_of}
 use Rattle.mux_core.specs.Turns.{queue_cause, queues_with, fed}
 
 pub record FeedLaws : Type 0 where

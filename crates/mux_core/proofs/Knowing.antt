@@ -1,10 +1,10 @@
 -- What the ranges of a description say of its streams and tables.
-use Rattle.std.specs.Prelude.{ℕ, ◌==◌, ◌&&◌, ◌||◌, ◌<◌, ◌≤◌, nat_le, nat_lt, cond, Bool, true, Some, length, slice_get, IsTrue}
+use Rattle.std.specs.Prelude.{ℕ, ◌<◌, ◌≤◌, Some, length, slice_get, IsTrue}
 use Rattle.std.proofs.Common.{◌≡◌, inl, inr, refl, arith}
-use Rattle.std.proofs.lemmas.Bool.{eq-eqb, lt-ltb}
+use Rattle.std.proofs.lemmas.Bool.{lt-ltb}
 use Rattle.std.proofs.lemmas.List.Elements.{All-get_or}
 use Rattle.std.proofs.lemmas.Option.{get_or_from_slice_get, slice_get_within}
-use Rattle.pes_packet.specs.StreamIds.{is_unit_id, greatest_size, is_video}
+use Rattle.pes_packet.specs.StreamIds.{is_unit_id, greatest_size}
 use Rattle.description.specs.Described.{Described, DescribedStream}
 use Rattle.description.specs.Ranges.{IsInRange, IsStream, IsStreamId}
 use Rattle.description.specs.Tables.{table_kinds}

@@ -20,3 +20,5 @@ pub mod StreamsKept
 pub mod Whole
 pub mod Measuring
 pub mod Accepted
+pub mod Giving
+pub mod Beginning

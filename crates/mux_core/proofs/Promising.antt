@@ -1,5 +1,4 @@
 -- The promises of a schedule one by one.
-use Rattle.std.specs.Prelude.{ℕ}
 use Rattle.slot_plan.specs.Schedule.{Schedule}
 use Rattle.description.specs.Described.{Described}
 use Rattle.plan_timing.specs.Promised.{Promised}

@@ -19,7 +19,7 @@ use Rattle.table_rounds.proofs.Turning.{own_slot, other_slot}
 use Rattle.mux_core.specs.Scheduled.{Scheduled}
 use Rattle.mux_core.specs.Histories.{History, lane_of, content_in, content_at, slot_more}
 use Rattle.mux_core.specs.Standing.{Mixer, Stands, QueueStands, Gives, waiting_of}
-use Rattle.mux_core.specs.Turns.{Turns, sends, after, queue_cause, fed}
+use Rattle.mux_core.specs.Turns.{Turns, after, queue_cause, fed}
 use Rattle.mux_core.specs.declared.done.Done.{Done}
 use Rattle.mux_core.proofs.Turning.{Laws, Goes, goes_on}
 use Rattle.mux_core.proofs.Feeding.{FeedLaws, Feeds}

@@ -1,12 +1,11 @@
 -- One slot: what the state gives is what the history asks, and the state after it stands for the history with a slot more.
-use Rattle.std.specs.Prelude.{ℕ, suc, ◌==◌, set, Bool, true, false, List, Option, Some, None, slice_get, option_map, ⊤}
-use Rattle.std.proofs.Common.{◌≡◌, ◌≢◌, inl, inr, refl, sym, ◌∙◌, ap, subst, arith}
+use Rattle.std.specs.Prelude.{ℕ, true, false, List, Option, Some, None, slice_get, option_map}
+use Rattle.std.proofs.Common.{◌≡◌, ◌≢◌, inl, inr, refl, sym, ◌∙◌, ap, subst}
 use Rattle.std.proofs.lemmas.Bool.{eq-eqb, ne_eqb, cases_eq}
 use Rattle.std.proofs.lemmas.Option.{slice_get_within}
 use Rattle.circular_buffer.proofs.Places.{slice_get-set_same, slice_get-set_other}
 use Rattle.ts_packet.specs.Contents.{packet_of}
-use Rattle.description.specs.Described.{Described, DescribedStream}
-use Rattle.description.specs.Ranges.{IsInRange}
+use Rattle.description.specs.Described.{DescribedStream}
 use Rattle.description.specs.Tables.{table_kinds}
 use Rattle.description.specs.declared.table_kind.TableKind.{TableKind}
 use Rattle.slot_plan.specs.declared.slot.Slot.{Slot}
@@ -20,7 +19,7 @@ use Rattle.unit_queue.specs.Laws.{OwnSlotLaw as OwnStreamSlot, OtherSlotLaw as O
 use Rattle.table_rounds.specs.Turns.{Turn, turned}
 use Rattle.table_rounds.specs.Laws.{HasPlaces, IsTextOf, OwnSlotLaw as OwnTableSlot, OtherSlotLaw as OtherTableSlot}
 use Rattle.mux_core.specs.Scheduled.{Scheduled}
-use Rattle.mux_core.specs.Histories.{History, lane_of, table_of, stream_in, table_in, content_in, content_at, slot_more}
+use Rattle.mux_core.specs.Histories.{History, lane_of, table_of, stream_in, table_in, content_in, slot_more}
 use Rattle.mux_core.specs.Standing.{Mixer, Stands, QueueStands, TurnStands}
 use Rattle.mux_core.specs.Turns.{queue_sends, queues_after, turn_sends, turns_after, section_bytes, sends, after}
 

@@ -2,7 +2,7 @@
 use Rattle.std.specs.Prelude.{ℕ, suc, ◌+◌, ◌*◌, nat_eq, cond, List, [], ◌∷◌, ◌++◌, Option, Some, None, slice_get}
 use Rattle.clock27.specs.Reference.{pcr_at}
 use Rattle.pes_packet.specs.AccessUnits.{AccessUnit}
-use Rattle.ts_packet.specs.Contents.{Content, Clocks, Stuffs, packet_of, run_bytes}
+use Rattle.ts_packet.specs.Contents.{Content, Clocks, Stuffs, run_bytes}
 use Rattle.description.specs.Described.{Described, DescribedProgram, DescribedStream}
 use Rattle.description.specs.Tables.{table_kinds, table_pid, section_lengths}
 use Rattle.description.specs.SectionTexts.{table_text}

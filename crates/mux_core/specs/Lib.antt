@@ -14,3 +14,4 @@ pub mod Standing
 pub mod Turns
 pub mod Headline
 pub mod Measuring
+pub mod Making

@@ -1,5 +1,4 @@
 -- What is multiplexed: a description, and the schedule that serves it.
-use Rattle.std.specs.Prelude.{ℕ}
 use Rattle.description.specs.Described.{Described}
 use Rattle.slot_plan.specs.Schedule.{Schedule, single, switched}
 use Rattle.mux_core.specs.declared.checked_schedule.Plans.{Plans}

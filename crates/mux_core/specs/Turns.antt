@@ -13,7 +13,6 @@ use Rattle.unit_queue.specs.declared.refusal.FeedError.{FeedError}
 use Rattle.unit_queue.specs.declared.refusal.FeedError.TheVariants.{UnknownStream}
 use Rattle.unit_queue.specs.Steps.{queue_content, sent_in, state_cause, accepted}
 use Rattle.table_rounds.specs.Turns.{Turn, turn_content, turned}
-use Rattle.mux_core.specs.Scheduled.{Scheduled}
 use Rattle.mux_core.specs.Histories.{clock_in}
 use Rattle.mux_core.specs.Standing.{Mixer}
 use Rattle.mux_core.specs.declared.done.Done.{Done}

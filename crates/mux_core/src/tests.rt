@@ -1,5 +1,7 @@
 //! Worked records and their packets, each refusal, failing devices and refused memory.
 
+mod runs;
+
 use crate::{CarryError, FeedError, UnitFileError, carry, read_unit};
 use linked_list_allocator::LocalHeap;
 use std::alloc::{AllocError, Allocator, Global};

@@ -1,0 +1,178 @@
+//! The multiplexer: units in, packets out, in any interleaving.
+
+ghost use Rattle.std.specs.Prelude.{◌≡◌, ◌≤◌, ◌<◌, ◌^◌, ℕ, suc, OnOk, IfErr, option_map, slice_get, length};
+ghost use Rattle.ts_packet.specs.Contents.{Stuffs, packet_of};
+ghost use Rattle.unit_queue.specs.Causes.{refusal};
+ghost use Rattle.mux_core.specs.Histories.{History, bytes_of, slot_more, clock_in};
+ghost use Rattle.mux_core.specs.Standing.{Stands, Gives, Takes, waiting_of};
+ghost use Rattle.mux_core.specs.Headline.{Headline};
+ghost use Rattle.mux_core.specs.Turns.{Turns, later, section_bytes, queue_sends, queues_after, turn_sends, turns_after, queue_cause, fed};
+ghost use Rattle.description.specs.Ranges.{IsInRange};
+ghost use Rattle.plan_timing.specs.Promised.{Promised};
+
+use crate::checked_schedule::CheckedSchedule;
+use crate::done::Done;
+use crate::slot_packets::{clock_packet, stream_packet, stuffing, table_packet};
+use pes_packet::Unit;
+use slot_plan::Slot;
+use std::alloc::{Allocator, Global};
+use std::marker::Model;
+use table_rounds::TableTurn;
+use unit_queue::{FeedError, UnitQueue};
+
+/// The most slots of a run.
+pub(crate) const LAST_SLOTS: u64 = 1 << 40;
+
+/// A multiplexer over a checked plan, or over two in turn. It makes its memory when it is made: neither a unit that is fed
+/// nor a packet takes any.
+#[derive(Drop)]
+pub struct Mux<A: Allocator = Global> {
+    pub(crate) line: CheckedSchedule<A>,
+    pub(crate) queues: Vec<UnitQueue<A>, A>,
+    pub(crate) turns: Vec<TableTurn, A>,
+    pub(crate) capacity: usize,
+    pub(crate) slots: u64,
+}
+
+impl<A: Allocator> Model for Mux<A> {
+    ghost use Rattle.mux_core.specs.Standing.{Mixer};
+
+    ghost Value = { Mixer };
+
+    ghost view = { λ m. record { line = m.line; queues = m.queues.items; turns = m.turns.items; capacity = m.capacity; slots = m.slots } };
+}
+
+impl<A: Allocator> Mux<A> {
+    /// The packet of the next slot.
+    pub fn next_packet(&mut self) -> Result<[u8; 188], Done>
+        ensures next { (h : History) → Stands h self.old → Gives h self.old result self.new }
+        ensures headline { (h : History) → Stands h self.old →
+            OnOk result (Headline self.old.line h.units (suc h.slots) (bytes_of self.old.line (slot_more h))) }
+    {
+        self.keeps_ranges();
+        self.promises();
+        self.turn()
+    }
+
+    // The packet of the next slot, by the state.
+    #[tactic(auto, unfolding(crate::specs::Turns::sends, crate::specs::Turns::after))]
+    fn turn(&mut self) -> Result<[u8; 188], Done>
+        ensures { Turns self.old result self.new }
+    {
+        if self.slots >= LAST_SLOTS {
+            return Err(Done);
+        }
+        match self.line.slot(self.slots) {
+            Slot::Stream(k) => Ok(self.stream_packet(k)),
+            Slot::Pcr(p) => Ok(self.clock_packet(p)),
+            Slot::Table(t) => Ok(self.table_packet(t)),
+            Slot::Null => Ok(self.null_packet()),
+        }
+    }
+
+    // The next packet of a stream.
+    fn stream_packet(&mut self, k: u8) -> [u8; 188]
+        requires { self.old.slots < 2 ^ 40 }
+        ensures packet { result ≡ packet_of (queue_sends self.old.slots (slice_get self.old.queues k)) }
+        ensures state { self.new
+            ≡ later self.old (queues_after self.old.slots self.old.queues k (slice_get self.old.queues k)) self.old.turns }
+    {
+        let packet = stream_packet(&mut self.queues, k, self.slots);
+        self.slots += 1;
+        packet
+    }
+
+    // The clock reference of a program.
+    fn clock_packet(&mut self, p: u8) -> [u8; 188]
+        requires { self.old.slots < 2 ^ 40 }
+        ensures packet { result ≡ packet_of (clock_in self.old.line.description self.old.slots (slice_get self.old.line.description.programs p)) }
+        ensures state { self.new ≡ later self.old self.old.queues self.old.turns }
+    {
+        let packet = clock_packet(self.line.description(), p, self.slots);
+        self.slots += 1;
+        packet
+    }
+
+    // The next packet of a table.
+    fn table_packet(&mut self, t: u8) -> [u8; 188]
+        requires { self.old.slots < 2 ^ 40 }
+        ensures packet { result
+            ≡ packet_of (turn_sends (section_bytes self.old.line.description t) self.old.slots (slice_get self.old.turns t)) }
+        ensures state { self.new ≡ later self.old self.old.queues
+            (turns_after (section_bytes self.old.line.description t) self.old.slots self.old.turns t (slice_get self.old.turns t)) }
+    {
+        let packet = table_packet(&mut self.turns, self.line.description(), t, self.slots);
+        self.slots += 1;
+        packet
+    }
+
+    // A null packet.
+    fn null_packet(&mut self) -> [u8; 188]
+        requires { self.old.slots < 2 ^ 40 }
+        ensures packet { result ≡ packet_of Stuffs }
+        ensures state { self.new ≡ later self.old self.old.queues self.old.turns }
+    {
+        self.slots += 1;
+        stuffing()
+    }
+
+    /// Takes a unit of a stream. A unit that is refused comes back, and nothing changes.
+    pub fn feed(&mut self, stream: u8, unit: Unit<A>) -> Result<(), (FeedError, Unit<A>)>
+        ensures takes { (h : History) → Stands h self.old → Takes h self.old stream unit (refusal result) self.new }
+        ensures handed_back { IfErr result (λ e. (e.1 ≡ unit) × (self.new ≡ self.old)) }
+    {
+        self.keeps_ranges();
+        self.take(stream, unit)
+    }
+
+    // Takes a unit, by the state.
+    #[tactic(auto, unfolding(crate::specs::Turns::queue_cause, crate::specs::Turns::queues_with))]
+    fn take(&mut self, stream: u8, unit: Unit<A>) -> Result<(), (FeedError, Unit<A>)>
+        ensures cause { refusal result ≡ queue_cause self.old.slots unit (slice_get self.old.queues stream) }
+        ensures state { OnOk result (self.new ≡ fed self.old stream unit) }
+        ensures handed_back { IfErr result (λ e. (e.1 ≡ unit) × (self.new ≡ self.old)) }
+    {
+        let Some(queue) = self.queues.get_mut(stream as usize) else {
+            return Err((FeedError::UnknownStream, unit));
+        };
+        queue.feed(self.slots, unit)
+    }
+
+    /// How many slots are written.
+    pub fn now(&self) -> u64
+        ensures { (h : History) → Stands h self.now → result ≡ h.slots }
+    {
+        self.slots
+    }
+
+    /// How many units of a stream are not sent whole; None where there is no such stream.
+    pub fn waiting(&self, stream: u8) -> Option<usize>
+        ensures { (h : History) → Stands h self.now → result ≡ waiting_of self.now.line h stream }
+    {
+        self.units_waiting(stream)
+    }
+
+    // The units in the queue of a stream.
+    fn units_waiting(&self, stream: u8) -> Option<usize>
+        ensures { result ≡ option_map (λ q. length q.units) (slice_get self.now.queues stream) }
+    {
+        let Some(queue) = self.queues.get(stream as usize) else {
+            return None;
+        };
+        Some(queue.waiting())
+    }
+
+    // The numbers of the description are in their ranges.
+    fn keeps_ranges(&self)
+        ensures { IsInRange self.now.line.description }
+    {
+        self.line.keeps_ranges();
+    }
+
+    // The schedule keeps every promise of its description.
+    fn promises(&self)
+        ensures { Promised self.now.line.description self.now.line.schedule }
+    {
+        self.line.promises();
+    }
+}
