@@ -1,11 +1,9 @@
 //! The worked plans of a small service: what is accepted, and the first refusal of what is not.
 
-mod joint;
-mod rows;
 mod switches;
 
-use crate::{Condition, Relation, check};
-use slot_plan::{Certificate, Description, Plan, ProgramEntry, Slot, StreamEntry};
+use crate::{Condition, check};
+use slot_plan::{Certificate, Description, Plan, Slot};
 use std::alloc::Global;
 use std::test::Fail;
 
@@ -58,40 +56,6 @@ program 0 tstart 0 tpeak 377504000 bstart 0 bpeak 550464000
 end
 ";
 
-/// The base's claims.
-const BASE_ENTRY: StreamEntry = StreamEntry {
-    spread: 0,
-    start: 0,
-    peak: 282_752_000,
-};
-
-const BASE_PROGRAM: ProgramEntry = ProgramEntry {
-    transport_start: 0,
-    transport_peak: 377_504_000,
-    system_start: 0,
-    system_peak: 550_464_000,
-};
-
-/// The slots of the base.
-fn base_slots(alloc: Global) -> Result<Vec<Slot>, Fail> {
-    let (plan, _) = Plan::read_text(alloc, PLAN.as_bytes())?;
-    let mut slots = Vec::new(alloc);
-    slots.extend_from_slice(plan.slots())?;
-    Ok(slots)
-}
-
-/// A plan of these slots, with the base's claims but for that of the stream.
-fn plan_from(alloc: Global, slots: Vec<Slot>, stream: StreamEntry) -> Result<Plan, Fail> {
-    let certificate = Certificate {
-        streams: vec![in alloc; stream]?,
-        programs: vec![in alloc; BASE_PROGRAM]?,
-    };
-    match Plan::new(slots, certificate) {
-        Ok(plan) => Ok(plan),
-        Err(_) => Err(Fail::from("no plan")),
-    }
-}
-
 /// The text with one part of it replaced.
 fn edited(alloc: Global, text: &str, from: &str, to: &str) -> Result<String, Fail> {
     let Some((before, after)) = text.split_once(from) else {
@@ -117,10 +81,6 @@ fn described(alloc: Global, text: &str) -> Result<Description, Fail> {
 /// The refusal of the plan for the description, None where it is accepted.
 fn answer(alloc: Global, description: &str, plan: &str) -> Result<Option<Row>, Fail> {
     let (plan, _) = Plan::read_text(alloc, plan.as_bytes())?;
-    answer_to(alloc, description, plan)
-}
-
-fn answer_to(alloc: Global, description: &str, plan: Plan) -> Result<Option<Row>, Fail> {
     match check(described(alloc, description)?, plan) {
         Ok(_) => Ok(None),
         Err((refusal, _, _)) => Ok(Some((
@@ -245,7 +205,14 @@ fn long_plan(alloc: Global, times: usize, once: bool) -> Result<Plan, Fail> {
             slots.push(if left_out { Slot::Null } else { *slot })?;
         }
     }
-    plan_from(alloc, slots, BASE_ENTRY)
+    let mut streams = Vec::new(alloc);
+    streams.extend_from_slice(plan.certificate().streams.as_slice())?;
+    let mut programs = Vec::new(alloc);
+    programs.extend_from_slice(plan.certificate().programs.as_slice())?;
+    match Plan::new(slots, Certificate { streams, programs }) {
+        Ok(plan) => Ok(plan),
+        Err(_) => Err(Fail::from("no plan")),
+    }
 }
 
 #[test]
@@ -276,7 +243,6 @@ fn long_periods(rt: HostRuntime) -> Result<(), Fail> {
         let (code, part, item, left, right) = row;
         assert_eq!(rt; refusal.condition, condition);
         assert_eq!(rt; refusal.condition.code(), code);
-        assert_eq!(rt; refusal.relation, Relation::AtMost);
         assert_eq!(rt; (refusal.part, refusal.item), (part, item));
         assert_eq!(rt; (refusal.left, refusal.right), (left, right));
         assert_eq!(rt; plan.slots().len() / 120, times);

@@ -1,8 +1,8 @@
 //! The plan of the small service followed by itself, and by itself turned by one slot.
 
-use super::{BASE_ENTRY, DESCRIPTION, PLAN, Row, described, edited, plan_from};
+use super::{DESCRIPTION, PLAN, Row, described, edited};
 use crate::{check, check_switch};
-use slot_plan::Plan;
+use slot_plan::{Certificate, Plan};
 use std::alloc::Global;
 use std::test::Fail;
 
@@ -22,13 +22,20 @@ fn turned(alloc: Global) -> Result<Plan, Fail> {
     let mut slots = Vec::new(alloc);
     slots.push(*last)?;
     slots.extend_from_slice(front)?;
-    plan_from(alloc, slots, BASE_ENTRY)
+    let mut streams = Vec::new(alloc);
+    streams.extend_from_slice(plan.certificate().streams.as_slice())?;
+    let mut programs = Vec::new(alloc);
+    programs.extend_from_slice(plan.certificate().programs.as_slice())?;
+    match Plan::new(slots, Certificate { streams, programs }) {
+        Ok(plan) => Ok(plan),
+        Err(_) => Err(Fail::from("no plan")),
+    }
 }
 
-/// The refusal of the second plan after the first, with that size and lead; None where it may follow. What is handed back is
+/// The refusal of the second plan after the first, with that lead; None where it may follow. What is handed back is
 /// what was given.
-pub fn answer(alloc: Global, stream: &str, first: Plan, second: Plan) -> Result<Option<Row>, Fail> {
-    let description = edited(alloc, DESCRIPTION, "size = 576\nlead = 1600", stream)?;
+fn answer(alloc: Global, lead: &str, first: Plan, second: Plan) -> Result<Option<Row>, Fail> {
+    let description = edited(alloc, DESCRIPTION, "lead = 1600", lead)?;
     let given = (
         first.slots().first().copied(),
         second.slots().first().copied(),
@@ -69,13 +76,10 @@ pub fn answer(alloc: Global, stream: &str, first: Plan, second: Plan) -> Result<
 fn switches_of_the_base(rt: HostRuntime) -> Result<(), Fail> {
     let base = plan_of(rt.alloc(), "end", "end")?;
     let same = plan_of(rt.alloc(), "end", "end")?;
-    assert_eq!(rt;
-        answer(rt.alloc(), "size = 576\nlead = 1600", base, same)?,
-        None
-    );
+    assert_eq!(rt; answer(rt.alloc(), "lead = 1600", base, same)?, None);
     for (lead, row) in [
         (
-            "size = 576\nlead = 1600",
+            "lead = 1600",
             Some((
                 15,
                 0,
@@ -85,7 +89,7 @@ fn switches_of_the_base(rt: HostRuntime) -> Result<(), Fail> {
             )),
         ),
         (
-            "size = 576\nlead = 1687",
+            "lead = 1687",
             Some((
                 15,
                 0,
@@ -94,7 +98,7 @@ fn switches_of_the_base(rt: HostRuntime) -> Result<(), Fail> {
                 4_567_046_400_000_000_000,
             )),
         ),
-        ("size = 576\nlead = 1688", None),
+        ("lead = 1688", None),
     ] {
         let base = plan_of(rt.alloc(), "end", "end")?;
         assert_eq!(rt;
@@ -105,12 +109,7 @@ fn switches_of_the_base(rt: HostRuntime) -> Result<(), Fail> {
     }
     let base = plan_of(rt.alloc(), "end", "end")?;
     assert_eq!(rt;
-        answer(
-            rt.alloc(),
-            "size = 576\nlead = 1600",
-            turned(rt.alloc())?,
-            base
-        )?,
+        answer(rt.alloc(), "lead = 1600", turned(rt.alloc())?, base)?,
         None
     );
     Ok(())
@@ -121,7 +120,7 @@ fn second_plans_by_themselves(rt: HostRuntime) -> Result<(), Fail> {
     let base = plan_of(rt.alloc(), "end", "end")?;
     let moved = plan_of(rt.alloc(), "S0 - - -\nstream", "- S0 - -\nstream")?;
     assert_eq!(rt;
-        answer(rt.alloc(), "size = 576\nlead = 1600", base, moved)?,
+        answer(rt.alloc(), "lead = 1600", base, moved)?,
         Some((4, 0, 0, 30, 0))
     );
     Ok(())
