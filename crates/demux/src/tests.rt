@@ -1,5 +1,6 @@
 //! Worked streams. What is expected was worked out by hand from the rules of the standard.
 mod damage;
+mod limits;
 mod memory;
 mod reference;
 mod reference_marks;
