@@ -4,16 +4,16 @@ BINARY = crates/tsmux/out/tsmux
 
 .PHONY: run try test bench binary clean
 
-# The main jobs on an example: four seconds of MPEG audio, 167 access units, become transport packets; what is in them is
-# listed; and a plan for the service that they belong to is made, and checked.
+# The main job on an example: a plan is made for a radio service, and its 167 access units, four seconds of MPEG audio, become
+# a transport stream with all its tables; what is in that stream is listed.
 run: binary
 	mkdir -p out
-	$(BINARY) carry < examples/radio/radio.units > out/radio.ts
+	$(BINARY) plan < examples/radio/radio.toml > out/radio.plan
+	cat examples/radio/radio.toml out/radio.plan examples/radio/radio.units > out/radio.job
+	$(BINARY) mux < out/radio.job > out/radio.ts
 	@ls -l out/radio.ts
 	$(BINARY) demux < out/radio.ts > out/radio.findings
 	@tail -n 1 out/radio.findings
-	$(BINARY) plan < examples/radio/radio.toml > out/radio.plan
-	cat examples/radio/radio.toml out/radio.plan | $(BINARY) check
 
 # The same program without its proofs, in a minute or two: it makes a plan for the radio service.
 try:
@@ -29,6 +29,7 @@ test:
 
 # Speed, as a ratio to a copy of the same bytes in the same run, and how full a multiplex `plan` fills. Needs python3 and cc beside the kit.
 bench: binary
+	python3 bench/mux.py $(BINARY)
 	python3 bench/carry.py $(BINARY)
 	python3 bench/demux.py $(BINARY)
 	python3 bench/packets.py

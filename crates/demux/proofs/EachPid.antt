@@ -93,8 +93,8 @@ listed_next pid index bytes packets = by (packet_at bytes)
 found_by_it : (pid index : ℕ) (states : States) (entry : Entry) (q : ℕ) (e z : Bool) → List FindingView
 found_by_it pid index states entry q e z = found_of pid (cond e (untold index IsErrored ∷ []) (cond z [] (map (told q index) (found_by (state_of q states) entry))))
 
-states_behind : (states : States) (entry : Entry) (q : ℕ) (e z : Bool) → States
-states_behind states entry q e z = cond e states (cond z states (with_state q (step (state_of q states) entry) states))
+states_after : (states : States) (entry : Entry) (q : ℕ) (e z : Bool) → States
+states_after states entry q e z = cond e states (cond z states (with_state q (step (state_of q states) entry) states))
 
 state_own : (pid q : ℕ) (states : States) (entry : Entry) → q ≡ pid → (q == pid) ≡ true →
     state_of pid (with_state q (step (state_of q states) entry) states) ≡ step (state_of pid states) entry
@@ -107,9 +107,9 @@ state_other : (pid q : ℕ) (states : States) (entry : Entry) → (q == pid) ≡
 state_other pid q states entry t = state_with pid q (step (state_of q states) entry) states false (turned_test pid q ∙ t)
 
 found_step : (pid : ℕ) (states : States) (entry : Entry) (q : ℕ) (rest : List Entry) (e z t : Bool) → (q == 8191) ≡ z → (q == pid) ≡ t → (pid == 8191) ≡ false →
-    found_by_it pid entry.index states entry q e z ++ map (told_at pid) (run (state_of pid (states_behind states entry q e z)) rest)
+    found_by_it pid entry.index states entry q e z ++ map (told_at pid) (run (state_of pid (states_after states entry q e z)) rest)
     ≡ map (told_at pid) (run (state_of pid states) (cond (t && not e) (entry ∷ rest) rest))
-unfolding found_by_it states_behind run
+unfolding found_by_it states_after run
 found_step pid states entry q rest true z true hz ht n = refl
 found_step pid states entry q rest true z false hz ht n = refl
 found_step pid states entry q rest false true true hz ht n = absurd (grind (arith, nat_tests))
@@ -128,8 +128,8 @@ found_step pid states entry q rest false false false hz ht n =
     (ap (λ (s : PidState). map (told_at pid) (run s rest)) (state_other pid q states entry ht))
 
 to_step : (pid : ℕ) (states : States) (entry : Entry) (q : ℕ) (rest : List Entry) (e z t : Bool) → (q == 8191) ≡ z → (q == pid) ≡ t → (pid == 8191) ≡ false →
-    run_to (state_of pid (states_behind states entry q e z)) rest ≡ run_to (state_of pid states) (cond (t && not e) (entry ∷ rest) rest)
-unfolding states_behind run_to
+    run_to (state_of pid (states_after states entry q e z)) rest ≡ run_to (state_of pid states) (cond (t && not e) (entry ∷ rest) rest)
+unfolding states_after run_to
 to_step pid states entry q rest true z true hz ht n = refl
 to_step pid states entry q rest true z false hz ht n = refl
 to_step pid states entry q rest false true true hz ht n = absurd (grind (arith, nat_tests))
@@ -141,14 +141,14 @@ to_step pid states entry q rest false false false hz ht n = ap (λ (s : PidState
 found_next : (pid index : ℕ) (bytes : List ℕ) (states : States) (rest : List Entry) (r : Result PacketView PacketError) → (pid == 8191) ≡ false →
     found_of pid (findings_by index bytes states r) ++ map (told_at pid) (run (state_of pid (states_by index bytes states r)) rest)
     ≡ map (told_at pid) (run (state_of pid states) (listed_by pid index bytes r rest))
-unfolding findings_by states_by found_by_it states_behind
+unfolding findings_by states_by found_by_it states_after
 found_next pid index bytes states rest (Err error) n = refl
 found_next pid index bytes states rest (Ok packet) n =
     found_step pid states (entry_of index bytes packet) packet.header.pid rest packet.header.error_indicator (packet.header.pid == 8191) (packet.header.pid == pid) refl refl n
 
 to_next : (pid index : ℕ) (bytes : List ℕ) (states : States) (rest : List Entry) (r : Result PacketView PacketError) → (pid == 8191) ≡ false →
     run_to (state_of pid (states_by index bytes states r)) rest ≡ run_to (state_of pid states) (listed_by pid index bytes r rest)
-unfolding states_by states_behind
+unfolding states_by states_after
 to_next pid index bytes states rest (Err error) n = refl
 to_next pid index bytes states rest (Ok packet) n =
     to_step pid states (entry_of index bytes packet) packet.header.pid rest packet.header.error_indicator (packet.header.pid == 8191) (packet.header.pid == pid) refl refl n
@@ -177,11 +177,11 @@ passed_found pid s (bytes ∷ packets) n h =
     let e : next_packet s.packets ≡ s.packets + 1 = omega arith in
     let r = packet_at bytes in
     let new = findings_by s.packets bytes s.states r in
-    let behind = state_of pid (states_by s.packets bytes s.states r) in
+    let after = state_of pid (states_by s.packets bytes s.states r) in
     let rest = listed pid (s.packets + 1) packets in
     passed_found pid (passed s bytes) packets n (omega arith)
-    ∙ ap₂ (λ (xs : List FindingView) (i : ℕ). xs ++ map (told_at pid) (run behind (listed pid i packets))) (of_append pid s.found new) e
-    ∙ append_assoc (found_of pid s.found) (found_of pid new) (map (told_at pid) (run behind rest))
+    ∙ ap₂ (λ (xs : List FindingView) (i : ℕ). xs ++ map (told_at pid) (run after (listed pid i packets))) (of_append pid s.found new) e
+    ∙ append_assoc (found_of pid s.found) (found_of pid new) (map (told_at pid) (run after rest))
     ∙ ap (λ (xs : List FindingView). found_of pid s.found ++ xs)
     (found_next pid s.packets bytes s.states rest r n
     ∙ ap (λ (es : List Entry). map (told_at pid) (run (state_of pid s.states) es)) (sym (listed_next pid s.packets bytes packets)))
@@ -193,8 +193,8 @@ passed_to pid s [] n h = refl
 passed_to pid s (bytes ∷ packets) n h =
     let e : next_packet s.packets ≡ s.packets + 1 = omega arith in
     let r = packet_at bytes in
-    let behind = state_of pid (states_by s.packets bytes s.states r) in
+    let after = state_of pid (states_by s.packets bytes s.states r) in
     passed_to pid (passed s bytes) packets n (omega arith)
-    ∙ ap (λ (i : ℕ). run_to behind (listed pid i packets)) e
+    ∙ ap (λ (i : ℕ). run_to after (listed pid i packets)) e
     ∙ to_next pid s.packets bytes s.states (listed pid (s.packets + 1) packets) r n
     ∙ ap (λ (es : List Entry). run_to (state_of pid s.states) es) (sym (listed_next pid s.packets bytes packets))

@@ -5,7 +5,7 @@ use Rattle.std.proofs.lemmas.List.{append-nil, reverse-append}
 use Rattle.demux.specs.Marks.{Marked, mark, marked, seen}
 use Rattle.demux.specs.Parts.{Begun}
 use Rattle.demux.specs.Roles.{role}
-use Rattle.demux.specs.Findings.{findings, findings_behind, found_at, open_part, stretch, divider}
+use Rattle.demux.specs.Findings.{findings, findings_after, found_at, open_part, stretch, divider}
 use Rattle.demux.specs.Machine.{PidState, RunFindsAll, fresh, next_part, unbroken, run, run_to, step, step_marked}
 use Rattle.demux.proofs.Opening.{open_more}
 
@@ -19,14 +19,14 @@ step_opens before s entry h =
     ap (λ (held : Option Begun). next_part m.entry.index (role m) (unbroken m.broken held)) h ∙ sym (open_more m before)
 
 -- with what is open after the packets so far, the last one of them first
-runs_on : (before : List Marked) (s : PidState) (entries : List Entry) → s.part ≡ open_part before → run s entries ≡ findings_behind before (marked s.last entries)
-unfolding run findings_behind step_marked mark
+runs_on : (before : List Marked) (s : PidState) (entries : List Entry) → s.part ≡ open_part before → run s entries ≡ findings_after before (marked s.last entries)
+unfolding run findings_after step_marked mark
 runs_on before s [] h = refl
 runs_on before s (entry ∷ entries) h =
     let m = mark s.last entry in
     let first : found_at m s.part ≡ found_at m (open_part before) = ap (found_at m) h in
-    let behind : (step s entry).part ≡ open_part (m ∷ before) = step_opens before s entry h in
-    let rest : run (step s entry) entries ≡ findings_behind (m ∷ before) (marked (Some (seen m)) entries) = runs_on (m ∷ before) (step s entry) entries behind in
+    let after : (step s entry).part ≡ open_part (m ∷ before) = step_opens before s entry h in
+    let rest : run (step s entry) entries ≡ findings_after (m ∷ before) (marked (Some (seen m)) entries) = runs_on (m ∷ before) (step s entry) entries after in
     rw (first, rest) refl
 
 ends_on : (before : List Marked) (s : PidState) (entries : List Entry) → s.part ≡ open_part before → (run_to s entries).part ≡ open_part (reverse (marked s.last entries) ++ before)

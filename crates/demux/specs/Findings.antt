@@ -124,13 +124,13 @@ abbrev pub at_packet : ℕ → Found → At
 at_packet packet found = record { packet = packet; found = found }
 
 -- those at packets after others, of which the last one is first
-unfoldable pub findings_behind : List Marked → List Marked → List At
-findings_behind before [] = []
-findings_behind before (m ∷ ms) = map (at_packet m.entry.index) (found_at m (open_part before)) ++ findings_behind (m ∷ before) ms
+unfoldable pub findings_after : List Marked → List Marked → List At
+findings_after before [] = []
+findings_after before (m ∷ ms) = map (at_packet m.entry.index) (found_at m (open_part before)) ++ findings_after (m ∷ before) ms
 
 -- the findings of a PID's packets
 abbrev pub findings : List Entry → List At
-findings entries = findings_behind [] (marked None entries)
+findings entries = findings_after [] (marked None entries)
 
 -- with those that the end of the stream decides, after so many whole packets
 abbrev pub findings_to_end : ℕ → List Entry → List At

@@ -7,7 +7,7 @@ ghost use Rattle.demux.specs.Shown.{Finds, SaysTheSame, is_lent, payload_list, w
 
 use crate::finding::{Finding, Kind};
 use crate::open_part::{Begun, Form};
-use crate::payload_bytes::{PayloadBytes, behind, bytes_of};
+use crate::payload_bytes::{PayloadBytes, after, bytes_of};
 use crate::place::{Place, note, note_whole, what_by};
 use crate::verdicts::{Verdict, decide};
 use pes_packet::{Stamps, read_header};

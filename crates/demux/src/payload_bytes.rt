@@ -39,7 +39,7 @@ pub(crate) fn bytes_of<'p, 'a: 'p>(payload: PayloadBytes<'p, 'a>) -> &'p [u8]
 }
 
 /// Those after the first `n`.
-pub(crate) fn behind<'p, 'a>(payload: PayloadBytes<'p, 'a>, n: usize) -> PayloadBytes<'p, 'a>
+pub(crate) fn after<'p, 'a>(payload: PayloadBytes<'p, 'a>, n: usize) -> PayloadBytes<'p, 'a>
     requires { n ≤ length (payload_list payload) }
     ensures list { payload_list result ≡ drop n (payload_list payload.entry) }
     ensures lent { is_lent result ≡ is_lent payload.entry }

@@ -3,7 +3,7 @@ ghost use Rattle.std.specs.Prelude.{◌≡◌, Bool, ◌==◌, option_map, if◌
 ghost use Rattle.demux.specs.Roles as roles;
 ghost use Rattle.demux.specs.Shown.{carried_lent, carried_role, is_lent, payload_lent, payload_list};
 
-use crate::payload_bytes::{PayloadBytes, behind, bytes_of};
+use crate::payload_bytes::{PayloadBytes, after, bytes_of};
 use ts_packet::Header;
 
 // packet_start_code_prefix.
@@ -47,7 +47,7 @@ fn pointed<'p, 'a: 'p>(payload: PayloadBytes<'p, 'a>) -> Carried<'p, 'a>
         return Carried::PointedPast;
     }
     let (before, _) = rest.split_at(n);
-    Carried::Pointed(before, behind(behind(payload, 1), n))
+    Carried::Pointed(before, after(after(payload, 1), n))
 }
 
 #[tactic(auto, unfolding(crate::specs::Roles::role_by))]

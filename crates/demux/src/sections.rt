@@ -6,7 +6,7 @@ ghost use Rattle.demux.specs.Shown.{Finds, is_lent, payload_list, what_of};
 use crate::beginnings::note_within;
 use crate::finding::Finding;
 use crate::open_part::{Begun, Form};
-use crate::payload_bytes::{PayloadBytes, behind, bytes_of};
+use crate::payload_bytes::{PayloadBytes, after, bytes_of};
 use crate::place::Place;
 use crate::verdicts::{Verdict, decide};
 use psi_tables::SectionError;
@@ -84,7 +84,7 @@ pub(crate) fn sections<'p, 'a: 'p, A: Allocator + Clone>(
             }
             Some(verdict) => {
                 note_within(alloc, place, Form::OfSection, rest, verdict, found)?;
-                rest = behind(rest, taken_by(bytes, verdict));
+                rest = after(rest, taken_by(bytes, verdict));
             }
         }
     }

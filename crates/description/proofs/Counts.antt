@@ -93,7 +93,7 @@ pub no_position : {X : Type 0} (p : X → Bool) (xs : List X) → position p xs 
 no_position p xs h = λ k d within.
     elim (cases_lt (prefix_len (λ x. not (p x)) xs) (length xs)) [
       | inl before ↦ absurd (grind (arith, nat_tests, before, h))
-      | inr behind ↦
+      | inr after ↦
           let passes : not (p (get_or xs k d)) ≡ true = prefix_len_passes (λ x. not (p x)) xs k d (omega arith) in
           not_true (p (get_or xs k d)) passes
     ]

@@ -49,6 +49,6 @@ unfolding is_following
 no_following moment es h = sym (find-map (is_later moment) event_view es ∙ ap (option_map event_view) (missed (is_following moment) es h))
 
 -- what is after a reference
-pub behind : (r : Option (Bor Event)) → option_map (λ e. event_view e.now) r ≡ option_map event_view (option_map (λ e. e.now) r)
-behind None = refl
-behind (Some e) = refl
+pub after : (r : Option (Bor Event)) → option_map (λ e. event_view e.now) r ≡ option_map event_view (option_map (λ e. e.now) r)
+after None = refl
+after (Some e) = refl

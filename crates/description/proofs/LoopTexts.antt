@@ -80,8 +80,8 @@ language-most None h = omega arith
 language-most (Some language) h = let is = language-length (Some language) h in omega (arith, is)
 
 -- what is held once an entry was pushed
-pub texts_is : {X : Type 0} (text : List X → List ℕ) (held behind : List X) (n : ℕ) → held ≡ behind → length (text behind) ≡ n → length (text held) ≡ n
-texts_is {X = X} text held behind n is h = ap (λ (xs : List X). length (text xs)) is ∙ h
+pub texts_is : {X : Type 0} (text : List X → List ℕ) (held after : List X) (n : ℕ) → held ≡ after → length (text after) ≡ n → length (text held) ≡ n
+texts_is {X = X} text held after n is h = ap (λ (xs : List X). length (text xs)) is ∙ h
 
 -- an empty loop
 pub no_streams_text : length (streams_text []) ≡ 0

@@ -6,12 +6,12 @@ use Rattle.std.specs.List.{list_all}
 use Rattle.dvb_tables.specs.CharacterCoding.{text_bytes, is_plain}
 use Rattle.description.specs.Values.{is_octet}
 
-behind_either : (b : Bool) (text : List ℕ) → list_all is_octet text ≡ true → list_all is_octet (if b then text else 0x15 ∷ text) ≡ true
-behind_either true text h = h
-behind_either false text h = h
+after_either : (b : Bool) (text : List ℕ) → list_all is_octet text ≡ true → list_all is_octet (if b then text else 0x15 ∷ text) ≡ true
+after_either true text h = h
+after_either false text h = h
 
 pub coded_octets : (text : List ℕ) → list_all is_octet text ≡ true → list_all is_octet (text_bytes text) ≡ true
-coded_octets text h = behind_either (is_plain text) text h
+coded_octets text h = after_either (is_plain text) text h
 
 pub octets_of_All : (bytes : List ℕ) → All (λ b. b < 256) bytes → list_all is_octet bytes ≡ true
 octets_of_All bytes h = list_all-from_AllPass is_octet bytes (λ k d within. let small : get_or bytes k d < 256 = h k d within in grind (arith, nat_tests, small))

@@ -42,21 +42,21 @@ table_kind-pmt d (suc i) some most =
     (sym (slice_get-numbers_from Pmt 0 d.programs i (omega arith)))
 
 -- the others follow the PMTs
-behind : (d : Described) (i : ℕ) → table_kind d (suc (length d.programs) + i) ≡ slice_get (service_tables d ++ map Private (numbers_from 0 d.tables)) i
-behind d i = rw (sym (length-first d)) (slice_get-append_right (Pat ∷ map Pmt (numbers_from 0 d.programs)) (service_tables d ++ map Private (numbers_from 0 d.tables)) i)
+after : (d : Described) (i : ℕ) → table_kind d (suc (length d.programs) + i) ≡ slice_get (service_tables d ++ map Private (numbers_from 0 d.tables)) i
+after d i = rw (sym (length-first d)) (slice_get-append_right (Pat ∷ map Pmt (numbers_from 0 d.programs)) (service_tables d ++ map Private (numbers_from 0 d.tables)) i)
 
 pub table_kind-service : (d : Described) (t : ℕ) → length d.programs < t → t - 1 - length d.programs < length (service_tables d)
     → Some (get_or (service_tables d) (t - 1 - length d.programs) Pat) ≡ table_kind d t
 table_kind-service d t low high =
     let i : ℕ = t - 1 - length d.programs in
     let is : t ≡ suc (length d.programs) + (t - 1 - length d.programs) = omega arith in
-    sym (ap (table_kind d) is ∙ behind d (t - 1 - length d.programs)
+    sym (ap (table_kind d) is ∙ after d (t - 1 - length d.programs)
     ∙ slice_get-append_left (service_tables d) (map Private (numbers_from 0 d.tables)) (t - 1 - length d.programs) high
     ∙ slice_get-get_or (service_tables d) (t - 1 - length d.programs) Pat high)
 
 -- the private tables are the last
 privates : (d : Described) (i : ℕ) → table_kind d (suc (length d.programs) + (length (service_tables d) + i)) ≡ slice_get (map Private (numbers_from 0 d.tables)) i
-privates d i = behind d (length (service_tables d) + i) ∙ slice_get-append_right (service_tables d) (map Private (numbers_from 0 d.tables)) i
+privates d i = after d (length (service_tables d) + i) ∙ slice_get-append_right (service_tables d) (map Private (numbers_from 0 d.tables)) i
 
 pub table_kind-private : (d : Described) (t i : ℕ) → t ≡ suc (length d.programs) + (length (service_tables d) + i) → i < length d.tables
     → Some (Private i) ≡ table_kind d t

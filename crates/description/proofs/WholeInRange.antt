@@ -114,9 +114,9 @@ number_here : (number : ℕ) (o : Option ℕ) → (elim o [ None ↦ false | Som
 number_here number None h = absurd (cc)
 number_here number (Some n) h = eqb-true n number h
 
-behind_false : (b c : Bool) → b ≡ false → (b || c) ≡ true → c ≡ true
-behind_false true c is h = absurd (cc)
-behind_false false c is h = h
+after_false : (b c : Bool) → b ≡ false → (b || c) ≡ true → c ≡ true
+after_false true c is h = absurd (cc)
+after_false false c is h = h
 
 contains_number : (document : Data) (number : ℕ) (ps : List Data) → list_any (has_number number) ps ≡ true
     → Contains (map (λ p. p.number) (map (described_program document) ps)) number
@@ -124,7 +124,7 @@ contains_number document number [] h = absurd (cc)
 contains_number document number (p ∷ ps) h = elim (cases_Bool (has_number number p)) [
   | inl here ↦ (0, omega arith, number_here number (program_number p) here)
   | inr other ↦
-      let rest = contains_number document number ps (behind_false (has_number number p) (list_any (has_number number) ps) other h) in
+      let rest = contains_number document number ps (after_false (has_number number p) (list_any (has_number number) ps) other h) in
       (suc rest.0, omega (arith, rest.1), rest.2)
 ]
 

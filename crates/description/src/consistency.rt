@@ -25,11 +25,11 @@ fn is_distinct(numbers: &[u16]) -> bool
     ensures { result ≡ spec.is_distinct numbers.now }
 {
     let mut rest = numbers;
-    while let Some((first, behind)) = rest.split_first() {
-        if behind.contains(first) {
+    while let Some((first, after)) = rest.split_first() {
+        if after.contains(first) {
             return false;
         }
-        rest = behind;
+        rest = after;
     }
     true
 }

@@ -13,7 +13,7 @@ use Rattle.psi_tables.specs.declared.section.LongHeader.{LongHeader}
 use Rattle.psi_tables.proofs.TableForms.{HasHeader, table_header_at-is, table_header_at-read}
 use Rattle.dvb_tables.specs.Sequences.{IsSequence}
 use Rattle.dvb_tables.specs.EventEntries.{EventView, IsEvent, events_at}
-use Rattle.dvb_tables.specs.EventInformation.{EitView, IsEit, eit_at, eit_body_at, eit_behind}
+use Rattle.dvb_tables.specs.EventInformation.{EitView, IsEit, eit_at, eit_body_at, eit_after}
 use Rattle.dvb_tables.proofs.Heads.{six}
 use Rattle.dvb_tables.proofs.Seams.{taken, dropped}
 use Rattle.dvb_tables.proofs.EventLoops.{events_is, events_only}
@@ -55,7 +55,7 @@ front_found s header front loop es fits h is len events =
 
 -- what was read is an event information table
 pub eit_is : (s : SectionView) (t : EitView) → IsBytes s.body → eit_at s ≡ Ok t → IsEit s t
-unfolding eit_at eit_body_at eit_behind
+unfolding eit_at eit_body_at eit_after
 eit_is s t fits e =
     let q = bind_ok (table_header_at 0x4E 4093 s) _ t e in
     let g = guard_ok (nat_lt (length s.body) 6) _ _ t q.2 in
@@ -91,9 +91,9 @@ numbers_of s t fits h =
     (bytes 0) (bytes 1) (bytes 2) (bytes 3) (bytes 4) (bytes 5) h.transport_stream_id h.original_network_id h.segment_last_section_number h.last_table_id
     (ap number (sym (six h.front h.front_length)) ∙ h.spelled))
 
-behind_read : (t : EitView) (front loop : List ℕ) → Numbers front t → events_at loop ≡ Ok t.events → eit_behind t.header front loop ≡ Ok t
-unfolding eit_behind
-behind_read t front loop n events = rw (events, n.transport_stream_id, n.original_network_id, n.segment_last_section_number, n.last_table_id) refl
+after_read : (t : EitView) (front loop : List ℕ) → Numbers front t → events_at loop ≡ Ok t.events → eit_after t.header front loop ≡ Ok t
+unfolding eit_after
+after_read t front loop n events = rw (events, n.transport_stream_id, n.original_network_id, n.segment_last_section_number, n.last_table_id) refl
 
 pub body_read : (t : EitView) (body front loop : List ℕ) → body ≡ front ++ loop → length front ≡ 6 → Numbers front t → events_at loop ≡ Ok t.events
     → eit_body_at t.header body ≡ Ok t
@@ -102,7 +102,7 @@ body_read t body front loop is len n events =
     let room : nat_lt (length (front ++ loop)) 6 ≡ false = le-ltb (length (front ++ loop)) 6 (omega (arith, length-append front loop)) in
     let first : take 6 (front ++ loop) ≡ front = taken 6 front loop len in
     let second : drop 6 (front ++ loop) ≡ loop = dropped 6 front loop len in
-    rw (is, room, first, second) (behind_read t front loop n events)
+    rw (is, room, first, second) (after_read t front loop n events)
 
 -- an event information table is read
 pub eit_again : (s : SectionView) (t : EitView) → IsBytes s.body → IsEit s t → eit_at s ≡ Ok t

@@ -12,7 +12,7 @@ use Rattle.psi_tables.proofs.LoopParts.{AreEntries-append, loop_at-end}
 use Rattle.dvb_tables.specs.Sequences.{IsSequence}
 use Rattle.dvb_tables.specs.EventEntries.{EventView, IsEvent, event_of, event_text, event_status, events_in, events_at, events_text}
 use Rattle.dvb_tables.specs.Fits.{EventFits}
-use Rattle.dvb_tables.proofs.Sequencing.{SaysAll, whole_entries, sequence_of, entries_of, written_same, written_length, written_sequence, written_entries, entries_whole, values_read, values_behind}
+use Rattle.dvb_tables.proofs.Sequencing.{SaysAll, whole_entries, sequence_of, entries_of, written_same, written_length, written_sequence, written_entries, entries_whole, values_read, values_after}
 use Rattle.dvb_tables.proofs.EventFields.{event_found, event_only, event_same}
 use Rattle.dvb_tables.proofs.EventWriting.{event_written, event_said}
 
@@ -61,7 +61,7 @@ unfolding events_in
 one_more bytes e fits whole =
     let before = whole_entries 12 bytes whole in
     let one = event_said e fits in
-    let h = values_behind 12 event_of bytes (event_text e) (entries_in 12 bytes) e before one in
+    let h = values_after 12 event_of bytes (event_text e) (entries_in 12 bytes) e before one in
     record {
       whole = entries_whole 12 (bytes ++ event_text e) h.es (omega arith) h.entries;
       events = values_read 12 event_of (bytes ++ event_text e) (map event_of (entries_in 12 bytes) ++ e ∷ []) (omega arith) h;

@@ -15,7 +15,7 @@ use Rattle.psi_tables.proofs.LoopParts.{HasEntry, entry_at-is, entry_at-read}
 use Rattle.psi_tables.proofs.TableForms.{HasHeader, table_header_at-is, table_header_at-read}
 use Rattle.dvb_tables.specs.Sequences.{IsSequence}
 use Rattle.dvb_tables.specs.TransportStreams.{TransportStreamView, IsTransportStream, transport_streams_at}
-use Rattle.dvb_tables.specs.NetworkInformation.{NitView, IsCount, IsNit, nit_at, nit_behind, to_the_end}
+use Rattle.dvb_tables.specs.NetworkInformation.{NitView, IsCount, IsNit, nit_at, nit_after, to_the_end}
 use Rattle.dvb_tables.proofs.Heads.{two}
 use Rattle.dvb_tables.proofs.Seams.{accepted}
 use Rattle.dvb_tables.proofs.TransportStreamLoops.{transport_streams_is, transport_streams_only}
@@ -64,7 +64,7 @@ to_the_end_is (Some p) loop e =
     record { front = p; there = refl; ends = empty p.1 (eqb-true (length p.1) 0 a.0); is = a.1 }
 
 -- what was found after the header
-record Behind (header : LongHeader) (o : Option (EntryView × List ℕ)) (t : NitView) : Type 0 where
+record After (header : LongHeader) (o : Option (EntryView × List ℕ)) (t : NitView) : Type 0 where
   front : EntryView × List ℕ
   there : o ≡ Some front
   loop : List ℕ
@@ -73,10 +73,10 @@ record Behind (header : LongHeader) (o : Option (EntryView × List ℕ)) (t : Ni
   read : transport_streams_at loop ≡ Ok streams
   is : ◌≡◌ {A = NitView} (record { header = header; network_descriptors = front.0.descriptors; transport_streams = streams }) t
 
-behind_is : (header : LongHeader) (o : Option (EntryView × List ℕ)) (t : NitView) → nit_behind header o ≡ Ok t → Behind header o t
-unfolding nit_behind
-behind_is header None t e = absurd cc
-behind_is header (Some p) t e =
+after_is : (header : LongHeader) (o : Option (EntryView × List ℕ)) (t : NitView) → nit_after header o ≡ Ok t → After header o t
+unfolding nit_after
+after_is header None t e = absurd cc
+after_is header (Some p) t e =
     let q = bind_ok (to_the_end (entry_at 2 p.1)) _ t e in
     let r = bind_ok (transport_streams_at q.0) _ t q.2 in
     record { front = p; there = refl; loop = q.0; ends = q.1; streams = r.0; read = r.1; is = ok_is _ t r.2 }
@@ -107,7 +107,7 @@ pub nit_is : (s : SectionView) (t : NitView) → IsBytes s.body → nit_at s ≡
 unfolding nit_at entry_text
 nit_is s t fits e =
     let q = bind_ok (table_header_at 0x40 1021 s) _ t e in
-    let b = behind_is q.0 (entry_at 2 s.body) t q.2 in
+    let b = after_is q.0 (entry_at 2 s.body) t q.2 in
     let end = to_the_end_is (entry_at 2 b.front.1) b.loop b.ends in
     let first = entry_at-is 2 s.body b.front b.there in
     let second = entry_at-is 2 b.front.1 end.front end.there in
@@ -122,8 +122,8 @@ nit_is s t fits e =
 -- a body of two counts and what they count is read
 pub body_read : (t : NitView) (body first second loop : List ℕ) → body ≡ (first ++ t.network_descriptors) ++ (second ++ loop)
     → IsEntry 2 (record { head = first; descriptors = t.network_descriptors }) → IsEntry 2 (record { head = second; descriptors = loop })
-    → transport_streams_at loop ≡ Ok t.transport_streams → nit_behind t.header (entry_at 2 body) ≡ Ok t
-unfolding nit_behind to_the_end entry_text
+    → transport_streams_at loop ≡ Ok t.transport_streams → nit_after t.header (entry_at 2 body) ≡ Ok t
+unfolding nit_after to_the_end entry_text
 body_read t body first second loop is one two streams =
     let front : entry_at 2 ((first ++ t.network_descriptors) ++ (second ++ loop)) ≡ Some (record { head = first; descriptors = t.network_descriptors }, second ++ loop)
     = entry_at-read 2 (record { head = first; descriptors = t.network_descriptors }) (second ++ loop) one in

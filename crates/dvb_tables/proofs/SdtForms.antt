@@ -15,7 +15,7 @@ use Rattle.psi_tables.specs.declared.section.LongHeader.{LongHeader}
 use Rattle.psi_tables.proofs.TableForms.{HasHeader, table_header_at-is, table_header_at-read}
 use Rattle.dvb_tables.specs.Sequences.{IsSequence}
 use Rattle.dvb_tables.specs.Services.{ServiceView, IsService, services_at}
-use Rattle.dvb_tables.specs.ServiceDescription.{SdtView, IsSdt, sdt_at, sdt_body_at, sdt_behind}
+use Rattle.dvb_tables.specs.ServiceDescription.{SdtView, IsSdt, sdt_at, sdt_body_at, sdt_after}
 use Rattle.dvb_tables.proofs.Heads.{three}
 use Rattle.dvb_tables.proofs.Seams.{taken, dropped}
 use Rattle.dvb_tables.proofs.ServiceLoops.{services_is, services_only}
@@ -49,7 +49,7 @@ front_found s header front loop ss fits h is len services =
 
 -- what was read is a service description table
 pub sdt_is : (s : SectionView) (t : SdtView) → IsBytes s.body → sdt_at s ≡ Ok t → IsSdt s t
-unfolding sdt_at sdt_body_at sdt_behind
+unfolding sdt_at sdt_body_at sdt_after
 sdt_is s t fits e =
     let q = bind_ok (table_header_at 0x42 1021 s) _ t e in
     let g = guard_ok (nat_lt (length s.body) 3) _ _ t q.2 in
@@ -65,10 +65,10 @@ number_read front n reserved len bytes hn hr spelled =
     let e : number (slice_index front 0 ∷ slice_index front 1 ∷ slice_index front 2 ∷ []) ≡ fields ((16, n) ∷ (8, reserved) ∷ []) = ap number (sym (three front len)) ∙ spelled in
     omega (arith, e, bytes 0, bytes 1, bytes 2)
 
-behind_read : (t : SdtView) (front loop : List ℕ) → slice_index front 0 * 256 + slice_index front 1 ≡ t.original_network_id → services_at loop ≡ Ok t.services
-    → sdt_behind t.header front loop ≡ Ok t
-unfolding sdt_behind
-behind_read t front loop id services = rw (services, id) refl
+after_read : (t : SdtView) (front loop : List ℕ) → slice_index front 0 * 256 + slice_index front 1 ≡ t.original_network_id → services_at loop ≡ Ok t.services
+    → sdt_after t.header front loop ≡ Ok t
+unfolding sdt_after
+after_read t front loop id services = rw (services, id) refl
 
 pub body_read : (t : SdtView) (body front loop : List ℕ) → body ≡ front ++ loop → length front ≡ 3
     → slice_index front 0 * 256 + slice_index front 1 ≡ t.original_network_id → services_at loop ≡ Ok t.services → sdt_body_at t.header body ≡ Ok t
@@ -77,7 +77,7 @@ body_read t body front loop is len id services =
     let room : nat_lt (length (front ++ loop)) 3 ≡ false = le-ltb (length (front ++ loop)) 3 (omega (arith, length-append front loop)) in
     let first : take 3 (front ++ loop) ≡ front = taken 3 front loop len in
     let second : drop 3 (front ++ loop) ≡ loop = dropped 3 front loop len in
-    rw (is, room, first, second) (behind_read t front loop id services)
+    rw (is, room, first, second) (after_read t front loop id services)
 
 -- a service description table is read
 pub sdt_again : (s : SectionView) (t : SdtView) → IsBytes s.body → IsSdt s t → sdt_at s ≡ Ok t

@@ -107,9 +107,9 @@ values_read k of bytes xs some h =
     ap (λ (o : Option (List EntryView)). map of (unwrap_or o [])) (loop_at-read k bytes h.es some h.entries) ∙ h.values
 
 -- one value more after a loop
-pub values_behind : {A : Type 0} (k : ℕ) (of : EntryView → A) (bytes text : List ℕ) (es : List EntryView) (x : A) → AreEntries k bytes es → Says k of text x
+pub values_after : {A : Type 0} (k : ℕ) (of : EntryView → A) (bytes text : List ℕ) (es : List EntryView) (x : A) → AreEntries k bytes es → Says k of text x
     → SaysAll k of (bytes ++ text) (map of es ++ x ∷ [])
-values_behind k of bytes text es x before one =
+values_after k of bytes text es x before one =
     let last : AreEntries k text (one.said ∷ []) = ([], one.is ∙ sym (append-nil (entry_text one.said)), one.entry, refl) in
     record {
       es = es ++ one.said ∷ [];

@@ -13,7 +13,7 @@ use Rattle.psi_tables.specs.declared.error.SectionError.{SectionError}
 use Rattle.dvb_tables.specs.Sequences.{IsSequence}
 use Rattle.dvb_tables.specs.Services.{ServiceView, IsService, service_of, service_text, service_front, services_in, services_at, services_text}
 use Rattle.dvb_tables.specs.Fits.{ServiceFits}
-use Rattle.dvb_tables.proofs.Sequencing.{SaysAll, whole_entries, sequence_of, entries_of, written_length, written_sequence, written_entries, entries_whole, values_read, values_behind}
+use Rattle.dvb_tables.proofs.Sequencing.{SaysAll, whole_entries, sequence_of, entries_of, written_length, written_sequence, written_entries, entries_whole, values_read, values_after}
 use Rattle.dvb_tables.proofs.ServiceFields.{service_found, service_only, service_length}
 use Rattle.dvb_tables.proofs.ServiceWriting.{service_written, service_said}
 
@@ -71,7 +71,7 @@ pub record OneMore (bytes : List ℕ) (x : ServiceView) : Type 0 where
 pub one_more : (bytes : List ℕ) (x : ServiceView) → ServiceFits x → is_some (loop_at 5 bytes) ≡ true → OneMore bytes x
 unfolding services_in
 one_more bytes x fits whole =
-    let h = values_behind 5 service_of bytes (service_text x) (entries_in 5 bytes) x (whole_entries 5 bytes whole) (service_said x fits) in
+    let h = values_after 5 service_of bytes (service_text x) (entries_in 5 bytes) x (whole_entries 5 bytes whole) (service_said x fits) in
     record {
       whole = entries_whole 5 (bytes ++ service_text x) h.es (omega arith) h.entries;
       values = values_read 5 service_of (bytes ++ service_text x) (map service_of (entries_in 5 bytes) ++ x ∷ []) (omega arith) h;

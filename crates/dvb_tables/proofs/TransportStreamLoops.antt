@@ -13,7 +13,7 @@ use Rattle.psi_tables.specs.Loops.{loop_at, entries_in}
 use Rattle.dvb_tables.specs.Sequences.{IsSequence}
 use Rattle.dvb_tables.specs.TransportStreams.{TransportStreamView, IsTransportStream, transport_stream_of, transport_stream_text, transport_stream_front, transport_streams_in, transport_streams_at, transport_streams_text}
 use Rattle.dvb_tables.specs.Fits.{TransportStreamFits}
-use Rattle.dvb_tables.proofs.Sequencing.{SaysAll, whole_entries, sequence_of, entries_of, written_length, written_sequence, written_entries, entries_whole, values_read, values_behind}
+use Rattle.dvb_tables.proofs.Sequencing.{SaysAll, whole_entries, sequence_of, entries_of, written_length, written_sequence, written_entries, entries_whole, values_read, values_after}
 use Rattle.dvb_tables.proofs.TransportStreamFields.{transport_stream_found, transport_stream_only, transport_stream_length}
 use Rattle.dvb_tables.proofs.TransportStreamWriting.{transport_stream_written, transport_stream_said}
 
@@ -74,7 +74,7 @@ pub record OneMore (bytes : List ℕ) (x : TransportStreamView) : Type 0 where
 pub one_more : (bytes : List ℕ) (x : TransportStreamView) → TransportStreamFits x → is_some (loop_at 6 bytes) ≡ true → OneMore bytes x
 unfolding transport_streams_in
 one_more bytes x fits whole =
-    let h = values_behind 6 transport_stream_of bytes (transport_stream_text x) (entries_in 6 bytes) x (whole_entries 6 bytes whole) (transport_stream_said x fits) in
+    let h = values_after 6 transport_stream_of bytes (transport_stream_text x) (entries_in 6 bytes) x (whole_entries 6 bytes whole) (transport_stream_said x fits) in
     record {
       whole = entries_whole 6 (bytes ++ transport_stream_text x) h.es (omega arith) h.entries;
       values = values_read 6 transport_stream_of (bytes ++ transport_stream_text x) (map transport_stream_of (entries_in 6 bytes) ++ x ∷ []) (omega arith) h;

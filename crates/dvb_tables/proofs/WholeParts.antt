@@ -2,16 +2,16 @@
 use Rattle.std.proofs.Common.{◌≡◌, ℕ, zero, suc, ◌+◌, ◌<◌, ◌≤◌, Bool, true, false, cond, nat_lt, IsTrue, Option, None, Some, refl, List, [], ◌∷◌, ◌++◌, length, take, drop, sym, ap, ◌∙◌, subst, append_assoc, arith, ◌↔◌}
 use Rattle.std.proofs.lemmas.List.{take-append-drop, length-drop, length-append}
 use Rattle.dvb_tables.specs.Descriptors.{descriptor}
-use Rattle.dvb_tables.specs.DescriptorLoops.{AreDescriptors, ends_whole, are_whole_descriptors, behind_first}
+use Rattle.dvb_tables.specs.DescriptorLoops.{AreDescriptors, ends_whole, are_whole_descriptors, after_first}
 use Rattle.dvb_tables.specs.Laws.{WholeDescriptors}
 use Rattle.std.proofs.lemmas.Bool.{ltb-false, ltb-true}
 
 -- where the bytes are there, what counts is what stands after them
-pub ends_behind : (n : ℕ) (bytes : List ℕ) → n ≤ length bytes → ends_whole n bytes ≡ ends_whole 0 (drop n bytes)
+pub ends_after : (n : ℕ) (bytes : List ℕ) → n ≤ length bytes → ends_whole n bytes ≡ ends_whole 0 (drop n bytes)
 unfolding ends_whole
-ends_behind zero bytes h = refl
-ends_behind (suc n) [] h = absurd (omega arith)
-ends_behind (suc n) (b ∷ bytes) h = ends_behind n bytes (omega arith)
+ends_after zero bytes h = refl
+ends_after (suc n) [] h = absurd (omega arith)
+ends_after (suc n) (b ∷ bytes) h = ends_after n bytes (omega arith)
 
 -- a descriptor that ends too soon
 pub ends_short : (n : ℕ) (bytes : List ℕ) → length bytes < n → ends_whole n bytes ≡ false
@@ -64,16 +64,16 @@ unfolding ends_whole
 whole_there bytes [] h = rw h refl
 whole_there bytes (d ∷ ds) h =
     let rest = whole_there h.0 ds h.2 in
-    let behind : ends_whole (length d.1) (d.1 ++ h.0) ≡ ends_whole 0 h.0 = ends_body d.1 h.0 in
-    rw h.1 (behind ∙ rest)
+    let after : ends_whole (length d.1) (d.1 ++ h.0) ≡ ends_whole 0 h.0 = ends_body d.1 h.0 in
+    rw h.1 (after ∙ rest)
   where
     ends_body : (body rest : List ℕ) → ends_whole (length body) (body ++ rest) ≡ ends_whole 0 rest
     ends_body [] rest = refl
     ends_body (b ∷ body) rest = ends_body body rest
 
 -- what a descriptor at the front tells of the bytes
-pub front_some : (bytes rest : List ℕ) → behind_first bytes ≡ Some rest → (length rest < length bytes) × (are_whole_descriptors bytes ≡ are_whole_descriptors rest)
-unfolding behind_first are_whole_descriptors ends_whole
+pub front_some : (bytes rest : List ℕ) → after_first bytes ≡ Some rest → (length rest < length bytes) × (are_whole_descriptors bytes ≡ are_whole_descriptors rest)
+unfolding after_first are_whole_descriptors ends_whole
 front_some [] rest e = absurd cc
 front_some (tag ∷ []) rest e = absurd cc
 front_some (tag ∷ n ∷ bytes) rest e =
@@ -81,11 +81,11 @@ front_some (tag ∷ n ∷ bytes) rest e =
     let room : n ≤ length bytes = ltb-false (length bytes) n g.0 in
     let is : drop n bytes ≡ rest = some_is _ _ g.1 in
     let size : length (drop n bytes) ≡ length rest = ap (length {A = ℕ}) is in
-    (omega (arith, length-drop n bytes), ends_behind n bytes room ∙ ap (ends_whole 0) is)
+    (omega (arith, length-drop n bytes), ends_after n bytes room ∙ ap (ends_whole 0) is)
 
 -- bytes without a whole descriptor at the front
-pub front_none : (bytes : List ℕ) → 0 < length bytes → behind_first bytes ≡ None → are_whole_descriptors bytes ≡ false
-unfolding behind_first are_whole_descriptors ends_whole
+pub front_none : (bytes : List ℕ) → 0 < length bytes → after_first bytes ≡ None → are_whole_descriptors bytes ≡ false
+unfolding after_first are_whole_descriptors ends_whole
 front_none [] some e = absurd (omega arith)
 front_none (tag ∷ []) some e = refl
 front_none (tag ∷ n ∷ bytes) some e = ends_short n bytes (ltb-true (length bytes) n (guard_none (nat_lt (length bytes) n) (drop n bytes) e))

@@ -20,7 +20,7 @@ unfoldable pub are_whole_descriptors : List ℕ → Bool
 are_whole_descriptors bytes = ends_whole 0 bytes
 
 -- what stands after the first descriptor; nothing where it is not whole
-unfoldable pub behind_first : List ℕ → Option (List ℕ)
-behind_first [] = None
-behind_first (tag ∷ []) = None
-behind_first (tag ∷ n ∷ bytes) = if nat_lt (length bytes) n then None else Some (drop n bytes)
+unfoldable pub after_first : List ℕ → Option (List ℕ)
+after_first [] = None
+after_first (tag ∷ []) = None
+after_first (tag ∷ n ∷ bytes) = if nat_lt (length bytes) n then None else Some (drop n bytes)

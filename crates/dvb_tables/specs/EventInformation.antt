@@ -40,8 +40,8 @@ pub record IsEit (s : SectionView) (t : EitView) : Type 0 where
   pub events : IsSequence IsEvent loop t.events
 
 -- the table whose body begins with these six bytes and goes on with a loop of events
-unfoldable pub eit_behind : LongHeader → List ℕ → List ℕ → Result EitView SectionError
-eit_behind header front loop = events_at loop >>= λ events. Ok (record {
+unfoldable pub eit_after : LongHeader → List ℕ → List ℕ → Result EitView SectionError
+eit_after header front loop = events_at loop >>= λ events. Ok (record {
   header = header;
   transport_stream_id = slice_index front 0 * 256 + slice_index front 1;
   original_network_id = slice_index front 2 * 256 + slice_index front 3;
@@ -52,7 +52,7 @@ eit_behind header front loop = events_at loop >>= λ events. Ok (record {
 
 -- the table of this body
 unfoldable pub eit_body_at : LongHeader → List ℕ → Result EitView SectionError
-eit_body_at header body = if nat_lt (length body) 6 then Err Body else eit_behind header (take 6 body) (drop 6 body)
+eit_body_at header body = if nat_lt (length body) 6 then Err Body else eit_after header (take 6 body) (drop 6 body)
 
 -- reading: Syntax, Length, then Body where the section ends within the front or an entry
 unfoldable pub eit_at : SectionView → Result EitView SectionError

@@ -46,9 +46,9 @@ to_the_end None = Err Body
 to_the_end (Some p) = if length p.1 == 0 then Ok p.0.descriptors else Err Body
 
 -- the table that has these descriptors, and these bytes after them
-unfoldable pub nit_behind : LongHeader → Option (EntryView × List ℕ) → Result NitView SectionError
-nit_behind header None = Err Body
-nit_behind header (Some p) = to_the_end (entry_at 2 p.1) >>= λ loop. transport_streams_at loop >>= λ streams. Ok (record {
+unfoldable pub nit_after : LongHeader → Option (EntryView × List ℕ) → Result NitView SectionError
+nit_after header None = Err Body
+nit_after header (Some p) = to_the_end (entry_at 2 p.1) >>= λ loop. transport_streams_at loop >>= λ streams. Ok (record {
   header = header;
   network_descriptors = p.0.descriptors;
   transport_streams = streams;
@@ -56,7 +56,7 @@ nit_behind header (Some p) = to_the_end (entry_at 2 p.1) >>= λ loop. transport_
 
 -- reading: Syntax, Length, then Body where a length does not fit, the loop is not all that is left, or it ends within an entry
 unfoldable pub nit_at : SectionView → Result NitView SectionError
-nit_at s = table_header_at 0x40 1021 s >>= λ header. nit_behind header (entry_at 2 s.body)
+nit_at s = table_header_at 0x40 1021 s >>= λ header. nit_after header (entry_at 2 s.body)
 
 -- a number of bytes as it is written after four reserved bits
 unfoldable pub count_text : ℕ → List ℕ

@@ -33,8 +33,8 @@ pub record IsSdt (s : SectionView) (t : SdtView) : Type 0 where
   pub services : IsSequence IsService loop t.services
 
 -- the table whose body begins with these three bytes and goes on with a loop of services
-unfoldable pub sdt_behind : LongHeader → List ℕ → List ℕ → Result SdtView SectionError
-sdt_behind header front loop = services_at loop >>= λ services. Ok (record {
+unfoldable pub sdt_after : LongHeader → List ℕ → List ℕ → Result SdtView SectionError
+sdt_after header front loop = services_at loop >>= λ services. Ok (record {
   header = header;
   original_network_id = slice_index front 0 * 256 + slice_index front 1;
   services = services;
@@ -42,7 +42,7 @@ sdt_behind header front loop = services_at loop >>= λ services. Ok (record {
 
 -- the table of this body
 unfoldable pub sdt_body_at : LongHeader → List ℕ → Result SdtView SectionError
-sdt_body_at header body = if nat_lt (length body) 3 then Err Body else sdt_behind header (take 3 body) (drop 3 body)
+sdt_body_at header body = if nat_lt (length body) 3 then Err Body else sdt_after header (take 3 body) (drop 3 body)
 
 -- reading: Syntax, Length, then Body where the section ends within the front or an entry
 unfoldable pub sdt_at : SectionView → Result SdtView SectionError

@@ -1,7 +1,7 @@
 //! Whether bytes are whole descriptors (ISO/IEC 13818-1, 2.6).
 
 ghost use Rattle.std.specs.Prelude.{◌≡◌, option_map};
-ghost use Rattle.dvb_tables.specs.DescriptorLoops.{are_whole_descriptors, behind_first};
+ghost use Rattle.dvb_tables.specs.DescriptorLoops.{are_whole_descriptors, after_first};
 
 /// Whether bytes are whole descriptors, one after another: a descriptor's tag, the number of the bytes
 /// after it, and these bytes. No bytes are whole descriptors too.
@@ -10,8 +10,8 @@ pub fn are_whole_descriptors(bytes: &[u8]) -> bool
 {
     let mut rest = bytes;
     while !rest.is_empty() {
-        match behind_first(rest) {
-            Some(behind) => rest = behind,
+        match after_first(rest) {
+            Some(after) => rest = after,
             None => return false,
         }
     }
@@ -19,17 +19,17 @@ pub fn are_whole_descriptors(bytes: &[u8]) -> bool
 }
 
 // What stands after the first descriptor.
-#[tactic(auto, unfolding(crate::specs::DescriptorLoops::behind_first))]
-fn behind_first(bytes: &[u8]) -> Option<&[u8]>
-    ensures { option_map (λ s. s.now) result ≡ behind_first bytes.now }
+#[tactic(auto, unfolding(crate::specs::DescriptorLoops::after_first))]
+fn after_first(bytes: &[u8]) -> Option<&[u8]>
+    ensures { option_map (λ s. s.now) result ≡ after_first bytes.now }
 {
     match bytes {
-        [_, length, behind @ ..] => {
+        [_, length, after @ ..] => {
             let length = *length as usize;
-            if behind.len() < length {
+            if after.len() < length {
                 return None;
             }
-            let (_body, rest) = behind.split_at(length);
+            let (_body, rest) = after.split_at(length);
             Some(rest)
         }
         _ => None,

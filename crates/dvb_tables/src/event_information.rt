@@ -115,7 +115,7 @@ impl EitPf {
         self.events.append_all_to(out);
     }
 
-    #[tactic(auto, unfolding(crate::specs::EventInformation::eit_body_at, crate::specs::EventInformation::eit_behind))]
+    #[tactic(auto, unfolding(crate::specs::EventInformation::eit_body_at, crate::specs::EventInformation::eit_after))]
     fn of_body(header: LongHeader, body: &[u8]) -> Result<EitPf, SectionError>
         requires { length body.now ≤ 4084 }
         ensures { Gives eit_view result (eit_body_at header body.now) }

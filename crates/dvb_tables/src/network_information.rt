@@ -8,7 +8,7 @@ ghost use Rattle.psi_tables.specs.Loops.{entry_at};
 ghost use Rattle.arrayvec.specs.ArrayVec.{array_vec_len};
 ghost use Rattle.psi_tables.specs.Spelling.{section_text};
 ghost use Rattle.dvb_tables.specs.TransportStreams.{transport_streams_of, transport_streams_text};
-ghost use Rattle.dvb_tables.specs.NetworkInformation.{NitView, IsNit, nit_view, nit_at, nit_behind, to_the_end, count_text, nit_body, nit_section};
+ghost use Rattle.dvb_tables.specs.NetworkInformation.{NitView, IsNit, nit_view, nit_at, nit_after, to_the_end, count_text, nit_body, nit_section};
 
 use crate::transport_stream::TransportStreams;
 use arrayvec::ArrayVec;
@@ -65,9 +65,9 @@ impl<'a> Nit<'a> {
         Nit::of_body(header, body)
     }
 
-    #[tactic(auto, unfolding(crate::specs::NetworkInformation::nit_behind))]
+    #[tactic(auto, unfolding(crate::specs::NetworkInformation::nit_after))]
     fn of_body(header: LongHeader, body: &'a [u8]) -> Result<Nit<'a>, SectionError>
-        ensures { Gives nit_view result (nit_behind header (entry_at 2 body.now)) }
+        ensures { Gives nit_view result (nit_after header (entry_at 2 body.now)) }
     {
         match entry_at(2, body) {
             None => Err(SectionError::Body),

@@ -62,7 +62,7 @@ impl<'a> Sdt<'a> {
         Sdt::of_body(header, body)
     }
 
-    #[tactic(auto, unfolding(crate::specs::ServiceDescription::sdt_body_at, crate::specs::ServiceDescription::sdt_behind))]
+    #[tactic(auto, unfolding(crate::specs::ServiceDescription::sdt_body_at, crate::specs::ServiceDescription::sdt_after))]
     fn of_body(header: LongHeader, body: &'a [u8]) -> Result<Sdt<'a>, SectionError>
         ensures { Gives sdt_view result (sdt_body_at header body.now) }
     {

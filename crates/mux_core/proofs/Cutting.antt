@@ -81,7 +81,7 @@ part_start pid number hex bytes counter start now packets all h e =
       holds = subst (λ (x : List ℕ). Holds start now packets x) (sym (append-nil all)) h;
     }
 
--- the packets of a text that has bytes: its first, and those behind
+-- the packets of a text that has bytes: its first, and those after
 packets_more : (pid number : ℕ) (start : Bool) (rest : List ℕ) → 0 < length rest
     → payload_packets pid start number (pieces rest) ≡ payload_packet pid start (number % 16) (take 184 rest) ∷ payload_packets pid false (number + 1) (pieces (drop 184 rest))
 unfolding payload_packets
@@ -90,7 +90,7 @@ packets_more pid number start rest some = rw (pieces_more rest some) refl
 pub next_of : (counter n : ℕ) → counter ≡ n % 16 → (counter + 1) % 16 ≡ (n + 1) % 16
 next_of counter n e = omega arith
 
--- the packets so far, the next and those behind it
+-- the packets so far, the next and those after it
 pub part_packets : (pid number : ℕ) (hex : Bool) (bytes rest packet : List ℕ) (counter n : ℕ) (start now : Option (List ℕ)) (packets : Collected) (all : List ℕ)
     (w : PartWay pid number hex bytes rest counter start now packets all) → 0 < length rest → n ≡ min (length rest) 184
     → packet ≡ payload_packet pid false counter (take n rest)
@@ -98,11 +98,11 @@ pub part_packets : (pid number : ℕ) (hex : Bool) (bytes rest packet : List ℕ
 part_packets pid number hex bytes rest packet counter n start now packets all w some e is =
     let first : packet ≡ payload_packet pid false ((number + w.count) % 16) (take 184 rest) =
     is ∙ ap (λ (c : ℕ). payload_packet pid false c (take n rest)) w.counter_is ∙ ap (payload_packet pid false ((number + w.count) % 16)) (take_min n 184 rest e) in
-    let behind : drop n rest ≡ drop 184 rest = drop_min n 184 rest e in
+    let following : drop n rest ≡ drop 184 rest = drop_min n 184 rest e in
     let place : (number + w.count) + 1 ≡ number + (w.count + 1) = omega arith in
     w.packets_are
     ∙ ap (λ (t : List (List ℕ)). w.done ++ t) (packets_more pid (number + w.count) false rest some)
-    ∙ rw (first, behind, place) (sym (append_assoc w.done (payload_packet pid false ((number + w.count) % 16) (take 184 rest) ∷ []) (payload_packets pid false (number + (w.count + 1)) (pieces (drop 184 rest)))))
+    ∙ rw (first, following, place) (sym (append_assoc w.done (payload_packet pid false ((number + w.count) % 16) (take 184 rest) ∷ []) (payload_packets pid false (number + (w.count + 1)) (pieces (drop 184 rest)))))
 
 -- one packet more has left
 pub part_more : (pid number : ℕ) (hex : Bool) (bytes rest packet : List ℕ) (counter n next : ℕ) (start now later : Option (List ℕ)) (packets after : Collected) (all : List ℕ)
@@ -129,7 +129,7 @@ pub part_failed : (pid number : ℕ) (hex : Bool) (bytes rest packet : List ℕ)
     → Took start later sent ((all ++ output hex w.done) ++ leaving hex packet)
     → Took start later sent (all ++ output hex (payload_packets pid false number (pieces bytes)))
 part_failed pid number hex bytes rest packet counter n sent start now later packets all w some e is took =
-    let behind : List (List ℕ) = payload_packets pid false (number + (w.count + 1)) (pieces (drop n rest)) in
+    let following : List (List ℕ) = payload_packets pid false (number + (w.count + 1)) (pieces (drop n rest)) in
     let whole : output hex (payload_packets pid false number (pieces bytes)) ≡ (output hex w.done ++ leaving hex packet) ++ output hex (payload_packets pid false (number + (w.count + 1)) (pieces (drop n rest))) =
     ap (output hex) (part_packets pid number hex bytes rest packet counter n start now packets all w some e is)
     ∙ flat_map-append (leaving hex) (w.done ++ packet ∷ []) (payload_packets pid false (number + (w.count + 1)) (pieces (drop n rest)))
@@ -155,12 +155,12 @@ part_end pid number hex bytes rest counter start now packets all w none =
     (w.counter_is ∙ ap (λ (m : ℕ). (number + m) % 16) same, subst (λ (x : List (List ℕ)). Holds start now packets (all ++ output hex x)) whole w.holds)
 
 -- one packet more has left, as the loop names its parts
-pub part_pushed : (pid number : ℕ) (hex now_hex : Bool) (bytes rest payload behind packet : List ℕ) (counter n next : ℕ) (start now later : Option (List ℕ)) (packets after : Collected) (all : List ℕ)
+pub part_pushed : (pid number : ℕ) (hex now_hex : Bool) (bytes rest payload following packet : List ℕ) (counter n next : ℕ) (start now later : Option (List ℕ)) (packets after : Collected) (all : List ℕ)
     (w : PartWay pid number hex bytes rest counter start now packets all) → 0 < length rest → n ≡ min (length rest) 184
-    → payload ≡ take n rest → behind ≡ drop n rest → packet ≡ payload_packet pid false counter payload → next ≡ (counter + 1) % 16 → now_hex ≡ hex
+    → payload ≡ take n rest → following ≡ drop n rest → packet ≡ payload_packet pid false counter payload → next ≡ (counter + 1) % 16 → now_hex ≡ hex
     → Holds start later after ((all ++ output hex w.done) ++ leaving now_hex packet)
-    → PartWay pid number hex bytes behind next start later after all
-part_pushed pid number hex now_hex bytes rest payload behind packet counter n next start now later packets after all w some e front back is next_is same holds =
+    → PartWay pid number hex bytes following next start later after all
+part_pushed pid number hex now_hex bytes rest payload following packet counter n next start now later packets after all w some e front back is next_is same holds =
     rw back
     (part_more pid number hex bytes rest packet counter n next start now later packets after all w some e
     (is ∙ ap (payload_packet pid false counter) front) next_is
@@ -176,12 +176,12 @@ part_stopped pid number hex now_hex bytes rest payload packet counter n sent sta
     (is ∙ ap (payload_packet pid false counter) front)
     (subst (λ (b : Bool). Took start later sent ((all ++ output hex w.done) ++ leaving b packet)) same took)
 
--- the first packet of a unit, and those behind it
+-- the first packet of a unit, and those after it
 pub unit_split : (pid number : ℕ) (text : List ℕ) → 0 < length text
     → payload_packets pid true number (pieces text) ≡ payload_packet pid true (number % 16) (take 184 text) ∷ payload_packets pid false (number + 1) (pieces (drop 184 text))
 unit_split pid number text some = packets_more pid number true text some
 
--- the output of the first packet and of those behind it
+-- the output of the first packet and of those after it
 unit_output : (pid number : ℕ) (hex now_hex later_hex : Bool) (text first rest packet : List ℕ) (counter : ℕ) (all : List ℕ)
     → 0 < length text → first ≡ take 184 text → rest ≡ drop 184 text → counter ≡ number % 16 → packet ≡ payload_packet pid true counter first → now_hex ≡ hex → later_hex ≡ hex
     → (all ++ leaving now_hex packet) ++ output later_hex (payload_packets pid false (number + 1) (pieces rest))
@@ -191,7 +191,7 @@ unit_output pid number hex now_hex later_hex text first rest packet counter all 
     rw (is, count, front, back) (unit_split pid number text some) in
     rw (whole, same, later_same) (append_assoc all (leaving hex packet) (output hex (payload_packets pid false (number + 1) (pieces rest))))
 
--- the first packet has left, and those behind it
+-- the first packet has left, and those after it
 pub unit_pushed : (pid number : ℕ) (hex now_hex later_hex : Bool) (text first rest packet : List ℕ) (counter next : ℕ) (start later : Option (List ℕ)) (after : Collected) (all : List ℕ)
     → 0 < length text → first ≡ take 184 text → rest ≡ drop 184 text → counter ≡ number % 16 → packet ≡ payload_packet pid true counter first → now_hex ≡ hex → later_hex ≡ hex
     → (next ≡ ((number + 1) + piece_count (length rest)) % 16)
@@ -205,7 +205,7 @@ unit_pushed pid number hex now_hex later_hex text first rest packet counter next
           (unit_output pid number hex now_hex later_hex text first rest packet counter all some front back count is same later_same) done.1,
     )
 
--- the writer failed at a packet behind the first
+-- the writer failed at a packet after the first
 pub unit_stopped : (pid number : ℕ) (hex now_hex later_hex : Bool) (text first rest packet : List ℕ) (counter sent : ℕ) (start later : Option (List ℕ)) (all : List ℕ)
     → 0 < length text → first ≡ take 184 text → rest ≡ drop 184 text → counter ≡ number % 16 → packet ≡ payload_packet pid true counter first → now_hex ≡ hex → later_hex ≡ hex
     → Took start later sent ((all ++ leaving now_hex packet) ++ output later_hex (payload_packets pid false (number + 1) (pieces rest)))

@@ -126,7 +126,7 @@ run_same f g s (suc n) same =
     ap (λ (c : Content). packet_of c ++ run_bytes f (suc s) n) (same s (omega arith))
     ∙ ap (λ (bytes : List ℕ). packet_of (g s) ++ bytes) (run_same f g (suc s) n (λ t lt. same t (omega arith)))
 
-bytes_kept : LaterUnitLaw → (d : Scheduled) (h : History) (capacity k : ℕ) (u : AccessUnit) →
+pub bytes_kept : LaterUnitLaw → (d : Scheduled) (h : History) (capacity k : ℕ) (u : AccessUnit) →
     feed_cause d capacity h k u (slice_get d.description.streams k) ≡ None → bytes_of d (with_unit h k u) ≡ bytes_of d h
 unfolding content_at
 bytes_kept law d h capacity k u none = run_same (content_at d (with_unit h k u).units) (content_at d h.units) 0 h.slots

@@ -22,3 +22,9 @@ pub mod Measuring
 pub mod Accepted
 pub mod Giving
 pub mod Beginning
+pub mod UnitCounts
+pub mod JobFeeding
+pub mod JobWriting
+pub mod JobDone
+pub mod EventSteps
+pub mod RoomForAll

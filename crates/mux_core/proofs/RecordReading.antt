@@ -77,12 +77,12 @@ pub whole_record : (xs : List ℕ) (first second left : Option (List ℕ)) (star
 whole_record xs first second left start stamps bytes s k b =
     let t = k (drop 5 xs) s.4 in
     let u = b (drop 16 (drop 5 xs)) t.3 in
-    let behind : drop 16 (drop 5 xs) ≡ drop 21 xs = drop-drop 16 5 xs in
+    let after : drop 16 (drop 5 xs) ≡ drop 21 xs = drop-drop 16 5 xs in
     let last : drop 8 (drop 5 xs) ≡ drop 13 xs = drop-drop 8 5 xs in
     let all : 21 + size_at xs ≤ length xs = omega (arith, u.0, s.2, s.0, t.0, length-drop 5 xs, length-drop 16 (drop 5 xs)) in
     let dts : stamps.0 ≡ big_number 8 (drop 5 xs) = t.1 in
     let pts : stamps.1 ≡ big_number 8 (drop 13 xs) = t.2 ∙ ap (big_number 8) last in
-    let body : bytes ≡ take (size_at xs) (drop 21 xs) = u.1 ∙ ap (λ (n : ℕ). take n (drop 16 (drop 5 xs))) s.2 ∙ ap (take {A = ℕ} (size_at xs)) behind in
+    let body : bytes ≡ take (size_at xs) (drop 21 xs) = u.1 ∙ ap (λ (n : ℕ). take n (drop 16 (drop 5 xs))) s.2 ∙ ap (take {A = ℕ} (size_at xs)) after in
     let rest : left ≡ Some (drop (21 + size_at xs) xs) =
-    u.2 ∙ ap (λ (n : ℕ). Some (drop n (drop 16 (drop 5 xs)))) s.2 ∙ ap (λ (ys : List ℕ). Some (drop (size_at xs) ys)) behind ∙ ap Some (drop-drop (size_at xs) 21 xs) in
+    u.2 ∙ ap (λ (n : ℕ). Some (drop n (drop 16 (drop 5 xs)))) s.2 ∙ ap (λ (ys : List ℕ). Some (drop (size_at xs) ys)) after ∙ ap Some (drop-drop (size_at xs) 21 xs) in
     (record_whole xs all (omega (arith, s.2, s.3)) ∙ rw (s.1, dts, pts, body) refl, rest)

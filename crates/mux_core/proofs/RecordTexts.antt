@@ -4,11 +4,11 @@ use Rattle.std.proofs.lemmas.List.{length-append, length-drop, drop-drop}
 use Rattle.byteorder.specs.Endian.{big_number, big_bytes}
 use Rattle.byteorder.specs.Numbers.{length-bytes_high_first, big_number-reads_back}
 use Rattle.pes_packet.specs.AccessUnits.{AccessUnit}
-use Rattle.mux_core.specs.UnitRecords.{record_at, behind_record, record_text, size_at, unit_at, greatest_record}
+use Rattle.mux_core.specs.UnitRecords.{record_at, after_record, record_text, size_at, unit_at, greatest_record}
 use Rattle.mux_core.specs.Laws.{RecordsAreRead, FitsRecord}
 use Rattle.mux_core.proofs.RecordReading.{record_whole}
 
--- a record before its rest, one part behind the other
+-- a record before its rest, one part after the other
 spread : (stream : ℕ) (unit : AccessUnit) (rest : List ℕ)
     → record_text stream unit ++ rest
     ≡ stream ∷ (big_bytes 4 (length unit.bytes) ++ (big_bytes 8 unit.dts ++ (big_bytes 8 unit.pts ++ (unit.bytes ++ rest))))
@@ -60,13 +60,13 @@ read_back stream unit rest fits =
 
 record_of : (xs : List ℕ) (stream : ℕ) (unit : AccessUnit) (rest : List ℕ) → slice_index xs 0 ≡ stream → size_at xs ≡ length unit.bytes → unit_at xs ≡ unit
     → drop 21 xs ≡ unit.bytes ++ rest → 21 ≤ length xs → length unit.bytes ≤ greatest_record
-    → (record_at xs ≡ Ok (Some (stream, unit))) × (behind_record xs ≡ rest)
-record_of xs stream unit rest first size is behind long most =
+    → (record_at xs ≡ Ok (Some (stream, unit))) × (after_record xs ≡ rest)
+record_of xs stream unit rest first size is after long most =
     let whole : 21 + size_at xs ≤ length xs =
-    omega (arith, size, long, ap (length {A = ℕ}) behind, length-append unit.bytes rest, length-drop 21 xs) in
+    omega (arith, size, long, ap (length {A = ℕ}) after, length-append unit.bytes rest, length-drop 21 xs) in
     let left : drop (21 + size_at xs) xs ≡ rest =
     ap (λ (n : ℕ). drop (21 + n) xs) size ∙ sym (drop-drop (length unit.bytes) 21 xs)
-    ∙ ap (drop {A = ℕ} (length unit.bytes)) behind ∙ drop_at unit.bytes rest (length unit.bytes) refl in
+    ∙ ap (drop {A = ℕ} (length unit.bytes)) after ∙ drop_at unit.bytes rest (length unit.bytes) refl in
     (record_whole xs whole (omega (arith, size)) ∙ rw (first, is) refl, left)
 
 pub records_are_read : (stream : ℕ) (unit : AccessUnit) (rest : List ℕ) → FitsRecord unit → RecordsAreRead stream unit rest
@@ -85,5 +85,5 @@ records_are_read stream unit rest fits =
     let whole = record_of _ stream unit rest refl b.0 b.1 b.2 long fits.size in
     record {
       record_is = ap record_at (spread stream unit rest) ∙ whole.0;
-      rest_is = ap (λ (xs : List ℕ). behind_record xs) (spread stream unit rest) ∙ whole.1;
+      rest_is = ap (λ (xs : List ℕ). after_record xs) (spread stream unit rest) ∙ whole.1;
     }

@@ -3,7 +3,7 @@ use Rattle.std.proofs.Common.{◌≡◌, ℕ, zero, suc, ◌+◌, ◌%◌, ◌<�
 use Rattle.std.proofs.lemmas.List.{length-drop}
 use Rattle.ts_packet.specs.Packets.{packets, payload_packet}
 use Rattle.pes_packet.specs.AccessUnits.{AccessUnit}
-use Rattle.mux_core.specs.UnitRecords.{record_at, behind_record, size_at}
+use Rattle.mux_core.specs.UnitRecords.{record_at, after_record, size_at}
 use Rattle.mux_core.specs.PidPackets.{payload_packets}
 use Rattle.mux_core.specs.Carrying.{Run, judged, run_step, run_from}
 use Rattle.mux_core.specs.Laws.{RunsAreWhole, PacketsJoin}
@@ -11,7 +11,7 @@ use Rattle.mux_core.specs.Refusals.{refusal}
 use Rattle.mux_core.specs.declared.unit_records.UnitFileError.{UnitFileError}
 use Rattle.mux_core.proofs.Runs.{record_long}
 
--- a step depends on the run behind its own unit alone
+-- a step depends on the run after its own unit alone
 step_same : (id earliest : ℕ) (found : Result (Option (ℕ × AccessUnit)) UnitFileError) (f g : AccessUnit → Run)
     → ((entry : ℕ × AccessUnit) → found ≡ Ok (Some entry) → f entry.1 ≡ g entry.1)
     → run_step id earliest found f ≡ run_step id earliest found g
@@ -26,11 +26,11 @@ unfolding run_from
 long_enough zero m id earliest xs h k = absurd (omega arith)
 long_enough (suc n) zero id earliest xs h k = absurd (omega arith)
 long_enough (suc n) (suc m) id earliest xs h k =
-    step_same id earliest (record_at xs) (λ unit. run_from n id (unit.dts + 1) (behind_record xs)) (λ unit. run_from m id (unit.dts + 1) (behind_record xs))
+    step_same id earliest (record_at xs) (λ unit. run_from n id (unit.dts + 1) (after_record xs)) (λ unit. run_from m id (unit.dts + 1) (after_record xs))
     (λ entry e.
     let long : 21 + size_at xs ≤ length xs = record_long xs entry e in
-    let fewer : length (behind_record xs) + 21 ≤ length xs = omega (arith, long, length-drop (21 + size_at xs) xs) in
-    long_enough n m id (entry.1.dts + 1) (behind_record xs) (omega arith) (omega arith))
+    let fewer : length (after_record xs) + 21 ≤ length xs = omega (arith, long, length-drop (21 + size_at xs) xs) in
+    long_enough n m id (entry.1.dts + 1) (after_record xs) (omega arith) (omega arith))
 
 pub runs_are_whole : RunsAreWhole
 runs_are_whole n id xs h = long_enough n (1 + length xs) id 0 xs h (omega arith)

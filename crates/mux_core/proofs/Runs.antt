@@ -7,7 +7,7 @@ use Rattle.bit_fields.proofs.Binding.{ok_is, ok_not_err}
 use Rattle.pes_packet.specs.AccessUnits.{AccessUnit}
 use Rattle.mux_core.specs.Collecting.{byte_count, Collected, Holds, Took}
 use Rattle.mux_core.specs.PidPackets.{unit_packets, unit_count, stream_packets, leaving, output}
-use Rattle.mux_core.specs.UnitRecords.{record_at, behind_record, size_at, unit_at, greatest_record}
+use Rattle.mux_core.specs.UnitRecords.{record_at, after_record, size_at, unit_at, greatest_record}
 use Rattle.mux_core.specs.Carrying.{Run, Ending, Finished, UnitRefused, FileRefused, judged, run_step, run_from, run_of, carried, Answers, Writes}
 use Rattle.mux_core.specs.CarrySteps.{HoldsUnit, ReadsNext, EndsRun, answer_of}
 use Rattle.unit_queue.specs.declared.refusal.FeedError.{FeedError}
@@ -25,7 +25,7 @@ abbrev pub packet_number : ℕ → List AccessUnit → ℕ
 packet_number id [] = 0
 packet_number id (unit ∷ units) = unit_count id unit + packet_number id units
 
--- a run behind units
+-- a run after units
 abbrev pub before : List AccessUnit → Run → Run
 before units run = record { units = units ++ run.units; ending = run.ending }
 
@@ -56,7 +56,7 @@ carried_more hex pid id us u =
     ∙ ap (λ (t : List (List ℕ)). carried hex pid id us ++ output hex t)
     (stream_packets_one pid id (0 + packet_number id us) u ∙ ap (λ (n : ℕ). unit_packets pid id n u) (omega arith))
 
--- the output of units and others behind them
+-- the output of units and others after them
 carried_front : (hex : Bool) (pid id : ℕ) (us vs : List AccessUnit) → (more : List ℕ) × (carried hex pid id (us ++ vs) ≡ carried hex pid id us ++ more)
 carried_front hex pid id us vs = (
   output hex (stream_packets pid id (0 + packet_number id us) vs),
@@ -82,7 +82,7 @@ unfolding run_from run_step judged
 run_refused n id earliest xs unit cause h = rw (h.record_is, h.judged_is) refl
 
 run_more : (n id earliest : ℕ) (xs : List ℕ) (unit : AccessUnit) → HoldsUnit id earliest xs unit None
-    → run_from (suc n) id earliest xs ≡ before (unit ∷ []) (run_from n id (unit.dts + 1) (behind_record xs))
+    → run_from (suc n) id earliest xs ≡ before (unit ∷ []) (run_from n id (unit.dts + 1) (after_record xs))
 unfolding run_from run_step judged
 run_more n id earliest xs unit h = rw (h.record_is, h.judged_is) refl
 
@@ -143,19 +143,19 @@ pub midway_more : (pid id : ℕ) (hex now_hex : Bool) (xs : List ℕ) (earliest 
     → Midway pid id hex xs (unit.dts + 1) (index + 1) next later start after packets_after all
 midway_more pid id hex now_hex xs earliest index counter next left later start now after packets packets_after all unit w r same pushed =
     let long : 21 + size_at w.rest ≤ length w.rest = record_long w.rest _ r.0.record_is in
-    let fewer : length (behind_record w.rest) ≤ w.spare - 1 = omega (arith, w.enough, length-drop (21 + size_at w.rest) w.rest) in
+    let fewer : length (after_record w.rest) ≤ w.spare - 1 = omega (arith, w.enough, length-drop (21 + size_at w.rest) w.rest) in
     let fuel : w.spare ≡ suc (w.spare - 1) = omega (arith, w.enough) in
     let number : packet_number id (w.done ++ unit ∷ []) ≡ packet_number id w.done + unit_count id unit =
     packet_number-append id w.done (unit ∷ []) ∙ omega arith in
     record {
       done = w.done ++ unit ∷ [];
-      rest = behind_record w.rest;
+      rest = after_record w.rest;
       spare = w.spare - 1;
       left_is = r.1;
       enough = fewer;
       run_is = w.run_is ∙ ap (before w.done) (run_more w.spare id earliest w.rest unit r.0)
-          ∙ before_before w.done unit (run_from w.spare id (unit.dts + 1) (behind_record w.rest))
-          ∙ ap (λ (n : ℕ). before (w.done ++ unit ∷ []) (run_from n id (unit.dts + 1) (behind_record w.rest))) fuel;
+          ∙ before_before w.done unit (run_from w.spare id (unit.dts + 1) (after_record w.rest))
+          ∙ ap (λ (n : ℕ). before (w.done ++ unit ∷ []) (run_from n id (unit.dts + 1) (after_record w.rest))) fuel;
       index_is = omega (arith, w.index_is, length-append w.done (unit ∷ []));
       counter_is = pushed.0 ∙ ap (λ (n : ℕ). n % 16) (sym number);
       holds = subst (λ (x : List ℕ). Holds start after packets_after x)
@@ -172,11 +172,11 @@ pub midway_failed : (pid id : ℕ) (hex now_hex : Bool) (xs : List ℕ) (earlies
     → Took start after sent ((all ++ carried hex pid id w.done) ++ output now_hex (unit_packets pid id (packet_number id w.done) unit))
     → Took start after sent (all ++ carried hex pid id (run_of id xs).units)
 midway_failed pid id hex now_hex xs earliest index counter sent left later start now after packets all unit w r same took =
-    let run : Run = run_from w.spare id (unit.dts + 1) (behind_record w.rest) in
-    let is : run_of id xs ≡ before (w.done ++ unit ∷ []) (run_from w.spare id (unit.dts + 1) (behind_record w.rest)) =
+    let run : Run = run_from w.spare id (unit.dts + 1) (after_record w.rest) in
+    let is : run_of id xs ≡ before (w.done ++ unit ∷ []) (run_from w.spare id (unit.dts + 1) (after_record w.rest)) =
     w.run_is ∙ ap (before w.done) (run_more w.spare id earliest w.rest unit r.0)
-    ∙ before_before w.done unit (run_from w.spare id (unit.dts + 1) (behind_record w.rest)) in
-    let front = carried_front hex pid id (w.done ++ unit ∷ []) (run_from w.spare id (unit.dts + 1) (behind_record w.rest)).units in
+    ∙ before_before w.done unit (run_from w.spare id (unit.dts + 1) (after_record w.rest)) in
+    let front = carried_front hex pid id (w.done ++ unit ∷ []) (run_from w.spare id (unit.dts + 1) (after_record w.rest)).units in
     let so_far : Took start after sent (all ++ carried hex pid id (w.done ++ unit ∷ [])) =
     subst (λ (x : List ℕ). Took start after sent x)
     (ap (λ (b : Bool). (all ++ carried hex pid id w.done) ++ output b (unit_packets pid id (packet_number id w.done) unit)) same
@@ -261,7 +261,7 @@ writes_of out run index sent old new (Some (Refused cause)) h w = w.1
 writes_of out run index sent old new (Some (Unread fault)) h w = w.1
 writes_of out run index sent old new (Some OutOfMemory) h w = w.1
 
--- the writer failed behind some of the units
+-- the writer failed after some of the units
 pub took_units : (hex : Bool) (pid id index sent : ℕ) (units : List AccessUnit) (start now : Option (List ℕ))
     → Took start now sent (carried hex pid id (take index units)) → Took start now sent (carried hex pid id units)
 took_units hex pid id index sent units start now t =

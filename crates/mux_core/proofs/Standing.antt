@@ -42,6 +42,13 @@ line_stays m (Pcr p) = refl
 line_stays m (Table t) = refl
 line_stays m Null = refl
 
+capacity_stays : (m : Mixer) (slot : Slot) → (after m slot).capacity ≡ m.capacity
+unfolding after
+capacity_stays m (Stream k) = refl
+capacity_stays m (Pcr p) = refl
+capacity_stays m (Table t) = refl
+capacity_stays m Null = refl
+
 pub gives : (h : History) (old : Mixer) (result : Result (List ℕ) Done) (new : Mixer) → IsInRange old.line.description → Stands h old →
     Turns old result new → Gives h old result new
 unfolding content_at
@@ -52,6 +59,7 @@ gives h old (Ok packet) new ranges st t =
       t.1 ∙ g.packet ∙ ap (λ (n : ℕ). packet_of (content_in old.line h.units h.slots (slot_of old.line.schedule n))) st.written,
       ap (λ (m : Mixer). m.line) t.2 ∙ line_stays old slot,
       subst (λ (m : Mixer). Stands (slot_more h) m) (sym t.2) g.stands,
+      ap (λ (m : Mixer). m.capacity) t.2 ∙ capacity_stays old slot,
     )
 gives h old (Err e) new ranges st t = (subst (λ (n : ℕ). 2 ^ 40 ≤ n) st.written t.0, t.1)
 

@@ -1,9 +1,13 @@
 -- The finished bytes of a history keep all that they promise.
+use Rattle.std.specs.Prelude.{ℕ, List}
+use Rattle.pes_packet.specs.AccessUnits.{AccessUnit}
+use Rattle.description.specs.Ranges.{IsInRange}
 use Rattle.ts_packet.specs.RunLaws.{Fits}
 use Rattle.ts_packet.proofs.Runs.{run_length}
-use Rattle.unit_queue.proofs.Carrying.{content_law}
+use Rattle.unit_queue.proofs.SentPlaces.{content_law}
+use Rattle.mux_core.specs.Scheduled.{Scheduled}
 use Rattle.mux_core.specs.Histories.{lane_of, content_at}
-use Rattle.mux_core.specs.Headline.{HeadlineLaw}
+use Rattle.mux_core.specs.Headline.{HeadlineLaw, UnitsKept}
 use Rattle.mux_core.proofs.Speaking.{StreamsFit, content_fits}
 use Rattle.mux_core.proofs.TablesRead.{table_kept}
 use Rattle.mux_core.proofs.Programs.{program_kept}
@@ -11,17 +15,20 @@ use Rattle.mux_core.proofs.Sizes.{pids_known}
 use Rattle.mux_core.proofs.StreamsAlone.{stream_alone}
 use Rattle.mux_core.proofs.StreamsKept.{stream_kept}
 
-pub headline : HeadlineLaw
-headline d units slots r promised kept = record {
-  size = run_length (content_at d units) 0 slots fits;
-  pids = pids_known d units slots fits;
-  streams = λ k s is. stream_kept d k s (units k) (content_at d units) slots is (stream_alone d units k s r fits is) (kept.kept k s is) promised;
-  programs = λ i p is. program_kept d units slots i p r promised fits is;
-  tables = λ t lt. table_kept d units slots t r promised fits lt;
-}
+-- what each slot carries can be a packet
+pub contents_fit : (d : Scheduled) (units : ℕ → List AccessUnit) → IsInRange d.description → UnitsKept d units → Fits (content_at d units)
+contents_fit d units r kept = content_fits d units r streams_fit
   where
     streams_fit : StreamsFit d units
     streams_fit k s x is = content_law (lane_of d k x) (units k) s (kept.rules k x is)
 
-    fits : Fits (content_at d units)
-    fits = content_fits d units r streams_fit
+pub headline : HeadlineLaw
+headline d units slots r promised kept =
+    let fits = contents_fit d units r kept in
+    record {
+      size = run_length (content_at d units) 0 slots fits;
+      pids = pids_known d units slots fits;
+      streams = λ k s is. stream_kept d k s (units k) (content_at d units) slots is (stream_alone d units k s r fits is) (kept.kept k s is) promised;
+      programs = λ i p is. program_kept d units slots i p r promised fits is;
+      tables = λ t lt. table_kept d units slots t r promised fits lt;
+    }

@@ -4,7 +4,7 @@ use Rattle.ts_packet.specs.Device.{Failed}
 use Rattle.pes_packet.specs.AccessUnits.{AccessUnit}
 use Rattle.pes_packet.specs.StreamIds.{greatest_size}
 use Rattle.mux_core.specs.Refusals.{refusal}
-use Rattle.mux_core.specs.UnitRecords.{record_at, behind_record}
+use Rattle.mux_core.specs.UnitRecords.{record_at, after_record}
 use Rattle.mux_core.specs.Carrying.{Run, Finished, UnitRefused, FileRefused}
 use Rattle.unit_queue.specs.declared.refusal.FeedError.{FeedError}
 use Rattle.mux_core.specs.declared.unit_records.UnitFileError.TheVariants.{Cut, Size, Device, Memory}
@@ -29,7 +29,7 @@ pub record HoldsUnit (id earliest : ℕ) (xs : List ℕ) (unit : AccessUnit) (ca
 -- what the next record of these bytes gave
 abbrev pub ReadsNext : ℕ → ℕ → List ℕ → Option (List ℕ) → Result (Option AccessUnit) Stop → Type 0
 ReadsNext id earliest xs left (Ok None) = record_at xs ≡ Ok None
-ReadsNext id earliest xs left (Ok (Some unit)) = HoldsUnit id earliest xs unit None × (left ≡ Some (behind_record xs))
+ReadsNext id earliest xs left (Ok (Some unit)) = HoldsUnit id earliest xs unit None × (left ≡ Some (after_record xs))
 ReadsNext id earliest xs left (Err (Refused cause)) = (unit : AccessUnit) × HoldsUnit id earliest xs unit (Some cause)
 ReadsNext id earliest xs left (Err (Unread Cut)) = record_at xs ≡ Err Cut
 ReadsNext id earliest xs left (Err (Unread Size)) = record_at xs ≡ Err Size
@@ -37,7 +37,7 @@ ReadsNext id earliest xs left (Err (Unread Device)) = ⊤
 ReadsNext id earliest xs left (Err (Unread Memory)) = ⊥
 ReadsNext id earliest xs left (Err OutOfMemory) = ⊤
 
--- a run was ended so, behind so many records
+-- a run was ended so, after so many records
 abbrev pub EndsRun : Run → ℕ → Option Stop → Type 0
 EndsRun run index None = (run.ending ≡ Finished) × (index ≡ length run.units)
 EndsRun run index (Some (Refused cause)) = (run.ending ≡ UnitRefused cause) × (index ≡ length run.units)

@@ -6,7 +6,7 @@ use Rattle.pes_packet.specs.AccessUnits.{AccessUnit}
 use Rattle.mux_core.specs.Collecting.{byte_count, Took}
 use Rattle.mux_core.specs.PidPackets.{stream_packets, output}
 use Rattle.mux_core.specs.Refusals.{refusal}
-use Rattle.mux_core.specs.UnitRecords.{record_at, behind_record}
+use Rattle.mux_core.specs.UnitRecords.{record_at, after_record}
 use Rattle.unit_queue.specs.declared.refusal.FeedError.{FeedError}
 use Rattle.mux_core.specs.declared.unit_records.UnitFileError.{UnitFileError}
 use Rattle.mux_core.specs.declared.unit_records.UnitFileError.TheVariants.{Cut, Size, Device, Memory}
@@ -24,21 +24,21 @@ pub record Run : Type 0 where
   pub units : List AccessUnit
   pub ending : Ending
 
--- a unit that is refused ends the run; else it comes before the run behind it
+-- a unit that is refused ends the run; else it comes before the run after it
 unfoldable pub judged : Option FeedError → AccessUnit → Run → Run
-judged (Some cause) unit behind = record { units = []; ending = UnitRefused cause }
-judged None unit behind = record { units = unit ∷ behind.units; ending = behind.ending }
+judged (Some cause) unit after = record { units = []; ending = UnitRefused cause }
+judged None unit after = record { units = unit ∷ after.units; ending = after.ending }
 
--- what stands at the front of the input, and the run behind it
+-- what stands at the front of the input, and the run after it
 unfoldable pub run_step : ℕ → ℕ → Result (Option (ℕ × AccessUnit)) UnitFileError → (AccessUnit → Run) → Run
-run_step id earliest (Err fault) behind = record { units = []; ending = FileRefused fault }
-run_step id earliest (Ok None) behind = record { units = []; ending = Finished }
-run_step id earliest (Ok (Some entry)) behind = judged (refusal id earliest entry.0 entry.1) entry.1 (behind entry.1)
+run_step id earliest (Err fault) after = record { units = []; ending = FileRefused fault }
+run_step id earliest (Ok None) after = record { units = []; ending = Finished }
+run_step id earliest (Ok (Some entry)) after = judged (refusal id earliest entry.0 entry.1) entry.1 (after entry.1)
 
 -- the run of at most so many records, where no DTS below `earliest` is accepted: each unit is later than the one before
 unfoldable pub run_from : ℕ → ℕ → ℕ → List ℕ → Run
 run_from zero id earliest xs = record { units = []; ending = Finished }
-run_from (suc n) id earliest xs = run_step id earliest (record_at xs) (λ unit. run_from n id (unit.dts + 1) (behind_record xs))
+run_from (suc n) id earliest xs = run_step id earliest (record_at xs) (λ unit. run_from n id (unit.dts + 1) (after_record xs))
 
 -- the run of an input: it has no more records than bytes
 abbrev pub run_of : ℕ → List ℕ → Run

@@ -12,7 +12,7 @@ pub record Collected : Type 0 where
 abbrev pub byte_count : ℕ → ℕ
 byte_count n = min n (2 ^ 64 - 1)
 
--- of `all`, behind what the writer held at the start, the writer holds the front and the rest waits
+-- of `all`, after what the writer held at the start, the writer holds the front and the rest waits
 pub record Holds (start now : Option (List ℕ)) (collected : Collected) (all : List ℕ) : Type 0 where
   pub written : List ℕ
   pub taken : Appends start now written
@@ -26,7 +26,7 @@ pub record Took (start now : Option (List ℕ)) (sent : ℕ) (all : List ℕ) : 
   pub taken : Appends start now (take count all)
   pub sent_is : sent ≡ byte_count count
 
--- of a part behind `before` bytes that were counted, the writer took the first bytes, and `sent` counts on
+-- of a part after `before` bytes that were counted, the writer took the first bytes, and `sent` counts on
 pub record TookPart (old new : Option (List ℕ)) (part : List ℕ) (before sent : ℕ) : Type 0 where
   pub count : ℕ
   pub within : count ≤ length part

@@ -3,14 +3,14 @@ use Rattle.std.specs.Prelude.{◌≡◌, ◌<◌, ◌≤◌, ℕ, ◌^◌, Bool,
 use Rattle.std.specs.List.{concat}
 use Rattle.ts_packet.specs.Packets.{packets}
 use Rattle.pes_packet.specs.AccessUnits.{AccessUnit}
-use Rattle.mux_core.specs.UnitRecords.{record_at, behind_record, record_text, greatest_record}
+use Rattle.mux_core.specs.UnitRecords.{record_at, after_record, record_text, greatest_record}
 use Rattle.mux_core.specs.PidPackets.{payload_packets}
 use Rattle.mux_core.specs.Carrying.{run_from, run_of}
 
 -- a record that is written, whatever follows it, is read again, and what follows is left
 pub record RecordsAreRead (stream : ℕ) (unit : AccessUnit) (rest : List ℕ) : Type 0 where
   pub record_is : record_at (record_text stream unit ++ rest) ≡ Ok (Some (stream, unit))
-  pub rest_is : behind_record (record_text stream unit ++ rest) ≡ rest
+  pub rest_is : after_record (record_text stream unit ++ rest) ≡ rest
 
 -- the numbers of a unit fit their fields in a record
 pub record FitsRecord (unit : AccessUnit) : Type 0 where

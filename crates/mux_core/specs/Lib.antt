@@ -15,3 +15,5 @@ pub mod Turns
 pub mod Headline
 pub mod Measuring
 pub mod Making
+pub mod Multiplexing
+pub mod Driving

@@ -21,7 +21,7 @@ unit_packets pid id number unit = payload_packets pid true number (pieces (unit_
 abbrev pub unit_count : ℕ → AccessUnit → ℕ
 unit_count id unit = piece_count (length (unit_text id 0 unit))
 
--- the packets of units one behind the other
+-- the packets of units one after the other
 unfoldable pub stream_packets : ℕ → ℕ → ℕ → List AccessUnit → List (List ℕ)
 stream_packets pid id number [] = []
 stream_packets pid id number (unit ∷ units) = unit_packets pid id number unit ++ stream_packets pid id (number + unit_count id unit) units
@@ -31,6 +31,6 @@ unfoldable pub leaving : Bool → List ℕ → List ℕ
 leaving false packet = packet
 leaving true packet = encode_lower packet ++ 10 ∷ []
 
--- packets as they leave, one behind the other
+-- packets as they leave, one after the other
 abbrev pub output : Bool → List (List ℕ) → List ℕ
 output hex packets = flat_map (leaving hex) packets

@@ -36,9 +36,9 @@ record_at xs =
     else (if nat_lt (length xs) (head_size + size_at xs) then Err Cut
     else Ok (Some (slice_index xs 0, unit_at xs)))))
 
--- the bytes of an input behind the record at its front
-abbrev pub behind_record : List ℕ → List ℕ
-behind_record xs = drop (head_size + size_at xs) xs
+-- the bytes of an input after the record at its front
+abbrev pub after_record : List ℕ → List ℕ
+after_record xs = drop (head_size + size_at xs) xs
 
 -- a record as it is written
 abbrev pub record_text : ℕ → AccessUnit → List ℕ
@@ -47,7 +47,7 @@ record_text stream unit = stream ∷ (big_bytes 4 (length unit.bytes) ++ (big_by
 -- what a call answered of an input of these bytes, and what is left of them; memory is taken for no refused size
 abbrev pub ReadsRecord : List ℕ → Option (List ℕ) → Result (Option (ℕ × AccessUnit)) UnitFileError → Type 0
 ReadsRecord xs left (Ok None) = (record_at xs ≡ Ok None) × (left ≡ Some [])
-ReadsRecord xs left (Ok (Some entry)) = (record_at xs ≡ Ok (Some entry)) × (left ≡ Some (behind_record xs))
+ReadsRecord xs left (Ok (Some entry)) = (record_at xs ≡ Ok (Some entry)) × (left ≡ Some (after_record xs))
 ReadsRecord xs left (Err Cut) = record_at xs ≡ Err Cut
 ReadsRecord xs left (Err Size) = record_at xs ≡ Err Size
 ReadsRecord xs left (Err Device) = ⊤

@@ -81,7 +81,7 @@ enum Stop {
     OutOfMemory,
 }
 
-// The answer of a run that ended behind `index` records, when `sent` bytes are written.
+// The answer of a run that ended after `index` records, when `sent` bytes are written.
 fn answer(index: u64, stop: Option<Stop>, sent: u64) -> Result<u64, CarryError>
     ensures { result ≡ answer_of index stop sent }
 {

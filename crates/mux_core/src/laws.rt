@@ -6,7 +6,11 @@ ghost use Rattle.plan_timing.specs.Promised.{Promised};
 ghost use Rattle.mux_core.specs.Laws.{RecordsAreRead, FitsRecord, RunsAreWhole, PacketsJoin};
 ghost use Rattle.mux_core.specs.Headline.{HeadlineLaw, StandingLaw};
 ghost use Rattle.mux_core.specs.Measuring.{MeasuredLaw};
+ghost use Rattle.mux_core.specs.Driving.{WrittenStays, OrderIsFree};
+ghost use Rattle.mux_core.specs.Multiplexing.{RoomForAll};
 ghost use Rattle.mux_core.specs.TimingLaws.{UnitsArrive, TransportFits, MainFits, SystemFits, PcrsRecur, SectionsRecur, OfPlan, OfSwitch};
+
+pub use crate::driving::{Event, drive};
 
 /// A record that is written, whatever follows it, is read again, and what follows it is left.
 pub fn records_are_read()
@@ -109,4 +113,20 @@ pub fn headline()
 /// Of bytes that keep every promise, `tstd::measure` finds no late unit and no buffer over its size.
 pub fn measured()
     ensures { MeasuredLaw }
+{}
+
+/// What was written stays, whatever units and slots follow.
+pub fn written_stays()
+    ensures { WrittenStays }
+{}
+
+/// Two lists of events after which the units of each stream and the number of slots are the same give the same bytes.
+pub fn order_is_free()
+    ensures { OrderIsFree }
+{}
+
+/// A whole job takes room for as many units of a stream as it has. That room is enough: its units are refused just where
+/// 1,048,576 of each stream may wait.
+pub fn room_for_all()
+    ensures { RoomForAll }
 {}

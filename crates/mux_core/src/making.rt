@@ -19,7 +19,7 @@ use table_rounds::TableTurn;
 use unit_queue::{StreamRules, UnitQueue};
 
 /// The most units of a stream that may wait.
-const MOST_UNITS: usize = 1_048_576;
+pub(crate) const MOST_UNITS: usize = 1_048_576;
 
 impl<A: Allocator + Clone> Mux<A> {
     /// A multiplexer over a plan, in which each stream may have `capacity` units that are not sent whole, 1 to 1,048,576.

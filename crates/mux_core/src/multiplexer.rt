@@ -163,14 +163,14 @@ impl<A: Allocator> Mux<A> {
     }
 
     // The numbers of the description are in their ranges.
-    fn keeps_ranges(&self)
+    pub(crate) fn keeps_ranges(&self)
         ensures { IsInRange self.now.line.description }
     {
         self.line.keeps_ranges();
     }
 
     // The schedule keeps every promise of its description.
-    fn promises(&self)
+    pub(crate) fn promises(&self)
         ensures { Promised self.now.line.description self.now.line.schedule }
     {
         self.line.promises();

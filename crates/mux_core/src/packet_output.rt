@@ -72,7 +72,7 @@ impl<A: Allocator> PacketOutput<A> {
         if self.waiting.len() < PART {
             return Ok(());
         }
-        let result = write_behind(to, &self.waiting, self.sent);
+        let result = write_after(to, &self.waiting, self.sent);
         self.waiting.clear();
         match result {
             Ok(sent) => {
@@ -92,12 +92,12 @@ impl<A: Allocator> PacketOutput<A> {
         ensures clean { OnOk result (W.fault_count to.new ≡ W.fault_count to.old) }
         ensures fault { OnErr result (Failed (W.fault_count to.old) (W.fault_count to.new)) }
     {
-        write_behind(to, &self.waiting, self.sent)
+        write_after(to, &self.waiting, self.sent)
     }
 }
 
-// Appends bytes for which there is room.
-fn append<A: Allocator>(waiting: &mut Vec<u8, A>, bytes: &[u8])
+/// Appends bytes for which there is room.
+pub(crate) fn append<A: Allocator>(waiting: &mut Vec<u8, A>, bytes: &[u8])
     requires { vec_len waiting.old + length bytes.now ≤ vec_capacity waiting.old }
     ensures items { waiting.new.items ≡ waiting.old.items ++ bytes.now }
     ensures len { vec_len waiting.new ≡ vec_len waiting.old + length bytes.now }
@@ -131,8 +131,8 @@ fn append_leaving<A: Allocator>(waiting: &mut Vec<u8, A>, hex: bool, packet: &[u
     }
 }
 
-// Writes a part behind `sent` bytes, and counts on.
-fn write_behind<W: Sink>(to: &mut W, part: &[u8], sent: u64) -> Result<u64, OutputFault>
+// Writes a part after `sent` bytes, and counts on.
+fn write_after<W: Sink>(to: &mut W, part: &[u8], sent: u64) -> Result<u64, OutputFault>
     ensures ok { IfOk result (λ n. n ≡ byte_count (sent + length part.now)) }
     ensures bytes { OnOk result (Appends (W.contents to.old) (W.contents to.new) part.now) }
     ensures err { IfErr result (λ fault. TookPart (W.contents to.old) (W.contents to.new) part.now sent fault.sent) }

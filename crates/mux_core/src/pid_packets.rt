@@ -2,7 +2,6 @@
 //! own and cut into payloads of 184 bytes.
 
 ghost use Rattle.std.specs.Prelude.{◌≡◌, ◌≤◌, ◌<◌, ℕ, ◌+◌, ◌%◌, ◌++◌, true, false, List, Option, IsTrue, IfOk, IfErr, OnOk, OnErr, length, take, drop};
-ghost use Rattle.arrayvec.specs.ArrayVec.{array_vec_len};
 ghost use Rattle.ts_packet.specs.Device.{Failed};
 ghost use Rattle.pes_packet.specs.StreamIds.{fits_packet};
 ghost use Rattle.pes_packet.specs.Payloads.{pieces, piece_count};
@@ -11,6 +10,7 @@ ghost use Rattle.mux_core.specs.PidPackets.{payload_packets, unit_packets, unit_
 
 use crate::packet_output::{OutputFault, PacketOutput};
 use arrayvec::ArrayVec;
+use bit_fields::append;
 use pes_packet::{Unit, write_header};
 use std::alloc::Allocator;
 use ts_packet::{Sink, write_payload};
@@ -18,7 +18,7 @@ use ts_packet::{Sink, write_payload};
 // The most bytes that a packet carries.
 const PAYLOAD: usize = 184;
 
-// The continuity counter behind this one.
+// The continuity counter after this one.
 fn next_counter(counter: u8) -> u8
     requires { counter < 16 }
     ensures { result ≡ (counter + 1) % 16 }
@@ -26,7 +26,7 @@ fn next_counter(counter: u8) -> u8
     (counter + 1) & 0x0f
 }
 
-/// Writes the packets of a unit, of which the first has this continuity counter, and answers the counter behind the
+/// Writes the packets of a unit, of which the first has this continuity counter, and answers the counter after the
 /// last. Stamps are written as they are.
 pub(crate) fn push_unit<A: Allocator, B: Allocator, W: Sink>(
     packets: &mut PacketOutput<A>,
@@ -57,7 +57,7 @@ pub(crate) fn push_unit<A: Allocator, B: Allocator, W: Sink>(
     }
 }
 
-// The first payload of a PES packet, and the bytes behind it.
+// The first payload of a PES packet, and the bytes after it.
 fn first_payload<'a>(header: &ArrayVec<u8, 19>, bytes: &'a [u8]) -> (ArrayVec<u8, 184>, &'a [u8])
     requires { length header.now.items ≤ 19 }
     ensures first { result.0.items ≡ take 184 (header.now.items ++ bytes.now) }
@@ -71,16 +71,7 @@ fn first_payload<'a>(header: &ArrayVec<u8, 19>, bytes: &'a [u8]) -> (ArrayVec<u8
     (first, rest)
 }
 
-// Appends bytes for which there is room.
-fn append(payload: &mut ArrayVec<u8, 184>, bytes: &[u8])
-    requires { array_vec_len payload.old + length bytes.now ≤ 184 }
-    ensures items { payload.new.items ≡ payload.old.items ++ bytes.now }
-    ensures len { array_vec_len payload.new ≡ array_vec_len payload.old + length bytes.now }
-{
-    let _ = payload.try_extend_from_slice(bytes);
-}
-
-// Writes the packets of the payloads behind the first.
+// Writes the packets of the payloads after the first.
 fn push_rest<A: Allocator, W: Sink>(
     packets: &mut PacketOutput<A>,
     to: &mut W,
@@ -103,13 +94,13 @@ fn push_rest<A: Allocator, W: Sink>(
     let mut counter = counter;
     let mut rest = bytes;
     'payloads: while !rest.is_empty() {
-        let (payload, behind) = rest.split_at(rest.len().min(PAYLOAD));
+        let (payload, after) = rest.split_at(rest.len().min(PAYLOAD));
         match packets.push(to, &write_payload(pid, false, counter, payload)) {
             Ok(()) => {}
             Err(fault) => return Err(fault),
         }
         counter = next_counter(counter);
-        rest = behind;
+        rest = after;
     }
     Ok(counter)
 }

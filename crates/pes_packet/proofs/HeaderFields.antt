@@ -7,7 +7,7 @@ use Rattle.bit_fields.proofs.Binding.{bind_ok, guard_ok, chosen, ok_not_err}
 use Rattle.bit_fields.proofs.ByteLists.{IsBytes-tail, IsBytes-take, IsBytes-append_left, IsBytes-append_right}
 use Rattle.pes_packet.specs.StreamIds.{has_flags}
 use Rattle.pes_packet.specs.Reading.{stamps_at, is_bad_flags, is_too_short, data_at, flags_at, start_at, misses_prefix, header_at}
-use Rattle.pes_packet.specs.Syntax.{IsStamps, IsStart, IsFlags, IsBehind, IsPesHeader, stamp_flags}
+use Rattle.pes_packet.specs.Syntax.{IsStamps, IsStart, IsFlags, IsAfter, IsPesHeader, stamp_flags}
 use Rattle.pes_packet.specs.declared.refusal.PesError.{PesError}
 use Rattle.pes_packet.specs.declared.refusal.PesError.TheVariants.{Short, Prefix}
 use Rattle.pes_packet.specs.declared.time_stamps.Stamps.{Stamps}
@@ -52,17 +52,17 @@ flags_of first second size stamps hf hs hn two flags = record {
 }
 
 -- what was read after PES_packet_length
-pub record ReadsBehind (id len : ℕ) (bytes : List ℕ) (header : PesHeader) (size : ℕ) : Type 0 where
-  pub behind : List ℕ
+pub record ReadsAfter (id len : ℕ) (bytes : List ℕ) (header : PesHeader) (size : ℕ) : Type 0 where
+  pub after : List ℕ
   pub rest : List ℕ
-  pub is : bytes ≡ behind ++ rest
+  pub is : bytes ≡ after ++ rest
   pub id_is : header.id ≡ id
   pub len_is : header.len ≡ len
-  pub size_is : size ≡ 6 + length behind
-  pub stands : IsBehind (has_flags id) behind header
+  pub size_is : size ≡ 6 + length after
+  pub stands : IsAfter (has_flags id) after header
 
 flags_takes : (id len : ℕ) (bytes : List ℕ) (header : PesHeader) (size : ℕ) → IsBytes bytes → has_flags id ≡ true
-    → flags_at id len bytes ≡ Ok (header, size) → ReadsBehind id len bytes header size
+    → flags_at id len bytes ≡ Ok (header, size) → ReadsAfter id len bytes header size
 unfolding flags_at data_at
 flags_takes id len (first ∷ second ∷ count ∷ bytes) header size fits flagged read =
     let g = guard_ok _ _ _ _ read in
@@ -80,8 +80,8 @@ flags_takes id len (first ∷ second ∷ count ∷ bytes) header size fits flagg
     let flags : IsFlags (first ∷ second ∷ count ∷ []) b.0 (length s.text + length s.others) =
     subst (λ (x : ℕ). IsFlags (first ∷ second ∷ count ∷ []) b.0 x) (sym whole)
     (flags_of first second count b.0 (fits 0) (fits 1) (fits 2) (good_flags first second f.0) s.flags_are) in
-    subst (λ (x : PesHeader × ℕ). ReadsBehind id len (first ∷ second ∷ count ∷ bytes) x.0 x.1) is (record {
-      behind = (first ∷ second ∷ count ∷ []) ++ (s.text ++ s.others);
+    subst (λ (x : PesHeader × ℕ). ReadsAfter id len (first ∷ second ∷ count ∷ bytes) x.0 x.1) is (record {
+      after = (first ∷ second ∷ count ∷ []) ++ (s.text ++ s.others);
       rest = drop count bytes;
       is = ap (λ (t : List ℕ). first ∷ second ∷ count ∷ t) (sym (take-append-drop count bytes) ∙ ap (λ (t : List ℕ). t ++ drop count bytes) s.is);
       id_is = refl;
@@ -104,17 +104,17 @@ flags_takes id len [] header size fits flagged read = absurd cc
 flags_takes id len (first ∷ []) header size fits flagged read = absurd cc
 flags_takes id len (first ∷ second ∷ []) header size fits flagged read = absurd cc
 
-behind_takes : (id len : ℕ) (bytes : List ℕ) (header : PesHeader) (size : ℕ) → IsBytes bytes
+after_takes : (id len : ℕ) (bytes : List ℕ) (header : PesHeader) (size : ℕ) → IsBytes bytes
     → cond (has_flags id) (flags_at id len bytes) (Ok (record { id = id; len = len; stamps = Absent }, 6)) ≡ Ok (header, size)
-    → ReadsBehind id len bytes header size
-behind_takes id len bytes header size fits read =
+    → ReadsAfter id len bytes header size
+after_takes id len bytes header size fits read =
     elim (chosen (has_flags id) _ _ _ read) [
       | inl some ↦ flags_takes id len bytes header size fits some.0 some.1
       | inr none ↦
           let made : ◌≡◌ {A = Result (PesHeader × ℕ) PesError} (Ok (record { id = id; len = len; stamps = Absent }, 6)) (Ok (header, size)) = none.1 in
           let is : ◌≡◌ {A = PesHeader × ℕ} (record { id = id; len = len; stamps = Absent }, 6) (header, size) = cc (made) in
-          subst (λ (x : PesHeader × ℕ). ReadsBehind id len bytes x.0 x.1) is (record {
-            behind = [];
+          subst (λ (x : PesHeader × ℕ). ReadsAfter id len bytes x.0 x.1) is (record {
+            after = [];
             rest = bytes;
             is = refl;
             id_is = refl;
@@ -148,15 +148,15 @@ header_takes (p ∷ q ∷ r ∷ id ∷ high ∷ low ∷ bytes) header size fits 
     let g = guard_ok _ _ _ _ read in
     let e = prefix_is p q r (id ∷ high ∷ low ∷ bytes) g.0 in
     let more : IsBytes bytes = λ i. fits (suc (suc (suc (suc (suc (suc i)))))) in
-    let b = behind_takes id (high * 256 + low) bytes header size more g.1 in
+    let b = after_takes id (high * 256 + low) bytes header size more g.1 in
     record {
       start = p ∷ q ∷ r ∷ id ∷ high ∷ low ∷ [];
-      behind = b.behind;
+      after = b.after;
       rest = b.rest;
       is = ap (λ (t : List ℕ). p ∷ q ∷ r ∷ id ∷ high ∷ low ∷ t) b.is;
       size_is = b.size_is;
       start_stands = start_of p q r id high low header (fits 3) (fits 4) (fits 5) e.0 e.1 e.2 b.id_is b.len_is;
-      behind_stands = subst (λ (x : ℕ). IsBehind (has_flags x) b.behind header) (sym b.id_is) b.stands;
+      after_stands = subst (λ (x : ℕ). IsAfter (has_flags x) b.after header) (sym b.id_is) b.stands;
     }
 header_takes [] header size fits read = ok_not_err (header, size) Short (sym (guard_ok (misses_prefix []) Prefix (Err Short) (header, size) read).1)
 header_takes (p ∷ []) header size fits read = ok_not_err (header, size) Short (sym (guard_ok (misses_prefix (p ∷ [])) Prefix (Err Short) (header, size) read).1)
@@ -227,10 +227,10 @@ flagged_by header (first ∷ []) stamps others rest fits_flags fits stands stand
 flagged_by header (first ∷ second ∷ []) stamps others rest fits_flags fits stands stand counted = absurd (omega (arith, stands.len))
 flagged_by header (first ∷ second ∷ count ∷ more ∷ flags) stamps others rest fits_flags fits stands stand counted = absurd (omega (arith, stands.len))
 
-behind_by : (b : Bool) (header : PesHeader) (behind rest : List ℕ) → IsBytes behind → IsBehind b behind header
-    → cond b (flags_at header.id header.len (behind ++ rest)) (Ok (record { id = header.id; len = header.len; stamps = Absent }, 6))
-    ≡ Ok (header, 6 + length behind)
-behind_by true header behind rest fits stands =
+after_by : (b : Bool) (header : PesHeader) (after rest : List ℕ) → IsBytes after → IsAfter b after header
+    → cond b (flags_at header.id header.len (after ++ rest)) (Ok (record { id = header.id; len = header.len; stamps = Absent }, 6))
+    ≡ Ok (header, 6 + length after)
+after_by true header after rest fits stands =
     let whole : IsBytes (stands.flags ++ (stands.stamps ++ stands.others)) = subst IsBytes stands.is fits in
     let later : IsBytes (stands.stamps ++ stands.others) = IsBytes-append_right stands.flags (stands.stamps ++ stands.others) whole in
     let counted : (header.len ≡ 0) ⊎ (length (stands.flags ++ (stands.stamps ++ stands.others)) ≤ header.len) =
@@ -239,39 +239,39 @@ behind_by true header behind rest fits stands =
     (flagged_by header stands.flags stands.stamps stands.others rest
     (IsBytes-append_left stands.flags (stands.stamps ++ stands.others) whole) (IsBytes-append_left stands.stamps stands.others later)
     stands.flags_stand stands.stamps_stand counted)
-behind_by false header behind rest fits stands =
+after_by false header after rest fits stands =
     let whole : ◌≡◌ {A = PesHeader} (record { id = header.id; len = header.len; stamps = Absent }) header = rw (sym stands.1) refl in
-    let size : 6 ≡ 6 + length behind = sym (ap (λ (t : List ℕ). 6 + length t) stands.0) in
+    let size : 6 ≡ 6 + length after = sym (ap (λ (t : List ℕ). 6 + length t) stands.0) in
     ap (λ (h : PesHeader). Ok (h, 6)) whole ∙ ap (λ (n : ℕ). Ok (header, n)) size
 
 -- what stands after PES_packet_length is read
-behind_again : (header : PesHeader) (behind rest : List ℕ) → IsBytes behind → IsBehind (has_flags header.id) behind header
-    → cond (has_flags header.id) (flags_at header.id header.len (behind ++ rest)) (Ok (record { id = header.id; len = header.len; stamps = Absent }, 6))
-    ≡ Ok (header, 6 + length behind)
-behind_again header behind rest fits stands = behind_by (has_flags header.id) header behind rest fits stands
+after_again : (header : PesHeader) (after rest : List ℕ) → IsBytes after → IsAfter (has_flags header.id) after header
+    → cond (has_flags header.id) (flags_at header.id header.len (after ++ rest)) (Ok (record { id = header.id; len = header.len; stamps = Absent }, 6))
+    ≡ Ok (header, 6 + length after)
+after_again header after rest fits stands = after_by (has_flags header.id) header after rest fits stands
 
 prefix_again : (more : List ℕ) → misses_prefix (0 ∷ 0 ∷ 1 ∷ more) ≡ false
 prefix_again more = refl
 
-start_again : (header : PesHeader) (start behind rest : List ℕ) → IsBytes start → IsBytes behind → IsStart start header
-    → IsBehind (has_flags header.id) behind header → header_at (start ++ (behind ++ rest)) ≡ Ok (header, length start + length behind)
+start_again : (header : PesHeader) (start after rest : List ℕ) → IsBytes start → IsBytes after → IsStart start header
+    → IsAfter (has_flags header.id) after header → header_at (start ++ (after ++ rest)) ≡ Ok (header, length start + length after)
 unfolding header_at start_at
-start_again header (p ∷ q ∷ r ∷ id ∷ high ∷ low ∷ []) behind rest fits fits_behind stands behind_stands =
+start_again header (p ∷ q ∷ r ∷ id ∷ high ∷ low ∷ []) after rest fits fits_after stands after_stands =
     let n = start_numbers p q r id high low header (fits 0) (fits 1) (fits 2) (fits 3) (fits 4) (fits 5) stands.spelled stands.id stands.packet_length in
-    rw (n.0, n.1, n.2, n.3, n.4) (behind_again header behind rest fits_behind behind_stands)
-start_again header [] behind rest fits fits_behind stands behind_stands = absurd (omega (arith, stands.len))
-start_again header (p ∷ []) behind rest fits fits_behind stands behind_stands = absurd (omega (arith, stands.len))
-start_again header (p ∷ q ∷ []) behind rest fits fits_behind stands behind_stands = absurd (omega (arith, stands.len))
-start_again header (p ∷ q ∷ r ∷ []) behind rest fits fits_behind stands behind_stands = absurd (omega (arith, stands.len))
-start_again header (p ∷ q ∷ r ∷ id ∷ []) behind rest fits fits_behind stands behind_stands = absurd (omega (arith, stands.len))
-start_again header (p ∷ q ∷ r ∷ id ∷ high ∷ []) behind rest fits fits_behind stands behind_stands = absurd (omega (arith, stands.len))
-start_again header (p ∷ q ∷ r ∷ id ∷ high ∷ low ∷ more ∷ start) behind rest fits fits_behind stands behind_stands = absurd (omega (arith, stands.len))
+    rw (n.0, n.1, n.2, n.3, n.4) (after_again header after rest fits_after after_stands)
+start_again header [] after rest fits fits_after stands after_stands = absurd (omega (arith, stands.len))
+start_again header (p ∷ []) after rest fits fits_after stands after_stands = absurd (omega (arith, stands.len))
+start_again header (p ∷ q ∷ []) after rest fits fits_after stands after_stands = absurd (omega (arith, stands.len))
+start_again header (p ∷ q ∷ r ∷ []) after rest fits fits_after stands after_stands = absurd (omega (arith, stands.len))
+start_again header (p ∷ q ∷ r ∷ id ∷ []) after rest fits fits_after stands after_stands = absurd (omega (arith, stands.len))
+start_again header (p ∷ q ∷ r ∷ id ∷ high ∷ []) after rest fits fits_after stands after_stands = absurd (omega (arith, stands.len))
+start_again header (p ∷ q ∷ r ∷ id ∷ high ∷ low ∷ more ∷ start) after rest fits fits_after stands after_stands = absurd (omega (arith, stands.len))
 
 -- a header that stands by the table of fields is read, whatever follows it
-pub header_again : (bytes : List ℕ) (header : PesHeader) (size : ℕ) (h : IsPesHeader bytes header size) → IsBytes h.start → IsBytes h.behind
+pub header_again : (bytes : List ℕ) (header : PesHeader) (size : ℕ) (h : IsPesHeader bytes header size) → IsBytes h.start → IsBytes h.after
     → header_at bytes ≡ Ok (header, size)
-header_again bytes header size h fits_start fits_behind =
-    rw (h.is, h.size_is) (start_again header h.start h.behind h.rest fits_start fits_behind h.start_stands h.behind_stands)
+header_again bytes header size h fits_start fits_after =
+    rw (h.is, h.size_is) (start_again header h.start h.after h.rest fits_start fits_after h.start_stands h.after_stands)
 
 -- what an answer of the reading function tells
 pub is_found : (bytes : List ℕ) (r : Result (PesHeader × ℕ) PesError) → IsBytes bytes → r ≡ header_at bytes
@@ -282,7 +282,7 @@ is_found bytes (Err refusal) fits e = tt
 -- a header that stands in bytes is read
 pub header_is_read : (bytes : List ℕ) (header : PesHeader) (size : ℕ) → IsBytes bytes → IsPesHeader bytes header size → header_at bytes ≡ Ok (header, size)
 header_is_read bytes header size fits h =
-    let whole : IsBytes (h.start ++ (h.behind ++ h.rest)) = subst IsBytes h.is fits in
+    let whole : IsBytes (h.start ++ (h.after ++ h.rest)) = subst IsBytes h.is fits in
     header_again bytes header size h
-    (IsBytes-append_left h.start (h.behind ++ h.rest) whole)
-    (IsBytes-append_left h.behind h.rest (IsBytes-append_right h.start (h.behind ++ h.rest) whole))
+    (IsBytes-append_left h.start (h.after ++ h.rest) whole)
+    (IsBytes-append_left h.after h.rest (IsBytes-append_right h.start (h.after ++ h.rest) whole))

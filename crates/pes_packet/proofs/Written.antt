@@ -106,7 +106,7 @@ start_length id len = refl
 pub record Stands (bytes : List ℕ) (header : PesHeader) (size : ℕ) : Type 0 where
   pub is : IsPesHeader bytes header size
   pub start_bytes : IsBytes is.start
-  pub behind_bytes : IsBytes is.behind
+  pub after_bytes : IsBytes is.after
 
 -- flag bytes
 flags_stand : (second n : ℕ) (stamps : Stamps) → second < 256 → n < 256 → stamp_flags stamps * 64 ≡ second → IsFlags (0x80 ∷ second ∷ n ∷ []) stamps n
@@ -127,12 +127,12 @@ unfolding pts_header start_text stamp_text
 pts_stands id size pts rest hi flagged hp = record {
   is = record {
     start = start_text id (packet_length (8 + size));
-    behind = (0x80 ∷ 0x80 ∷ 5 ∷ []) ++ stamp_text 2 pts;
+    after = (0x80 ∷ 0x80 ∷ 5 ∷ []) ++ stamp_text 2 pts;
     rest = rest;
     is = refl;
     size_is = refl;
     start_stands = start_stands id (packet_length (8 + size)) _ hi (packet_length_fits (8 + size)) refl refl;
-    behind_stands = rw flagged (record {
+    after_stands = rw flagged (record {
       flags = 0x80 ∷ 0x80 ∷ 5 ∷ [];
       stamps = stamp_text 2 pts;
       others = [];
@@ -143,7 +143,7 @@ pts_stands id size pts rest hi flagged hp = record {
     });
   };
   start_bytes = start_bytes id (packet_length (8 + size)) hi (packet_length_fits (8 + size));
-  behind_bytes = IsBytes-append (0x80 ∷ 0x80 ∷ 5 ∷ []) (stamp_text 2 pts) (three_bytes 0x80 0x80 5 (omega arith) (omega arith) (omega arith)) (stamp_bytes 2 pts (omega arith) hp);
+  after_bytes = IsBytes-append (0x80 ∷ 0x80 ∷ 5 ∷ []) (stamp_text 2 pts) (three_bytes 0x80 0x80 5 (omega arith) (omega arith) (omega arith)) (stamp_bytes 2 pts (omega arith) hp);
 }
 
 -- a header with a PTS and a DTS
@@ -153,12 +153,12 @@ unfolding pts_dts_header start_text stamp_text
 pts_dts_stands id size pts dts rest hi flagged hp hd = record {
   is = record {
     start = start_text id (packet_length (13 + size));
-    behind = (0x80 ∷ 0xC0 ∷ 10 ∷ []) ++ (stamp_text 3 pts ++ stamp_text 1 dts);
+    after = (0x80 ∷ 0xC0 ∷ 10 ∷ []) ++ (stamp_text 3 pts ++ stamp_text 1 dts);
     rest = rest;
     is = refl;
     size_is = refl;
     start_stands = start_stands id (packet_length (13 + size)) _ hi (packet_length_fits (13 + size)) refl refl;
-    behind_stands = rw flagged (record {
+    after_stands = rw flagged (record {
       flags = 0x80 ∷ 0xC0 ∷ 10 ∷ [];
       stamps = stamp_text 3 pts ++ stamp_text 1 dts;
       others = [];
@@ -175,7 +175,7 @@ pts_dts_stands id size pts dts rest hi flagged hp hd = record {
     });
   };
   start_bytes = start_bytes id (packet_length (13 + size)) hi (packet_length_fits (13 + size));
-  behind_bytes = IsBytes-append (0x80 ∷ 0xC0 ∷ 10 ∷ []) (stamp_text 3 pts ++ stamp_text 1 dts)
+  after_bytes = IsBytes-append (0x80 ∷ 0xC0 ∷ 10 ∷ []) (stamp_text 3 pts ++ stamp_text 1 dts)
       (three_bytes 0x80 0xC0 10 (omega arith) (omega arith) (omega arith))
       (IsBytes-append (stamp_text 3 pts) (stamp_text 1 dts) (stamp_bytes 3 pts (omega arith) hp) (stamp_bytes 1 dts (omega arith) hd));
 }
@@ -206,7 +206,7 @@ written_is_header id size pts dts rest fits = (written_stands id size pts dts re
 pub written_is_read : WrittenIsRead
 written_is_read id size pts dts rest fits =
     let s = written_stands id size pts dts rest fits in
-    header_again (header_text id size pts dts ++ rest) (written_header id size pts dts) (length (header_text id size pts dts)) s.is s.start_bytes s.behind_bytes
+    header_again (header_text id size pts dts ++ rest) (written_header id size pts dts) (length (header_text id size pts dts)) s.is s.start_bytes s.after_bytes
 
 sizes : (b : Bool) (id size p d : ℕ) → length (cond b (pts_header id size p) (pts_dts_header id size p d)) ≡ cond b 14 19
 unfolding pts_header pts_dts_header start_text stamp_text

@@ -62,16 +62,16 @@ pub record IsFlagged (text : List ℕ) (header : PesHeader) : Type 0 where
   pub counted : (header.len ≡ 0) ⊎ (length text ≤ header.len)
 
 -- what stands after PES_packet_length, by whether the stream_id has flag bytes
-abbrev pub IsBehind : Bool → List ℕ → PesHeader → Type 0
-IsBehind true text header = IsFlagged text header
-IsBehind false text header = (text ≡ []) × (header.stamps ≡ Absent)
+abbrev pub IsAfter : Bool → List ℕ → PesHeader → Type 0
+IsAfter true text header = IsFlagged text header
+IsAfter false text header = (text ≡ []) × (header.stamps ≡ Absent)
 
 -- the bytes begin with this header, of this size in bytes
 pub record IsPesHeader (bytes : List ℕ) (header : PesHeader) (size : ℕ) : Type 0 where
   pub start : List ℕ
-  pub behind : List ℕ
+  pub after : List ℕ
   pub rest : List ℕ
-  pub is : bytes ≡ start ++ (behind ++ rest)
-  pub size_is : size ≡ length start + length behind
+  pub is : bytes ≡ start ++ (after ++ rest)
+  pub size_is : size ≡ length start + length after
   pub start_stands : IsStart start header
-  pub behind_stands : IsBehind (has_flags header.id) behind header
+  pub after_stands : IsAfter (has_flags header.id) after header

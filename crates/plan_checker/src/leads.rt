@@ -31,7 +31,7 @@ pub fn pieces_of_unit(stream: &Stream) -> u64
 
 /// The most packets of so many units in a row, at most a group.
 pub fn packets_of_units(stream: &Stream, units: u8) -> u64
-    requires { IsStream stream.now }
+    requires ranges { IsStream stream.now }
     ensures packets { result ≡ packets_in_row (declaration stream.now) units }
     ensures few { result ≤ stream.now.group_packets }
 {

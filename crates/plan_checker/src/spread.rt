@@ -1,6 +1,6 @@
 //! The spread of an item's own slots.
 
-ghost use Rattle.std.specs.Prelude.{◌≡◌, ◌<◌, ◌≤◌, length};
+ghost use Rattle.std.specs.Prelude.{◌≡◌, ◌+◌, ◌*◌, ◌≤◌, length};
 ghost use Rattle.own_slots.specs.Period.{per_period};
 ghost use Rattle.own_slots.specs.Spread.{spread};
 ghost use Rattle.slot_plan.specs.Items.{marks};
@@ -9,13 +9,16 @@ use crate::counting::own_count;
 use slot_plan::{Item, Slot};
 
 /// How far the own slots stray from even spacing, in slots times own slots a period: the greatest difference of two
-/// own slots, found in one walk as that of the two extremes.
+/// own slots, found in one walk as that of the two extremes; 0 where there is none.
 pub fn spread_of(slots: &[Slot], item: Item) -> u64
-    requires some { 0 < per_period (marks item slots.now) }
     requires short { length slots.now ≤ 65536 }
-    ensures { result ≡ spread (marks item slots.now) }
+    ensures spread { result ≡ spread (marks item slots.now) }
+    ensures few { result ≤ 2 * 65536 * 65536 }
 {
     let count = own_count(slots, item);
+    if count == 0 {
+        return 0;
+    }
     let period = slots.len() as u64;
     let mut number = 0;
     let mut highest = 0;

@@ -42,7 +42,7 @@ pub fn waiting_units(stream: &Stream) -> u64
 
 /// The slots in which the packets of these units come.
 pub fn waiting_slots(description: &Description, stream: &Stream) -> u64
-    requires { IsStream stream.now }
+    requires ranges { IsStream stream.now }
     ensures slots { result ≡ waiting_slots description.now.rate (declaration stream.now) }
     ensures some { 0 < result }
     ensures few { result ≤ 2 ^ 32 }
@@ -52,8 +52,8 @@ pub fn waiting_slots(description: &Description, stream: &Stream) -> u64
 
 /// The bytes that can wait at once: by the sizes of the units, or by their packets.
 pub fn bytes_by_units(stream: &Stream) -> u64
-    requires { IsStream stream.now }
-    ensures { result ≡ bytes_by_units (declaration stream.now) }
+    requires ranges { IsStream stream.now }
+    ensures bytes { result ≡ bytes_by_units (declaration stream.now) }
 {
     let units = waiting_units(stream);
     (units * (19 + stream.size as u64)).min(184 * grouped_packets(stream, units))

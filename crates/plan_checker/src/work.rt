@@ -1,6 +1,6 @@
 //! The work of a buffer that an item's own slots fill.
 
-ghost use Rattle.std.specs.Prelude.{◌≡◌, ◌^◌, ◌<◌, ◌≤◌, length};
+ghost use Rattle.std.specs.Prelude.{◌≡◌, ◌+◌, ◌*◌, ◌^◌, ◌<◌, ◌≤◌, length};
 ghost use Rattle.own_slots.specs.Work.{most_before, most_after, work_left};
 ghost use Rattle.slot_plan.specs.Items.{marks};
 
@@ -26,6 +26,8 @@ pub fn work_of(slots: &[Slot], item: Item, rate: u64, drain: u64, start: u64) ->
     requires start { start < 10 ^ 18 }
     ensures before { result.most_before ≡ most_before rate drain start (marks item slots.now) }
     ensures after { result.most_after ≡ most_after rate drain start (marks item slots.now) }
+    ensures few_after { result.most_after ≤ start + length slots.now * (188 * rate) }
+    ensures few_left { result.left ≤ start + length slots.now * (188 * rate) }
     ensures left { result.left ≡ work_left rate drain start (marks item slots.now) }
 {
     let packet = 188 * rate;

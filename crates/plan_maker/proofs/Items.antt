@@ -7,7 +7,7 @@ use Rattle.slot_plan.specs.Numbered.{numbered}
 use Rattle.slot_plan.proofs.Numbering.{numbered-more}
 
 module _ {A B : Type 0} (f : ℕ → A → B) (xs : List A) where
-  -- of element number i, behind those before it
+  -- of element number i, after those before it
   pub pushed : (before now : List B) (i : ℕ) (x : A) → i < length xs → x ≡ get_or xs i x →
       now ≡ before ++ numbered (λ j y. f j y ∷ []) 0 (take i xs) → now ++ f i x ∷ [] ≡ before ++ numbered (λ j y. f j y ∷ []) 0 (take (i + 1) xs)
   pushed before now i x lt is e =

@@ -4,4 +4,7 @@ pub mod Items
 pub mod Order
 pub mod FewSlots
 pub mod Fitting
+pub mod Owning
+pub mod Sharing
+pub mod Loading
 pub mod Refusing

@@ -1,53 +1,54 @@
 -- Where a description has a reason, no plan serves it.
-use Rattle.std.proofs.Common.{◌≡◌, ℕ, zero, suc, ◌+◌, ◌*◌, ◌%◌, ◌<◌, ◌≤◌, Bool, true, false, List, [], ◌∷◌, length, get_or, nat_lt, refl, ap, ◌∙◌, inl, inr, arith, add-one}
-use Rattle.std.proofs.Math.Nat.{mul-le-mul_left, mod-eq_of_lt}
+use Rattle.std.proofs.Common.{◌≡◌, ℕ, zero, suc, ◌+◌, ◌-◌, ◌*◌, ◌/◌, ◌%◌, ◌<◌, ◌≤◌, max, Bool, true, false, List, [], ◌∷◌, Some, length, get_or, nat_lt, nat_le, refl, ap, ◌∙◌, inl, inr, arith, add-one}
+use Rattle.std.specs.Prelude.{slice_get}
+use Rattle.std.proofs.Math.Nat.{mul-le-mul_left, le_of_mul-le-mul_right, mod-eq_of_lt}
+use Rattle.std.proofs.lemmas.Nat.{le-div}
 use Rattle.std.proofs.lemmas.Bool.{cases_Bool, cases_lt}
 use Rattle.std.proofs.lemmas.Bool.Decides.{nat_tests}
+use Rattle.std.proofs.lemmas.Option.{slice_get_within}
 use Rattle.clock27.specs.Release.{slot_units}
 use Rattle.clock27.specs.Units.{slot_milliseconds}
-use Rattle.unit_timing.specs.Buffers.{tb_size}
-use Rattle.unit_timing.specs.Conditions.{rate_needed, rate_given}
 use Rattle.own_slots.specs.Slots.{own_before}
 use Rattle.own_slots.specs.Period.{own, per_period}
 use Rattle.own_slots.specs.Gaps.{gap}
-use Rattle.own_slots.specs.Work.{work_at, work_left, most_before, most_after}
+use Rattle.own_slots.specs.Work.{work_at, work_left}
 use Rattle.own_slots.proofs.Gapping.{gap_law}
+use Rattle.own_slots.proofs.Greatest.{greatest_at_most}
 use Rattle.own_slots.proofs.Counting.{own_before_own, own_before_other}
-use Rattle.own_slots.proofs.Placing.{own_before_period}
+use Rattle.own_slots.proofs.Placing.{own_before_period, per_period_le}
 use Rattle.own_slots.proofs.Working.{work_more, work_begin}
+use Rattle.unit_timing.specs.Conditions.{StreamHolds, packets_in_row, waiting_slots}
 use Rattle.description.specs.Described.{Described, DescribedProgram, DescribedStream}
 use Rattle.description.specs.Tables.{table_kinds, table_count, table_limit, round_places}
 use Rattle.slot_plan.specs.declared.slot.Item.TheVariants.{Stream, Pcr, Table}
 use Rattle.slot_plan.specs.Numbered.{numbered}
 use Rattle.slot_plan.specs.Planned.{Planned}
 use Rattle.slot_plan.specs.Items.{marks}
-use Rattle.slot_plan.specs.declared.condition.Condition.TheVariants.{PcrGap, TableGap, StreamRate, TransportBuffer}
-use Rattle.slot_plan.specs.Entries.{at_most}
-use Rattle.slot_plan.specs.Claims.{declaration, stream_claim, stream_share}
-use Rattle.slot_plan.specs.Conditions.{IsServing, pcr_gap_entry, table_gap_entry, stream_rate_entry, stream_buffer_entries}
-use Rattle.slot_plan.proofs.Holding.{holds_at, holds_item, holds_first, at_most_holds}
-use Rattle.slot_plan.proofs.Serving.{serves}
-use Rattle.plan_checker.proofs.Marking.{length_marks}
+use Rattle.slot_plan.specs.Claims.{declaration}
+use Rattle.slot_plan.specs.Conditions.{IsServing}
+use Rattle.slot_plan.proofs.Serving.{Serves, serves}
+use Rattle.plan_timing.proofs.Single.{length_marks, claim_of, stream_holds, pcr_gap_holds, table_gap_holds}
 use Rattle.plan_maker.specs.declared.reasoning.Reason.{Reason}
-use Rattle.plan_maker.specs.Reasons.{pcr_reason, table_reason, drain_reason, pcr_reasons, table_reasons, drain_reasons, ReasonLaw}
+use Rattle.plan_maker.specs.Loads.{all_slots, stream_load, recurring_load, streams_load, pcrs_load, tables_load, load}
+use Rattle.plan_maker.specs.Reasons.{units_lead, least_lead, least_main, pcr_reason, table_reason, drain_reason, lead_reason, main_reason, stream_reason, load_reason, pcr_reasons, table_reasons, stream_reasons, ReasonLaw}
+use Rattle.plan_maker.proofs.Owning.{sum_from, owned, each_at_most, all_owned}
+use Rattle.plan_maker.proofs.Sharing.{recurs, least_peak, recurring_kept, stream_kept, window_kept, ceil_at_most, lead_kept}
 
 -- ---- lists of reasons
 
-no_parts : {A : Type 0} (part : ℕ → A → List Reason) (k : ℕ) (xs : List A) → ((i : ℕ) (d : A) → i < length xs → part (k + i) (get_or xs i d) ≡ []) → numbered part k xs ≡ []
+no_parts : {A : Type 0} (part : ℕ → A → List Reason) (k : ℕ) (xs : List A) → ((i : ℕ) (x : A) → slice_get xs i ≡ Some x → part (k + i) x ≡ []) → numbered part k xs ≡ []
 no_parts part k [] none = refl
 no_parts part k (x ∷ xs) none =
-    let first : part k x ≡ [] = ap (λ (j : ℕ). part j x) (none_before k) ∙ none 0 x (omega arith) in
-    let rest : numbered part (suc k) xs ≡ [] = no_parts part (suc k) xs (λ i d lt. ap (λ (j : ℕ). part j (get_or xs i d)) (one_more k i) ∙ none (suc i) d (omega (arith, lt))) in
+    let here : k + 0 ≡ k = omega arith in
+    let first : part k x ≡ [] = rw here at (none 0 x refl) in
+    let rest : numbered part (suc k) xs ≡ [] = no_parts part (suc k) xs (λ i y is. let e : suc k + i ≡ k + suc i = omega arith in rw e (none (suc i) y is)) in
     rw (first, rest) refl
-  where
-    none_before : (k : ℕ) → k ≡ k + 0
-    none_before k = omega arith
-
-    one_more : (k i : ℕ) → suc k + i ≡ k + suc i
-    one_more k i = omega arith
 
 not_less : (a b : ℕ) → b ≤ a → nat_lt a b ≡ false
 not_less a b le = grind (arith, nat_tests)
+
+at_most : (a b : ℕ) → a ≤ b → nat_le a b ≡ true
+at_most a b le = grind (arith, nat_tests)
 
 -- ---- gaps
 
@@ -95,60 +96,131 @@ drains rate drain start marks le =
     scaled : (c n rate drain start left : ℕ) → start + c * (188 * rate) ≤ left + n * (188 * drain) → left ≤ start → c * rate ≤ n * drain
     scaled c n rate drain start left all le = omega (arith, all, le)
 
--- ---- each reason
+-- ---- what recurs
 
-module _ (d : Described) (p : Planned) (serving : IsServing d p) where
-  pcr_kept : (i : ℕ) (x : DescribedProgram) → i < length d.programs → pcr_reason d (0 + i) (get_or d.programs i x) ≡ []
-  pcr_kept i x lt =
-      let s = serves d p serving in
-      let pos = s.shape.programs_own i lt in
-      let program = get_or d.programs i x in
-      let e : 0 + i ≡ i = omega arith in
-      let held = rw e at (holds_at (λ i program. pcr_gap_entry d p i program ∷ []) 0 d.programs i x s.pcr_gaps lt) in
-      let le : gap (marks (Pcr i) p.slots) 1 * 1504000 ≤ program.pcr_limit * d.rate = at_most_holds PcrGap 0 i (gap (marks (Pcr i) p.slots) 1 * slot_milliseconds) (program.pcr_limit * d.rate) held in
-      let least : 1 ≤ gap (marks (Pcr i) p.slots) 1 = least_gap (marks (Pcr i) p.slots) 1 pos in
-      rw (not_less (program.pcr_limit * d.rate) 1504000 (omega (arith, le, least))) refl
+module _ (d : Described) (p : Planned) (k : Serves d p) where
+  pcr_kept : (i : ℕ) (x : DescribedProgram) → slice_get d.programs i ≡ Some x → i < length d.programs → pcr_reason d i x ≡ []
+  pcr_kept i x is lt =
+      let le = pcr_gap_holds d p i x k is in
+      let least : 1 ≤ gap (marks (Pcr i) p.slots) 1 = least_gap (marks (Pcr i) p.slots) 1 (k.shape.programs_own i lt) in
+      rw (not_less (x.pcr_limit * d.rate) 1504000 (omega (arith, le, least))) refl
 
   table_kept : (t : ℕ) → t < table_count d → table_reason d t ≡ []
   table_kept t lt =
-      let s = serves d p serving in
-      let pos = s.shape.tables_own t lt in
-      let held = holds_item (λ j. table_gap_entry d p j ∷ []) (table_kinds d) t s.table_gaps lt in
-      let le : gap (marks (Table t) p.slots) (round_places d t) * 1504000 ≤ table_limit d t * d.rate = at_most_holds TableGap 0 t (gap (marks (Table t) p.slots) (round_places d t) * slot_milliseconds) (table_limit d t * d.rate) held in
-      let least : round_places d t ≤ gap (marks (Table t) p.slots) (round_places d t) = least_gap (marks (Table t) p.slots) (round_places d t) pos in
+      let le = table_gap_holds d p t k lt in
+      let least : round_places d t ≤ gap (marks (Table t) p.slots) (round_places d t) = least_gap (marks (Table t) p.slots) (round_places d t) (k.shape.tables_own t lt) in
       rw (not_less (table_limit d t * d.rate) (round_places d t * 1504000) (omega (arith, le, least))) refl
 
-  drain_kept : (i : ℕ) (x : DescribedStream) → i < length d.streams → drain_reason (0 + i) (get_or d.streams i x) ≡ []
-  drain_kept i x lt =
-      let s = serves d p serving in
-      let stream = get_or d.streams i x in
-      let own = marks (Stream i) p.slots in
-      let claim = stream_claim p i in
-      let e : 0 + i ≡ i = omega arith in
-      let rates = rw e at (holds_at (λ i s. stream_rate_entry d p i s ∷ []) 0 d.streams i x s.rates lt) in
-      let le : stream.group_packets * length p.slots * slot_units ≤ per_period own * stream.group * stream.interval * d.rate = at_most_holds StreamRate 0 i (rate_needed (declaration stream) (stream_share p i)) (rate_given d.rate (declaration stream) (stream_share p i)) rates in
-      let buffers = rw e at (holds_at (stream_buffer_entries d p) 0 d.streams i x s.stream_buffers lt) in
-      let first = at_most TransportBuffer 1 i (most_before d.rate stream.rx claim.start own) (tb_size * d.rate) in
-      let second = at_most TransportBuffer 2 i (most_after d.rate stream.rx claim.start own) claim.peak in
-      let third = at_most TransportBuffer 3 i (work_left d.rate stream.rx claim.start own) claim.start in
-      let last = (holds_first second (third ∷ []) ((holds_first first (second ∷ third ∷ []) buffers).1)).1 in
-      let carries : work_left d.rate stream.rx claim.start own ≤ claim.start = at_most_holds TransportBuffer 3 i (work_left d.rate stream.rx claim.start own) claim.start last in
-      let pace : per_period own * d.rate ≤ length p.slots * stream.rx = rw (length_marks (Stream i) p.slots) at (drains d.rate stream.rx claim.start own carries) in
-      rw (not_less (stream.group * stream.interval * stream.rx) (stream.group_packets * slot_units)
-      (divided (length p.slots) stream.group_packets (per_period own) (stream.group * stream.interval) d.rate stream.rx s.shape.some_slots (regroup (stream.group_packets * length p.slots * slot_units) (per_period own) stream.group stream.interval d.rate le) pace)) refl
-    where
-      regroup : (m c g t r : ℕ) → m ≤ c * g * t * r → m ≤ c * (g * t) * r
-      regroup m c g t r h = let same : c * g * t ≡ c * (g * t) = grind arith in omega (arith, h, ap (λ (n : ℕ). n * r) same)
+-- ---- streams
 
+module _ (d : Described) (p : Planned) (i : ℕ) (s : DescribedStream) (holds : StreamHolds d.rate (declaration s) (claim_of p i) (marks (Stream i) p.slots)) where
+  own_marks : List Bool
+  own_marks = marks (Stream i) p.slots
+
+  some_slots : 0 < length (marks (Stream i) p.slots)
+  some_slots = omega (arith, holds.owned, per_period_le (marks (Stream i) p.slots))
+
+  -- the transport buffer is drained as fast as the own slots come
+  pace : per_period (marks (Stream i) p.slots) * d.rate ≤ length (marks (Stream i) p.slots) * s.rx
+  pace = drains d.rate s.rx (claim_of p i).start (marks (Stream i) p.slots) holds.work.carries
+
+  -- the own slots are enough for the groups
+  enough : s.group_packets * slot_units * length (marks (Stream i) p.slots) ≤ per_period (marks (Stream i) p.slots) * (s.group * s.interval * d.rate)
+  enough = omega (arith, holds.rate_serves)
+
+  drain_kept : (j : ℕ) → drain_reason j s ≡ []
+  drain_kept j = rw (not_less (s.group * s.interval * s.rx) (s.group_packets * slot_units)
+      (divided (length (marks (Stream i) p.slots)) s.group_packets (per_period (marks (Stream i) p.slots)) (s.group * s.interval) d.rate s.rx some_slots (omega (arith, enough)) pace)) refl
+    where
       divided : (n m c t r x : ℕ) → 1 ≤ n → m * n * slot_units ≤ c * t * r → c * r ≤ n * x → m * slot_units ≤ t * x
       divided n m c t r x some rate pace = elim (cases_lt (t * x) (m * slot_units)) [
         | inl less ↦ absurd (let a = mul-le-mul_left t pace in let b = mul-le-mul_left n less in omega (arith, rate, a, b, some))
         | inr le ↦ le
       ]
 
+  units_kept : (m : ℕ) → 0 < m → m ≤ s.group → units_lead d s m ≤ s.lead
+  units_kept m some group =
+      let peak = least_peak d.rate s.rx (claim_of p i).start (marks (Stream i) p.slots) holds.owned in
+      let needed = lead_kept (per_period (marks (Stream i) p.slots)) (length (marks (Stream i) p.slots)) d.rate s.rx (packets_in_row (declaration s) m)
+      (claim_of p i).spread (claim_of p i).peak (s.lead + (m - 1) * s.interval)
+      holds.owned (per_period_le (marks (Stream i) p.slots)) pace (omega (arith, peak, holds.work.peaks)) (holds.lead_serves m some group) in
+      omega (arith, ceil_at_most ((packets_in_row (declaration s) m * max d.rate s.rx + s.rx + d.rate) * slot_units) (d.rate * s.rx) (s.lead + (m - 1) * s.interval) needed)
+
+  lead_reason_kept : (j : ℕ) → lead_reason d j s ≡ []
+  lead_reason_kept j =
+      let most : least_lead d s ≤ s.lead = greatest_at_most s.group (λ before. units_lead d s (before + 1)) s.lead (λ before lt. units_kept (before + 1) (omega arith) (omega (arith, lt))) in
+      rw (not_less s.lead (least_lead d s) most) refl
+
+  main_kept : (j : ℕ) → main_reason d j s ≡ []
+  main_kept j =
+      let c : ℕ = per_period (marks (Stream i) p.slots) in
+      let window : ℕ = waiting_slots d.rate (declaration s) - 1 in
+      let few = window_kept (length (marks (Stream i) p.slots)) c (s.group_packets * slot_units) (s.group * s.interval * d.rate) window
+      (window * c + (claim_of p i).spread) some_slots enough (omega arith) in
+      let most : least_main d s ≤ s.main = omega (arith, few, holds.main_fits) in
+      rw (not_less s.main (least_main d s) most) refl
+
+  stream_kept_whole : (j : ℕ) → stream_reason d j s ≡ []
+  stream_kept_whole j = rw (drain_kept j, lead_reason_kept j, main_kept j) refl
+
+-- ---- all items together
+
+module _ (d : Described) (p : Planned) (k : Serves d p) where
+  streams_share : length p.slots * streams_load d d.rate ≤ all_slots * owned Stream 0 d.streams p.slots
+  streams_share = each_at_most (λ _ s. stream_load d.rate s) (λ i _. per_period (marks (Stream i) p.slots)) (length p.slots) all_slots 0 d.streams (λ i s is. share i s is)
+    where
+      share : (i : ℕ) (s : DescribedStream) → slice_get d.streams i ≡ Some s → length p.slots * stream_load d.rate s ≤ all_slots * per_period (marks (Stream (0 + i)) p.slots)
+      share i s is =
+          let e : 0 + i ≡ i = omega arith in
+          let holds = stream_holds d p i s k is in
+          let kept = stream_kept (length (marks (Stream i) p.slots)) (per_period (marks (Stream i) p.slots)) (s.group_packets * slot_units) (s.group * s.interval * d.rate) all_slots
+          (some_slots d p i s holds) (enough d p i s holds) in
+          rw e (rw (length_marks (Stream i) p.slots) at kept)
+
+  recurring_share : (marks : List Bool) (limit k : ℕ) → 0 < per_period marks → gap marks k * slot_milliseconds ≤ limit * d.rate →
+      length marks * recurring_load d.rate limit k ≤ all_slots * per_period marks
+  recurring_share marks limit k pos le =
+      recurring_kept (length marks) (per_period marks) k (gap marks k) (limit * d.rate / slot_milliseconds) all_slots (omega (arith, pos, per_period_le marks))
+      (recurs marks k pos) (le-div (gap marks k) (limit * d.rate) slot_milliseconds (omega arith) le)
+
+  pcrs_share : length p.slots * pcrs_load d d.rate ≤ all_slots * owned Pcr 0 d.programs p.slots
+  pcrs_share = each_at_most (λ _ q. recurring_load d.rate q.pcr_limit 1) (λ i _. per_period (marks (Pcr i) p.slots)) (length p.slots) all_slots 0 d.programs (λ i q is. share i q is)
+    where
+      share : (i : ℕ) (q : DescribedProgram) → slice_get d.programs i ≡ Some q → length p.slots * recurring_load d.rate q.pcr_limit 1 ≤ all_slots * per_period (marks (Pcr (0 + i)) p.slots)
+      share i q is =
+          let e : 0 + i ≡ i = omega arith in
+          let kept = recurring_share (marks (Pcr i) p.slots) q.pcr_limit 1 (k.shape.programs_own i (slice_get_within d.programs i q is)) (pcr_gap_holds d p i q k is) in
+          rw e (rw (length_marks (Pcr i) p.slots) at kept)
+
+  tables_share : length p.slots * tables_load d d.rate ≤ all_slots * owned Table 0 (table_kinds d) p.slots
+  tables_share = each_at_most (λ t _. recurring_load d.rate (table_limit d t) (round_places d t)) (λ t _. per_period (marks (Table t) p.slots)) (length p.slots) all_slots 0 (table_kinds d)
+      (λ t x is. share t (slice_get_within (table_kinds d) t x is))
+    where
+      share : (t : ℕ) → t < table_count d →
+          length p.slots * recurring_load d.rate (table_limit d (0 + t)) (round_places d (0 + t)) ≤ all_slots * per_period (marks (Table (0 + t)) p.slots)
+      share t lt =
+          let e : 0 + t ≡ t = omega arith in
+          let kept = recurring_share (marks (Table t) p.slots) (table_limit d t) (round_places d t) (k.shape.tables_own t lt) (table_gap_holds d p t k lt) in
+          rw e (rw (length_marks (Table t) p.slots) at kept)
+
+  load_kept : load_reason d ≡ []
+  load_kept =
+      let own = all_owned d.streams d.programs (table_kinds d) p.slots in
+      let most : load d d.rate ≤ all_slots =
+      within (length p.slots) (streams_load d d.rate) (pcrs_load d d.rate) (tables_load d d.rate) all_slots
+      (owned Stream 0 d.streams p.slots) (owned Pcr 0 d.programs p.slots) (owned Table 0 (table_kinds d) p.slots)
+      k.shape.some_slots streams_share pcrs_share tables_share own in
+      rw (at_most (load d d.rate) all_slots most) refl
+    where
+      within : (n a b c w x y z : ℕ) → 1 ≤ n → n * a ≤ w * x → n * b ≤ w * y → n * c ≤ w * z → x + (y + z) ≤ n → a + (b + c) ≤ w
+      within n a b c w x y z some first second third own =
+          le_of_mul-le-mul_right {k = n} (omega (arith, first, second, third, mul-le-mul_left w own)) (omega (arith, some))
+
 pub reason_law : ReasonLaw
 reason_law d p serving =
-    let pcrs : pcr_reasons d ≡ [] = no_parts (pcr_reason d) 0 d.programs (pcr_kept d p serving) in
-    let tables : table_reasons d ≡ [] = no_parts (λ t _. table_reason d t) 0 (table_kinds d) (λ t _ lt. table_kept d p serving (0 + t) (omega (arith, lt))) in
-    let drains : drain_reasons d ≡ [] = no_parts drain_reason 0 d.streams (drain_kept d p serving) in
-    rw (pcrs, tables, drains) refl
+    let k = serves d p serving in
+    let e : (i : ℕ) → 0 + i ≡ i = λ i. omega arith in
+    let pcrs : pcr_reasons d ≡ [] = no_parts (pcr_reason d) 0 d.programs (λ i x is. pcr_kept d p k (0 + i) x (rw (e i) is) (rw (e i) (slice_get_within d.programs i x is))) in
+    let tables : table_reasons d ≡ [] = no_parts (λ t _. table_reason d t) 0 (table_kinds d) (λ t x is. table_kept d p k (0 + t) (rw (e t) (slice_get_within (table_kinds d) t x is))) in
+    let streams : stream_reasons d ≡ [] = no_parts (stream_reason d) 0 d.streams (λ i s is. stream_kept_whole d p i s (stream_holds d p i s k is) (0 + i)) in
+    rw (pcrs, tables, streams, load_kept d p k) refl

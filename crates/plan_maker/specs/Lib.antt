@@ -3,4 +3,5 @@ pub mod Bounded
 pub mod Certificates
 pub mod Spacings
 pub mod PlainPlan
+pub mod Loads
 pub mod Reasons

@@ -6,15 +6,10 @@ ghost use Rattle.description.specs.Ranges.{IsStream};
 ghost use Rattle.slot_plan.specs.Planned.{is_small_stream, is_small_program, plan_error};
 ghost use Rattle.plan_maker.specs.Certificates.{stream_entry_of, program_entry_of, stream_entries_of, program_entries_of, certificate_of, start_of, peak_of};
 
-use crate::spread::spread_of;
-use crate::work::work_of;
+use plan_checker::{spread_of, work_of};
 use slot_plan::{Certificate, Description, Item, ProgramEntry, Slot, Stream, StreamEntry};
 use std::alloc::{AllocError, Allocator};
-
-/// The rates at which a program's transport buffer and its system buffer are drained, in bits/s.
-const TRANSPORT_DRAIN: u64 = 1_000_000;
-
-const SYSTEM_DRAIN: u64 = 80_000;
+use unit_timing::buffers::{BSYS_DRAIN, SYSTEM_TB_DRAIN};
 
 /// The work with which a period of a buffer begins, and the greatest work after one of its packets.
 #[derive(Clone, Copy)]
@@ -67,8 +62,8 @@ fn program_entry(description: &Description, slots: &[Slot], i: usize) -> Program
     description.keeps_ranges();
     let item = Item::System(i as u8);
     let rate = description.rate().bits_per_second();
-    let transport = claim(slots, item, rate, TRANSPORT_DRAIN);
-    let system = claim(slots, item, rate, SYSTEM_DRAIN);
+    let transport = claim(slots, item, rate, SYSTEM_TB_DRAIN);
+    let system = claim(slots, item, rate, BSYS_DRAIN);
     ProgramEntry {
         transport_start: transport.start,
         transport_peak: transport.peak,

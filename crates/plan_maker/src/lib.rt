@@ -15,9 +15,6 @@ mod search;
 
 // What slots can claim of themselves.
 mod certifying;
-mod counting;
-mod spread;
-mod work;
 
 pub use making::{MakeError, make};
 pub use reasoning::{Reason, no_plan_serves, reasons};

@@ -44,16 +44,21 @@ name = \"News\"
 text = \"\"
 ";
 
-/// The base with other numbers of its stream.
-fn with_stream(alloc: Global, interval: &str) -> Result<Description, Fail> {
-    let Some((before, after)) = BASE.split_once("interval = 2160") else {
-        return Err(Fail::from("no stream"));
+/// The base with one of its lines changed.
+fn changed(alloc: Global, old: &str, new: &str) -> Result<Description, Fail> {
+    let Some((before, after)) = BASE.split_once(old) else {
+        return Err(Fail::from("no such line"));
     };
     let mut text = String::new(alloc);
     text.push_str(before)?;
-    text.push_str(interval)?;
+    text.push_str(new)?;
     text.push_str(after)?;
     described(alloc, text.as_str())
+}
+
+/// The base with other numbers of its stream.
+fn with_stream(alloc: Global, interval: &str) -> Result<Description, Fail> {
+    changed(alloc, "interval = 2160", interval)
 }
 
 fn described(alloc: Global, text: &str) -> Result<Description, Fail> {
@@ -157,6 +162,17 @@ fn greatest_service(rt: HostRuntime) -> Result<(), Fail> {
     Ok(())
 }
 
+/// As many streams as a description can have, so near to the rate that only the longest period has a slot for each of
+/// their packets.
+#[test]
+fn longest_period(rt: HostRuntime) -> Result<(), Fail> {
+    let checked = found(rt.alloc(), radio(rt.alloc(), 16, 10_692_000)?)?;
+    assert_eq!(rt; checked.plan().certificate().streams.len(), 32);
+    assert_eq!(rt; checked.plan().slots().len(), 65_536);
+    assert!(rt; used(checked.plan()) > 65_400, "{}", used(checked.plan()));
+    Ok(())
+}
+
 /// Each allocation refused in its turn, by heaps of rising sizes: the description comes back, until there is a plan.
 #[test]
 fn refused_memory(rt: HostRuntime) -> Result<(), Fail> {
@@ -181,23 +197,62 @@ fn refused_memory(rt: HostRuntime) -> Result<(), Fail> {
     Err(Fail::from("never enough memory"))
 }
 
-/// Numbers that no plan can keep, with the least ones that stand in its way no more.
-#[test]
-fn reasons_of_descriptions(rt: HostRuntime) -> Result<(), Fail> {
-    for (interval, reason) in [
-        ("interval = 2160", None),
-        ("interval = 1", Some(Reason::SlowDrain(0, 541_440_000))),
-        ("interval = 270", Some(Reason::SlowDrain(0, 2_005_334))),
-        ("interval = 271", None),
-    ] {
-        let description = with_stream(rt.alloc(), interval)?;
-        let reasons = reasons(rt.alloc(), &description)?;
-        assert_eq!(rt; reasons.first().copied(), reason, "{interval}");
+fn reasons_are(alloc: Global, description: &Description, wanted: &[Reason]) -> Result<(), Fail> {
+    let found = reasons(alloc, description)?;
+    if found.as_slice() == wanted {
+        return Ok(());
     }
-    let slow = radio(rt.alloc(), 1, 100_000)?;
-    let found = reasons(rt.alloc(), &slow)?;
-    assert_eq!(rt; found.len(), 0);
-    Ok(())
+    Err(Fail::from(format!(in alloc; "{found:?}")?))
+}
+
+/// Streams whose numbers no plan can keep, with the least ones that stand in its way no more: of the drain, of the rate,
+/// of the lead, of the main buffer.
+#[test]
+fn reasons_of_streams(rt: HostRuntime) -> Result<(), Fail> {
+    let alloc = rt.alloc();
+    reasons_are(alloc, &with_stream(alloc, "interval = 2160")?, &[])?;
+    let drain = Reason::SlowDrain(0, 2_005_334);
+    let rate = Reason::Overload(Some(2_051_804));
+    reasons_are(
+        alloc,
+        &with_stream(alloc, "interval = 270")?,
+        &[drain, rate],
+    )?;
+    let rate = Reason::Overload(Some(2_044_269));
+    reasons_are(alloc, &with_stream(alloc, "interval = 271")?, &[rate])?;
+    let drain = Reason::SlowDrain(0, 541_440_000);
+    let main = Reason::SmallMain(0, 952_000);
+    let all = [drain, main, Reason::Overload(None)];
+    reasons_are(alloc, &with_stream(alloc, "interval = 1")?, &all)?;
+    reasons_are(alloc, &changed(alloc, "lead = 1600", "lead = 518")?, &[])?;
+    let lead = Reason::ShortLead(0, 518);
+    reasons_are(
+        alloc,
+        &changed(alloc, "lead = 1600", "lead = 517")?,
+        &[lead],
+    )?;
+    let buffer = "lead = 1600\nrx = 2000000\nmain = 552";
+    reasons_are(alloc, &changed(alloc, "lead = 1600", buffer)?, &[])?;
+    let buffer = "lead = 1600\nrx = 2000000\nmain = 551";
+    let main = Reason::SmallMain(0, 552);
+    reasons_are(alloc, &changed(alloc, "lead = 1600", buffer)?, &[main])
+}
+
+/// A service that is too much for its rate, and one whose PCRs can't come so often.
+#[test]
+fn reasons_of_services(rt: HostRuntime) -> Result<(), Fail> {
+    let first = Reason::ShortLead(0, 8_190);
+    let second = Reason::ShortLead(1, 8_190);
+    let rate = Reason::Overload(Some(673_100));
+    let alloc = rt.alloc();
+    let slow = radio(alloc, 1, 100_000)?;
+    reasons_are(alloc, &slow, &[first, second, rate])?;
+    let wide = radio(alloc, 16, 8_000_000)?;
+    reasons_are(alloc, &wide, &[Reason::Overload(Some(10_681_124))])?;
+    let limits = "pcr_pid = 257\npcr_limit = 1";
+    let often = changed(alloc, "pcr_pid = 257", limits)?;
+    let rate = Reason::Overload(Some(3_008_000));
+    reasons_are(alloc, &often, &[rate])
 }
 
 /// Memory for reasons is refused while the heap is full.
@@ -218,6 +273,6 @@ fn refused_reasons(rt: HostRuntime) -> Result<(), Fail> {
     );
     drop(blocks);
     let found = reasons(&heap, &description)?;
-    assert_eq!(rt; found.len(), 1);
+    assert_eq!(rt; found.len(), 3);
     Ok(())
 }

@@ -4,7 +4,7 @@ use Rattle.std.specs.Prelude.{unwrap_or}
 use Rattle.std.proofs.lemmas.Bool.{ltb-false, le-ltb}
 use Rattle.std.proofs.lemmas.List.{length-take-le, take-append-drop}
 use Rattle.std.proofs.Math.Seq.{take-append_seam, drop-append_seam}
-use Rattle.psi_tables.specs.Loops.{EntryView, descriptors_length, IsEntry, entry_text, AreEntries, entry_behind, entry_at, loop_from, loop_at, entries_in}
+use Rattle.psi_tables.specs.Loops.{EntryView, descriptors_length, IsEntry, entry_text, AreEntries, entry_after, entry_at, loop_from, loop_at, entries_in}
 
 -- a test that refuses, and let something pass
 some_is : {A : Type 0} (b : Bool) (o : Option A) (x : A) → cond b None o ≡ Some x → (b ≡ false) × (o ≡ Some x)
@@ -16,9 +16,9 @@ pub record HasEntry (k : ℕ) (bytes : List ℕ) (e : EntryView) (rest : List �
   pub is : bytes ≡ entry_text e ++ rest
   pub entry : IsEntry k e
 
-behind_is : (k : ℕ) (head rest : List ℕ) (p : EntryView × List ℕ) → length head ≡ k → entry_behind head rest ≡ Some p → HasEntry k (head ++ rest) p.0 p.1
-unfolding entry_behind entry_text
-behind_is k head rest p h e =
+after_is : (k : ℕ) (head rest : List ℕ) (p : EntryView × List ℕ) → length head ≡ k → entry_after head rest ≡ Some p → HasEntry k (head ++ rest) p.0 p.1
+unfolding entry_after entry_text
+after_is k head rest p h e =
     let n : ℕ = descriptors_length head in
     let q = some_is (nat_lt (length rest) n) _ p e in
     let fits : n ≤ length rest = ltb-false (length rest) n q.0 in
@@ -32,13 +32,13 @@ behind_is k head rest p h e =
 pub entry_at-is : (k : ℕ) (bytes : List ℕ) (p : EntryView × List ℕ) → entry_at k bytes ≡ Some p → HasEntry k bytes p.0 p.1
 unfolding entry_at
 entry_at-is k bytes p e =
-    let q = some_is (nat_lt (length bytes) k) (entry_behind (take k bytes) (drop k bytes)) p e in
+    let q = some_is (nat_lt (length bytes) k) (entry_after (take k bytes) (drop k bytes)) p e in
     let fits : k ≤ length bytes = ltb-false (length bytes) k q.0 in
-    subst (λ (bs : List ℕ). HasEntry k bs p.0 p.1) (take-append-drop k bytes) (behind_is k (take k bytes) (drop k bytes) p (length-take-le k bytes fits) q.1)
+    subst (λ (bs : List ℕ). HasEntry k bs p.0 p.1) (take-append-drop k bytes) (after_is k (take k bytes) (drop k bytes) p (length-take-le k bytes fits) q.1)
 
-behind_read : (e : EntryView) (rest : List ℕ) → descriptors_length e.head ≡ length e.descriptors → entry_behind e.head (e.descriptors ++ rest) ≡ Some (e, rest)
-unfolding entry_behind
-behind_read e rest h =
+after_read : (e : EntryView) (rest : List ℕ) → descriptors_length e.head ≡ length e.descriptors → entry_after e.head (e.descriptors ++ rest) ≡ Some (e, rest)
+unfolding entry_after
+after_read e rest h =
     let fits : nat_lt (length (e.descriptors ++ rest)) (length e.descriptors) ≡ false = le-ltb _ _ (omega (arith, length-append e.descriptors rest)) in
     rw (h, fits, take-append_seam e.descriptors rest, drop-append_seam e.descriptors rest) refl
 
@@ -48,7 +48,7 @@ unfolding entry_at entry_text
 entry_at-read k e rest h =
     let l : length e.head ≡ k = h.head_length in
     let fits : nat_lt (length (e.head ++ (e.descriptors ++ rest))) (length e.head) ≡ false = le-ltb _ _ (omega (arith, length-append e.head (e.descriptors ++ rest))) in
-    rw (append_assoc e.head e.descriptors rest, ← l, fits, take-append_seam e.head (e.descriptors ++ rest), drop-append_seam e.head (e.descriptors ++ rest)) (behind_read e rest h.named)
+    rw (append_assoc e.head e.descriptors rest, ← l, fits, take-append_seam e.head (e.descriptors ++ rest), drop-append_seam e.head (e.descriptors ++ rest)) (after_read e rest h.named)
 
 pub HasEntry-shorter : (k : ℕ) (bytes : List ℕ) (e : EntryView) (rest : List ℕ) → HasEntry k bytes e rest → length rest + k ≤ length bytes
 unfolding entry_text

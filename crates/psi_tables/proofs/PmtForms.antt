@@ -8,7 +8,7 @@ use Rattle.psi_tables.specs.Views.{SectionView}
 use Rattle.psi_tables.specs.Spelling.{IsWritable}
 use Rattle.psi_tables.specs.Tables.{table_header_at}
 use Rattle.psi_tables.specs.Loops.{EntryView, descriptors_length, IsEntry, entry_text, entry_at, entries_in}
-use Rattle.psi_tables.specs.ProgramMap.{StreamView, PmtView, IsStream, AreStreams, IsPmt, streams_in, streams_at, pmt_behind, pmt_at, info_length_text, pid_text, stream_entry, stream_text, streams_text, pmt_body, pmt_header, pmt_section, StreamFits, StreamsFit, PmtFits}
+use Rattle.psi_tables.specs.ProgramMap.{StreamView, PmtView, IsStream, AreStreams, IsPmt, streams_in, streams_at, pmt_after, pmt_at, info_length_text, pid_text, stream_entry, stream_text, streams_text, pmt_body, pmt_header, pmt_section, StreamFits, StreamsFit, PmtFits}
 use Rattle.psi_tables.specs.declared.error.SectionError.{SectionError}
 use Rattle.psi_tables.specs.declared.section.LongHeader.{LongHeader}
 use Rattle.psi_tables.proofs.TableForms.{HasHeader, table_header_at-is, table_header_at-read}
@@ -37,7 +37,7 @@ table_found s header a b c d descriptors rest ss k is ha hb hc hd named streams 
       loop = rest;
       is = is;
       reserved = a / 32;
-      reserved_behind = c / 16;
+      reserved_after = c / 16;
       head_length = refl;
       spelled = front_found a b c d descriptors ha hb hc hd named;
       three_bits = omega arith;
@@ -48,17 +48,17 @@ table_found s header a b c d descriptors rest ss k is ha hb hc hd named streams 
     }
 
 -- what stands after a table's header
-pub record Behind (header : LongHeader) (o : Option (EntryView × List ℕ)) (p : PmtView) : Type 0 where
+pub record After (header : LongHeader) (o : Option (EntryView × List ℕ)) (p : PmtView) : Type 0 where
   pub front : EntryView × List ℕ
   pub there : o ≡ Some front
   pub streams : List StreamView
   pub read : streams_at front.1 ≡ Ok streams
   pub is : ◌≡◌ {A = PmtView} (record { header = header; pcr_pid = slice_index front.0.head 0 % 32 * 256 + slice_index front.0.head 1; program_info = front.0.descriptors; streams = streams }) p
 
-behind_is : (header : LongHeader) (o : Option (EntryView × List ℕ)) (p : PmtView) → pmt_behind header o ≡ Ok p → Behind header o p
-unfolding pmt_behind
-behind_is header None p e = absurd cc
-behind_is header (Some x) p e =
+after_is : (header : LongHeader) (o : Option (EntryView × List ℕ)) (p : PmtView) → pmt_after header o ≡ Ok p → After header o p
+unfolding pmt_after
+after_is header None p e = absurd cc
+after_is header (Some x) p e =
     let q = bind_ok (streams_at x.1) _ p e in
     record { front = x; there = refl; streams = q.0; read = q.1; is = ok_is _ p q.2 }
 
@@ -84,7 +84,7 @@ unfolding pmt_at
 pmt_is s p h e =
     let q = bind_ok (table_header_at 0x02 1021 s) _ p e in
     let header : HasHeader 0x02 1021 s q.0 = table_header_at-is 0x02 1021 s q.0 q.1 in
-    let b = behind_is q.0 (entry_at 4 s.body) p q.2 in
+    let b = after_is q.0 (entry_at 4 s.body) p q.2 in
     let there : HasEntry 4 s.body b.front.0 b.front.1 = entry_at-is 4 s.body b.front b.there in
     let rest : IsBytes b.front.1 = IsBytes-append_right (entry_text b.front.0) b.front.1 (subst IsBytes there.is h) in
     subst (λ (v : PmtView). IsPmt s v) b.is
@@ -93,10 +93,10 @@ pmt_is s p h e =
 ok : PmtView → Result PmtView SectionError
 ok v = Ok v
 
-behind_read : (p : PmtView) (head rest : List ℕ) → slice_index head 0 % 32 * 256 + slice_index head 1 ≡ p.pcr_pid → StreamsRead rest p.streams
-    → pmt_behind p.header (Some (record { head = head; descriptors = p.program_info }, rest)) ≡ Ok p
-unfolding pmt_behind ok
-behind_read p head rest pid streams =
+after_read : (p : PmtView) (head rest : List ℕ) → slice_index head 0 % 32 * 256 + slice_index head 1 ≡ p.pcr_pid → StreamsRead rest p.streams
+    → pmt_after p.header (Some (record { head = head; descriptors = p.program_info }, rest)) ≡ Ok p
+unfolding pmt_after ok
+after_read p head rest pid streams =
     let whole : ◌≡◌ {A = PmtView} (record { header = p.header; pcr_pid = slice_index head 0 % 32 * 256 + slice_index head 1; program_info = p.program_info; streams = p.streams })
     (record { header = p.header; pcr_pid = p.pcr_pid; program_info = p.program_info; streams = p.streams }) =
     ap (λ (n : ℕ). record { header = p.header; pcr_pid = n; program_info = p.program_info; streams = p.streams }) pid in
@@ -114,9 +114,9 @@ unfolding pmt_at
 read_by s p head rest header is entry pid streams =
     let front : entry_at 4 s.body ≡ Some (record { head = head; descriptors = p.program_info }, rest) =
     ap (λ (x : List ℕ). entry_at 4 x) is ∙ entry_at-read 4 (record { head = head; descriptors = p.program_info }) rest entry in
-    ap (λ (r : Result LongHeader SectionError). r >>= λ header. pmt_behind header (entry_at 4 s.body)) (table_header_at-read 0x02 1021 s p.header header)
-    ∙ ap (λ (o : Option (EntryView × List ℕ)). pmt_behind p.header o) front
-    ∙ behind_read p head rest pid streams
+    ap (λ (r : Result LongHeader SectionError). r >>= λ header. pmt_after header (entry_at 4 s.body)) (table_header_at-read 0x02 1021 s p.header header)
+    ∙ ap (λ (o : Option (EntryView × List ℕ)). pmt_after p.header o) front
+    ∙ after_read p head rest pid streams
 
 front_text : (body rest descriptors : List ℕ) (a b c d : ℕ) → body ≡ (a ∷ b ∷ c ∷ d ∷ descriptors) ++ rest → body ≡ entry_text (record { head = a ∷ b ∷ c ∷ d ∷ []; descriptors = descriptors }) ++ rest
 unfolding entry_text
@@ -139,8 +139,8 @@ pmt_again s p h k =
     let v = four k.head k.head_length in
     let is : s.body ≡ (v.0 ∷ v.1 ∷ v.2 ∷ v.3 ∷ p.program_info) ++ k.loop = k.is ∙ ap (λ (x : List ℕ). x ++ (p.program_info ++ k.loop)) v.4 in
     let bytes : IsBytes ((v.0 ∷ v.1 ∷ v.2 ∷ v.3 ∷ p.program_info) ++ k.loop) = subst IsBytes is h in
-    let spelled = subst (λ (x : List ℕ). number x ≡ fields ((3, k.reserved) ∷ (13, p.pcr_pid) ∷ (4, k.reserved_behind) ∷ (12, length p.program_info) ∷ [])) v.4 k.spelled in
-    again_by s p v.0 v.1 v.2 v.3 k.loop k.reserved k.reserved_behind (record { table_id = k.table_id; long = k.long; section_length = k.section_length }) is (bytes 0) (bytes 1) (bytes 2) (bytes 3)
+    let spelled = subst (λ (x : List ℕ). number x ≡ fields ((3, k.reserved) ∷ (13, p.pcr_pid) ∷ (4, k.reserved_after) ∷ (12, length p.program_info) ∷ [])) v.4 k.spelled in
+    again_by s p v.0 v.1 v.2 v.3 k.loop k.reserved k.reserved_after (record { table_id = k.table_id; long = k.long; section_length = k.section_length }) is (bytes 0) (bytes 1) (bytes 2) (bytes 3)
     spelled k.three_bits k.pcr_pid k.four_bits k.info_length
     (streams_read k.loop p.streams (IsBytes-append_right (v.0 ∷ v.1 ∷ v.2 ∷ v.3 ∷ p.program_info) k.loop bytes) k.streams)
 
@@ -151,7 +151,7 @@ stream_written s h =
       head = s.stream_type ∷ (0xE0 + s.elementary_pid / 256 % 32) ∷ (s.elementary_pid % 256) ∷ (0xF0 + length s.descriptors / 256 % 16) ∷ (length s.descriptors % 256) ∷ [];
       is = refl;
       reserved = 7;
-      reserved_behind = 15;
+      reserved_after = 15;
       head_length = refl;
       spelled = omega (arith, h.elementary_pid, h.info_length);
       stream_type = h.stream_type;
@@ -194,7 +194,7 @@ written p h =
         loop = streams_text p.streams;
         is = refl;
         reserved = 7;
-        reserved_behind = 15;
+        reserved_after = 15;
         head_length = refl;
         spelled = spelled;
         three_bits = lit< tt;

@@ -53,7 +53,7 @@ long_found a b c d e f g h body crc ha hb hc hd he hf hg hh form len most hcrc c
       crc = crc;
       is = refl;
       reserved = b / 16 % 4;
-      reserved_behind = f / 64;
+      reserved_after = f / 64;
       front_length = refl;
       crc_length = hcrc;
       spelled = omega arith;
@@ -62,7 +62,7 @@ long_found a b c d e f g h body crc ha hb hc hd he hf hg hh form len most hcrc c
       two_bits = omega arith;
       section_length = most;
       table_id_extension = omega arith;
-      two_bits_behind = omega arith;
+      two_bits_after = omega arith;
       version_number = omega arith;
       section_number = hg;
       last_section_number = hh;
@@ -139,7 +139,7 @@ long_is a b c t s h form good len r =
     let v = five t (omega arith) in
     let size : length t ≡ 5 + length v.5 = ap (length {A = ℕ}) v.6 ∙ five_more (length v.5) in
     let start : Start = record { table_id = a; is_long = flag b 128; private_indicator = flag b 64; section_length = b % 16 * 256 + c } in
-    behind v.0 v.1 v.2 v.3 v.4 (take (length v.5 - 4) v.5) (drop (length v.5 - 4) v.5)
+    after v.0 v.1 v.2 v.3 v.4 (take (length v.5 - 4) v.5) (drop (length v.5 - 4) v.5)
     (v.6 ∙ ap (λ (x : List ℕ). v.0 ∷ v.1 ∷ v.2 ∷ v.3 ∷ v.4 ∷ x) (sym (take-append-drop (length v.5 - 4) v.5)))
     (length_of (length v.5) (length t) (b % 16 * 256 + c) _ size len enough (length-take-le (length v.5 - 4) v.5 (omega arith)))
     (length-drop (length v.5 - 4) v.5 ∙ rest_of (length v.5) (length t) (b % 16 * 256 + c) size len enough) where
@@ -152,8 +152,8 @@ long_is a b c t s h form good len r =
       rest_of : (u t n : ℕ) → t ≡ 5 + u → t ≡ n → 9 ≤ n → u - (u - 4) ≡ 4
       rest_of u t n p q r = omega arith
 
-      behind : (d e f g k : ℕ) (body crc : List ℕ) → t ≡ d ∷ e ∷ f ∷ g ∷ k ∷ (body ++ crc) → 9 + length body ≡ b % 16 * 256 + c → length crc ≡ 4 → IsSection (a ∷ b ∷ c ∷ t) s
-      behind d e f g k body crc is hbody hcrc =
+      after : (d e f g k : ℕ) (body crc : List ℕ) → t ≡ d ∷ e ∷ f ∷ g ∷ k ∷ (body ++ crc) → 9 + length body ≡ b % 16 * 256 + c → length crc ≡ 4 → IsSection (a ∷ b ∷ c ∷ t) s
+      after d e f g k body crc is hbody hcrc =
           let whole : ◌≡◌ {A = List ℕ} (a ∷ b ∷ c ∷ t) (a ∷ b ∷ c ∷ d ∷ e ∷ f ∷ g ∷ k ∷ (body ++ crc)) = ap (λ (x : List ℕ). a ∷ b ∷ c ∷ x) is in
           subst (λ (x : List ℕ). IsSection x s) (sym whole)
           (long_is_of a b c d e f g k body crc s (subst IsBytes whole h) form hbody (most_is true (b % 16 * 256 + c) good) hcrc
@@ -243,10 +243,10 @@ again_by (Some l) text rest s bytes e h =
     let is : text ≡ v.0 ∷ v.1 ∷ v.2 ∷ v.3 ∷ v.4 ∷ v.5 ∷ v.6 ∷ v.7 ∷ (s.body ++ h.crc) = h.is ∙ ap (λ (x : List ℕ). x ++ (s.body ++ h.crc)) v.8 in
     let fit : IsBytes (v.0 ∷ v.1 ∷ v.2 ∷ v.3 ∷ v.4 ∷ v.5 ∷ v.6 ∷ v.7 ∷ (s.body ++ h.crc)) = subst IsBytes is bytes in
     let spelled = subst (λ (x : List ℕ). number x ≡ fields ((8, s.header.table_id) ∷ (1, 1) ∷ (1, bit s.header.private_indicator) ∷ (2, h.reserved) ∷ (12, 9 + length s.body)
-    ∷ (16, l.table_id_extension) ∷ (2, h.reserved_behind) ∷ (5, l.version_number) ∷ (1, bit l.current_next) ∷ (8, l.section_number) ∷ (8, l.last_section_number) ∷ [])) v.8 h.spelled in
+    ∷ (16, l.table_id_extension) ∷ (2, h.reserved_after) ∷ (5, l.version_number) ∷ (1, bit l.current_next) ∷ (8, l.section_number) ∷ (8, l.last_section_number) ∷ [])) v.8 h.spelled in
     subst (λ (x : List ℕ). section_at (x ++ rest) ≡ Ok (s, length x)) (sym is)
-    (long_again v.0 v.1 v.2 v.3 v.4 v.5 v.6 v.7 s l h.crc h.reserved h.reserved_behind rest (fit 0) (fit 1) (fit 2) (fit 3) (fit 4) (fit 5) (fit 6) (fit 7) e h.crc_length spelled
-    (ap check_word (sym is) ∙ h.checked) h.table_id h.two_bits h.section_length h.table_id_extension h.two_bits_behind h.version_number h.section_number h.last_section_number)
+    (long_again v.0 v.1 v.2 v.3 v.4 v.5 v.6 v.7 s l h.crc h.reserved h.reserved_after rest (fit 0) (fit 1) (fit 2) (fit 3) (fit 4) (fit 5) (fit 6) (fit 7) e h.crc_length spelled
+    (ap check_word (sym is) ∙ h.checked) h.table_id h.two_bits h.section_length h.table_id_extension h.two_bits_after h.version_number h.section_number h.last_section_number)
 
 -- a section that stands at the front is read
 pub section_again : (text rest : List ℕ) (s : SectionView) → IsBytes text → IsSection text s → section_at (text ++ rest) ≡ Ok (s, length text)

@@ -32,7 +32,7 @@ stream_found a b c d e descriptors ha hb hc hd he named =
       head = a ∷ b ∷ c ∷ d ∷ e ∷ [];
       is = refl;
       reserved = b / 32;
-      reserved_behind = d / 16;
+      reserved_after = d / 16;
       head_length = refl;
       spelled = omega arith;
       stream_type = ha;
@@ -83,10 +83,10 @@ entry_again text s h k =
     let v = five k.head k.head_length in
     let is : text ≡ v.0 ∷ v.1 ∷ v.2 ∷ v.3 ∷ v.4 ∷ s.descriptors = k.is ∙ ap (λ (x : List ℕ). x ++ s.descriptors) v.5 in
     let bytes : IsBytes (v.0 ∷ v.1 ∷ v.2 ∷ v.3 ∷ v.4 ∷ s.descriptors) = subst IsBytes is h in
-    let spelled = subst (λ (x : List ℕ). number x ≡ fields ((8, s.stream_type) ∷ (3, k.reserved) ∷ (13, s.elementary_pid) ∷ (4, k.reserved_behind) ∷ (12, length s.descriptors) ∷ [])) v.5 k.spelled in (
+    let spelled = subst (λ (x : List ℕ). number x ≡ fields ((8, s.stream_type) ∷ (3, k.reserved) ∷ (13, s.elementary_pid) ∷ (4, k.reserved_after) ∷ (12, length s.descriptors) ∷ [])) v.5 k.spelled in (
       record { head = v.0 ∷ v.1 ∷ v.2 ∷ v.3 ∷ v.4 ∷ []; descriptors = s.descriptors },
       subst (λ (t : List ℕ). IsEntryOf t s (record { head = v.0 ∷ v.1 ∷ v.2 ∷ v.3 ∷ v.4 ∷ []; descriptors = s.descriptors })) (sym is)
-          (stream_again v.0 v.1 v.2 v.3 v.4 s k.reserved k.reserved_behind (bytes 0) (bytes 1) (bytes 2) (bytes 3) (bytes 4) spelled k.stream_type k.three_bits k.elementary_pid k.four_bits k.info_length),
+          (stream_again v.0 v.1 v.2 v.3 v.4 s k.reserved k.reserved_after (bytes 0) (bytes 1) (bytes 2) (bytes 3) (bytes 4) spelled k.stream_type k.three_bits k.elementary_pid k.four_bits k.info_length),
     )
 
 -- streams that stand there are entries

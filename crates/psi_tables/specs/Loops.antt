@@ -27,14 +27,14 @@ AreEntries k bytes [] = bytes ≡ []
 AreEntries k bytes (e ∷ es) = (rest : List ℕ) × (bytes ≡ entry_text e ++ rest) × IsEntry k e × AreEntries k rest es
 
 -- the entry with this head, and what stands after it
-unfoldable pub entry_behind : List ℕ → List ℕ → Option (EntryView × List ℕ)
-entry_behind head rest =
+unfoldable pub entry_after : List ℕ → List ℕ → Option (EntryView × List ℕ)
+entry_after head rest =
     if nat_lt (length rest) (descriptors_length head) then None
     else Some (record { head = head; descriptors = take (descriptors_length head) rest }, drop (descriptors_length head) rest)
 
 -- the entry at the front, and what stands after it; none where it does not fit
 unfoldable pub entry_at : ℕ → List ℕ → Option (EntryView × List ℕ)
-entry_at k bytes = if nat_lt (length bytes) k then None else entry_behind (take k bytes) (drop k bytes)
+entry_at k bytes = if nat_lt (length bytes) k then None else entry_after (take k bytes) (drop k bytes)
 
 -- at most n entries, up to the end of the bytes
 unfoldable pub loop_from : ℕ → List ℕ → ℕ → Option (List EntryView)

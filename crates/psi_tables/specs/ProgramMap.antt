@@ -33,13 +33,13 @@ pub record IsStream (text : List ℕ) (s : StreamView) : Type 0 where
   pub head : List ℕ
   pub is : text ≡ head ++ s.descriptors
   pub reserved : ℕ
-  pub reserved_behind : ℕ
+  pub reserved_after : ℕ
   pub head_length : length head ≡ 5
-  pub spelled : number head ≡ fields ((8, s.stream_type) ∷ (3, reserved) ∷ (13, s.elementary_pid) ∷ (4, reserved_behind) ∷ (12, length s.descriptors) ∷ [])
+  pub spelled : number head ≡ fields ((8, s.stream_type) ∷ (3, reserved) ∷ (13, s.elementary_pid) ∷ (4, reserved_after) ∷ (12, length s.descriptors) ∷ [])
   pub stream_type : s.stream_type < 2 ^ 8
   pub three_bits : reserved < 2 ^ 3
   pub elementary_pid : s.elementary_pid < 2 ^ 13
-  pub four_bits : reserved_behind < 2 ^ 4
+  pub four_bits : reserved_after < 2 ^ 4
   pub info_length : length s.descriptors < 2 ^ 12
 
 -- bytes are entries one after the other
@@ -57,12 +57,12 @@ pub record IsPmt (s : SectionView) (p : PmtView) : Type 0 where
   pub loop : List ℕ
   pub is : s.body ≡ head ++ (p.program_info ++ loop)
   pub reserved : ℕ
-  pub reserved_behind : ℕ
+  pub reserved_after : ℕ
   pub head_length : length head ≡ 4
-  pub spelled : number head ≡ fields ((3, reserved) ∷ (13, p.pcr_pid) ∷ (4, reserved_behind) ∷ (12, length p.program_info) ∷ [])
+  pub spelled : number head ≡ fields ((3, reserved) ∷ (13, p.pcr_pid) ∷ (4, reserved_after) ∷ (12, length p.program_info) ∷ [])
   pub three_bits : reserved < 2 ^ 3
   pub pcr_pid : p.pcr_pid < 2 ^ 13
-  pub four_bits : reserved_behind < 2 ^ 4
+  pub four_bits : reserved_after < 2 ^ 4
   pub info_length : length p.program_info < 2 ^ 12
   pub streams : AreStreams loop p.streams
 
@@ -83,9 +83,9 @@ unfoldable pub streams_at : List ℕ → Result (List StreamView) SectionError
 streams_at bytes = if is_some (loop_at 5 bytes) then Ok (streams_in bytes) else Err Body
 
 -- the table whose body begins with this entry and goes on with a loop of streams
-unfoldable pub pmt_behind : LongHeader → Option (EntryView × List ℕ) → Result PmtView SectionError
-pmt_behind header None = Err Body
-pmt_behind header (Some p) = streams_at p.1 >>= λ streams. Ok (record {
+unfoldable pub pmt_after : LongHeader → Option (EntryView × List ℕ) → Result PmtView SectionError
+pmt_after header None = Err Body
+pmt_after header (Some p) = streams_at p.1 >>= λ streams. Ok (record {
   header = header;
   pcr_pid = slice_index p.0.head 0 % 32 * 256 + slice_index p.0.head 1;
   program_info = p.0.descriptors;
@@ -94,7 +94,7 @@ pmt_behind header (Some p) = streams_at p.1 >>= λ streams. Ok (record {
 
 -- reading: Syntax, Length, then Body where program_info_length or an ES_info_length does not fit
 unfoldable pub pmt_at : SectionView → Result PmtView SectionError
-pmt_at s = table_header_at 0x02 1021 s >>= λ header. pmt_behind header (entry_at 4 s.body)
+pmt_at s = table_header_at 0x02 1021 s >>= λ header. pmt_after header (entry_at 4 s.body)
 
 -- the number of bytes of descriptors, as it is written after four reserved bits
 unfoldable pub info_length_text : ℕ → List ℕ

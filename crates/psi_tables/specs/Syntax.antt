@@ -22,17 +22,17 @@ pub record IsLongSection (text : List ℕ) (s : SectionView) (h : LongHeader) : 
   pub crc : List ℕ
   pub is : text ≡ front ++ (s.body ++ crc)
   pub reserved : ℕ
-  pub reserved_behind : ℕ
+  pub reserved_after : ℕ
   pub front_length : length front ≡ 8
   pub crc_length : length crc ≡ 4
   pub spelled : number front ≡ fields ((8, s.header.table_id) ∷ (1, 1) ∷ (1, bit s.header.private_indicator) ∷ (2, reserved) ∷ (12, 9 + length s.body)
-      ∷ (16, h.table_id_extension) ∷ (2, reserved_behind) ∷ (5, h.version_number) ∷ (1, bit h.current_next) ∷ (8, h.section_number) ∷ (8, h.last_section_number) ∷ [])
+      ∷ (16, h.table_id_extension) ∷ (2, reserved_after) ∷ (5, h.version_number) ∷ (1, bit h.current_next) ∷ (8, h.section_number) ∷ (8, h.last_section_number) ∷ [])
   pub checked : check_word text ≡ 0
   pub table_id : s.header.table_id < 2 ^ 8
   pub two_bits : reserved < 2 ^ 2
   pub section_length : 9 + length s.body ≤ 4093
   pub table_id_extension : h.table_id_extension < 2 ^ 16
-  pub two_bits_behind : reserved_behind < 2 ^ 2
+  pub two_bits_after : reserved_after < 2 ^ 2
   pub version_number : h.version_number < 2 ^ 5
   pub section_number : h.section_number < 2 ^ 8
   pub last_section_number : h.last_section_number < 2 ^ 8

@@ -2,7 +2,7 @@
 //! number of bytes, the last 12 bits of which are the number of descriptor bytes, and those bytes.
 
 ghost use Rattle.std.specs.Prelude.{◌≡◌, ◌<◌, ◌≤◌, ◌+◌, [], ◌∷◌, length, option_map, is_some, true, false, IfSome, IfNone};
-ghost use Rattle.psi_tables.specs.Loops.{descriptors_length, entry_behind, entry_at, loop_at, entries_in, entry_view};
+ghost use Rattle.psi_tables.specs.Loops.{descriptors_length, entry_after, entry_at, loop_at, entries_in, entry_view};
 
 /// An entry of a loop.
 #[derive(Clone, Copy, Debug)]
@@ -40,13 +40,13 @@ fn first_entry(head_length: usize, bytes: &[u8]) -> Option<(Entry<'_>, &[u8])>
         return None;
     }
     let (head, rest) = bytes.split_at(head_length);
-    entry_behind(head, rest)
+    entry_after(head, rest)
 }
 
-#[tactic(auto, unfolding(crate::specs::Loops::entry_behind))]
-fn entry_behind<'a>(head: &'a [u8], rest: &'a [u8]) -> Option<(Entry<'a>, &'a [u8])>
+#[tactic(auto, unfolding(crate::specs::Loops::entry_after))]
+fn entry_after<'a>(head: &'a [u8], rest: &'a [u8]) -> Option<(Entry<'a>, &'a [u8])>
     requires { 2 ≤ length head.now }
-    ensures exact { option_map (λ p. (entry_view p.0, p.1.now)) result ≡ entry_behind head.now rest.now }
+    ensures exact { option_map (λ p. (entry_view p.0, p.1.now)) result ≡ entry_after head.now rest.now }
     ensures head { IfSome result (λ p. length p.0.head.now ≡ length head.now) }
     ensures shorter { IfSome result (λ p. length p.1.now ≤ length rest.now) }
 {
@@ -54,8 +54,8 @@ fn entry_behind<'a>(head: &'a [u8], rest: &'a [u8]) -> Option<(Entry<'a>, &'a [u
     if rest.len() < length {
         return None;
     }
-    let (descriptors, behind) = rest.split_at(length);
-    Some((Entry { head, descriptors }, behind))
+    let (descriptors, after) = rest.split_at(length);
+    Some((Entry { head, descriptors }, after))
 }
 
 #[tactic(auto, unfolding(crate::specs::Loops::descriptors_length))]
@@ -77,7 +77,7 @@ pub fn is_whole_loop(head_length: usize, bytes: &[u8]) -> bool
     let mut rest = bytes;
     while !rest.is_empty() {
         match entry_at(head_length, rest) {
-            Some((_, behind)) => rest = behind,
+            Some((_, after)) => rest = after,
             None => return false,
         }
     }

@@ -11,7 +11,7 @@ ghost use Rattle.bit_fields.specs.Reading.{Gives};
 ghost use Rattle.psi_tables.specs.Views.{section_view};
 ghost use Rattle.psi_tables.specs.Spelling.{section_text};
 ghost use Rattle.psi_tables.specs.Loops.{entry_at};
-ghost use Rattle.psi_tables.specs.ProgramMap.{PmtView, IsPmt, pmt_at, pmt_behind, pmt_body, pmt_header, pmt_section, pmt_view, streams_text, streams_of};
+ghost use Rattle.psi_tables.specs.ProgramMap.{PmtView, IsPmt, pmt_at, pmt_after, pmt_body, pmt_header, pmt_section, pmt_view, streams_text, streams_of};
 
 use crate::entries::entry_at;
 use crate::error::{SectionError, WriteError};
@@ -70,12 +70,12 @@ impl<'a> Pmt<'a> {
             GREATEST_TABLE_LENGTH,
             &Section { header, body },
         )?;
-        Pmt::behind(header, body)
+        Pmt::after(header, body)
     }
 
-    #[tactic(auto, unfolding(crate::specs::ProgramMap::pmt_behind))]
-    fn behind(header: LongHeader, body: &'a [u8]) -> Result<Pmt<'a>, SectionError>
-        ensures { Gives pmt_view result (pmt_behind header (entry_at 4 body.now)) }
+    #[tactic(auto, unfolding(crate::specs::ProgramMap::pmt_after))]
+    fn after(header: LongHeader, body: &'a [u8]) -> Result<Pmt<'a>, SectionError>
+        ensures { Gives pmt_view result (pmt_after header (entry_at 4 body.now)) }
     {
         match entry_at(4, body) {
             None => Err(SectionError::Body),

@@ -186,7 +186,7 @@ fn sized_at(start: Start, bytes: &[u8]) -> Result<(Section<'_>, usize), SectionE
     if bytes.len() < size {
         return Err(SectionError::Short);
     }
-    let (text, _behind) = bytes.split_at(size);
+    let (text, _after) = bytes.split_at(size);
     let section = whole_at(start, text)?;
     Ok((section, size))
 }
@@ -222,8 +222,8 @@ fn long_section(start: Start, rest: &[u8]) -> Section<'_>
     ensures { section_view result ≡ long_section start rest.now }
 {
     let size = rest.len() - 9;
-    let (header, behind) = rest.split_at(5);
-    let (body, _check_word) = behind.split_at(size);
+    let (header, after) = rest.split_at(5);
+    let (body, _check_word) = after.split_at(size);
     Section {
         header: SectionHeader {
             table_id: start.table_id,

@@ -26,9 +26,9 @@ first-some line next o x r e = rw e refl
 pub record First {X : Type 0} (next : List ℕ → Result (List X × List ℕ) ℕ) (o : Option (X × List ℕ)) (xs : List X) (rest : List ℕ) : Type 0 where
   pub first : X
   pub others : List X
-  pub behind : List ℕ
-  pub is_first : o ≡ Some (first, behind)
-  pub is_next : next behind ≡ Ok (others, rest)
+  pub following : List ℕ
+  pub is_first : o ≡ Some (first, following)
+  pub is_next : next following ≡ Ok (others, rest)
   pub are : xs ≡ first ∷ others
 
 pub ok_same : {X : Type 0} (x y : X) → ◌≡◌ {A = Result X ℕ} (Ok x) (Ok y) → x ≡ y
@@ -43,7 +43,7 @@ first-read {X} line next (Some p) xs rest e = after (next p.1) refl e
     after (Ok q) is w =
         let same : (p.0 ∷ q.0, q.1) ≡ (xs, rest) = ok_same _ _ w in
         let tail : q.1 ≡ rest = ap (λ (t : List X × List ℕ). t.1) same in
-        record { first = p.0; others = q.0; behind = p.1; is_first = refl; is_next = rw (← tail) is; are = sym (ap (λ (t : List X × List ℕ). t.0) same) }
+        record { first = p.0; others = q.0; following = p.1; is_first = refl; is_next = rw (← tail) is; are = sym (ap (λ (t : List X × List ℕ). t.0) same) }
     after (Err bad) is w = absurd (cc)
 
 pub slots-complete : (n k : ℕ) (ss : List Slot) (rest : List ℕ) → length ss ≡ k → k ≤ n → All IsByteSlot ss →
@@ -63,9 +63,9 @@ pub record SlotsRead (n k : ℕ) (xs : List ℕ) (ss : List Slot) (rest : List �
   pub small : All IsByteSlot ss
   pub text : xs ≡ numbered (slot_word n) (n - k) ss ++ rest
 
-one_more_word : (n j i : ℕ) (s : Slot) (ss : List Slot) (xs behind rest : List ℕ) → suc j ≡ i → xs ≡ slot_word n j s ++ behind →
-    behind ≡ numbered (slot_word n) i ss ++ rest → xs ≡ numbered (slot_word n) j (s ∷ ss) ++ rest
-one_more_word n j i s ss xs behind rest e f g = rw (f, g, ← e) (sym (append_assoc (slot_word n j s) (numbered (slot_word n) (suc j) ss) rest))
+one_more_word : (n j i : ℕ) (s : Slot) (ss : List Slot) (xs following rest : List ℕ) → suc j ≡ i → xs ≡ slot_word n j s ++ following →
+    following ≡ numbered (slot_word n) i ss ++ rest → xs ≡ numbered (slot_word n) j (s ∷ ss) ++ rest
+one_more_word n j i s ss xs following rest e f g = rw (f, g, ← e) (sym (append_assoc (slot_word n j s) (numbered (slot_word n) (suc j) ss) rest))
 
 pub slots-sound : (n k : ℕ) (xs : List ℕ) (ss : List Slot) (rest : List ℕ) → k ≤ n → slots_at n k xs ≡ Ok (ss, rest) → SlotsRead n k xs ss rest
 slots-sound n zero xs ss rest le e =
@@ -73,12 +73,12 @@ slots-sound n zero xs ss rest le e =
     subst (λ t. SlotsRead n zero xs t.0 t.1) same (record { count = refl; small = All-nil IsByteSlot; text = refl })
 slots-sound n (suc k) xs ss rest le e =
     let f = first-read (line_of_slot (n - suc k)) (slots_at n k) (slot_at (slot_ending n (n - suc k)) xs) ss rest e in
-    let here = (slot-exact (slot_ending n (n - suc k)) (ending-small n (n - suc k))).sound xs f.first f.behind f.is_first in
-    let more = slots-sound n k f.behind f.others rest (omega arith) f.is_next in
+    let here = (slot-exact (slot_ending n (n - suc k)) (ending-small n (n - suc k))).sound xs f.first f.following f.is_first in
+    let more = slots-sound n k f.following f.others rest (omega arith) f.is_next in
     subst (λ t. SlotsRead n (suc k) xs t rest) (sym f.are) (record {
       count = ap suc more.count;
       small = All-cons IsByteSlot f.first f.others here.0 more.small;
-      text = one_more_word n (n - suc k) (n - k) f.first f.others xs f.behind rest (omega arith) here.1 more.text;
+      text = one_more_word n (n - suc k) (n - k) f.first f.others xs f.following rest (omega arith) here.1 more.text;
     })
 
 pub streams-complete : (m line k : ℕ) (es : List StreamEntry) (rest : List ℕ) → length es ≤ m → k + m ≤ 256 → list_all is_small_stream es ≡ true → begins_with 115 rest ≡ false →
@@ -106,8 +106,8 @@ streams-sound zero line k xs es rest few e =
     subst (λ t. StreamsRead zero k xs t.0 t.1) same (record { few = omega arith; small = refl; text = refl })
 streams-sound (suc m) line k xs es rest few e = elim (cases_Bool (begins_with 115 xs)) [
   | inl begins ↦ (let f = first-read (line + k) (streams_at m line (suc k)) (stream_at k xs) es rest (rw begins at e) in
-      let here = (stream-exact k (omega arith)).sound xs f.first f.behind f.is_first in
-      let more = streams-sound m line (suc k) f.behind f.others rest (omega arith) f.is_next in
+      let here = (stream-exact k (omega arith)).sound xs f.first f.following f.is_first in
+      let more = streams-sound m line (suc k) f.following f.others rest (omega arith) f.is_next in
       let fine : list_all is_small_stream (f.first ∷ f.others) ≡ true = rw (here.0, more.small) refl in
       subst (λ t. StreamsRead (suc m) k xs t rest) (sym f.are) (record {
         few = omega (arith, more.few);
@@ -143,8 +143,8 @@ programs-sound zero line k xs es rest few e =
     subst (λ t. ProgramsRead zero k xs t.0 t.1) same (record { few = omega arith; small = refl; text = refl })
 programs-sound (suc m) line k xs es rest few e = elim (cases_Bool (begins_with 112 xs)) [
   | inl begins ↦ (let f = first-read (line + k) (programs_at m line (suc k)) (program_at k xs) es rest (rw begins at e) in
-      let here = (program-exact k (omega arith)).sound xs f.first f.behind f.is_first in
-      let more = programs-sound m line (suc k) f.behind f.others rest (omega arith) f.is_next in
+      let here = (program-exact k (omega arith)).sound xs f.first f.following f.is_first in
+      let more = programs-sound m line (suc k) f.following f.others rest (omega arith) f.is_next in
       let fine : list_all is_small_program (f.first ∷ f.others) ≡ true = rw (here.0, more.small) refl in
       subst (λ t. ProgramsRead (suc m) k xs t rest) (sym f.are) (record {
         few = omega (arith, more.few);

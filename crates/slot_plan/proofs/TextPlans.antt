@@ -121,12 +121,12 @@ read_from xs u v w rest n slots c a b d e = rw (a, b, d, e) refl
 pub plan-complete : (p : Planned) (rest : List ℕ) → IsPlan p → plan_at (plan_text p ++ rest) ≡ Ok (p, rest)
 plan-complete p rest is =
     let few = few_slots p is.within in let n = length p.slots in
-    let slots = numbered (slot_word n) 0 p.slots in let behind = certificate_text p.certificate ++ rest in
+    let slots = numbered (slot_word n) 0 p.slots in let after = certificate_text p.certificate ++ rest in
     let zero_left : n - n ≡ 0 = omega arith in
-    let third : slots_at n n (slots ++ behind) ≡ Ok (p.slots, behind) = rw zero_left at (slots-complete n n p.slots behind refl (omega arith) is.numbers) in
-    read_from (plan_text p ++ rest) (field (codes "period ") n 10 ++ (slots ++ behind)) (slots ++ behind) behind rest n p.slots p.certificate
-    (ap (after_word (codes "tsplan 1\n")) (in_parts p rest) ∙ word-complete (codes "tsplan 1\n") (field (codes "period ") n 10 ++ (slots ++ behind)))
-    (period-complete n (slots ++ behind) few.0) third (certificate-complete (3 + slot_lines n) p.certificate rest few.1)
+    let third : slots_at n n (slots ++ after) ≡ Ok (p.slots, after) = rw zero_left at (slots-complete n n p.slots after refl (omega arith) is.numbers) in
+    read_from (plan_text p ++ rest) (field (codes "period ") n 10 ++ (slots ++ after)) (slots ++ after) after rest n p.slots p.certificate
+    (ap (after_word (codes "tsplan 1\n")) (in_parts p rest) ∙ word-complete (codes "tsplan 1\n") (field (codes "period ") n 10 ++ (slots ++ after)))
+    (period-complete n (slots ++ after) few.0) third (certificate-complete (3 + slot_lines n) p.certificate rest few.1)
 
 -- where a plan is read, its text stands
 pub plan-sound : (xs : List ℕ) (p : Planned) (rest : List ℕ) → plan_at xs ≡ Ok (p, rest) → IsPlan p × (xs ≡ plan_text p ++ rest)
@@ -159,8 +159,8 @@ cut_front : (xs t rest : List ℕ) → xs ≡ t ++ rest → (length rest ≤ len
 cut_front xs t rest e =
     let long : length xs ≡ length t + length rest = rw (e, length-append) refl in
     let bytes : length xs - length rest ≡ length t = omega arith in
-    let behind : drop (length xs - length rest) xs ≡ rest = rw (bytes, e) (drop-append_seam t rest) in
-    (omega arith, bytes, rw behind e)
+    let after : drop (length xs - length rest) xs ≡ rest = rw (bytes, e) (drop-append_seam t rest) in
+    (omega arith, bytes, rw after e)
 
 -- and how many bytes it has
 pub stands : (xs : List ℕ) (p : Planned) (rest : List ℕ) → plan_at xs ≡ Ok (p, rest) → (length rest ≤ length xs) × StandsAtFront xs p (length xs - length rest)

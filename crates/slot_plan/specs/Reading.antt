@@ -140,8 +140,8 @@ period_at xs = field_at (codes "period ") 10 xs >>= (λ n. if nat_lt most_slots 
 -- from 1
 abbrev pub plan_at : List ℕ → Result (Planned × List ℕ) ℕ
 plan_at xs =
-    or_line 1 (after_word (codes "tsplan 1\n") xs) >>> (λ behind.
-    or_line 2 (period_at behind) >>> (λ n.
+    or_line 1 (after_word (codes "tsplan 1\n") xs) >>> (λ after.
+    or_line 2 (period_at after) >>> (λ n.
     slots_at n.0 n.0 n.1 >>> (λ slots.
     certificate_at (3 + slot_lines n.0) slots.1 >>> (λ certificate.
     Ok (record { slots = slots.0; certificate = certificate.0 }, certificate.1)))))

@@ -68,7 +68,7 @@ fn base_is_read_and_written(rt: HostRuntime) -> Result<(), Fail> {
 }
 
 #[test]
-fn what_stands_behind_is_left(rt: HostRuntime) -> Result<(), Fail> {
+fn what_stands_after_is_left(rt: HostRuntime) -> Result<(), Fail> {
     let text = edited(rt.alloc(), "end\n", "end\nbytes of units")?;
     let (_, bytes) = Plan::read_text(rt.alloc(), text.as_slice())?;
     assert_eq!(rt; bytes, BASE.len());

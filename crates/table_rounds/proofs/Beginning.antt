@@ -31,10 +31,10 @@ begins_at table j s lt e =
 payload : ℕ → Piece → Payload
 payload s p = record { index = s; start = p.start; bytes = p.bytes }
 
--- where a number of the list stands behind what is put before it
-behind : (t : ℕ) (o : Option Piece) (xs : List Payload) (i : ℕ) (x : Payload) → slice_get xs i ≡ Some x → (k : ℕ) × (slice_get (put t o ++ xs) k ≡ Some x)
-behind t None xs i x e = (i, e)
-behind t (Some p) xs i x e = (suc i, e)
+-- where a number of the list stands after what is put before it
+after : (t : ℕ) (o : Option Piece) (xs : List Payload) (i : ℕ) (x : Payload) → slice_get xs i ≡ Some x → (k : ℕ) × (slice_get (put t o ++ xs) k ≡ Some x)
+after t None xs i x e = (i, e)
+after t (Some p) xs i x e = (suc i, e)
 
 found : (table : Table) (from n s : ℕ) (p : Piece) → from ≤ s → s < from + n → table.own s ≡ true → part_at table s ≡ Some p
     → (i : ℕ) × (slice_get (flat_map (λ t. put t (part_at table t)) (own_slots table.own from n)) i ≡ Some (payload s p))
@@ -48,7 +48,7 @@ found table from (suc n) s p le lt y e = elim (cases_eq from s) [
   | inr other ↦
       let rest = found table (suc from) n s p (further other) (omega (arith, lt)) y e in
       elim (cases_Bool (table.own from)) [
-        | inl own ↦ let k = behind from (part_at table from) (flat_map (λ t. put t (part_at table t)) (own_slots table.own (suc from) n)) rest.0 (payload s p) rest.1 in (k.0, rw own k.1)
+        | inl own ↦ let k = after from (part_at table from) (flat_map (λ t. put t (part_at table t)) (own_slots table.own (suc from) n)) rest.0 (payload s p) rest.1 in (k.0, rw own k.1)
         | inr idle ↦ (rest.0, rw idle rest.1)
       ]
 ]

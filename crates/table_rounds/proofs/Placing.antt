@@ -95,7 +95,7 @@ pub stands : (j : ℕ) (ls : List ℕ) (n : ℕ) → n < round_places ls → Sta
 stands j [] n lt = absurd (omega (arith, lt))
 stands j (l ∷ ls) n lt = elim (cases_lt n (places_of l)) [
   | inl inside ↦ here j l ls n inside
-  | inr behind ↦ further j l ls n (n - places_of l) (omega (arith, behind)) (stands (suc j) ls (n - places_of l) (omega (arith, lt, behind, round_more l ls)))
+  | inr after ↦ further j l ls n (n - places_of l) (omega (arith, after)) (stands (suc j) ls (n - places_of l) (omega (arith, lt, after, round_more l ls)))
 ]
 
 -- the places of a section in a list of places

@@ -39,7 +39,7 @@ FirstPartLaw = (table : Table) (s j : ℕ) → place_at table s ≡ record { sec
 abbrev pub PartFitsLaw : Type 0
 PartFitsLaw = (table : Table) (s : ℕ) → table.pid < 2 ^ 13 → ContentFits (table_content table s)
 
--- in the packet of slot s section j begins: the start indicator is set, and behind pointer_field 0 the payload has the first bytes of
+-- in the packet of slot s section j begins: the start indicator is set, and after pointer_field 0 the payload has the first bytes of
 -- the section, as it is at the moment of its round
 pub record Begins (table : Table) (j s : ℕ) (bytes : List ℕ) : Type 0 where
   pub number : ℕ

@@ -6,21 +6,13 @@ ghost use Rattle.ts_packet.specs.Contents.{packet_of};
 ghost use Rattle.table_rounds.specs.Parts.{filled, part_of, part_content};
 
 use arrayvec::ArrayVec;
+use bit_fields::append;
 use ts_packet::{null_packet, write_payload};
 
 // The bytes of a packet's payload.
 const PAYLOAD: usize = 184;
 
 const FILL: [u8; 184] = [0xff; 184];
-
-// Appends bytes for which there is room.
-fn append(payload: &mut ArrayVec<u8, 184>, bytes: &[u8])
-    requires { array_vec_len payload.old + length bytes.now ≤ 184 }
-    ensures items { payload.new.items ≡ payload.old.items ++ bytes.now }
-    ensures len { array_vec_len payload.new ≡ array_vec_len payload.old + length bytes.now }
-{
-    let _fits = payload.try_extend_from_slice(bytes);
-}
 
 fn append_fill(payload: &mut ArrayVec<u8, 184>, n: usize)
     requires { array_vec_len payload.old + n ≤ 184 }

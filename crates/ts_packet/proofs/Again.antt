@@ -56,9 +56,9 @@ counted_read flagged None text rest e is = rw (e, is) refl
 counted_read flagged (Some counted) text rest e is =
     let long : nat_lt (length (counted ++ rest)) (length counted) ≡ false = le-ltb _ _ (omega (arith, length-append counted rest)) in
     let front : take (length counted) (counted ++ rest) ≡ counted = take-append_seam counted rest in
-    let behind : drop (length counted) (counted ++ rest) ≡ rest = drop_at counted rest (length counted) refl in
+    let after : drop (length counted) (counted ++ rest) ≡ rest = drop_at counted rest (length counted) refl in
     rw (e, is) (guarded _ PartTooLong _ long ∙ ap (λ (l : List ℕ). Ok (Some l, drop (length counted) (counted ++ rest))) front
-    ∙ ap (λ (l : List ℕ). Ok (Some counted, l)) behind)
+    ∙ ap (λ (l : List ℕ). Ok (Some counted, l)) after)
 
 -- a flag is a number of one bit
 pub bit_below : (b : Bool) → bit b < 2
@@ -135,9 +135,9 @@ field_read most field rest (WithFlags parts) is short =
     let size : length field ≡ suc (length body) = ap (length {A = ℕ}) is.is in
     let fits : nat_lt most (length body) ≡ false = le-ltb _ _ (omega arith) in
     let front : take (length body) (body ++ rest) ≡ body = take-append_seam body rest in
-    let behind : drop (length body) (body ++ rest) ≡ rest = drop_at body rest (length body) refl in
+    let after : drop (length body) (body ++ rest) ≡ rest = drop_at body rest (length body) refl in
     let read : adaptation_at (take (length body) (body ++ rest)) ≡ Ok (WithFlags parts) = rw front (parts_read body parts is.parted) in
-    rw is.is (guarded _ FieldTooLong _ fits ∙ bind_at _ _ (WithFlags parts) read ∙ ap (λ (l : List ℕ). Ok (WithFlags parts, l)) behind)
+    rw is.is (guarded _ FieldTooLong _ fits ∙ bind_at _ _ (WithFlags parts) read ∙ ap (λ (l : List ℕ). Ok (WithFlags parts, l)) after)
 
 -- what follows the header
 body_read : (header : Header) (adaptation : Option AdaptationView) (payload : Option (List ℕ)) (field rest : List ℕ) → IsAdaptation field adaptation → IsPayload rest payload

@@ -15,8 +15,8 @@ first_cut packet bytes size =
     let all : length (packet ++ bytes) ≡ length packet + length bytes = length-append packet bytes in
     let more : length (packet ++ bytes) / 188 ≡ suc (length bytes / 188) = omega arith in
     let front : take 188 (packet ++ bytes) ≡ packet = take_at packet bytes 188 size in
-    let behind : drop 188 (packet ++ bytes) ≡ bytes = drop_at packet bytes 188 size in
-    rw (more, front, behind) refl
+    let after : drop 188 (packet ++ bytes) ≡ bytes = drop_at packet bytes 188 size in
+    rw (more, front, after) refl
 
 -- the PID list of chunks, the first of which has this index
 listed_from : ℕ → ℕ → List (List ℕ) → List Entry

@@ -20,8 +20,8 @@ pub filled_more : (a k n : ℕ) (xs ys : List ℕ) → a ≤ length xs → n ≤
 filled_more a k n xs ys within fits =
     let front : take a (put_mid a k xs ys) ≡ take a xs = take-put_mid_below _ _ _ _ _ (le_refl _) within in
     let after = post_of a k xs in
-    let behind : take n (drop a (put_mid a k xs ys)) ≡ take n ys = ap (take n) (drop_at (take a xs) (ys ++ after) a (length-take-le a xs within)) ∙ take-append-le n ys after fits in
-    take-add a n (put_mid a k xs ys) ∙ ap (λ l. l ++ take n (drop a (put_mid a k xs ys))) front ∙ ap (λ l. take a xs ++ l) behind
+    let following : take n (drop a (put_mid a k xs ys)) ≡ take n ys = ap (take n) (drop_at (take a xs) (ys ++ after) a (length-take-le a xs within)) ∙ take-append-le n ys after fits in
+    take-add a n (put_mid a k xs ys) ∙ ap (λ l. l ++ take n (drop a (put_mid a k xs ys))) front ∙ ap (λ l. take a xs ++ l) following
 
 -- what was consumed of known bytes is their front
 pub consumed_front : (a b : Option (List ℕ)) (xs part : List ℕ) (n : ℕ) → n ≤ length part → Consumes a b (take n part) → a ≡ Some xs

@@ -1,4 +1,5 @@
 pub mod Numerals
+pub mod CommandLines
 pub mod Subcommands
 pub mod Passages
 pub mod Listing
@@ -6,3 +7,6 @@ pub mod Reading
 pub mod Performances
 pub mod Judging
 pub mod PlanTexts
+pub mod UnitLists
+pub mod MuxJobs
+pub mod Multiplexes

@@ -13,5 +13,8 @@ pub mod Demultiplexing
 pub mod Jobs
 pub mod JobFaults
 pub mod Checking
+pub mod UnitList
+pub mod MuxJobs
+pub mod Multiplexing
 pub mod Planning
 pub mod Program

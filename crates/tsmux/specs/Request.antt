@@ -1,5 +1,5 @@
 -- What the words ask for.
-use Rattle.std.specs.Prelude.{ℕ, IsTrue, ◌<◌, ◌&&◌, Bool, true, false, List, [], ◌∷◌, Option, Some, None, nat_le, nat_lt, length, if◌then◌else◌, codes, map, option_and_then}
+use Rattle.std.specs.Prelude.{ℕ, IsTrue, ◌-◌, ◌^◌, ◌<◌, ◌&&◌, Bool, true, false, List, [], ◌∷◌, Option, Some, None, nat_le, nat_lt, length, if◌then◌else◌, codes, map, option_and_then, option_map}
 use Rattle.std.specs.Borrow.{Bor}
 use Rattle.std.specs.Char.{is_ascii_digit}
 use Rattle.std.specs.List.{list_all}
@@ -7,7 +7,7 @@ use Rattle.std.specs.Str.{bytes_eq}
 use Rattle.std.specs.Str.Parse.{digits_value}
 use Rattle.clap.specs.Words.{Row, Text, Kinds, fault_of, first_of, subcommand_of}
 use Rattle.tsmux.specs.declared.request.Request.{Request}
-use Rattle.tsmux.specs.declared.request.Request.TheVariants.{Carry, Check, Demux, Plan}
+use Rattle.tsmux.specs.declared.request.Request.TheVariants.{Carry, Check, Demux, Mux, Plan}
 use Rattle.pes_packet.specs.StreamIds.{is_unit_id}
 use Rattle.tsmux.specs.CommandLine.{tsmux_app}
 
@@ -27,6 +27,11 @@ unfoldable pub number_option : ℕ → ℕ → ℕ → Option Text → Option �
 number_option low high usual None = Some usual
 number_option low high usual (Some text) = option_and_then (within low high) (decimal text)
 
+-- the number of an option that need not be given, none where it is out of its range
+unfoldable pub number_if_given : ℕ → ℕ → Option Text → Option (Option ℕ)
+number_if_given low high None = Some None
+number_if_given low high (Some text) = option_map Some (option_and_then (within low high) (decimal text))
+
 -- a flag is given
 unfoldable pub is_given : Option Text → Bool
 is_given None = false
@@ -43,12 +48,24 @@ carry_request rows = carriage_of (is_given (first_of (codes "hex") rows))
     (number_option 32 8190 256 (first_of (codes "pid") rows))
     (number_option 0 255 192 (first_of (codes "id") rows))
 
+-- of the options of `mux`
+unfoldable pub mux_of : Bool → Option (Option ℕ) → Option (Option ℕ) → Option Request
+mux_of hex None periods = None
+mux_of hex (Some slots) None = None
+mux_of hex (Some slots) (Some periods) = Some (Mux (record { hex = hex; slots = slots; periods = periods }))
+
+unfoldable pub mux_request : List Row → Option Request
+mux_request rows = mux_of (is_given (first_of (codes "hex") rows))
+    (number_if_given 0 (2 ^ 64 - 1) (first_of (codes "slots") rows))
+    (number_if_given 0 (2 ^ 64 - 1) (first_of (codes "switch") rows))
+
 unfoldable pub request_of : Text → List Row → Option Request
 request_of name rows =
     if bytes_eq name (codes "carry") then carry_request rows
     else (if bytes_eq name (codes "plan") then Some Plan
     else (if bytes_eq name (codes "demux") then Some Demux
-    else (if bytes_eq name (codes "check") then Some (Check (is_given (first_of (codes "switch") rows))) else None)))
+    else (if bytes_eq name (codes "check") then Some (Check (is_given (first_of (codes "switch") rows)))
+    else (if bytes_eq name (codes "mux") then mux_request rows else None))))
 
 -- of words without a fault
 unfoldable pub subcommand_request : Option (Text × List Row) → Option Request
@@ -79,3 +96,4 @@ Fits (Some (Carry c)) = (c.pid < 8192) × IsTrue (is_unit_id c.id)
 Fits (Some Plan) = Unit {0}
 Fits (Some Demux) = Unit {0}
 Fits (Some (Check switch)) = Unit {0}
+Fits (Some (Mux options)) = Unit {0}

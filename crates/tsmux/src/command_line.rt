@@ -2,7 +2,7 @@
 ghost use Rattle.std.specs.Prelude.{◌≡◌, true, false, IfOk, codes, map};
 ghost use Rattle.clap.specs.Words.{FailsBy, app_of, fault_of, rule_of, subcommand_of, subcommand_rows_of, with_subcommand};
 ghost use Rattle.clap.specs.declared.builder.command.Command.TheViews.{out-Command as fields_of};
-ghost use Rattle.tsmux.specs.CommandLine.{carry_app, check_app, demux_app, flag_rule, option_rule, plan_app, tsmux_app};
+ghost use Rattle.tsmux.specs.CommandLine.{carry_app, check_app, demux_app, flag_rule, mux_app, option_rule, plan_app, tsmux_app, without_mux};
 
 use clap::{Arg, ArgAction, ArgMatches, Command, Error};
 use std::alloc::{AllocError, Global};
@@ -54,6 +54,16 @@ fn check<'a>(alloc: Global) -> Result<Command<'a>, AllocError>
     Command::new(alloc, "check").arg(flag(alloc, "switch"))
 }
 
+fn mux<'a>(alloc: Global) -> Result<Command<'a>, AllocError>
+    ensures app { IfOk result (λ c. app_of c ≡ mux_app) }
+    ensures local { IfOk result (λ c. (fields_of c).has_globals ≡ false) }
+{
+    Command::new(alloc, "mux")
+        .arg(flag(alloc, "hex"))?
+        .arg(option(alloc, "slots"))?
+        .arg(option(alloc, "switch"))
+}
+
 /// A command with one more subcommand.
 fn with<'a>(command: Command<'a>, sub: Command<'a>) -> Result<Command<'a>, AllocError>
     requires { (fields_of sub).has_globals ≡ false }
@@ -62,15 +72,24 @@ fn with<'a>(command: Command<'a>, sub: Command<'a>) -> Result<Command<'a>, Alloc
     command.subcommand(sub)
 }
 
-/// The program's command line.
-fn tsmux<'a>(alloc: Global) -> Result<Command<'a>, AllocError>
-    ensures { IfOk result (λ c. app_of c ≡ tsmux_app) }
+/// The words that look at a description, a job or packets, or need no plan.
+fn without_mux<'a>(alloc: Global) -> Result<Command<'a>, AllocError>
+    ensures { IfOk result (λ c. app_of c ≡ without_mux) }
 {
     let command = Command::new(alloc, "tsmux").no_binary_name(true);
     let command = with(command, carry(alloc)?)?;
     let command = with(command, plan(alloc))?;
     let command = with(command, demux(alloc))?;
     with(command, check(alloc)?)
+}
+
+/// The program's command line.
+#[tactic(auto, unfolding(crate::specs::CommandLine::tsmux_app))]
+fn tsmux<'a>(alloc: Global) -> Result<Command<'a>, AllocError>
+    ensures { IfOk result (λ c. app_of c ≡ tsmux_app) }
+{
+    let command = without_mux(alloc)?;
+    with(command, mux(alloc)?)
 }
 
 /// The subcommand that the words name, with what they give its options.

@@ -67,6 +67,20 @@ pub fn number_option(text: Option<&str>, low: u64, high: u64, usual: u64) -> Opt
     }
 }
 
+/// The number of an option that need not be given; none where it is out of these limits.
+#[tactic(auto, unfolding(crate::specs::Request::number_if_given))]
+pub fn number_if_given(text: Option<&str>, low: u64, high: u64) -> Option<Option<u64>>
+    ensures { result ≡ asked.number_if_given low high (option_map (λ s. s.now) text.entry) }
+{
+    let Some(text) = text else {
+        return Some(None);
+    };
+    match number_in(text, low, high) {
+        None => None,
+        Some(number) => Some(Some(number)),
+    }
+}
+
 /// Whether a flag is given.
 #[tactic(auto, unfolding(crate::specs::Request::is_given))]
 pub fn is_given(text: Option<&str>) -> bool

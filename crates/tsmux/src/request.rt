@@ -20,6 +20,17 @@ pub struct Carriage {
     pub id: u8,
 }
 
+/// What `mux` is to do: the packets of a job as bytes, or as lines of hexadecimal digits.
+#[derive(Clone, Copy, Debug, PartialEq, Eq)]
+pub struct MuxOptions {
+    /// lines of hexadecimal digits, and not bytes
+    pub hex: bool,
+    /// the number of packets; where it is not given, as many as end with the greatest DTS
+    pub slots: Option<u64>,
+    /// after how many periods of the first plan the second takes its place; where it is not given, there is one plan
+    pub periods: Option<u64>,
+}
+
 /// A use of the program.
 #[derive(Clone, Copy, Debug, PartialEq, Eq)]
 pub enum Request {
@@ -31,6 +42,8 @@ pub enum Request {
     Demux,
     /// whether a plan serves a description, and a second plan may follow it
     Check { switch: bool },
+    /// a job to its packets
+    Mux(MuxOptions),
 }
 
 #[tactic(auto, unfolding(crate::specs::Request::carriage_of))]
@@ -65,6 +78,35 @@ fn carry_request(matches: &ArgMatches<'_>) -> Option<Request>
     carriage_of(hex, pid, id)
 }
 
+#[tactic(auto, unfolding(crate::specs::Request::mux_of))]
+fn mux_of(hex: bool, slots: Option<Option<u64>>, periods: Option<Option<u64>>) -> Option<Request>
+    ensures value { result ≡ asked.mux_of hex slots periods }
+    ensures fits { asked.Fits result }
+{
+    let Some(slots) = slots else {
+        return None;
+    };
+    let Some(periods) = periods else {
+        return None;
+    };
+    Some(Request::Mux(MuxOptions {
+        hex,
+        slots,
+        periods,
+    }))
+}
+
+#[tactic(auto, unfolding(crate::specs::Request::mux_request))]
+fn mux_request(matches: &ArgMatches<'_>) -> Option<Request>
+    ensures value { result ≡ asked.mux_request (rows_of (found_of matches.now)) }
+    ensures fits { asked.Fits result }
+{
+    let hex = options::is_given(options::text_of(matches, "hex"));
+    let slots = options::number_if_given(options::text_of(matches, "slots"), 0, u64::MAX);
+    let periods = options::number_if_given(options::text_of(matches, "switch"), 0, u64::MAX);
+    mux_of(hex, slots, periods)
+}
+
 #[tactic(auto, unfolding(crate::specs::Request::request_of))]
 fn request_of(name: &str, matches: &ArgMatches<'_>) -> Option<Request>
     ensures value { result ≡ asked.request_of name.now (rows_of (found_of matches.now)) }
@@ -78,6 +120,7 @@ fn request_of(name: &str, matches: &ArgMatches<'_>) -> Option<Request>
             let switch = options::is_given(options::text_of(matches, "switch"));
             Some(Request::Check { switch })
         }
+        "mux" => mux_request(matches),
         _ => None,
     }
 }

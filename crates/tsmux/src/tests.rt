@@ -1,5 +1,8 @@
 //! The program over bytes, and over readers and writers that fail.
 mod finding_list;
+mod mux_faults;
+mod mux_measured;
+mod mux_runs;
 mod plan_checks;
 mod plans;
 
@@ -184,6 +187,21 @@ fn tells_the_usage(rt: HostRuntime) -> Result<(), Fail> {
     assert_usage(&rt, alloc, ["demux", "--hex"].as_slice());
     assert_usage(&rt, alloc, ["check", "more"].as_slice());
     assert_usage(&rt, alloc, ["check", "--switch", "--switch"].as_slice());
+    Ok(())
+}
+
+/// The same of `mux`: an option without a number, with a sign, past 64 bits, and one of another word.
+#[test]
+fn tells_the_usage_of_mux(rt: HostRuntime) -> Result<(), Fail> {
+    let alloc = rt.alloc();
+    assert_usage(&rt, alloc, ["mux", "--slots"].as_slice());
+    assert_usage(&rt, alloc, ["mux", "--switch", "-1"].as_slice());
+    assert_usage(
+        &rt,
+        alloc,
+        ["mux", "--slots", "18446744073709551616"].as_slice(),
+    );
+    assert_usage(&rt, alloc, ["mux", "--pid", "40"].as_slice());
     Ok(())
 }
 

@@ -52,13 +52,13 @@ pub ahead_climbs : (w : Departures) → 0 < w.queue.step → Climbs (suc w.queue
 unfolding left_ahead
 ahead_climbs w pos = left_climb w.queue.step w.queue.last w.rx w.byte w.left (packets_ahead w) pos
 
-pub climbs_behind : (x from : ℕ) (ts : List ℕ) → x < from → Climbs from ts → All (λ t. x < t) ts
+pub climbs_following : (x from : ℕ) (ts : List ℕ) → x < from → Climbs from ts → All (λ t. x < t) ts
 unfolding Climbs
-climbs_behind x from [] lt climbs = All-nil (λ t. x < t)
-climbs_behind x from (t ∷ ts) lt climbs =
+climbs_following x from [] lt climbs = All-nil (λ t. x < t)
+climbs_following x from (t ∷ ts) lt climbs =
     let here : x < t = omega (arith, climbs.0) in
     let next : x < suc t = omega arith in
-    All-cons (λ t. x < t) t ts here (climbs_behind x (suc t) ts next climbs.1)
+    All-cons (λ t. x < t) t ts here (climbs_following x (suc t) ts next climbs.1)
 
 -- the greatest at times that climb looks at nothing before
 pub greatest_same : (f g : ℕ → ℕ) (from : ℕ) (ds : List ℕ) → Climbs from ds → ((x : ℕ) → from ≤ x → f x ≡ g x) → greatest_at f ds ≡ greatest_at g ds

@@ -10,7 +10,7 @@ use Rattle.unit_timing.proofs.Counting.{kept, kept_before}
 use Rattle.tstd.specs.State.Gone.{gone}
 use Rattle.tstd.specs.State.Kept.{one_there}
 use Rattle.tstd.specs.State.Entering.{most_ahead}
-use Rattle.tstd.proofs.Climbing.{climbs_behind, greatest_same, greatest_ext}
+use Rattle.tstd.proofs.Climbing.{climbs_following, greatest_same, greatest_ext}
 
 -- a whole moment lies before a stamp exactly where it lies before the first whole moment that does not
 gone_test : (x limit : ℕ) → nat_lt (x * 720000) limit ≡ nat_lt x ((limit + 719999) / 720000)
@@ -50,7 +50,7 @@ byte_entered rate r due m texts before after d ds climbs counted =
     let same : d ≤ d = omega arith in
     let next : d < suc d = omega arith in
     let now = held_byte rate r due m texts d ds d same in
-    let none = held_early rate r d (record { dts = due; size = m } ∷ texts) ds (climbs_behind d (suc d) ds next climbs) in
+    let none = held_early rate r d (record { dts = due; size = m } ∷ texts) ds (climbs_following d (suc d) ds next climbs) in
     let rest = greatest_same (λ x. before x + mb_fullness rate r x (record { dts = due; size = suc m } ∷ texts) (d ∷ ds))
     (λ x. after x + mb_fullness rate r x (record { dts = due; size = m } ∷ texts) ds) (suc d) ds climbs
     (λ x le. let low : d ≤ x = omega (arith, le) in omega (arith, held_byte rate r due m texts d ds x low, counted x low)) in

@@ -30,8 +30,8 @@ front_end a b c n m la lb =
     let cut : take (n + m) ((a ++ b) ++ c) ≡ a ++ b = take_at (a ++ b) c (n + m) both in
     rw (sym (append_assoc a b c), cut) (drop_at a b n la)
 
-behind_front : (a b c : List ℕ) (n m : ℕ) → length a ≡ n → length b ≡ m → drop (n + m) (a ++ (b ++ c)) ≡ c
-behind_front a b c n m la lb =
+after_front : (a b c : List ℕ) (n m : ℕ) → length a ≡ n → length b ≡ m → drop (n + m) (a ++ (b ++ c)) ≡ c
+after_front a b c n m la lb =
     let both : length (a ++ b) ≡ n + m = length-append a b ∙ rw (la, lb) refl in
     rw (sym (append_assoc a b c)) (drop_at (a ++ b) c (n + m) both)
 
@@ -53,8 +53,8 @@ into_packet step last rx index size packets few =
     let lb : length (departures step after row) ≡ size = length-departures step after row ∙ length-row rx (188 * index + (188 - size)) size in
     let e : (188 - size) + size ≡ 188 = omega arith in
     let payload = rw e at (front_end (departures step last front) (departures step after row) (departures step (last_left step after row) rest) (188 - size) size la lb) in
-    let behind = rw e at (behind_front (departures step last front) (departures step after row) (departures step (last_left step after row) rest) (188 - size) size la lb) in
-    rw (all, split, payload, behind) refl
+    let following = rw e at (after_front (departures step last front) (departures step after row) (departures step (last_left step after row) rest) (188 - size) size la lb) in
+    rw (all, split, payload, following) refl
 
 -- and its bytes before the payload have passed the buffer
 pub longest_in_packet : (step last rx index size : ℕ) (packets : List Packet) → size ≤ 188 →

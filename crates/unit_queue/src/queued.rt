@@ -8,6 +8,7 @@ ghost use Rattle.unit_queue.specs.Queues.{Queued};
 ghost use Rattle.unit_queue.specs.Steps.{rest_of, some_bytes};
 
 use arrayvec::ArrayVec;
+use bit_fields::append;
 use pes_packet::Unit;
 use std::alloc::Allocator;
 use std::marker::Model;
@@ -96,15 +97,6 @@ pub(crate) fn packet_count(size: usize) -> u64
     ensures { result ≡ piece_count size }
 {
     size.div_ceil(PAYLOAD) as u64
-}
-
-// Appends bytes for which there is room.
-fn append(payload: &mut ArrayVec<u8, 184>, bytes: &[u8])
-    requires { array_vec_len payload.old + length bytes.now ≤ 184 }
-    ensures items { payload.new.items ≡ payload.old.items ++ bytes.now }
-    ensures len { array_vec_len payload.new ≡ array_vec_len payload.old + length bytes.now }
-{
-    let _ = payload.try_extend_from_slice(bytes);
 }
 
 // The packet of a payload, the null packet where it has no bytes.

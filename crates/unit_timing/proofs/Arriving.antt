@@ -15,7 +15,7 @@ use Rattle.unit_timing.specs.Deadline.{Ends, InTime}
 use Rattle.unit_timing.specs.Transport.{of_payloads, pes_left}
 use Rattle.unit_timing.specs.Arrived.{AllLeft, ArrivedLaw}
 use Rattle.unit_timing.proofs.Filling.{Level, left_by}
-use Rattle.unit_timing.proofs.Sending.{slots_of-cut, pes_left-append, length-left-cut, rises_take, slot_after, rises_begin, rises_behind, level_packets, length-own_slots, first_before, sent_nothing}
+use Rattle.unit_timing.proofs.Sending.{slots_of-cut, pes_left-append, length-left-cut, rises_take, slot_after, rises_begin, rises_following, level_packets, length-own_slots, first_before, sent_nothing}
 
 pub length-run : (own : ℕ → Bool) (n : ℕ) → length (own_slots own 0 n) ≡ own_before own n
 unfolding own_before
@@ -109,7 +109,7 @@ arrived own rate lead r room peak W n pos bounds (unit ∷ units) free prev from
       (λ due. due_there own rate r room peak W n b p unit from prev bounds pos small here h (pes_left rate r next (packets_in_slots own rate lead (b + p) units slots)) in_time.0 due),
       rw (after_unit own rate lead r n b p unit.size prev next units small)
           (arrived own rate lead r room peak W n pos bounds units (b + p) next (slot_after from xs) in_time.1
-          (rises_behind own from b p slots here)
+          (rises_following own from b p slots here)
           (level_packets own rate r room peak W from prev xs bounds (rises_take own from p (drop b slots) here) h)),
     )
 

@@ -141,9 +141,9 @@ rises_begin own rate lead free from unit slots rises =
     rw (drop-drop (b - free) free slots, to) at (rises_drop own from (b - free) (drop free slots) rises)
 
 -- and so they do after p packets
-pub rises_behind : (own : ℕ → Bool) (from b p : ℕ) (slots : List ℕ) → Rises own from (drop b slots) →
+pub rises_following : (own : ℕ → Bool) (from b p : ℕ) (slots : List ℕ) → Rises own from (drop b slots) →
     Rises own (slot_after from (take p (drop b slots))) (drop (b + p) slots)
-rises_behind own from b p slots rises =
+rises_following own from b p slots rises =
     let parts : Rises own from (take p (drop b slots) ++ drop (b + p) slots) = rw (← drop-drop p b slots, take-append-drop p (drop b slots)) rises in
     rises_after own from (take p (drop b slots)) (drop (b + p) slots) parts
 
@@ -158,7 +158,7 @@ rising_sent own rate lead slots (unit ∷ units) free from rises =
     let here = rises_begin own rate lead free from unit slots rises in
     rw (map-append (λ (p : Packet). p.slot) (cut unit.size xs) (packets_in_slots own rate lead (b + p) units slots), slots_of-cut unit.size xs)
     (rises_join own from xs (slots_of (packets_in_slots own rate lead (b + p) units slots)) (rises_take own from p (drop b slots) here)
-    (rising_sent own rate lead slots units (b + p) (slot_after from xs) (rises_behind own from b p slots here)))
+    (rising_sent own rate lead slots units (b + p) (slot_after from xs) (rises_following own from b p slots here)))
 
 -- the packets of a run stand in rising own slots
 pub rising_run : (own : ℕ → Bool) (rate lead n : ℕ) (units : List PesPacket) → Rises own 0 (slots_of (packets_in_slots own rate lead 0 units (own_slots own 0 n)))

@@ -1,9 +1,7 @@
 //! PCRs and tables: what recurs within a time.
 
 use crate::search::numbers::{narrowed, product, rounded_up};
-
-/// A slot of 1,504 bits, in the thousandths of a second in which limits are given.
-const SLOT_BITS: u128 = 1_504_000;
+use clock27::SLOT_MILLISECONDS;
 
 /// An item of which `places` own slots on end come within `gap` slots.
 #[derive(Clone, Copy, Debug, PartialEq, Eq)]
@@ -16,7 +14,7 @@ impl Recurrence {
     /// Of `places` own slots within `limit` ms, at that rate in bits/s.
     pub fn within(limit: u64, rate: u64, places: u64) -> Recurrence {
         Recurrence {
-            gap: product(&[limit as u128, rate as u128]) / SLOT_BITS,
+            gap: product(&[limit as u128, rate as u128]) / SLOT_MILLISECONDS,
             places: places as u128,
         }
     }

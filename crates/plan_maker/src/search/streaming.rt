@@ -1,16 +1,9 @@
 //! Streams: their rate, the deadlines of units in a row, their main buffer.
 
 use crate::search::numbers::{narrowed, product, rounded_up};
+use clock27::{BYTE_UNITS, SLOT_UNITS};
 use slot_plan::Stream;
-
-/// A slot of 1,504 bits, in units of 90 kHz times bits/s.
-const SLOT_UNITS: u128 = 135_360_000;
-
-/// The bits of a byte times the units of 90 kHz in a second.
-const BYTE_UNITS: u128 = 720_000;
-
-/// A transport buffer of 512 bytes is the most that a packet waits for.
-const TRANSPORT_ROOM: u128 = 512;
+use unit_timing::buffers::TB_SIZE;
 
 /// The slots by which the search lets a packet be late: the one that the deadline's condition adds, and two more.
 const JITTER: u128 = 3;
@@ -36,14 +29,14 @@ impl Pace<'_> {
         product(&[units as u128, self.pieces() as u128]).min(self.stream.group_packets as u128)
     }
 
-    /// The time from the first of so many units in a row to the last one's decoding, less what the last packet waits in
-    /// the transport buffer, on the scale of rate times drain.
+    /// The time from the first of so many units in a row to the last one's decoding, less the most that the last packet
+    /// waits in the transport buffer, on the scale of rate times drain.
     fn time(self, units: u8) -> u128 {
         let interval = self.stream.interval as u128;
         let before = product(&[(units as u128).saturating_sub(1), interval]);
         let lead = before.saturating_add(self.stream.lead as u128);
         let all = product(&[lead, self.rate as u128, self.stream.rx as u128]);
-        all.saturating_sub(product(&[TRANSPORT_ROOM, self.rate as u128, BYTE_UNITS]))
+        all.saturating_sub(product(&[TB_SIZE as u128, self.rate as u128, BYTE_UNITS]))
     }
 
     /// The least own slots of a period; None where none are enough.

@@ -221,12 +221,12 @@ fn writes_reserved_bits(rt: HostRuntime) {
 #[test]
 fn takes_entries(rt: HostRuntime) {
     let services = &SDT[11..36];
-    let Some((service, behind)) = entry_at(5, services) else {
+    let Some((service, after)) = entry_at(5, services) else {
         panic!(rt; "no service");
     };
     assert_eq!(rt; service.head, [0x00, 0x01, 0xfc, 0x80, 0x14].as_slice());
     assert_eq!(rt; service.descriptors.len(), 20);
-    assert!(rt; behind.is_empty());
+    assert!(rt; after.is_empty());
     assert!(rt; is_whole_loop(5, services));
     assert!(rt; !is_whole_loop(5, &services[..24]));
     assert!(rt; Streams::read(&PMT[12..28]).is_ok());

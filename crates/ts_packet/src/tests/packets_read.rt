@@ -114,7 +114,7 @@ fn reads_each_part(rt: HostRuntime) {
 }
 
 #[test]
-fn does_not_look_behind_a_field_without_payload(rt: HostRuntime) {
+fn does_not_look_after_a_field_without_payload(rt: HostRuntime) {
     let bytes = packet_of(&[0x47, 0x01, 0x00, 0x20, 0x00, 0x12]);
     let Ok(packet) = read_packet(&bytes) else {
         assert!(rt; false);
@@ -142,14 +142,14 @@ fn wanted(bytes: &[u8; 188]) -> u8 {
         (0x47, 0x00) => 2,
         (0x47, 0x20) if length > 183 => 3,
         (0x47, 0x30) if length > 182 => 3,
-        (0x47, _) if length > 0 && behind_parts(bytes) > 5 + length => 4,
+        (0x47, _) if length > 0 && after_parts(bytes) > 5 + length => 4,
         (0x47, _) => 0,
         _ => 1,
     }
 }
 
 /// The place after the flagged parts, each with its length where it has one.
-fn behind_parts(bytes: &[u8; 188]) -> usize {
+fn after_parts(bytes: &[u8; 188]) -> usize {
     let flags = bytes[5];
     let mut place = 6_usize;
     for (flag, size) in [(0x10, 6), (0x08, 6), (0x04, 1)] {

@@ -44,7 +44,7 @@ text = \"\"
 ";
 
 /// A plan for it: 120 slots, of which the stream has every fourth.
-const PLAN: &str = "tsplan 1
+pub const PLAN: &str = "tsplan 1
 period 120
 S0 P0 T0 T1 S0 T3 T2 T4 S0 T5 - - S0 - - - S0 - - - S0 - - -
 S0 P0 - - S0 - - - S0 - - - S0 - - - S0 - - - S0 - - -

@@ -40,12 +40,12 @@ loop-rest-preserved g c =
     subst (λ (b : List ℕ). parts.decided parts.OfSection b ≡ Some (what_of b verdict)) c.bytes_of-bytes.ensures some in
     let skips : drop c.taken_by.result rest ≡ drop (parts.taken_by rest (what_of rest verdict)) rest =
     subst (λ (b : List ℕ). drop c.taken_by.result b ≡ drop (parts.taken_by b (what_of b verdict)) b) c.bytes_of-bytes.ensures c.taken_by.ensures.rest in
-    let behind : payload_list c.behind-rest.result ≡ drop (parts.taken_by rest (what_of rest verdict)) rest = c.behind-rest.ensures.list ∙ skips in
+    let after : payload_list c.after-rest.result ≡ drop (parts.taken_by rest (what_of rest verdict)) rest = c.after-rest.ensures.list ∙ skips in
     record {
       found = left_more (given c.args.place) _ _ _ _ _ _
-          (more_found c.args.place.packet rest (what_of rest verdict) fill decides ∙ ap (λ (x : List ℕ). parts.about_within (parts.section c.args.place.packet rest) (what_of rest verdict) ∷ parts.sections_in c.args.place.packet 0 x) (sym behind))
+          (more_found c.args.place.packet rest (what_of rest verdict) fill decides ∙ ap (λ (x : List ℕ). parts.about_within (parts.section c.args.place.packet rest) (what_of rest verdict) ∷ parts.sections_in c.args.place.packet 0 x) (sym after))
           c.in_ok-note_within-in-Some.ensures.ok
           c.loop-rest.invariant.found;
-      lent = c.behind-rest.ensures.lent ∙ c.loop-rest.invariant.lent;
-      last = ap (parts.last_in 0) behind ∙ sym (more_last rest (what_of rest verdict) fill decides) ∙ c.loop-rest.invariant.last;
+      lent = c.after-rest.ensures.lent ∙ c.loop-rest.invariant.lent;
+      last = ap (parts.last_in 0) after ∙ sym (more_last rest (what_of rest verdict) fill decides) ∙ c.loop-rest.invariant.last;
     }

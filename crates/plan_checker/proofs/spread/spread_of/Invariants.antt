@@ -1,4 +1,4 @@
-use Rattle.std.proofs.Common.{◌≡◌}
+use Rattle.std.proofs.Common.{◌≡◌, ◌*◌, ◌≤◌}
 use Rattle.own_slots.specs.Slots.{own_before}
 use Rattle.own_slots.specs.Period.{own}
 use Rattle.own_slots.specs.Spread.{highest, lowest}
@@ -9,5 +9,6 @@ abbrev pub invariant-loop-at : goal.invariant-loop-at
 invariant-loop-at l = record {
   counted : l.number ≡ own_before (own (marks l.item l.slots)) l.at;
   high : l.highest ≡ highest (marks l.item l.slots) l.at;
+  few : l.highest ≤ 2 * (l.count * l.period);
   low : l.lowest ≡ lowest (marks l.item l.slots) l.at;
 }

@@ -13,6 +13,7 @@ pub loop-slot-init : goal.loop-slot-init
 loop-slot-init c = record {
   now = sym (work_begin c.args.rate c.args.drain c.args.start (marks c.args.item c.args.slots.now));
   bound = omega arith;
+  few_after = omega arith;
   before = sym (greatest_none (before_at c.args.rate c.args.drain c.args.start (marks c.args.item c.args.slots.now)));
   after = sym (greatest_none (after_at c.args.rate c.args.drain c.args.start (marks c.args.item c.args.slots.now)));
 }
@@ -34,6 +35,16 @@ loop-slot-preserved c = elim c.if-owns.branch [
           c.loop-slot.invariant.before,
           before_more c.args.rate c.args.drain c.args.start (marks c.args.item c.args.slots.now) c.loop-slot.slot-index y,
         );
+        few_after = omega (
+          arith,
+          w.most_after-is,
+          w.max-most_after.ensures,
+          max_is c.loop-slot.most_after (c.saturating_sub-left.result + 188 * c.args.rate),
+          w.work-is,
+          c.saturating_sub-left.ensures,
+          c.loop-slot.invariant.bound,
+          c.loop-slot.invariant.few_after,
+        );
         after = omega (
           arith,
           w.most_after-is,
@@ -54,6 +65,7 @@ loop-slot-preserved c = elim c.if-owns.branch [
         now = omega (arith, w.work-is, c.saturating_sub-left.ensures, c.loop-slot.invariant.now, next);
         bound = omega (arith, w.work-is, c.saturating_sub-left.ensures, c.loop-slot.invariant.bound);
         before = w.most_before-is ∙ c.loop-slot.invariant.before ∙ sym (before_same c.args.rate c.args.drain c.args.start (marks c.args.item c.args.slots.now) c.loop-slot.slot-index n);
+        few_after = omega (arith, w.most_after-is, c.loop-slot.invariant.few_after);
         after = w.most_after-is ∙ c.loop-slot.invariant.after ∙ sym (after_same c.args.rate c.args.drain c.args.start (marks c.args.item c.args.slots.now) c.loop-slot.slot-index n);
       }
 ]

@@ -36,5 +36,5 @@ returns c = record { alone = λ slots item i s. in_period item slots s i; in_tur
         owned (switched first periods second) item s ≡ joined (own (marks item first)) (own (marks item second)) (periods * length first) s
     two first second periods item s = elim (cases_Bool (nat_lt s (periods * length first))) [
       | inl before ↦ rw before (in_period item first s)
-      | inr behind ↦ rw behind (in_period item second (s - periods * length first))
+      | inr after ↦ rw after (in_period item second (s - periods * length first))
     ]

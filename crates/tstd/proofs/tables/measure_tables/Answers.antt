@@ -33,17 +33,17 @@ loop-index-preserved c =
     let rest = tables_from c.args.pmt_pid (i + 1) (drop (i + 1) c.args.packets.now) in
     let same = tables_own c.args.pmt_pid i c.args.packets.now _ c.loop-index-test.true (sym c.is_of_tables.ensures ∙ c.if-not-is_of_tables.false) in
     let before = c.loop-index.transport in
-    let behind = c.loop-index.system in
+    let after = c.loop-index.system in
     let row = bytes_from 2000000 (188 * i) 188 in
     record {
       step = ap (λ (q : Queue). q.step) e.transport ∙ passed-step before row ∙ inv.step;
-      system_step = ap (λ (q : Queue). q.step) e.system ∙ passed-step behind (departures before.step before.last row) ∙ inv.system_step;
+      system_step = ap (λ (q : Queue). q.step) e.system ∙ passed-step after (departures before.step before.last row) ∙ inv.system_step;
       last = omega (arith, e.last);
       left = omega (arith, e.left);
       longest = e.longest;
       inner = e.inner;
       transport = ap (λ (q : Queue). all_arrived q (arrivals 2000000 rest)) e.transport ∙ packet_arrives before (188 * i) i rest refl ∙ rw same at inv.transport;
-      system = rw (e.transport, e.system) (packet_passes before behind (188 * i) i rest refl ∙ rw same at inv.system);
+      system = rw (e.transport, e.system) (packet_passes before after (188 * i) i rest refl ∙ rw same at inv.system);
     }
 
 pub returns : goal.returns

@@ -6,7 +6,7 @@ use Rattle.mux_core.proofs.packet_output.PacketOutput.finish.Goals as goal
 
 pub returns-clause-err : goal.returns-clause-err
 returns-clause-err g c = λ start all h.
-    IfErr-weaker c.write_behind.result _ _
+    IfErr-weaker c.write_after.result _ _
     (λ fault t. took_all start _ _ c.args.self all _ _ fault.sent h
     (c.deref.ensures.value ∙ ap (λ (x : Collected). x.waiting) c.self.view_is) (ap (λ (x : Collected). x.sent) c.self.view_is) t)
-    c.write_behind.ensures.err
+    c.write_after.ensures.err

@@ -1,0 +1,95 @@
+-- The slots of a job, written one by one.
+use Rattle.std.proofs.Common.{◌≡◌, ℕ, zero, suc, ◌+◌, ◌-◌, ◌*◌, ◌<◌, ◌≤◌, ◌^◌, Bool, true, false, List, [], ◌∷◌, ◌++◌, length, Option, Some, None, Result, Ok, Err, refl, sym, ap, ◌∙◌, subst, arith, append_assoc, append-nil}
+use Rattle.std.proofs.lemmas.List.{length-append}
+use Rattle.ts_packet.specs.Contents.{Content, packet_of, run_bytes}
+use Rattle.mux_core.specs.Collecting.{Collected, Holds, Took}
+use Rattle.mux_core.specs.PidPackets.{leaving}
+use Rattle.mux_core.specs.Scheduled.{Scheduled}
+use Rattle.mux_core.specs.Histories.{History, content_at, slot_more}
+use Rattle.mux_core.specs.Standing.{Mixer, Stands, Gives}
+use Rattle.mux_core.specs.Multiplexing.{run_output}
+use Rattle.mux_core.specs.declared.done.Done.{Done}
+use Rattle.mux_core.proofs.Cutting.{took_longer}
+
+-- packets that leave as bytes are the bytes
+pub output_bytes : (content : ℕ → Content) (s n : ℕ) → run_output false content s n ≡ run_bytes content s n
+unfolding run_output run_bytes leaving
+output_bytes content s zero = refl
+output_bytes content s (suc n) = ap (λ (l : List ℕ). packet_of (content s) ++ l) (output_bytes content (suc s) n)
+
+-- the output of slots, and of others after them
+output_parts : (hex : Bool) (content : ℕ → Content) (s n m : ℕ) → run_output hex content s (n + m) ≡ run_output hex content s n ++ run_output hex content (s + n) m
+unfolding run_output
+output_parts hex content s zero m =
+    let e : 0 + m ≡ m = omega arith in let f : s + 0 ≡ s = omega arith in rw (e, f) refl
+output_parts hex content s (suc n) m =
+    let e : suc n + m ≡ suc (n + m) = omega arith in
+    let f : suc s + n ≡ s + suc n = omega arith in
+    rw (e, append_assoc (leaving hex (packet_of (content s))) (run_output hex content (suc s) n) (run_output hex content (s + suc n) m))
+    (ap (λ (l : List ℕ). leaving hex (packet_of (content s)) ++ l) (output_parts hex content (suc s) n m ∙ ap (λ (k : ℕ). run_output hex content (suc s) n ++ run_output hex content k m) f))
+
+output_one : (hex : Bool) (content : ℕ → Content) (s : ℕ) → run_output hex content s 1 ≡ leaving hex (packet_of (content s))
+unfolding run_output
+output_one hex content s = append-nil (leaving hex (packet_of (content s)))
+
+pub output_more : (hex : Bool) (content : ℕ → Content) (n : ℕ) → run_output hex content 0 (n + 1) ≡ run_output hex content 0 n ++ leaving hex (packet_of (content n))
+output_more hex content n =
+    let f : 0 + n ≡ n = omega arith in
+    output_parts hex content 0 n 1 ∙ ap (λ (k : ℕ). run_output hex content 0 n ++ run_output hex content k 1) f
+    ∙ ap (λ (l : List ℕ). run_output hex content 0 n ++ l) (output_one hex content n)
+
+-- the history with so many slots
+abbrev pub at_slot : History → ℕ → History
+at_slot h n = record { units = h.units; slots = n }
+
+-- so many slots are written
+pub record SlotsWritten (h : History) (old new : Mixer) (hex : Bool) (n : ℕ) (start now : Option (List ℕ)) (packets : Collected) : Type 0 where
+  pub stands : Stands (at_slot h n) new
+  pub same_line : new.line ≡ old.line
+  pub holds : Holds start now packets (run_output hex (content_at old.line h.units) 0 n)
+
+pub written_none : (h : History) (old : Mixer) (hex : Bool) (start now : Option (List ℕ)) (packets : Collected) → h.slots ≡ 0 →
+    Stands h old → Holds start now packets [] → SlotsWritten h old old hex 0 start now packets
+unfolding run_output
+written_none h old hex start now packets none stands holds = record {
+  stands = subst (λ (n : ℕ). Stands (record { units = h.units; slots = n }) old) none stands;
+  same_line = refl;
+  holds = holds;
+}
+
+-- the output with one packet more
+next_output : (h : History) (old mid new : Mixer) (hex phex : Bool) (n : ℕ) (packet : List ℕ) → mid.line ≡ old.line → phex ≡ hex → Gives (at_slot h n) mid (Ok packet) new →
+    run_output hex (content_at old.line h.units) 0 n ++ leaving phex packet ≡ run_output hex (content_at old.line h.units) 0 (n + 1)
+next_output h old mid new hex phex n packet line same gives =
+    let content = content_at old.line h.units in
+    ap (λ (x : Bool). run_output hex content 0 n ++ leaving x packet) same
+    ∙ ap (λ (x : List ℕ). run_output hex content 0 n ++ leaving hex x) (gives.1 ∙ ap (λ (d : Scheduled). packet_of (content_at d h.units n)) line)
+    ∙ sym (output_more hex content n)
+
+pub written_more : (h : History) (old mid new : Mixer) (hex phex : Bool) (n : ℕ) (start now later : Option (List ℕ)) (packets after : Collected) (packet : List ℕ) →
+    SlotsWritten h old mid hex n start now packets → phex ≡ hex → Gives (at_slot h n) mid (Ok packet) new →
+    Holds start later after (run_output hex (content_at old.line h.units) 0 n ++ leaving phex packet) → SlotsWritten h old new hex (n + 1) start later after
+written_more h old mid new hex phex n start now later packets after packet w same gives holds =
+    let next : suc n ≡ n + 1 = omega arith in
+    record {
+      stands = subst (λ (k : ℕ). Stands (at_slot h k) new) next gives.3;
+      same_line = gives.2 ∙ w.same_line;
+      holds = subst (λ (l : List ℕ). Holds start later after l) (next_output h old mid new hex phex n packet w.same_line same gives) holds;
+    }
+
+pub written_failed : (h : History) (old mid new : Mixer) (hex phex : Bool) (n slots sent : ℕ) (start now later : Option (List ℕ)) (packets : Collected) (packet : List ℕ) →
+    SlotsWritten h old mid hex n start now packets → n < slots → phex ≡ hex → Gives (at_slot h n) mid (Ok packet) new →
+    Took start later sent (run_output hex (content_at old.line h.units) 0 n ++ leaving phex packet) →
+    Took start later sent (run_output hex (content_at old.line h.units) 0 slots)
+written_failed h old mid new hex phex n slots sent start now later packets packet w below same gives took =
+    let content = content_at old.line h.units in
+    let count : slots ≡ (n + 1) + (slots - (n + 1)) = omega arith in
+    let rest = run_output hex content (0 + (n + 1)) (slots - (n + 1)) in
+    let whole : run_output hex content 0 slots ≡ run_output hex content 0 (n + 1) ++ rest =
+    ap (λ (k : ℕ). run_output hex content 0 k) count ∙ output_parts hex content 0 (n + 1) (slots - (n + 1)) in
+    let here = subst (λ (l : List ℕ). Took start later sent l) (next_output h old mid new hex phex n packet w.same_line same gives) took in
+    subst (λ (l : List ℕ). Took start later sent l) (sym whole) (took_longer start later sent (run_output hex content 0 (n + 1)) rest here)
+
+-- no run of so many slots is over
+pub not_done : {V : Type 0} (h : History) (mid new : Mixer) (n slots : ℕ) (e : Done) → n < slots → slots ≤ 2 ^ 40 → Gives (at_slot h n) mid (Err e) new → V
+not_done h mid new n slots e below most gives = absurd (omega (arith, below, most, gives.0))

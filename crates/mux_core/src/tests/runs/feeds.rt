@@ -1,0 +1,149 @@
+//! Units fed before and between slots, and each refusal.
+
+use super::{fed, mux, packet, skip, unit, waiting};
+use crate::{FeedError, Mux};
+use std::alloc::Global;
+use std::test::Fail;
+
+// Why the first unit is refused when so many slots are written.
+fn first(
+    alloc: Global,
+    slots: u64,
+    size: u32,
+    dts: u64,
+    pts: u64,
+) -> Result<Option<FeedError>, Fail> {
+    let mut mux = mux(alloc, "rate", "rate", 2)?;
+    skip(&mut mux, slots)?;
+    fed(&mut mux, alloc, dts, pts, size)
+}
+
+#[test]
+fn first_units(rt: HostRuntime) -> Result<(), Fail> {
+    let alloc = rt.alloc();
+    for (slots, size, dts, pts, cause) in [
+        (1, 576, 1_600, 1_600, Some(FeedError::Late)),
+        (0, 577, 1_600, 1_600, Some(FeedError::TooLarge)),
+        (0, 576, 1_600, 91_601, Some(FeedError::BadPts)),
+        (0, 576, 1_599, 1_599, Some(FeedError::Late)),
+        (0, 576, 1_600, 1_600, None),
+    ] {
+        assert_eq!(rt;
+            first(alloc, slots, size, dts, pts)?,
+            cause,
+            "{slots} {size} {dts} {pts}"
+        );
+    }
+    Ok(())
+}
+
+// Why a unit of stream 1 is refused.
+fn elsewhere(mux: &mut Mux, alloc: Global) -> Result<Option<FeedError>, Fail> {
+    match mux.feed(1, unit(alloc, 1_600, 1_600, 576)?) {
+        Ok(()) => Ok(None),
+        Err((error, _)) => Ok(Some(error)),
+    }
+}
+
+#[test]
+fn next_units(rt: HostRuntime) -> Result<(), Fail> {
+    let alloc = rt.alloc();
+    let mut mux = mux(alloc, "rate", "rate", 2)?;
+    for (dts, cause) in [
+        (1_600, None),
+        (3_759, Some(FeedError::TooSoon)),
+        (3_760, None),
+        (5_920, Some(FeedError::Full)),
+    ] {
+        assert_eq!(rt; fed(&mut mux, alloc, dts, dts, 576)?, cause, "{dts}");
+    }
+    assert_eq!(rt; waiting(&mux, 0), Some(2));
+    assert_eq!(rt; elsewhere(&mut mux, alloc)?, Some(FeedError::UnknownStream));
+    Ok(())
+}
+
+// Why the second unit is refused when so many slots are written, the first being fed before slot 0.
+fn second(alloc: Global, capacity: usize, slots: u64) -> Result<Option<FeedError>, Fail> {
+    let mut mux = mux(alloc, "rate", "rate", capacity)?;
+    let _ = fed(&mut mux, alloc, 1_600, 1_600, 576)?;
+    skip(&mut mux, slots)?;
+    fed(&mut mux, alloc, 3_760, 3_760, 576)
+}
+
+#[test]
+fn second_units(rt: HostRuntime) -> Result<(), Fail> {
+    for (capacity, slots, cause) in [
+        (2, 24, None),
+        (2, 25, Some(FeedError::Late)),
+        (1, 0, Some(FeedError::Full)),
+        (1, 12, Some(FeedError::Full)),
+        (1, 13, None),
+    ] {
+        assert_eq!(rt;
+            second(rt.alloc(), capacity, slots)?,
+            cause,
+            "{capacity} {slots}"
+        );
+    }
+    Ok(())
+}
+
+// The first 42 packets, where the second unit is fed when so many slots are written.
+fn packets(alloc: Global, slots: u64) -> Result<Vec<u8>, Fail> {
+    let mut mux = mux(alloc, "rate", "rate", 2)?;
+    let mut bytes = Vec::new(alloc);
+    let _ = fed(&mut mux, alloc, 1_600, 1_600, 576)?;
+    for slot in 0..42u64 {
+        if slot == slots {
+            let _ = fed(&mut mux, alloc, 3_760, 3_760, 576)?;
+        }
+        bytes.extend_from_slice(&packet(&mut mux)?)?;
+    }
+    Ok(bytes)
+}
+
+#[test]
+fn a_unit_fed_early_or_late_is_sent_alike(rt: HostRuntime) -> Result<(), Fail> {
+    let early = packets(rt.alloc(), 0)?;
+    let late = packets(rt.alloc(), 24)?;
+    assert_eq!(rt; early.as_slice(), late.as_slice());
+    for (slot, head) in [
+        (24, [0x47, 0x41, 0x00, 0x14]),
+        (28, [0x47, 0x01, 0x00, 0x15]),
+        (32, [0x47, 0x01, 0x00, 0x16]),
+        (36, [0x47, 0x01, 0x00, 0x37]),
+        (40, [0x47, 0x1f, 0xff, 0x10]),
+    ] {
+        let packet = early.as_slice().chunks(188).nth(slot);
+        let Some(packet) = packet else {
+            return Err(Fail::from("no packet"));
+        };
+        assert!(rt; packet.starts_with(&head), "slot {slot}");
+    }
+    Ok(())
+}
+
+// Any two units in a row have at most six packets.
+#[test]
+fn units_in_groups(rt: HostRuntime) -> Result<(), Fail> {
+    let alloc = rt.alloc();
+    let mut mux = mux(
+        alloc,
+        "lead = 1600",
+        "lead = 1600\ngroup = 2\ngroup_packets = 6",
+        3,
+    )?;
+    for (dts, size, cause) in [
+        (1_600, 576, None),
+        (3_760, 355, Some(FeedError::Group)),
+        (3_760, 354, None),
+        (5_920, 576, None),
+    ] {
+        assert_eq!(rt;
+            fed(&mut mux, alloc, dts, dts, size)?,
+            cause,
+            "{dts} {size}"
+        );
+    }
+    Ok(())
+}

@@ -1,0 +1,102 @@
+//! The plan of the small service, then the same turned by one slot.
+
+use super::{base, carries, mux, packet};
+use crate::{Mux, NewError};
+use plan_checker::{CheckedSwitch, check_switch};
+use slot_plan::Plan;
+use std::alloc::Global;
+use std::test::Fail;
+
+// The plan with each slot one place later, the last one first.
+const TURNED: &str = "tsplan 1
+period 120
+- S0 P0 T0 T1 S0 T3 T2 T4 S0 T5 - - S0 - - - S0 - - - S0 - -
+- S0 P0 - - S0 - - - S0 - - - S0 - - - S0 - - - S0 - -
+- S0 P0 - - S0 - - - S0 - - - S0 - - - S0 - - - S0 - -
+- S0 P0 - - S0 - - - S0 - - - S0 - - - S0 - - - S0 - -
+- S0 P0 - - S0 - - - S0 - - - S0 - - - S0 - - - S0 - -
+stream 0 spread 0 start 0 peak 282752000
+program 0 tstart 0 tpeak 377504000 bstart 0 bpeak 550464000
+end
+";
+
+fn switch(alloc: Global) -> Result<CheckedSwitch, Fail> {
+    let (turned, _) = Plan::read_text(alloc, TURNED.as_bytes())?;
+    match check_switch(base(alloc, "lead = 1600", "lead = 1688")?, turned) {
+        Ok(switch) => Ok(switch),
+        Err(_) => Err(Fail::from("the switch is refused")),
+    }
+}
+
+// Why no multiplexer is made; the switch comes back.
+fn refusal(alloc: Global, periods: u64, capacity: usize) -> Result<NewError, Fail> {
+    let (error, slots) = match Mux::with_switch(alloc, switch(alloc)?, periods, capacity) {
+        Ok(_) => return Err(Fail::from("a multiplexer")),
+        Err((error, switch)) => (error, switch.second().slots().len()),
+    };
+    if slots == 120 {
+        Ok(error)
+    } else {
+        Err(Fail::from("another switch came back"))
+    }
+}
+
+#[test]
+fn switches_refused(rt: HostRuntime) -> Result<(), Fail> {
+    for (periods, capacity, error) in [
+        (0, 0, NewError::Capacity),
+        (1, 1_048_577, NewError::Capacity),
+        (0, 1, NewError::Periods),
+        (9_162_596_899, 1, NewError::Periods),
+    ] {
+        assert_eq!(rt;
+            refusal(rt.alloc(), periods, capacity)?,
+            error,
+            "{periods} {capacity}"
+        );
+    }
+    Ok(())
+}
+
+// A multiplexer over one period of the first plan, then the second.
+fn two(alloc: Global) -> Result<Mux, Fail> {
+    match Mux::with_switch(alloc, switch(alloc)?, 1, 1) {
+        Ok(mux) => Ok(mux),
+        Err(_) => Err(Fail::from("no multiplexer")),
+    }
+}
+
+// The packets of the first 120 slots.
+fn period(mux: &mut Mux, alloc: Global) -> Result<Vec<u8>, Fail> {
+    let mut bytes = Vec::new(alloc);
+    for _ in 0..120u8 {
+        bytes.extend_from_slice(&packet(mux)?)?;
+    }
+    Ok(bytes)
+}
+
+#[test]
+fn the_first_plan_alone(rt: HostRuntime) -> Result<(), Fail> {
+    let alloc = rt.alloc();
+    let switched = period(&mut two(alloc)?, alloc)?;
+    let single = period(&mut mux(alloc, "lead = 1600", "lead = 1688", 1)?, alloc)?;
+    assert_eq!(rt; switched.as_slice(), single.as_slice());
+    Ok(())
+}
+
+// Whether a slot's packet has these bytes from one on.
+fn carried(alloc: Global, slot: u64, from: usize, bytes: &[u8]) -> Result<bool, Fail> {
+    let mut two = two(alloc)?;
+    carries(&mut two, slot, from, bytes)
+}
+
+#[test]
+fn the_second_plan_from_its_start(rt: HostRuntime) -> Result<(), Fail> {
+    for (slot, from, bytes) in [
+        (121, 0, [0x47, 0x1f, 0xff, 0x10].as_slice()),
+        (122, 6, [0x00, 0x00, 0x15, 0x74, 0x7e, 0xec].as_slice()),
+    ] {
+        assert!(rt; carried(rt.alloc(), slot, from, bytes)?, "slot {slot}");
+    }
+    Ok(())
+}
