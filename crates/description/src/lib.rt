@@ -56,8 +56,6 @@ mod services_text;
 
 // What holds of every description.
 pub mod laws;
-#[cfg(test)]
-mod tests;
 
 pub use description::Description;
 pub use descriptors::Descriptors;

@@ -1,7 +1,7 @@
 //! What the base description says.
 
-use crate::TableKind;
 use crate::tests::base;
+use description::TableKind;
 
 #[test]
 fn of_the_base(rt: HostRuntime) {

@@ -1,6 +1,6 @@
 //! A greatest description: 16 programs, 32 streams, 256 events, 16 private tables.
 
-use crate::Description;
+use description::Description;
 use std::alloc::{AllocError, Global};
 use std::fmt::Write;
 use std::test::Fail;

@@ -5,7 +5,7 @@ mod refusals;
 mod texts;
 mod values;
 
-use crate::{DescError, Description};
+use description::{DescError, Description};
 use std::alloc::Global;
 use std::process::Abort;
 
