@@ -36,17 +36,26 @@ mod whole_input;
 use halt::{Halt, halted};
 use program::{run, tell_usage};
 use std::env;
-use std::io::BufReader;
+use std::io::{BufReader, Error, ErrorKind};
 use std::process::ExitCode;
-use ts_packet::Counted;
+use ts_packet::{Counted, Sink};
 
 /// The room of the input's buffer, in bytes.
 const INPUT_ROOM: usize = 1 << 18;
 
+// The words can't be had: memory is wanting, or one is not UTF-8, which is a usage error.
+fn without_words<E: Sink>(error: Error, faults: &mut E) -> u8 {
+    match error.kind() {
+        ErrorKind::OutOfMemory => halted(faults, Halt::Memory),
+        _ => tell_usage(faults),
+    }
+}
+
 fn main(rt: HostRuntime) -> ExitCode {
     let mut faults = Counted::new(rt.stderr());
-    let Ok(args) = env::args(&rt) else {
-        return ExitCode::from(tell_usage(&mut faults));
+    let args = match env::args(&rt) {
+        Ok(args) => args,
+        Err(error) => return ExitCode::from(without_words(error, &mut faults)),
     };
     let words: Vec<String> = match args.skip(1).collect(rt.alloc()) {
         Ok(words) => words,
