@@ -1,7 +1,6 @@
 //! The plan of a small service: what is accepted, and the first refusal of what is not.
 
 mod conditions;
-mod long_periods;
 mod switches;
 mod texts;
 

@@ -1,6 +1,6 @@
 //! Codes 1 to 9: the plan with one part changed, the service with one key changed, and other plans.
 
-use super::texts::{BURST, CUT, DESCRIPTION, PLAN};
+use super::texts::{BURST, CUT, DESCRIPTION, NULLS, PLAN, SLOTS};
 use super::{Case, answer, edited};
 use std::alloc::Global;
 use std::process::Abort;
@@ -157,7 +157,9 @@ fn a_period_cut_short(rt: HostRuntime) -> Result<(), Fail> {
 #[test]
 fn a_burst(rt: HostRuntime) -> Result<(), Fail> {
     let description = edited(rt.alloc(), DESCRIPTION, "1504000", "38000000")?;
-    let row = answer(rt.alloc(), description.as_str(), BURST)?;
+    let nulls = NULLS.repeat(rt.alloc(), 24)?;
+    let plan = edited(rt.alloc(), BURST, NULLS, nulls.as_str())?;
+    let row = answer(rt.alloc(), description.as_str(), plan.as_str())?;
     assert_eq!(rt; row, Some([6, 1, 0, 34_592_000_000, 19_456_000_000]));
     Ok(())
 }
@@ -170,5 +172,27 @@ fn a_table_too_rare(rt: HostRuntime) -> Result<(), Fail> {
     let plan = edited(rt.alloc(), PLAN, "T5 - -", "T5 T6 -")?;
     let row = answer(rt.alloc(), description.as_str(), plan.as_str())?;
     assert_eq!(rt; row, Some([3, 0, 6, 180_480_000, 178_976_000]));
+    Ok(())
+}
+
+/// The plan with its slots so many times over.
+fn long_plan(alloc: Global, times: usize, period: &str) -> Result<String, Fail> {
+    let slots = SLOTS.repeat(alloc, times)?;
+    let plan = edited(alloc, PLAN, SLOTS, slots.as_str())?;
+    edited(alloc, plan.as_str(), "period 120", period)
+}
+
+#[test]
+fn the_longest_period(rt: HostRuntime) -> Result<(), Fail> {
+    let plan = long_plan(rt.alloc(), 546, "period 65520")?;
+    assert_eq!(rt; answer(rt.alloc(), DESCRIPTION, plan.as_str())?, None);
+    Ok(())
+}
+
+#[test]
+fn a_period_too_long(rt: HostRuntime) -> Result<(), Fail> {
+    let plan = long_plan(rt.alloc(), 547, "period 65640")?;
+    let row = answer(rt.alloc(), DESCRIPTION, plan.as_str())?;
+    assert_eq!(rt; row, Some([1, 2, 0, 65_640, 65_536]));
     Ok(())
 }

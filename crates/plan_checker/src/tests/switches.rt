@@ -2,7 +2,7 @@
 
 use super::texts::{DESCRIPTION, LATE_STREAM, LATE_TABLE, PLAN, TURNED};
 use super::{Case, Row, described, edited, planned, row_of};
-use crate::{CheckedPlan, check, check_switch};
+use crate::{CheckedPlan, CheckedSwitch, check, check_switch};
 use slot_plan::Slot;
 use std::alloc::Global;
 use std::process::Abort;
@@ -106,12 +106,6 @@ fn the_same_again(rt: HostRuntime) -> Result<(), Fail> {
 }
 
 #[test]
-fn turned_back(rt: HostRuntime) -> Result<(), Fail> {
-    assert_eq!(rt; answer(rt.alloc(), DESCRIPTION, TURNED, PLAN)?, None);
-    Ok(())
-}
-
-#[test]
 fn second_plans_by_themselves(rt: HostRuntime) -> Result<(), Fail> {
     let moved = edited(rt.alloc(), PLAN, "S0 - - -\nstream", "- S0 - -\nstream")?;
     let row = answer(rt.alloc(), DESCRIPTION, PLAN, moved.as_str())?;
@@ -154,18 +148,24 @@ fn work_of_tables_is_left(rt: HostRuntime) -> Result<(), Fail> {
     Ok(())
 }
 
-// The first plan begins with a stream's slot, the second with a null slot.
+fn switched(
+    alloc: Global,
+    description: &str,
+    first: &str,
+    second: &str,
+) -> Result<CheckedSwitch, Fail> {
+    match check_switch(checked(alloc, description, first)?, planned(alloc, second)?) {
+        Ok(switch) => Ok(switch),
+        Err(_) => Err(Fail::from("the second plan is refused")),
+    }
+}
+
+// The first plan begins with a null slot, the second with a stream's slot.
 #[test]
 fn both_plans_are_lent(rt: HostRuntime) -> Result<(), Fail> {
-    let description = edited(rt.alloc(), DESCRIPTION, "lead = 1600", "lead = 1688")?;
-    let first = checked(rt.alloc(), description.as_str(), PLAN)?;
-    let Ok(switch) = check_switch(first, planned(rt.alloc(), TURNED)?) else {
-        return Err(Fail::from("the second plan is refused"));
-    };
-    assert_eq!(rt;
-        switch.first().plan().slots().first(),
-        Some(&Slot::Stream(0))
-    );
-    assert_eq!(rt; switch.second().slots().first(), Some(&Slot::Null));
+    let switch = switched(rt.alloc(), DESCRIPTION, TURNED, PLAN)?;
+    assert_eq!(rt; switch.first().description().tables(), 6);
+    assert_eq!(rt; switch.first().plan().slots().first(), Some(&Slot::Null));
+    assert_eq!(rt; switch.second().slots().first(), Some(&Slot::Stream(0)));
     Ok(())
 }
