@@ -1,127 +1,171 @@
-//! The plan of the small service followed by itself, and by itself turned by one slot.
+//! Codes 12 to 16: one plan after another.
 
-use super::{DESCRIPTION, PLAN, Row, described, edited};
-use crate::{check, check_switch};
-use slot_plan::{Certificate, Plan};
+use super::texts::{DESCRIPTION, LATE_STREAM, LATE_TABLE, PLAN, TURNED};
+use super::{Case, Row, described, edited, planned, row_of};
+use crate::{CheckedPlan, CheckedSwitch, check, check_switch};
+use slot_plan::Slot;
 use std::alloc::Global;
+use std::process::Abort;
 use std::test::Fail;
 
-/// The plan with one part of its text replaced.
-fn plan_of(alloc: Global, from: &str, to: &str) -> Result<Plan, Fail> {
-    let text = edited(alloc, PLAN, from, to)?;
-    let (plan, _) = Plan::read_text(alloc, text.as_str().as_bytes())?;
-    Ok(plan)
-}
-
-/// The plan with each slot one place later, the last one first.
-fn turned(alloc: Global) -> Result<Plan, Fail> {
-    let plan = plan_of(alloc, "end", "end")?;
-    let Some((last, front)) = plan.slots().split_last() else {
-        return Err(Fail::from("no slots"));
-    };
-    let mut slots = Vec::new(alloc);
-    slots.push(*last)?;
-    slots.extend_from_slice(front)?;
-    let mut streams = Vec::new(alloc);
-    streams.extend_from_slice(plan.certificate().streams.as_slice())?;
-    let mut programs = Vec::new(alloc);
-    programs.extend_from_slice(plan.certificate().programs.as_slice())?;
-    match Plan::new(slots, Certificate { streams, programs }) {
-        Ok(plan) => Ok(plan),
-        Err(_) => Err(Fail::from("no plan")),
+fn checked(alloc: Global, description: &str, plan: &str) -> Result<CheckedPlan, Fail> {
+    match check(described(alloc, description)?, planned(alloc, plan)?) {
+        Ok(checked) => Ok(checked),
+        Err(_) => Err(Fail::from("the first plan is refused")),
     }
 }
 
-/// The refusal of the second plan after the first, with that lead; None where it may follow. What is handed back is
-/// what was given.
-fn answer(alloc: Global, lead: &str, first: Plan, second: Plan) -> Result<Option<Row>, Fail> {
-    let description = edited(alloc, DESCRIPTION, "lead = 1600", lead)?;
-    let given = (
-        first.slots().first().copied(),
-        second.slots().first().copied(),
-    );
-    let Ok(first) = check(described(alloc, description.as_str())?, first) else {
-        return Err(Fail::from("the first plan is refused"));
-    };
-    let (found, row) = match check_switch(first, second) {
-        Ok(switch) => (
-            (
-                switch.first().plan().slots().first().copied(),
-                switch.second().slots().first().copied(),
-            ),
-            None,
-        ),
-        Err((refusal, first, second)) => (
-            (
-                first.plan().slots().first().copied(),
-                second.slots().first().copied(),
-            ),
-            Some((
-                refusal.condition.code(),
-                refusal.part,
-                refusal.item,
-                refusal.left,
-                refusal.right,
-            )),
-        ),
-    };
-    if found == given {
-        Ok(row)
-    } else {
-        Err(Fail::from("another plan is handed back"))
+/// The refusal of the second plan after the first, None where it may follow.
+fn answer(
+    alloc: Global,
+    description: &str,
+    first: &str,
+    second: &str,
+) -> Result<Option<Row>, Fail> {
+    match check_switch(checked(alloc, description, first)?, planned(alloc, second)?) {
+        Ok(_) => Ok(None),
+        Err((refusal, _, _)) => Ok(Some(row_of(refusal))),
     }
 }
+
+fn services_answered(
+    rt: &impl Abort,
+    alloc: Global,
+    second: &str,
+    cases: &[Case],
+) -> Result<(), Fail> {
+    for case in cases {
+        let description = edited(alloc, DESCRIPTION, case.from, case.to)?;
+        let row = answer(alloc, description.as_str(), PLAN, second)?;
+        assert_eq!(rt; row, case.row, "{}", case.to);
+    }
+    Ok(())
+}
+
+const BEFORE_TURNED: [Case; 4] = [
+    Case {
+        from: "pcr_pid = 257",
+        to: "pcr_pid = 257\npcr_limit = 24",
+        row: Some([12, 0, 0, 37_600_000, 36_096_000]),
+    },
+    Case {
+        from: "lead = 1600",
+        to: "lead = 1600",
+        row: Some([
+            15,
+            0,
+            0,
+            4_568_887_296_000_000_000,
+            4_331_520_000_000_000_000,
+        ]),
+    },
+    Case {
+        from: "lead = 1600",
+        to: "lead = 1687",
+        row: Some([
+            15,
+            0,
+            0,
+            4_568_887_296_000_000_000,
+            4_567_046_400_000_000_000,
+        ]),
+    },
+    Case {
+        from: "lead = 1600",
+        to: "lead = 1688",
+        row: None,
+    },
+];
 
 #[test]
-fn switches_of_the_base(rt: HostRuntime) -> Result<(), Fail> {
-    let base = plan_of(rt.alloc(), "end", "end")?;
-    let same = plan_of(rt.alloc(), "end", "end")?;
-    assert_eq!(rt; answer(rt.alloc(), "lead = 1600", base, same)?, None);
-    for (lead, row) in [
-        (
-            "lead = 1600",
-            Some((
-                15,
-                0,
-                0,
-                4_568_887_296_000_000_000,
-                4_331_520_000_000_000_000,
-            )),
-        ),
-        (
-            "lead = 1687",
-            Some((
-                15,
-                0,
-                0,
-                4_568_887_296_000_000_000,
-                4_567_046_400_000_000_000,
-            )),
-        ),
-        ("lead = 1688", None),
-    ] {
-        let base = plan_of(rt.alloc(), "end", "end")?;
-        assert_eq!(rt;
-            answer(rt.alloc(), lead, base, turned(rt.alloc())?)?,
-            row,
-            "{lead}"
-        );
-    }
-    let base = plan_of(rt.alloc(), "end", "end")?;
-    assert_eq!(rt;
-        answer(rt.alloc(), "lead = 1600", turned(rt.alloc())?, base)?,
-        None
-    );
-    Ok(())
+fn turned_by_a_slot(rt: HostRuntime) -> Result<(), Fail> {
+    services_answered(&rt, rt.alloc(), TURNED, &BEFORE_TURNED)
+}
+
+const BEFORE_THE_SAME: [Case; 3] = [
+    Case {
+        from: "lead = 1600",
+        to: "lead = 1600",
+        row: None,
+    },
+    Case {
+        from: "interval = 2160",
+        to: "interval = 1440\nrx = 2000000\nmain = 1189",
+        row: Some([16, 0, 0, 1_190, 1_189]),
+    },
+    Case {
+        from: "interval = 2160",
+        to: "interval = 1440\nrx = 2000000\nmain = 1190",
+        row: None,
+    },
+];
+
+#[test]
+fn the_same_again(rt: HostRuntime) -> Result<(), Fail> {
+    services_answered(&rt, rt.alloc(), PLAN, &BEFORE_THE_SAME)
 }
 
 #[test]
 fn second_plans_by_themselves(rt: HostRuntime) -> Result<(), Fail> {
-    let base = plan_of(rt.alloc(), "end", "end")?;
-    let moved = plan_of(rt.alloc(), "S0 - - -\nstream", "- S0 - -\nstream")?;
-    assert_eq!(rt;
-        answer(rt.alloc(), "lead = 1600", base, moved)?,
-        Some((4, 0, 0, 30, 0))
-    );
+    let moved = edited(rt.alloc(), PLAN, "S0 - - -\nstream", "- S0 - -\nstream")?;
+    let row = answer(rt.alloc(), DESCRIPTION, PLAN, moved.as_str())?;
+    assert_eq!(rt; row, Some([4, 0, 0, 30, 0]));
+    Ok(())
+}
+
+// A private table that may recur each 120 slots recurs after 121.
+#[test]
+fn a_table_comes_late(rt: HostRuntime) -> Result<(), Fail> {
+    let table = "[[table]]\npid = 300\nlimit = 120\nsections = [\"803000\"]\n\n[[event]]";
+    let description = edited(rt.alloc(), DESCRIPTION, "[[event]]", table)?;
+    let first = edited(rt.alloc(), PLAN, "T5 - -", "T5 T6 -")?;
+    let second = edited(rt.alloc(), TURNED, "T5 - -", "T5 T6 -")?;
+    let row = answer(
+        rt.alloc(),
+        description.as_str(),
+        first.as_str(),
+        second.as_str(),
+    )?;
+    assert_eq!(rt; row, Some([13, 0, 6, 181_984_000, 180_480_000]));
+    Ok(())
+}
+
+// A period leaves a packet's work in the buffer, and the second plan begins with none.
+#[test]
+fn work_of_a_stream_is_left(rt: HostRuntime) -> Result<(), Fail> {
+    let row = answer(rt.alloc(), DESCRIPTION, LATE_STREAM, PLAN)?;
+    assert_eq!(rt; row, Some([14, 0, 0, 282_752_000, 0]));
+    Ok(())
+}
+
+#[test]
+fn work_of_tables_is_left(rt: HostRuntime) -> Result<(), Fail> {
+    let row = answer(rt.alloc(), DESCRIPTION, LATE_TABLE, PLAN)?;
+    assert_eq!(rt; row, Some([14, 0, 1, 282_752_000, 0]));
+    let second = edited(rt.alloc(), PLAN, "tstart 0", "tstart 282752000")?;
+    let row = answer(rt.alloc(), DESCRIPTION, LATE_TABLE, second.as_str())?;
+    assert_eq!(rt; row, Some([14, 0, 2, 282_752_000, 0]));
+    Ok(())
+}
+
+fn switched(
+    alloc: Global,
+    description: &str,
+    first: &str,
+    second: &str,
+) -> Result<CheckedSwitch, Fail> {
+    match check_switch(checked(alloc, description, first)?, planned(alloc, second)?) {
+        Ok(switch) => Ok(switch),
+        Err(_) => Err(Fail::from("the second plan is refused")),
+    }
+}
+
+// The first plan begins with a null slot, the second with a stream's slot.
+#[test]
+fn both_plans_are_lent(rt: HostRuntime) -> Result<(), Fail> {
+    let switch = switched(rt.alloc(), DESCRIPTION, TURNED, PLAN)?;
+    assert_eq!(rt; switch.first().description().tables(), 6);
+    assert_eq!(rt; switch.first().plan().slots().first(), Some(&Slot::Null));
+    assert_eq!(rt; switch.second().slots().first(), Some(&Slot::Stream(0)));
     Ok(())
 }
