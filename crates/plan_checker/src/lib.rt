@@ -41,5 +41,3 @@ pub use switch::succession::check_switch;
 pub use waiting::{bytes_by_units, waiting_slots};
 pub use work::{Work, work_of};
 
-#[cfg(test)]
-mod tests;

@@ -2,7 +2,7 @@
 
 use super::texts::{DESCRIPTION, LATE_STREAM, LATE_TABLE, PLAN, TURNED};
 use super::{Case, Row, described, edited, planned, row_of};
-use crate::{CheckedPlan, CheckedSwitch, check, check_switch};
+use plan_checker::{CheckedPlan, CheckedSwitch, check, check_switch};
 use slot_plan::Slot;
 use std::alloc::Global;
 use std::process::Abort;

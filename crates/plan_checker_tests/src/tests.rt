@@ -4,7 +4,7 @@ mod conditions;
 mod switches;
 mod texts;
 
-use crate::{Refusal, check};
+use plan_checker::{Refusal, check};
 use slot_plan::{Description, Plan};
 use std::alloc::Global;
 use std::test::Fail;
