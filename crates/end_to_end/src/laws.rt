@@ -1,0 +1,5 @@
+//! Laws.
+
+/// Nothing.
+pub fn nothing()
+{}

@@ -1,0 +1,4 @@
+//! What goes in comes back.
+#![tactic(auto)]
+
+pub mod laws;
