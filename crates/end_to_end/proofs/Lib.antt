@@ -1,2 +1,5 @@
 pub mod TextsWritten
 pub mod TablesWritten
+pub mod UnitPlaces
+pub mod SectionPlaces
+pub mod SectionsTold

@@ -86,7 +86,7 @@ mapped_short f None h = All-nil Below4096
 mapped_short {X} f (Some x) h = let le : f x ≤ 1024 = All-head (λ (y : X). f y ≤ 1024) x [] h in one_short (f x) (omega (arith, le))
 
 -- an element of a list, if there is one at this place
-at_most_one : {X : Type 0} (P : X → Type 0) (xs : List X) (i : ℕ) (o : Option X) → All P xs → slice_get xs i ≡ o → All P (option_to_list o)
+pub at_most_one : {X : Type 0} (P : X → Type 0) (xs : List X) (i : ℕ) (o : Option X) → All P xs → slice_get xs i ≡ o → All P (option_to_list o)
 at_most_one P xs i None h e = All-nil P
 at_most_one P xs i (Some x) h e = All-cons P x [] (at_place P xs i x h e) (All-nil P)
 
