@@ -1,2 +1,5 @@
 pub mod Placed
 pub mod Told
+pub mod GivenBack
+pub mod Clean
+pub mod CarriedBack
