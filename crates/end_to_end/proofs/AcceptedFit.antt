@@ -1,5 +1,5 @@
 -- Each unit that `carry` accepts may be a PES packet.
-use Rattle.std.proofs.Common.{◌≡◌, ℕ, zero, suc, ◌+◌, ◌≤◌, true, IsTrue, List, [], ◌∷◌, length, Option, Some, None, Result, Ok, Err, refl, All, le-leb}
+use Rattle.std.proofs.Common.{◌≡◌, ℕ, zero, suc, ◌+◌, IsTrue, List, length, Option, Some, None, Result, Ok, Err, refl, All, le-leb}
 use Rattle.std.proofs.lemmas.List.Elements.{All-nil, All-cons}
 use Rattle.pes_packet.specs.AccessUnits.{AccessUnit}
 use Rattle.pes_packet.specs.StreamIds.{is_unit_id, greatest_size, fits_packet}

@@ -1,5 +1,5 @@
 -- What `carry` wrote is given back unit by unit.
-use Rattle.std.proofs.Common.{◌≡◌, ◌⊎◌, ℕ, zero, suc, ◌+◌, ◌-◌, ◌*◌, ◌/◌, ◌%◌, ◌^◌, ◌<◌, ◌≤◌, ◌==◌, min, Bool, true, false, cond, IsTrue, List, [], ◌∷◌, ◌++◌, length, map, take, drop, sum_by, Option, Some, None, refl, sym, ap, ap₂, subst, ◌∙◌, arith, All, inl, inr, eqb-true, ne_eqb, length-append, append_assoc, append-nil, mul-suc}
+use Rattle.std.proofs.Common.{◌≡◌, ℕ, zero, suc, ◌+◌, ◌*◌, ◌%◌, ◌<◌, ◌==◌, Bool, true, false, cond, List, [], ◌∷◌, ◌++◌, length, map, take, drop, Option, Some, None, refl, sym, ap, ap₂, subst, ◌∙◌, arith, All, inl, inr, eqb-true, ne_eqb, length-append, append_assoc, mul-suc}
 use Rattle.std.specs.List.{flat_map}
 use Rattle.std.specs.Simd.{first_chunks}
 use Rattle.std.proofs.Math.Seq.{take-append_seam, drop-append_seam, take-length}
@@ -13,11 +13,11 @@ use Rattle.pes_packet.specs.AccessUnits.{AccessUnit}
 use Rattle.pes_packet.specs.Spelling.{unit_text}
 use Rattle.pes_packet.specs.Payloads.{pieces}
 use Rattle.ts_packet.specs.Packets.{payload_packet}
-use Rattle.ts_packet.specs.PidList.{Entry, pid_list}
+use Rattle.ts_packet.specs.PidList.{Entry}
 use Rattle.ts_packet.specs.Contents.{Content, Payload, Piece, run_bytes, payloads_in, carried as carried_entries}
 use Rattle.ts_packet.specs.RunLaws.{Fits}
 use Rattle.ts_packet.proofs.Counts.{run_carried}
-use Rattle.demux.specs.Views.{FindingView, At}
+use Rattle.demux.specs.Views.{FindingView}
 use Rattle.demux.specs.Laws.{told_at, has_pid, found_of}
 use Rattle.round_trip.specs.Sent.{marked, piece_in, Sending, sendings, each_found}
 use Rattle.round_trip.specs.Units.{unit_packets, unit_pieces, unit_found}

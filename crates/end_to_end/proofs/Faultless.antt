@@ -1,12 +1,12 @@
 -- Nothing is wrong with the finished bytes of a run.
-use Rattle.std.proofs.Common.{◌≡◌, ◌⊎◌, ℕ, ◌+◌, ◌-◌, ◌*◌, ◌^◌, ◌<◌, ◌≤◌, ◌==◌, not, nat_le, Bool, true, false, cond, List, [], ◌∷◌, ◌++◌, length, map, Option, Some, None, slice_get, refl, sym, ap, subst, ◌∙◌, arith, All, inl, inr}
+use Rattle.std.proofs.Common.{◌≡◌, ℕ, ◌+◌, ◌-◌, ◌*◌, ◌^◌, ◌<◌, ◌==◌, not, nat_le, Bool, true, false, cond, List, [], ◌∷◌, length, map, Some, slice_get, refl, sym, subst, arith, All, inl, inr}
 use Rattle.std.proofs.lemmas.List.Elements.{All-nil, All-cons, All-head, All-tail, All-append}
 use Rattle.own_slots.specs.Slots.{own_slots}
 use Rattle.own_slots.specs.Rounds.{starts}
 use Rattle.pes_packet.specs.AccessUnits.{AccessUnit}
 use Rattle.pes_packet.specs.Spelling.{unit_text}
 use Rattle.ts_packet.specs.Contents.{run_bytes}
-use Rattle.description.specs.Described.{Described, DescribedStream}
+use Rattle.description.specs.Described.{DescribedStream}
 use Rattle.description.specs.Ranges.{IsInRange}
 use Rattle.description.specs.Tables.{table_count, table_pid}
 use Rattle.demux.specs.Views.{WhatView, IsDuplicate, BreaksCounter, IsScrambled, IsTruncated, IsSection, IsBadSection, IsPes, IsBadPes, IsBadPacket, IsErrored, At, FindingView}
@@ -16,7 +16,7 @@ use Rattle.round_trip.specs.Sent.{Sending, Ending, next_of, if_sent, each_found}
 use Rattle.round_trip.specs.Units.{unit_header, unit_found}
 use Rattle.round_trip.specs.Sections.{section_found}
 use Rattle.round_trip.specs.Rounds.{sent_texts}
-use Rattle.round_trip.specs.Laws.{IsRun, found_on, all_found}
+use Rattle.round_trip.specs.Laws.{found_on, all_found}
 use Rattle.round_trip.specs.Clean.{is_fault, IsClean as IsFaultless, IsWhole}
 use Rattle.round_trip.proofs.Composing.{tables_carry, streams_carry}
 use Rattle.round_trip.proofs.Cleaning.{units_are_clean, sections_are_clean, by_pids}
@@ -24,8 +24,7 @@ use Rattle.mux_core.specs.Scheduled.{Scheduled}
 use Rattle.mux_core.specs.Histories.{lane_of, table_of, content_at}
 use Rattle.mux_core.specs.Headline.{UnitsKept}
 use Rattle.mux_core.proofs.Accepted.{units_kept}
-use Rattle.end_to_end.specs.Told.{IsTold}
-use Rattle.end_to_end.specs.GivenBack.{stream_findings, table_findings, IsSentOn}
+use Rattle.end_to_end.specs.GivenBack.{IsSentOn}
 use Rattle.end_to_end.specs.Clean.{Fault, RefusedPacket, ErroredPacket, BrokenCounter, RepeatedPacket, ScrambledPacket, RefusedSection, RefusedPes, fault_of, NoneIs, CleanLaw, StandingCleanLaw}
 use Rattle.end_to_end.proofs.SectionsTold.{section_whole, rounds_all}
 use Rattle.end_to_end.proofs.NothingElse.{sent_or_silent}

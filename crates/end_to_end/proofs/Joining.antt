@@ -1,12 +1,12 @@
 -- The finished bytes of a run give back what was sent.
-use Rattle.std.proofs.Common.{◌≡◌, ◌⊎◌, ℕ, ◌-◌, ◌^◌, ◌<◌, ◌≤◌, ◌==◌, true, false, IsTrue, List, [], ◌∷◌, length, map, Some, slice_get, refl, ap, subst, ◌∙◌, arith, All, inl, inr}
+use Rattle.std.proofs.Common.{◌≡◌, ◌⊎◌, ℕ, ◌-◌, ◌^◌, ◌<◌, ◌==◌, false, IsTrue, List, [], ◌∷◌, length, map, Some, slice_get, ap, ◌∙◌, arith, All, inl, inr}
 use Rattle.std.proofs.lemmas.List.Elements.{All-nil, All-cons, All-head, All-tail}
 use Rattle.own_slots.specs.Slots.{own_slots}
 use Rattle.own_slots.specs.Rounds.{starts}
 use Rattle.pes_packet.specs.AccessUnits.{AccessUnit}
 use Rattle.pes_packet.specs.StreamIds.{fits_packet}
 use Rattle.ts_packet.specs.Contents.{run_bytes}
-use Rattle.description.specs.Described.{Described, DescribedStream}
+use Rattle.description.specs.Described.{DescribedStream}
 use Rattle.description.specs.Ranges.{IsInRange}
 use Rattle.description.specs.Tables.{table_kinds, table_count, table_pid}
 use Rattle.description.proofs.SectionCounts.{sections_law}

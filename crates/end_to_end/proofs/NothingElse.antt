@@ -1,11 +1,11 @@
 -- Payloads are on the PIDs of streams and tables alone, and so is what is found.
-use Rattle.std.proofs.Common.{◌≡◌, ◌⊎◌, ℕ, zero, suc, ◌+◌, ◌<◌, ◌==◌, Bool, true, false, cond, List, [], ◌∷◌, Option, Some, None, slice_get, refl, sym, ap, ◌∙◌, arith, All, inl, inr, eqb-true, eq-eqb}
+use Rattle.std.proofs.Common.{◌≡◌, ◌⊎◌, ℕ, zero, suc, ◌<◌, ◌==◌, Bool, true, false, cond, List, [], ◌∷◌, Option, Some, None, slice_get, refl, sym, ap, ◌∙◌, arith, All, inl, inr, eqb-true, eq-eqb}
 use Rattle.std.proofs.lemmas.Bool.{cases_Bool, eqb-false}
 use Rattle.std.proofs.lemmas.Option.{slice_get_within}
 use Rattle.std.proofs.lemmas.List.Elements.{All-nil, All-cons, All-head, All-tail}
 use Rattle.own_slots.specs.Slots.{own_before}
 use Rattle.pes_packet.specs.AccessUnits.{AccessUnit}
-use Rattle.ts_packet.specs.Contents.{Content, payload_in, Piece}
+use Rattle.ts_packet.specs.Contents.{payload_in, Piece}
 use Rattle.description.specs.Described.{Described, DescribedProgram, DescribedStream}
 use Rattle.description.specs.Tables.{table_kinds, table_count, table_pid}
 use Rattle.description.specs.declared.table_kind.TableKind.{TableKind}

@@ -1,15 +1,11 @@
 -- Payloads in packets one after the other on one PID, as slots.
-use Rattle.std.proofs.Common.{◌≡◌, ℕ, zero, suc, ◌+◌, ◌-◌, ◌*◌, ◌%◌, ◌^◌, ◌<◌, ◌≤◌, ◌==◌, Bool, true, false, cond, List, [], ◌∷◌, ◌++◌, length, map, take, drop, Option, Some, None, slice_get, refl, sym, ap, ap₂, subst, ◌∙◌, arith, All, eq-eqb, length-append, append_assoc, append-nil, mul-suc}
-use Rattle.std.specs.List.{flat_map}
-use Rattle.std.specs.Simd.{first_chunks}
+use Rattle.std.proofs.Common.{◌≡◌, ℕ, suc, ◌+◌, ◌%◌, ◌^◌, ◌<◌, ◌≤◌, ◌==◌, true, false, List, [], ◌∷◌, ◌++◌, length, map, Option, Some, None, slice_get, refl, sym, ap, ap₂, subst, ◌∙◌, arith, All, eq-eqb}
 use Rattle.std.proofs.lemmas.Bool.{false≢true}
-use Rattle.std.proofs.lemmas.List.{length-take, length-drop}
-use Rattle.std.proofs.lemmas.List.Elements.{All-nil, All-cons, All-head, All-tail}
 use Rattle.ts_packet.specs.Packets.{payload_packet}
 use Rattle.ts_packet.specs.Contents.{Content, Carries, Stuffs, ContentFits, Payload, Piece, packet_of, run_bytes, payload_in, payloads_in, NumberedBy, Numbered}
 use Rattle.ts_packet.specs.RunLaws.{Fits}
 use Rattle.description.proofs.Pids.{at_place}
-use Rattle.round_trip.specs.Sent.{marked, piece_in}
+use Rattle.round_trip.specs.Sent.{piece_in}
 use Rattle.end_to_end.specs.CarriedBack.{packets_from}
 
 -- the packets of payloads, of which the first has this number

@@ -1,5 +1,5 @@
 -- The packets of a table's PID are those of its sections, and each section can be told or is at least whole.
-use Rattle.std.proofs.Common.{◌≡◌, ℕ, Bool, true, false, cond, List, [], ◌∷◌, ◌++◌, map, filter, Option, Some, None, refl, sym, ap, ◌∙◌}
+use Rattle.std.proofs.Common.{◌≡◌, ℕ, cond, List, [], ◌∷◌, ◌++◌, map, filter, Option, Some, None, refl, ap, ◌∙◌}
 use Rattle.std.specs.Prelude.{is_some}
 use Rattle.std.specs.List.{flat_map}
 use Rattle.std.proofs.lemmas.List.{map-append}
@@ -8,7 +8,7 @@ use Rattle.own_slots.specs.Slots.{own_slots}
 use Rattle.ts_packet.specs.PidList.{Entry, pid_list}
 use Rattle.ts_packet.specs.Contents.{Content, run_bytes, Payload, payload_at, Piece, put}
 use Rattle.table_rounds.specs.Tables.{Table, part_at}
-use Rattle.table_rounds.specs.Payloads.{IsAlone, table_payloads}
+use Rattle.table_rounds.specs.Payloads.{IsAlone}
 use Rattle.table_rounds.proofs.Carrying.{table_carried}
 use Rattle.round_trip.specs.Sent.{sendings}
 use Rattle.round_trip.specs.Sections.{section_packets}

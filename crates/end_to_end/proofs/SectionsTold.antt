@@ -1,6 +1,5 @@
 -- Each section of a table is whole, and is told from PES packets and stuffing where no ready-made one of the table is taken for these.
-use Rattle.std.proofs.Common.{◌≡◌, ◌⊎◌, ℕ, zero, suc, ◌+◌, ◌<◌, ◌≤◌, ◌==◌, ◌&&◌, ◌||◌, Bool, true, false, List, [], ◌∷◌, ◌++◌, length, map, get_or, slice_get, slice_index, Option, None, Some, Result, Ok, Err, refl, sym, ap, subst, ◌∙◌, arith, All, inl, inr, eqb-true}
-use Rattle.std.specs.Prelude.{⊤}
+use Rattle.std.proofs.Common.{◌≡◌, ℕ, zero, suc, ◌+◌, ◌<◌, ◌≤◌, ◌==◌, ◌&&◌, ◌||◌, Bool, true, false, List, [], ◌∷◌, length, map, get_or, slice_get, Option, None, Some, Result, Ok, Err, refl, sym, ap, subst, ◌∙◌, arith, All, inl, inr, eqb-true}
 use Rattle.std.specs.Option.{option_to_list}
 use Rattle.std.proofs.lemmas.Bool.{cases_Bool, false≢true}
 use Rattle.std.proofs.lemmas.List.{length-map}
@@ -13,11 +12,10 @@ use Rattle.psi_tables.specs.declared.error.SectionError.{SectionError}
 use Rattle.description.specs.Described.{Described, DescribedTable}
 use Rattle.description.specs.Ranges.{IsInRange, IsTable}
 use Rattle.description.specs.Values.{is_one_section}
-use Rattle.description.specs.Tables.{table_kinds, table_kind, table_count, section_count, section_lengths, kind_lengths}
-use Rattle.description.specs.SectionTexts.{table_text, kind_text}
+use Rattle.description.specs.Tables.{table_kinds, table_kind, table_count, section_count, section_lengths}
+use Rattle.description.specs.SectionTexts.{table_text}
 use Rattle.description.specs.declared.table_kind.TableKind.{TableKind}
 use Rattle.description.specs.declared.table_kind.TableKind.TheVariants.{Pat, Pmt, Nit, Sdt, Eit, Tdt, Private}
-use Rattle.demux.specs.Parts.{is_fill}
 use Rattle.demux.specs.Roles.{may_begin_pes}
 use Rattle.table_rounds.specs.Tables.{Table, moment_of}
 use Rattle.round_trip.specs.Sections.{IsGiven}

@@ -1,13 +1,12 @@
 -- Each section of each table that is not ready-made can be written.
-use Rattle.std.proofs.Common.{◌≡◌, ℕ, zero, suc, ◌+◌, ◌*◌, ◌/◌, ◌%◌, ◌<◌, ◌≤◌, ◌==◌, max, Bool, true, false, List, [], ◌∷◌, ◌++◌, length, map, filter, get_or, slice_get, Option, None, Some, refl, sym, ap, subst, ◌∙◌, arith, All, if◌then◌else◌}
+use Rattle.std.proofs.Common.{◌≡◌, ℕ, zero, suc, ◌+◌, ◌*◌, ◌/◌, ◌<◌, ◌≤◌, Bool, true, false, List, [], ◌∷◌, ◌++◌, length, map, get_or, slice_get, Option, None, Some, refl, sym, subst, arith, All}
 use Rattle.std.specs.Option.{option_to_list}
 use Rattle.std.specs.List.{list_any}
-use Rattle.std.specs.Prelude.{IsTrue, is_some, ⊤}
+use Rattle.std.specs.Prelude.{is_some, ⊤}
 use Rattle.std.proofs.lemmas.List.Elements.{All-head, All-tail, All-nil, All-cons, All-append, All-filter, All-get_or}
-use Rattle.psi_tables.specs.Spelling.{section_text}
 use Rattle.description.specs.Described.{Described, DescribedNetwork, DescribedProgram, DescribedEvent}
-use Rattle.description.specs.Ranges.{IsInRange, IsProgram, IsNetwork, IsEvent}
-use Rattle.description.specs.Tables.{numbers_from, only_if, has_event, scheduled_programs, service_tables, table_kinds, table_kind, kind_lengths, section_lengths, section_count, pat_length, pmt_length, nit_length, sdt_length, eit_length, eit_lengths, event_length, longest_event}
+use Rattle.description.specs.Ranges.{IsInRange, IsProgram, IsEvent}
+use Rattle.description.specs.Tables.{numbers_from, only_if, has_event, scheduled_programs, service_tables, table_kinds, table_kind, kind_lengths, section_lengths, section_count, pat_length, pmt_length, nit_length, sdt_length, eit_length, eit_lengths, longest_event}
 use Rattle.description.specs.SectionTexts.{kind_text, table_text}
 use Rattle.description.specs.declared.table_kind.TableKind.{TableKind}
 use Rattle.description.specs.declared.table_kind.TableKind.TheVariants.{Pat, Pmt, Nit, Sdt, Eit, Tdt, Private}

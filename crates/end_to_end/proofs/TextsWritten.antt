@@ -1,9 +1,8 @@
 -- What a description's tables are written as: sections that can be written, none of table_id 0xFF.
-use Rattle.std.proofs.Common.{◌≡◌, ℕ, zero, suc, ◌+◌, ◌*◌, ◌/◌, ◌%◌, ◌<◌, ◌≤◌, ◌==◌, max, Bool, true, false, List, [], ◌∷◌, ◌++◌, length, map, filter, get_or, slice_get, Option, None, Some, refl, subst, arith, length-append, All, ne_eqb, if◌then◌else◌}
+use Rattle.std.proofs.Common.{◌≡◌, ℕ, ◌+◌, ◌%◌, ◌<◌, ◌≤◌, ◌==◌, Bool, true, false, List, [], ◌++◌, length, map, Option, None, Some, refl, arith, length-append, All, ne_eqb, if◌then◌else◌}
 use Rattle.std.specs.Option.{option_to_list}
-use Rattle.std.specs.List.{list_any}
-use Rattle.std.specs.Prelude.{IsTrue, is_some, ⊤}
-use Rattle.std.proofs.lemmas.List.Elements.{All-head, All-tail, All-nil, All-cons, All-append, All-filter, All-get_or}
+use Rattle.std.specs.Prelude.{is_some}
+use Rattle.std.proofs.lemmas.List.Elements.{All-head}
 use Rattle.psi_tables.specs.CheckWord.{check_word}
 use Rattle.psi_tables.specs.Views.{SectionView}
 use Rattle.psi_tables.specs.Spelling.{section_text, ended_text, header_text, front_text, start_text, long_header_text, word_text, LongFits, IsWritable}
@@ -15,14 +14,11 @@ use Rattle.dvb_tables.specs.ServiceDescription.{sdt_body, sdt_section}
 use Rattle.dvb_tables.specs.EventInformation.{eit_body, eit_section}
 use Rattle.dvb_tables.specs.TimeAndDate.{tdt_section}
 use Rattle.dvb_tables.specs.CodedTimes.{utc_time_bytes}
-use Rattle.description.specs.Described.{Described, DescribedNetwork, DescribedProgram, DescribedEvent}
-use Rattle.description.specs.Ranges.{IsInRange, IsProgram, IsNetwork, IsEvent}
-use Rattle.description.specs.Tables.{numbers_from, only_if, has_event, scheduled_programs, service_tables, table_kinds, table_kind, kind_lengths, section_lengths, section_count, pat_length, pmt_length, nit_length, sdt_length, eit_length, eit_lengths, event_length, longest_event}
-use Rattle.description.specs.SectionTexts.{single_header, pat_says, pmt_says, nit_says, sdt_says, eit_says, eit_version, kind_text, table_text}
-use Rattle.description.specs.declared.table_kind.TableKind.{TableKind}
-use Rattle.description.specs.declared.table_kind.TableKind.TheVariants.{Pat, Pmt, Nit, Sdt, Eit, Tdt, Private}
-use Rattle.description.proofs.TextLengths.{text_fits}
-use Rattle.description.proofs.Pids.{at_place}
+use Rattle.description.specs.Described.{Described, DescribedNetwork, DescribedProgram}
+use Rattle.description.specs.Ranges.{IsInRange, IsProgram, IsNetwork}
+use Rattle.description.specs.Tables.{pmt_length, nit_length}
+use Rattle.description.specs.SectionTexts.{single_header, pat_says, pmt_says, nit_says, sdt_says, eit_says, kind_text}
+use Rattle.description.specs.declared.table_kind.TableKind.TheVariants.{Pat, Tdt}
 
 -- these bytes are a section that can be written, and their table_id is not 0xFF
 pub record IsWritten (text : List ℕ) : Type 0 where

@@ -1,13 +1,12 @@
 -- The packets of a stream's PID are those of its units in their own slots.
-use Rattle.std.proofs.Common.{◌≡◌, ℕ, zero, suc, ◌+◌, ◌-◌, ◌≤◌, ◌<◌, max, min, List, [], ◌∷◌, ◌++◌, length, map, take, drop, refl, sym, ap, ap₂, subst, ◌∙◌, inl, inr, arith, append-nil}
-use Rattle.std.proofs.Math.Seq.{take-append_seam, drop-append_seam, drop-nil}
+use Rattle.std.proofs.Common.{◌≡◌, ℕ, zero, suc, ◌-◌, ◌≤◌, min, List, [], ◌∷◌, ◌++◌, length, map, take, drop, refl, sym, ap, ap₂, ◌∙◌, inl, inr, arith, append-nil}
+use Rattle.std.proofs.Math.Seq.{take-append_seam, drop-append_seam}
 use Rattle.std.proofs.lemmas.List.{map-append, length-take, length-drop}
 use Rattle.std.proofs.lemmas.Bool.{cases_lt}
 use Rattle.own_slots.specs.Slots.{own_slots}
 use Rattle.pes_packet.specs.AccessUnits.{AccessUnit}
 use Rattle.ts_packet.specs.PidList.{Entry, pid_list}
 use Rattle.ts_packet.specs.Contents.{Content, run_bytes, payload_of}
-use Rattle.unit_timing.specs.PesPacket.{PesPacket}
 use Rattle.unit_timing.specs.Schedule.{Packet, cut, packets_in_slots, first_slot as first_own_slot}
 use Rattle.unit_queue.specs.Lanes.{Lane, timed, packet_count, first_slot, end_slot}
 use Rattle.unit_queue.specs.Payloads.{IsAlone}
