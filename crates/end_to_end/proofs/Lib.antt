@@ -9,3 +9,4 @@ pub mod Faultless
 pub mod Row
 pub mod CarryBack
 pub mod AcceptedFit
+pub mod Driven

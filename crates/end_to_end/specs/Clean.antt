@@ -9,9 +9,10 @@ use Rattle.description.specs.Ranges.{IsInRange}
 use Rattle.demux.specs.Views.{WhatView, IsDuplicate, BreaksCounter, IsScrambled, IsTruncated, IsSection, IsBadSection, IsPes, IsBadPes, IsBadPacket, IsErrored, FindingView}
 use Rattle.round_trip.specs.Laws.{all_found, found_on}
 use Rattle.mux_core.specs.Scheduled.{Scheduled}
-use Rattle.mux_core.specs.Histories.{History, content_at}
+use Rattle.mux_core.specs.Histories.{History, empty_history, content_at, bytes_of}
 use Rattle.mux_core.specs.Headline.{UnitsKept}
 use Rattle.mux_core.specs.Standing.{Mixer, Stands}
+use Rattle.mux_core.specs.Driving.{Step, history_after}
 use Rattle.end_to_end.specs.Told.{IsTold}
 
 -- what may be wrong
@@ -65,3 +66,7 @@ CleanLaw = (d : Scheduled) (units : ℕ → List AccessUnit) (n : ℕ) → IsInR
 abbrev pub StandingCleanLaw : Type 0
 StandingCleanLaw = (h : History) (m : Mixer) (n : ℕ) → IsInRange m.line.description → Stands h m → n ≤ 2 ^ 40 →
     IsClean m.line (run_bytes (content_at m.line h.units) 0 n)
+
+-- so of the history that any units and slots leave, in any order
+abbrev pub DrivenCleanLaw : Type 0
+DrivenCleanLaw = (d : Scheduled) (capacity : ℕ) (steps : List Step) → IsInRange d.description → IsClean d (bytes_of d (history_after d capacity empty_history steps))

@@ -12,9 +12,10 @@ use Rattle.round_trip.specs.Units.{unit_found}
 use Rattle.round_trip.specs.Sections.{section_found}
 use Rattle.round_trip.specs.Laws.{all_found, found_on, Rises}
 use Rattle.mux_core.specs.Scheduled.{Scheduled}
-use Rattle.mux_core.specs.Histories.{History, lane_of, table_of, content_at}
+use Rattle.mux_core.specs.Histories.{History, empty_history, lane_of, table_of, content_at, bytes_of}
 use Rattle.mux_core.specs.Headline.{UnitsKept}
 use Rattle.mux_core.specs.Standing.{Mixer, Stands}
+use Rattle.mux_core.specs.Driving.{Step, history_after}
 use Rattle.end_to_end.specs.Placed.{sent_units, sent_sections}
 use Rattle.end_to_end.specs.Told.{IsTold}
 
@@ -58,3 +59,10 @@ GivenBackLaw = (d : Scheduled) (units : ℕ → List AccessUnit) (n : ℕ) → I
 abbrev pub StandingLaw : Type 0
 StandingLaw = (h : History) (m : Mixer) (n : ℕ) → IsInRange m.line.description → Stands h m → n ≤ 2 ^ 40 →
     GivenBack m.line h.units n (run_bytes (content_at m.line h.units) 0 n)
+
+-- so of the history that any units and slots leave, in any order, where `capacity` units of a stream may wait: units that are refused are no
+-- part of it
+abbrev pub DrivenLaw : Type 0
+DrivenLaw = (d : Scheduled) (capacity : ℕ) (steps : List Step) → IsInRange d.description →
+    GivenBack d (history_after d capacity empty_history steps).units (history_after d capacity empty_history steps).slots
+    (bytes_of d (history_after d capacity empty_history steps))

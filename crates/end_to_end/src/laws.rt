@@ -1,6 +1,6 @@
 //! What a demultiplexer finds in the finished bytes of a run. Each function does nothing: its contract is the law.
-ghost use Rattle.end_to_end.specs.GivenBack.{GivenBackLaw, StandingLaw};
-ghost use Rattle.end_to_end.specs.Clean.{CleanLaw, StandingCleanLaw};
+ghost use Rattle.end_to_end.specs.GivenBack.{GivenBackLaw, StandingLaw, DrivenLaw};
+ghost use Rattle.end_to_end.specs.Clean.{CleanLaw, StandingCleanLaw, DrivenCleanLaw};
 ghost use Rattle.end_to_end.specs.CarriedBack.{CarriedBackLaw, AcceptedUnitsFit};
 
 /// The bytes of a run, demultiplexed with their end, give back on each stream's PID exactly its units, in order: each that
@@ -11,6 +11,7 @@ ghost use Rattle.end_to_end.specs.CarriedBack.{CarriedBackLaw, AcceptedUnitsFit}
 pub fn given_back()
     ensures whole { GivenBackLaw }
     ensures standing { StandingLaw }
+    ensures driven { DrivenLaw }
 {}
 
 /// Nor is anything wrong with these bytes: no packet is refused, flagged in error, scrambled or repeated, each
@@ -18,6 +19,7 @@ pub fn given_back()
 pub fn clean()
     ensures whole { CleanLaw }
     ensures standing { StandingCleanLaw }
+    ensures driven { DrivenCleanLaw }
 {}
 
 /// What `mux_core::carry` writes, a stream's units on a PID of their own, gives back exactly these units; and each unit that
