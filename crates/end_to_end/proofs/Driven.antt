@@ -2,13 +2,13 @@
 use Rattle.std.proofs.Common.{◌≡◌, ℕ, suc, ◌+◌, ◌-◌, ◌^◌, ◌<◌, ◌≤◌, List, [], ◌∷◌, map, slice_get, length, Option, Some, None, Result, Ok, Err, refl, sym, ap, ap₂, subst, ◌∙◌, arith, inl, inr, lt-ltb, le-ltb}
 use Rattle.std.proofs.lemmas.Bool.{cases_lt}
 use Rattle.pes_packet.specs.AccessUnits.{AccessUnit}
-use Rattle.ts_packet.specs.Contents.{packet_of}
+use Rattle.ts_packet.specs.Contents.{packet_of, run_bytes}
 use Rattle.description.specs.Ranges.{IsInRange}
 use Rattle.description.specs.Tables.{table_count}
 use Rattle.slot_plan.specs.Schedule.{slot_of}
 use Rattle.unit_queue.specs.declared.refusal.FeedError.{FeedError}
 use Rattle.mux_core.specs.Scheduled.{Scheduled}
-use Rattle.mux_core.specs.Histories.{History, empty_history, slot_more, with_unit, bytes_of}
+use Rattle.mux_core.specs.Histories.{History, empty_history, slot_more, with_unit, content_at}
 use Rattle.mux_core.specs.Standing.{Mixer, Stands, feed_cause, refusal_of}
 use Rattle.mux_core.specs.Turns.{sends, after, fed, queue_cause}
 use Rattle.mux_core.specs.Making.{first_queue, first_turns}
@@ -23,14 +23,14 @@ use Rattle.end_to_end.proofs.Joining.{standing}
 use Rattle.end_to_end.proofs.Faultless.{standing_clean}
 
 -- a multiplexer for a history
-record StandsFor (d : Scheduled) (capacity : ℕ) (h : History) : Type 0 where
-  mixer : Mixer
-  stands : Stands h mixer
-  line : mixer.line ≡ d
-  room : mixer.capacity ≡ capacity
-  few : h.slots ≤ 2 ^ 40
+pub record StandsFor (d : Scheduled) (capacity : ℕ) (h : History) : Type 0 where
+  pub mixer : Mixer
+  pub stands : Stands h mixer
+  pub line : mixer.line ≡ d
+  pub room : mixer.capacity ≡ capacity
+  pub few : h.slots ≤ 2 ^ 40
 
-first : (d : Scheduled) (capacity : ℕ) → IsInRange d.description → StandsFor d capacity empty_history
+pub first : (d : Scheduled) (capacity : ℕ) → IsInRange d.description → StandsFor d capacity empty_history
 first d capacity r = record {
   mixer = record {
     line = d;
@@ -53,7 +53,7 @@ unit_stands h m k u r st none =
     let t = takes feed_laws h m k u cause (fed m k u) (rules_known m.line r) st (record { first = refl; taken = λ e. refl; same_line = refl; same_capacity = refl }) in
     t.stands (t.first ∙ none)
 
-fed_stands : (d : Scheduled) (capacity : ℕ) (h : History) (k : ℕ) (u : AccessUnit) (cause : Option FeedError) → IsInRange d.description → StandsFor d capacity h →
+pub fed_stands : (d : Scheduled) (capacity : ℕ) (h : History) (k : ℕ) (u : AccessUnit) (cause : Option FeedError) → IsInRange d.description → StandsFor d capacity h →
     feed_cause d capacity h k u (slice_get d.description.streams k) ≡ cause → StandsFor d capacity (fed_history h k u cause)
 unfolding fed_history
 fed_stands d capacity h k u (Some cause) r w e = w
@@ -97,16 +97,26 @@ all_stand d capacity h (step ∷ rest) r w = all_stand d capacity (step_history 
 
 -- ---- the laws
 
+pub given_back_of : (d : Scheduled) (capacity : ℕ) (h : History) (n : ℕ) → IsInRange d.description → StandsFor d capacity h → n ≤ 2 ^ 40 →
+    GivenBack d h.units n (run_bytes (content_at d h.units) 0 n)
+given_back_of d capacity h n r w few =
+    subst (λ (x : Scheduled). GivenBack x h.units n (run_bytes (content_at x h.units) 0 n)) w.line
+    (standing h w.mixer n (subst (λ (x : Scheduled). IsInRange x.description) (sym w.line) r) w.stands few)
+
+pub clean_of : (d : Scheduled) (capacity : ℕ) (h : History) (n : ℕ) → IsInRange d.description → StandsFor d capacity h → n ≤ 2 ^ 40 →
+    IsClean d (run_bytes (content_at d h.units) 0 n)
+clean_of d capacity h n r w few =
+    subst (λ (x : Scheduled). IsClean x (run_bytes (content_at x h.units) 0 n)) w.line
+    (standing_clean h w.mixer n (subst (λ (x : Scheduled). IsInRange x.description) (sym w.line) r) w.stands few)
+
 pub driven : DrivenLaw
 driven d capacity steps r =
     let h : History = history_after d capacity empty_history steps in
     let w = all_stand d capacity empty_history steps r (first d capacity r) in
-    subst (λ (x : Scheduled). GivenBack x h.units h.slots (bytes_of x h)) w.line
-    (standing h w.mixer h.slots (subst (λ (x : Scheduled). IsInRange x.description) (sym w.line) r) w.stands w.few)
+    given_back_of d capacity h h.slots r w w.few
 
 pub driven_clean : DrivenCleanLaw
 driven_clean d capacity steps r =
     let h : History = history_after d capacity empty_history steps in
     let w = all_stand d capacity empty_history steps r (first d capacity r) in
-    subst (λ (x : Scheduled). IsClean x (bytes_of x h)) w.line
-    (standing_clean h w.mixer h.slots (subst (λ (x : Scheduled). IsInRange x.description) (sym w.line) r) w.stands w.few)
+    clean_of d capacity h h.slots r w w.few

@@ -10,3 +10,4 @@ pub mod Row
 pub mod CarryBack
 pub mod AcceptedFit
 pub mod Driven
+pub mod Jobs

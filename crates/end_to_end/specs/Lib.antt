@@ -3,3 +3,4 @@ pub mod Told
 pub mod GivenBack
 pub mod Clean
 pub mod CarriedBack
+pub mod Jobs

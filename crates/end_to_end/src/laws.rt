@@ -1,6 +1,7 @@
 //! What a demultiplexer finds in the finished bytes of a run. Each function does nothing: its contract is the law.
 ghost use Rattle.end_to_end.specs.GivenBack.{GivenBackLaw, StandingLaw, DrivenLaw};
 ghost use Rattle.end_to_end.specs.Clean.{CleanLaw, StandingCleanLaw, DrivenCleanLaw};
+ghost use Rattle.end_to_end.specs.Jobs.{JobLaw, JobCleanLaw};
 ghost use Rattle.end_to_end.specs.CarriedBack.{CarriedBackLaw, AcceptedUnitsFit};
 
 /// The bytes of a run, demultiplexed with their end, give back on each stream's PID exactly its units, in order: each that
@@ -20,6 +21,12 @@ pub fn clean()
     ensures whole { CleanLaw }
     ensures standing { StandingCleanLaw }
     ensures driven { DrivenCleanLaw }
+{}
+
+/// So of what `mux_core::multiplex` and `multiplex_switch` write for a whole job.
+pub fn jobs()
+    ensures given_back { JobLaw }
+    ensures clean { JobCleanLaw }
 {}
 
 /// What `mux_core::carry` writes, a stream's units on a PID of their own, gives back exactly these units; and each unit that
