@@ -1,0 +1,122 @@
+-- Whatever is fed and written, in any order, a multiplexer stands for the history that it leaves.
+use Rattle.std.proofs.Common.{◌≡◌, ℕ, suc, ◌+◌, ◌-◌, ◌^◌, ◌<◌, ◌≤◌, List, [], ◌∷◌, map, slice_get, length, Option, Some, None, Result, Ok, Err, refl, sym, ap, ap₂, subst, ◌∙◌, arith, inl, inr, lt-ltb, le-ltb}
+use Rattle.std.proofs.lemmas.Bool.{cases_lt}
+use Rattle.pes_packet.specs.AccessUnits.{AccessUnit}
+use Rattle.ts_packet.specs.Contents.{packet_of, run_bytes}
+use Rattle.description.specs.Ranges.{IsInRange}
+use Rattle.description.specs.Tables.{table_count}
+use Rattle.slot_plan.specs.Schedule.{slot_of}
+use Rattle.unit_queue.specs.declared.refusal.FeedError.{FeedError}
+use Rattle.mux_core.specs.Scheduled.{Scheduled}
+use Rattle.mux_core.specs.Histories.{History, empty_history, slot_more, with_unit, content_at}
+use Rattle.mux_core.specs.Standing.{Mixer, Stands, feed_cause, refusal_of}
+use Rattle.mux_core.specs.Turns.{sends, after, fed, queue_cause}
+use Rattle.mux_core.specs.Making.{first_queue, first_turns}
+use Rattle.mux_core.specs.Driving.{Step, FeedStep, SlotStep, fed_history, step_history, history_after}
+use Rattle.mux_core.proofs.Beginning.{stands_first}
+use Rattle.mux_core.proofs.Feeding.{takes}
+use Rattle.mux_core.proofs.Knowing.{rules_known}
+use Rattle.mux_core.proofs.Standing.{feed_laws, gives}
+use Rattle.end_to_end.specs.GivenBack.{GivenBack, DrivenLaw}
+use Rattle.end_to_end.specs.Clean.{IsClean, DrivenCleanLaw}
+use Rattle.end_to_end.proofs.Joining.{standing}
+use Rattle.end_to_end.proofs.Faultless.{standing_clean}
+
+-- a multiplexer for a history
+pub record StandsFor (d : Scheduled) (capacity : ℕ) (h : History) : Type 0 where
+  pub mixer : Mixer
+  pub stands : Stands h mixer
+  pub line : mixer.line ≡ d
+  pub room : mixer.capacity ≡ capacity
+  pub few : h.slots ≤ 2 ^ 40
+
+pub first : (d : Scheduled) (capacity : ℕ) → IsInRange d.description → StandsFor d capacity empty_history
+first d capacity r = record {
+  mixer = record {
+    line = d;
+    queues = map (first_queue d.description capacity) d.description.streams;
+    turns = first_turns d.description 0 (table_count d.description);
+    capacity = capacity;
+    slots = 0;
+  };
+  stands = stands_first d capacity r;
+  line = refl;
+  room = refl;
+  few = omega arith;
+}
+
+-- ---- a unit
+
+unit_stands : (h : History) (m : Mixer) (k : ℕ) (u : AccessUnit) → IsInRange m.line.description → Stands h m → refusal_of m h k u ≡ None → Stands (with_unit h k u) (fed m k u)
+unit_stands h m k u r st none =
+    let cause : Option FeedError = queue_cause m.slots u (slice_get m.queues k) in
+    let t = takes feed_laws h m k u cause (fed m k u) (rules_known m.line r) st (record { first = refl; taken = λ e. refl; same_line = refl; same_capacity = refl }) in
+    t.stands (t.first ∙ none)
+
+pub fed_stands : (d : Scheduled) (capacity : ℕ) (h : History) (k : ℕ) (u : AccessUnit) (cause : Option FeedError) → IsInRange d.description → StandsFor d capacity h →
+    feed_cause d capacity h k u (slice_get d.description.streams k) ≡ cause → StandsFor d capacity (fed_history h k u cause)
+unfolding fed_history
+fed_stands d capacity h k u (Some cause) r w e = w
+fed_stands d capacity h k u None r w e =
+    let m : Mixer = w.mixer in
+    let none : refusal_of m h k u ≡ None =
+    ap₂ (λ (x : Scheduled) (n : ℕ). feed_cause x n h k u (slice_get x.description.streams k)) w.line w.room ∙ e in
+    record {
+      mixer = fed m k u;
+      stands = unit_stands h m k u (subst (λ (x : Scheduled). IsInRange x.description) (sym w.line) r) w.stands none;
+      line = w.line;
+      room = w.room;
+      few = w.few;
+    }
+
+-- ---- a slot
+
+slot_stands : (d : Scheduled) (capacity : ℕ) (h : History) → IsInRange d.description → StandsFor d capacity h → h.slots < 2 ^ 40 → StandsFor d capacity (slot_more h)
+slot_stands d capacity h r w less =
+    let m : Mixer = w.mixer in
+    let next : Mixer = after m (slot_of m.line.schedule m.slots) in
+    let ranges : IsInRange m.line.description = subst (λ (x : Scheduled). IsInRange x.description) (sym w.line) r in
+    let before : m.slots < 2 ^ 40 = subst (λ (n : ℕ). n < 2 ^ 40) (sym w.stands.written) less in
+    let g = gives h m (Ok (packet_of (sends m (slot_of m.line.schedule m.slots)))) next ranges w.stands (before, refl, refl) in
+    record { mixer = next; stands = g.3; line = g.2 ∙ w.line; room = g.4 ∙ w.room; few = omega (arith, less) }
+
+-- ---- events
+
+step_stands : (d : Scheduled) (capacity : ℕ) (h : History) (step : Step) → IsInRange d.description → StandsFor d capacity h → StandsFor d capacity (step_history d capacity h step)
+unfolding step_history
+step_stands d capacity h (FeedStep k u) r w = fed_stands d capacity h k u (feed_cause d capacity h k u (slice_get d.description.streams k)) r w refl
+step_stands d capacity h SlotStep r w = elim (cases_lt h.slots (2 ^ 40)) [
+  | inl less ↦ let test = lt-ltb h.slots (2 ^ 40) less in rw test (slot_stands d capacity h r w less)
+  | inr over ↦ let test = le-ltb h.slots (2 ^ 40) over in rw test w
+]
+
+all_stand : (d : Scheduled) (capacity : ℕ) (h : History) (steps : List Step) → IsInRange d.description → StandsFor d capacity h → StandsFor d capacity (history_after d capacity h steps)
+unfolding history_after
+all_stand d capacity h [] r w = w
+all_stand d capacity h (step ∷ rest) r w = all_stand d capacity (step_history d capacity h step) rest r (step_stands d capacity h step r w)
+
+-- ---- the laws
+
+pub given_back_of : (d : Scheduled) (capacity : ℕ) (h : History) (n : ℕ) → IsInRange d.description → StandsFor d capacity h → n ≤ 2 ^ 40 →
+    GivenBack d h.units n (run_bytes (content_at d h.units) 0 n)
+given_back_of d capacity h n r w few =
+    subst (λ (x : Scheduled). GivenBack x h.units n (run_bytes (content_at x h.units) 0 n)) w.line
+    (standing h w.mixer n (subst (λ (x : Scheduled). IsInRange x.description) (sym w.line) r) w.stands few)
+
+pub clean_of : (d : Scheduled) (capacity : ℕ) (h : History) (n : ℕ) → IsInRange d.description → StandsFor d capacity h → n ≤ 2 ^ 40 →
+    IsClean d (run_bytes (content_at d h.units) 0 n)
+clean_of d capacity h n r w few =
+    subst (λ (x : Scheduled). IsClean x (run_bytes (content_at x h.units) 0 n)) w.line
+    (standing_clean h w.mixer n (subst (λ (x : Scheduled). IsInRange x.description) (sym w.line) r) w.stands few)
+
+pub driven : DrivenLaw
+driven d capacity steps r =
+    let h : History = history_after d capacity empty_history steps in
+    let w = all_stand d capacity empty_history steps r (first d capacity r) in
+    given_back_of d capacity h h.slots r w w.few
+
+pub driven_clean : DrivenCleanLaw
+driven_clean d capacity steps r =
+    let h : History = history_after d capacity empty_history steps in
+    let w = all_stand d capacity empty_history steps r (first d capacity r) in
+    clean_of d capacity h h.slots r w w.few

@@ -1,0 +1,13 @@
+pub mod TextsWritten
+pub mod TablesWritten
+pub mod SectionsTold
+pub mod UnitPlaces
+pub mod SectionPlaces
+pub mod NothingElse
+pub mod Joining
+pub mod Faultless
+pub mod Row
+pub mod CarryBack
+pub mod AcceptedFit
+pub mod Driven
+pub mod Jobs

@@ -1,0 +1,6 @@
+pub mod Placed
+pub mod Told
+pub mod GivenBack
+pub mod Clean
+pub mod CarriedBack
+pub mod Jobs

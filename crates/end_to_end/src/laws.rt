@@ -1,0 +1,37 @@
+//! What a demultiplexer finds in the finished bytes of a run. Each function does nothing: its contract is the law.
+ghost use Rattle.end_to_end.specs.GivenBack.{GivenBackLaw, StandingLaw, DrivenLaw};
+ghost use Rattle.end_to_end.specs.Clean.{CleanLaw, StandingCleanLaw, DrivenCleanLaw};
+ghost use Rattle.end_to_end.specs.Jobs.{JobLaw, JobCleanLaw};
+ghost use Rattle.end_to_end.specs.CarriedBack.{CarriedBackLaw, AcceptedUnitsFit};
+
+/// The bytes of a run, demultiplexed with their end, give back on each stream's PID exactly its units, in order: each that
+/// was sent whole with its stream_id, its stamps as on the wire and its data, then the one under way as truncated, or as a
+/// PES packet that did not end if it has no PES_packet_length (ISO/IEC 13818-1, 2.4.3.7); on each table's PID exactly its
+/// sections as of their moments; and nothing else on any PID. Left open are PIDs with a ready-made section that is taken for
+/// a PES packet or for stuffing. For one plan and for two in turn, and for whatever a multiplexer stands for.
+pub fn given_back()
+    ensures whole { GivenBackLaw }
+    ensures standing { StandingLaw }
+    ensures driven { DrivenLaw }
+{}
+
+/// Nor is anything wrong with these bytes: no packet is refused, flagged in error, scrambled or repeated, each
+/// continuity_counter follows, and no section is refused (ETSI TR 101 290, 5.2.1).
+pub fn clean()
+    ensures whole { CleanLaw }
+    ensures standing { StandingCleanLaw }
+    ensures driven { DrivenCleanLaw }
+{}
+
+/// So of what `mux_core::multiplex` and `multiplex_switch` write for a whole job.
+pub fn jobs()
+    ensures given_back { JobLaw }
+    ensures clean { JobCleanLaw }
+{}
+
+/// What `mux_core::carry` writes, a stream's units on a PID of their own, gives back exactly these units; and each unit that
+/// it accepts is one of which this is said.
+pub fn carried_back()
+    ensures whole { CarriedBackLaw }
+    ensures accepted { AcceptedUnitsFit }
+{}

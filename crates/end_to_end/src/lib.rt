@@ -1,0 +1,16 @@
+//! What goes in comes back: the finished bytes of a multiplexer, demultiplexed, are the units and sections that went in
+//! (ISO/IEC 13818-1, 2.4.3 and 2.4.4).
+//!
+//! Each function here is a law: it does nothing, and its contract says what holds of the definitions. `mux_core` says what
+//! each slot carries, `demux` what is found in bytes; here the two are joined, over `round_trip`, for every description
+//! in its ranges, every plan, and two plans in turn.
+//!
+//! Definitions stand in `specs/`: `Placed` says which slots carry which unit and which section, `Told` which ready-made
+//! sections are taken for something else, `GivenBack` what is found of all of them, `Clean` what is never found.
+//!
+//! - [`laws`]: what is given back, and that nothing is wrong with it.
+#![tactic(auto)]
+
+pub mod laws;
+#[cfg(test)]
+mod tests;
