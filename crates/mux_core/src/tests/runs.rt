@@ -1,6 +1,8 @@
 //! Worked runs over a small service: 1,000 slots a second, 90 units of 90 kHz a slot.
 
+mod driven;
 mod feeds;
+mod jobs;
 mod memory;
 mod slots;
 mod switches;

@@ -20,7 +20,7 @@ program 0 tstart 0 tpeak 377504000 bstart 0 bpeak 550464000
 end
 ";
 
-fn switch(alloc: Global) -> Result<CheckedSwitch, Fail> {
+pub(super) fn switch(alloc: Global) -> Result<CheckedSwitch, Fail> {
     let (turned, _) = Plan::read_text(alloc, TURNED.as_bytes())?;
     match check_switch(base(alloc, "lead = 1600", "lead = 1688")?, turned) {
         Ok(switch) => Ok(switch),

@@ -1,0 +1,68 @@
+//! Each request for memory refused in turn: Memory with nothing written, or the job.
+
+use crate::tests::runs::{PLAN, described};
+use crate::{MuxError, Unit, multiplex};
+use linked_list_allocator::LocalHeap;
+use plan_checker::{CheckedPlan, check};
+use slot_plan::Plan;
+use std::alloc::{Allocator, Global};
+use std::test::Fail;
+use ts_packet::Counted;
+
+fn checked<A: Allocator + Clone>(global: Global, alloc: A) -> Result<CheckedPlan<A>, Fail> {
+    let (plan, _) = Plan::read_text(alloc, PLAN.as_bytes())?;
+    match check(described(global, "rate", "rate")?, plan) {
+        Ok(checked) => Ok(checked),
+        Err(_) => Err(Fail::from("the plan is refused")),
+    }
+}
+
+// The unit of 576 bytes, DTS and PTS 1,600.
+fn units<A: Allocator + Copy>(alloc: A) -> Result<Vec<(u8, Unit<A>), A>, Fail> {
+    let mut units = Vec::new(alloc);
+    let bytes = vec![in alloc; 0xa5u8; 576]?;
+    units.push((
+        0u8,
+        Unit {
+            dts: 1_600,
+            pts: 1_600,
+            bytes,
+        },
+    ))?;
+    Ok(units)
+}
+
+// Whether a job of 18 slots is written, where it may take so many bytes beside its plan and its unit.
+fn is_written(global: Global, size: usize) -> Result<bool, Fail> {
+    let given = LocalHeap::new(global, 16_384)?;
+    let heap = LocalHeap::new(global, size)?;
+    let (plan, units) = (checked(global, &given)?, units(&given)?);
+    let mut to = Counted::new(Vec::new(global));
+    let answer = multiplex(&heap, plan, units, 18, &mut to);
+    let output = to.into_inner();
+    match (answer, output.len()) {
+        (Ok(3_384), 3_384) => Ok(true),
+        (Err(MuxError::Memory), 0) => Ok(false),
+        _ => Err(Fail::from("another answer")),
+    }
+}
+
+// How many of 64 jobs are written, each with room for so many bytes more than the last, and the first with none.
+fn written(global: Global, more: usize) -> Result<usize, Fail> {
+    let mut written = 0usize;
+    for n in 0..64 {
+        if is_written(global, n * more)? {
+            written = written.saturating_add(1);
+        }
+    }
+    Ok(written)
+}
+
+// No room for the units that wait, for the sections, for the output; and room for all.
+#[test]
+fn memory_for_a_job(rt: HostRuntime) -> Result<(), Fail> {
+    assert_eq!(rt; written(rt.alloc(), 16)?, 0);
+    let written = written(rt.alloc(), 4_096)?;
+    assert!(rt; 0 < written && written < 63, "{written}");
+    Ok(())
+}
