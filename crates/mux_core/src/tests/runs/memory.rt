@@ -1,12 +1,13 @@
 //! Each request for memory refused in turn: Memory, or a multiplexer.
 
-use super::{PLAN, described};
+use super::described;
 use crate::{Mux, NewError};
 use linked_list_allocator::LocalHeap;
 use plan_checker::{CheckedPlan, check, check_switch};
 use slot_plan::Plan;
 use std::alloc::{Allocator, Global};
 use std::test::Fail;
+use test_services::BASE_PLAN;
 
 // A stream with a group of 64 units.
 const GROUP: &str = "lead = 1600\ngroup = 64\ngroup_packets = 256";
@@ -15,7 +16,7 @@ const GROUP: &str = "lead = 1600\ngroup = 64\ngroup_packets = 256";
 const HEAP: usize = 81_920;
 
 fn plan<A: Allocator + Clone>(alloc: A) -> Result<Plan<A>, Fail> {
-    let (plan, _) = Plan::read_text(alloc, PLAN.as_bytes())?;
+    let (plan, _) = Plan::read_text(alloc, BASE_PLAN.as_bytes())?;
     Ok(plan)
 }
 

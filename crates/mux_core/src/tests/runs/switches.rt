@@ -6,22 +6,10 @@ use plan_checker::{CheckedSwitch, check_switch};
 use slot_plan::Plan;
 use std::alloc::Global;
 use std::test::Fail;
-
-// The plan with each slot one place later, the last one first.
-const TURNED: &str = "tsplan 1
-period 120
-- S0 P0 T0 T1 S0 T3 T2 T4 S0 T5 - - S0 - - - S0 - - - S0 - -
-- S0 P0 - - S0 - - - S0 - - - S0 - - - S0 - - - S0 - -
-- S0 P0 - - S0 - - - S0 - - - S0 - - - S0 - - - S0 - -
-- S0 P0 - - S0 - - - S0 - - - S0 - - - S0 - - - S0 - -
-- S0 P0 - - S0 - - - S0 - - - S0 - - - S0 - - - S0 - -
-stream 0 spread 0 start 0 peak 282752000
-program 0 tstart 0 tpeak 377504000 bstart 0 bpeak 550464000
-end
-";
+use test_services::TURNED_PLAN;
 
 pub(super) fn switch(alloc: Global) -> Result<CheckedSwitch, Fail> {
-    let (turned, _) = Plan::read_text(alloc, TURNED.as_bytes())?;
+    let (turned, _) = Plan::read_text(alloc, TURNED_PLAN.as_bytes())?;
     match check_switch(base(alloc, "lead = 1600", "lead = 1688")?, turned) {
         Ok(switch) => Ok(switch),
         Err(_) => Err(Fail::from("the switch is refused")),

@@ -1,16 +1,17 @@
 //! Each request for memory refused in turn: Memory with nothing written, or the job.
 
-use crate::tests::runs::{PLAN, described};
+use crate::tests::runs::described;
 use crate::{MuxError, Unit, multiplex};
 use linked_list_allocator::LocalHeap;
 use plan_checker::{CheckedPlan, check};
 use slot_plan::Plan;
 use std::alloc::{Allocator, Global};
 use std::test::Fail;
+use test_services::BASE_PLAN;
 use ts_packet::Counted;
 
 fn checked<A: Allocator + Clone>(global: Global, alloc: A) -> Result<CheckedPlan<A>, Fail> {
-    let (plan, _) = Plan::read_text(alloc, PLAN.as_bytes())?;
+    let (plan, _) = Plan::read_text(alloc, BASE_PLAN.as_bytes())?;
     match check(described(global, "rate", "rate")?, plan) {
         Ok(checked) => Ok(checked),
         Err(_) => Err(Fail::from("the plan is refused")),
