@@ -6,7 +6,55 @@ use crate::{Condition, check};
 use slot_plan::{Certificate, Description, Plan, Slot};
 use std::alloc::Global;
 use std::test::Fail;
-use test_services::{BASE, BASE_PLAN};
+
+const DESCRIPTION: &str = "rate = 1504000
+start = \"1993-10-13T12:45:00\"
+ts_id = 1
+original_network_id = 1
+sdt = true
+tdt = true
+
+[network]
+id = 1
+name = \"Net\"
+
+[[program]]
+number = 1
+pmt_pid = 4096
+pcr_pid = 257
+service_type = 2
+name = \"One\"
+
+[[stream]]
+program = 1
+pid = 256
+id = 192
+type = 3
+interval = 2160
+size = 576
+lead = 1600
+
+[[event]]
+program = 1
+id = 7
+start = \"1993-10-13T12:45:00\"
+duration = 5400
+language = \"eng\"
+name = \"News\"
+text = \"\"
+";
+
+const PLAN: &str = "tsplan 1
+period 120
+S0 P0 T0 T1 S0 T3 T2 T4 S0 T5 - - S0 - - - S0 - - - S0 - - -
+S0 P0 - - S0 - - - S0 - - - S0 - - - S0 - - - S0 - - -
+S0 P0 - - S0 - - - S0 - - - S0 - - - S0 - - - S0 - - -
+S0 P0 - - S0 - - - S0 - - - S0 - - - S0 - - - S0 - - -
+S0 P0 - - S0 - - - S0 - - - S0 - - - S0 - - - S0 - - -
+stream 0 spread 0 start 0 peak 282752000
+program 0 tstart 0 tpeak 377504000 bstart 0 bpeak 550464000
+end
+";
 
 /// The text with one part of it replaced.
 fn edited(alloc: Global, text: &str, from: &str, to: &str) -> Result<String, Fail> {
@@ -82,15 +130,15 @@ fn plans_of_the_base(rt: HostRuntime) -> Result<(), Fail> {
             Some((9, 2, 0, 550_464_000, 550_463_999)),
         ),
     ] {
-        let plan = edited(rt.alloc(), BASE_PLAN, from, to)?;
+        let plan = edited(rt.alloc(), PLAN, from, to)?;
         assert_eq!(rt;
-            answer(rt.alloc(), BASE, plan.as_str())?,
+            answer(rt.alloc(), DESCRIPTION, plan.as_str())?,
             row,
             "{from} made {to}"
         );
     }
     assert_eq!(rt;
-        answer(rt.alloc(), BASE, "tsplan 1\nperiod 0\nend\n")?,
+        answer(rt.alloc(), DESCRIPTION, "tsplan 1\nperiod 0\nend\n")?,
         Some((1, 1, 0, 1, 0))
     );
     Ok(())
@@ -137,9 +185,9 @@ fn descriptions_of_the_base(rt: HostRuntime) -> Result<(), Fail> {
         ),
         ("lead = 1600", "lead = 1600\nrx = 2000000\nmain = 595", None),
     ] {
-        let description = edited(rt.alloc(), BASE, from, to)?;
+        let description = edited(rt.alloc(), DESCRIPTION, from, to)?;
         assert_eq!(rt;
-            answer(rt.alloc(), description.as_str(), BASE_PLAN)?,
+            answer(rt.alloc(), description.as_str(), PLAN)?,
             row,
             "{from} made {to}"
         );
@@ -149,7 +197,7 @@ fn descriptions_of_the_base(rt: HostRuntime) -> Result<(), Fail> {
 
 /// The base's period so many times over, with the PAT in the first of them alone where `once` says so.
 fn long_plan(alloc: Global, times: usize, once: bool) -> Result<Plan, Fail> {
-    let (plan, _) = Plan::read_text(alloc, BASE_PLAN.as_bytes())?;
+    let (plan, _) = Plan::read_text(alloc, PLAN.as_bytes())?;
     let mut slots = Vec::new(alloc);
     for time in 0..times {
         for slot in plan.slots() {
@@ -169,7 +217,7 @@ fn long_plan(alloc: Global, times: usize, once: bool) -> Result<Plan, Fail> {
 
 #[test]
 fn long_periods(rt: HostRuntime) -> Result<(), Fail> {
-    let description = described(rt.alloc(), BASE)?;
+    let description = described(rt.alloc(), DESCRIPTION)?;
     let plan = long_plan(rt.alloc(), 546, false)?;
     let Ok(checked) = check(description, plan) else {
         return Err(Fail::from("546 times are refused"));
@@ -185,7 +233,7 @@ fn long_periods(rt: HostRuntime) -> Result<(), Fail> {
             (3, 0, 0, 98_542_080_000, 752_000_000),
         ),
     ] {
-        let description = described(rt.alloc(), BASE)?;
+        let description = described(rt.alloc(), DESCRIPTION)?;
         let Err((refusal, description, plan)) = check(
             description,
             long_plan(rt.alloc(), times, once)?,

@@ -1,5 +1,6 @@
 //! Worked runs over a small service: 1,000 slots a second, 90 units of 90 kHz a slot.
 
+mod capacities;
 mod driven;
 mod feeds;
 mod jobs;
@@ -10,7 +11,7 @@ mod switches;
 use crate::{Done, FeedError, Mux, Unit};
 use plan_checker::{CheckedPlan, check};
 use slot_plan::{Description, Plan};
-use std::alloc::Global;
+use std::alloc::{Allocator, Global};
 use std::test::Fail;
 use test_services::{BASE, BASE_PLAN};
 
@@ -31,8 +32,18 @@ fn described(alloc: Global, from: &str, to: &str) -> Result<Description, Fail> {
 
 // That description with its plan.
 fn base(alloc: Global, from: &str, to: &str) -> Result<CheckedPlan, Fail> {
+    checked(alloc, alloc, from, to)
+}
+
+// The same, where the plan has an allocator of its own.
+fn checked<A: Allocator + Clone>(
+    global: Global,
+    alloc: A,
+    from: &str,
+    to: &str,
+) -> Result<CheckedPlan<A>, Fail> {
     let (plan, _) = Plan::read_text(alloc, BASE_PLAN.as_bytes())?;
-    match check(described(alloc, from, to)?, plan) {
+    match check(described(global, from, to)?, plan) {
         Ok(checked) => Ok(checked),
         Err(_) => Err(Fail::from("the plan is refused")),
     }

@@ -1,15 +1,14 @@
 //! The plan of the small service followed by itself, and by itself turned by one slot.
 
-use super::{Row, described, edited};
+use super::{DESCRIPTION, PLAN, Row, described, edited};
 use crate::{check, check_switch};
 use slot_plan::{Certificate, Plan};
 use std::alloc::Global;
 use std::test::Fail;
-use test_services::{BASE, BASE_PLAN};
 
 /// The plan with one part of its text replaced.
 fn plan_of(alloc: Global, from: &str, to: &str) -> Result<Plan, Fail> {
-    let text = edited(alloc, BASE_PLAN, from, to)?;
+    let text = edited(alloc, PLAN, from, to)?;
     let (plan, _) = Plan::read_text(alloc, text.as_str().as_bytes())?;
     Ok(plan)
 }
@@ -36,7 +35,7 @@ fn turned(alloc: Global) -> Result<Plan, Fail> {
 /// The refusal of the second plan after the first, with that lead; None where it may follow. What is handed back is
 /// what was given.
 fn answer(alloc: Global, lead: &str, first: Plan, second: Plan) -> Result<Option<Row>, Fail> {
-    let description = edited(alloc, BASE, "lead = 1600", lead)?;
+    let description = edited(alloc, DESCRIPTION, "lead = 1600", lead)?;
     let given = (
         first.slots().first().copied(),
         second.slots().first().copied(),

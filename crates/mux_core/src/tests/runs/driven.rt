@@ -1,14 +1,11 @@
 //! Units and slots in any order, by a list of events.
 
-use super::{described, mux, unit};
+use super::{checked, mux, unit};
 use crate::Mux;
 use crate::laws::{Event, drive};
 use linked_list_allocator::LocalHeap;
-use plan_checker::check;
-use slot_plan::Plan;
 use std::alloc::{Allocator, Global};
 use std::test::Fail;
-use test_services::BASE_PLAN;
 
 // So many slots after other events.
 fn push_slots(events: &mut Vec<Event>, slots: u64) -> Result<(), Fail> {
@@ -69,11 +66,7 @@ fn packets_of_two_units(rt: HostRuntime) -> Result<(), Fail> {
 
 // A multiplexer that waits for one unit.
 fn made<A: Allocator + Copy>(global: Global, alloc: A) -> Result<Mux<A>, Fail> {
-    let (plan, _) = Plan::read_text(alloc, BASE_PLAN.as_bytes())?;
-    let Ok(checked) = check(described(global, "rate", "rate")?, plan) else {
-        return Err(Fail::from("the plan is refused"));
-    };
-    match Mux::new(alloc, checked, 1) {
+    match Mux::new(alloc, checked(global, alloc, "rate", "rate")?, 1) {
         Ok(mux) => Ok(mux),
         Err(_) => Err(Fail::from("no multiplexer")),
     }

