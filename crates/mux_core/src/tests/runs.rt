@@ -8,12 +8,12 @@ mod memory;
 mod slots;
 mod switches;
 
+use crate::tests::services::{BASE, BASE_PLAN};
 use crate::{Done, FeedError, Mux, Unit};
 use plan_checker::{CheckedPlan, check};
 use slot_plan::{Description, Plan};
 use std::alloc::{Allocator, Global};
 use std::test::Fail;
-use test_services::{BASE, BASE_PLAN};
 
 // The description with one part of its text replaced.
 fn described(alloc: Global, from: &str, to: &str) -> Result<Description, Fail> {

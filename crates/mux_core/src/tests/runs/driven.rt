@@ -8,7 +8,7 @@ use std::alloc::{Allocator, Global};
 use std::test::Fail;
 
 // So many slots after other events.
-fn push_slots(events: &mut Vec<Event>, slots: u64) -> Result<(), Fail> {
+fn push_slots<A: Allocator>(events: &mut Vec<Event<A>, A>, slots: u64) -> Result<(), Fail> {
     for _ in 0..slots {
         events.push(Event::Slot)?;
     }
@@ -72,20 +72,25 @@ fn made<A: Allocator + Copy>(global: Global, alloc: A) -> Result<Mux<A>, Fail> {
     }
 }
 
-// The events that come back where there is no room for their bytes; nothing is done.
-fn refused(global: Global) -> Result<usize, Fail> {
-    let given = LocalHeap::new(global, 131_072)?;
-    let heap = LocalHeap::new(global, 7_800)?;
-    let mut mux = made(global, &given)?;
-    let mut events = Vec::new(&given);
-    for _ in 0..42 {
-        events.push(Event::Slot)?;
-    }
-    let mut out = Vec::new(&heap);
+// How many events come back; nothing is done.
+fn come_back<A: Allocator>(
+    mut mux: Mux<A>,
+    events: Vec<Event<A>, A>,
+    mut out: Vec<u8, A>,
+) -> Result<usize, Fail> {
     match drive(&mut mux, events, &mut out) {
         Err(events) if mux.now() == 0 && out.len() == 0 => Ok(events.len()),
         _ => Err(Fail::from("something is done")),
     }
+}
+
+// How many of 42 slots come back where there is no room for their bytes.
+fn refused(global: Global) -> Result<usize, Fail> {
+    let given = LocalHeap::new(global, 131_072)?;
+    let heap = LocalHeap::new(global, 7_800)?;
+    let mut events = Vec::new(&given);
+    push_slots(&mut events, 42)?;
+    come_back(made(global, &given)?, events, Vec::new(&heap))
 }
 
 #[test]

@@ -1,12 +1,12 @@
 //! The plan of the small service, then the same turned by one slot.
 
 use super::{base, carries, mux, packet};
+use crate::tests::services::TURNED_PLAN;
 use crate::{Mux, NewError};
 use plan_checker::{CheckedSwitch, check_switch};
 use slot_plan::Plan;
 use std::alloc::Global;
 use std::test::Fail;
-use test_services::TURNED_PLAN;
 
 pub(super) fn switch(alloc: Global) -> Result<CheckedSwitch, Fail> {
     let (turned, _) = Plan::read_text(alloc, TURNED_PLAN.as_bytes())?;
@@ -18,14 +18,10 @@ pub(super) fn switch(alloc: Global) -> Result<CheckedSwitch, Fail> {
 
 // Why no multiplexer is made; the switch comes back.
 fn refusal(alloc: Global, periods: u64, capacity: usize) -> Result<NewError, Fail> {
-    let (error, slots) = match Mux::with_switch(alloc, switch(alloc)?, periods, capacity) {
-        Ok(_) => return Err(Fail::from("a multiplexer")),
-        Err((error, switch)) => (error, switch.second().slots().len()),
-    };
-    if slots == 120 {
-        Ok(error)
-    } else {
-        Err(Fail::from("another switch came back"))
+    match Mux::with_switch(alloc, switch(alloc)?, periods, capacity) {
+        Ok(_) => Err(Fail::from("a multiplexer")),
+        Err((error, switch)) if switch.second().slots().len() == 120 => Ok(error),
+        Err(_) => Err(Fail::from("another switch came back")),
     }
 }
 

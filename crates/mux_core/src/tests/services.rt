@@ -1,5 +1,4 @@
-//! A small service, its plan, and the plan turned by one slot, for the tests of other crates. No program takes them.
-#![tactic(auto)]
+//! A small service, its plan, and the plan turned by one slot.
 
 /// The description of a radio service: one stream of units of 576 bytes at most, 1,000 slots a second, each slot 90 units
 /// of 90 kHz.
