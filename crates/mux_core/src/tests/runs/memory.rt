@@ -44,14 +44,22 @@ fn twice<A: Allocator + Copy>(global: Global, alloc: A) -> Result<CheckedSwitch<
     }
 }
 
+// That memory is wanting; the switch is the one that was given.
+fn no_memory<A: Allocator>(error: NewError, switch: CheckedSwitch<A>) -> Result<bool, Fail> {
+    if error == NewError::Memory && switch.second().slots().len() == 120 {
+        Ok(false)
+    } else {
+        Err(Fail::from("another refusal"))
+    }
+}
+
 // The same over two plans.
 fn is_switched(global: Global, size: usize) -> Result<bool, Fail> {
     let given = LocalHeap::new(global, 16_384)?;
     let heap = LocalHeap::new(global, size)?;
     match Mux::with_switch(&heap, twice(global, &given)?, 1, 64) {
         Ok(_) => Ok(true),
-        Err((NewError::Memory, switch)) if switch.second().slots().len() == 120 => Ok(false),
-        Err(_) => Err(Fail::from("another refusal")),
+        Err((error, switch)) => no_memory(error, switch),
     }
 }
 

@@ -16,12 +16,20 @@ pub(super) fn switch(alloc: Global) -> Result<CheckedSwitch, Fail> {
     }
 }
 
+// The refusal, where the switch is the one that was given.
+fn given_back(error: NewError, switch: CheckedSwitch) -> Result<NewError, Fail> {
+    if switch.second().slots().len() == 120 {
+        Ok(error)
+    } else {
+        Err(Fail::from("another switch came back"))
+    }
+}
+
 // Why no multiplexer is made; the switch comes back.
 fn refusal(alloc: Global, periods: u64, capacity: usize) -> Result<NewError, Fail> {
     match Mux::with_switch(alloc, switch(alloc)?, periods, capacity) {
         Ok(_) => Err(Fail::from("a multiplexer")),
-        Err((error, switch)) if switch.second().slots().len() == 120 => Ok(error),
-        Err(_) => Err(Fail::from("another switch came back")),
+        Err((error, switch)) => given_back(error, switch),
     }
 }
 
