@@ -6,7 +6,43 @@ use plan_checker::CheckedPlan;
 use slot_plan::{Description, Plan, Slot};
 use std::alloc::{AllocError, Allocator, Global};
 use std::test::Fail;
-use test_services::BASE;
+
+const BASE: &str = "rate = 1504000
+start = \"1993-10-13T12:45:00\"
+ts_id = 1
+original_network_id = 1
+sdt = true
+tdt = true
+
+[network]
+id = 1
+name = \"Net\"
+
+[[program]]
+number = 1
+pmt_pid = 4096
+pcr_pid = 257
+service_type = 2
+name = \"One\"
+
+[[stream]]
+program = 1
+pid = 256
+id = 192
+type = 3
+interval = 2160
+size = 576
+lead = 1600
+
+[[event]]
+program = 1
+id = 7
+start = \"1993-10-13T12:45:00\"
+duration = 5400
+language = \"eng\"
+name = \"News\"
+text = \"\"
+";
 
 /// The base with one of its lines changed.
 fn changed(alloc: Global, old: &str, new: &str) -> Result<Description, Fail> {

@@ -6,7 +6,18 @@ use crate::{
 };
 use std::alloc::Global;
 use std::test::Fail;
-use test_services::BASE_PLAN;
+
+const BASE: &str = "tsplan 1
+period 120
+S0 P0 T0 T1 S0 T3 T2 T4 S0 T5 - - S0 - - - S0 - - - S0 - - -
+S0 P0 - - S0 - - - S0 - - - S0 - - - S0 - - - S0 - - -
+S0 P0 - - S0 - - - S0 - - - S0 - - - S0 - - - S0 - - -
+S0 P0 - - S0 - - - S0 - - - S0 - - - S0 - - - S0 - - -
+S0 P0 - - S0 - - - S0 - - - S0 - - - S0 - - - S0 - - -
+stream 0 spread 0 start 0 peak 282752000
+program 0 tstart 0 tpeak 377504000 bstart 0 bpeak 550464000
+end
+";
 
 /// The line of the refusal, 0 where memory ran out, None where there is a plan.
 fn refusal(alloc: Global, text: &[u8]) -> Option<u32> {
@@ -20,7 +31,7 @@ fn refusal(alloc: Global, text: &[u8]) -> Option<u32> {
 /// The base with one part of it replaced.
 fn edited(alloc: Global, from: &str, to: &str) -> Result<Vec<u8>, Fail> {
     let mut text = Vec::new(alloc);
-    let Some((before, after)) = BASE_PLAN.split_once(from) else {
+    let Some((before, after)) = BASE.split_once(from) else {
         return Err(Fail::from("no such part"));
     };
     text.extend_from_slice(before.as_bytes())?;
@@ -31,8 +42,8 @@ fn edited(alloc: Global, from: &str, to: &str) -> Result<Vec<u8>, Fail> {
 
 #[test]
 fn base_is_read_and_written(rt: HostRuntime) -> Result<(), Fail> {
-    let (plan, bytes) = Plan::read_text(rt.alloc(), BASE_PLAN.as_bytes())?;
-    assert_eq!(rt; bytes, BASE_PLAN.len());
+    let (plan, bytes) = Plan::read_text(rt.alloc(), BASE.as_bytes())?;
+    assert_eq!(rt; bytes, BASE.len());
     assert_eq!(rt; plan.slots().len(), 120);
     assert_eq!(rt; plan.slots().get(0).copied(), Some(Slot::Stream(0)));
     assert_eq!(rt; plan.slots().get(9).copied(), Some(Slot::Table(5)));
@@ -50,7 +61,7 @@ fn base_is_read_and_written(rt: HostRuntime) -> Result<(), Fail> {
     );
     assert_eq!(rt; certificate.programs.len(), 1);
     let text = plan.write_text(rt.alloc())?;
-    assert!(rt; text.as_str() == BASE_PLAN);
+    assert!(rt; text.as_str() == BASE);
     laws::plan_text();
     laws::own_slots();
     Ok(())
@@ -60,7 +71,7 @@ fn base_is_read_and_written(rt: HostRuntime) -> Result<(), Fail> {
 fn what_stands_after_is_left(rt: HostRuntime) -> Result<(), Fail> {
     let text = edited(rt.alloc(), "end\n", "end\nbytes of units")?;
     let (_, bytes) = Plan::read_text(rt.alloc(), text.as_slice())?;
-    assert_eq!(rt; bytes, BASE_PLAN.len());
+    assert_eq!(rt; bytes, BASE.len());
     Ok(())
 }
 
@@ -115,8 +126,8 @@ fn is_canonical(alloc: Global, text: &[u8]) -> Result<bool, Fail> {
 #[test]
 fn each_cut_is_refused(rt: HostRuntime) {
     let mut line = 1;
-    for (length, byte) in BASE_PLAN.as_bytes().iter().enumerate() {
-        let (front, _) = BASE_PLAN.as_bytes().split_at(length);
+    for (length, byte) in BASE.as_bytes().iter().enumerate() {
+        let (front, _) = BASE.as_bytes().split_at(length);
         assert_eq!(rt; refusal(rt.alloc(), front), Some(line));
         if *byte == b'\n' {
             line = line.saturating_add(1);
@@ -126,11 +137,11 @@ fn each_cut_is_refused(rt: HostRuntime) {
 
 #[test]
 fn each_change_is_told(rt: HostRuntime) -> Result<(), Fail> {
-    for place in 0..BASE_PLAN.len() {
+    for place in 0..BASE.len() {
         for byte in [
             0, b'\n', b' ', b'-', b'0', b'1', b'9', b'S', 0x7f, 0x80, 0xff,
         ] {
-            let mut text = Vec::from_slice(rt.alloc(), BASE_PLAN.as_bytes())?;
+            let mut text = Vec::from_slice(rt.alloc(), BASE.as_bytes())?;
             if let Some(at) = text.get_mut(place) {
                 *at = byte;
             }

@@ -7,8 +7,10 @@ use pes_packet::{Unit, fits_packet, write_header};
 use std::alloc::{AllocError, Allocator, Global};
 use std::process::Abort;
 use std::test::Fail;
-use test_services::BASE;
 use ts_packet::{PacketError, null_packet, write_payload, write_pcr};
+
+const BASE: &str =
+    "rate = 1504000\nstart = \"1993-10-13T12:45:00\"\nts_id = 1\noriginal_network_id = 1\nsdt = true\ntdt = true\n\n[network]\nid = 1\nname = \"Net\"\n\n[[program]]\nnumber = 1\npmt_pid = 4096\npcr_pid = 257\nservice_type = 2\nname = \"One\"\n\n[[stream]]\nprogram = 1\npid = 256\nid = 192\ntype = 3\ninterval = 2160\nsize = 576\nlead = 1600\n\n[[event]]\nprogram = 1\nid = 7\nstart = \"1993-10-13T12:45:00\"\nduration = 5400\nlanguage = \"eng\"\nname = \"News\"\ntext = \"\"\n";
 
 // A description that must be read.
 fn base(rt: &impl Abort, alloc: Global) -> Description {

@@ -1,12 +1,11 @@
 //! Each fault line of `mux`, which comes first, and readers and writers that fail.
 use super::mux_runs::{push_record, with_unit, worked};
-use super::plan_checks::job;
+use super::plan_checks::{DESCRIPTION, PLAN, job};
 use super::{assert_told, ran, ran_on};
 use crate::program::run;
 use std::alloc::{AllocError, Global};
 use std::process::Abort;
 use std::test::Fail;
-use test_services::{BASE, BASE_PLAN};
 use ts_packet::{Counted, Failing};
 
 /// The words of a run.
@@ -32,14 +31,14 @@ fn tells_of_plans(rt: HostRuntime) -> Result<(), Fail> {
         assert_refused(&rt, alloc, words, &job(alloc, parts)?, line);
         Ok(())
     };
-    told(&MUX, &[BASE], b"job\n")?;
-    told(&MUX, &["rate = 99999\n", BASE_PLAN], b"description 10 0\n")?;
-    told(&MUX, &[BASE, "tsplan 1\nperiod 0120\n"], b"plan 2\n")?;
-    told(&MUX, &[BASE, EMPTY], b"refused 1 1 0 1 0\n")?;
-    told(&SWITCH, &[BASE, BASE_PLAN], b"second plan 1\n")?;
+    told(&MUX, &[DESCRIPTION], b"job\n")?;
+    told(&MUX, &["rate = 99999\n", PLAN], b"description 10 0\n")?;
+    told(&MUX, &[DESCRIPTION, "tsplan 1\nperiod 0120\n"], b"plan 2\n")?;
+    told(&MUX, &[DESCRIPTION, EMPTY], b"refused 1 1 0 1 0\n")?;
+    told(&SWITCH, &[DESCRIPTION, PLAN], b"second plan 1\n")?;
     told(
         &SWITCH,
-        &[BASE, BASE_PLAN, EMPTY],
+        &[DESCRIPTION, PLAN, EMPTY],
         b"second refused 1 1 0 1 0\n",
     )?;
     Ok(())
@@ -56,7 +55,7 @@ fn tells_of_records_and_numbers(rt: HostRuntime) -> Result<(), Fail> {
     assert_refused(&rt, alloc, many.as_slice(), &bytes, b"file 1 1\n");
     bytes.extend_from_slice(b"\x00\x3D\x09\x01")?;
     assert_refused(&rt, alloc, many.as_slice(), &bytes, b"file 1 2\n");
-    let mut two = job(alloc, [BASE, BASE_PLAN, BASE_PLAN].as_slice())?;
+    let mut two = job(alloc, [DESCRIPTION, PLAN, PLAN].as_slice())?;
     push_record(&mut two, 1, 1_600, 576)?;
     let words = ["mux", "--switch", "0"];
     assert_refused(&rt, alloc, words.as_slice(), &two, b"periods\n");

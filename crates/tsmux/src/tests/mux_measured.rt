@@ -1,13 +1,12 @@
 //! Packets of `mux` over plans of `plan`, measured in the decoder model.
-use super::mux_runs::{patient, push_record};
-use super::plan_checks::job;
+use super::mux_runs::{TURNED, patient, push_record};
+use super::plan_checks::{DESCRIPTION, PLAN, job};
 use super::{assert_told, ran_on};
 use crate::unit_list::read_units;
 use description::Description;
 use std::alloc::{AllocError, Global};
 use std::process::Abort;
 use std::test::Fail;
-use test_services::{BASE, BASE_PLAN, TURNED_PLAN};
 use tstd::{Fullness, measure};
 
 /// Two programs at 3,008,000 bits/s, with three streams of audio.
@@ -135,7 +134,7 @@ fn assert_kept(rt: &impl Abort, found: &Fullness, streams: usize, programs: usiz
 fn keeps_its_buffers(rt: HostRuntime) -> Result<(), Fail> {
     let alloc = rt.alloc();
     let one = records(alloc, [(0, 576)].as_slice(), 100)?;
-    let found = measured(&rt, alloc, BASE, &one)?;
+    let found = measured(&rt, alloc, DESCRIPTION, &one)?;
     assert_kept(&rt, &found, 1, 1);
     let three = records(alloc, [(0, 576), (1, 576), (2, 384)].as_slice(), 100)?;
     let found = measured(&rt, alloc, TWO_PROGRAMS, &three)?;
@@ -151,7 +150,7 @@ fn keeps_its_buffers_over_two_plans(rt: HostRuntime) -> Result<(), Fail> {
     let Ok(text) = str::from_utf8(description.as_slice()) else {
         return Err(Fail::from("no text"));
     };
-    let plans = job(alloc, [BASE_PLAN, TURNED_PLAN].as_slice())?;
+    let plans = job(alloc, [PLAN, TURNED].as_slice())?;
     let one = records(alloc, [(0, 576)].as_slice(), 100)?;
     let words = ["mux", "--switch=10"];
     let found = measured_over(&rt, alloc, words.as_slice(), text, plans.as_slice(), &one)?;

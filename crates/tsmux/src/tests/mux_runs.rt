@@ -1,9 +1,8 @@
 //! `mux` over worked jobs: its packets in bytes.
-use super::plan_checks::job;
+use super::plan_checks::{DESCRIPTION, PLAN, job};
 use super::{assert_told, ran_on};
 use std::alloc::{AllocError, Global};
 use std::test::Fail;
-use test_services::{BASE, BASE_PLAN, TURNED_PLAN};
 
 /// The byte of a unit at this place.
 fn pattern(at: u32) -> u8 {
@@ -24,7 +23,7 @@ pub fn push_record(out: &mut Vec<u8>, stream: u8, dts: u64, size: u32) -> Result
 
 /// The service and its plan, with one unit.
 pub fn with_unit(alloc: Global, stream: u8, dts: u64, size: u32) -> Result<Vec<u8>, AllocError> {
-    let mut bytes = job(alloc, [BASE, BASE_PLAN].as_slice())?;
+    let mut bytes = job(alloc, [DESCRIPTION, PLAN].as_slice())?;
     push_record(&mut bytes, stream, dts, size)?;
     Ok(bytes)
 }
@@ -135,16 +134,29 @@ fn writes_packets(rt: HostRuntime) -> Result<(), Fail> {
     let some = ran_on(alloc, words.as_slice(), bytes.as_slice());
     assert_told(&rt, &some, 0, b"");
     assert_eq!(rt; Some(some.output.as_slice()), worked.get(..564));
-    let without = job(alloc, [BASE, BASE_PLAN].as_slice())?;
+    let without = job(alloc, [DESCRIPTION, PLAN].as_slice())?;
     let nothing = ran_on(alloc, ["mux"].as_slice(), without.as_slice());
     assert_told(&rt, &nothing, 0, b"");
     assert_eq!(rt; nothing.output.len(), 0);
     Ok(())
 }
 
+/// The plan with each slot one place later.
+pub const TURNED: &str = "tsplan 1
+period 120
+- S0 P0 T0 T1 S0 T3 T2 T4 S0 T5 - - S0 - - - S0 - - - S0 - -
+- S0 P0 - - S0 - - - S0 - - - S0 - - - S0 - - - S0 - -
+- S0 P0 - - S0 - - - S0 - - - S0 - - - S0 - - - S0 - -
+- S0 P0 - - S0 - - - S0 - - - S0 - - - S0 - - - S0 - -
+- S0 P0 - - S0 - - - S0 - - - S0 - - - S0 - - - S0 - -
+stream 0 spread 0 start 0 peak 282752000
+program 0 tstart 0 tpeak 377504000 bstart 0 bpeak 550464000
+end
+";
+
 /// The service with a lead for which the turned plan may follow.
 pub fn patient(alloc: Global, plans: &[&str]) -> Result<Vec<u8>, AllocError> {
-    let (before, after) = BASE.split_once("lead = 1600").unwrap_or(("", ""));
+    let (before, after) = DESCRIPTION.split_once("lead = 1600").unwrap_or(("", ""));
     let mut bytes = job(alloc, [before, "lead = 1688", after].as_slice())?;
     bytes.append(&mut job(alloc, plans)?)?;
     Ok(bytes)
@@ -155,11 +167,11 @@ pub fn patient(alloc: Global, plans: &[&str]) -> Result<Vec<u8>, AllocError> {
 #[test]
 fn follows_a_second_plan(rt: HostRuntime) -> Result<(), Fail> {
     let alloc = rt.alloc();
-    let one = patient(alloc, [BASE_PLAN].as_slice())?;
+    let one = patient(alloc, [PLAN].as_slice())?;
     let alone = ran_on(alloc, ["mux", "--slots", "120"].as_slice(), one.as_slice());
     assert_told(&rt, &alone, 0, b"");
     assert_eq!(rt; alone.output.len(), 22_560);
-    let two = patient(alloc, [BASE_PLAN, TURNED_PLAN].as_slice())?;
+    let two = patient(alloc, [PLAN, TURNED].as_slice())?;
     let words = ["mux", "--switch=1", "--slots=240"];
     let outcome = ran_on(alloc, words.as_slice(), two.as_slice());
     assert_told(&rt, &outcome, 0, b"");

@@ -3,8 +3,58 @@ use super::{assert_told, ran, ran_on};
 use crate::program::run;
 use std::alloc::{AllocError, Global};
 use std::test::Fail;
-use test_services::{BASE, BASE_PLAN};
 use ts_packet::{Counted, Failing};
+
+/// A service of one audio stream at 1,504,000 bits/s (1,000 slots a second).
+pub const DESCRIPTION: &str = "rate = 1504000
+start = \"1993-10-13T12:45:00\"
+ts_id = 1
+original_network_id = 1
+sdt = true
+tdt = true
+
+[network]
+id = 1
+name = \"Net\"
+
+[[program]]
+number = 1
+pmt_pid = 4096
+pcr_pid = 257
+service_type = 2
+name = \"One\"
+
+[[stream]]
+program = 1
+pid = 256
+id = 192
+type = 3
+interval = 2160
+size = 576
+lead = 1600
+
+[[event]]
+program = 1
+id = 7
+start = \"1993-10-13T12:45:00\"
+duration = 5400
+language = \"eng\"
+name = \"News\"
+text = \"\"
+";
+
+/// A plan for it: 120 slots, of which the stream has every fourth.
+pub const PLAN: &str = "tsplan 1
+period 120
+S0 P0 T0 T1 S0 T3 T2 T4 S0 T5 - - S0 - - - S0 - - - S0 - - -
+S0 P0 - - S0 - - - S0 - - - S0 - - - S0 - - - S0 - - -
+S0 P0 - - S0 - - - S0 - - - S0 - - - S0 - - - S0 - - -
+S0 P0 - - S0 - - - S0 - - - S0 - - - S0 - - - S0 - - -
+S0 P0 - - S0 - - - S0 - - - S0 - - - S0 - - - S0 - - -
+stream 0 spread 0 start 0 peak 282752000
+program 0 tstart 0 tpeak 377504000 bstart 0 bpeak 550464000
+end
+";
 
 /// The parts of a job, joined.
 pub fn job(alloc: Global, parts: &[&str]) -> Result<Vec<u8>, AllocError> {
@@ -19,11 +69,11 @@ pub fn job(alloc: Global, parts: &[&str]) -> Result<Vec<u8>, AllocError> {
 #[test]
 fn accepts_a_plan(rt: HostRuntime) -> Result<(), Fail> {
     let alloc = rt.alloc();
-    let one = job(alloc, [BASE, BASE_PLAN, "more"].as_slice())?;
+    let one = job(alloc, [DESCRIPTION, PLAN, "more"].as_slice())?;
     let outcome = ran_on(alloc, ["check"].as_slice(), one.as_slice());
     assert_told(&rt, &outcome, 0, b"");
     assert_eq!(rt; outcome.output.as_slice(), b"accepted\n".as_slice());
-    let two = job(alloc, [BASE, BASE_PLAN, BASE_PLAN].as_slice())?;
+    let two = job(alloc, [DESCRIPTION, PLAN, PLAN].as_slice())?;
     let outcome = ran_on(alloc, ["check", "--switch"].as_slice(), two.as_slice());
     assert_told(&rt, &outcome, 0, b"");
     assert_eq!(rt; outcome.output.as_slice(), b"accepted\n".as_slice());
@@ -35,14 +85,14 @@ fn accepts_a_plan(rt: HostRuntime) -> Result<(), Fail> {
 fn refuses_a_plan(rt: HostRuntime) -> Result<(), Fail> {
     let alloc = rt.alloc();
     let empty = "tsplan 1\nperiod 0\nend\n";
-    let one = job(alloc, [BASE, empty].as_slice())?;
+    let one = job(alloc, [DESCRIPTION, empty].as_slice())?;
     let outcome = ran_on(alloc, ["check"].as_slice(), one.as_slice());
     assert_told(&rt, &outcome, 1, b"");
     assert_eq!(rt;
         outcome.output.as_slice(),
         b"refused 1 1 0 1 0\n".as_slice()
     );
-    let two = job(alloc, [BASE, BASE_PLAN, empty].as_slice())?;
+    let two = job(alloc, [DESCRIPTION, PLAN, empty].as_slice())?;
     let outcome = ran_on(alloc, ["check", "--switch"].as_slice(), two.as_slice());
     assert_told(&rt, &outcome, 1, b"");
     assert_eq!(rt;
@@ -57,9 +107,9 @@ fn refuses_a_plan(rt: HostRuntime) -> Result<(), Fail> {
 fn tells_of_a_job(rt: HostRuntime) -> Result<(), Fail> {
     let alloc = rt.alloc();
     let words = ["check"];
-    let alone = ran_on(alloc, words.as_slice(), BASE.as_bytes());
+    let alone = ran_on(alloc, words.as_slice(), DESCRIPTION.as_bytes());
     assert_told(&rt, &alone, 1, b"job\n");
-    let wrong = job(alloc, ["rate = 99999\n", BASE_PLAN].as_slice())?;
+    let wrong = job(alloc, ["rate = 99999\n", PLAN].as_slice())?;
     assert_told(
         &rt,
         &ran_on(alloc, words.as_slice(), wrong.as_slice()),
@@ -73,14 +123,14 @@ fn tells_of_a_job(rt: HostRuntime) -> Result<(), Fail> {
         1,
         b"description 1 0\n",
     );
-    let cut = job(alloc, [BASE, "tsplan 1\nperiod 0120\n"].as_slice())?;
+    let cut = job(alloc, [DESCRIPTION, "tsplan 1\nperiod 0120\n"].as_slice())?;
     assert_told(
         &rt,
         &ran_on(alloc, words.as_slice(), cut.as_slice()),
         1,
         b"plan 2\n",
     );
-    let second = job(alloc, [BASE, BASE_PLAN].as_slice())?;
+    let second = job(alloc, [DESCRIPTION, PLAN].as_slice())?;
     let outcome = ran_on(alloc, ["check", "--switch"].as_slice(), second.as_slice());
     assert_told(&rt, &outcome, 1, b"second plan 1\n");
     assert_eq!(rt; outcome.output.len(), 0);
@@ -91,7 +141,7 @@ fn tells_of_a_job(rt: HostRuntime) -> Result<(), Fail> {
 #[test]
 fn tells_of_devices(rt: HostRuntime) -> Result<(), Fail> {
     let alloc = rt.alloc();
-    let bytes = job(alloc, [BASE, BASE_PLAN].as_slice())?;
+    let bytes = job(alloc, [DESCRIPTION, PLAN].as_slice())?;
     let failing = Failing::after_calls(bytes.as_slice(), 0);
     let outcome = ran(alloc, ["check"].as_slice(), &mut Counted::new(failing));
     assert_told(&rt, &outcome, 3, b"read\n");
