@@ -1,6 +1,7 @@
 //! Worked records and their packets, each refusal, failing devices and refused memory.
 
 mod runs;
+mod services;
 
 use crate::{CarryError, FeedError, UnitFileError, carry, read_unit};
 use linked_list_allocator::LocalHeap;
@@ -13,6 +14,16 @@ use ts_packet::{Counted, Failing, Sink, Source};
 const RECORD: [u8; 24] = [
     0x00, 0x00, 0x00, 0x00, 0x03, 0x00, 0x00, 0x00, 0x00, 0x00, 0x01, 0x5f, 0x90, 0x00, 0x00, 0x00,
     0x00, 0x00, 0x01, 0x5f, 0x90, 0x41, 0x42, 0x43,
+];
+
+// A record of a unit of 4,000,001 bytes.
+const LARGE: [u8; 21] = [
+    0, 0x00, 0x3d, 0x09, 0x01, 0, 0, 0, 0, 0, 0, 0, 0, 0, 0, 0, 0, 0, 0, 0, 0,
+];
+
+// A record of a unit of 4,000,000 bytes, without them.
+const GREATEST: [u8; 21] = [
+    0, 0x00, 0x3d, 0x09, 0x00, 0, 0, 0, 0, 0, 0, 0, 0, 0, 0, 0, 0, 0, 0, 0, 0,
 ];
 
 const PID: u16 = 256;
@@ -69,24 +80,47 @@ fn line(alloc: Global) -> Result<Vec<u8>, AllocError> {
     Ok(line)
 }
 
+// Whether the record is read.
+fn is_read(alloc: Global) -> bool {
+    match read_unit(alloc, &mut Counted::new(&RECORD[..])) {
+        Ok(Some((0, unit))) => {
+            unit.dts == 90_000 && unit.pts == 90_000 && unit.bytes.as_slice() == b"ABC".as_slice()
+        }
+        _ => false,
+    }
+}
+
+// What is wrong with the first bytes of the record.
+fn fault(alloc: Global, length: usize) -> Option<UnitFileError> {
+    let bytes = RECORD.get(..length).unwrap_or(&[]);
+    match read_unit(alloc, &mut Counted::new(bytes)) {
+        Ok(_) => None,
+        Err(fault) => Some(fault),
+    }
+}
+
 #[test]
 fn a_record_is_read(rt: HostRuntime) -> Result<(), Fail> {
-    let mut input = Counted::new(&RECORD[..]);
-    match read_unit(rt.alloc(), &mut input) {
-        Ok(Some((stream, unit))) => {
-            assert_eq!(rt; stream, 0);
-            assert_eq!(rt; unit.dts, 90_000);
-            assert_eq!(rt; unit.pts, 90_000);
-            assert_eq!(rt; unit.bytes.as_slice(), &b"ABC"[..]);
-        }
-        _ => assert!(rt; false, "a record"),
+    assert!(rt; is_read(rt.alloc()));
+    for (length, wanted) in [
+        (0, None),
+        (1, Some(UnitFileError::Cut)),
+        (23, Some(UnitFileError::Cut)),
+    ] {
+        assert_eq!(rt; fault(rt.alloc(), length), wanted, "{length}");
     }
-    assert!(rt; matches!(read_unit(rt.alloc(), &mut input), Ok(None)));
-    let mut cut = Counted::new(&RECORD[..23]);
-    assert!(rt; matches!(read_unit(rt.alloc(), &mut cut), Err(UnitFileError::Cut)));
-    assert_eq!(rt; UnitFileError::Cut.code(), 1);
-    assert_eq!(rt; UnitFileError::Size.code(), 2);
-    assert_eq!(rt; UnitFileError::Device.code(), 3);
+    Ok(())
+}
+
+#[test]
+fn numbers_of_faults(rt: HostRuntime) -> Result<(), Fail> {
+    for (fault, code) in [
+        (UnitFileError::Cut, 1),
+        (UnitFileError::Size, 2),
+        (UnitFileError::Device, 3),
+    ] {
+        assert_eq!(rt; fault.code(), code);
+    }
     Ok(())
 }
 
@@ -152,56 +186,34 @@ fn counters_go_on(rt: HostRuntime) -> Result<(), Fail> {
     Ok(())
 }
 
-#[test]
-fn files_are_refused(rt: HostRuntime) -> Result<(), Fail> {
-    let alloc = rt.alloc();
-    let (answer, output) = carried(alloc, &RECORD[..23], true)?;
-    assert_eq!(rt;
-        answer,
-        Err(CarryError::File {
-            index: 0,
-            fault: UnitFileError::Cut
-        })
-    );
-    assert_eq!(rt; output.len(), 0);
-    let mut large = [0u8; 21];
-    large[2] = 0x3d;
-    large[3] = 0x09;
-    large[4] = 0x01;
-    let (answer, _) = carried(alloc, &large, true)?;
-    assert_eq!(rt;
-        answer,
-        Err(CarryError::File {
-            index: 0,
-            fault: UnitFileError::Size
-        })
-    );
-    let (answer, _) = carried(alloc, &large[..5], true)?;
-    assert_eq!(rt;
-        answer,
-        Err(CarryError::File {
-            index: 0,
-            fault: UnitFileError::Size
-        })
-    );
-    large[4] = 0x00;
-    let (answer, _) = carried(alloc, &large, true)?;
-    assert_eq!(rt;
-        answer,
-        Err(CarryError::File {
-            index: 0,
-            fault: UnitFileError::Cut
-        })
-    );
-    Ok(())
+// The fault of the first record; nothing is written.
+fn file_fault(alloc: Global, records: &[u8]) -> Result<UnitFileError, Fail> {
+    let (answer, output) = carried(alloc, records, true)?;
+    match answer {
+        Err(CarryError::File { index: 0, fault }) if output.len() == 0 => Ok(fault),
+        _ => Err(Fail::from("another answer")),
+    }
 }
 
 #[test]
-fn units_are_refused(rt: HostRuntime) -> Result<(), Fail> {
-    let alloc = rt.alloc();
-    let mut twice = Vec::from_slice(alloc, &RECORD)?;
+fn files_are_refused(rt: HostRuntime) -> Result<(), Fail> {
+    for (records, fault) in [
+        (RECORD.get(..23), UnitFileError::Cut),
+        (LARGE.get(..), UnitFileError::Size),
+        (LARGE.get(..5), UnitFileError::Size),
+        (GREATEST.get(..), UnitFileError::Cut),
+    ] {
+        assert_eq!(rt; file_fault(rt.alloc(), records.unwrap_or(&[]))?, fault);
+    }
+    Ok(())
+}
+
+// The same record twice: the second is too soon, and the first is written.
+#[test]
+fn the_second_record(rt: HostRuntime) -> Result<(), Fail> {
+    let mut twice = Vec::from_slice(rt.alloc(), &RECORD)?;
     twice.extend_from_slice(&RECORD)?;
-    let (answer, output) = carried(alloc, twice.as_slice(), true)?;
+    let (answer, output) = carried(rt.alloc(), twice.as_slice(), true)?;
     assert_eq!(rt;
         answer,
         Err(CarryError::Unit {
@@ -209,83 +221,137 @@ fn units_are_refused(rt: HostRuntime) -> Result<(), Fail> {
             cause: FeedError::TooSoon
         })
     );
-    assert_eq!(rt; output.as_slice(), line(alloc)?.as_slice());
-    for (stream, size, dts, pts, cause, code) in [
-        (1, 0, 0, 0, FeedError::UnknownStream, 1),
-        (0, 0, 0, 0, FeedError::Empty, 2),
-        (0, 65_523, 0, 0, FeedError::TooLarge, 3),
-        (0, 1, 8, 7, FeedError::BadPts, 5),
-        (0, 1, 8, 90_009, FeedError::BadPts, 5),
-        (0, 1, (1 << 52) + 1, (1 << 52) + 1, FeedError::TooFar, 7),
-        (0, 1, u64::MAX, u64::MAX, FeedError::TooFar, 7),
+    assert_eq!(rt; output.as_slice(), line(rt.alloc())?.as_slice());
+    Ok(())
+}
+
+// Why the unit of one record is refused; nothing is written.
+fn cause(alloc: Global, records: &[u8]) -> Result<FeedError, Fail> {
+    let (answer, output) = carried(alloc, records, false)?;
+    match answer {
+        Err(CarryError::Unit { index: 0, cause }) if output.len() == 0 => Ok(cause),
+        _ => Err(Fail::from("another answer")),
+    }
+}
+
+#[test]
+fn units_are_refused(rt: HostRuntime) -> Result<(), Fail> {
+    for (stream, size, dts, pts, wanted) in [
+        (1, 0, 0, 0, FeedError::UnknownStream),
+        (0, 0, 0, 0, FeedError::Empty),
+        (0, 65_523, 0, 0, FeedError::TooLarge),
+        (0, 1, 8, 7, FeedError::BadPts),
+        (0, 1, 8, 90_009, FeedError::BadPts),
+        (0, 1, (1 << 52) + 1, (1 << 52) + 1, FeedError::TooFar),
+        (0, 1, u64::MAX, u64::MAX, FeedError::TooFar),
     ] {
-        let (answer, output) = carried(
-            alloc,
-            record(alloc, stream, size, dts, pts)?.as_slice(),
-            false,
-        )?;
-        assert_eq!(rt; answer, Err(CarryError::Unit { index: 0, cause }));
-        assert_eq!(rt; output.len(), 0);
+        let record = record(rt.alloc(), stream, size, dts, pts)?;
+        assert_eq!(rt;
+            cause(rt.alloc(), record.as_slice())?,
+            wanted,
+            "{stream} {size} {dts} {pts}"
+        );
+    }
+    Ok(())
+}
+
+#[test]
+fn numbers_of_causes(rt: HostRuntime) -> Result<(), Fail> {
+    for (cause, code) in [
+        (FeedError::UnknownStream, 1),
+        (FeedError::Empty, 2),
+        (FeedError::TooLarge, 3),
+        (FeedError::TooSoon, 4),
+        (FeedError::BadPts, 5),
+        (FeedError::TooFar, 7),
+    ] {
         assert_eq!(rt; cause.code(), code);
     }
     Ok(())
 }
 
-// A writer that fails after so many bytes, and a reader that fails at each call.
-#[test]
-fn devices_fail(rt: HostRuntime) -> Result<(), Fail> {
-    let alloc = rt.alloc();
-    let whole = line(alloc)?;
-    for k in 0..377 {
-        let mut input = Counted::new(&RECORD[..]);
-        let mut output = Counted::new(Failing::after_bytes(Vec::new(alloc), k));
-        let answer = carry(alloc, PID, ID, true, &mut input, &mut output);
-        assert_eq!(rt; answer, Err(CarryError::Device { sent: k }));
-        assert!(rt; Sink::faults(&output) == 1);
-        let taken: Vec<u8> = output.into_inner().into_inner();
-        assert_eq!(rt; taken.len(), k as usize);
-        assert!(rt; whole.as_slice().starts_with(taken.as_slice()));
+// What a writer took that fails once, after so many bytes.
+fn taken(alloc: Global, bytes: u64) -> Result<Vec<u8>, Fail> {
+    let mut output = Counted::new(Failing::after_bytes(Vec::new(alloc), bytes));
+    match carry(
+        alloc,
+        PID,
+        ID,
+        true,
+        &mut Counted::new(&RECORD[..]),
+        &mut output,
+    ) {
+        Err(CarryError::Device { sent }) if sent == bytes && Sink::faults(&output) == 1 => {
+            Ok(output.into_inner().into_inner())
+        }
+        _ => Err(Fail::from("another answer")),
     }
-    for k in 0..4 {
-        let mut input = Counted::new(Failing::after_calls(&RECORD[..], k));
-        let mut output = Counted::new(Vec::new(alloc));
-        let answer = carry(alloc, PID, ID, true, &mut input, &mut output);
-        let index = if k < 3 { 0 } else { 1 };
+}
+
+#[test]
+fn writers_fail(rt: HostRuntime) -> Result<(), Fail> {
+    let whole = line(rt.alloc())?;
+    for bytes in 0..377u16 {
+        let taken = taken(rt.alloc(), bytes as u64)?;
         assert_eq!(rt;
-            answer,
-            Err(CarryError::File {
-                index,
-                fault: UnitFileError::Device
-            })
+            Some(taken.as_slice()),
+            whole.get(..bytes as usize),
+            "{bytes}"
         );
-        assert!(rt; Source::faults(&input) == 1);
-        let taken: Vec<u8> = output.into_inner();
-        assert_eq!(rt; taken.len(), if k < 3 { 0 } else { 377 });
     }
     Ok(())
 }
 
-// Each request for memory refused in turn: Memory, or the row's own answer.
+// The bytes written before a reader fails at its call of that number, and the index of the record that is named.
+fn written_before(alloc: Global, calls: u64, named: u64) -> Result<usize, Fail> {
+    let mut input = Counted::new(Failing::after_calls(&RECORD[..], calls));
+    let mut output = Counted::new(Vec::new(alloc));
+    match carry(alloc, PID, ID, true, &mut input, &mut output) {
+        Err(
+            CarryError::File {
+                index,
+                fault: UnitFileError::Device,
+            },
+        ) if index == named && Source::faults(&input) == 1 => { Ok(output.into_inner().len()) }
+        _ => Err(Fail::from("another answer")),
+    }
+}
+
+#[test]
+fn readers_fail(rt: HostRuntime) -> Result<(), Fail> {
+    for (calls, named, bytes) in [(0, 0, 0), (1, 0, 0), (2, 0, 0), (3, 1, 377)] {
+        assert_eq!(rt; written_before(rt.alloc(), calls, named)?, bytes, "{calls}");
+    }
+    Ok(())
+}
+
+// Whether the record is carried where so many bytes may be taken.
+fn is_carried(global: Global, size: usize) -> Result<bool, Fail> {
+    let heap = LocalHeap::new(global, size)?;
+    let mut output = Counted::new(Vec::new(global));
+    match carry(
+        &heap,
+        PID,
+        ID,
+        true,
+        &mut Counted::new(&RECORD[..]),
+        &mut output,
+    ) {
+        Ok(377) => Ok(true),
+        Err(CarryError::Memory { index: 0 }) => Ok(false),
+        _ => Err(Fail::from("another answer")),
+    }
+}
+
+// Each request for memory refused in turn: Memory, or the record's own answer.
 #[test]
 fn memory_is_refused(rt: HostRuntime) -> Result<(), Fail> {
-    let alloc = rt.alloc();
-    let mut refused = false;
-    let mut answered = false;
-    for n in 0..64 {
-        let heap = LocalHeap::new(alloc, 65_600 + n * 16)?;
-        let mut input = Counted::new(&RECORD[..]);
-        let mut output = Counted::new(Vec::new(alloc));
-        match carry(&heap, PID, ID, true, &mut input, &mut output) {
-            Ok(sent) => {
-                answered = true;
-                assert_eq!(rt; sent, 377);
-            }
-            Err(refusal) => {
-                refused = true;
-                assert_eq!(rt; refusal, CarryError::Memory { index: 0 });
-            }
+    let mut carried = 0u32;
+    for n in 0..64usize {
+        if is_carried(rt.alloc(), 65_600 + n * 16)? {
+            carried = carried.saturating_add(1);
         }
     }
-    assert!(rt; refused && answered);
+    assert!(rt; 0 < carried && carried < 64, "{carried}");
     Ok(())
 }

@@ -1,68 +1,23 @@
 //! Worked runs over a small service: 1,000 slots a second, 90 units of 90 kHz a slot.
 
+mod capacities;
+mod driven;
 mod feeds;
+mod jobs;
 mod memory;
 mod slots;
 mod switches;
 
+use crate::tests::services::{BASE, BASE_PLAN};
 use crate::{Done, FeedError, Mux, Unit};
 use plan_checker::{CheckedPlan, check};
 use slot_plan::{Description, Plan};
-use std::alloc::Global;
+use std::alloc::{Allocator, Global};
 use std::test::Fail;
-
-const DESCRIPTION: &str = "rate = 1504000
-start = \"1993-10-13T12:45:00\"
-ts_id = 1
-original_network_id = 1
-sdt = true
-tdt = true
-
-[network]
-id = 1
-name = \"Net\"
-
-[[program]]
-number = 1
-pmt_pid = 4096
-pcr_pid = 257
-service_type = 2
-name = \"One\"
-
-[[stream]]
-program = 1
-pid = 256
-id = 192
-type = 3
-interval = 2160
-size = 576
-lead = 1600
-
-[[event]]
-program = 1
-id = 7
-start = \"1993-10-13T12:45:00\"
-duration = 5400
-language = \"eng\"
-name = \"News\"
-text = \"\"
-";
-
-const PLAN: &str = "tsplan 1
-period 120
-S0 P0 T0 T1 S0 T3 T2 T4 S0 T5 - - S0 - - - S0 - - - S0 - - -
-S0 P0 - - S0 - - - S0 - - - S0 - - - S0 - - - S0 - - -
-S0 P0 - - S0 - - - S0 - - - S0 - - - S0 - - - S0 - - -
-S0 P0 - - S0 - - - S0 - - - S0 - - - S0 - - - S0 - - -
-S0 P0 - - S0 - - - S0 - - - S0 - - - S0 - - - S0 - - -
-stream 0 spread 0 start 0 peak 282752000
-program 0 tstart 0 tpeak 377504000 bstart 0 bpeak 550464000
-end
-";
 
 // The description with one part of its text replaced.
 fn described(alloc: Global, from: &str, to: &str) -> Result<Description, Fail> {
-    let Some((before, after)) = DESCRIPTION.split_once(from) else {
+    let Some((before, after)) = BASE.split_once(from) else {
         return Err(Fail::from("no such part"));
     };
     let mut text = String::new(alloc);
@@ -77,8 +32,18 @@ fn described(alloc: Global, from: &str, to: &str) -> Result<Description, Fail> {
 
 // That description with its plan.
 fn base(alloc: Global, from: &str, to: &str) -> Result<CheckedPlan, Fail> {
-    let (plan, _) = Plan::read_text(alloc, PLAN.as_bytes())?;
-    match check(described(alloc, from, to)?, plan) {
+    checked(alloc, alloc, from, to)
+}
+
+// The same, where the plan has an allocator of its own.
+fn checked<A: Allocator + Clone>(
+    global: Global,
+    alloc: A,
+    from: &str,
+    to: &str,
+) -> Result<CheckedPlan<A>, Fail> {
+    let (plan, _) = Plan::read_text(alloc, BASE_PLAN.as_bytes())?;
+    match check(described(global, from, to)?, plan) {
         Ok(checked) => Ok(checked),
         Err(_) => Err(Fail::from("the plan is refused")),
     }

@@ -88,17 +88,22 @@ fn second_units(rt: HostRuntime) -> Result<(), Fail> {
     Ok(())
 }
 
+// Appends so many packets.
+fn push_packets(mux: &mut Mux, slots: u64, bytes: &mut Vec<u8>) -> Result<(), Fail> {
+    for _ in 0..slots {
+        bytes.extend_from_slice(&packet(mux)?)?;
+    }
+    Ok(())
+}
+
 // The first 42 packets, where the second unit is fed when so many slots are written.
 fn packets(alloc: Global, slots: u64) -> Result<Vec<u8>, Fail> {
     let mut mux = mux(alloc, "rate", "rate", 2)?;
     let mut bytes = Vec::new(alloc);
     let _ = fed(&mut mux, alloc, 1_600, 1_600, 576)?;
-    for slot in 0..42u64 {
-        if slot == slots {
-            let _ = fed(&mut mux, alloc, 3_760, 3_760, 576)?;
-        }
-        bytes.extend_from_slice(&packet(&mut mux)?)?;
-    }
+    push_packets(&mut mux, slots, &mut bytes)?;
+    let _ = fed(&mut mux, alloc, 3_760, 3_760, 576)?;
+    push_packets(&mut mux, 42u64.saturating_sub(slots), &mut bytes)?;
     Ok(bytes)
 }
 

@@ -1,9 +1,10 @@
 //! Each request for memory refused in turn: Memory, or a multiplexer.
 
-use super::{PLAN, described};
+use super::checked;
+use crate::tests::services::BASE_PLAN;
 use crate::{Mux, NewError};
 use linked_list_allocator::LocalHeap;
-use plan_checker::{CheckedPlan, check, check_switch};
+use plan_checker::{CheckedSwitch, check_switch};
 use slot_plan::Plan;
 use std::alloc::{Allocator, Global};
 use std::test::Fail;
@@ -11,91 +12,65 @@ use std::test::Fail;
 // A stream with a group of 64 units.
 const GROUP: &str = "lead = 1600\ngroup = 64\ngroup_packets = 256";
 
-// More bytes than a multiplexer takes.
-const HEAP: usize = 81_920;
-
-fn plan<A: Allocator + Clone>(alloc: A) -> Result<Plan<A>, Fail> {
-    let (plan, _) = Plan::read_text(alloc, PLAN.as_bytes())?;
-    Ok(plan)
-}
-
-fn checked<A: Allocator + Clone>(global: Global, alloc: A) -> Result<CheckedPlan<A>, Fail> {
-    match check(described(global, "lead = 1600", GROUP)?, plan(alloc)?) {
-        Ok(checked) => Ok(checked),
-        Err(_) => Err(Fail::from("the plan is refused")),
-    }
-}
-
-// Whether a multiplexer is made; where it is not, the plan comes back.
-fn is_made<A: Allocator + Clone>(alloc: A, plan: CheckedPlan<A>) -> Result<bool, Fail> {
-    let (error, slots) = match Mux::new(alloc, plan, 64) {
-        Ok(_) => return Ok(true),
-        Err((error, plan)) => (error, plan.plan().slots().len()),
-    };
-    if error == NewError::Memory && slots == 120 {
-        Ok(false)
-    } else {
-        Err(Fail::from("another refusal"))
+// Whether a multiplexer is made that may take so many bytes beside its plan; where it is not, the plan comes back.
+fn is_made(global: Global, size: usize) -> Result<bool, Fail> {
+    let given = LocalHeap::new(global, 16_384)?;
+    let heap = LocalHeap::new(global, size)?;
+    match Mux::new(&heap, checked(global, &given, "lead = 1600", GROUP)?, 64) {
+        Ok(_) => Ok(true),
+        Err((NewError::Memory, plan)) if plan.plan().slots().len() == 120 => Ok(false),
+        Err(_) => Err(Fail::from("another refusal")),
     }
 }
 
 #[test]
 fn memory_for_one_plan(rt: HostRuntime) -> Result<(), Fail> {
-    let mut refused = 0u32;
-    let mut made = false;
-    for n in 0..320 {
-        let heap = LocalHeap::new(rt.alloc(), HEAP)?;
-        let plan = checked(rt.alloc(), &heap)?;
-        let Ok(_taken) = vec![in &heap; 0u8; HEAP - n * 256] else {
-            continue;
-        };
-        if is_made(&heap, plan)? {
-            made = true;
-        } else {
-            refused = refused.saturating_add(1);
+    let mut made = 0u32;
+    for n in 0..320usize {
+        if is_made(rt.alloc(), n * 256)? {
+            made = made.saturating_add(1);
         }
     }
-    assert!(rt; refused > 250 && made);
+    assert!(rt; 0 < made && made < 70, "{made}");
     Ok(())
 }
 
-// Whether a multiplexer over the plan and then the plan again is made; where it is not, both come back.
-fn is_switched<A: Allocator + Clone>(
-    alloc: A,
-    first: CheckedPlan<A>,
-    second: Plan<A>,
-) -> Result<bool, Fail> {
-    let Ok(switch) = check_switch(first, second) else {
-        return Err(Fail::from("the switch is refused"));
-    };
-    let (error, slots) = match Mux::with_switch(alloc, switch, 1, 64) {
-        Ok(_) => return Ok(true),
-        Err((error, switch)) => (error, switch.second().slots().len()),
-    };
-    if error == NewError::Memory && slots == 120 {
+// The plan, and then the plan again.
+fn twice<A: Allocator + Copy>(global: Global, alloc: A) -> Result<CheckedSwitch<A>, Fail> {
+    let (second, _) = Plan::read_text(alloc, BASE_PLAN.as_bytes())?;
+    match check_switch(checked(global, alloc, "lead = 1600", GROUP)?, second) {
+        Ok(switch) => Ok(switch),
+        Err(_) => Err(Fail::from("the switch is refused")),
+    }
+}
+
+// That memory is wanting; the switch is the one that was given.
+fn no_memory<A: Allocator>(error: NewError, switch: CheckedSwitch<A>) -> Result<bool, Fail> {
+    if error == NewError::Memory && switch.second().slots().len() == 120 {
         Ok(false)
     } else {
         Err(Fail::from("another refusal"))
     }
 }
 
+// The same over two plans.
+fn is_switched(global: Global, size: usize) -> Result<bool, Fail> {
+    let given = LocalHeap::new(global, 16_384)?;
+    let heap = LocalHeap::new(global, size)?;
+    match Mux::with_switch(&heap, twice(global, &given)?, 1, 64) {
+        Ok(_) => Ok(true),
+        Err((error, switch)) => no_memory(error, switch),
+    }
+}
+
 #[test]
 fn memory_for_two_plans(rt: HostRuntime) -> Result<(), Fail> {
-    let mut refused = 0u32;
-    let mut made = false;
-    for n in 0..320 {
-        let heap = LocalHeap::new(rt.alloc(), HEAP)?;
-        let first = checked(rt.alloc(), &heap)?;
-        let second = plan(&heap)?;
-        let Ok(_taken) = vec![in &heap; 0u8; HEAP - n * 256] else {
-            continue;
-        };
-        if is_switched(&heap, first, second)? {
-            made = true;
-        } else {
-            refused = refused.saturating_add(1);
+    let mut made = 0u32;
+    for n in 0..320usize {
+        if is_switched(rt.alloc(), n * 256)? {
+            made = made.saturating_add(1);
         }
     }
-    assert!(rt; refused > 250 && made);
+    assert!(rt; 0 < made && made < 70, "{made}");
     Ok(())
 }

@@ -1,43 +1,35 @@
 //! The plan of the small service, then the same turned by one slot.
 
 use super::{base, carries, mux, packet};
+use crate::tests::services::TURNED_PLAN;
 use crate::{Mux, NewError};
 use plan_checker::{CheckedSwitch, check_switch};
 use slot_plan::Plan;
 use std::alloc::Global;
 use std::test::Fail;
 
-// The plan with each slot one place later, the last one first.
-const TURNED: &str = "tsplan 1
-period 120
-- S0 P0 T0 T1 S0 T3 T2 T4 S0 T5 - - S0 - - - S0 - - - S0 - -
-- S0 P0 - - S0 - - - S0 - - - S0 - - - S0 - - - S0 - -
-- S0 P0 - - S0 - - - S0 - - - S0 - - - S0 - - - S0 - -
-- S0 P0 - - S0 - - - S0 - - - S0 - - - S0 - - - S0 - -
-- S0 P0 - - S0 - - - S0 - - - S0 - - - S0 - - - S0 - -
-stream 0 spread 0 start 0 peak 282752000
-program 0 tstart 0 tpeak 377504000 bstart 0 bpeak 550464000
-end
-";
-
-fn switch(alloc: Global) -> Result<CheckedSwitch, Fail> {
-    let (turned, _) = Plan::read_text(alloc, TURNED.as_bytes())?;
+pub(super) fn switch(alloc: Global) -> Result<CheckedSwitch, Fail> {
+    let (turned, _) = Plan::read_text(alloc, TURNED_PLAN.as_bytes())?;
     match check_switch(base(alloc, "lead = 1600", "lead = 1688")?, turned) {
         Ok(switch) => Ok(switch),
         Err(_) => Err(Fail::from("the switch is refused")),
     }
 }
 
-// Why no multiplexer is made; the switch comes back.
-fn refusal(alloc: Global, periods: u64, capacity: usize) -> Result<NewError, Fail> {
-    let (error, slots) = match Mux::with_switch(alloc, switch(alloc)?, periods, capacity) {
-        Ok(_) => return Err(Fail::from("a multiplexer")),
-        Err((error, switch)) => (error, switch.second().slots().len()),
-    };
-    if slots == 120 {
+// The refusal, where the switch is the one that was given.
+fn given_back(error: NewError, switch: CheckedSwitch) -> Result<NewError, Fail> {
+    if switch.second().slots().len() == 120 {
         Ok(error)
     } else {
         Err(Fail::from("another switch came back"))
+    }
+}
+
+// Why no multiplexer is made; the switch comes back.
+fn refusal(alloc: Global, periods: u64, capacity: usize) -> Result<NewError, Fail> {
+    match Mux::with_switch(alloc, switch(alloc)?, periods, capacity) {
+        Ok(_) => Err(Fail::from("a multiplexer")),
+        Err((error, switch)) => given_back(error, switch),
     }
 }
 

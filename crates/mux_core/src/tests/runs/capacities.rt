@@ -1,0 +1,28 @@
+//! How many units may wait.
+
+use super::base;
+use crate::{Mux, NewError};
+use std::alloc::Global;
+use std::test::Fail;
+
+// Why no multiplexer is made; the plan comes back.
+fn refusal(alloc: Global, capacity: usize) -> Result<Option<NewError>, Fail> {
+    match Mux::new(alloc, base(alloc, "rate", "rate")?, capacity) {
+        Ok(_) => Ok(None),
+        Err((error, plan)) if plan.plan().slots().len() == 120 => Ok(Some(error)),
+        Err(_) => Err(Fail::from("another plan came back")),
+    }
+}
+
+#[test]
+fn capacities(rt: HostRuntime) -> Result<(), Fail> {
+    for (capacity, error) in [
+        (0, Some(NewError::Capacity)),
+        (1, None),
+        (1_048_576, None),
+        (1_048_577, Some(NewError::Capacity)),
+    ] {
+        assert_eq!(rt; refusal(rt.alloc(), capacity)?, error, "{capacity}");
+    }
+    Ok(())
+}
