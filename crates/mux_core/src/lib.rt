@@ -35,5 +35,3 @@ pub use pes_packet::Unit;
 pub use unit_queue::FeedError;
 pub use unit_records::{UnitFileError, read_unit};
 
-#[cfg(test)]
-mod tests;

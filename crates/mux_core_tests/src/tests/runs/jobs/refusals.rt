@@ -2,7 +2,7 @@
 
 use super::units;
 use crate::tests::runs::base;
-use crate::{FeedError, MuxError, multiplex};
+use mux_core::{FeedError, MuxError, multiplex};
 use std::alloc::Global;
 use std::test::Fail;
 use ts_packet::Counted;

@@ -2,7 +2,7 @@
 
 use super::units;
 use crate::tests::runs::switches::switch;
-use crate::{FeedError, MuxError, Unit, multiplex_switch, multiplex_switch_as};
+use mux_core::{FeedError, MuxError, Unit, multiplex_switch, multiplex_switch_as};
 use std::alloc::Global;
 use std::test::Fail;
 use ts_packet::Counted;

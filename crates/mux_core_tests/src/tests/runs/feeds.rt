@@ -1,7 +1,7 @@
 //! Units fed before and between slots, and each refusal.
 
 use super::{fed, mux, packet, skip, unit, waiting};
-use crate::{FeedError, Mux};
+use mux_core::{FeedError, Mux};
 use std::alloc::Global;
 use std::test::Fail;
 

@@ -6,7 +6,7 @@ mod switches;
 mod writers;
 
 use super::{base, unit};
-use crate::{Unit, multiplex, multiplex_as};
+use mux_core::{Unit, multiplex, multiplex_as};
 use std::alloc::Global;
 use std::test::Fail;
 use ts_packet::Counted;

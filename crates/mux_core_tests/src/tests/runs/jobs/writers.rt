@@ -2,7 +2,7 @@
 
 use super::{units, written};
 use crate::tests::runs::base;
-use crate::{MuxError, multiplex};
+use mux_core::{MuxError, multiplex};
 use std::alloc::Global;
 use std::test::Fail;
 use ts_packet::{Counted, Failing};

@@ -1,7 +1,7 @@
 //! How many units may wait.
 
 use super::base;
-use crate::{Mux, NewError};
+use mux_core::{Mux, NewError};
 use std::alloc::Global;
 use std::test::Fail;
 

@@ -9,7 +9,7 @@ mod slots;
 mod switches;
 
 use crate::tests::services::{BASE, BASE_PLAN};
-use crate::{Done, FeedError, Mux, Unit};
+use mux_core::{Done, FeedError, Mux, Unit};
 use plan_checker::{CheckedPlan, check};
 use slot_plan::{Description, Plan};
 use std::alloc::{Allocator, Global};

@@ -2,7 +2,7 @@
 
 use super::{base, carries, mux, packet};
 use crate::tests::services::TURNED_PLAN;
-use crate::{Mux, NewError};
+use mux_core::{Mux, NewError};
 use plan_checker::{CheckedSwitch, check_switch};
 use slot_plan::Plan;
 use std::alloc::Global;
