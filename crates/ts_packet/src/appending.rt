@@ -5,7 +5,8 @@ ghost use Rattle.arrayvec.specs.ArrayVec.{array_vec_len};
 use arrayvec::ArrayVec;
 use bit_fields::append;
 
-const FILL: [u8; 184] = [0xff; 184];
+/// A payload of stuffing.
+pub const FILL: [u8; 184] = [0xff; 184];
 
 /// Appends `n` bytes 0xFF.
 pub fn append_fill<const N: usize>(packet: &mut ArrayVec<u8, N>, n: usize)
