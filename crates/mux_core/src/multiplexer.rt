@@ -1,12 +1,13 @@
 //! The multiplexer: units in, packets out, in any interleaving.
 
 ghost use Rattle.std.specs.Prelude.{◌≡◌, ◌≤◌, ◌<◌, ◌^◌, ℕ, suc, OnOk, IfErr, option_map, slice_get, length};
-ghost use Rattle.ts_packet.specs.Contents.{Stuffs, packet_of};
+ghost use Rattle.ts_packet.specs.Contents.{packet_of};
+ghost use Rattle.slot_plan.specs.Schedule.{slot_of};
 ghost use Rattle.unit_queue.specs.Causes.{refusal};
-ghost use Rattle.mux_core.specs.Histories.{History, bytes_of, slot_more, clock_in};
+ghost use Rattle.mux_core.specs.Histories.{History, bytes_of, slot_more};
 ghost use Rattle.mux_core.specs.Standing.{Stands, Gives, Takes, waiting_of};
 ghost use Rattle.mux_core.specs.Headline.{Headline};
-ghost use Rattle.mux_core.specs.Turns.{Turns, later, section_bytes, queue_sends, queues_after, turn_sends, turns_after, queue_cause, fed};
+ghost use Rattle.mux_core.specs.Turns.{Turns, sends, after, queue_cause, fed};
 ghost use Rattle.description.specs.Ranges.{IsInRange};
 ghost use Rattle.plan_timing.specs.Promised.{Promised};
 

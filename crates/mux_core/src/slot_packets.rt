@@ -30,7 +30,9 @@ pub(crate) fn write_stream<A: Allocator>(
     queue.write_next(slot, packet);
 }
 
-/// Writes the next packet of a table, from its turn.
+/// Writes the next packet of a table, from its turn. It stays a call of its own: what a section's text needs on the stack
+/// would else be made ready in each slot.
+#[inline(never)]
 #[tactic(auto, unfolding(crate::specs::Turns::turn_sends, crate::specs::Turns::turns_after))]
 pub(crate) fn write_table<A: Allocator>(
     turns: &mut Vec<TableTurn, A>,
