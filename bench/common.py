@@ -29,13 +29,14 @@ int main(int count, char **words) {
 """
 
 
-def seconds(words, path=None):
-    """The processor time of a program whose standard input is this file, and whose answer is not looked at."""
+def seconds(words, path=None, own=False):
+    """The processor time of a program whose standard input is this file, and whose answer is not looked at; with `own` without
+    what the system did for it."""
     before = resource.getrusage(resource.RUSAGE_CHILDREN)
     with open(path or "/dev/null", "rb") as source:
         subprocess.run([str(word) for word in words], stdin=source, stdout=subprocess.DEVNULL, stderr=subprocess.DEVNULL)
     after = resource.getrusage(resource.RUSAGE_CHILDREN)
-    return after.ru_utime - before.ru_utime + after.ru_stime - before.ru_stime
+    return after.ru_utime - before.ru_utime + (0 if own else after.ru_stime - before.ru_stime)
 
 
 PEAK = """
@@ -81,7 +82,9 @@ def built(work, name, uses):
     shutil.copy(root / "bench" / f"{name}.txt", source / "main.rt")
     lines = [f"{crate}:{below[crate]}\n" for crate in wanted] + [f"{name}: {' '.join(uses)}\n"]
     (work / "crates.txt").write_text("".join(lines))
-    subprocess.run(["rt", "run"], cwd=source.parent, stdin=subprocess.DEVNULL, stdout=subprocess.DEVNULL, check=True)
+    done = subprocess.run(["rt", "run"], cwd=source.parent, stdin=subprocess.DEVNULL, capture_output=True, text=True)
+    if done.returncode != 0:
+        sys.exit(done.stderr[-2000:])
     return source.parent / "out" / name
 
 

@@ -20,8 +20,7 @@ mod field_reading;
 mod packet_reading;
 mod pcr_bytes;
 
-// Writing, by appending.
-mod appending;
+// Writing.
 mod field_writing;
 mod fitting;
 mod fixed_texts;

@@ -1,21 +1,20 @@
-//! The packets that a multiplexer writes: of one payload, of one clock reference, and null.
+//! The packets that a multiplexer writes: of one payload, of one clock reference, and null. Each is written over the bytes of
+//! a packet that is at hand, so that no byte of it is copied again on its way, or given as a value.
 ghost use Rattle.std.specs.Prelude.{◌≡◌, ◌+◌, ◌-◌, ◌≤◌, ◌<◌, ◌^◌, ◌++◌, ℕ, List, Some, length};
 ghost use Rattle.ts_packet.specs.Syntax.{control_of};
-ghost use Rattle.arrayvec.specs.ArrayVec.{array_vec_len};
 ghost use Rattle.ts_packet.specs.Packets.{plain_header, filler, payload_packet, pcr_packet, null_text};
 ghost use Rattle.ts_packet.specs.Writing.{header_text, optional_text, adaptation_text};
 
 use crate::adaptation::ClockReference;
-use crate::appending::{FILL, append_fill};
 use crate::fixed_texts::{header_text, reference_text};
 use crate::header::Header;
-use crate::packet_writing::whole;
-use arrayvec::ArrayVec;
-use bit_fields::append;
 use clock27::Pcr;
 
 /// The PID of null packets (ISO/IEC 13818-1, table 2-3).
 pub const NULL_PID: u16 = 0x1fff;
+
+// A payload of stuffing.
+const FILL: [u8; 184] = [0xff; 184];
 
 fn plain_header(pid: u16, start: bool, counter: u8) -> Header
     ensures { result ≡ plain_header pid start counter }
