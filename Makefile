@@ -27,9 +27,11 @@ binary:
 test:
 	rt ci
 
-# Speed, as a ratio to a copy of the same bytes in the same run, and how full a multiplex `plan` fills. Needs python3 and cc beside the kit.
+# Speed, beside a copy of as many packets in memory in the same run (docs/SPEED.md), and how full a multiplex `plan` fills. Needs python3
+# and cc beside the kit.
 bench: binary
 	python3 bench/mux.py $(BINARY)
+	python3 bench/slots.py $(BINARY)
 	python3 bench/carry.py $(BINARY)
 	python3 bench/demux.py $(BINARY)
 	python3 bench/packets.py

@@ -1,6 +1,8 @@
-"""What the benches share: processor time of a program, and of a copy of the same packets in memory."""
+"""What the benches share: processor time of a program, and of a copy of the same packets in memory; programs over the library; a
+service to multiplex."""
 
 import resource
+import shutil
 import subprocess
 import sys
 import tempfile
@@ -27,18 +29,19 @@ int main(int count, char **words) {
 """
 
 
-def seconds(words, path=None):
-    """The processor time of a program whose standard input is this file."""
+def seconds(words, path=None, own=False):
+    """The processor time of a program whose standard input is this file, and whose answer is not looked at; with `own` without
+    what the system did for it."""
     before = resource.getrusage(resource.RUSAGE_CHILDREN)
     with open(path or "/dev/null", "rb") as source:
-        subprocess.run([str(word) for word in words], stdin=source, stdout=subprocess.DEVNULL, check=True)
+        subprocess.run([str(word) for word in words], stdin=source, stdout=subprocess.DEVNULL, stderr=subprocess.DEVNULL)
     after = resource.getrusage(resource.RUSAGE_CHILDREN)
-    return after.ru_utime - before.ru_utime + after.ru_stime - before.ru_stime
+    return after.ru_utime - before.ru_utime + (0 if own else after.ru_stime - before.ru_stime)
 
 
 PEAK = """
 import resource, subprocess, sys
-subprocess.run(sys.argv[1:], stdout=subprocess.DEVNULL, check=True)
+subprocess.run(sys.argv[1:], stdout=subprocess.DEVNULL, stderr=subprocess.DEVNULL)
 print(resource.getrusage(resource.RUSAGE_CHILDREN).ru_maxrss * 1024)
 """
 
@@ -61,3 +64,74 @@ def copy_seconds(packets):
         subprocess.run(["cc", "-O2", "-o", binary, source], check=True)
         runs = (subprocess.run([binary, str(packets)], capture_output=True, check=True, text=True).stdout for _ in range(5))
         return min(float(run.split()[0]) for run in runs)
+
+
+def built(work, name, uses):
+    """The program of bench/NAME.txt, made in a scratch copy of this repository with what earlier checks kept; what they did not
+    keep is proved there first (of a whole repository that is never checked: up to half an hour)."""
+    root = Path(__file__).resolve().parent.parent
+    below = dict(line.split(":") for line in (root / "crates.txt").read_text().strip().split("\n"))
+    wanted = [crate for crate in uses if crate in below]
+    for crate in wanted:
+        wanted += [other for other in below[crate].split() if other in below and other not in wanted]
+    for crate in wanted:
+        shutil.copytree(root / "crates" / crate, work / "crates" / crate)
+    shutil.copy(root / "HANDLES", work)
+    source = work / "crates" / name / "src"
+    source.mkdir(parents=True)
+    shutil.copy(root / "bench" / f"{name}.txt", source / "main.rt")
+    lines = [f"{crate}:{below[crate]}\n" for crate in wanted] + [f"{name}: {' '.join(uses)}\n"]
+    (work / "crates.txt").write_text("".join(lines))
+    done = subprocess.run(["rt", "run"], cwd=source.parent, stdin=subprocess.DEVNULL, capture_output=True, text=True)
+    if done.returncode != 0:
+        sys.exit(done.stderr[-2000:])
+    return source.parent / "out" / name
+
+
+PROGRAM = """ts_id = 1
+original_network_id = 1
+sdt = true
+tdt = true
+start = "2026-03-29T00:59:50"
+
+[network]
+id = 1
+name = "Net"
+
+[[program]]
+number = 1
+pmt_pid = 4096
+pcr_pid = 257
+service_type = 2
+name = "One"
+
+[[event]]
+program = 1
+id = 7
+start = "2026-03-29T00:59:00"
+duration = 5400
+language = "eng"
+name = "News"
+text = ""
+"""
+STREAM = """
+[[stream]]
+program = 1
+pid = {pid}
+id = {id}
+type = 3
+interval = 2160
+size = 576
+lead = 12960
+"""
+
+
+def audio_rate(streams):
+    """The rate of a service of so many streams: three quarters of it are their packets."""
+    return 330_000 * streams + 100_000
+
+
+def audio_service(streams):
+    """The description of a service of so many streams of MPEG audio, with all tables: a unit of 576 bytes each 24 ms, in 4 packets."""
+    parts = [STREAM.format(pid=300 + k, id=192 + k) for k in range(streams)]
+    return f"rate = {audio_rate(streams)}\n" + PROGRAM + "".join(parts)

@@ -1,18 +1,19 @@
 //! The multiplexer: units in, packets out, in any interleaving.
 
 ghost use Rattle.std.specs.Prelude.{◌≡◌, ◌≤◌, ◌<◌, ◌^◌, ℕ, suc, OnOk, IfErr, option_map, slice_get, length};
-ghost use Rattle.ts_packet.specs.Contents.{Stuffs, packet_of};
+ghost use Rattle.ts_packet.specs.Contents.{packet_of};
+ghost use Rattle.slot_plan.specs.Schedule.{slot_of};
 ghost use Rattle.unit_queue.specs.Causes.{refusal};
-ghost use Rattle.mux_core.specs.Histories.{History, bytes_of, slot_more, clock_in};
+ghost use Rattle.mux_core.specs.Histories.{History, bytes_of, slot_more};
 ghost use Rattle.mux_core.specs.Standing.{Stands, Gives, Takes, waiting_of};
 ghost use Rattle.mux_core.specs.Headline.{Headline};
-ghost use Rattle.mux_core.specs.Turns.{Turns, later, section_bytes, queue_sends, queues_after, turn_sends, turns_after, queue_cause, fed};
+ghost use Rattle.mux_core.specs.Turns.{Turns, sends, after, queue_cause, fed};
 ghost use Rattle.description.specs.Ranges.{IsInRange};
 ghost use Rattle.plan_timing.specs.Promised.{Promised};
 
 use crate::checked_schedule::CheckedSchedule;
 use crate::done::Done;
-use crate::slot_packets::{clock_packet, stream_packet, stuffing, table_packet};
+use crate::slot_packets::{stuff, write_clock, write_stream, write_table};
 use pes_packet::Unit;
 use slot_plan::Slot;
 use std::alloc::{Allocator, Global};
@@ -55,65 +56,38 @@ impl<A: Allocator> Mux<A> {
     }
 
     // The packet of the next slot, by the state.
-    #[tactic(auto, unfolding(crate::specs::Turns::sends, crate::specs::Turns::after))]
     fn turn(&mut self) -> Result<[u8; 188], Done>
         ensures { Turns self.old result self.new }
     {
         if self.slots >= LAST_SLOTS {
             return Err(Done);
         }
-        match self.line.slot(self.slots) {
-            Slot::Stream(k) => Ok(self.stream_packet(k)),
-            Slot::Pcr(p) => Ok(self.clock_packet(p)),
-            Slot::Table(t) => Ok(self.table_packet(t)),
-            Slot::Null => Ok(self.null_packet()),
+        let mut packet = [0; 188];
+        self.write_slot(&mut packet);
+        Ok(packet)
+    }
+
+    // Writes the packet of the next slot over what stands in `packet`: it is made there, and no byte of it is copied again.
+    #[tactic(auto, unfolding(crate::specs::Turns::sends, crate::specs::Turns::after))]
+    fn write_slot(&mut self, packet: &mut [u8; 188])
+        requires { self.old.slots < 2 ^ 40 }
+        ensures packet { packet.new ≡ packet_of (sends self.old (slot_of self.old.line.schedule self.old.slots)) }
+        ensures state { self.new ≡ after self.old (slot_of self.old.line.schedule self.old.slots) }
+    {
+        let slot = self.slots;
+        match self.line.slot(slot) {
+            Slot::Stream(k) => write_stream(&mut self.queues, k, slot, packet),
+            Slot::Pcr(p) => write_clock(self.line.description(), p, slot, packet),
+            Slot::Table(t) => write_table(
+                &mut self.turns,
+                self.line.description(),
+                t,
+                slot,
+                packet,
+            ),
+            Slot::Null => stuff(packet),
         }
-    }
-
-    // The next packet of a stream.
-    fn stream_packet(&mut self, k: u8) -> [u8; 188]
-        requires { self.old.slots < 2 ^ 40 }
-        ensures packet { result ≡ packet_of (queue_sends self.old.slots (slice_get self.old.queues k)) }
-        ensures state { self.new
-            ≡ later self.old (queues_after self.old.slots self.old.queues k (slice_get self.old.queues k)) self.old.turns }
-    {
-        let packet = stream_packet(&mut self.queues, k, self.slots);
         self.slots += 1;
-        packet
-    }
-
-    // The clock reference of a program.
-    fn clock_packet(&mut self, p: u8) -> [u8; 188]
-        requires { self.old.slots < 2 ^ 40 }
-        ensures packet { result ≡ packet_of (clock_in self.old.line.description self.old.slots (slice_get self.old.line.description.programs p)) }
-        ensures state { self.new ≡ later self.old self.old.queues self.old.turns }
-    {
-        let packet = clock_packet(self.line.description(), p, self.slots);
-        self.slots += 1;
-        packet
-    }
-
-    // The next packet of a table.
-    fn table_packet(&mut self, t: u8) -> [u8; 188]
-        requires { self.old.slots < 2 ^ 40 }
-        ensures packet { result
-            ≡ packet_of (turn_sends (section_bytes self.old.line.description t) self.old.slots (slice_get self.old.turns t)) }
-        ensures state { self.new ≡ later self.old self.old.queues
-            (turns_after (section_bytes self.old.line.description t) self.old.slots self.old.turns t (slice_get self.old.turns t)) }
-    {
-        let packet = table_packet(&mut self.turns, self.line.description(), t, self.slots);
-        self.slots += 1;
-        packet
-    }
-
-    // A null packet.
-    fn null_packet(&mut self) -> [u8; 188]
-        requires { self.old.slots < 2 ^ 40 }
-        ensures packet { result ≡ packet_of Stuffs }
-        ensures state { self.new ≡ later self.old self.old.queues self.old.turns }
-    {
-        self.slots += 1;
-        stuffing()
     }
 
     /// Takes a unit of a stream. A unit that is refused comes back, and nothing changes.

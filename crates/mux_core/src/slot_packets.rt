@@ -1,4 +1,4 @@
-//! The packet of a slot of each kind.
+//! The packet of a slot of each kind, written over what stands in a packet.
 
 ghost use Rattle.std.specs.Prelude.{◌≡◌, ◌<◌, ◌^◌, slice_get};
 ghost use Rattle.ts_packet.specs.Contents.{Clocks, Stuffs, packet_of};
@@ -10,73 +10,77 @@ use clock27::Pcr;
 use slot_plan::Description;
 use std::alloc::Allocator;
 use table_rounds::TableTurn;
-use ts_packet::{null_packet, write_pcr};
+use ts_packet::{overwrite_null, overwrite_pcr};
 use unit_queue::UnitQueue;
 
-/// The next packet of a stream, from its queue.
+/// Writes the next packet of a stream, from its queue.
 #[tactic(auto, unfolding(crate::specs::Turns::queue_sends, crate::specs::Turns::queues_after))]
-pub(crate) fn stream_packet<A: Allocator>(
+pub(crate) fn write_stream<A: Allocator>(
     queues: &mut Vec<UnitQueue<A>, A>,
     k: u8,
     slot: u64,
-) -> [u8; 188]
-    ensures packet { result ≡ packet_of (queue_sends slot (slice_get queues.old.items k)) }
+    packet: &mut [u8; 188],
+)
+    ensures packet { packet.new ≡ packet_of (queue_sends slot (slice_get queues.old.items k)) }
     ensures queues { queues.new.items ≡ queues_after slot queues.old.items k (slice_get queues.old.items k) }
 {
     let Some(queue) = queues.get_mut(k as usize) else {
-        return stuffing();
+        return stuff(packet);
     };
-    queue.next(slot)
+    queue.write_next(slot, packet);
 }
 
-/// The next packet of a table, from its turn.
+/// Writes the next packet of a table, from its turn. It stays a call of its own: what a section's text needs on the stack
+/// would else be made ready in each slot.
+#[inline(never)]
 #[tactic(auto, unfolding(crate::specs::Turns::turn_sends, crate::specs::Turns::turns_after))]
-pub(crate) fn table_packet<A: Allocator>(
+pub(crate) fn write_table<A: Allocator>(
     turns: &mut Vec<TableTurn, A>,
     description: &Description,
     t: u8,
     slot: u64,
-) -> [u8; 188]
+    packet: &mut [u8; 188],
+)
     requires { slot < 2 ^ 40 }
-    ensures packet { result ≡ packet_of (turn_sends (section_bytes description.now t) slot (slice_get turns.old.items t)) }
+    ensures packet { packet.new ≡ packet_of (turn_sends (section_bytes description.now t) slot (slice_get turns.old.items t)) }
     ensures turns { turns.new.items ≡ turns_after (section_bytes description.now t) slot turns.old.items t (slice_get turns.old.items t) }
 {
     let Some(turn) = turns.get_mut(t as usize) else {
-        return stuffing();
+        return stuff(packet);
     };
     let sections = DescribedSections {
         description,
         table: t as usize,
     };
-    turn.next(&sections, slot)
+    turn.write_next(&sections, slot, packet);
 }
 
-/// The clock reference of a program: its time is that of byte 10 of the packet (ISO/IEC 13818-1, 2.4.3.5).
+/// Writes the clock reference of a program: its time is that of byte 10 of the packet (ISO/IEC 13818-1, 2.4.3.5).
 #[tactic(auto, unfolding(crate::specs::Histories::clock_in))]
-pub(crate) fn clock_packet(description: &Description, p: u8, slot: u64) -> [u8; 188]
+pub(crate) fn write_clock(description: &Description, p: u8, slot: u64, packet: &mut [u8; 188])
     requires { slot < 2 ^ 40 }
-    ensures { result ≡ packet_of (clock_in description.now slot (slice_get description.now.programs p)) }
+    ensures { packet.new ≡ packet_of (clock_in description.now slot (slice_get description.now.programs p)) }
 {
     description.keeps_ranges();
     let Some(program) = description.programs().get(p as usize) else {
-        return stuffing();
+        return stuff(packet);
     };
     let pcr = Pcr::at(description.rate(), description.base0(), 188 * slot + 10);
-    clock(program.pcr_pid(), pcr)
+    clock(packet, program.pcr_pid(), pcr);
 }
 
 #[tactic(auto, unfolding(ts_packet::specs::Contents::packet_of))]
-fn clock(pid: u16, pcr: Pcr) -> [u8; 188]
+fn clock(packet: &mut [u8; 188], pid: u16, pcr: Pcr)
     requires { pid < 2 ^ 13 }
-    ensures { result ≡ packet_of (Clocks pid pcr) }
+    ensures { packet.new ≡ packet_of (Clocks pid pcr) }
 {
-    write_pcr(pid, pcr)
+    overwrite_pcr(packet, pid, pcr);
 }
 
-/// The null packet.
+/// Writes the null packet.
 #[tactic(auto, unfolding(ts_packet::specs::Contents::packet_of))]
-pub(crate) fn stuffing() -> [u8; 188]
-    ensures { result ≡ packet_of Stuffs }
+pub(crate) fn stuff(packet: &mut [u8; 188])
+    ensures { packet.new ≡ packet_of Stuffs }
 {
-    null_packet()
+    overwrite_null(packet);
 }

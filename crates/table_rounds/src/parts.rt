@@ -7,7 +7,7 @@ ghost use Rattle.table_rounds.specs.Parts.{filled, part_of, part_content};
 
 use arrayvec::ArrayVec;
 use bit_fields::append;
-use ts_packet::{null_packet, write_payload};
+use ts_packet::{overwrite_null, overwrite_payload};
 
 // The bytes of a packet's payload.
 const PAYLOAD: usize = 184;
@@ -60,23 +60,31 @@ fn later_part(text: &[u8], from: usize) -> ArrayVec<u8, 184>
     payload
 }
 
-/// The packet of a part of a section, and whether it has a payload: the null packet after the section's end. The counter is
-/// taken modulo 16.
+/// Writes the packet of a part of a section over what stands in `packet`, and says whether it has a payload: the null
+/// packet after the section's end. The counter is taken modulo 16.
 #[tactic(auto, unfolding(crate::specs::Parts::part_of, crate::specs::Parts::part_content, ts_packet::specs::Contents::packet_of))]
-pub(crate) fn part_packet(pid: u16, counter: u8, text: &[u8], part: usize) -> ([u8; 188], bool)
+pub(crate) fn write_part(
+    packet: &mut [u8; 188],
+    pid: u16,
+    counter: u8,
+    text: &[u8],
+    part: usize,
+) -> bool
     requires pid { pid < 2 ^ 13 }
     requires part { part < 2 ^ 32 }
-    ensures packet { result.0 ≡ packet_of (part_content pid counter (part_of text.now part)) }
-    ensures some { result.1 ≡ is_some (part_of text.now part) }
+    ensures packet { packet.new ≡ packet_of (part_content pid counter (part_of text.now part)) }
+    ensures some { result ≡ is_some (part_of text.now part) }
 {
     if part == 0 {
-        let payload = first_part(text);
-        return (write_payload(pid, true, counter % 16, &payload), true);
+        overwrite_payload(packet, pid, true, counter % 16, &first_part(text));
+        return true;
     }
     let from = PAYLOAD * part;
     if from > text.len() {
-        return (null_packet(), false);
+        overwrite_null(packet);
+        return false;
     }
     let payload = later_part(text, from - 1);
-    (write_payload(pid, false, counter % 16, &payload), true)
+    overwrite_payload(packet, pid, false, counter % 16, &payload);
+    true
 }

@@ -7,7 +7,7 @@ ghost use Rattle.table_rounds.specs.Tables.{Table, table_content};
 ghost use Rattle.table_rounds.specs.Turns as spec;
 ghost use Rattle.table_rounds.specs.Laws.{HasPlaces, IsTextOf};
 
-use crate::parts::part_packet;
+use crate::parts::write_part;
 use crate::texts::SectionTexts;
 use arrayvec::ArrayVec;
 use clock27::Rate;
@@ -104,11 +104,27 @@ impl TableTurn {
         ensures packet { result ≡ packet_of (spec.turn_content (T.text texts.now) slot self.old) }
         ensures state { self.new ≡ spec.turned (T.text texts.now) slot self.old }
     {
+        let mut packet = [0; 188];
+        self.write_next(texts, slot, &mut packet);
+        packet
+    }
+
+    /// The same, written over what stands in `packet`.
+    pub fn write_next<T: SectionTexts>(&mut self, texts: &T, slot: u64, packet: &mut [u8; 188])
+        requires { slot < 2 ^ 40 }
+        ensures packet { packet.new ≡ packet_of (spec.turn_content (T.text texts.now) slot self.old) }
+        ensures state { self.new ≡ spec.turned (T.text texts.now) slot self.old }
+    {
         self.begin(texts, slot);
-        let (packet, sent) = part_packet(self.pid, self.counter, &self.text, self.part as usize);
+        let sent = write_part(
+            packet,
+            self.pid,
+            self.counter,
+            &self.text,
+            self.part as usize,
+        );
         self.count(sent);
         self.advance();
-        packet
     }
 
     #[tactic(auto, unfolding(crate::specs::Turns::begun))]

@@ -1,5 +1,5 @@
 -- The adaptation field that fills a packet up.
-use Rattle.std.proofs.Common.{◌≡◌, ℕ, zero, suc, ◌+◌, ◌-◌, ◌<◌, List, [], ◌∷◌, ◌++◌, length, replicate, Some, refl, ap, ◌∙◌, arith, append_assoc}
+use Rattle.std.proofs.Common.{◌≡◌, ℕ, zero, suc, ◌+◌, ◌-◌, ◌<◌, List, [], ◌∷◌, ◌++◌, length, replicate, Some, refl, ap, ◌∙◌, arith}
 use Rattle.std.proofs.lemmas.List.{length-replicate}
 use Rattle.clock27.specs.Reference.{Reference}
 use Rattle.ts_packet.specs.Syntax.{control_of}
@@ -44,12 +44,6 @@ control_some (suc zero) payload h = refl
 control_some (suc (suc n)) payload h = refl
 
 pub ruleset filling = (filler_none, filler_one, filler_long, control_none, control_some)
-
--- three parts that were appended in turn
-pub joined_three : (old first second third a b c : List ℕ) → a ≡ old ++ first → b ≡ a ++ second → c ≡ b ++ third → c ≡ old ++ (first ++ (second ++ third))
-joined_three old first second third a b c p q r =
-    r ∙ ap (λ (l : List ℕ). l ++ third) (q ∙ ap (λ (l : List ℕ). l ++ second) p)
-    ∙ append_assoc (old ++ first) second third ∙ append_assoc old first (second ++ third)
 
 -- the adaptation field of a clock reference and stuffing
 pub clock_text : (pcr : Reference) → optional_text adaptation_text (Some (WithFlags (plain_parts (Some pcr) 176))) ≡ 183 ∷ 16 ∷ (reference_text pcr ++ replicate 176 0xFF)

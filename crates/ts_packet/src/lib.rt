@@ -20,8 +20,7 @@ mod field_reading;
 mod packet_reading;
 mod pcr_bytes;
 
-// Writing, by appending.
-mod appending;
+// Writing.
 mod field_writing;
 mod fitting;
 mod fixed_texts;
@@ -43,7 +42,10 @@ pub use packet::{Packet, PacketError};
 pub use packet_reading::read_packet;
 pub use packet_writing::write_packet;
 pub use pcr_bytes::{has_pcr, is_same_without_pcr};
-pub use plain_packets::{NULL_PID, append_payload_packet, null_packet, write_payload, write_pcr};
+pub use plain_packets::{
+    NULL_PID, null_packet, overwrite_joined, overwrite_null, overwrite_payload, overwrite_pcr,
+    write_payload, write_pcr,
+};
 
 #[cfg(test)]
 mod tests;

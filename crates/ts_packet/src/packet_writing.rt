@@ -13,8 +13,8 @@ use crate::header::Header;
 use arrayvec::ArrayVec;
 use bit_fields::append;
 
-/// The array that a full vector holds.
-pub fn whole(packet: ArrayVec<u8, 188>) -> [u8; 188]
+// The array that a full vector holds.
+fn whole(packet: ArrayVec<u8, 188>) -> [u8; 188]
     requires { array_vec_len packet ≡ 188 }
     ensures { result ≡ packet.items }
 {

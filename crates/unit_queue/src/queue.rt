@@ -20,7 +20,7 @@ use clock27::release_slot;
 use pes_packet::Unit;
 use std::alloc::{AllocError, Allocator, Global};
 use std::marker::Model;
-use ts_packet::null_packet;
+use ts_packet::overwrite_null;
 
 /// The units of one stream that are not sent whole, and where it stands in the first of them. All memory is taken by
 /// `new`.
@@ -175,23 +175,24 @@ impl<A: Allocator> UnitQueue<A> {
         ensures packet { result ≡ packet_of (queue_content slot self.old) }
         ensures state { self.new ≡ sent_in slot self.old }
     {
-        self.send(slot)
+        let mut packet = [0; 188];
+        self.write_next(slot, &mut packet);
+        packet
     }
 
+    /// The same, written over what stands in `packet`: no byte of it is copied again.
     #[tactic(auto, unfolding(crate::specs::Steps::front_content, crate::specs::Steps::front_sent, ts_packet::specs::Contents::packet_of))]
-    fn send(&mut self, slot: u64) -> [u8; 188]
-        ensures packet { result ≡ packet_of (queue_content slot self.old) }
+    pub fn write_next(&mut self, slot: u64, packet: &mut [u8; 188])
+        ensures packet { packet.new ≡ packet_of (queue_content slot self.old) }
         ensures state { self.new ≡ sent_in slot self.old }
     {
-        let Some(unit) = self.waiting.front() else {
-            return null_packet();
-        };
-        if slot < unit.release {
-            return null_packet();
+        match self.waiting.front() {
+            Some(unit) if unit.release <= slot => {
+                let more = unit.write_piece(packet, self.rules.pid, self.counter, self.sent);
+                self.step(more);
+            }
+            _ => overwrite_null(packet),
         }
-        let (packet, more) = unit.piece(self.rules.pid, self.counter, self.sent);
-        self.step(more);
-        packet
     }
 
     // A piece of the first unit is sent, and further ones follow it or not.

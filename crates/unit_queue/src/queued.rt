@@ -1,18 +1,16 @@
 //! A unit that waits.
 
 ghost use Rattle.std.specs.Prelude.{◌≡◌, ◌≤◌, ◌<◌, ◌+◌, ◌-◌, ◌++◌, ◌==◌, ◌||◌, ◌^◌, nat_lt, true, length, take, drop};
-ghost use Rattle.arrayvec.specs.ArrayVec.{array_vec_len};
 ghost use Rattle.pes_packet.specs.Payloads.{piece_count};
 ghost use Rattle.ts_packet.specs.Contents.{packet_of};
 ghost use Rattle.unit_queue.specs.Queues.{Queued};
 ghost use Rattle.unit_queue.specs.Steps.{rest_of, some_bytes};
 
 use arrayvec::ArrayVec;
-use bit_fields::append;
 use pes_packet::Unit;
 use std::alloc::Allocator;
 use std::marker::Model;
-use ts_packet::{null_packet, write_payload};
+use ts_packet::{overwrite_joined, overwrite_null, overwrite_payload};
 
 /// The most bytes of a payload.
 pub(crate) const PAYLOAD: usize = 184;
@@ -45,25 +43,23 @@ impl<A: Allocator> QueuedUnit<A> {
         }
     }
 
-    /// The packet of the piece after the first `sent` bytes of the PES packet, and whether further pieces follow it.
-    pub fn piece(&self, pid: u16, counter: u8, sent: usize) -> ([u8; 188], bool)
+    /// Writes the packet of the piece after the first `sent` bytes of the PES packet over what stands in `packet`, and says
+    /// whether further pieces follow it.
+    pub fn write_piece(&self, packet: &mut [u8; 188], pid: u16, counter: u8, sent: usize) -> bool
         requires pid { pid < 2 ^ 13 }
-        ensures packet { result.0 ≡ packet_of (some_bytes pid counter (sent == 0) (take 184 (rest_of self.now sent))) }
-        ensures more { result.1 ≡ nat_lt 184 (length (rest_of self.now sent)) }
-        ensures within { result.1 ≡ true → sent + 184 < 2 ^ 64 }
+        ensures packet { packet.new ≡ packet_of (some_bytes pid counter (sent == 0) (take 184 (rest_of self.now sent))) }
+        ensures more { result ≡ nat_lt 184 (length (rest_of self.now sent)) }
+        ensures within { result ≡ true → sent + 184 < 2 ^ 64 }
     {
         let size = self.header.len();
         if sent < size {
-            let first = self.first_payload(sent);
-            let more = size - sent + self.bytes.len() > PAYLOAD;
-            (payload_packet(pid, counter, sent == 0, &first), more)
+            self.write_first(packet, pid, counter, sent);
+            size - sent + self.bytes.len() > PAYLOAD
         } else {
             let rest = self.bytes_from(sent - size);
             let (payload, _) = rest.split_at(rest.len().min(PAYLOAD));
-            (
-                payload_packet(pid, counter, sent == 0, payload),
-                rest.len() > PAYLOAD,
-            )
+            write_some(packet, pid, counter, sent == 0, payload);
+            rest.len() > PAYLOAD
         }
     }
 
@@ -76,18 +72,16 @@ impl<A: Allocator> QueuedUnit<A> {
         rest
     }
 
-    // A payload that begins in the header.
-    fn first_payload(&self, sent: usize) -> ArrayVec<u8, 184>
-        requires { sent < length self.now.header }
-        ensures { result.items ≡ take 184 (rest_of self.now sent) }
+    // Writes the packet of a payload that begins in the header.
+    fn write_first(&self, packet: &mut [u8; 188], pid: u16, counter: u8, sent: usize)
+        requires pid { pid < 2 ^ 13 }
+        requires sent { sent < length self.now.header }
+        ensures { packet.new ≡ packet_of (some_bytes pid counter (sent == 0) (take 184 (rest_of self.now sent))) }
     {
         let (_, header) = self.header.split_at(sent);
         let room = PAYLOAD - header.len();
         let (front, _) = self.bytes.split_at(self.bytes.len().min(room));
-        let mut payload = ArrayVec::new();
-        append(&mut payload, header);
-        append(&mut payload, front);
-        payload
+        write_both(packet, pid, counter, sent == 0, header, front);
     }
 }
 
@@ -99,15 +93,27 @@ pub(crate) fn packet_count(size: usize) -> u64
     size.div_ceil(PAYLOAD) as u64
 }
 
-// The packet of a payload, the null packet where it has no bytes.
+// Writes the packet of a payload, the null packet where it has no bytes.
 #[tactic(auto, unfolding(crate::specs::Steps::some_bytes, ts_packet::specs::Contents::packet_of))]
-fn payload_packet(pid: u16, counter: u8, start: bool, payload: &[u8]) -> [u8; 188]
+fn write_some(packet: &mut [u8; 188], pid: u16, counter: u8, start: bool, payload: &[u8])
     requires pid { pid < 2 ^ 13 }
     requires most { length payload.now ≤ 184 }
-    ensures { result ≡ packet_of (some_bytes pid counter start payload.now) }
+    ensures { packet.new ≡ packet_of (some_bytes pid counter start payload.now) }
 {
     if payload.is_empty() {
-        return null_packet();
+        overwrite_null(packet);
+    } else {
+        overwrite_payload(packet, pid, start, counter % 16, payload);
     }
-    write_payload(pid, start, counter % 16, payload)
+}
+
+// Writes the packet of a payload in two parts, of which the first is not empty.
+#[tactic(auto, unfolding(crate::specs::Steps::some_bytes, ts_packet::specs::Contents::packet_of))]
+fn write_both(packet: &mut [u8; 188], pid: u16, counter: u8, start: bool, first: &[u8], rest: &[u8])
+    requires pid { pid < 2 ^ 13 }
+    requires some { 0 < length first.now }
+    requires most { length first.now + length rest.now ≤ 184 }
+    ensures { packet.new ≡ packet_of (some_bytes pid counter start (first.now ++ rest.now)) }
+{
+    overwrite_joined(packet, pid, start, counter % 16, first, rest);
 }

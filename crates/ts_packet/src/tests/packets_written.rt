@@ -1,10 +1,9 @@
 //! Packets with known bytes.
 use super::packet_of;
 use crate::{
-    Adaptation, AdaptationParts, ClockReference, Header, append_payload_packet, fits, null_packet,
-    read_packet, write_packet, write_payload, write_pcr,
+    Adaptation, AdaptationParts, ClockReference, Header, fits, null_packet, overwrite_joined,
+    overwrite_payload, read_packet, write_packet, write_payload, write_pcr,
 };
-use arrayvec::ArrayVec;
 use clock27::{Pcr, Rate};
 
 /// A packet with these first bytes, 0xFF, and at its end a payload of 0x5A.
@@ -39,19 +38,14 @@ fn writes_payloads(rt: HostRuntime) {
 }
 
 #[test]
-fn appends_packets(rt: HostRuntime) {
-    let mut packets: ArrayVec<u8, 376> = ArrayVec::new();
-    append_payload_packet(&mut packets, 256, true, 15, &[0x5a; 184]);
-    append_payload_packet(&mut packets, 256, false, 0, &[0x5a; 2]);
-    let (first, second) = packets.as_slice().split_at(188);
-    assert_eq!(rt;
-        first,
-        with_payload(&[0x47, 0x41, 0x00, 0x1f], 184).as_slice()
-    );
-    assert_eq!(rt;
-        second,
-        with_payload(&[0x47, 0x01, 0x00, 0x30, 0xb5, 0x00], 2).as_slice()
-    );
+fn overwrites_packets(rt: HostRuntime) {
+    let mut packet = null_packet();
+    overwrite_payload(&mut packet, 256, true, 15, &[0x5a; 184]);
+    assert!(rt; packet == with_payload(&[0x47, 0x41, 0x00, 0x1f], 184));
+    overwrite_joined(&mut packet, 256, false, 0, &[0x5b], &[0x5a]);
+    let mut joined = with_payload(&[0x47, 0x01, 0x00, 0x30, 0xb5, 0x00], 1);
+    joined[186] = 0x5b;
+    assert!(rt; packet == joined);
 }
 
 #[test]

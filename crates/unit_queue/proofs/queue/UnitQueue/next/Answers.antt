@@ -6,4 +6,4 @@ use Rattle.unit_queue.proofs.queue.UnitQueue.next.Goals as goal
 pub returns-clause-stands : goal.returns-clause-stands
 returns-clause-stands g c = λ l capacity us mine holds.
     let one = own_slot_law l c.args.slot capacity us c.args.self.now mine holds in
-    (c.send.ensures.packet ∙ one.packet, subst (λ (q : Queue). Holds l (suc c.args.slot) capacity us q) (sym c.send.ensures.state) one.holds)
+    (c.write_next.ensures.packet ∙ one.packet, subst (λ (q : Queue). Holds l (suc c.args.slot) capacity us q) (sym c.write_next.ensures.state) one.holds)
