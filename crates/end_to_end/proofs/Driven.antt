@@ -1,5 +1,5 @@
 -- Whatever is fed and written, in any order, a multiplexer stands for the history that it leaves.
-use Rattle.std.proofs.Common.{◌≡◌, ℕ, suc, ◌+◌, ◌-◌, ◌^◌, ◌<◌, ◌≤◌, List, [], ◌∷◌, map, slice_get, length, Option, Some, None, Result, Ok, Err, refl, sym, ap, ap₂, subst, ◌∙◌, arith, inl, inr, lt-ltb, le-ltb}
+use Rattle.std.proofs.Common.{◌≡◌, ℕ, ◌^◌, ◌<◌, ◌≤◌, List, [], ◌∷◌, map, slice_get, Option, Some, None, Ok, refl, sym, ap₂, subst, ◌∙◌, arith, inl, inr, lt-ltb, le-ltb}
 use Rattle.std.proofs.lemmas.Bool.{cases_lt}
 use Rattle.pes_packet.specs.AccessUnits.{AccessUnit}
 use Rattle.ts_packet.specs.Contents.{packet_of, run_bytes}

@@ -1,5 +1,5 @@
 -- The bytes of a whole job give its units back.
-use Rattle.std.proofs.Common.{◌≡◌, ℕ, zero, suc, ◌^◌, ◌≤◌, Bool, true, false, cond, nat_eq, List, [], ◌∷◌, ◌++◌, slice_get, length, Option, Some, None, refl, sym, ap, ap₂, subst, ◌∙◌, arith, inl, inr, append-nil, append_assoc}
+use Rattle.std.proofs.Common.{◌≡◌, ℕ, zero, suc, Bool, false, cond, nat_eq, List, [], ◌∷◌, ◌++◌, length, Option, Some, None, refl, sym, ap, subst, ◌∙◌, inl, inr, append-nil, append_assoc}
 use Rattle.std.proofs.Math.Path.{fun_ext}
 use Rattle.std.proofs.lemmas.Bool.{eq-eqb, ne_eqb, cases_eq}
 use Rattle.pes_packet.specs.AccessUnits.{AccessUnit}
@@ -8,11 +8,10 @@ use Rattle.ts_packet.specs.Contents.{Content, packet_of, run_bytes}
 use Rattle.description.specs.Ranges.{IsInRange}
 use Rattle.unit_queue.specs.declared.refusal.FeedError.{FeedError}
 use Rattle.mux_core.specs.Scheduled.{Scheduled}
-use Rattle.mux_core.specs.Histories.{History, empty_history, with_unit, content_at}
-use Rattle.mux_core.specs.Standing.{feed_cause}
+use Rattle.mux_core.specs.Histories.{with_unit, content_at}
 use Rattle.mux_core.specs.Driving.{fed_history}
 use Rattle.mux_core.specs.PidPackets.{leaving}
-use Rattle.mux_core.specs.Multiplexing.{job_history, or_cause, unit_refused, cause_after, first_refused, capacity_for, run_output, output_of}
+use Rattle.mux_core.specs.Multiplexing.{job_history, or_cause, unit_refused, cause_after, first_refused, capacity_for, run_output}
 use Rattle.mux_core.specs.declared.multiplexing.MuxError.{MuxError}
 use Rattle.mux_core.proofs.UnitCounts.{own_units, other_units, units_append}
 use Rattle.end_to_end.specs.GivenBack.{GivenBack}

@@ -8,7 +8,7 @@ ghost use Rattle.end_to_end.specs.CarriedBack.{CarriedBackLaw, AcceptedUnitsFit}
 /// was sent whole with its stream_id, its stamps as on the wire and its data, then the one under way as truncated, or as a
 /// PES packet that did not end if it has no PES_packet_length (ISO/IEC 13818-1, 2.4.3.7); on each table's PID exactly its
 /// sections as of their moments; and nothing else on any PID. Left open are PIDs with a ready-made section that is taken for
-/// a PES packet or for stuffing. For one plan and for two in turn, and for whatever a multiplexer stands for.
+/// a PES packet or for stuffing. For one plan and for two in turn; of units and slots in any order, accepted or refused.
 pub fn given_back()
     ensures whole { GivenBackLaw }
     ensures standing { StandingLaw }

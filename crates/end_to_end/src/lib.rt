@@ -3,12 +3,13 @@
 //!
 //! Each function here is a law: it does nothing, and its contract says what holds of the definitions. `mux_core` says what
 //! each slot carries, `demux` what is found in bytes; here the two are joined, over `round_trip`, for every description
-//! in its ranges, every plan, and two plans in turn.
+//! in its ranges and any schedule, so for one plan and for two in turn.
 //!
 //! Definitions stand in `specs/`: `Placed` says which slots carry which unit and which section, `Told` which ready-made
-//! sections are taken for something else, `GivenBack` what is found of all of them, `Clean` what is never found.
+//! sections are taken for something else, `GivenBack` what is found of all of them, `Clean` what is never found; `Jobs`
+//! says the same of a whole job, `CarriedBack` of what `carry` writes.
 //!
-//! - [`laws`]: what is given back, and that nothing is wrong with it.
+//! - [`laws`]: what is given back, that nothing is wrong with it, and the same of whole jobs and of `carry`.
 #![tactic(auto)]
 
 pub mod laws;
