@@ -1,5 +1,5 @@
 -- What the program's values say, without where their bytes lie in memory.
-use Rattle.std.specs.Prelude.{if◌then◌else◌, ◌&&◌, ◌≡◌, ℕ, ◌-◌, List, ◌∷◌, ◌++◌, [], map, take, drop, false, true, Bool, Option, Some, None}
+use Rattle.std.specs.Prelude.{if◌then◌else◌, ◌&&◌, ◌≡◌, ℕ, ◌-◌, List, ◌∷◌, ◌++◌, [], map, take, drop, false, true, Bool, Option, Some, None, option_map}
 use Rattle.std.specs.List.{list_any}
 use Rattle.demux.specs.declared.finding.Part.{Part}
 use Rattle.demux.specs.declared.finding.Part.TheVariants.{Span, Joined}
@@ -12,7 +12,7 @@ use Rattle.demux.specs.declared.verdicts.Verdict.{Verdict}
 use Rattle.demux.specs.declared.verdicts.Verdict.TheVariants as verdicts
 use Rattle.demux.specs.declared.place.Place.{Place}
 use Rattle.ts_packet.specs.declared.packet.Packet.{Packet}
-use Rattle.ts_packet.specs.Views.{packet_view}
+use Rattle.ts_packet.specs.Views.{packet_view, bytes_view}
 use Rattle.ts_packet.specs.PidList.{Entry}
 use Rattle.demux.specs.declared.marks.Mark.{Mark}
 use Rattle.demux.specs.declared.marks.Mark.TheVariants as marked_as
@@ -85,9 +85,17 @@ given place found = record { finding = told place.pid place.packet found; span =
 abbrev pub Finds : {A : Type 0} → Place → List (Finding A) → List (Finding A) → List Found → Type 0
 Finds place old new found = map given_view new ≡ map given_view old ++ map (given place) found
 
--- what these say
+-- what was found is followed by findings that say this
+abbrev pub Tells : {A : Type 0} → List (Finding A) → List (Finding A) → List FindingView → Type 0
+Tells old new views = map finding_view new ≡ map finding_view old ++ views
+
+-- and for each of them this tells whether its bytes are a slice of a packet
+abbrev pub Spans : {A : Type 0} → List (Finding A) → List (Finding A) → List Bool → Type 0
+Spans old new spans = map is_span new ≡ map is_span old ++ spans
+
+-- what the findings at a place say
 abbrev pub Says : {A : Type 0} → Place → List (Finding A) → List (Finding A) → List Found → Type 0
-Says place old new found = map finding_view new ≡ map finding_view old ++ map (told place.pid place.packet) found
+Says place old new found = Tells old new (map (told place.pid place.packet) found)
 
 -- the findings say what they said
 abbrev pub SaysTheSame : {A : Type 0} → List (Finding A) → List (Finding A) → Type 0
@@ -111,6 +119,10 @@ payload_lent otherwise (Some payload) = is_lent payload
 abbrev pub payload_list : PayloadBytes → List ℕ
 payload_list (Lent bytes) = bytes.now
 payload_list (Passing bytes) = bytes.now
+
+-- the payload of a packet as it is handed on: its bytes, lent where the packet is
+abbrev pub IsPayloadOf : Packet → Bool → Option PayloadBytes → Type 0
+IsPayloadOf packet lent payload = (option_map payload_list payload ≡ bytes_view packet.payload) × (payload_lent lent payload ≡ lent)
 
 -- what is decided of bytes
 abbrev pub what_of : List ℕ → Verdict → WhatView

@@ -1,8 +1,8 @@
 //! The demultiplexer: a stream in pieces, or packet by packet.
-ghost use Rattle.std.specs.Prelude.{◌≡◌, ◌<◌, ◌≤◌, ◌+◌, ◌++◌, [], ◌∷◌, min, false, true, IfOk, IfErr, OnOk, OnErr, map, take, length, if◌then◌else◌};
+ghost use Rattle.std.specs.Prelude.{◌≡◌, ◌<◌, ◌≤◌, ◌+◌, ◌++◌, [], false, true, IfOk, IfErr, OnOk, OnErr, map, take, length};
 ghost use Rattle.demux.specs.Stream as stream;
 ghost use Rattle.std.specs.List.{list_any};
-ghost use Rattle.demux.specs.Shown.{SaysTheSame, finding_view, is_span};
+ghost use Rattle.demux.specs.Shown.{SaysTheSame, Spans, Tells, finding_view, is_span};
 
 use crate::error::DemuxError;
 use crate::finding::Finding;
@@ -181,8 +181,8 @@ impl<A: Allocator + Copy> Demux<A> {
     ) -> Result<(), DemuxError>
         requires { stream.is_aligned self.old ≡ true }
         ensures ok { OnOk result (self.new ≡ stream.taken self.old bytes.now) }
-        ensures found { OnOk result (map finding_view found.new.items ≡ map finding_view found.old.items ++ stream.found_in self.old bytes.now) }
-        ensures spans { OnOk result (map is_span found.new.items ≡ map is_span found.old.items ++ stream.within_in self.old bytes.now) }
+        ensures found { OnOk result (Tells found.old.items found.new.items (stream.found_in self.old bytes.now)) }
+        ensures spans { OnOk result (Spans found.old.items found.new.items (stream.within_in self.old bytes.now)) }
         ensures open { OnOk result (self.old.ended ≡ false) }
         ensures aligned { stream.is_aligned self.new ≡ true }
         ensures refused { IfErr result (λ error. stream.TakeRefused self.old self.new error) }

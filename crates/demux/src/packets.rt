@@ -1,9 +1,9 @@
 //! A whole packet of a stream.
-ghost use Rattle.std.specs.Prelude.{◌≡◌, ◌&&◌, ◌++◌, [], ◌∷◌, true, false, Some, None, OnOk, OnErr, option_map, map};
+ghost use Rattle.std.specs.Prelude.{◌≡◌, ◌&&◌, [], ◌∷◌, true, false, Some, None, OnOk, OnErr, option_map, map};
 ghost use Rattle.ts_packet.specs.Reading.{packet_at};
 ghost use Rattle.ts_packet.specs.Views.{packet_view, bytes_view};
 ghost use Rattle.demux.specs.Stream.{findings_by, held_found, states_by, untold, within_by};
-ghost use Rattle.demux.specs.Shown.{KeepsJoined, SaysTheSame, finding_view, has_span, is_span, payload_lent, payload_list, what_view};
+ghost use Rattle.demux.specs.Shown.{IsPayloadOf, KeepsJoined, SaysTheSame, Spans, Tells, finding_view, has_span, payload_lent, payload_list, what_view};
 
 use crate::finding::{Finding, Part, What};
 use crate::payload_bytes::PayloadBytes;
@@ -18,8 +18,8 @@ pub(crate) fn note_untold<'a, A: Allocator>(
     what: What<'a, A>,
     found: &mut Vec<Finding<'a, A>, A>,
 ) -> Result<(), AllocError>
-    ensures ok { OnOk result (map finding_view found.new.items ≡ map finding_view found.old.items ++ untold packet (what_view what.entry) ∷ []) }
-    ensures spans { OnOk result (map is_span found.new.items ≡ map is_span found.old.items ++ has_span what.entry ∷ []) }
+    ensures ok { OnOk result (Tells found.old.items found.new.items (untold packet (what_view what.entry) ∷ [])) }
+    ensures spans { OnOk result (Spans found.old.items found.new.items (has_span what.entry ∷ [])) }
     ensures err { OnErr result (SaysTheSame found.old.items found.new.items) }
 {
     found.push(Finding {
@@ -39,7 +39,7 @@ pub(crate) fn note_held<'a, A: Allocator + Copy>(
     held: &[u8],
     found: &mut Vec<Finding<'a, A>, A>,
 ) -> Result<(), AllocError>
-    ensures found { OnOk result (map finding_view found.new.items ≡ map finding_view found.old.items ++ held_found packet held.now) }
+    ensures found { OnOk result (Tells found.old.items found.new.items (held_found packet held.now)) }
     ensures joined { OnOk result (KeepsJoined found.old.items found.new.items) }
 {
     if held.is_empty() {
@@ -61,12 +61,10 @@ fn take_read<'p, 'a: 'p, A: Allocator + Copy>(
     payload: Option<PayloadBytes<'p, 'a>>,
     found: &mut Vec<Finding<'a, A>, A>,
 ) -> Result<(), AllocError>
-    requires payload { option_map payload_list payload ≡ bytes_view packet.now.payload }
-    requires lent { payload_lent lent payload ≡ lent }
+    requires payload { IsPayloadOf packet.now lent payload }
     ensures states { OnOk result (states.new.entries ≡ states_by index bytes.now states.old.entries (Ok (packet_view packet.now))) }
-    ensures found { OnOk result (map finding_view found.new.items ≡ map finding_view found.old.items ++ findings_by index bytes.now states.old.entries (Ok (packet_view packet.now))) }
-    ensures spans { OnOk result (map is_span found.new.items ≡ map is_span found.old.items
-        ++ map (λ within. within && lent) (within_by index bytes.now states.old.entries (Ok (packet_view packet.now)))) }
+    ensures found { OnOk result (Tells found.old.items found.new.items (findings_by index bytes.now states.old.entries (Ok (packet_view packet.now)))) }
+    ensures spans { OnOk result (Spans found.old.items found.new.items (map (λ within. within && lent) (within_by index bytes.now states.old.entries (Ok (packet_view packet.now))))) }
     ensures err { OnErr result (states.new.entries ≡ states.old.entries) }
     ensures none { OnErr result (SaysTheSame found.old.items found.new.items) }
 {
@@ -123,8 +121,8 @@ pub(crate) fn take_lent<'a, A: Allocator + Copy>(
     found: &mut Vec<Finding<'a, A>, A>,
 ) -> Result<(), AllocError>
     ensures states { OnOk result (states.new.entries ≡ states_by index bytes.now states.old.entries (packet_at bytes.now)) }
-    ensures found { OnOk result (map finding_view found.new.items ≡ map finding_view found.old.items ++ findings_by index bytes.now states.old.entries (packet_at bytes.now)) }
-    ensures spans { OnOk result (map is_span found.new.items ≡ map is_span found.old.items ++ within_by index bytes.now states.old.entries (packet_at bytes.now)) }
+    ensures found { OnOk result (Tells found.old.items found.new.items (findings_by index bytes.now states.old.entries (packet_at bytes.now))) }
+    ensures spans { OnOk result (Spans found.old.items found.new.items (within_by index bytes.now states.old.entries (packet_at bytes.now))) }
     ensures err { OnErr result (states.new.entries ≡ states.old.entries) }
     ensures none { OnErr result (SaysTheSame found.old.items found.new.items) }
 {
@@ -150,7 +148,7 @@ pub(crate) fn take_passing<A: Allocator + Copy>(
     found: &mut Vec<Finding<'static, A>, A>,
 ) -> Result<(), AllocError>
     ensures states { OnOk result (states.new.entries ≡ states_by index bytes.now states.old.entries (packet_at bytes.now)) }
-    ensures found { OnOk result (map finding_view found.new.items ≡ map finding_view found.old.items ++ findings_by index bytes.now states.old.entries (packet_at bytes.now)) }
+    ensures found { OnOk result (Tells found.old.items found.new.items (findings_by index bytes.now states.old.entries (packet_at bytes.now))) }
     ensures joined { KeepsJoined found.old.items found.new.items }
     ensures err { OnErr result (states.new.entries ≡ states.old.entries) }
     ensures none { OnErr result (map finding_view found.new.items ≡ map finding_view found.old.items) }

@@ -1,10 +1,9 @@
 //! The state of a PID, packet by packet.
-ghost use Rattle.std.specs.Prelude.{◌≡◌, ◌++◌, ◌∷◌, [], None, Some, IfOk, OnOk, OnErr, option_map, true, false};
-ghost use Rattle.ts_packet.specs.Views.{packet_view, bytes_view};
+ghost use Rattle.std.specs.Prelude.{◌≡◌, None, Some, IfOk, OnOk, OnErr, true, false};
 ghost use Rattle.demux.specs.Roles as roles;
 ghost use Rattle.demux.specs.Findings as findings;
 ghost use Rattle.demux.specs.Machine as machine;
-ghost use Rattle.demux.specs.Shown.{Finds, KeepsJoined, Says, SaysTheSame, carried_lent, carried_role, entry_with, kept_by, mark_broken, mark_duplicate, marked_findings, marked_role, payload_lent, payload_list};
+ghost use Rattle.demux.specs.Shown.{Finds, KeepsJoined, Says, SaysTheSame, carried_lent, carried_role, entry_with, kept_by, mark_broken, marked_findings, marked_role, IsPayloadOf};
 
 use crate::beginnings::begin_pes;
 use crate::endings::{cut_short, end, end_before, go_on};
@@ -198,8 +197,7 @@ impl<A: Allocator + Clone> PidState<A> {
         payload: Option<PayloadBytes<'p, 'a>>,
         found: &mut Vec<Finding<'a, A>, A>,
     ) -> Result<(), AllocError>
-        requires payload { option_map payload_list payload ≡ bytes_view packet.now.payload }
-        requires lent { payload_lent place.lent payload ≡ place.lent }
+        requires payload { IsPayloadOf packet.now place.lent payload }
         ensures state { OnOk result (self.new ≡ machine.step self.old (entry_with place.packet bytes.now packet.now)) }
         ensures found { OnOk result (Finds place found.old.items found.new.items (machine.found_by self.old (entry_with place.packet bytes.now packet.now))) }
         ensures err { OnErr result (self.new ≡ self.old) }

@@ -1,10 +1,9 @@
 //! The states of the PIDs of a stream, in the order in which these were first seen.
-ghost use Rattle.std.specs.Prelude.{◌≡◌, ◌<◌, ◌≤◌, ◌++◌, ℕ, Some, None, OnOk, OnErr, option_map, map, true, slice_get, nat_eq, take};
+ghost use Rattle.std.specs.Prelude.{◌≡◌, ◌<◌, ◌++◌, ℕ, Some, None, OnOk, OnErr, map, true, slice_get, nat_eq};
 ghost use Rattle.indexmap.specs.IndexMap.{index_map_len, get, values, set_value_at};
-ghost use Rattle.ts_packet.specs.Views.{bytes_view};
 ghost use Rattle.demux.specs.Machine as machine;
 ghost use Rattle.demux.specs.Stream.{ended_found, state_of, with_state};
-ghost use Rattle.demux.specs.Shown.{Finds, SaysTheSame, entry_with, finding_view, KeepsJoined, payload_lent, payload_list, told};
+ghost use Rattle.demux.specs.Shown.{Finds, SaysTheSame, entry_with, finding_view, KeepsJoined, IsPayloadOf, Tells, told};
 ghost use Rattle.demux.specs.Findings as findings;
 
 use crate::finding::Finding;
@@ -29,8 +28,7 @@ fn step_at<'p, 'a: 'p, A: Allocator + Copy>(
     found: &mut Vec<Finding<'a, A>, A>,
 ) -> Result<(), AllocError>
     requires there { index < index_map_len states.old }
-    requires payload { option_map payload_list payload ≡ bytes_view packet.now.payload }
-    requires lent { payload_lent place.lent payload ≡ place.lent }
+    requires payload { IsPayloadOf packet.now place.lent payload }
     ensures states { (state : machine.PidState) → slice_get (values states.old) index ≡ Some state →
         OnOk result (states.new.entries ≡ set_value_at states.old.entries index (machine.step state (entry_with place.packet bytes.now packet.now))) }
     ensures found { (state : machine.PidState) → slice_get (values states.old) index ≡ Some state →
@@ -55,8 +53,7 @@ fn step_first<'p, 'a: 'p, A: Allocator + Copy>(
     found: &mut Vec<Finding<'a, A>, A>,
 ) -> Result<(), AllocError>
     requires new { get nat_eq states.old place.pid ≡ None }
-    requires payload { option_map payload_list payload ≡ bytes_view packet.now.payload }
-    requires lent { payload_lent place.lent payload ≡ place.lent }
+    requires payload { IsPayloadOf packet.now place.lent payload }
     ensures states { OnOk result (states.new.entries ≡ with_state place.pid (machine.step machine.fresh (entry_with place.packet bytes.now packet.now)) states.old.entries) }
     ensures found { OnOk result (Finds place found.old.items found.new.items (machine.found_by machine.fresh (entry_with place.packet bytes.now packet.now))) }
     ensures err { OnErr result (states.new.entries ≡ states.old.entries) }
@@ -80,8 +77,7 @@ pub(crate) fn step_pid<'p, 'a: 'p, A: Allocator + Copy>(
     payload: Option<PayloadBytes<'p, 'a>>,
     found: &mut Vec<Finding<'a, A>, A>,
 ) -> Result<(), AllocError>
-    requires payload { option_map payload_list payload ≡ bytes_view packet.now.payload }
-    requires lent { payload_lent place.lent payload ≡ place.lent }
+    requires payload { IsPayloadOf packet.now place.lent payload }
     ensures states { let state = state_of place.pid states.old.entries in
         OnOk result (states.new.entries ≡ with_state place.pid (machine.step state (entry_with place.packet bytes.now packet.now)) states.old.entries) }
     ensures found { let state = state_of place.pid states.old.entries in
@@ -128,7 +124,7 @@ pub(crate) fn end_all<'a, A: Allocator + Copy>(
     packet: u64,
     found: &mut Vec<Finding<'a, A>, A>,
 ) -> Result<(), AllocError>
-    ensures found { OnOk result (map finding_view found.new.items ≡ map finding_view found.old.items ++ ended_found packet states.now.entries) }
+    ensures found { OnOk result (Tells found.old.items found.new.items (ended_found packet states.now.entries)) }
     ensures joined { OnOk result (KeepsJoined found.old.items found.new.items) }
 {
     for i in 0..states.len() {
