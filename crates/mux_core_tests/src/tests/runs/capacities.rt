@@ -2,15 +2,24 @@
 
 use super::base;
 use mux_core::{Mux, NewError};
+use plan_checker::CheckedPlan;
 use std::alloc::Global;
 use std::test::Fail;
+
+// The refusal, where the plan is the one that was given.
+fn given_back(error: NewError, plan: CheckedPlan) -> Result<Option<NewError>, Fail> {
+    if plan.plan().slots().len() == 120 {
+        Ok(Some(error))
+    } else {
+        Err(Fail::from("another plan came back"))
+    }
+}
 
 // Why no multiplexer is made; the plan comes back.
 fn refusal(alloc: Global, capacity: usize) -> Result<Option<NewError>, Fail> {
     match Mux::new(alloc, base(alloc, "rate", "rate")?, capacity) {
         Ok(_) => Ok(None),
-        Err((error, plan)) if plan.plan().slots().len() == 120 => Ok(Some(error)),
-        Err(_) => Err(Fail::from("another plan came back")),
+        Err((error, plan)) => given_back(error, plan),
     }
 }
 

@@ -65,9 +65,13 @@ fn next_units(rt: HostRuntime) -> Result<(), Fail> {
 // Why the second unit is refused when so many slots are written, the first being fed before slot 0.
 fn second(alloc: Global, capacity: usize, slots: u64) -> Result<Option<FeedError>, Fail> {
     let mut mux = mux(alloc, "rate", "rate", capacity)?;
-    let _ = fed(&mut mux, alloc, 1_600, 1_600, 576)?;
-    skip(&mut mux, slots)?;
-    fed(&mut mux, alloc, 3_760, 3_760, 576)
+    fed_later(&mut mux, alloc, slots)
+}
+
+fn fed_later(mux: &mut Mux, alloc: Global, slots: u64) -> Result<Option<FeedError>, Fail> {
+    let _ = fed(mux, alloc, 1_600, 1_600, 576)?;
+    skip(mux, slots)?;
+    fed(mux, alloc, 3_760, 3_760, 576)
 }
 
 #[test]
@@ -100,11 +104,20 @@ fn push_packets(mux: &mut Mux, slots: u64, bytes: &mut Vec<u8>) -> Result<(), Fa
 fn packets(alloc: Global, slots: u64) -> Result<Vec<u8>, Fail> {
     let mut mux = mux(alloc, "rate", "rate", 2)?;
     let mut bytes = Vec::new(alloc);
-    let _ = fed(&mut mux, alloc, 1_600, 1_600, 576)?;
-    push_packets(&mut mux, slots, &mut bytes)?;
-    let _ = fed(&mut mux, alloc, 3_760, 3_760, 576)?;
-    push_packets(&mut mux, 42u64.saturating_sub(slots), &mut bytes)?;
+    push_two_units(&mut mux, alloc, slots, &mut bytes)?;
     Ok(bytes)
+}
+
+fn push_two_units(
+    mux: &mut Mux,
+    alloc: Global,
+    slots: u64,
+    bytes: &mut Vec<u8>,
+) -> Result<(), Fail> {
+    let _ = fed(mux, alloc, 1_600, 1_600, 576)?;
+    push_packets(mux, slots, bytes)?;
+    let _ = fed(mux, alloc, 3_760, 3_760, 576)?;
+    push_packets(mux, 42u64.saturating_sub(slots), bytes)
 }
 
 #[test]

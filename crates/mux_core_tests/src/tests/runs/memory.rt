@@ -2,9 +2,9 @@
 
 use super::checked;
 use crate::tests::services::BASE_PLAN;
-use linked_list_allocator::LocalHeap;
 use mux_core::{Mux, NewError};
-use plan_checker::{CheckedSwitch, check_switch};
+use linked_list_allocator::LocalHeap;
+use plan_checker::{CheckedPlan, CheckedSwitch, check_switch};
 use slot_plan::Plan;
 use std::alloc::{Allocator, Global};
 use std::test::Fail;
@@ -12,22 +12,35 @@ use std::test::Fail;
 // A stream with a group of 64 units.
 const GROUP: &str = "lead = 1600\ngroup = 64\ngroup_packets = 256";
 
-// Whether a multiplexer is made that may take so many bytes beside its plan; where it is not, the plan comes back.
-fn is_made(global: Global, size: usize) -> Result<bool, Fail> {
+// That memory is wanting; the plan is the one that was given.
+fn no_memory<A: Allocator>(error: NewError, plan: CheckedPlan<A>) -> Result<bool, Fail> {
+    if error == NewError::Memory && plan.plan().slots().len() == 120 {
+        Ok(false)
+    } else {
+        Err(Fail::from("another refusal"))
+    }
+}
+
+// Whether a multiplexer is made; where it is not, the plan comes back.
+fn is_made<A: Allocator + Clone>(alloc: A, plan: CheckedPlan<A>) -> Result<bool, Fail> {
+    match Mux::new(alloc, plan, 64) {
+        Ok(_) => Ok(true),
+        Err((error, plan)) => no_memory(error, plan),
+    }
+}
+
+// The same, where it may take so many bytes beside its plan.
+fn is_made_in(global: Global, size: usize) -> Result<bool, Fail> {
     let given = LocalHeap::new(global, 16_384)?;
     let heap = LocalHeap::new(global, size)?;
-    match Mux::new(&heap, checked(global, &given, "lead = 1600", GROUP)?, 64) {
-        Ok(_) => Ok(true),
-        Err((NewError::Memory, plan)) if plan.plan().slots().len() == 120 => Ok(false),
-        Err(_) => Err(Fail::from("another refusal")),
-    }
+    is_made(&heap, checked(global, &given, "lead = 1600", GROUP)?)
 }
 
 #[test]
 fn memory_for_one_plan(rt: HostRuntime) -> Result<(), Fail> {
     let mut made = 0u32;
     for n in 0..320usize {
-        if is_made(rt.alloc(), n * 256)? {
+        if is_made_in(rt.alloc(), n * 256)? {
             made = made.saturating_add(1);
         }
     }
@@ -45,7 +58,10 @@ fn twice<A: Allocator + Copy>(global: Global, alloc: A) -> Result<CheckedSwitch<
 }
 
 // That memory is wanting; the switch is the one that was given.
-fn no_memory<A: Allocator>(error: NewError, switch: CheckedSwitch<A>) -> Result<bool, Fail> {
+fn no_memory_for_two<A: Allocator>(
+    error: NewError,
+    switch: CheckedSwitch<A>,
+) -> Result<bool, Fail> {
     if error == NewError::Memory && switch.second().slots().len() == 120 {
         Ok(false)
     } else {
@@ -53,21 +69,26 @@ fn no_memory<A: Allocator>(error: NewError, switch: CheckedSwitch<A>) -> Result<
     }
 }
 
-// The same over two plans.
-fn is_switched(global: Global, size: usize) -> Result<bool, Fail> {
+// Whether a multiplexer over two plans is made; where it is not, the switch comes back.
+fn is_switched<A: Allocator + Clone>(alloc: A, switch: CheckedSwitch<A>) -> Result<bool, Fail> {
+    match Mux::with_switch(alloc, switch, 1, 64) {
+        Ok(_) => Ok(true),
+        Err((error, switch)) => no_memory_for_two(error, switch),
+    }
+}
+
+// The same, where it may take so many bytes beside its plans.
+fn is_switched_in(global: Global, size: usize) -> Result<bool, Fail> {
     let given = LocalHeap::new(global, 16_384)?;
     let heap = LocalHeap::new(global, size)?;
-    match Mux::with_switch(&heap, twice(global, &given)?, 1, 64) {
-        Ok(_) => Ok(true),
-        Err((error, switch)) => no_memory(error, switch),
-    }
+    is_switched(&heap, twice(global, &given)?)
 }
 
 #[test]
 fn memory_for_two_plans(rt: HostRuntime) -> Result<(), Fail> {
     let mut made = 0u32;
     for n in 0..320usize {
-        if is_switched(rt.alloc(), n * 256)? {
+        if is_switched_in(rt.alloc(), n * 256)? {
             made = made.saturating_add(1);
         }
     }

@@ -57,10 +57,13 @@ fn lines_of_two_plans(rt: HostRuntime) -> Result<(), Fail> {
 
 // Why a job of one unit of stream 1 is refused; nothing is written.
 fn refused(alloc: Global, periods: u64, slots: u64) -> Result<MuxError, Fail> {
-    let mut to = Counted::new(Vec::new(alloc));
     let units = units(alloc, 1, 1_688, 576)?;
-    match multiplex_switch(alloc, switch(alloc)?, periods, units, slots, &mut to) {
-        Err(error) if to.into_inner().len() == 0 => Ok(error),
+    let switch = switch(alloc)?;
+    let mut to = Counted::new(Vec::new(alloc));
+    let answer = multiplex_switch(alloc, switch, periods, units, slots, &mut to);
+    let output = to.into_inner();
+    match answer {
+        Err(error) if output.len() == 0 => Ok(error),
         _ => Err(Fail::from("something is written")),
     }
 }
