@@ -1,0 +1,10 @@
+pub mod Gaps
+pub mod Recurrences
+pub mod Tables
+pub mod ProgramMaps
+pub mod Counting
+pub mod Packets
+pub mod Noting
+pub mod Watching
+pub mod Reports
+pub mod Laws
