@@ -1,2 +1,4 @@
 pub mod Cutting
 pub mod Recurring
+pub mod Sorting
+pub mod Ordered

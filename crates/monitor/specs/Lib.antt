@@ -7,4 +7,5 @@ pub mod Packets
 pub mod Noting
 pub mod Watching
 pub mod Reports
+pub mod InOrder
 pub mod Laws

@@ -2,7 +2,7 @@
 ghost use Rattle.std.specs.Prelude.{◌≡◌, ◌++◌, ◌∷◌, [], OnOk, is_some, Some, None};
 ghost use Rattle.ts_packet.specs.Reading.{packet_at};
 ghost use Rattle.ts_packet.specs.Views.{packet_view};
-ghost use Rattle.demux.specs.Marks.{has_pcr};
+ghost use Rattle.ts_packet.specs.PcrBytes.{has_pcr};
 ghost use Rattle.monitor.specs.Packets.{no_packets, packet_counted_by, packet_watched, refusal_rule};
 
 use crate::counts::{CarriedByPid, count_packet};
