@@ -1,4 +1,6 @@
-pub mod Cutting
 pub mod Recurring
 pub mod Sorting
 pub mod Ordered
+pub mod Tied
+pub mod Ranking
+pub mod Rising

@@ -6,6 +6,7 @@ pub mod Counting
 pub mod Packets
 pub mod Noting
 pub mod Watching
+pub mod InOrder
 pub mod Reports
 pub mod InOrder
 pub mod Laws

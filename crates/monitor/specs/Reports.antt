@@ -10,6 +10,7 @@ use Rattle.monitor.specs.declared.counts.Carried.{Carried}
 use Rattle.monitor.specs.declared.counts.Noted.{Noted}
 use Rattle.monitor.specs.declared.reports.PidCounts.{PidCounts}
 use Rattle.monitor.specs.Gaps.{is_long}
+use Rattle.monitor.specs.InOrder.{in_order}
 use Rattle.monitor.specs.Counting.{noted_of}
 use Rattle.monitor.specs.Noting.{FindingMarks}
 use Rattle.monitor.specs.Packets.{PacketMarks}
@@ -53,10 +54,14 @@ pid_counts noted entry = let n = noted_of entry.0 noted in record {
 unfoldable pub all_counts : StreamMarks → List PidCounts
 all_counts s = map (pid_counts s.found.noted) s.seen.carried
 
+-- the report of what is known of a stream
+unfoldable pub report_of : StreamMarks → ReportView
+report_of s = record { packets = s.packets; pids = all_counts s; faults = in_order (all_faults s) }
+
 -- a stream ends within a packet
 abbrev pub is_cut : List ℕ → Bool
 is_cut bytes = not (length bytes % 188 == 0)
 
--- what is known of a whole stream behind its end
+-- what is known of a whole stream after its end
 unfoldable pub watched : ℕ → ℕ → List ℕ → StreamMarks
 watched rate pcr_limit bytes = stream_ended (packets_taken (none_taken rate pcr_limit) (cut_packets bytes)) (is_cut bytes)

@@ -26,5 +26,5 @@ mod laws;
 
 pub use fault::{Fault, Rule};
 pub use laws::gaps_of_each_pid;
-pub use monitor::Monitor;
+pub use monitor::{Monitor, report};
 pub use reports::{PidCounts, Report, ReportError};

@@ -1,17 +1,15 @@
 //! A stream packet by packet.
-ghost use Rattle.std.specs.Prelude.{◌≡◌, ◌++◌, true, IfOk, OnOk, map};
+ghost use Rattle.std.specs.Prelude.{◌≡◌, true, IfOk, OnOk, map};
 ghost use Rattle.demux.specs.Stream.{is_aligned};
-ghost use Rattle.monitor.specs.Noting.{all_noted};
-ghost use Rattle.monitor.specs.Watching.{demux_ended, none_taken, packet_taken, pat_marked, seen_to_end};
-ghost use Rattle.std.specs.List.{Contains};
-ghost use Rattle.monitor.specs.declared.fault.Fault.{Fault};
-ghost use Rattle.monitor.specs.Reports.{grouped_faults, pid_counts};
+ghost use Rattle.monitor.specs.Watching.{demux_ended, found_to_end, none_taken, packet_taken, packets_taken, stream_ended};
+ghost use Rattle.monitor.specs.InOrder.{in_order};
+ghost use Rattle.monitor.specs.Reports.{grouped_faults, pid_counts, report_of, watched};
 
 use crate::counts::{CarriedByPid, NotedByPid, noted_so_far};
 use crate::fault::{Fault, Rule};
 use crate::finding_watch::FindingWatch;
 use crate::packet_watch::PacketWatch;
-use crate::reports::{PidCounts, append_late, in_order};
+use crate::reports::{PidCounts, Report, ReportError, append_late, in_order};
 use clock27::Rate;
 use demux::Demux;
 use std::alloc::{AllocError, Allocator, Global};
@@ -58,55 +56,29 @@ fn faults_of<A: Allocator + Copy>(
     Ok(faults)
 }
 
-// All faults in order, each once.
+// All faults in order.
 fn ordered_faults<A: Allocator + Copy>(
     alloc: A,
     packets: u64,
     seen: &PacketWatch<A>,
     found: &FindingWatch<A>,
 ) -> Result<Vec<Fault, A>, AllocError>
-    ensures only { IfOk result (λ faults. (f : Fault) → Contains faults.items f → Contains (grouped_faults packets seen.now found.now) f) }
+    ensures { IfOk result (λ faults. faults.items ≡ in_order (grouped_faults packets seen.now found.now)) }
 {
     let faults = faults_of(alloc, packets, seen, found)?;
     Ok(in_order(faults))
 }
 
-// The demultiplexer after the end of the stream.
+// The stream ends for its demultiplexer.
 #[tactic(auto, unfolding(crate::specs::Watching::demux_ended))]
-fn ended<A: Allocator + Copy>(mut demux: Demux<A>) -> Result<Demux<A>, AllocError>
-    ensures { IfOk result (λ ended. ended ≡ demux_ended demux) }
+fn end_demux<A: Allocator + Copy>(demux: &mut Demux<A>) -> Result<(), AllocError>
+    requires { is_aligned demux.old ≡ true }
+    ensures ended { OnOk result (demux.new ≡ demux_ended demux.old) }
+    ensures aligned { is_aligned demux.new ≡ true }
 {
     match demux.finish() {
-        Ok(()) => Ok(demux),
+        Ok(()) => Ok(()),
         Err(_) => Err(AllocError),
-    }
-}
-
-// What the end of the stream decides is noted, and the last gap of the program association table.
-fn note_end<A: Allocator + Copy>(
-    demux: &Demux<A>,
-    packets: u64,
-    found: &mut FindingWatch<A>,
-) -> Result<(), AllocError>
-    ensures { OnOk result (found.new ≡ pat_marked (all_noted found.old demux.now.found) packets) }
-{
-    found.note_all(demux.findings())?;
-    found.end_pat(packets)
-}
-
-// The stream ends, or is cut within a packet.
-#[tactic(auto, unfolding(crate::specs::Watching::seen_to_end))]
-fn note_cut<A: Allocator + Copy>(
-    packets: u64,
-    seen: &mut PacketWatch<A>,
-    cut: bool,
-) -> Result<(), AllocError>
-    ensures { OnOk result (seen.new ≡ seen_to_end seen.old packets cut) }
-{
-    if cut {
-        seen.fail(packets, Rule::Cut)
-    } else {
-        Ok(())
     }
 }
 
@@ -133,7 +105,7 @@ fn counts_of<A: Allocator + Copy>(
 }
 
 impl<A: Allocator + Copy> Monitor<A> {
-    /// Before the first packet. The greatest gap of program clock references is in milliseconds.
+    /// Before the first packet, at a rate in bits a second. The greatest gap of program clock references is in milliseconds.
     pub fn new(alloc: A, rate: Rate, pcr_limit: u32) -> Result<Monitor<A>, AllocError>
         ensures { IfOk result (λ watch. watch ≡ none_taken rate pcr_limit) }
     {
@@ -160,5 +132,89 @@ impl<A: Allocator + Copy> Monitor<A> {
         self.seen.take(self.packets, bytes)?;
         self.packets = self.packets.saturating_add(1);
         Ok(())
+    }
+
+    // The next packets.
+    #[tactic(auto, unfolding(crate::specs::Watching::packets_taken))]
+    fn take_all(&mut self, packets: &[[u8; 188]]) -> Result<(), AllocError>
+        ensures { OnOk result (self.new ≡ packets_taken self.old packets.now) }
+    {
+        for packet in packets {
+            self.take(packet)?;
+        }
+        Ok(())
+    }
+
+    // What the end of the stream decides, and the last gap of the program association table.
+    #[tactic(auto, unfolding(crate::specs::Watching::found_to_end))]
+    fn end_findings(&mut self) -> Result<(), AllocError>
+        ensures { OnOk result (self.new ≡ record self.old { demux = demux_ended self.old.demux; found = found_to_end self.old.found self.old.packets self.old.demux }) }
+    {
+        end_demux(&mut self.demux)?;
+        self.found.note_all(self.demux.findings())?;
+        self.found.end_pat(self.packets)
+    }
+
+    // The stream ends after a whole packet, or within one (`cut`).
+    #[tactic(auto, unfolding(crate::specs::Watching::stream_ended, crate::specs::Watching::seen_to_end))]
+    fn end(&mut self, cut: bool) -> Result<(), AllocError>
+        ensures { OnOk result (self.new ≡ stream_ended self.old cut) }
+    {
+        self.end_findings()?;
+        if cut {
+            self.seen.fail(self.packets, Rule::Cut)?;
+        }
+        Ok(())
+    }
+
+    // What there is to say of the stream so far.
+    #[tactic(auto, unfolding(crate::specs::Reports::report_of, crate::specs::Reports::all_counts, crate::specs::Reports::all_faults))]
+    fn report(&self) -> Result<Report<A>, AllocError>
+        ensures { IfOk result (λ report. report ≡ report_of self.now) }
+    {
+        let pids = counts_of(self.alloc, &self.seen.carried, &self.found.noted)?;
+        let faults = ordered_faults(self.alloc, self.packets, &self.seen, &self.found)?;
+        Ok(Report::new(self.packets, pids, faults))
+    }
+
+    /// The report of the stream, which ends here: after a whole packet, or within one (`cut`).
+    pub fn finish(mut self, cut: bool) -> Result<Report<A>, AllocError>
+        ensures { IfOk result (λ report. report ≡ report_of (stream_ended self cut)) }
+    {
+        self.end(cut)?;
+        self.report()
+    }
+}
+
+// The report of a whole stream.
+#[tactic(auto, unfolding(crate::specs::Reports::watched))]
+fn watch<A: Allocator + Copy>(
+    alloc: A,
+    rate: Rate,
+    pcr_limit: u32,
+    bytes: &[u8],
+) -> Result<Report<A>, AllocError>
+    ensures { IfOk result (λ report. report ≡ report_of (watched rate pcr_limit bytes.now)) }
+{
+    let mut monitor = Monitor::new(alloc, rate, pcr_limit)?;
+    let (packets, _) = bytes.as_chunks::<188>();
+    monitor.take_all(packets)?;
+    monitor.finish(bytes.len() % 188 != 0)
+}
+
+/// The report of a whole stream, which is cut by 188 from its first byte.
+///
+/// `rate` is in bits a second; `pcr_limit`, the greatest gap between program clock references, in milliseconds.
+pub fn report<A: Allocator + Copy>(
+    alloc: A,
+    rate: Rate,
+    pcr_limit: u32,
+    bytes: &[u8],
+) -> Result<Report<A>, ReportError>
+    ensures { IfOk result (λ report. report ≡ report_of (watched rate pcr_limit bytes.now)) }
+{
+    match watch(alloc, rate, pcr_limit, bytes) {
+        Ok(report) => Ok(report),
+        Err(_) => Err(ReportError::Memory),
     }
 }

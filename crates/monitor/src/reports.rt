@@ -1,7 +1,9 @@
 //! What a monitor has to say of a stream.
-ghost use Rattle.std.specs.Prelude.{◌≡◌, ◌++◌, ◌∷◌, [], OnOk, IfOk, Some, map, true};
+ghost use Rattle.std.specs.Prelude.{◌≡◌, ◌++◌, ◌∷◌, [], OnOk, IfOk, Some, map};
 ghost use Rattle.std.specs.List.{Any, Contains};
 ghost use Rattle.std.specs.List.Sorted.{IsStrictlySortedBy};
+ghost use Rattle.std.specs.declared.cmp.Ordering.TheVariants.{Equal};
+ghost use Rattle.monitor.specs.InOrder.{in_order};
 ghost use Rattle.monitor.specs.Reports.{late_fault};
 
 use crate::fault::{Fault, Rule};
@@ -84,15 +86,22 @@ impl<A: Allocator> Report<A> {
     }
 }
 
-/// The same values in order, each once.
-pub(crate) fn in_order<T: Ord + Drop, A: Allocator>(mut values: Vec<T, A>) -> Vec<T, A>
+// The same values in order, each once.
+fn each_once<T: Ord + Drop, A: Allocator>(mut values: Vec<T, A>) -> Vec<T, A>
     ensures order { IsStrictlySortedBy T.cmp result.items }
-    ensures kept { (x : T) → Contains values.items x → Any (λ y. T.eq x y ≡ true) result.items }
+    ensures kept { (x : T) → Contains values.items x → Any (λ y. T.cmp x y ≡ Equal) result.items }
     ensures only { (x : T) → Contains result.items x → Contains values.items x }
 {
     values.sort_unstable();
     values.dedup();
     values
+}
+
+/// The faults by packet, then by the number of the rule, then by PID, each once.
+pub(crate) fn in_order<A: Allocator>(faults: Vec<Fault, A>) -> Vec<Fault, A>
+    ensures { result.items ≡ in_order faults.items }
+{
+    each_once(faults)
 }
 
 /// Appends the faults of packets at which something came too late.
