@@ -62,6 +62,10 @@ report_of s = record { packets = s.packets; pids = all_counts s; faults = in_ord
 abbrev pub is_cut : List ℕ → Bool
 is_cut bytes = not (length bytes % 188 == 0)
 
+-- what is known after these bytes, with which the stream ends
+unfoldable pub ended_after : StreamMarks → List ℕ → StreamMarks
+ended_after s bytes = stream_ended (packets_taken s (cut_packets bytes)) (is_cut bytes)
+
 -- what is known of a whole stream after its end
 unfoldable pub watched : ℕ → ℕ → List ℕ → StreamMarks
-watched rate pcr_limit bytes = stream_ended (packets_taken (none_taken rate pcr_limit) (cut_packets bytes)) (is_cut bytes)
+watched rate pcr_limit bytes = ended_after (none_taken rate pcr_limit) bytes

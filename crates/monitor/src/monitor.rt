@@ -3,7 +3,7 @@ ghost use Rattle.std.specs.Prelude.{◌≡◌, true, IfOk, OnOk, map};
 ghost use Rattle.demux.specs.Stream.{is_aligned};
 ghost use Rattle.monitor.specs.Watching.{demux_ended, found_to_end, none_taken, packet_taken, packets_taken, stream_ended};
 ghost use Rattle.monitor.specs.InOrder.{in_order};
-ghost use Rattle.monitor.specs.Reports.{grouped_faults, pid_counts, report_of, watched};
+ghost use Rattle.monitor.specs.Reports.{ended_after, grouped_faults, pid_counts, report_of, watched};
 
 use crate::counts::{CarriedByPid, NotedByPid, noted_so_far};
 use crate::fault::{Fault, Rule};
@@ -177,12 +177,29 @@ impl<A: Allocator + Copy> Monitor<A> {
         Ok(Report::new(self.packets, pids, faults))
     }
 
+    // The report of the stream, which ends here.
+    fn end_report(&mut self, cut: bool) -> Result<Report<A>, AllocError>
+        ensures { IfOk result (λ report. report ≡ report_of (stream_ended self.old cut)) }
+    {
+        self.end(cut)?;
+        self.report()
+    }
+
+    // The report of the stream, which ends after these bytes.
+    #[tactic(auto, unfolding(crate::specs::Reports::ended_after))]
+    fn report_rest(&mut self, bytes: &[u8]) -> Result<Report<A>, AllocError>
+        ensures { IfOk result (λ report. report ≡ report_of (ended_after self.old bytes.now)) }
+    {
+        let (packets, _) = bytes.as_chunks::<188>();
+        self.take_all(packets)?;
+        self.end_report(bytes.len() % 188 != 0)
+    }
+
     /// The report of the stream, which ends here: after a whole packet, or within one (`cut`).
     pub fn finish(mut self, cut: bool) -> Result<Report<A>, AllocError>
         ensures { IfOk result (λ report. report ≡ report_of (stream_ended self cut)) }
     {
-        self.end(cut)?;
-        self.report()
+        self.end_report(cut)
     }
 }
 
@@ -197,9 +214,7 @@ fn watch<A: Allocator + Copy>(
     ensures { IfOk result (λ report. report ≡ report_of (watched rate pcr_limit bytes.now)) }
 {
     let mut monitor = Monitor::new(alloc, rate, pcr_limit)?;
-    let (packets, _) = bytes.as_chunks::<188>();
-    monitor.take_all(packets)?;
-    monitor.finish(bytes.len() % 188 != 0)
+    monitor.report_rest(bytes)
 }
 
 /// The report of a whole stream, which is cut by 188 from its first byte.
