@@ -11,10 +11,10 @@ use Rattle.monitor.specs.Gaps.{is_long, late}
 use Rattle.monitor.specs.Recurrences.{Marks, late_at, marked, marked_all, no_marks}
 use Rattle.monitor.specs.Laws.{GapsOfEachPid, late_of, places_of}
 
-same_number : (a b : ℕ) → (a == b) ≡ true → a ≡ b
+pub same_number : (a b : ℕ) → (a == b) ≡ true → a ≡ b
 same_number a b e = grind (arith, nat_tests)
 
-turned_test : (a b : ℕ) → (a == b) ≡ (b == a)
+pub turned_test : (a b : ℕ) → (a == b) ≡ (b == a)
 turned_test a b = by (a == b) (b == a) refl refl
   where
     by : (s t : Bool) → (a == b) ≡ s → (b == a) ≡ t → s ≡ t
@@ -24,16 +24,16 @@ turned_test a b = by (a == b) (b == a) refl refl
     by false true p q = absurd (grind (arith, nat_tests))
 
 -- the place that comes late after the one before
-abbrev step : ℕ → Option ℕ → ℕ → List ℕ
+abbrev pub step : ℕ → Option ℕ → ℕ → List ℕ
 step most None x = []
 step most (Some before) x = cond (is_long most (x - before)) (x ∷ []) []
 
-abbrev after : ℕ → Option ℕ → List ℕ → List ℕ
+abbrev pub after : ℕ → Option ℕ → List ℕ → List ℕ
 after most last [] = []
 after most last (x ∷ xs) = step most last x ++ after most (Some x) xs
 
 -- what an insert finds
-found_if : (pid q x : ℕ) (es : List (ℕ × ℕ)) (t : Bool) → (q == pid) ≡ t → lookup (nat_eq pid) (insert_entry nat_eq es q x) ≡ cond t (Some x) (lookup (nat_eq pid) es)
+pub found_if : (pid q x : ℕ) (es : List (ℕ × ℕ)) (t : Bool) → (q == pid) ≡ t → lookup (nat_eq pid) (insert_entry nat_eq es q x) ≡ cond t (Some x) (lookup (nat_eq pid) es)
 found_if pid q x [] t e = rw (turned_test pid q ∙ e) refl
 found_if pid q x (y ∷ es) t e = by t e (q == y.0) refl (found_if pid q x es t e)
   where
@@ -44,7 +44,7 @@ found_if pid q x (y ∷ es) t e = by t e (q == y.0) refl (found_if pid q x es t 
     by true e false f h = let g : (pid == y.0) ≡ false = subst (λ (k : ℕ). (k == y.0) ≡ false) (same_number q pid e) f in rw g h
     by false e false f h = ap (λ (o : Option ℕ). cond (nat_eq pid y.0) (Some y.1) o) h
 
-late_append : (pid : ℕ) (xs ys : List Late) → late_of pid (xs ++ ys) ≡ late_of pid xs ++ late_of pid ys
+pub late_append : (pid : ℕ) (xs ys : List Late) → late_of pid (xs ++ ys) ≡ late_of pid xs ++ late_of pid ys
 late_append pid xs ys = ap (map _) (filter-append _ xs ys) ∙ map-append _ (filter _ xs) (filter _ ys)
 
 late_here : (most pid q x : ℕ) (o : Option ℕ) → (t : Bool) → (q == pid) ≡ t → late_of pid (late_at most q o x) ≡ cond t (step most o x) []
@@ -62,7 +62,7 @@ late_here most pid q x (Some b) false e = by (is_long most (x - b))
     by true = rw e refl
     by false = refl
 
-marks_late : (pid : ℕ) (s : Marks) (places : List (ℕ × ℕ)) →
+pub marks_late : (pid : ℕ) (s : Marks) (places : List (ℕ × ℕ)) →
     late_of pid (marked_all s places).late ≡ late_of pid s.late ++ after s.most (lookup (nat_eq pid) s.last) (places_of pid places)
 unfolding marked_all
 marks_late pid s [] = sym (append-nil (late_of pid s.late))
@@ -85,7 +85,7 @@ marks_late pid s (p ∷ places) =
         ∙ append_assoc (late_of pid s.late) [] (after s.most (lookup (nat_eq pid) s.last) (places_of pid places))
 
 -- the gaps as a filter over successive places
-after_one : (rate limit before : ℕ) (xs : List ℕ) → after (limit * rate) (Some before) xs ≡ late rate limit (before ∷ xs)
+pub after_one : (rate limit before : ℕ) (xs : List ℕ) → after (limit * rate) (Some before) xs ≡ late rate limit (before ∷ xs)
 after_one rate limit before [] = refl
 after_one rate limit before (x ∷ xs) = by (is_long (limit * rate) (x - before)) (after_one rate limit x xs)
   where
@@ -95,7 +95,7 @@ after_one rate limit before (x ∷ xs) = by (is_long (limit * rate) (x - before)
     by true h = ap (λ (ys : List ℕ). x ∷ ys) h
     by false h = h
 
-after_all : (rate limit : ℕ) (xs : List ℕ) → after (limit * rate) None xs ≡ late rate limit xs
+pub after_all : (rate limit : ℕ) (xs : List ℕ) → after (limit * rate) None xs ≡ late rate limit xs
 after_all rate limit [] = refl
 after_all rate limit (x ∷ xs) = after_one rate limit x xs
 

@@ -8,5 +8,10 @@ pub mod Noting
 pub mod Watching
 pub mod InOrder
 pub mod Reports
-pub mod InOrder
+pub mod Rules
+pub mod Begins
+pub mod Named
+pub mod Faults
+pub mod PidCounting
+pub mod ReportOf
 pub mod Laws

@@ -25,6 +25,6 @@ mod monitor;
 mod laws;
 
 pub use fault::{Fault, Rule};
-pub use laws::gaps_of_each_pid;
+pub use laws::{gaps_of_each_pid, packet_by_packet, report_without_state};
 pub use monitor::{Monitor, report};
 pub use reports::{PidCounts, Report, ReportError};

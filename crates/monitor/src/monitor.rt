@@ -3,6 +3,7 @@ ghost use Rattle.std.specs.Prelude.{◌≡◌, true, IfOk, OnOk, map};
 ghost use Rattle.demux.specs.Stream.{is_aligned};
 ghost use Rattle.monitor.specs.Watching.{demux_ended, found_to_end, none_taken, packet_taken, packets_taken, stream_ended};
 ghost use Rattle.monitor.specs.InOrder.{in_order};
+ghost use Rattle.monitor.specs.ReportOf.{stream_report};
 ghost use Rattle.monitor.specs.Reports.{ended_after, grouped_faults, pid_counts, report_of, watched};
 
 use crate::counts::{CarriedByPid, NotedByPid, noted_so_far};
@@ -201,10 +202,16 @@ impl<A: Allocator + Copy> Monitor<A> {
     {
         self.end_report(cut)
     }
+
+    // The report of the stream, which ends after these bytes.
+    fn finish_after(mut self, bytes: &[u8]) -> Result<Report<A>, AllocError>
+        ensures { IfOk result (λ report. report ≡ report_of (ended_after self bytes.now)) }
+    {
+        self.report_rest(bytes)
+    }
 }
 
 // The report of a whole stream.
-#[tactic(auto, unfolding(crate::specs::Reports::watched))]
 fn watch<A: Allocator + Copy>(
     alloc: A,
     rate: Rate,
@@ -213,20 +220,21 @@ fn watch<A: Allocator + Copy>(
 ) -> Result<Report<A>, AllocError>
     ensures { IfOk result (λ report. report ≡ report_of (watched rate pcr_limit bytes.now)) }
 {
-    let mut monitor = Monitor::new(alloc, rate, pcr_limit)?;
-    monitor.report_rest(bytes)
+    let monitor = Monitor::new(alloc, rate, pcr_limit)?;
+    monitor.finish_after(bytes)
 }
 
 /// The report of a whole stream, which is cut by 188 from its first byte.
 ///
 /// `rate` is in bits a second; `pcr_limit`, the greatest gap between program clock references, in milliseconds.
+#[tactic(auto, using(crate::proofs::Reporting::as_stream_report))]
 pub fn report<A: Allocator + Copy>(
     alloc: A,
     rate: Rate,
     pcr_limit: u32,
     bytes: &[u8],
 ) -> Result<Report<A>, ReportError>
-    ensures { IfOk result (λ report. report ≡ report_of (watched rate pcr_limit bytes.now)) }
+    ensures { IfOk result (λ report. report ≡ stream_report rate pcr_limit bytes.now) }
 {
     match watch(alloc, rate, pcr_limit, bytes) {
         Ok(report) => Ok(report),
