@@ -1,22 +1,21 @@
 -- The PIDs of packets in the order in which they are first seen.
 use Rattle.std.proofs.lemmas.Bool.Decides.{nat_tests}
-use Rattle.std.proofs.Common.{arith, ◌≡◌, ℕ, ◌==◌, Bool, true, false, cond, nat_eq, List, [], ◌∷◌, ◌++◌, map, filter, Option, Some, None, Result, Ok, Err, refl, sym, ap, ap₂, subst, ◌∙◌, append_assoc}
+use Rattle.std.proofs.Common.{arith, ◌≡◌, ℕ, ◌==◌, Bool, true, false, cond, nat_eq, List, [], ◌∷◌, ◌++◌, map, filter, Option, Some, Result, Ok, Err, refl, sym, ap, ap₂, ◌∙◌, append_assoc}
 use Rattle.std.specs.Prelude.{not, ◌||◌, ◌&&◌}
-use Rattle.std.specs.List.{filter_map, cons_option, enumerate_from}
+use Rattle.std.specs.List.{filter_map, cons_option}
 use Rattle.std.specs.Map.{lookup}
-use Rattle.std.proofs.lemmas.List.{append-nil, map-append}
+use Rattle.std.proofs.lemmas.List.{append-nil}
 use Rattle.indexmap.specs.IndexMap.{insert_entry}
 use Rattle.ts_packet.specs.declared.packet.PacketError.{PacketError}
 use Rattle.ts_packet.specs.Views.{PacketView}
 use Rattle.ts_packet.specs.Reading.{packet_at}
-use Rattle.ts_packet.specs.PidList.{Entry, cut_packets, entry_of, is_of_pid}
+use Rattle.ts_packet.specs.PidList.{Entry, entry_of}
 use Rattle.monitor.specs.declared.counts.Carried.{Carried}
 use Rattle.monitor.specs.Counting.{packet_counted}
 use Rattle.monitor.specs.PidCounting.{first_seen}
-use Rattle.monitor.specs.Faults.{packet_pids}
 use Rattle.monitor.proofs.Recurring.{same_number, turned_test}
 use Rattle.monitor.proofs.Keyed.{absent, unique, unique_insert}
-use Rattle.monitor.proofs.Seeing.{carried_all, listed, start_of, starts_of}
+use Rattle.monitor.proofs.Seeing.{carried_all, start_of, starts_of}
 
 -- 1. Keys
 

@@ -1,13 +1,12 @@
 -- Group by group, the faults that are kept of a stream are those of its packets and findings.
-use Rattle.std.proofs.Common.{◌⊎◌, inl, inr, ◌≡◌, ℕ, ◌+◌, ◌-◌, ◌*◌, ◌/◌, ◌%◌, ◌^◌, ◌<◌, ◌==◌, Bool, true, false, cond, nat_eq, List, [], ◌∷◌, ◌++◌, length, map, filter, Option, Some, None, refl, sym, ap, ap₂, subst, ◌∙◌, arith, append_assoc}
+use Rattle.std.proofs.Common.{◌⊎◌, inl, inr, ◌≡◌, ℕ, ◌-◌, ◌*◌, ◌/◌, ◌^◌, ◌<◌, ◌==◌, Bool, true, false, cond, List, [], ◌∷◌, ◌++◌, length, map, filter, Some, refl, sym, ap, ap₂, subst, ◌∙◌, arith}
 use Rattle.std.specs.Prelude.{not, ◌&&◌}
 use Rattle.std.specs.List.{enumerate_from, filter_map, flat_map}
-use Rattle.std.proofs.lemmas.List.{append-nil, map-append}
+use Rattle.std.proofs.lemmas.List.{map-append}
 use Rattle.std.proofs.lemmas.Bool.Decides.{nat_tests}
 use Rattle.ts_packet.specs.PidList.{Entry, cut_packets, entries_of, is_of_pid, pid_list}
 use Rattle.demux.specs.Views.{At, FindingView}
 use Rattle.demux.specs.Findings.{ended, findings_after, findings_to_end, open_part, stretch, divider}
-use Rattle.demux.specs.Laws.{found_of, told_at}
 use Rattle.monitor.specs.declared.fault.Fault.{Fault}
 use Rattle.monitor.specs.declared.fault.Rule.{Rule}
 use Rattle.monitor.specs.declared.fault.Rule.TheVariants as rules
@@ -21,7 +20,7 @@ use Rattle.monitor.specs.Faults.{finding_faults, on_each, packet_pids, pat_late,
 use Rattle.monitor.proofs.Ordered.{has}
 use Rattle.monitor.proofs.Recurring.{gaps_of_each_pid, same_number}
 use Rattle.monitor.proofs.Members.{alike, late_on_each, within}
-use Rattle.monitor.proofs.Seeing.{listed, marked_append, pcr_pairs, pcr_places_of}
+use Rattle.monitor.proofs.Seeing.{marked_append, pcr_pairs, pcr_places_of}
 use Rattle.monitor.proofs.Noticing.{faults_of_all, pts_of_all, table_of_all}
 use Rattle.monitor.proofs.Tabling.{begins_in, begins_told, late_from_none, on_pid, pts_is, pts_pairs, pts_places_of, pts_told, table_is}
 use Rattle.monitor.proofs.Finding.{findings_on_each}

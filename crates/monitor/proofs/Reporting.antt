@@ -1,5 +1,5 @@
 -- The report by what is kept of a stream is the report by its packets and findings.
-use Rattle.std.proofs.Common.{◌≡◌, ℕ, zero-add, ◌+◌, ◌-◌, ◌*◌, ◌/◌, ◌%◌, ◌^◌, ◌<◌, ◌==◌, Bool, true, false, cond, nat_eq, List, [], ◌∷◌, ◌++◌, length, map, Option, Some, None, refl, sym, ap, ap₂, subst, ◌∙◌, arith, append_assoc}
+use Rattle.std.proofs.Common.{◌≡◌, ℕ, zero-add, ◌+◌, ◌-◌, ◌*◌, ◌/◌, ◌%◌, ◌^◌, ◌<◌, ◌==◌, Bool, true, false, cond, nat_eq, List, [], ◌∷◌, ◌++◌, length, map, Option, None, refl, sym, ap, ap₂, subst, ◌∙◌, arith, append_assoc}
 use Rattle.std.specs.Prelude.{not}
 use Rattle.std.specs.List.{enumerate_from, flat_map}
 use Rattle.std.specs.Map.{lookup}
@@ -12,9 +12,9 @@ use Rattle.monitor.specs.declared.fault.Rule.TheVariants as rules
 use Rattle.monitor.specs.declared.counts.Carried.{Carried}
 use Rattle.monitor.specs.declared.counts.Noted.{Noted}
 use Rattle.monitor.specs.declared.reports.PidCounts.{PidCounts}
-use Rattle.monitor.specs.Counting.{carried_or, noted_of}
+use Rattle.monitor.specs.Counting.{carried_or}
 use Rattle.monitor.specs.Recurrences.{Marks}
-use Rattle.monitor.specs.ProgramMaps.{MapMarks, no_maps}
+use Rattle.monitor.specs.ProgramMaps.{no_maps}
 use Rattle.monitor.specs.Tables.{new_watch, table_marked}
 use Rattle.monitor.specs.Packets.{PacketMarks, no_packets, packet_failed}
 use Rattle.monitor.specs.Noting.{FindingMarks, all_noted, none_noted}
@@ -23,16 +23,16 @@ use Rattle.monitor.specs.Reports.{ended_after, ReportView, all_counts, all_fault
 use Rattle.monitor.specs.Rules.{fault}
 use Rattle.monitor.specs.InOrder.{in_order}
 use Rattle.monitor.specs.PidCounting.{counts_of, counts_of_all, first_seen}
-use Rattle.monitor.specs.Faults.{cut_faults, faults_of, faults_of_findings, faults_of_packets, packet_faults, packet_pids}
+use Rattle.monitor.specs.Faults.{cut_faults, faults_of, faults_of_findings, faults_of_packets, packet_pids}
 use Rattle.monitor.specs.Begins.{found_on}
 use Rattle.monitor.specs.ReportOf.{stream_report}
 use Rattle.monitor.specs.Laws.{PacketByPacket, ReportWithoutState}
 use Rattle.monitor.proofs.Ordered.{in_order_same}
 use Rattle.monitor.proofs.Members.{alike, alike_append, alike_is}
-use Rattle.monitor.proofs.Seeing.{carried_all, noted_append, pcr_pairs, seen_all, seen_carried, seen_faults, seen_pcr, starts_of, taken_count, taken_demux, taken_found, taken_seen}
-use Rattle.monitor.proofs.Noticing.{all_is, counts_of_found, faults_of_all, maps_of_all, pts_of_all, table_of_all}
+use Rattle.monitor.proofs.Seeing.{carried_all, noted_append, seen_all, seen_carried, seen_faults, seen_pcr, starts_of, taken_count, taken_demux, taken_found, taken_seen}
+use Rattle.monitor.proofs.Noticing.{all_is, counts_of_found, faults_of_all, maps_of_all, table_of_all}
 use Rattle.monitor.proofs.Tallies.{carried_is, noted_is}
-use Rattle.monitor.proofs.FirstSeen.{by_keys, carried_unique, keys, keys_first_seen, pids_are}
+use Rattle.monitor.proofs.FirstSeen.{by_keys, carried_unique, keys_first_seen, pids_are}
 use Rattle.monitor.proofs.Whole.{begun_whole, found_whole, of_each, packet_count, rises}
 use Rattle.monitor.proofs.Ended.{maps_alike}
 use Rattle.monitor.proofs.Grouping.{findings_alike, pat_group, pcr_alike, pts_alike, table_group}
