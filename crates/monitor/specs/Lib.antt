@@ -8,5 +8,5 @@ pub mod Noting
 pub mod Watching
 pub mod InOrder
 pub mod Reports
-pub mod InOrder
+pub mod ReportLines
 pub mod Laws

@@ -201,10 +201,16 @@ impl<A: Allocator + Copy> Monitor<A> {
     {
         self.end_report(cut)
     }
+
+    // The report of the stream, which ends after these bytes.
+    fn finish_after(mut self, bytes: &[u8]) -> Result<Report<A>, AllocError>
+        ensures { IfOk result (λ report. report ≡ report_of (ended_after self bytes.now)) }
+    {
+        self.report_rest(bytes)
+    }
 }
 
 // The report of a whole stream.
-#[tactic(auto, unfolding(crate::specs::Reports::watched))]
 fn watch<A: Allocator + Copy>(
     alloc: A,
     rate: Rate,
@@ -213,8 +219,8 @@ fn watch<A: Allocator + Copy>(
 ) -> Result<Report<A>, AllocError>
     ensures { IfOk result (λ report. report ≡ report_of (watched rate pcr_limit bytes.now)) }
 {
-    let mut monitor = Monitor::new(alloc, rate, pcr_limit)?;
-    monitor.report_rest(bytes)
+    let monitor = Monitor::new(alloc, rate, pcr_limit)?;
+    monitor.finish_after(bytes)
 }
 
 /// The report of a whole stream, which is cut by 188 from its first byte.
