@@ -14,4 +14,5 @@ pub mod Named
 pub mod Faults
 pub mod PidCounting
 pub mod ReportOf
+pub mod ReportLines
 pub mod Laws

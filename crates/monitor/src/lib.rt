@@ -6,6 +6,7 @@
 
 // What is reported.
 mod fault;
+mod report_lines;
 mod reports;
 
 // What is to come again within a time.
