@@ -1,0 +1,5 @@
+use Rattle.monitor.proofs.Recurring.{gaps_of_each_pid}
+use Rattle.monitor.proofs.laws.gaps_of_each_pid.Goals as goal
+
+pub returns : goal.returns
+returns c = gaps_of_each_pid

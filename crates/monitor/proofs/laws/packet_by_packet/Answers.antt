@@ -1,0 +1,5 @@
+use Rattle.monitor.proofs.Reporting.{packet_by_packet}
+use Rattle.monitor.proofs.laws.packet_by_packet.Goals as goal
+
+pub returns : goal.returns
+returns c = packet_by_packet

@@ -1,0 +1,31 @@
+//! A monitor of transport streams: fifteen rules of the kind of ETSI TR 101 290 over any stream, packet by packet.
+//!
+//! `report` gives the counts of each PID and the faults of a whole stream; `Monitor` takes a stream as it comes and keeps
+//! a state for each PID, and no packet.
+#![tactic(auto)]
+
+// What is reported.
+mod fault;
+mod report_lines;
+mod reports;
+
+// What is to come again within a time.
+mod program_maps;
+mod recurrence;
+mod table_watch;
+
+// What is kept of packets, and of what is found in them.
+mod counts;
+mod finding_watch;
+mod packet_watch;
+
+// The stream.
+mod monitor;
+
+// How the definitions hang together.
+mod laws;
+
+pub use fault::{Fault, Rule};
+pub use laws::{gaps_of_each_pid, packet_by_packet, report_without_state};
+pub use monitor::{Monitor, report};
+pub use reports::{PidCounts, Report, ReportError};

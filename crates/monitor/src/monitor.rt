@@ -1,0 +1,243 @@
+//! A stream packet by packet.
+ghost use Rattle.std.specs.Prelude.{◌≡◌, true, IfOk, OnOk, map};
+ghost use Rattle.demux.specs.Stream.{is_aligned};
+ghost use Rattle.monitor.specs.Watching.{demux_ended, found_to_end, none_taken, packet_taken, packets_taken, stream_ended};
+ghost use Rattle.monitor.specs.InOrder.{in_order};
+ghost use Rattle.monitor.specs.ReportOf.{stream_report};
+ghost use Rattle.monitor.specs.Reports.{ended_after, grouped_faults, pid_counts, report_of, watched};
+
+use crate::counts::{CarriedByPid, NotedByPid, noted_so_far};
+use crate::fault::{Fault, Rule};
+use crate::finding_watch::FindingWatch;
+use crate::packet_watch::PacketWatch;
+use crate::reports::{PidCounts, Report, ReportError, append_late, in_order};
+use clock27::Rate;
+use demux::Demux;
+use std::alloc::{AllocError, Allocator, Global};
+use std::marker::Model;
+
+/// What is kept of a stream that is watched packet by packet: a state for each PID, and the faults so far. No packet is kept.
+///
+/// After an `AllocError` it stands for no stream any more, and is to be dropped.
+#[derive(Drop)]
+pub struct Monitor<A: Allocator = Global> {
+    alloc: A,
+    demux: Demux<A>,
+    packets: u64,
+    seen: PacketWatch<A>,
+    found: FindingWatch<A>,
+}
+
+impl<A: Allocator> Model for Monitor<A> {
+    ghost use Rattle.std.specs.Prelude.{◌≡◌, true};
+    ghost use Rattle.demux.specs.Stream.{is_aligned};
+    ghost use Rattle.monitor.specs.Watching.{StreamMarks};
+
+    ghost Value = { StreamMarks };
+
+    ghost view = { λ w. record { demux = w.demux; packets = w.packets; seen = w.seen; found = w.found } };
+
+    ghost invariant = { λ w. is_aligned w.demux ≡ true };
+}
+
+#[tactic(auto, unfolding(crate::specs::Reports::grouped_faults))]
+// All faults, in the order of the rules' groups.
+fn faults_of<A: Allocator + Copy>(
+    alloc: A,
+    packets: u64,
+    seen: &PacketWatch<A>,
+    found: &FindingWatch<A>,
+) -> Result<Vec<Fault, A>, AllocError>
+    ensures { IfOk result (λ faults. faults.items ≡ grouped_faults packets seen.now found.now) }
+{
+    let mut faults = Vec::new(alloc);
+    faults.extend_from_slice(seen.faults.as_slice())?;
+    append_late(&mut faults, Rule::Pcr, seen.pcr.late())?;
+    found.append_faults(packets, &mut faults)?;
+    Ok(faults)
+}
+
+// All faults in order.
+fn ordered_faults<A: Allocator + Copy>(
+    alloc: A,
+    packets: u64,
+    seen: &PacketWatch<A>,
+    found: &FindingWatch<A>,
+) -> Result<Vec<Fault, A>, AllocError>
+    ensures { IfOk result (λ faults. faults.items ≡ in_order (grouped_faults packets seen.now found.now)) }
+{
+    let faults = faults_of(alloc, packets, seen, found)?;
+    Ok(in_order(faults))
+}
+
+// The stream ends for its demultiplexer.
+#[tactic(auto, unfolding(crate::specs::Watching::demux_ended))]
+fn end_demux<A: Allocator + Copy>(demux: &mut Demux<A>) -> Result<(), AllocError>
+    requires { is_aligned demux.old ≡ true }
+    ensures ended { OnOk result (demux.new ≡ demux_ended demux.old) }
+    ensures aligned { is_aligned demux.new ≡ true }
+{
+    match demux.finish() {
+        Ok(()) => Ok(()),
+        Err(_) => Err(AllocError),
+    }
+}
+
+// The counts of the PIDs.
+fn counts_of<A: Allocator + Copy>(
+    alloc: A,
+    carried: &CarriedByPid<A>,
+    noted: &NotedByPid<A>,
+) -> Result<Vec<PidCounts, A>, AllocError>
+    ensures { IfOk result (λ counts. counts.items ≡ map (pid_counts noted.now.entries) carried.now.entries) }
+{
+    let mut counts = Vec::new(alloc);
+    for (pid, carried) in carried {
+        let noted = noted_so_far(noted, *pid);
+        counts.push(PidCounts {
+            pid: *pid,
+            packets: carried.packets,
+            starts: carried.starts,
+            duplicates: noted.duplicates,
+            scrambled: noted.scrambled,
+        })?;
+    }
+    Ok(counts)
+}
+
+impl<A: Allocator + Copy> Monitor<A> {
+    /// Before the first packet, at a rate in bits a second. The greatest gap of program clock references is in milliseconds.
+    pub fn new(alloc: A, rate: Rate, pcr_limit: u32) -> Result<Monitor<A>, AllocError>
+        ensures { IfOk result (λ watch. watch ≡ none_taken rate pcr_limit) }
+    {
+        let bits = rate.bits_per_second();
+        let found = FindingWatch::new(alloc, bits)?;
+        Ok(Monitor {
+            alloc,
+            demux: Demux::new(alloc),
+            packets: 0,
+            seen: PacketWatch::new(alloc, pcr_limit as u64 * bits),
+            found,
+        })
+    }
+
+    /// The next packet.
+    pub fn take(&mut self, bytes: &[u8; 188]) -> Result<(), AllocError>
+        ensures { OnOk result (self.new ≡ packet_taken self.old bytes.now) }
+    {
+        let mut found = Vec::new(self.alloc);
+        let Ok(()) = self.demux.take(bytes, &mut found) else {
+            return Err(AllocError);
+        };
+        self.found.note_all(found.as_slice())?;
+        self.seen.take(self.packets, bytes)?;
+        self.packets = self.packets.saturating_add(1);
+        Ok(())
+    }
+
+    // The next packets.
+    #[tactic(auto, unfolding(crate::specs::Watching::packets_taken))]
+    fn take_all(&mut self, packets: &[[u8; 188]]) -> Result<(), AllocError>
+        ensures { OnOk result (self.new ≡ packets_taken self.old packets.now) }
+    {
+        for packet in packets {
+            self.take(packet)?;
+        }
+        Ok(())
+    }
+
+    // What the end of the stream decides, and the last gap of the program association table.
+    #[tactic(auto, unfolding(crate::specs::Watching::found_to_end))]
+    fn end_findings(&mut self) -> Result<(), AllocError>
+        ensures { OnOk result (self.new ≡ record self.old { demux = demux_ended self.old.demux; found = found_to_end self.old.found self.old.packets self.old.demux }) }
+    {
+        end_demux(&mut self.demux)?;
+        self.found.note_all(self.demux.findings())?;
+        self.found.end_pat(self.packets)
+    }
+
+    // The stream ends after a whole packet, or within one (`cut`).
+    #[tactic(auto, unfolding(crate::specs::Watching::stream_ended, crate::specs::Watching::seen_to_end))]
+    fn end(&mut self, cut: bool) -> Result<(), AllocError>
+        ensures { OnOk result (self.new ≡ stream_ended self.old cut) }
+    {
+        self.end_findings()?;
+        if cut {
+            self.seen.fail(self.packets, Rule::Cut)?;
+        }
+        Ok(())
+    }
+
+    // What there is to say of the stream so far.
+    #[tactic(auto, unfolding(crate::specs::Reports::report_of, crate::specs::Reports::all_counts, crate::specs::Reports::all_faults))]
+    fn report(&self) -> Result<Report<A>, AllocError>
+        ensures { IfOk result (λ report. report ≡ report_of self.now) }
+    {
+        let pids = counts_of(self.alloc, &self.seen.carried, &self.found.noted)?;
+        let faults = ordered_faults(self.alloc, self.packets, &self.seen, &self.found)?;
+        Ok(Report::new(self.packets, pids, faults))
+    }
+
+    // The report of the stream, which ends here.
+    fn end_report(&mut self, cut: bool) -> Result<Report<A>, AllocError>
+        ensures { IfOk result (λ report. report ≡ report_of (stream_ended self.old cut)) }
+    {
+        self.end(cut)?;
+        self.report()
+    }
+
+    // The report of the stream, which ends after these bytes.
+    #[tactic(auto, unfolding(crate::specs::Reports::ended_after))]
+    fn report_rest(&mut self, bytes: &[u8]) -> Result<Report<A>, AllocError>
+        ensures { IfOk result (λ report. report ≡ report_of (ended_after self.old bytes.now)) }
+    {
+        let (packets, _) = bytes.as_chunks::<188>();
+        self.take_all(packets)?;
+        self.end_report(bytes.len() % 188 != 0)
+    }
+
+    /// The report of the stream, which ends here: after a whole packet, or within one (`cut`).
+    pub fn finish(mut self, cut: bool) -> Result<Report<A>, AllocError>
+        ensures { IfOk result (λ report. report ≡ report_of (stream_ended self cut)) }
+    {
+        self.end_report(cut)
+    }
+
+    // The report of the stream, which ends after these bytes.
+    fn finish_after(mut self, bytes: &[u8]) -> Result<Report<A>, AllocError>
+        ensures { IfOk result (λ report. report ≡ report_of (ended_after self bytes.now)) }
+    {
+        self.report_rest(bytes)
+    }
+}
+
+// The report of a whole stream.
+fn watch<A: Allocator + Copy>(
+    alloc: A,
+    rate: Rate,
+    pcr_limit: u32,
+    bytes: &[u8],
+) -> Result<Report<A>, AllocError>
+    ensures { IfOk result (λ report. report ≡ report_of (watched rate pcr_limit bytes.now)) }
+{
+    let monitor = Monitor::new(alloc, rate, pcr_limit)?;
+    monitor.finish_after(bytes)
+}
+
+/// The report of a whole stream, which is cut by 188 from its first byte.
+///
+/// `rate` is in bits a second; `pcr_limit`, the greatest gap between program clock references, in milliseconds.
+#[tactic(auto, using(crate::proofs::Reporting::as_stream_report))]
+pub fn report<A: Allocator + Copy>(
+    alloc: A,
+    rate: Rate,
+    pcr_limit: u32,
+    bytes: &[u8],
+) -> Result<Report<A>, ReportError>
+    ensures { IfOk result (λ report. report ≡ stream_report rate pcr_limit bytes.now) }
+{
+    match watch(alloc, rate, pcr_limit, bytes) {
+        Ok(report) => Ok(report),
+        Err(_) => Err(ReportError::Memory),
+    }
+}

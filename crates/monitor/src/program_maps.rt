@@ -1,0 +1,172 @@
+//! The PIDs on which program map sections are to come: those that a program association section names.
+ghost use Rattle.std.specs.Prelude.{◌≡◌, ◌++◌, [], OnOk, flat_map};
+ghost use Rattle.monitor.specs.Reports.{ended_map};
+ghost use Rattle.psi_tables.specs.ProgramAssociation.{pat_at, programs_of};
+ghost use Rattle.psi_tables.specs.Reading.{section_at};
+ghost use Rattle.psi_tables.specs.Views.{section_view};
+ghost use Rattle.monitor.specs.ProgramMaps.{named, named_all, named_by, map_begins, no_maps, programs_by, programs_in_section};
+
+use crate::fault::{Fault, Rule};
+use crate::recurrence::{Late, is_long};
+use indexmap::IndexMap;
+use psi_tables::{Pat, Programs, Section};
+use std::alloc::{AllocError, Allocator};
+use std::hash::{BuildHasherDefault, FoldHasher};
+use std::marker::Model;
+
+/// A PID that was named: the packet at which it first was, and the last packet in which a section began.
+#[derive(Clone, Copy, Debug, PartialEq, Eq)]
+pub(crate) struct Named {
+    pub since: u64,
+    pub last: u64,
+}
+
+/// The PIDs that were named, and the packets at which a section came too late.
+#[derive(Drop)]
+pub(crate) struct ProgramMaps<A: Allocator> {
+    most: u64,
+    named: IndexMap<u16, Named, BuildHasherDefault<FoldHasher>, A>,
+    late: Vec<Late, A>,
+}
+
+impl<A: Allocator> Model for ProgramMaps<A> {
+    ghost use Rattle.monitor.specs.ProgramMaps.{MapMarks};
+
+    ghost Value = { MapMarks };
+
+    ghost view = { λ m. record { most = m.most; named = m.named.entries; late = m.late.items } };
+}
+
+#[tactic(auto, unfolding(psi_tables::specs::ProgramAssociation::programs_in))]
+fn no_programs<'a>() -> Programs<'a>
+    ensures { programs_of result ≡ [] }
+{
+    Programs::over(&[])
+}
+
+// The entries of a section, if it is a program association section that is in force now.
+#[tactic(auto, unfolding(crate::specs::ProgramMaps::programs_by))]
+fn programs_of_pat<'a>(section: &Section<'a>) -> Programs<'a>
+    ensures { programs_of result ≡ programs_by (pat_at (section_view section.now)) }
+{
+    match Pat::read(section) {
+        Err(_) => no_programs(),
+        Ok(pat) => {
+            if pat.header.current_next {
+                pat.programs
+            } else {
+                no_programs()
+            }
+        }
+    }
+}
+
+#[tactic(auto, unfolding(crate::specs::ProgramMaps::programs_in_section))]
+fn programs_in_section<'a>(section: &'a [u8]) -> Programs<'a>
+    ensures { programs_of result ≡ programs_in_section (section_at section.now) }
+{
+    match Section::read(section) {
+        Err(_) => no_programs(),
+        Ok((section, _)) => programs_of_pat(&section),
+    }
+}
+
+impl<A: Allocator + Copy> ProgramMaps<A> {
+    /// No PID is named yet.
+    pub fn new(alloc: A, most: u64) -> ProgramMaps<A>
+        ensures { result ≡ no_maps most }
+    {
+        ProgramMaps {
+            most,
+            named: IndexMap::new(alloc),
+            late: Vec::new(alloc),
+        }
+    }
+
+    /// A PID is named at a packet.
+    #[tactic(auto, unfolding(crate::specs::ProgramMaps::named_from))]
+    fn name(&mut self, pid: u16, packet: u64) -> Result<(), AllocError>
+        ensures { OnOk result (self.new ≡ named self.old pid packet) }
+    {
+        if self.named.get(&pid).is_none() {
+            self.named.insert(
+                pid,
+                Named {
+                    since: packet,
+                    last: packet,
+                },
+            )?;
+        }
+        Ok(())
+    }
+
+    #[tactic(auto, unfolding(crate::specs::ProgramMaps::named_all))]
+    /// The entries of a section are named at a packet, but those of program 0, which name the network PID.
+    fn name_programs(&mut self, programs: Programs<'_>, packet: u64) -> Result<(), AllocError>
+        ensures { OnOk result (self.new ≡ named_all self.old (programs_of programs.entry) packet) }
+    {
+        for program in programs {
+            if program.program_number != 0 {
+                self.name(program.pid, packet)?;
+            }
+        }
+        Ok(())
+    }
+
+    /// A section ended on PID 0, at a packet.
+    #[tactic(auto, unfolding(crate::specs::ProgramMaps::named_by))]
+    pub fn read(&mut self, section: &[u8], packet: u64) -> Result<(), AllocError>
+        ensures { OnOk result (self.new ≡ named_by self.old section.now packet) }
+    {
+        self.name_programs(programs_in_section(section), packet)
+    }
+
+    /// A program map section that was found at a packet began on a PID.
+    #[tactic(auto, unfolding(crate::specs::ProgramMaps::map_begins_at, crate::specs::ProgramMaps::late_map))]
+    pub fn begin(&mut self, pid: u16, found: u64, packet: u64) -> Result<(), AllocError>
+        ensures { OnOk result (self.new ≡ map_begins self.old pid found packet) }
+    {
+        let Some(named) = self.named.get(&pid).copied() else {
+            return Ok(());
+        };
+        if found <= named.since || packet <= named.since {
+            return Ok(());
+        }
+        if is_long(self.most, packet.saturating_sub(named.last)) {
+            self.late.push(Late { pid, packet })?;
+        }
+        let since = named.since;
+        self.named.insert(
+            pid,
+            Named {
+                since,
+                last: packet,
+            },
+        )?;
+        Ok(())
+    }
+
+    /// The packets at which a section began too late.
+    pub fn late(&self) -> &[Late]
+        ensures { result.now ≡ self.now.late }
+    {
+        self.late.as_slice()
+    }
+
+    /// Appends the faults of the PIDs on which none began for too long before the end of a stream of so many packets.
+    #[tactic(auto, unfolding(crate::specs::Reports::ended_map))]
+    pub fn append_ended(&self, packets: u64, faults: &mut Vec<Fault, A>) -> Result<(), AllocError>
+        ensures { OnOk result (faults.new.items ≡ faults.old.items ++ flat_map (ended_map self.now.most packets) self.now.named) }
+    {
+        for (pid, named) in &self.named {
+            if is_long(self.most, packets.saturating_sub(named.last)) {
+                faults.push(Fault {
+                    packet: packets,
+                    rule: Rule::Pmt,
+                    pid: Some(*pid),
+                })?;
+            }
+        }
+        Ok(())
+    }
+}

@@ -1,0 +1,123 @@
+//! What a monitor has to say of a stream.
+ghost use Rattle.std.specs.Prelude.{◌≡◌, ◌++◌, ◌∷◌, [], OnOk, IfOk, Some, map};
+ghost use Rattle.std.specs.List.{Any, Contains};
+ghost use Rattle.std.specs.List.Sorted.{IsStrictlySortedBy};
+ghost use Rattle.std.specs.declared.cmp.Ordering.TheVariants.{Equal};
+ghost use Rattle.monitor.specs.InOrder.{in_order};
+ghost use Rattle.monitor.specs.Reports.{late_fault};
+
+use crate::fault::{Fault, Rule};
+use crate::recurrence::Late;
+use std::alloc::{AllocError, Allocator, Global};
+use std::marker::Model;
+use thiserror::Error;
+
+/// Why there is no report.
+#[derive(Clone, Copy, Debug, PartialEq, Eq, Error)]
+pub enum ReportError {
+    #[error("out of memory")]
+    Memory,
+}
+
+/// What is counted of a PID. Each count stops at 2^64 - 1.
+#[derive(Clone, Copy, Debug, PartialEq, Eq)]
+pub struct PidCounts {
+    pub pid: u16,
+    /// its packets, but those with transport_error_indicator
+    pub packets: u64,
+    /// those with payload_unit_start_indicator
+    pub starts: u64,
+    /// those that repeat the packet before
+    pub duplicates: u64,
+    /// those with transport_scrambling_control
+    pub scrambled: u64,
+}
+
+/// What a monitor has to say of a stream: the number of its whole packets, the counts of each PID in the order in which
+/// these were first seen, and the faults.
+#[derive(Drop)]
+pub struct Report<A: Allocator = Global> {
+    packets: u64,
+    pids: Vec<PidCounts, A>,
+    faults: Vec<Fault, A>,
+}
+
+impl<A: Allocator> Model for Report<A> {
+    ghost use Rattle.std.specs.List.{Any, Contains};
+    ghost use Rattle.std.specs.List.Sorted.{IsStrictlySortedBy};
+    ghost use Rattle.monitor.specs.Reports.{ReportView};
+
+    ghost Value = { ReportView };
+
+    ghost view = { λ r. record { packets = r.packets; pids = r.pids.items; faults = r.faults.items } };
+}
+
+impl<A: Allocator> Report<A> {
+    /// A report of these.
+    pub(crate) fn new(packets: u64, pids: Vec<PidCounts, A>, faults: Vec<Fault, A>) -> Report<A>
+        ensures { result ≡ record { packets = packets; pids = pids.items; faults = faults.items } }
+    {
+        Report {
+            packets,
+            pids,
+            faults,
+        }
+    }
+
+    /// The number of whole packets.
+    pub fn packets(&self) -> u64
+        ensures { result ≡ self.now.packets }
+    {
+        self.packets
+    }
+
+    /// The counts of each PID.
+    pub fn pids(&self) -> &[PidCounts]
+        ensures { result.now ≡ self.now.pids }
+    {
+        self.pids.as_slice()
+    }
+
+    /// The faults.
+    pub fn faults(&self) -> &[Fault]
+        ensures { result.now ≡ self.now.faults }
+    {
+        self.faults.as_slice()
+    }
+}
+
+// The same values in order, each once.
+fn each_once<T: Ord + Drop, A: Allocator>(mut values: Vec<T, A>) -> Vec<T, A>
+    ensures order { IsStrictlySortedBy T.cmp result.items }
+    ensures kept { (x : T) → Contains values.items x → Any (λ y. T.cmp x y ≡ Equal) result.items }
+    ensures only { (x : T) → Contains result.items x → Contains values.items x }
+{
+    values.sort_unstable();
+    values.dedup();
+    values
+}
+
+/// The faults by packet, then by the number of the rule, then by PID, each once.
+pub(crate) fn in_order<A: Allocator>(faults: Vec<Fault, A>) -> Vec<Fault, A>
+    ensures { result.items ≡ in_order faults.items }
+{
+    each_once(faults)
+}
+
+/// Appends the faults of packets at which something came too late.
+pub(crate) fn append_late<A: Allocator>(
+    faults: &mut Vec<Fault, A>,
+    rule: Rule,
+    late: &[Late],
+) -> Result<(), AllocError>
+    ensures { OnOk result (faults.new.items ≡ faults.old.items ++ map (late_fault rule) late.now) }
+{
+    for one in late {
+        faults.push(Fault {
+            packet: one.packet,
+            rule,
+            pid: Some(one.pid),
+        })?;
+    }
+    Ok(())
+}
