@@ -92,7 +92,7 @@ fn plans(rt: HostRuntime) -> Result<(), Fail> {
     plans_answered(&rt, rt.alloc(), &PLANS)
 }
 
-const SERVICES: [Case; 9] = [
+const SERVICES: [Case; 10] = [
     Case {
         from: "pcr_pid = 257",
         to: "pcr_pid = 257\npcr_limit = 23",
@@ -117,6 +117,11 @@ const SERVICES: [Case; 9] = [
         from: "interval = 2160",
         to: "interval = 720\ngroup = 4\ngroup_packets = 8",
         row: Some([7, 2, 0, 274_120_243_200_000_000, 209_356_800_000_000_000]),
+    },
+    Case {
+        from: "interval = 2160\nsize = 576\nlead = 1600",
+        to: "interval = 720\ngroup = 4\ngroup_packets = 8\nsize = 576\nlead = 2318",
+        row: None,
     },
     Case {
         from: "lead = 1600",
