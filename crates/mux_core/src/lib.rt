@@ -34,4 +34,3 @@ pub use multiplexing::{MuxError, multiplex, multiplex_as, multiplex_switch, mult
 pub use pes_packet::Unit;
 pub use unit_queue::FeedError;
 pub use unit_records::{UnitFileError, read_unit};
-

@@ -3,8 +3,8 @@
 mod runs;
 mod services;
 
-use mux_core::{CarryError, FeedError, UnitFileError, carry, read_unit};
 use linked_list_allocator::LocalHeap;
+use mux_core::{CarryError, FeedError, UnitFileError, carry, read_unit};
 use std::alloc::{AllocError, Allocator, Global};
 use std::io::{Read, Write};
 use std::test::Fail;

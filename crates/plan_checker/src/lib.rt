@@ -40,4 +40,3 @@ pub use spread::spread_of;
 pub use switch::succession::check_switch;
 pub use waiting::{bytes_by_units, waiting_slots};
 pub use work::{Work, work_of};
-

@@ -1,9 +1,9 @@
 //! Units and slots in any order, by a list of events.
 
 use super::{checked, mux, unit};
+use linked_list_allocator::LocalHeap;
 use mux_core::Mux;
 use mux_core::laws::{Event, drive};
-use linked_list_allocator::LocalHeap;
 use std::alloc::{Allocator, Global};
 use std::test::Fail;
 

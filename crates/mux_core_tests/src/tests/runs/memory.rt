@@ -2,8 +2,8 @@
 
 use super::checked;
 use crate::tests::services::BASE_PLAN;
-use mux_core::{Mux, NewError};
 use linked_list_allocator::LocalHeap;
+use mux_core::{Mux, NewError};
 use plan_checker::{CheckedPlan, CheckedSwitch, check_switch};
 use slot_plan::Plan;
 use std::alloc::{Allocator, Global};

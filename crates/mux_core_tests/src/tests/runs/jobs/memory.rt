@@ -1,8 +1,8 @@
 //! Each request for memory refused in turn: Memory with nothing written, or the job.
 
 use crate::tests::runs::checked;
-use mux_core::{MuxError, Unit, multiplex};
 use linked_list_allocator::LocalHeap;
+use mux_core::{MuxError, Unit, multiplex};
 use std::alloc::{Allocator, Global};
 use std::test::Fail;
 use ts_packet::Counted;
