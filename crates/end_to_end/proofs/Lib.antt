@@ -6,6 +6,7 @@ pub mod SectionPlaces
 pub mod NothingElse
 pub mod Joining
 pub mod Faultless
+pub mod Soundness
 pub mod Row
 pub mod CarryBack
 pub mod AcceptedFit
