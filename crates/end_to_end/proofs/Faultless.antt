@@ -57,7 +57,7 @@ sent_clean : (d : Scheduled) (units : ℕ → List AccessUnit) (n pid : ℕ) →
 sent_clean d units n pid r kept few (inl (k, s, is, same)) = subst (CleanOn d units n) same (stream_clean d units n k s r kept few is)
 sent_clean d units n pid r kept few (inr (t, lt, same)) = subst (CleanOn d units n) same (table_clean d units n t r kept few lt)
 
-pid_clean : (d : Scheduled) (units : ℕ → List AccessUnit) (n : ℕ) → IsInRange d.description → UnitsKept d units → n < 2 ^ 64 - 1 → (pid : ℕ) → (pid == 8191) ≡ false →
+pub pid_clean : (d : Scheduled) (units : ℕ → List AccessUnit) (n : ℕ) → IsInRange d.description → UnitsKept d units → n < 2 ^ 64 - 1 → (pid : ℕ) → (pid == 8191) ≡ false →
     CleanOn d units n pid
 pid_clean d units n r kept few pid told = elim (sent_or_silent d.description pid) [
   | inl sent ↦ sent_clean d units n pid r kept few sent

@@ -55,13 +55,13 @@ all_fed d capacity fed (entry ∷ rest) r w none =
     subst (λ (us : List (ℕ × AccessUnit)). StandsFor d capacity (job_history us 0)) (append_assoc fed (entry ∷ []) rest)
     (all_fed d capacity (fed ++ (entry ∷ [])) rest r (one_more d capacity fed entry r w both.0) both.1)
 
-job_stands : (d : Scheduled) (units : List (ℕ × AccessUnit)) → IsInRange d.description → first_refused d (capacity_for units) [] units ≡ None →
+pub job_stands : (d : Scheduled) (units : List (ℕ × AccessUnit)) → IsInRange d.description → first_refused d (capacity_for units) [] units ≡ None →
     StandsFor d (capacity_for units) (job_history units 0)
 job_stands d units r none = all_fed d (capacity_for units) [] units r (first d (capacity_for units) r) none
 
 -- ---- the bytes
 
-output_is : (content : ℕ → Content) (s n : ℕ) → run_output false content s n ≡ run_bytes content s n
+pub output_is : (content : ℕ → Content) (s n : ℕ) → run_output false content s n ≡ run_bytes content s n
 unfolding run_output run_bytes leaving
 output_is content s zero = refl
 output_is content s (suc n) = ap (λ (bytes : List ℕ). packet_of (content s) ++ bytes) (output_is content (suc s) n)

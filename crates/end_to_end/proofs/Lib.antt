@@ -6,8 +6,13 @@ pub mod SectionPlaces
 pub mod NothingElse
 pub mod Joining
 pub mod Faultless
+pub mod Soundness
+pub mod Lateness
+pub mod ClocksRecur
 pub mod Row
 pub mod CarryBack
 pub mod AcceptedFit
 pub mod Driven
 pub mod Jobs
+pub mod InTime
+pub mod MonitoredJobs

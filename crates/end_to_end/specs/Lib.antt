@@ -4,3 +4,4 @@ pub mod GivenBack
 pub mod Clean
 pub mod CarriedBack
 pub mod Jobs
+pub mod Monitored

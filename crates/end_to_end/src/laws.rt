@@ -2,6 +2,7 @@
 ghost use Rattle.end_to_end.specs.GivenBack.{GivenBackLaw, StandingLaw, DrivenLaw};
 ghost use Rattle.end_to_end.specs.Clean.{CleanLaw, StandingCleanLaw, DrivenCleanLaw};
 ghost use Rattle.end_to_end.specs.Jobs.{JobLaw, JobCleanLaw};
+ghost use Rattle.end_to_end.specs.Monitored.{SoundLaw, StandingSoundLaw, JobSoundLaw, InTimeLaw, StandingInTimeLaw, JobInTimeLaw};
 ghost use Rattle.end_to_end.specs.CarriedBack.{CarriedBackLaw, AcceptedUnitsFit};
 
 /// The bytes of a run, demultiplexed with their end, give back on each stream's PID exactly its units, in order: each that
@@ -34,4 +35,21 @@ pub fn jobs()
 pub fn carried_back()
     ensures whole { CarriedBackLaw }
     ensures accepted { AcceptedUnitsFit }
+{}
+
+/// A monitor reports nothing of what packets and findings fail by themselves (ETSI TR 101 290, 5.2.1 and 5.2.2): each packet has
+/// its sync byte, can be read and is not marked in error, the last one is whole, each continuity_counter follows on its PID, and
+/// no section is refused. In the definitions of `monitor`.
+pub fn monitored()
+    ensures whole { SoundLaw }
+    ensures standing { StandingSoundLaw }
+    ensures jobs { JobSoundLaw }
+{}
+
+/// Nor, at the description's rate, of clock references that come too late, where the limit given to the monitor, in
+/// milliseconds, is at least each program's (ISO/IEC 13818-1, 2.7.2). For one plan that keeps its conditions and for two.
+pub fn monitored_clocks()
+    ensures whole { InTimeLaw }
+    ensures standing { StandingInTimeLaw }
+    ensures jobs { JobInTimeLaw }
 {}
