@@ -6,7 +6,7 @@ use Rattle.ts_packet.specs.Device.{Failed, IsFront}
 use Rattle.ts_packet.specs.PidList.{cut_packets}
 use Rattle.ts_packet.proofs.Listing.{first_cut}
 use Rattle.monitor.specs.Reports.{ReportView, report_of}
-use Rattle.monitor.specs.Watching.{StreamMarks, none_taken, packets_taken, stream_ended}
+use Rattle.monitor.specs.Watching.{StreamMarks, none_taken, packet_taken, packets_taken, stream_ended}
 use Rattle.monitor.proofs.Reporting.{packet_by_packet}
 use Rattle.tsmux.specs.Devices.{Device, Port, between}
 use Rattle.tsmux.specs.Monitoring.{Concludes, ReportsOn, TakesBytes, TakesPiece, TakesStream}
@@ -34,16 +34,16 @@ cut_both (suc count) bytes more e =
     ∙ ap (λ (x : List (List ℕ)). x ++ cut_packets more) (sym (first_cut front back size))
     ∙ ap (λ (x : List ℕ). cut_packets x ++ cut_packets more) joined
 
-taken_both : (s : StreamMarks) (packets more : List (List ℕ)) → packets_taken s (packets ++ more) ≡ packets_taken (packets_taken s packets) more
+taken_both : (packets more : List (List ℕ)) (s : StreamMarks) → packets_taken s (packets ++ more) ≡ packets_taken (packets_taken s packets) more
 unfolding packets_taken
-taken_both s [] more = refl
-taken_both s (packet ∷ packets) more = taken_both _ packets more
+taken_both [] more s = refl
+taken_both (packet ∷ packets) more s = taken_both packets more (packet_taken s packet)
 
 more_marks : (first before after : StreamMarks) (count : ℕ) (bytes more : List ℕ) → length bytes ≡ 188 * count →
     before ≡ packets_taken first (cut_packets bytes) → after ≡ packets_taken before (cut_packets more) → after ≡ packets_taken first (cut_packets (bytes ++ more))
 more_marks first before after count bytes more w b a =
     a ∙ ap (λ (s : StreamMarks). packets_taken s (cut_packets more)) b
-    ∙ sym (taken_both first (cut_packets bytes) (cut_packets more))
+    ∙ sym (taken_both (cut_packets bytes) (cut_packets more) first)
     ∙ ap (packets_taken first) (sym (cut_both count bytes more w))
 
 -- 2. Some whole packets of the input were taken
