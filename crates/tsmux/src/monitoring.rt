@@ -81,11 +81,7 @@ fn conclude(monitor: Monitor, taken: Result<bool, Halt>) -> Result<Report, Halt>
 }
 
 /// The report on the input.
-fn report<R: Source>(
-    alloc: Global,
-    options: MonitorOptions,
-    input: &mut R,
-) -> Result<Report, Halt>
+fn report<R: Source>(alloc: Global, options: MonitorOptions, input: &mut R) -> Result<Report, Halt>
     ensures { ReportsOn options (reads R.Source input.old input.new) result }
 {
     let mut piece = room(alloc, PIECE)?;

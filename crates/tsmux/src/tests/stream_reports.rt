@@ -18,7 +18,14 @@ fault 2 256 counter
 faults 1
 ";
 
-fn assert_reports(rt: &impl Abort, alloc: Global, words: &[&str], input: &[u8], status: u8, report: &[u8]) {
+fn assert_reports(
+    rt: &impl Abort,
+    alloc: Global,
+    words: &[&str],
+    input: &[u8],
+    status: u8,
+    report: &[u8],
+) {
     let outcome = ran_on(alloc, words, input);
     assert_told(rt, &outcome, status, b"");
     assert_eq!(rt; outcome.output.as_slice(), report);
@@ -71,13 +78,31 @@ faults 9
 fn reports_on_a_multiplex(rt: HostRuntime) -> Result<(), Fail> {
     let alloc = rt.alloc();
     let bytes = job(alloc, [DESCRIPTION, PLAN].as_slice())?;
-    let packets = ran_on(alloc, ["mux", "--slots", "240"].as_slice(), bytes.as_slice());
+    let packets = ran_on(
+        alloc,
+        ["mux", "--slots", "240"].as_slice(),
+        bytes.as_slice(),
+    );
     assert_told(&rt, &packets, 0, b"");
     let good = job(alloc, [COUNTS, "faults 0\n"].as_slice())?;
-    assert_reports(&rt, alloc, WORDS, packets.output.as_slice(), 0, good.as_slice());
+    assert_reports(
+        &rt,
+        alloc,
+        WORDS,
+        packets.output.as_slice(),
+        0,
+        good.as_slice(),
+    );
     let words = ["monitor", "--rate=1504000", "--pcr", "23"];
     let late = job(alloc, [COUNTS, GAPS].as_slice())?;
-    assert_reports(&rt, alloc, words.as_slice(), packets.output.as_slice(), 1, late.as_slice());
+    assert_reports(
+        &rt,
+        alloc,
+        words.as_slice(),
+        packets.output.as_slice(),
+        1,
+        late.as_slice(),
+    );
     Ok(())
 }
 
@@ -89,8 +114,16 @@ fn tells_the_usage_of_monitor(rt: HostRuntime) -> Result<(), Fail> {
     assert_usage(&rt, alloc, ["monitor", "--pcr", "40"].as_slice());
     assert_usage(&rt, alloc, ["monitor", "--rate", "99999"].as_slice());
     assert_usage(&rt, alloc, ["monitor", "--rate", "100000001"].as_slice());
-    assert_usage(&rt, alloc, ["monitor", "--rate", "100000", "--pcr", "0"].as_slice());
-    assert_usage(&rt, alloc, ["monitor", "--rate", "100000", "--pcr", "101"].as_slice());
+    assert_usage(
+        &rt,
+        alloc,
+        ["monitor", "--rate", "100000", "--pcr", "0"].as_slice(),
+    );
+    assert_usage(
+        &rt,
+        alloc,
+        ["monitor", "--rate", "100000", "--pcr", "101"].as_slice(),
+    );
     Ok(())
 }
 
