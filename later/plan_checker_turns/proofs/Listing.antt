@@ -1,0 +1,118 @@
+-- The first condition of a list that fails, found in order.
+use Rattle.std.proofs.Common.{◌≡◌, ℕ, suc, ◌+◌, ◌-◌, ◌<◌, ◌≤◌, Bool, true, false, cond, List, [], ◌∷◌, ◌++◌, length, drop, get_or, Option, Some, None, refl, ap, sym, ◌∙◌, add-one, arith}
+use Rattle.std.proofs.Math.Seq.{drop-cons}
+use Rattle.std.proofs.lemmas.List.{drop_all}
+use Rattle.slot_plan.specs.Entries.{Entry, entry_holds, first_failing}
+use Rattle.slot_plan.specs.Numbered.{numbered}
+use Rattle.description.specs.Described.{Described}
+use Rattle.slot_plan.specs.Planned.{Planned}
+use Rattle.slot_plan.specs.Conditions.{counting, shape_entries, timing_entries, entries}
+
+test_after : (b : Bool) (e : Entry) (rest whole fs : Option Entry) → (rest ≡ None → whole ≡ fs) → cond b rest (Some e) ≡ None → cond b whole (Some e) ≡ fs
+test_after true e rest whole fs next none = next none
+test_after false e rest whole fs next none = absurd (cc)
+
+test_before : (b : Bool) (e f : Entry) (rest whole : Option Entry) → (rest ≡ Some e → whole ≡ Some e) → cond b rest (Some f) ≡ Some e → cond b whole (Some f) ≡ Some e
+test_before true e f rest whole next some = next some
+test_before false e f rest whole next some = some
+
+-- after conditions that hold, the first failing one is that of the rest
+pub failing_after : (es fs : List Entry) → first_failing es ≡ None → first_failing (es ++ fs) ≡ first_failing fs
+failing_after [] fs none = refl
+failing_after (e ∷ es) fs none = test_after (entry_holds e) e (first_failing es) (first_failing (es ++ fs)) (first_failing fs) (failing_after es fs) none
+
+-- a failing condition stays the first, whatever follows
+pub failing_before : (es fs : List Entry) (e : Entry) → first_failing es ≡ Some e → first_failing (es ++ fs) ≡ Some e
+failing_before [] fs e some = absurd (cc)
+failing_before (f ∷ es) fs e some = test_before (entry_holds f) e f (first_failing es) (first_failing (es ++ fs)) (failing_before es fs e) some
+
+module _ {A : Type 0} (part : ℕ → A → List Entry) (xs : List A) where
+  -- the conditions of the elements from number i on
+  abbrev pub from_number : ℕ → List Entry
+  from_number i = numbered part i (drop i xs)
+
+  -- those of element number i come first
+  pub from_next : (i : ℕ) (d : A) → i < length xs → from_number i ≡ part i (get_or xs i d) ++ from_number (i + 1)
+  from_next i d lt = ap (numbered part i) (drop-cons xs i d lt) ∙ one_on
+    where
+      one_on : numbered part i (get_or xs i d ∷ drop (suc i) xs) ≡ part i (get_or xs i d) ++ from_number (i + 1)
+      one_on = rw (add-one i) refl
+
+  -- element number i keeps its conditions: what fails first is among those of the next
+  pub failing_next : (i : ℕ) (d : A) → i < length xs → first_failing (part i (get_or xs i d)) ≡ None → first_failing (from_number i) ≡ first_failing (from_number (i + 1))
+  failing_next i d lt none = ap first_failing (from_next i d lt) ∙ failing_after (part i (get_or xs i d)) (from_number (i + 1)) none
+
+  -- it does not: that is the first
+  pub failing_here : (i : ℕ) (d : A) (e : Entry) → i < length xs → first_failing (part i (get_or xs i d)) ≡ Some e → first_failing (from_number i) ≡ Some e
+  failing_here i d e lt some = ap first_failing (from_next i d lt) ∙ failing_before (part i (get_or xs i d)) (from_number (i + 1)) e some
+
+  -- none is left
+  pub failing_end : (i : ℕ) → length xs ≤ i → first_failing (from_number i) ≡ None
+  failing_end i le = ap (λ (ys : List A). first_failing (numbered part i ys)) (drop_all i xs le)
+
+-- an element of a list, at a number within it
+pub element_at : {A : Type 0} (xs : List A) (i : ℕ) → i < length xs → A
+element_at [] i lt = absurd (omega arith)
+element_at (x ∷ xs) i lt = x
+
+module _ {A : Type 0} (part : ℕ → List Entry) (xs : List A) where
+  -- a loop over the numbers of a list goes on where the conditions of number i hold
+  pub goes_on : (i : ℕ) (whole : Option Entry) → whole ≡ first_failing (from_number (λ j _. part j) xs i) → i < length xs → None ≡ first_failing (part i) →
+      whole ≡ first_failing (from_number (λ j _. part j) xs (i + 1))
+  goes_on i whole e lt none = e ∙ failing_next (λ j _. part j) xs i (element_at xs i lt) lt (sym none)
+
+  -- and ends where they do not
+  pub ends_here : (i : ℕ) (e : Entry) (whole : Option Entry) → whole ≡ first_failing (from_number (λ j _. part j) xs i) → i < length xs → Some e ≡ first_failing (part i) →
+      Some e ≡ whole
+  ends_here i e whole h lt some = sym (h ∙ failing_here (λ j _. part j) xs i (element_at xs i lt) e lt (sym some))
+
+module _ {A : Type 0} (part : ℕ → A → List Entry) (xs : List A) where
+  -- the same of a loop over the elements
+  pub goes_on_item : (i : ℕ) (x : A) (whole : Option Entry) → whole ≡ first_failing (from_number part xs i) → i < length xs → x ≡ get_or xs i x →
+      None ≡ first_failing (part i x) → whole ≡ first_failing (from_number part xs (i + 1))
+  goes_on_item i x whole e lt is none = e ∙ failing_next part xs i x lt (ap (λ (y : A). first_failing (part i y)) (sym is) ∙ sym none)
+
+  pub ends_item : (i : ℕ) (x : A) (e : Entry) (whole : Option Entry) → whole ≡ first_failing (from_number part xs i) → i < length xs → x ≡ get_or xs i x →
+      Some e ≡ first_failing (part i x) → Some e ≡ whole
+  ends_item i x e whole h lt is some = sym (h ∙ failing_here part xs i x e lt (ap (λ (y : A). first_failing (part i y)) (sym is) ∙ sym some))
+
+-- the conditions on one, two, up to n units in a row: that on i + 1 of them comes before the others
+counting_next : (f : ℕ → Entry) (i n : ℕ) → i < n → counting f (i + 1) (n - i) ≡ f (i + 1) ∷ counting f (i + 1 + 1) (n - (i + 1))
+counting_next f i n lt = let e : n - i ≡ suc (n - (i + 1)) = omega arith in ap (counting f (i + 1)) e ∙ rest
+  where
+    rest : counting f (i + 1) (suc (n - (i + 1))) ≡ f (i + 1) ∷ counting f (i + 1 + 1) (n - (i + 1))
+    rest = rw (add-one (i + 1)) refl
+
+pub counts_on : (f : ℕ → Entry) (i n : ℕ) (whole : Option Entry) → whole ≡ first_failing (counting f (i + 1) (n - i)) → i < n → None ≡ first_failing (f (i + 1) ∷ []) →
+    whole ≡ first_failing (counting f (i + 1 + 1) (n - (i + 1)))
+counts_on f i n whole e lt none = e ∙ ap first_failing (counting_next f i n lt) ∙ failing_after (f (i + 1) ∷ []) (counting f (i + 1 + 1) (n - (i + 1))) (sym none)
+
+pub count_ends : (f : ℕ → Entry) (i n : ℕ) (e : Entry) (whole : Option Entry) → whole ≡ first_failing (counting f (i + 1) (n - i)) → i < n →
+    Some e ≡ first_failing (f (i + 1) ∷ []) → Some e ≡ whole
+count_ends f i n e whole h lt some =
+    sym (h ∙ ap first_failing (counting_next f i n lt) ∙ failing_before (f (i + 1) ∷ []) (counting f (i + 1 + 1) (n - (i + 1))) e (sym some))
+
+pub count_done : (f : ℕ → Entry) (i n : ℕ) → n ≤ i → None ≡ first_failing (counting f (i + 1) (n - i))
+count_done f i n le = let e : n - i ≡ 0 = omega arith in rw e refl
+
+-- conditions before others
+pub then_after : (xs ys : List Entry) (r : Option Entry) → None ≡ first_failing xs → r ≡ first_failing ys → r ≡ first_failing (xs ++ ys)
+then_after xs ys r none e = e ∙ sym (failing_after xs ys (sym none))
+
+pub then_before : (xs ys : List Entry) (e : Entry) → Some e ≡ first_failing xs → Some e ≡ first_failing (xs ++ ys)
+then_before xs ys e some = sym (failing_before xs ys e (sym some))
+
+-- the conditions of a plan are those of its shape where one of these fails
+pub shape_fails : (d : Described) (p : Planned) (e : Entry) → Some e ≡ first_failing (shape_entries d p) → Some e ≡ first_failing (entries d p)
+shape_fails d p e some = some ∙ ap first_failing (sym same)
+  where
+    same : entries d p ≡ shape_entries d p
+    same = rw (← some) refl
+
+-- and those of the timing after them where none does
+pub shape_holds : (d : Described) (p : Planned) (r : Option Entry) → None ≡ first_failing (shape_entries d p) → r ≡ first_failing (timing_entries d p) →
+    r ≡ first_failing (entries d p)
+shape_holds d p r none timing = then_after (shape_entries d p) (timing_entries d p) r none timing ∙ ap first_failing (sym same)
+  where
+    same : entries d p ≡ shape_entries d p ++ timing_entries d p
+    same = rw (← none) refl

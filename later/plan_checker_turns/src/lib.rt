@@ -1,0 +1,46 @@
+//! Whether a plan serves a service description, alone or after another plan: the first condition on slots, gaps,
+//! buffers and deadlines that it does not keep.
+//!
+//! - [`check`]: one plan, to a [`CheckedPlan`] or a [`Refusal`].
+//! - [`check_switch`]: a second plan after a checked one, to a [`CheckedSwitch`] or a [`Refusal`].
+//! - [`own_count`], [`spread_of`], [`work_of`]: the numbers of an item's own slots that the conditions compare, each in
+//!   one walk over a period.
+//! - [`packets_of_units`], [`waiting_slots`], [`bytes_by_units`]: those of what a stream declares.
+#![tactic(auto)]
+
+mod buffers;
+mod checked_plan;
+mod checked_switch;
+mod checking;
+mod claims;
+mod comparing;
+mod counting;
+mod gap;
+mod gaps;
+mod leads;
+mod pace;
+mod positions;
+mod refusal;
+mod shape;
+mod sides;
+mod spread;
+mod switch;
+mod timing;
+mod turns;
+mod waiting;
+mod work;
+
+pub use checked_plan::CheckedPlan;
+pub use checked_switch::CheckedSwitch;
+pub use checking::check;
+pub use counting::own_count;
+pub use leads::packets_of_units;
+pub use refusal::Refusal;
+pub use slot_plan::{Condition, Relation};
+pub use spread::spread_of;
+pub use switch::succession::check_switch;
+pub use waiting::{bytes_by_units, waiting_slots};
+pub use work::{Work, work_of};
+
+#[cfg(test)]
+mod tests;
