@@ -1,7 +1,8 @@
 -- The first condition of a list that fails, found in order.
-use Rattle.std.proofs.Common.{◌≡◌, ℕ, suc, ◌+◌, ◌-◌, ◌<◌, ◌≤◌, Bool, true, false, cond, List, [], ◌∷◌, ◌++◌, length, drop, get_or, Option, Some, None, refl, ap, sym, ◌∙◌, add-one, arith}
+use Rattle.std.proofs.Common.{◌≡◌, ℕ, suc, ◌+◌, ◌-◌, ◌<◌, ◌≤◌, Bool, true, false, cond, List, [], ◌∷◌, ◌++◌, length, drop, get_or, slice_get, Option, Some, None, refl, ap, sym, ◌∙◌, add-one, arith}
 use Rattle.std.proofs.Math.Seq.{drop-cons}
-use Rattle.std.proofs.lemmas.List.{drop_all}
+use Rattle.std.specs.Option.{unwrap_or}
+use Rattle.std.proofs.lemmas.Option.{slice_get-get_or, unwrap_or-slice_get}
 use Rattle.slot_plan.specs.Entries.{Entry, entry_holds, first_failing}
 use Rattle.slot_plan.specs.Numbered.{numbered}
 use Rattle.description.specs.Described.{Described}
@@ -46,35 +47,27 @@ module _ {A : Type 0} (part : ℕ → A → List Entry) (xs : List A) where
   pub failing_here : (i : ℕ) (d : A) (e : Entry) → i < length xs → first_failing (part i (get_or xs i d)) ≡ Some e → first_failing (from_number i) ≡ Some e
   failing_here i d e lt some = ap first_failing (from_next i d lt) ∙ failing_before (part i (get_or xs i d)) (from_number (i + 1)) e some
 
-  -- none is left
-  pub failing_end : (i : ℕ) → length xs ≤ i → first_failing (from_number i) ≡ None
-  failing_end i le = ap (λ (ys : List A). first_failing (numbered part i ys)) (drop_all i xs le)
-
 -- an element of a list, at a number within it
 element_at : {A : Type 0} (xs : List A) (i : ℕ) → i < length xs → A
 element_at [] i lt = absurd (omega arith)
 element_at (x ∷ xs) i lt = x
 
-module _ {A : Type 0} (part : ℕ → List Entry) (xs : List A) where
-  -- a loop over the numbers of a list goes on where the conditions of number i hold
-  pub goes_on : (i : ℕ) (whole : Option Entry) → whole ≡ first_failing (from_number (λ j _. part j) xs i) → i < length xs → None ≡ first_failing (part i) →
-      whole ≡ first_failing (from_number (λ j _. part j) xs (i + 1))
-  goes_on i whole e lt none = e ∙ failing_next (λ j _. part j) xs i (element_at xs i lt) lt (sym none)
-
-  -- and ends where they do not
-  pub ends_here : (i : ℕ) (e : Entry) (whole : Option Entry) → whole ≡ first_failing (from_number (λ j _. part j) xs i) → i < length xs → Some e ≡ first_failing (part i) →
-      Some e ≡ whole
-  ends_here i e whole h lt some = sym (h ∙ failing_here (λ j _. part j) xs i (element_at xs i lt) e lt (sym some))
-
 module _ {A : Type 0} (part : ℕ → A → List Entry) (xs : List A) where
-  -- the same of a loop over the elements
-  pub goes_on_item : (i : ℕ) (x : A) (whole : Option Entry) → whole ≡ first_failing (from_number part xs i) → i < length xs → x ≡ get_or xs i x →
-      None ≡ first_failing (part i x) → whole ≡ first_failing (from_number part xs (i + 1))
-  goes_on_item i x whole e lt is none = e ∙ failing_next part xs i x lt (ap (λ (y : A). first_failing (part i y)) (sym is) ∙ sym none)
+  -- a loop over the numbers of a list goes on where the element at number i keeps its conditions
+  pub goes_on : (i : ℕ) (whole : Option Entry) → whole ≡ first_failing (from_number part xs i) → i < length xs →
+      ((x : A) → slice_get xs i ≡ Some x → None ≡ first_failing (part i x)) → whole ≡ first_failing (from_number part xs (i + 1))
+  goes_on i whole e lt none = let d : A = element_at xs i lt in
+      e ∙ failing_next part xs i d lt (sym (none (get_or xs i d) (slice_get-get_or xs i d lt)))
 
-  pub ends_item : (i : ℕ) (x : A) (e : Entry) (whole : Option Entry) → whole ≡ first_failing (from_number part xs i) → i < length xs → x ≡ get_or xs i x →
-      Some e ≡ first_failing (part i x) → Some e ≡ whole
-  ends_item i x e whole h lt is some = sym (h ∙ failing_here part xs i x e lt (ap (λ (y : A). first_failing (part i y)) (sym is) ∙ sym some))
+  -- and ends where it does not
+  pub ends_here : (i : ℕ) (e : Entry) (whole : Option Entry) → whole ≡ first_failing (from_number part xs i) → i < length xs →
+      ((x : A) → slice_get xs i ≡ Some x → Some e ≡ first_failing (part i x)) → Some e ≡ whole
+  ends_here i e whole h lt some = let d : A = element_at xs i lt in
+      sym (h ∙ failing_here part xs i d e lt (sym (some (get_or xs i d) (slice_get-get_or xs i d lt))))
+
+-- the element at a number, found in two ways
+pub the_item : {A : Type 0} (xs : List A) (i : ℕ) (x y : A) → slice_get xs i ≡ Some x → y ≡ get_or xs i y → y ≡ x
+the_item {A = A} xs i x y at is = is ∙ sym (unwrap_or-slice_get xs i y) ∙ ap (λ (o : Option A). unwrap_or o y) at
 
 -- the conditions on one, two, up to n units in a row: that on i + 1 of them comes before the others
 counting_next : (f : ℕ → Entry) (i n : ℕ) → i < n → counting f (i + 1) (n - i) ≡ f (i + 1) ∷ counting f (i + 1 + 1) (n - (i + 1))

@@ -1,17 +1,17 @@
 //! Transport and system buffers never overflow (ISO/IEC 13818-1, 2.4.2.3).
 
-ghost use Rattle.std.specs.Prelude.{◌≡◌, ◌<◌, ◌⊎◌, ◌∷◌, [], length};
-ghost use Rattle.description.specs.Ranges.{IsStream};
+ghost use Rattle.std.specs.Prelude.{◌≡◌, ◌∷◌, []};
 ghost use Rattle.slot_plan.specs.Entries.{at_most, first_failing};
-ghost use Rattle.slot_plan.specs.Conditions.{stream_buffer_entries, transport_buffer_entries, system_buffer_entries, stream_buffers, transport_buffers, system_buffers};
-ghost use Rattle.slot_plan.specs.Shape.{IsShaped};
+ghost use Rattle.slot_plan.specs.Conditions.{stream_buffer_entries, transport_buffer_entries, system_buffer_entries};
 ghost use Rattle.plan_checker.specs.Refused.{failed};
 
 use crate::claims::{claim_of_program, claim_of_stream};
 use crate::comparing::at_most;
+use crate::plans::ShapedPlan;
 use crate::refusal::Refusal;
+use crate::turns::OnEach;
 use crate::work::{Work, work_of};
-use slot_plan::{Condition, Description, Item, Plan, Stream};
+use slot_plan::{Condition, Item, Program, Stream};
 use std::alloc::Allocator;
 use unit_timing::buffers::{BSYS_DRAIN, BSYS_SIZE, SYSTEM_TB_DRAIN, TB_SIZE};
 
@@ -36,126 +36,96 @@ fn buffer(
 }
 
 /// The transport buffer of each stream.
-pub fn stream_buffers<A: Allocator>(
-    description: &Description,
-    plan: &Plan<A>,
-) -> Result<(), Refusal>
-    requires shaped { IsShaped description.now plan.now }
-    ensures { failed result ≡ first_failing (stream_buffers description.now plan.now) }
-{
-    for (i, stream) in description.streams().iter().enumerate() {
-        stream_buffer(description, plan, i, stream)?;
-    }
-    Ok(())
-}
+pub struct StreamBuffers;
 
-fn stream_buffer<A: Allocator>(
-    description: &Description,
-    plan: &Plan<A>,
-    i: usize,
-    stream: &Stream,
-) -> Result<(), Refusal>
-    requires shaped { IsShaped description.now plan.now }
-    requires stream { i < length description.now.streams }
-    requires small { i < 256 }
-    requires ranges { IsStream stream.now }
-    ensures { failed result ≡ first_failing (stream_buffer_entries description.now plan.now i stream.now) }
-{
-    let claim = claim_of_stream(plan, i);
-    let rate = description.rate().bits_per_second();
-    let item = Item::Stream(i as u8);
-    let work = work_of(plan.slots(), item, rate, stream.rx as u64, claim.start);
-    let room = TB_SIZE * rate;
-    buffer(
-        Condition::TransportBuffer,
-        i as u32,
-        work,
-        room,
-        claim.start,
-        claim.peak,
-    )
+impl<A: Allocator> OnEach<ShapedPlan<'_, A>> for StreamBuffers {
+    type Item = Stream;
+
+    ghost items = { λ s. s.description.now.streams };
+
+    ghost entries = { λ s. stream_buffer_entries s.description.now s.plan.now };
+
+    fn count(plans: &ShapedPlan<'_, A>) -> usize {
+        plans.description.streams().len()
+    }
+
+    fn judge(plans: &ShapedPlan<'_, A>, i: usize) -> Result<(), Refusal> {
+        let claim = claim_of_stream(plans.plan, i);
+        let rate = plans.description.rate().bits_per_second();
+        let drain = plans.description.streams()[i].rx as u64;
+        let item = Item::Stream(i as u8);
+        let work = work_of(plans.plan.slots(), item, rate, drain, claim.start);
+        buffer(
+            Condition::TransportBuffer,
+            i as u32,
+            work,
+            TB_SIZE * rate,
+            claim.start,
+            claim.peak,
+        )
+    }
 }
 
 /// The transport buffer of each program's system packets; programs are counted on after the streams.
-pub fn transport_buffers<A: Allocator>(
-    description: &Description,
-    plan: &Plan<A>,
-) -> Result<(), Refusal>
-    requires shaped { IsShaped description.now plan.now }
-    ensures { failed result ≡ first_failing (transport_buffers description.now plan.now) }
-{
-    for i in 0..description.programs().len() {
-        transport_buffer(description, plan, i)?;
-    }
-    Ok(())
-}
+pub struct TransportBuffers;
 
-fn transport_buffer<A: Allocator>(
-    description: &Description,
-    plan: &Plan<A>,
-    i: usize,
-) -> Result<(), Refusal>
-    requires shaped { IsShaped description.now plan.now }
-    requires program { i < length description.now.programs }
-    ensures { failed result ≡ first_failing (transport_buffer_entries description.now plan.now i) }
-{
-    let number = (description.streams().len() + i) as u32;
-    let claim = claim_of_program(plan, i);
-    let rate = description.rate().bits_per_second();
-    let item = Item::System(i as u8);
-    let work = work_of(
-        plan.slots(),
-        item,
-        rate,
-        SYSTEM_TB_DRAIN,
-        claim.transport_start,
-    );
-    let room = TB_SIZE * rate;
-    buffer(
-        Condition::TransportBuffer,
-        number,
-        work,
-        room,
-        claim.transport_start,
-        claim.transport_peak,
-    )
+impl<A: Allocator> OnEach<ShapedPlan<'_, A>> for TransportBuffers {
+    type Item = Program;
+
+    ghost items = { λ s. s.description.now.programs };
+
+    ghost entries = { λ s i _. transport_buffer_entries s.description.now s.plan.now i };
+
+    fn count(plans: &ShapedPlan<'_, A>) -> usize {
+        plans.description.programs().len()
+    }
+
+    fn judge(plans: &ShapedPlan<'_, A>, i: usize) -> Result<(), Refusal> {
+        let number = plans.description.streams().len() + i;
+        let claim = claim_of_program(plans.plan, i);
+        let start = claim.transport_start;
+        let rate = plans.description.rate().bits_per_second();
+        let item = Item::System(i as u8);
+        let work = work_of(plans.plan.slots(), item, rate, SYSTEM_TB_DRAIN, start);
+        buffer(
+            Condition::TransportBuffer,
+            number as u32,
+            work,
+            TB_SIZE * rate,
+            start,
+            claim.transport_peak,
+        )
+    }
 }
 
 /// The system buffer of each program.
-pub fn system_buffers<A: Allocator>(
-    description: &Description,
-    plan: &Plan<A>,
-) -> Result<(), Refusal>
-    requires shaped { IsShaped description.now plan.now }
-    ensures { failed result ≡ first_failing (system_buffers description.now plan.now) }
-{
-    for i in 0..description.programs().len() {
-        system_buffer(description, plan, i)?;
-    }
-    Ok(())
-}
+pub struct SystemBuffers;
 
-fn system_buffer<A: Allocator>(
-    description: &Description,
-    plan: &Plan<A>,
-    i: usize,
-) -> Result<(), Refusal>
-    requires shaped { IsShaped description.now plan.now }
-    requires program { i < length description.now.programs }
-    ensures { failed result ≡ first_failing (system_buffer_entries description.now plan.now i) }
-{
-    description.keeps_ranges();
-    let claim = claim_of_program(plan, i);
-    let rate = description.rate().bits_per_second();
-    let item = Item::System(i as u8);
-    let work = work_of(plan.slots(), item, rate, BSYS_DRAIN, claim.system_start);
-    let room = BSYS_SIZE * rate;
-    buffer(
-        Condition::SystemBuffer,
-        i as u32,
-        work,
-        room,
-        claim.system_start,
-        claim.system_peak,
-    )
+impl<A: Allocator> OnEach<ShapedPlan<'_, A>> for SystemBuffers {
+    type Item = Program;
+
+    ghost items = { λ s. s.description.now.programs };
+
+    ghost entries = { λ s i _. system_buffer_entries s.description.now s.plan.now i };
+
+    fn count(plans: &ShapedPlan<'_, A>) -> usize {
+        plans.description.programs().len()
+    }
+
+    fn judge(plans: &ShapedPlan<'_, A>, i: usize) -> Result<(), Refusal> {
+        plans.description.keeps_ranges();
+        let claim = claim_of_program(plans.plan, i);
+        let start = claim.system_start;
+        let rate = plans.description.rate().bits_per_second();
+        let item = Item::System(i as u8);
+        let work = work_of(plans.plan.slots(), item, rate, BSYS_DRAIN, start);
+        buffer(
+            Condition::SystemBuffer,
+            i as u32,
+            work,
+            BSYS_SIZE * rate,
+            start,
+            claim.system_peak,
+        )
+    }
 }

@@ -1,69 +1,70 @@
 //! PCRs and sections recur in time.
 
-ghost use Rattle.std.specs.Prelude.{◌≡◌, ◌<◌, ◌∷◌, [], length};
-ghost use Rattle.description.specs.Tables.{table_count};
-ghost use Rattle.slot_plan.specs.Entries.{first_failing};
-ghost use Rattle.slot_plan.specs.Conditions.{pcr_gap_entry, table_gap_entry, pcr_gaps, table_gaps};
-ghost use Rattle.slot_plan.specs.Shape.{IsShaped};
-ghost use Rattle.plan_checker.specs.Refused.{failed};
+ghost use Rattle.std.specs.Prelude.{◌∷◌, []};
+ghost use Rattle.description.specs.Tables.{table_kinds};
+ghost use Rattle.slot_plan.specs.Conditions.{pcr_gap_entry, table_gap_entry};
 
 use crate::comparing::at_most;
 use crate::gap::greatest_gap;
+use crate::plans::ShapedPlan;
 use crate::refusal::Refusal;
+use crate::turns::OnEach;
 use clock27::SLOT_MILLISECONDS;
-use slot_plan::{Condition, Description, Item, Plan, Program};
+use slot_plan::{Condition, Item, Program, TableKind};
 use std::alloc::Allocator;
 
 /// The PCRs of each program recur within its limit.
-pub fn pcr_gaps<A: Allocator>(description: &Description, plan: &Plan<A>) -> Result<(), Refusal>
-    requires shaped { IsShaped description.now plan.now }
-    ensures { failed result ≡ first_failing (pcr_gaps description.now plan.now) }
-{
-    for (i, program) in description.programs().iter().enumerate() {
-        pcr_gap(description, plan, i, program)?;
-    }
-    Ok(())
-}
+pub struct PcrGaps;
 
-fn pcr_gap<A: Allocator>(
-    description: &Description,
-    plan: &Plan<A>,
-    i: usize,
-    program: &Program,
-) -> Result<(), Refusal>
-    requires shaped { IsShaped description.now plan.now }
-    requires program { i < length description.now.programs }
-    requires small { i < 256 }
-    ensures { failed result ≡ first_failing (pcr_gap_entry description.now plan.now i program.now ∷ []) }
-{
-    let gap = greatest_gap(plan.slots(), Item::Pcr(i as u8), 1) as u128 * SLOT_MILLISECONDS;
-    let limit = program.pcr_limit() as u128 * description.rate().bits_per_second() as u128;
-    at_most(Condition::PcrGap, 0, i as u32, gap, limit)
+impl<A: Allocator> OnEach<ShapedPlan<'_, A>> for PcrGaps {
+    type Item = Program;
+
+    ghost items = { λ s. s.description.now.programs };
+
+    ghost entries = { λ s i program. pcr_gap_entry s.description.now s.plan.now i program ∷ [] };
+
+    fn count(plans: &ShapedPlan<'_, A>) -> usize {
+        plans.description.programs().len()
+    }
+
+    fn judge(plans: &ShapedPlan<'_, A>, i: usize) -> Result<(), Refusal> {
+        let gap = greatest_gap(plans.plan.slots(), Item::Pcr(i as u8), 1);
+        let limit = plans.description.programs()[i].pcr_limit();
+        at_most(
+            Condition::PcrGap,
+            0,
+            i as u32,
+            gap as u128 * SLOT_MILLISECONDS,
+            limit as u128 * plans.description.rate().bits_per_second() as u128,
+        )
+    }
 }
 
 /// The sections of each table recur within its limit.
-pub fn table_gaps<A: Allocator>(description: &Description, plan: &Plan<A>) -> Result<(), Refusal>
-    requires shaped { IsShaped description.now plan.now }
-    ensures { failed result ≡ first_failing (table_gaps description.now plan.now) }
-{
-    for t in 0..description.tables() {
-        table_gap(description, plan, t)?;
-    }
-    Ok(())
-}
+pub struct TableGaps;
 
-fn table_gap<A: Allocator>(
-    description: &Description,
-    plan: &Plan<A>,
-    t: usize,
-) -> Result<(), Refusal>
-    requires shaped { IsShaped description.now plan.now }
-    requires table { t < table_count description.now }
-    ensures { failed result ≡ first_failing (table_gap_entry description.now plan.now t ∷ []) }
-{
-    description.keeps_ranges();
-    let places = description.round_places(t) as u64;
-    let gap = greatest_gap(plan.slots(), Item::Table(t as u8), places) as u128 * SLOT_MILLISECONDS;
-    let limit = description.table_limit(t) as u128 * description.rate().bits_per_second() as u128;
-    at_most(Condition::TableGap, 0, t as u32, gap, limit)
+impl<A: Allocator> OnEach<ShapedPlan<'_, A>> for TableGaps {
+    type Item = TableKind;
+
+    ghost items = { λ s. table_kinds s.description.now };
+
+    ghost entries = { λ s t _. table_gap_entry s.description.now s.plan.now t ∷ [] };
+
+    fn count(plans: &ShapedPlan<'_, A>) -> usize {
+        plans.description.tables()
+    }
+
+    fn judge(plans: &ShapedPlan<'_, A>, i: usize) -> Result<(), Refusal> {
+        plans.description.keeps_ranges();
+        let places = plans.description.round_places(i) as u64;
+        let gap = greatest_gap(plans.plan.slots(), Item::Table(i as u8), places);
+        let limit = plans.description.table_limit(i);
+        at_most(
+            Condition::TableGap,
+            0,
+            i as u32,
+            gap as u128 * SLOT_MILLISECONDS,
+            limit as u128 * plans.description.rate().bits_per_second() as u128,
+        )
+    }
 }

@@ -8,16 +8,17 @@ ghost use Rattle.unit_timing.specs.Conditions.{packets_in_row};
 ghost use Rattle.slot_plan.specs.Claims.{declaration};
 ghost use Rattle.slot_plan.specs.Items.{marks};
 ghost use Rattle.slot_plan.specs.Entries.{first_failing};
-ghost use Rattle.slot_plan.specs.Conditions.{counting, group_part, stream_lead_entry, stream_leads};
-ghost use Rattle.slot_plan.specs.Shape.{IsShaped};
+ghost use Rattle.slot_plan.specs.Conditions.{counting, group_part, stream_lead_entry};
 ghost use Rattle.plan_checker.specs.Refused.{failed};
 
 use crate::claims::claim_of_stream;
 use crate::comparing::at_most;
 use crate::counting::own_count;
+use crate::plans::ShapedPlan;
 use crate::refusal::Refusal;
 use crate::sides::{lead_given, lead_needed};
-use slot_plan::{Condition, Description, Item, Plan, Stream};
+use crate::turns::OnEach;
+use slot_plan::{Condition, Item, Stream};
 use std::alloc::Allocator;
 
 /// The packets of a stream's greatest unit, with the longest PES header of 19 bytes (ISO/IEC 13818-1, 2.4.3.7).
@@ -46,58 +47,62 @@ pub fn group_part(stream: &Stream, units: u8) -> u8
 }
 
 /// The units of each stream, one and up to a group in a row.
-pub fn stream_leads<A: Allocator>(description: &Description, plan: &Plan<A>) -> Result<(), Refusal>
-    requires shaped { IsShaped description.now plan.now }
-    ensures { failed result ≡ first_failing (stream_leads description.now plan.now) }
-{
-    for (i, stream) in description.streams().iter().enumerate() {
-        stream_lead(description, plan, i, stream)?;
+pub struct StreamLeads;
+
+impl<A: Allocator> OnEach<ShapedPlan<'_, A>> for StreamLeads {
+    type Item = Stream;
+
+    ghost items = { λ s. s.description.now.streams };
+
+    ghost entries = { λ s i stream. counting (stream_lead_entry s.description.now s.plan.now i stream) 1 stream.group };
+
+    fn count(plans: &ShapedPlan<'_, A>) -> usize {
+        plans.description.streams().len()
     }
-    Ok(())
+
+    fn judge(plans: &ShapedPlan<'_, A>, i: usize) -> Result<(), Refusal> {
+        stream_lead(plans, i, &plans.description.streams()[i])
+    }
 }
 
 fn stream_lead<A: Allocator>(
-    description: &Description,
-    plan: &Plan<A>,
+    plans: &ShapedPlan<'_, A>,
     i: usize,
     stream: &Stream,
 ) -> Result<(), Refusal>
-    requires shaped { IsShaped description.now plan.now }
-    requires stream { i < length description.now.streams }
+    requires stream { i < length plans.now.description.now.streams }
     requires small { i < 256 }
     requires ranges { IsStream stream.now }
-    ensures { failed result ≡ first_failing (counting (stream_lead_entry description.now plan.now i stream.now) 1 stream.now.group) }
+    ensures { failed result ≡ first_failing (counting (stream_lead_entry plans.now.description.now plans.now.plan.now i stream.now) 1 stream.now.group) }
 {
-    let count = own_count(plan.slots(), Item::Stream(i as u8));
+    let count = own_count(plans.plan.slots(), Item::Stream(i as u8));
     for before in 0..stream.group {
-        units_lead(description, plan, i, stream, count, before + 1)?;
+        units_lead(plans, i, stream, count, before + 1)?;
     }
     Ok(())
 }
 
 /// `units` units in a row of stream number `i`, which has `count` own slots a period.
 fn units_lead<A: Allocator>(
-    description: &Description,
-    plan: &Plan<A>,
+    plans: &ShapedPlan<'_, A>,
     i: usize,
     stream: &Stream,
     count: u64,
     units: u8,
 ) -> Result<(), Refusal>
-    requires shaped { IsShaped description.now plan.now }
-    requires stream { i < length description.now.streams }
+    requires stream { i < length plans.now.description.now.streams }
     requires small { i < 256 }
     requires ranges { IsStream stream.now }
-    requires counted { count ≡ per_period (marks (Item.Stream i) plan.now.slots) }
+    requires counted { count ≡ per_period (marks (Item.Stream i) plans.now.plan.now.slots) }
     requires few { count ≤ 65536 }
     requires some { 0 < units }
     requires group { units ≤ stream.now.group }
-    ensures { failed result ≡ first_failing (stream_lead_entry description.now plan.now i stream.now units ∷ []) }
+    ensures { failed result ≡ first_failing (stream_lead_entry plans.now.description.now plans.now.plan.now i stream.now units ∷ []) }
 {
-    let claim = claim_of_stream(plan, i);
-    let period = plan.slots().len() as u64;
+    let claim = claim_of_stream(plans.plan, i);
+    let period = plans.plan.slots().len() as u64;
     let packets = packets_of_units(stream, units);
-    let rate = description.rate().bits_per_second();
+    let rate = plans.description.rate().bits_per_second();
     let rx = stream.rx as u64;
     let needed = lead_needed(claim.spread, packets, period, count, rx, claim.peak);
     let given = lead_given(

@@ -19,6 +19,7 @@ mod gap;
 mod gaps;
 mod leads;
 mod pace;
+mod plans;
 mod positions;
 mod refusal;
 mod shape;
@@ -26,6 +27,7 @@ mod sides;
 mod spread;
 mod switch;
 mod timing;
+mod turns;
 mod waiting;
 mod work;
 

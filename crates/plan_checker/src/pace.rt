@@ -1,75 +1,68 @@
 //! The slots of a stream are spread as claimed, and are enough for its units.
 
-ghost use Rattle.std.specs.Prelude.{◌≡◌, ◌<◌, ◌∷◌, [], length};
-ghost use Rattle.description.specs.Ranges.{IsStream};
-ghost use Rattle.slot_plan.specs.Entries.{first_failing};
-ghost use Rattle.slot_plan.specs.Conditions.{spread_entry, stream_rate_entry, spreads, stream_rates};
-ghost use Rattle.slot_plan.specs.Shape.{IsShaped};
-ghost use Rattle.plan_checker.specs.Refused.{failed};
+ghost use Rattle.std.specs.Prelude.{◌∷◌, []};
+ghost use Rattle.slot_plan.specs.Conditions.{spread_entry, stream_rate_entry};
 
 use crate::claims::claim_of_stream;
 use crate::comparing::at_most;
 use crate::counting::own_count;
+use crate::plans::ShapedPlan;
 use crate::refusal::Refusal;
 use crate::sides::{rate_given, rate_needed};
 use crate::spread::spread_of;
-use slot_plan::{Condition, Description, Item, Plan, Stream};
+use crate::turns::OnEach;
+use slot_plan::{Condition, Item, Stream};
 use std::alloc::Allocator;
 
 /// The own slots of each stream stray from even spacing by no more than claimed.
-pub fn spreads<A: Allocator>(description: &Description, plan: &Plan<A>) -> Result<(), Refusal>
-    requires shaped { IsShaped description.now plan.now }
-    ensures { failed result ≡ first_failing (spreads description.now plan.now) }
-{
-    for i in 0..description.streams().len() {
-        spread(description, plan, i)?;
-    }
-    Ok(())
-}
+pub struct Spreads;
 
-fn spread<A: Allocator>(description: &Description, plan: &Plan<A>, i: usize) -> Result<(), Refusal>
-    requires shaped { IsShaped description.now plan.now }
-    requires stream { i < length description.now.streams }
-    ensures { failed result ≡ first_failing (spread_entry plan.now i ∷ []) }
-{
-    description.keeps_ranges();
-    let spread = spread_of(plan.slots(), Item::Stream(i as u8));
-    let claimed = claim_of_stream(plan, i).spread;
-    at_most(
-        Condition::Spread,
-        0,
-        i as u32,
-        spread as u128,
-        claimed as u128,
-    )
+impl<A: Allocator> OnEach<ShapedPlan<'_, A>> for Spreads {
+    type Item = Stream;
+
+    ghost items = { λ s. s.description.now.streams };
+
+    ghost entries = { λ s i _. spread_entry s.plan.now i ∷ [] };
+
+    fn count(plans: &ShapedPlan<'_, A>) -> usize {
+        plans.description.streams().len()
+    }
+
+    fn judge(plans: &ShapedPlan<'_, A>, i: usize) -> Result<(), Refusal> {
+        plans.description.keeps_ranges();
+        let spread = spread_of(plans.plan.slots(), Item::Stream(i as u8));
+        let claimed = claim_of_stream(plans.plan, i).spread;
+        at_most(
+            Condition::Spread,
+            0,
+            i as u32,
+            spread as u128,
+            claimed as u128,
+        )
+    }
 }
 
 /// Each stream has slots enough for its groups of units on end.
-pub fn stream_rates<A: Allocator>(description: &Description, plan: &Plan<A>) -> Result<(), Refusal>
-    requires shaped { IsShaped description.now plan.now }
-    ensures { failed result ≡ first_failing (stream_rates description.now plan.now) }
-{
-    for (i, stream) in description.streams().iter().enumerate() {
-        stream_rate(description, plan, i, stream)?;
-    }
-    Ok(())
-}
+pub struct StreamRates;
 
-fn stream_rate<A: Allocator>(
-    description: &Description,
-    plan: &Plan<A>,
-    i: usize,
-    stream: &Stream,
-) -> Result<(), Refusal>
-    requires shaped { IsShaped description.now plan.now }
-    requires small { i < 256 }
-    requires ranges { IsStream stream.now }
-    ensures { failed result ≡ first_failing (stream_rate_entry description.now plan.now i stream.now ∷ []) }
-{
-    let slots = plan.slots();
-    let count = own_count(slots, Item::Stream(i as u8));
-    let rate = description.rate().bits_per_second();
-    let needed = rate_needed(stream.group_packets as u64, slots.len() as u64);
-    let given = rate_given(count, stream.group as u64, stream.interval as u64, rate);
-    at_most(Condition::StreamRate, 0, i as u32, needed, given)
+impl<A: Allocator> OnEach<ShapedPlan<'_, A>> for StreamRates {
+    type Item = Stream;
+
+    ghost items = { λ s. s.description.now.streams };
+
+    ghost entries = { λ s i stream. stream_rate_entry s.description.now s.plan.now i stream ∷ [] };
+
+    fn count(plans: &ShapedPlan<'_, A>) -> usize {
+        plans.description.streams().len()
+    }
+
+    fn judge(plans: &ShapedPlan<'_, A>, i: usize) -> Result<(), Refusal> {
+        let stream = &plans.description.streams()[i];
+        let slots = plans.plan.slots();
+        let count = own_count(slots, Item::Stream(i as u8));
+        let rate = plans.description.rate().bits_per_second();
+        let needed = rate_needed(stream.group_packets as u64, slots.len() as u64);
+        let given = rate_given(count, stream.group as u64, stream.interval as u64, rate);
+        at_most(Condition::StreamRate, 0, i as u32, needed, given)
+    }
 }

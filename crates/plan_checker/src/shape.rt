@@ -1,14 +1,18 @@
 //! The shape of a plan: its period, the items that its slots name and that have slots, the entries of its certificate.
 
-ghost use Rattle.std.specs.Prelude.{◌≡◌, ◌+◌, ◌<◌, ◌≤◌, ◌∷◌, [], length};
+ghost use Rattle.std.specs.Prelude.{◌≡◌, ◌+◌, ◌<◌, ◌∷◌, [], length};
+ghost use Rattle.description.specs.Tables.{table_kinds};
+ghost use Rattle.slot_plan.specs.declared.slot.Item.TheVariants.{Stream as StreamItem, Pcr as PcrItem, Table as TableItem};
 ghost use Rattle.slot_plan.specs.Entries.{first_failing};
-ghost use Rattle.slot_plan.specs.Conditions.{named_entry, length_entries, name_entries, stream_owner_entries, program_owner_entries, table_owner_entries, claim_entries, shape_entries, owner_entry};
+ghost use Rattle.slot_plan.specs.Conditions.{named_entry, length_entries, claim_entries, shape_entries, owner_entry};
 ghost use Rattle.plan_checker.specs.Refused.{failed};
 
 use crate::comparing::{as_many, at_most};
 use crate::counting::own_count;
+use crate::plans::AnyPlan;
 use crate::refusal::Refusal;
-use slot_plan::{Condition, Description, Item, Plan, Slot};
+use crate::turns::{OnEach, in_turn};
+use slot_plan::{Condition, Description, Item, Plan, Program, Slot, Stream, TableKind};
 use std::alloc::Allocator;
 
 /// The slots of a period, at most.
@@ -18,11 +22,12 @@ const LONGEST_PERIOD: u128 = 65_536;
 pub fn shape<A: Allocator>(description: &Description, plan: &Plan<A>) -> Result<(), Refusal>
     ensures { failed result ≡ first_failing (shape_entries description.now plan.now) }
 {
+    let plans = &AnyPlan { description, plan };
     period(plan)?;
-    names(description, plan)?;
-    stream_owners(description, plan)?;
-    program_owners(description, plan)?;
-    table_owners(description, plan)?;
+    in_turn::<Names, _>(plans)?;
+    in_turn::<StreamOwners, _>(plans)?;
+    in_turn::<ProgramOwners, _>(plans)?;
+    in_turn::<TableOwners, _>(plans)?;
     claims(description, plan)
 }
 
@@ -36,58 +41,28 @@ fn period<A: Allocator>(plan: &Plan<A>) -> Result<(), Refusal>
 }
 
 /// Each slot names an item of the description.
-fn names<A: Allocator>(description: &Description, plan: &Plan<A>) -> Result<(), Refusal>
-    ensures { failed result ≡ first_failing (name_entries description.now plan.now) }
-{
-    for (s, slot) in plan.slots().iter().enumerate() {
-        name(description, s, *slot)?;
-    }
-    Ok(())
-}
+struct Names;
 
-fn name(description: &Description, s: usize, slot: Slot) -> Result<(), Refusal>
-    requires { s < 100000 }
-    ensures { failed result ≡ first_failing (named_entry description.now s slot ∷ []) }
-{
-    let (number, count) = match slot {
-        Slot::Stream(number) => (number as u128 + 1, description.streams().len()),
-        Slot::Pcr(number) => (number as u128 + 1, description.programs().len()),
-        Slot::Table(number) => (number as u128 + 1, description.tables()),
-        Slot::Null => (0, 0),
-    };
-    at_most(Condition::Shape, 3, s as u32, number, count as u128)
-}
+impl<A: Allocator> OnEach<AnyPlan<'_, A>> for Names {
+    type Item = Slot;
 
-/// Each stream has a slot.
-fn stream_owners<A: Allocator>(description: &Description, plan: &Plan<A>) -> Result<(), Refusal>
-    ensures { failed result ≡ first_failing (stream_owner_entries description.now plan.now) }
-{
-    for i in 0..description.streams().len() {
-        owner(plan, i, Item::Stream(i as u8))?;
-    }
-    Ok(())
-}
+    ghost items = { λ s. s.plan.now.slots };
 
-/// Each program has a slot for its PCR.
-fn program_owners<A: Allocator>(description: &Description, plan: &Plan<A>) -> Result<(), Refusal>
-    ensures { failed result ≡ first_failing (program_owner_entries description.now plan.now) }
-{
-    let before = description.streams().len();
-    for i in 0..description.programs().len() {
-        owner(plan, before + i, Item::Pcr(i as u8))?;
-    }
-    Ok(())
-}
+    ghost entries = { λ s i slot. named_entry s.description.now i slot ∷ [] };
 
-/// Each table has a slot.
-fn table_owners<A: Allocator>(description: &Description, plan: &Plan<A>) -> Result<(), Refusal>
-    ensures { failed result ≡ first_failing (table_owner_entries description.now plan.now) }
-{
-    let before = description.streams().len() + description.programs().len();
-    for t in 0..description.tables() {
-        owner(plan, before + t, Item::Table(t as u8))?;
+    fn count(plans: &AnyPlan<'_, A>) -> usize {
+        plans.plan.slots().len()
     }
-    Ok(())
+
+    fn judge(plans: &AnyPlan<'_, A>, i: usize) -> Result<(), Refusal> {
+        let (number, count) = match plans.plan.slots()[i] {
+            Slot::Stream(number) => (number as u128 + 1, plans.description.streams().len()),
+            Slot::Pcr(number) => (number as u128 + 1, plans.description.programs().len()),
+            Slot::Table(number) => (number as u128 + 1, plans.description.tables()),
+            Slot::Null => (0, 0),
+        };
+        at_most(Condition::Shape, 3, i as u32, number, count as u128)
+    }
 }
 
 fn owner<A: Allocator>(plan: &Plan<A>, number: usize, item: Item) -> Result<(), Refusal>
@@ -101,6 +76,66 @@ fn owner<A: Allocator>(plan: &Plan<A>, number: usize, item: Item) -> Result<(), 
         1,
         own_count(plan.slots(), item) as u128,
     )
+}
+
+/// Each stream has a slot.
+struct StreamOwners;
+
+impl<A: Allocator> OnEach<AnyPlan<'_, A>> for StreamOwners {
+    type Item = Stream;
+
+    ghost items = { λ s. s.description.now.streams };
+
+    ghost entries = { λ s i _. owner_entry s.plan.now i (StreamItem i) ∷ [] };
+
+    fn count(plans: &AnyPlan<'_, A>) -> usize {
+        plans.description.streams().len()
+    }
+
+    fn judge(plans: &AnyPlan<'_, A>, i: usize) -> Result<(), Refusal> {
+        plans.description.keeps_ranges();
+        owner(plans.plan, i, Item::Stream(i as u8))
+    }
+}
+
+/// Each program has a slot for its PCR.
+struct ProgramOwners;
+
+impl<A: Allocator> OnEach<AnyPlan<'_, A>> for ProgramOwners {
+    type Item = Program;
+
+    ghost items = { λ s. s.description.now.programs };
+
+    ghost entries = { λ s i _. owner_entry s.plan.now (length s.description.now.streams + i) (PcrItem i) ∷ [] };
+
+    fn count(plans: &AnyPlan<'_, A>) -> usize {
+        plans.description.programs().len()
+    }
+
+    fn judge(plans: &AnyPlan<'_, A>, i: usize) -> Result<(), Refusal> {
+        let before = plans.description.streams().len();
+        owner(plans.plan, before + i, Item::Pcr(i as u8))
+    }
+}
+
+/// Each table has a slot.
+struct TableOwners;
+
+impl<A: Allocator> OnEach<AnyPlan<'_, A>> for TableOwners {
+    type Item = TableKind;
+
+    ghost items = { λ s. table_kinds s.description.now };
+
+    ghost entries = { λ s t _. owner_entry s.plan.now (length s.description.now.streams + length s.description.now.programs + t) (TableItem t) ∷ [] };
+
+    fn count(plans: &AnyPlan<'_, A>) -> usize {
+        plans.description.tables()
+    }
+
+    fn judge(plans: &AnyPlan<'_, A>, i: usize) -> Result<(), Refusal> {
+        let before = plans.description.streams().len() + plans.description.programs().len();
+        owner(plans.plan, before + i, Item::Table(i as u8))
+    }
 }
 
 /// The certificate has an entry for each stream and for each program.

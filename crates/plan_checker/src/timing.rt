@@ -6,12 +6,14 @@ ghost use Rattle.slot_plan.specs.Conditions.{timing_entries};
 ghost use Rattle.slot_plan.specs.Shape.{IsShaped};
 ghost use Rattle.plan_checker.specs.Refused.{failed};
 
-use crate::buffers::{stream_buffers, system_buffers, transport_buffers};
-use crate::gaps::{pcr_gaps, table_gaps};
-use crate::leads::stream_leads;
-use crate::pace::{spreads, stream_rates};
+use crate::buffers::{StreamBuffers, SystemBuffers, TransportBuffers};
+use crate::gaps::{PcrGaps, TableGaps};
+use crate::leads::StreamLeads;
+use crate::pace::{Spreads, StreamRates};
+use crate::plans::ShapedPlan;
 use crate::refusal::Refusal;
-use crate::waiting::main_buffers;
+use crate::turns::in_turn;
+use crate::waiting::MainBuffers;
 use slot_plan::{Description, Plan};
 use std::alloc::Allocator;
 
@@ -20,13 +22,14 @@ pub fn timing<A: Allocator>(description: &Description, plan: &Plan<A>) -> Result
     requires shaped { IsShaped description.now plan.now }
     ensures { failed result ≡ first_failing (timing_entries description.now plan.now) }
 {
-    pcr_gaps(description, plan)?;
-    table_gaps(description, plan)?;
-    spreads(description, plan)?;
-    stream_rates(description, plan)?;
-    stream_buffers(description, plan)?;
-    transport_buffers(description, plan)?;
-    stream_leads(description, plan)?;
-    main_buffers(description, plan)?;
-    system_buffers(description, plan)
+    let plans = &ShapedPlan { description, plan };
+    in_turn::<PcrGaps, _>(plans)?;
+    in_turn::<TableGaps, _>(plans)?;
+    in_turn::<Spreads, _>(plans)?;
+    in_turn::<StreamRates, _>(plans)?;
+    in_turn::<StreamBuffers, _>(plans)?;
+    in_turn::<TransportBuffers, _>(plans)?;
+    in_turn::<StreamLeads, _>(plans)?;
+    in_turn::<MainBuffers, _>(plans)?;
+    in_turn::<SystemBuffers, _>(plans)
 }

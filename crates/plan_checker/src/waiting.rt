@@ -2,19 +2,19 @@
 
 ghost use Rattle.std.specs.Prelude.{◌≡◌, ◌^◌, ◌<◌, ◌≤◌, ◌∷◌, [], length};
 ghost use Rattle.description.specs.Ranges.{IsStream};
-ghost use Rattle.slot_plan.specs.Entries.{first_failing};
 ghost use Rattle.unit_timing.specs.Conditions.{grouped_packets, waiting_units, waiting_slots, bytes_by_units, bytes_by_slots};
 ghost use Rattle.slot_plan.specs.Claims.{declaration, stream_share};
-ghost use Rattle.slot_plan.specs.Conditions.{main_buffer_entry, main_buffers};
+ghost use Rattle.slot_plan.specs.Conditions.{main_buffer_entry};
 ghost use Rattle.slot_plan.specs.Shape.{IsShaped};
-ghost use Rattle.plan_checker.specs.Refused.{failed};
 
 use crate::claims::claim_of_stream;
 use crate::comparing::at_most;
 use crate::counting::own_count;
 use crate::leads::pieces_of_unit;
+use crate::plans::ShapedPlan;
 use crate::refusal::Refusal;
 use crate::sides::slots_within;
+use crate::turns::OnEach;
 use clock27::SLOT_UNITS;
 use slot_plan::{Condition, Description, Item, Plan, Stream};
 use std::alloc::Allocator;
@@ -81,36 +81,29 @@ pub fn bytes_by_slots<A: Allocator>(
 }
 
 /// The main buffer of each stream.
-pub fn main_buffers<A: Allocator>(description: &Description, plan: &Plan<A>) -> Result<(), Refusal>
-    requires shaped { IsShaped description.now plan.now }
-    ensures { failed result ≡ first_failing (main_buffers description.now plan.now) }
-{
-    for (i, stream) in description.streams().iter().enumerate() {
-        main_buffer(description, plan, i, stream)?;
-    }
-    Ok(())
-}
+pub struct MainBuffers;
 
-fn main_buffer<A: Allocator>(
-    description: &Description,
-    plan: &Plan<A>,
-    i: usize,
-    stream: &Stream,
-) -> Result<(), Refusal>
-    requires shaped { IsShaped description.now plan.now }
-    requires stream { i < length description.now.streams }
-    requires small { i < 256 }
-    requires ranges { IsStream stream.now }
-    ensures { failed result ≡ first_failing (main_buffer_entry description.now plan.now i stream.now ∷ []) }
-{
-    let by_units = bytes_by_units(stream) as u128;
-    let by_slots = bytes_by_slots(description, plan, i, stream);
-    let bytes = by_units.min(by_slots);
-    at_most(
-        Condition::MainBuffer,
-        0,
-        i as u32,
-        bytes,
-        stream.main as u128,
-    )
+impl<A: Allocator> OnEach<ShapedPlan<'_, A>> for MainBuffers {
+    type Item = Stream;
+
+    ghost items = { λ s. s.description.now.streams };
+
+    ghost entries = { λ s i stream. main_buffer_entry s.description.now s.plan.now i stream ∷ [] };
+
+    fn count(plans: &ShapedPlan<'_, A>) -> usize {
+        plans.description.streams().len()
+    }
+
+    fn judge(plans: &ShapedPlan<'_, A>, i: usize) -> Result<(), Refusal> {
+        let stream = &plans.description.streams()[i];
+        let by_units = bytes_by_units(stream) as u128;
+        let by_slots = bytes_by_slots(plans.description, plans.plan, i, stream);
+        at_most(
+            Condition::MainBuffer,
+            0,
+            i as u32,
+            by_units.min(by_slots),
+            stream.main as u128,
+        )
+    }
 }

@@ -1,11 +1,10 @@
 //! Deadlines over a switch: units that are sent across it have left the transport buffer by their decoding times.
 
-ghost use Rattle.std.specs.Prelude.{◌≡◌, None, ◌^◌, ◌<◌, ◌≤◌, ◌∷◌, [], length};
+ghost use Rattle.std.specs.Prelude.{◌≡◌, ◌^◌, ◌<◌, ◌≤◌, ◌∷◌, [], length};
 ghost use Rattle.description.specs.Ranges.{IsStream};
 ghost use Rattle.slot_plan.specs.Entries.{first_failing};
-ghost use Rattle.slot_plan.specs.Shape.{IsShaped};
-ghost use Rattle.slot_plan.specs.Conditions.{counting, stream_leads};
-ghost use Rattle.slot_plan.specs.SwitchConditions.{lead_switch_entry, lead_switches};
+ghost use Rattle.slot_plan.specs.Conditions.{counting};
+ghost use Rattle.slot_plan.specs.SwitchConditions.{lead_switch_entry};
 ghost use Rattle.plan_checker.specs.Refused.{failed};
 ghost use Rattle.plan_checker.specs.Joint.{across, across_entry, IsSmallAcross};
 
@@ -13,46 +12,43 @@ use crate::claims::claim_of_stream;
 use crate::comparing::at_most;
 use crate::counting::own_count;
 use crate::leads::{group_part, packets_of_units};
+use crate::plans::PlanPair;
 use crate::refusal::Refusal;
 use crate::switch::across::shift_of;
 use crate::switch::sides::{Across, Share, slots_needed, time_given, time_needed};
-use slot_plan::{Condition, Description, Item, Plan, Stream};
+use crate::turns::OnEach;
+use slot_plan::{Condition, Item, Stream};
 use std::alloc::Allocator;
 
 /// The deadlines of all streams, of 1 to `group` units in a row.
-pub fn lead_switches<A: Allocator>(
-    description: &Description,
-    first: &Plan<A>,
-    second: &Plan<A>,
-) -> Result<(), Refusal>
-    requires shaped { IsShaped description.now first.now }
-    requires next_shaped { IsShaped description.now second.now }
-    requires led { first_failing (stream_leads description.now first.now) ≡ None }
-    requires next_led { first_failing (stream_leads description.now second.now) ≡ None }
-    ensures { failed result ≡ first_failing (lead_switches description.now first.now second.now) }
-{
-    let rate = description.rate().bits_per_second();
-    for (i, stream) in description.streams().iter().enumerate() {
-        lead_switch(rate, stream, i, across_of(description, first, second, i))?;
+pub struct LeadSwitches;
+
+impl<A: Allocator> OnEach<PlanPair<'_, A>> for LeadSwitches {
+    type Item = Stream;
+
+    ghost items = { λ s. s.description.now.streams };
+
+    ghost entries = { λ s i stream. counting (lead_switch_entry s.description.now s.first.now s.second.now i stream) 1 stream.group };
+
+    fn count(plans: &PlanPair<'_, A>) -> usize {
+        plans.description.streams().len()
     }
-    Ok(())
+
+    fn judge(plans: &PlanPair<'_, A>, i: usize) -> Result<(), Refusal> {
+        let stream = &plans.description.streams()[i];
+        let rate = plans.description.rate().bits_per_second();
+        lead_switch(rate, stream, i, across_of(plans, i))
+    }
 }
 
 /// What the two plans give stream number `i`.
-fn across_of<A: Allocator>(
-    description: &Description,
-    first: &Plan<A>,
-    second: &Plan<A>,
-    i: usize,
-) -> Across
-    requires shaped { IsShaped description.now first.now }
-    requires next_shaped { IsShaped description.now second.now }
-    requires number { i < length description.now.streams }
-    requires few { length description.now.streams ≤ 32 }
-    ensures across { result ≡ across first.now second.now i }
+fn across_of<A: Allocator>(plans: &PlanPair<'_, A>, i: usize) -> Across
+    requires { i < length plans.now.description.now.streams }
+    ensures across { result ≡ across plans.now.first.now plans.now.second.now i }
     ensures small { IsSmallAcross result }
 {
-    description.keeps_ranges();
+    plans.description.keeps_ranges();
+    let (first, second) = (plans.first, plans.second);
     let item = Item::Stream(i as u8);
     let claim = claim_of_stream(first, i);
     let next_claim = claim_of_stream(second, i);

@@ -10,11 +10,13 @@ ghost use Rattle.plan_checker.specs.Refused.{failed, refusal_of};
 use crate::checked_plan::CheckedPlan;
 use crate::checked_switch::CheckedSwitch;
 use crate::checking::conditions;
+use crate::plans::PlanPair;
 use crate::refusal::Refusal;
-use crate::switch::gaps::{pcr_switches, table_switches};
-use crate::switch::leads::lead_switches;
-use crate::switch::mains::main_switches;
-use crate::switch::works::{stream_works, system_works, transport_works};
+use crate::switch::gaps::{PcrSwitches, TableSwitches};
+use crate::switch::leads::LeadSwitches;
+use crate::switch::mains::MainSwitches;
+use crate::switch::works::{StreamWorks, SystemWorks, TransportWorks};
+use crate::turns::in_turn;
 use slot_plan::{Description, Plan};
 use std::alloc::Allocator;
 
@@ -30,13 +32,18 @@ fn joint<A: Allocator>(
     requires next_led { first_failing (stream_leads description.now second.now) ≡ None }
     ensures { failed result ≡ first_failing (joint_entries description.now first.now second.now) }
 {
-    pcr_switches(description, first, second)?;
-    table_switches(description, first, second)?;
-    stream_works(description, first, second)?;
-    transport_works(description, first, second)?;
-    system_works(description, first, second)?;
-    lead_switches(description, first, second)?;
-    main_switches(description, first, second)
+    let plans = &PlanPair {
+        description,
+        first,
+        second,
+    };
+    in_turn::<PcrSwitches, _>(plans)?;
+    in_turn::<TableSwitches, _>(plans)?;
+    in_turn::<StreamWorks, _>(plans)?;
+    in_turn::<TransportWorks, _>(plans)?;
+    in_turn::<SystemWorks, _>(plans)?;
+    in_turn::<LeadSwitches, _>(plans)?;
+    in_turn::<MainSwitches, _>(plans)
 }
 
 /// The conditions of a second plan after a first one: its own, then those of the two together.

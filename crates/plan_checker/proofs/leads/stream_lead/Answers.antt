@@ -7,15 +7,15 @@ use Rattle.plan_checker.proofs.leads.stream_lead.Goals as goal
 pub returns-in_err-units_lead : goal.returns-in_err-units_lead
 returns-in_err-units_lead g c =
     let p = err_from_is_err_and c.from_residual.result c.from_residual.ensures.1 in
-    rw (p.1, p.2) (count_ends (stream_lead_entry c.args.description.now c.args.plan.now c.args.i c.args.stream.now) c.loop-before.before c.args.stream.now.group _ _
+    rw (p.1, p.2) (count_ends (stream_lead_entry c.args.plans.now.description.now c.args.plans.now.plan.now c.args.i c.args.stream.now) c.loop-before.before c.args.stream.now.group _ _
     c.loop-before.invariant c.loop-before-test.true c.in_err-units_lead.ensures)
 
 pub loop-before-preserved : goal.loop-before-preserved
 loop-before-preserved g c =
-    counts_on (stream_lead_entry c.args.description.now c.args.plan.now c.args.i c.args.stream.now) c.loop-before.before c.args.stream.now.group _
+    counts_on (stream_lead_entry c.args.plans.now.description.now c.args.plans.now.plan.now c.args.i c.args.stream.now) c.loop-before.before c.args.stream.now.group _
     c.loop-before.invariant c.loop-before-test.true c.in_ok-units_lead.ensures
 
 pub returns : goal.returns
 returns g c =
-    count_done (stream_lead_entry c.args.description.now c.args.plan.now c.args.i c.args.stream.now) c.loop-before.before c.args.stream.now.group (omega arith)
+    count_done (stream_lead_entry c.args.plans.now.description.now c.args.plans.now.plan.now c.args.i c.args.stream.now) c.loop-before.before c.args.stream.now.group (omega arith)
     ∙ sym c.loop-before.invariant

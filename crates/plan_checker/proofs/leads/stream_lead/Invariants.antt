@@ -5,5 +5,5 @@ use Rattle.plan_checker.proofs.leads.stream_lead.Given as goal
 
 abbrev pub invariant-loop-before : goal.invariant-loop-before
 invariant-loop-before g l =
-    first_failing (counting (stream_lead_entry l.description l.plan l.i l.stream) 1 l.stream.group)
-    ≡ first_failing (counting (stream_lead_entry l.description l.plan l.i l.stream) (l.before + 1) (l.stream.group - l.before))
+    first_failing (counting (stream_lead_entry l.plans.description.now l.plans.plan.now l.i l.stream) 1 l.stream.group)
+    ≡ first_failing (counting (stream_lead_entry l.plans.description.now l.plans.plan.now l.i l.stream) (l.before + 1) (l.stream.group - l.before))

@@ -27,49 +27,49 @@ returns-in_err-period g c =
     rw (p.1, p.2)
     (then_before (length_entries q) (after_period d q) _ c.in_err-period.ensures)
 
-pub returns-in_err-names : goal.returns-in_err-names
-returns-in_err-names g c =
-    let p = err_from_is_err_and c.from_residual-in_err-names.result c.from_residual-in_err-names.ensures.1 in
+pub returns-in_err-in_turn : goal.returns-in_err-in_turn
+returns-in_err-in_turn g c =
+    let p = err_from_is_err_and c.from_residual-in_err-in_turn.result c.from_residual-in_err-in_turn.ensures.1 in
     let d = c.args.description.now in let q = c.args.plan.now in
     rw (p.1, p.2)
     (then_after (length_entries q) (after_period d q) _ c.in_ok-period.ensures
-    (then_before (name_entries d q) (after_names d q) _ c.in_err-names.ensures))
+    (then_before (name_entries d q) (after_names d q) _ c.in_err-in_turn.ensures))
 
-pub returns-in_err-stream_owners : goal.returns-in_err-stream_owners
-returns-in_err-stream_owners g c =
-    let p = err_from_is_err_and c.from_residual-in_err-stream_owners.result c.from_residual-in_err-stream_owners.ensures.1 in
+pub returns-in_err-in_turn-2 : goal.returns-in_err-in_turn-2
+returns-in_err-in_turn-2 g c =
+    let p = err_from_is_err_and c.from_residual-in_err-in_turn-2.result c.from_residual-in_err-in_turn-2.ensures.1 in
     let d = c.args.description.now in let q = c.args.plan.now in
     rw (p.1, p.2)
     (then_after (length_entries q) (after_period d q) _ c.in_ok-period.ensures
-    (then_after (name_entries d q) (after_names d q) _ c.in_ok-names.ensures
-    (then_before (stream_owner_entries d q) (after_stream_owners d q) _ c.in_err-stream_owners.ensures)))
+    (then_after (name_entries d q) (after_names d q) _ c.in_ok-in_turn.ensures
+    (then_before (stream_owner_entries d q) (after_stream_owners d q) _ c.in_err-in_turn-2.ensures)))
 
-pub returns-in_err-program_owners : goal.returns-in_err-program_owners
-returns-in_err-program_owners g c =
-    let p = err_from_is_err_and c.from_residual-in_err-program_owners.result c.from_residual-in_err-program_owners.ensures.1 in
+pub returns-in_err-in_turn-3 : goal.returns-in_err-in_turn-3
+returns-in_err-in_turn-3 g c =
+    let p = err_from_is_err_and c.from_residual-in_err-in_turn-3.result c.from_residual-in_err-in_turn-3.ensures.1 in
     let d = c.args.description.now in let q = c.args.plan.now in
     rw (p.1, p.2)
     (then_after (length_entries q) (after_period d q) _ c.in_ok-period.ensures
-    (then_after (name_entries d q) (after_names d q) _ c.in_ok-names.ensures
-    (then_after (stream_owner_entries d q) (after_stream_owners d q) _ c.in_ok-stream_owners.ensures
-    (then_before (program_owner_entries d q) (after_program_owners d q) _ c.in_err-program_owners.ensures))))
+    (then_after (name_entries d q) (after_names d q) _ c.in_ok-in_turn.ensures
+    (then_after (stream_owner_entries d q) (after_stream_owners d q) _ c.in_ok-in_turn-2.ensures
+    (then_before (program_owner_entries d q) (after_program_owners d q) _ c.in_err-in_turn-3.ensures))))
 
-pub returns-in_err-table_owners : goal.returns-in_err-table_owners
-returns-in_err-table_owners g c =
-    let p = err_from_is_err_and c.from_residual-in_err-table_owners.result c.from_residual-in_err-table_owners.ensures.1 in
+pub returns-in_err-in_turn-4 : goal.returns-in_err-in_turn-4
+returns-in_err-in_turn-4 g c =
+    let p = err_from_is_err_and c.from_residual-in_err-in_turn-4.result c.from_residual-in_err-in_turn-4.ensures.1 in
     let d = c.args.description.now in let q = c.args.plan.now in
     rw (p.1, p.2)
     (then_after (length_entries q) (after_period d q) _ c.in_ok-period.ensures
-    (then_after (name_entries d q) (after_names d q) _ c.in_ok-names.ensures
-    (then_after (stream_owner_entries d q) (after_stream_owners d q) _ c.in_ok-stream_owners.ensures
-    (then_after (program_owner_entries d q) (after_program_owners d q) _ c.in_ok-program_owners.ensures
-    (then_before (table_owner_entries d q) (claim_entries d q) _ c.in_err-table_owners.ensures)))))
+    (then_after (name_entries d q) (after_names d q) _ c.in_ok-in_turn.ensures
+    (then_after (stream_owner_entries d q) (after_stream_owners d q) _ c.in_ok-in_turn-2.ensures
+    (then_after (program_owner_entries d q) (after_program_owners d q) _ c.in_ok-in_turn-3.ensures
+    (then_before (table_owner_entries d q) (claim_entries d q) _ c.in_err-in_turn-4.ensures)))))
 
 pub returns : goal.returns
 returns g c =
     let d = c.args.description.now in let q = c.args.plan.now in
     then_after (length_entries q) (after_period d q) _ c.in_ok-period.ensures
-    (then_after (name_entries d q) (after_names d q) _ c.in_ok-names.ensures
-    (then_after (stream_owner_entries d q) (after_stream_owners d q) _ c.in_ok-stream_owners.ensures
-    (then_after (program_owner_entries d q) (after_program_owners d q) _ c.in_ok-program_owners.ensures
-    (then_after (table_owner_entries d q) (claim_entries d q) _ c.in_ok-table_owners.ensures c.claims.ensures))))
+    (then_after (name_entries d q) (after_names d q) _ c.in_ok-in_turn.ensures
+    (then_after (stream_owner_entries d q) (after_stream_owners d q) _ c.in_ok-in_turn-2.ensures
+    (then_after (program_owner_entries d q) (after_program_owners d q) _ c.in_ok-in_turn-3.ensures
+    (then_after (table_owner_entries d q) (claim_entries d q) _ c.in_ok-in_turn-4.ensures c.claims.ensures))))
