@@ -29,8 +29,6 @@ mod running_status;
 mod service;
 mod service_description;
 mod service_loop;
-#[cfg(test)]
-mod tests;
 mod time_and_date;
 mod transport_stream;
 mod transport_stream_loop;

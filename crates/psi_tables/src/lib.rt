@@ -28,6 +28,3 @@ pub use pmt::{PMT_TABLE_ID, Pmt, Stream, StreamLoop, Streams};
 pub use section::{LongHeader, Section, SectionHeader};
 pub use table::table_header_at;
 pub use writing::{GREATEST_LENGTH, GREATEST_TABLE_LENGTH, begin_section, end_section, to_vec};
-
-#[cfg(test)]
-mod tests;

@@ -26,6 +26,3 @@ pub use description::{Description, Network, PrivateTable, Program, Stream, Table
 pub use plan::{Plan, PlanError};
 pub use reader::PlanTextError;
 pub use slot::{Item, Slot};
-
-#[cfg(test)]
-mod tests;

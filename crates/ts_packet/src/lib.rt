@@ -46,6 +46,3 @@ pub use plain_packets::{
     NULL_PID, null_packet, overwrite_joined, overwrite_null, overwrite_payload, overwrite_pcr,
     write_payload, write_pcr,
 };
-
-#[cfg(test)]
-mod tests;

@@ -1,7 +1,7 @@
 //! Readers and writers that fail in mid-stream.
-use crate::{Counted, DeviceFault, Failing, Sink, Source, read_part, write_part};
 use arrayvec::ArrayVec;
 use std::io::Write;
+use ts_packet::{Counted, DeviceFault, Failing, Sink, Source, read_part, write_part};
 
 const TEXT: [u8; 6] = [1, 2, 3, 4, 5, 6];
 

@@ -1,12 +1,12 @@
 //! Sections and the check word.
 
 use crate::tests::vectors::{PAT, PMT, SDT, TDT};
-use crate::{
+use arrayvec::ArrayVec;
+use bit_fields::append;
+use psi_tables::{
     LongHeader, Section, SectionError, SectionHeader, WriteError, begin_section, check_word,
     check_word_ends, end_section, longer_reads_the_same, sections_are_read_again, to_vec,
 };
-use arrayvec::ArrayVec;
-use bit_fields::append;
 use std::alloc::Global;
 use std::process::Abort;
 use std::test::Fail;

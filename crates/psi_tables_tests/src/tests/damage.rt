@@ -2,7 +2,7 @@
 //! check word bit by bit, and the refusals in their order.
 
 use crate::tests::vectors::{CUT_PAT, CUT_PMT, PAT, PMT, SDT, TDT};
-use crate::{Pat, Pmt, Section, SectionError};
+use psi_tables::{Pat, Pmt, Section, SectionError};
 use std::alloc::{AllocError, Global};
 use std::process::Abort;
 use std::test::Fail;

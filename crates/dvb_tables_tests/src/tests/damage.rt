@@ -1,7 +1,7 @@
 //! Bodies cut short, and bodies with one byte changed, against a rule of this file's own.
 
 use crate::tests::vectors::{EIT, NIT, SDT, TDT};
-use crate::{EitPf, Nit, Sdt, Tdt};
+use dvb_tables::{EitPf, Nit, Sdt, Tdt};
 use psi_tables::{LongHeader, Section, SectionError, SectionHeader};
 use std::alloc::Global;
 use std::process::Abort;

@@ -2,12 +2,12 @@
 ghost use Rattle.std.specs.Prelude.{◌≡◌};
 
 use crate::tests::vectors::{EIT, EMPTY_EIT, FFMPEG_SDT, NIT, SDT, TDT};
-use crate::{
+use arrayvec::ArrayVec;
+use dvb_tables::{
     EitPf, EventEntries, EventEntry, EventLoop, Nit, RunningStatus, Sdt, Service, ServiceLoop,
     Services, Tdt, TransportStream, TransportStreamLoop, TransportStreams, duration_digits, laws,
     utc_time,
 };
-use arrayvec::ArrayVec;
 use psi_tables::{LongHeader, Section, SectionError};
 use std::process::Abort;
 use std::test::Fail;

@@ -1,6 +1,7 @@
-//! The text of a small plan, both ways, and the limits of plans.
+//! The text of a small plan, both ways, the limits of plans, and refused memory.
 
-use crate::{
+use linked_list_allocator::LocalHeap;
+use slot_plan::{
     Certificate, Condition, Item, Plan, PlanError, PlanTextError, ProgramEntry, Slot, StreamEntry,
     laws,
 };
@@ -267,4 +268,61 @@ fn numbers_of_conditions(rt: HostRuntime) {
     assert_eq!(rt; Condition::SystemBuffer.code(), 9);
     assert_eq!(rt; Condition::PcrSwitch.code(), 12);
     assert_eq!(rt; Condition::MainSwitch.code(), 16);
+}
+
+/// Whether the base is read in so much room; where it is not, memory is wanting.
+fn is_read(global: Global, room: usize) -> Result<bool, Fail> {
+    let heap = LocalHeap::new(global, room)?;
+    match Plan::read_text(&heap, BASE.as_bytes()) {
+        Ok((plan, bytes)) => {
+            assert_base(bytes, plan.slots().len())?;
+            Ok(true)
+        }
+        Err(error) => is_memory(error),
+    }
+}
+
+fn assert_base(bytes: usize, slots: usize) -> Result<(), Fail> {
+    if bytes == BASE.len() && slots == 120 {
+        Ok(())
+    } else {
+        Err(Fail::from("another plan"))
+    }
+}
+
+fn is_memory(error: PlanTextError) -> Result<bool, Fail> {
+    if error == PlanTextError::Memory {
+        Ok(false)
+    } else {
+        Err(Fail::from("another refusal"))
+    }
+}
+
+/// Whether a plan is written in so much room.
+fn is_written(global: Global, plan: &Plan, room: usize) -> Result<bool, Fail> {
+    let heap = LocalHeap::new(global, room)?;
+    match plan.write_text(&heap) {
+        Ok(text) if text.as_str() == BASE => Ok(true),
+        Ok(_) => Err(Fail::from("another text")),
+        Err(_) => Ok(false),
+    }
+}
+
+/// Heaps of rising sizes: the base is read and written, or memory is wanting, and no other answer.
+#[test]
+fn refused_memory(rt: HostRuntime) -> Result<(), Fail> {
+    let (plan, _) = Plan::read_text(rt.alloc(), BASE.as_bytes())?;
+    let mut read = 0usize;
+    let mut written = 0usize;
+    for blocks in 1..256usize {
+        if is_read(rt.alloc(), blocks * 16)? {
+            read = read.saturating_add(1);
+        }
+        if is_written(rt.alloc(), &plan, blocks * 16)? {
+            written = written.saturating_add(1);
+        }
+    }
+    assert!(rt; 0 < read && read < 250, "{read} read");
+    assert!(rt; 0 < written && written < 250, "{written} written");
+    Ok(())
 }

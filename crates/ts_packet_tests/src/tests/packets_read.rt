@@ -1,7 +1,7 @@
 //! Packets by hand, and each change of one byte of them.
 use super::packet_of;
-use crate::{Adaptation, ClockReference, PacketError, read_packet};
 use std::test::Fail;
+use ts_packet::{Adaptation, ClockReference, PacketError, read_packet};
 
 /// Each part of an adaptation field: flags with a discontinuity, a PCR of base 2^33 - 1 and extension 299, an OPCR of 1
 /// and 2, a splice_countdown of -3, two bytes of private data, one of extension, and two of stuffing.

@@ -1,12 +1,12 @@
 //! PAT and PMT.
 
 use crate::tests::vectors::{CUT_PAT, CUT_PMT, CUT_PROGRAM_INFO, PAT, PMT, SDT, TDT};
-use crate::{
+use arrayvec::ArrayVec;
+use psi_tables::{
     LongHeader, Pat, Pmt, Program, ProgramLoop, Programs, Section, SectionError, SectionHeader,
     Stream, StreamLoop, Streams, entry_at, is_whole_loop, pats_are_read_again, pmts_are_read_again,
     table_header_at,
 };
-use arrayvec::ArrayVec;
 use std::process::Abort;
 use std::test::Fail;
 

@@ -2,8 +2,8 @@
 //! list and counts its calls.
 ghost use Rattle.std.specs.Prelude.{◌≤◌, IfOk};
 
-use crate::{Counted, DeviceFault, Sink, Source, read_part, write_part};
 use std::io::{self, Error, ErrorKind, Read, Write};
+use ts_packet::{Counted, DeviceFault, Sink, Source, read_part, write_part};
 
 /// Each call takes the next answer: so many bytes at most, or a failure. After the last answer it gives and takes all.
 #[derive(Drop)]

@@ -1,10 +1,10 @@
 //! Packets with known bytes.
 use super::packet_of;
-use crate::{
+use clock27::{Pcr, Rate};
+use ts_packet::{
     Adaptation, AdaptationParts, ClockReference, Header, fits, null_packet, overwrite_joined,
     overwrite_payload, read_packet, write_packet, write_payload, write_pcr,
 };
-use clock27::{Pcr, Rate};
 
 /// A packet with these first bytes, 0xFF, and at its end a payload of 0x5A.
 fn with_payload(front: &[u8], size: usize) -> [u8; 188] {

@@ -1,12 +1,12 @@
 //! Dates, moments, events, texts and descriptors.
 ghost use Rattle.std.specs.Prelude.{◌<◌};
 
-use crate::{
+use arrayvec::ArrayVec;
+use dvb_tables::{
     Event, MjdError, RunningStatus, Text, TextError, are_whole_descriptors, duration_digits, laws,
     mjd, present_following, push_iso_639_language, push_network_name, push_service,
     push_short_event, push_stream_identifier, utc_time,
 };
-use arrayvec::ArrayVec;
 use jiff::civil::Date;
 use std::process::Abort;
 use std::test::Fail;
