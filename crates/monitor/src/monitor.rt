@@ -135,9 +135,9 @@ impl<A: Allocator + Copy> Monitor<A> {
         Ok(())
     }
 
-    // The next packets.
+    /// The next packets.
     #[tactic(auto, unfolding(crate::specs::Watching::packets_taken))]
-    fn take_all(&mut self, packets: &[[u8; 188]]) -> Result<(), AllocError>
+    pub fn take_all(&mut self, packets: &[[u8; 188]]) -> Result<(), AllocError>
         ensures { OnOk result (self.new ≡ packets_taken self.old packets.now) }
     {
         for packet in packets {
