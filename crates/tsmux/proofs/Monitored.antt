@@ -1,13 +1,13 @@
 -- `monitor`: an input that is taken piece by piece, whole packets each but the last, and the report on all of it.
-use Rattle.std.proofs.Common.{◌≡◌, ℕ, zero, suc, ◌+◌, ◌*◌, ◌/◌, ◌%◌, ◌^◌, ◌<◌, ◌≤◌, ◌==◌, Bool, List, [], ◌∷◌, ◌++◌, length, take, drop, min, refl, sym, ap, ap₂, subst, ◌∙◌, arith, append_assoc, length-append, Option, Some, None, Result, Ok, Err, inl, inr}
+use Rattle.std.proofs.Common.{◌≡◌, ℕ, zero, suc, ◌+◌, ◌*◌, ◌/◌, ◌%◌, ◌^◌, ◌<◌, ◌≤◌, ◌==◌, Bool, List, [], ◌∷◌, ◌++◌, length, take, drop, min, refl, sym, ap, subst, ◌∙◌, arith, append_assoc, length-append, Option, Some, None, Result, Ok, Err, inl, inr}
 use Rattle.std.specs.Prelude.{IfOk, IfErr, not}
 use Rattle.std.proofs.lemmas.List.{append-nil, drop_all, length-drop, length-take-le, take-append-drop}
 use Rattle.ts_packet.specs.Device.{Failed, IsFront}
 use Rattle.ts_packet.specs.PidList.{cut_packets}
 use Rattle.ts_packet.proofs.Listing.{first_cut}
-use Rattle.monitor.specs.Reports.{ReportView, report_of}
-use Rattle.monitor.specs.Watching.{StreamMarks, none_taken, packet_taken, packets_taken, stream_ended}
-use Rattle.monitor.proofs.Reporting.{packet_by_packet}
+use Rattle.monitor.specs.Reports.{ReportView}
+use Rattle.monitor.specs.Taken.{HasTaken, Takes}
+use Rattle.monitor.specs.Watching.{StreamMarks}
 use Rattle.tsmux.specs.Devices.{Device, Port, between}
 use Rattle.tsmux.specs.Monitoring.{Concludes, ReportsOn, TakesBytes, TakesPiece, TakesStream}
 use Rattle.tsmux.specs.WholeInput.{IsLong, ReadsInput, longest_input}
@@ -34,17 +34,12 @@ cut_both (suc count) bytes more e =
     ∙ ap (λ (x : List (List ℕ)). x ++ cut_packets more) (sym (first_cut front back size))
     ∙ ap (λ (x : List ℕ). cut_packets x ++ cut_packets more) joined
 
-taken_both : (packets more : List (List ℕ)) (s : StreamMarks) → packets_taken s (packets ++ more) ≡ packets_taken (packets_taken s packets) more
-unfolding packets_taken
-taken_both [] more s = refl
-taken_both (packet ∷ packets) more s = taken_both packets more (packet_taken s packet)
-
-more_marks : (first before after : StreamMarks) (count : ℕ) (bytes more : List ℕ) → length bytes ≡ 188 * count →
-    before ≡ packets_taken first (cut_packets bytes) → after ≡ packets_taken before (cut_packets more) → after ≡ packets_taken first (cut_packets (bytes ++ more))
-more_marks first before after count bytes more w b a =
-    a ∙ ap (λ (s : StreamMarks). packets_taken s (cut_packets more)) b
-    ∙ sym (taken_both (cut_packets bytes) (cut_packets more) first)
-    ∙ ap (packets_taken first) (sym (cut_both count bytes more w))
+more_packets : (first before after : StreamMarks) (count : ℕ) (bytes more : List ℕ) → length bytes ≡ 188 * count →
+    Takes (cut_packets bytes) first before → Takes (cut_packets more) before after → Takes (cut_packets (bytes ++ more)) first after
+more_packets first before after count bytes more w b a rate limit packets t =
+    subst (λ (xs : List (List ℕ)). HasTaken rate limit xs after)
+    (append_assoc packets (cut_packets bytes) (cut_packets more) ∙ ap (λ (xs : List (List ℕ)). packets ++ xs) (sym (cut_both count bytes more w)))
+    (a rate limit (packets ++ cut_packets bytes) (b rate limit packets t))
 
 -- 2. Some whole packets of the input were taken
 
@@ -53,18 +48,17 @@ pub record TakesSome (old now : Port) (first marks : StreamMarks) (size : ℕ) :
   pub count : ℕ
   pub whole : length bytes ≡ 188 * count
   pub size_is : size ≡ length bytes
-  pub marks_are : marks ≡ packets_taken first (cut_packets bytes)
+  pub packets : Takes (cut_packets bytes) first marks
   pub known : IsAfter old now bytes
   pub clean : now.failed ≡ old.failed
 
 pub takes_none : (port : Port) (marks : StreamMarks) → TakesSome port port marks marks 0
-unfolding packets_taken
 takes_none port marks = record {
   bytes = [];
   count = 0;
   whole = refl;
   size_is = refl;
-  marks_are = refl;
+  packets = λ rate limit packets t. subst (λ (xs : List (List ℕ)). HasTaken rate limit xs marks) (sym (append-nil packets)) t;
   known = λ xs e. (xs, refl, e);
   clean = refl;
 }
@@ -105,7 +99,7 @@ more_size size n bytes piece s f =
 pub takes_more : (old mid new : Port) (first before after : StreamMarks) (size n : ℕ) (piece : List ℕ) → length piece ≡ 65424 → TakesSome old mid first before size →
     TakesBytes (between mid new) piece before after n → length piece ≤ n → TakesSome old new first after (size + n)
 takes_more old mid new first before after size n piece room t p full =
-    let fits : n ≤ length piece = p.fits in
+    let fits : n ≤ length piece = p.read.fits in
     let all : size + n ≡ length (t.bytes ++ take n piece) = more_size size n t.bytes piece t.size_is fits in
     let so_far : size ≡ length t.bytes = t.size_is in
     let whole : length t.bytes ≡ 188 * t.count = t.whole in
@@ -114,9 +108,9 @@ takes_more old mid new first before after size n piece room t p full =
       count = t.count + 348;
       whole = omega (arith, all, so_far, whole, room, fits, full);
       size_is = all;
-      marks_are = more_marks first before after t.count t.bytes (take n piece) t.whole t.marks_are p.marks;
-      known = more_known old mid new t.bytes piece n t.known p.known;
-      clean = p.clean ∙ t.clean;
+      packets = more_packets first before after t.count t.bytes (take n piece) t.whole t.packets p.packets;
+      known = more_known old mid new t.bytes piece n t.known p.read.known;
+      clean = p.read.clean ∙ t.clean;
     }
 
 -- 3. To the end of the input
@@ -127,23 +121,23 @@ pub takes_end : (old mid new : Port) (first before after : StreamMarks) (size n 
     TakesStream (between old new) first after r
 takes_end old mid new first before after size n piece (Ok cut) t p s k e =
     let bytes = t.bytes ++ take n piece in
-    let all : size + n ≡ length bytes = more_size size n t.bytes piece t.size_is p.fits in
-    let ended = all_known old mid new t.bytes piece n t.known p.known s in
+    let all : size + n ≡ length bytes = more_size size n t.bytes piece t.size_is p.read.fits in
+    let ended = all_known old mid new t.bytes piece n t.known p.read.known s in
     let short : length bytes ≤ longest_input = subst (λ (x : ℕ). x ≤ longest_input) all k.1 in
     record {
       bytes = bytes;
       read = (
         whole_if old.bytes new.bytes bytes ended,
-        record { short = short_if old.bytes new.bytes bytes short ended; ends = λ xs known. (ended xs known).1; clean = p.clean ∙ t.clean },
+        record { short = short_if old.bytes new.bytes bytes short ended; ends = λ xs known. (ended xs known).1; clean = p.read.clean ∙ t.clean },
       );
       fits = short;
-      marks = more_marks first before after t.count t.bytes (take n piece) t.whole t.marks_are p.marks;
+      packets = more_packets first before after t.count t.bytes (take n piece) t.whole t.packets p.packets;
       cut_is = k.0 ∙ ap (λ (x : ℕ). not (x % 188 == 0)) all;
     }
 takes_end old mid new first before after size n piece (Err halt) t p s k e =
     let bytes = t.bytes ++ take n piece in
-    let all : size + n ≡ length bytes = more_size size n t.bytes piece t.size_is p.fits in
-    let ended = all_known old mid new t.bytes piece n t.known p.known s in
+    let all : size + n ≡ length bytes = more_size size n t.bytes piece t.size_is p.read.fits in
+    let ended = all_known old mid new t.bytes piece n t.known p.read.known s in
     subst (λ (x : Halt). ReadsInput (between old new) (Err x)) (sym e.0)
     (inr (long_if old.bytes new.bytes bytes (subst (λ (x : ℕ). longest_input < x) all e.1) ended))
 
@@ -169,14 +163,14 @@ piece_stopped old mid new first before after size piece Memory t p = p ∙ t.cle
 -- 4. The report on what was taken is the report on the whole stream
 
 pub reports_on : (options : MonitorOptions) (input : Device) (first marks : StreamMarks) (taken : Result Bool Halt) (result : Result ReportView Halt) →
-    first ≡ none_taken options.rate options.pcr_limit → TakesStream input first marks taken → Concludes marks taken result → ReportsOn options input result
+    HasTaken options.rate options.pcr_limit [] first → TakesStream input first marks taken → Concludes marks taken result → ReportsOn options input result
 reports_on options input first marks (Ok cut) (Ok report) f t c =
     let fits : length t.bytes ≤ longest_input = t.fits in
     record {
       bytes = t.bytes;
       read = t.read;
-      is = c ∙ ap₂ (λ (m : StreamMarks) (b : Bool). report_of (stream_ended m b)) (t.marks ∙ ap (λ (s : StreamMarks). packets_taken s (cut_packets t.bytes)) f) t.cut_is
-          ∙ (packet_by_packet options.rate options.pcr_limit).2 t.bytes (omega (arith, fits));
+      is = c options.rate options.pcr_limit (cut_packets t.bytes) t.bytes (t.packets options.rate options.pcr_limit [] f)
+          (record { packets_are = refl; cut_is = sym t.cut_is }) (omega (arith, fits));
     }
 reports_on options input first marks (Ok cut) (Err halt) f t c = subst (λ (h : Halt). ReadsInput input (Err h)) (sym c) t.read.1.clean
 reports_on options input first marks (Err halt) (Ok report) f t c = absurd cc

@@ -1,14 +1,14 @@
 -- `monitor`: the report on a stream.
-use Rattle.std.specs.Prelude.{◌≡◌, ℕ, ◌≤◌, ◌==◌, min, Bool, if◌then◌else◌, List, length, take, Some, Result, Ok, Err}
-use Rattle.ts_packet.specs.Device.{IsFront}
+use Rattle.std.specs.Prelude.{◌≡◌, ℕ, ◌≤◌, ◌==◌, Bool, if◌then◌else◌, List, length, take, Result, Ok, Err}
 use Rattle.ts_packet.specs.PidList.{cut_packets}
-use Rattle.monitor.specs.Reports.{ReportView, is_cut, report_of}
+use Rattle.monitor.specs.Reports.{ReportView, is_cut}
 use Rattle.monitor.specs.ReportLines.{report_text}
 use Rattle.monitor.specs.ReportOf.{stream_report}
-use Rattle.monitor.specs.Watching.{StreamMarks, packets_taken, stream_ended}
+use Rattle.monitor.specs.Taken.{ReportsTaken, Takes}
+use Rattle.monitor.specs.Watching.{StreamMarks}
 use Rattle.tsmux.specs.Devices.{Device, HasFailed, IsClean}
 use Rattle.tsmux.specs.Performing.{Outcome, said}
-use Rattle.tsmux.specs.WholeInput.{ReadsInput, longest_input}
+use Rattle.tsmux.specs.WholeInput.{ReadsFront, ReadsInput, longest_input}
 use Rattle.tsmux.specs.declared.request.MonitorOptions.{MonitorOptions}
 use Rattle.tsmux.specs.declared.halt.Halt.{Halt}
 use Rattle.tsmux.specs.declared.halt.Halt.TheVariants.{Read, Write, Memory}
@@ -27,13 +27,10 @@ monitored options bytes = said (report_text (wanted_report options bytes)) (repo
 abbrev pub Monitors : MonitorOptions → List ℕ → Outcome → Type 0
 Monitors options bytes outcome = outcome ≡ monitored options bytes
 
--- the next bytes of the input were read into a piece, fewer than it holds only where the input ends, and the packets that
--- they are were taken
+-- the next bytes of the input were read into a piece, and the packets that they are were taken
 pub record TakesBytes (input : Device) (piece : List ℕ) (before after : StreamMarks) (n : ℕ) : Type 0 where
-  pub fits : n ≤ length piece
-  pub marks : after ≡ packets_taken before (cut_packets (take n piece))
-  pub known : (xs : List ℕ) → input.before.bytes ≡ Some xs → (n ≡ min (length piece) (length xs)) × IsFront xs input.after.bytes piece n
-  pub clean : IsClean input
+  pub read : ReadsFront input piece n
+  pub packets : Takes (cut_packets (take n piece)) before after
 
 abbrev pub TakesPiece : Device → List ℕ → StreamMarks → StreamMarks → Result ℕ Halt → Type 0
 TakesPiece input piece before after (Ok n) = TakesBytes input piece before after n
@@ -46,7 +43,7 @@ pub record TakesAll (input : Device) (before after : StreamMarks) (cut : Bool) :
   pub bytes : List ℕ
   pub read : ReadsInput input (Ok bytes)
   pub fits : length bytes ≤ longest_input
-  pub marks : after ≡ packets_taken before (cut_packets bytes)
+  pub packets : Takes (cut_packets bytes) before after
   pub cut_is : cut ≡ is_cut bytes
 
 abbrev pub TakesStream : Device → StreamMarks → StreamMarks → Result Bool Halt → Type 0
@@ -55,9 +52,9 @@ TakesStream input before after (Err halt) = ReadsInput input (Err halt)
 
 -- the report of a stream that was taken, if there was memory for it
 abbrev pub Concludes : StreamMarks → Result Bool Halt → Result ReportView Halt → Type 0
-Concludes marks (Ok cut) (Ok report) = report ≡ report_of (stream_ended marks cut)
-Concludes marks (Ok cut) (Err halt) = halt ≡ Memory
-Concludes marks (Err halt) result = result ≡ Err halt
+Concludes monitor (Ok cut) (Ok report) = ReportsTaken monitor cut report
+Concludes monitor (Ok cut) (Err halt) = halt ≡ Memory
+Concludes monitor (Err halt) result = result ≡ Err halt
 
 -- the report is that on the whole input
 pub record IsReportOn (options : MonitorOptions) (input : Device) (report : ReportView) : Type 0 where

@@ -1,6 +1,5 @@
 //! `monitor`: the report on a stream that is taken as it comes.
 ghost use Rattle.std.specs.Prelude.{◌≡◌, ℕ, ◌%◌, ◌==◌, ◌<◌, ◌≤◌, not, length, IfOk, IfErr};
-ghost use Rattle.monitor.specs.Reports.{report_of};
 ghost use Rattle.tsmux.specs.Devices.{reads, writes};
 ghost use Rattle.tsmux.specs.Monitoring.{Concludes, Monitors, ReportsOn, TakesPiece, TakesStream, report_status};
 ghost use Rattle.tsmux.specs.Performing.{Performs};
@@ -9,10 +8,10 @@ ghost use Rattle.tsmux.specs.WholeInput.{longest_input};
 use crate::halt::{Halt, halted};
 use crate::lines::write_text;
 use crate::request::MonitorOptions;
-use crate::whole_input::{LONGEST_INPUT, room};
+use crate::whole_input::{LONGEST_INPUT, read_piece, room};
 use monitor::{Monitor, Report};
 use std::alloc::Global;
-use ts_packet::{Sink, Source, read_part};
+use ts_packet::{Sink, Source};
 
 /// The bytes of a piece: 348 packets, somewhat less than 64 KiB.
 const PIECE: usize = 348 * 188;
@@ -25,9 +24,7 @@ fn take_piece<R: Source>(
 ) -> Result<usize, Halt>
     ensures { TakesPiece (reads R.Source input.old input.new) piece.new monitor.old monitor.new result }
 {
-    let Ok(n) = read_part(input, piece) else {
-        return Err(Halt::Read);
-    };
+    let n = read_piece(input, piece)?;
     let (packets, _) = piece[..n].as_chunks::<188>();
     match monitor.take_all(packets) {
         Ok(()) => Ok(n),
