@@ -20,3 +20,4 @@ pub mod Tallies
 pub mod FirstSeen
 pub mod Grouping
 pub mod Reporting
+pub mod Taking

@@ -14,5 +14,7 @@ pub mod Named
 pub mod Faults
 pub mod PidCounting
 pub mod ReportOf
+pub mod Taken
 pub mod ReportLines
+pub mod Written
 pub mod Laws

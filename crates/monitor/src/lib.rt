@@ -7,6 +7,7 @@
 // What is reported.
 mod fault;
 mod report_lines;
+mod report_output;
 mod reports;
 
 // What is to come again within a time.
@@ -30,4 +31,5 @@ mod laws;
 pub use fault::{Fault, Rule};
 pub use laws::{gaps_of_each_pid, packet_by_packet, report_without_state};
 pub use monitor::{Monitor, report};
+pub use report_output::WriteError;
 pub use reports::{PidCounts, Report, ReportError};

@@ -1,7 +1,8 @@
 //! A stream packet by packet.
-ghost use Rattle.std.specs.Prelude.{◌≡◌, true, IfOk, OnOk, map};
+ghost use Rattle.std.specs.Prelude.{◌≡◌, ◌∷◌, [], true, IfOk, OnOk, map};
 ghost use Rattle.demux.specs.Stream.{is_aligned};
-ghost use Rattle.monitor.specs.Watching.{demux_ended, found_to_end, none_taken, packet_taken, packets_taken, stream_ended};
+ghost use Rattle.monitor.specs.Taken.{HasTaken, ReportsTaken, Takes};
+ghost use Rattle.monitor.specs.Watching.{demux_ended, found_to_end, packet_taken, packets_taken, stream_ended};
 ghost use Rattle.monitor.specs.InOrder.{in_order};
 ghost use Rattle.monitor.specs.ReportOf.{stream_report};
 ghost use Rattle.monitor.specs.Reports.{ended_after, grouped_faults, pid_counts, report_of, watched};
@@ -107,8 +108,9 @@ fn counts_of<A: Allocator + Copy>(
 
 impl<A: Allocator + Copy> Monitor<A> {
     /// Before the first packet, at a rate in bits a second. The greatest gap of program clock references is in milliseconds.
+    #[tactic(auto, unfolding(crate::specs::Watching::packets_taken))]
     pub fn new(alloc: A, rate: Rate, pcr_limit: u32) -> Result<Monitor<A>, AllocError>
-        ensures { IfOk result (λ watch. watch ≡ none_taken rate pcr_limit) }
+        ensures { IfOk result (λ monitor. HasTaken rate pcr_limit [] monitor) }
     {
         let bits = rate.bits_per_second();
         let found = FindingWatch::new(alloc, bits)?;
@@ -121,8 +123,8 @@ impl<A: Allocator + Copy> Monitor<A> {
         })
     }
 
-    /// The next packet.
-    pub fn take(&mut self, bytes: &[u8; 188]) -> Result<(), AllocError>
+    // The next packet.
+    fn take_next(&mut self, bytes: &[u8; 188]) -> Result<(), AllocError>
         ensures { OnOk result (self.new ≡ packet_taken self.old bytes.now) }
     {
         let mut found = Vec::new(self.alloc);
@@ -137,13 +139,27 @@ impl<A: Allocator + Copy> Monitor<A> {
 
     // The next packets.
     #[tactic(auto, unfolding(crate::specs::Watching::packets_taken))]
-    fn take_all(&mut self, packets: &[[u8; 188]]) -> Result<(), AllocError>
+    fn take_each(&mut self, packets: &[[u8; 188]]) -> Result<(), AllocError>
         ensures { OnOk result (self.new ≡ packets_taken self.old packets.now) }
     {
         for packet in packets {
-            self.take(packet)?;
+            self.take_next(packet)?;
         }
         Ok(())
+    }
+
+    /// The next packet.
+    pub fn take(&mut self, bytes: &[u8; 188]) -> Result<(), AllocError>
+        ensures { OnOk result (Takes (bytes.now ∷ []) self.old self.new) }
+    {
+        self.take_next(bytes)
+    }
+
+    /// The next packets.
+    pub fn take_all(&mut self, packets: &[[u8; 188]]) -> Result<(), AllocError>
+        ensures { OnOk result (Takes packets.now self.old self.new) }
+    {
+        self.take_each(packets)
     }
 
     // What the end of the stream decides, and the last gap of the program association table.
@@ -192,13 +208,13 @@ impl<A: Allocator + Copy> Monitor<A> {
         ensures { IfOk result (λ report. report ≡ report_of (ended_after self.old bytes.now)) }
     {
         let (packets, _) = bytes.as_chunks::<188>();
-        self.take_all(packets)?;
+        self.take_each(packets)?;
         self.end_report(bytes.len() % 188 != 0)
     }
 
-    /// The report of the stream, which ends here: after a whole packet, or within one (`cut`).
+    /// The report of the stream that was taken, which ends here: after a whole packet, or within one (`cut`).
     pub fn finish(mut self, cut: bool) -> Result<Report<A>, AllocError>
-        ensures { IfOk result (λ report. report ≡ report_of (stream_ended self cut)) }
+        ensures { IfOk result (λ report. ReportsTaken self cut report) }
     {
         self.end_report(cut)
     }

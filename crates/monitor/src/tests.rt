@@ -8,79 +8,71 @@ use std::process::Abort;
 use std::test::Fail;
 use streams::{slow, stream};
 
-const fn fault(packet: u64, rule: Rule, pid: Option<u16>) -> Fault {
-    Fault { packet, rule, pid }
-}
+// Letters, each so many times, and the faults of the stream of their packets.
+type Case = (&'static [(u8, u32)], &'static [(u64, Rule, Option<u16>)]);
 
-// The faults of a stream of these packets.
-fn check(
-    rt: &impl Abort,
-    alloc: Global,
-    letters: &[(u8, u32)],
-    faults: &[Fault],
-) -> Result<(), Fail> {
-    let bytes = stream(alloc, letters)?;
-    let report = report(alloc, slow()?, 40, &bytes)?;
-    assert_eq!(rt; report.faults(), faults);
+fn check(rt: &impl Abort, alloc: Global, cases: &[Case]) -> Result<(), Fail> {
+    for (letters, faults) in cases {
+        let bytes = stream(alloc, letters)?;
+        let report = report(alloc, slow()?, 40, &bytes)?;
+        let wanted: Vec<Fault> = faults
+            .iter()
+            .map(|(packet, rule, pid)| Fault {
+                packet: *packet,
+                rule: *rule,
+                pid: *pid,
+            })
+            .collect(alloc)?;
+        assert_eq!(rt; report.faults(), wanted.as_slice());
+    }
     Ok(())
 }
 
-#[test]
-fn damaged_packets(rt: HostRuntime) -> Result<(), Fail> {
-    let alloc = rt.alloc();
-    check(
-        &rt,
-        alloc,
-        &[(b'P', 1), (b'M', 1), (b'x', 1)],
-        &[fault(2, Rule::Sync, None)],
-    )?;
-    check(
-        &rt,
-        alloc,
-        &[(b'P', 1), (b'r', 1)],
-        &[fault(1, Rule::Packet, None)],
-    )?;
-    check(
-        &rt,
-        alloc,
-        &[(b'P', 1), (b'e', 1)],
-        &[fault(1, Rule::Error, None)],
-    )?;
-    check(&rt, alloc, &[(b'P', 1), (b's', 1)], &[])?;
-    check(
-        &rt,
-        alloc,
+// A sync byte lost, and three in a row; adaptation_field_control 0, and an adaptation field past the packet; an error that
+// was not corrected; scrambled packets, which are no fault; packets lost, and one packet three times; a wrong check word,
+// whose packet comes twice; a pointer_field past the packet.
+const PACKETS: [Case; 11] = [
+    (&[(b'P', 1), (b'M', 1), (b'x', 1)], &[(2, Rule::Sync, None)]),
+    (
+        &[(b'P', 1), (b'x', 3), (b'M', 1)],
+        &[
+            (1, Rule::Sync, None),
+            (2, Rule::Sync, None),
+            (3, Rule::Sync, None),
+        ],
+    ),
+    (&[(b'P', 1), (b'r', 1)], &[(1, Rule::Packet, None)]),
+    (&[(b'P', 1), (b'a', 1)], &[(1, Rule::Packet, None)]),
+    (&[(b'P', 1), (b'e', 1)], &[(1, Rule::Error, None)]),
+    (&[(b'P', 1), (b's', 1)], &[]),
+    (
         &[(b'V', 1), (b'v', 2), (b'j', 1)],
-        &[fault(3, Rule::Counter, Some(256))],
-    )?;
-    check(
-        &rt,
-        alloc,
-        &[(b'P', 1), (b'b', 1)],
-        &[fault(1, Rule::Crc, Some(0x300))],
-    )?;
-    check(
-        &rt,
-        alloc,
-        &[(b'P', 1), (b'p', 1)],
-        &[fault(1, Rule::Section, Some(0x301))],
-    )
-}
+        &[(3, Rule::Counter, Some(256))],
+    ),
+    (
+        &[(b'V', 1), (b'v', 1), (b'd', 2), (b'v', 1)],
+        &[(3, Rule::Counter, Some(256))],
+    ),
+    (&[(b'P', 1), (b'b', 1)], &[(1, Rule::Crc, Some(0x300))]),
+    (
+        &[(b'b', 1), (b'.', 1), (b'b', 1)],
+        &[(0, Rule::Crc, Some(0x300))],
+    ),
+    (&[(b'P', 1), (b'p', 1)], &[(1, Rule::Section, Some(0x301))]),
+];
 
 #[test]
-fn tables_missing_and_late(rt: HostRuntime) -> Result<(), Fail> {
-    let alloc = rt.alloc();
-    check(&rt, alloc, &[(b'.', 33)], &[])?;
-    check(&rt, alloc, &[(b'.', 34)], &[fault(34, Rule::Pat, Some(0))])?;
-    check(
-        &rt,
-        alloc,
-        &[(b'.', 34), (b'P', 1)],
-        &[fault(34, Rule::Pat, Some(0))],
-    )?;
-    check(
-        &rt,
-        alloc,
+fn damaged_packets(rt: HostRuntime) -> Result<(), Fail> {
+    check(&rt, rt.alloc(), &PACKETS)
+}
+
+// No PAT within the limit; none at all; one too late; one too late after another; one that stops; one that is scrambled from
+// then on. No PMT; one too late.
+const TABLES: [Case; 8] = [
+    (&[(b'.', 33)], &[]),
+    (&[(b'.', 34)], &[(34, Rule::Pat, Some(0))]),
+    (&[(b'.', 34), (b'P', 1)], &[(34, Rule::Pat, Some(0))]),
+    (
         &[
             (b'P', 1),
             (b'M', 1),
@@ -89,62 +81,70 @@ fn tables_missing_and_late(rt: HostRuntime) -> Result<(), Fail> {
             (b'.', 15),
             (b'P', 1),
         ],
-        &[fault(34, Rule::Pat, Some(0))],
-    )?;
-    check(
-        &rt,
-        alloc,
+        &[(34, Rule::Pat, Some(0))],
+    ),
+    (
+        &[(b'P', 1), (b'M', 1), (b'.', 20), (b'M', 1), (b'.', 20)],
+        &[(43, Rule::Pat, Some(0))],
+    ),
+    (
+        &[
+            (b'P', 1),
+            (b'M', 1),
+            (b'.', 20),
+            (b'M', 1),
+            (b'k', 1),
+            (b'.', 20),
+        ],
+        &[(44, Rule::Pat, Some(0))],
+    ),
+    (
         &[(b'P', 1), (b'.', 20), (b'P', 1), (b'.', 13)],
-        &[fault(35, Rule::Pmt, Some(0x1000))],
-    )?;
-    check(
-        &rt,
-        alloc,
+        &[(35, Rule::Pmt, Some(0x1000))],
+    ),
+    (
         &[(b'P', 1), (b'.', 16), (b'P', 1), (b'.', 16), (b'M', 1)],
-        &[fault(34, Rule::Pmt, Some(0x1000))],
-    )
+        &[(34, Rule::Pmt, Some(0x1000))],
+    ),
+];
+
+#[test]
+fn tables_missing_and_late(rt: HostRuntime) -> Result<(), Fail> {
+    check(&rt, rt.alloc(), &TABLES)
 }
+
+// Clock references, PTS, NIT, SDT, EIT and TDT, each too late once; and PAT and PMT that are never late.
+const INTERVALS: [Case; 7] = [
+    (
+        &[(b'C', 1), (b'.', 1), (b'C', 1), (b'.', 2), (b'C', 1)],
+        &[(5, Rule::Pcr, Some(257))],
+    ),
+    (
+        &[(b'V', 1), (b'v', 23), (b'P', 1), (b'v', 23), (b'V', 1)],
+        &[(48, Rule::Pts, Some(256))],
+    ),
+    (
+        &[(b'N', 1), (b'+', 21), (b'N', 1)],
+        &[(673, Rule::Nit, Some(0x10))],
+    ),
+    (
+        &[(b'S', 1), (b'+', 5), (b'S', 1)],
+        &[(161, Rule::Sdt, Some(0x11))],
+    ),
+    (
+        &[(b'E', 1), (b'+', 5), (b'E', 1)],
+        &[(161, Rule::Eit, Some(0x12))],
+    ),
+    (
+        &[(b'T', 1), (b'+', 63), (b'T', 1)],
+        &[(2017, Rule::Tdt, Some(0x14))],
+    ),
+    (&[(b'+', 20)], &[]),
+];
 
 #[test]
 fn other_intervals(rt: HostRuntime) -> Result<(), Fail> {
-    let alloc = rt.alloc();
-    check(
-        &rt,
-        alloc,
-        &[(b'C', 1), (b'.', 1), (b'C', 1), (b'.', 2), (b'C', 1)],
-        &[fault(5, Rule::Pcr, Some(257))],
-    )?;
-    check(
-        &rt,
-        alloc,
-        &[(b'V', 1), (b'v', 23), (b'P', 1), (b'v', 23), (b'V', 1)],
-        &[fault(48, Rule::Pts, Some(256))],
-    )?;
-    check(
-        &rt,
-        alloc,
-        &[(b'N', 1), (b'+', 21), (b'N', 1)],
-        &[fault(673, Rule::Nit, Some(0x10))],
-    )?;
-    check(
-        &rt,
-        alloc,
-        &[(b'S', 1), (b'+', 5), (b'S', 1)],
-        &[fault(161, Rule::Sdt, Some(0x11))],
-    )?;
-    check(
-        &rt,
-        alloc,
-        &[(b'E', 1), (b'+', 5), (b'E', 1)],
-        &[fault(161, Rule::Eit, Some(0x12))],
-    )?;
-    check(
-        &rt,
-        alloc,
-        &[(b'T', 1), (b'+', 63), (b'T', 1)],
-        &[fault(2017, Rule::Tdt, Some(0x14))],
-    )?;
-    check(&rt, alloc, &[(b'+', 20)], &[])
+    check(&rt, rt.alloc(), &INTERVALS)
 }
 
 // Takes the packets of a stream.

@@ -10,3 +10,4 @@ pub mod PlanTexts
 pub mod UnitLists
 pub mod MuxJobs
 pub mod Multiplexes
+pub mod Monitored

@@ -31,6 +31,10 @@ check_app = with_rule (new_app (codes "check")) (flag_rule (codes "switch"))
 abbrev pub mux_app : App
 mux_app = with_rule (with_rule (with_rule (new_app (codes "mux")) (flag_rule (codes "hex"))) (option_rule (codes "slots"))) (option_rule (codes "switch"))
 
+-- monitor --rate R [--pcr N]
+abbrev pub monitor_app : App
+monitor_app = with_rule (with_rule (new_app (codes "monitor")) (option_rule (codes "rate"))) (option_rule (codes "pcr"))
+
 -- tsmux and its subcommands
 abbrev pub top_app : App
 top_app = record (new_app (codes "tsmux")) { top = record (new_app (codes "tsmux")).top { no_binary_name = true } }
@@ -39,4 +43,4 @@ abbrev pub without_mux : App
 without_mux = with_subcommand (with_subcommand (with_subcommand (with_subcommand top_app carry_app.top) plan_app.top) demux_app.top) check_app.top
 
 unfoldable pub tsmux_app : App
-tsmux_app = with_subcommand without_mux mux_app.top
+tsmux_app = with_subcommand (with_subcommand without_mux mux_app.top) monitor_app.top

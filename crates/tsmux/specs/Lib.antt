@@ -17,4 +17,5 @@ pub mod UnitList
 pub mod MuxJobs
 pub mod Multiplexing
 pub mod Planning
+pub mod Monitoring
 pub mod Program

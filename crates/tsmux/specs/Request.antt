@@ -7,7 +7,7 @@ use Rattle.std.specs.Str.{bytes_eq}
 use Rattle.std.specs.Str.Parse.{digits_value}
 use Rattle.clap.specs.Words.{Row, Text, Kinds, fault_of, first_of, subcommand_of}
 use Rattle.tsmux.specs.declared.request.Request.{Request}
-use Rattle.tsmux.specs.declared.request.Request.TheVariants.{Carry, Check, Demux, Mux, Plan}
+use Rattle.tsmux.specs.declared.request.Request.TheVariants.{Carry, Check, Demux, Monitor, Mux, Plan}
 use Rattle.pes_packet.specs.StreamIds.{is_unit_id}
 use Rattle.tsmux.specs.CommandLine.{tsmux_app}
 
@@ -26,6 +26,11 @@ decimal text = if is_decimal text then Some (digits_value 10 text) else None
 unfoldable pub number_option : ℕ → ℕ → ℕ → Option Text → Option ℕ
 number_option low high usual None = Some usual
 number_option low high usual (Some text) = option_and_then (within low high) (decimal text)
+
+-- the number of an option that must be given
+unfoldable pub number_given : ℕ → ℕ → Option Text → Option ℕ
+number_given low high None = None
+number_given low high (Some text) = option_and_then (within low high) (decimal text)
 
 -- the number of an option that need not be given, none where it is out of its range
 unfoldable pub number_if_given : ℕ → ℕ → Option Text → Option (Option ℕ)
@@ -59,13 +64,24 @@ mux_request rows = mux_of (is_given (first_of (codes "hex") rows))
     (number_if_given 0 (2 ^ 64 - 1) (first_of (codes "slots") rows))
     (number_if_given 0 (2 ^ 64 - 1) (first_of (codes "switch") rows))
 
+-- of the options of `monitor`: the rate is in bits a second, the limit in milliseconds
+unfoldable pub monitor_of : Option ℕ → Option ℕ → Option Request
+monitor_of None limit = None
+monitor_of (Some rate) None = None
+monitor_of (Some rate) (Some limit) = Some (Monitor (record { rate = rate; pcr_limit = limit }))
+
+unfoldable pub monitor_request : List Row → Option Request
+monitor_request rows = monitor_of (number_given 100000 100000000 (first_of (codes "rate") rows))
+    (number_option 1 100 40 (first_of (codes "pcr") rows))
+
 unfoldable pub request_of : Text → List Row → Option Request
 request_of name rows =
     if bytes_eq name (codes "carry") then carry_request rows
     else (if bytes_eq name (codes "plan") then Some Plan
     else (if bytes_eq name (codes "demux") then Some Demux
     else (if bytes_eq name (codes "check") then Some (Check (is_given (first_of (codes "switch") rows)))
-    else (if bytes_eq name (codes "mux") then mux_request rows else None))))
+    else (if bytes_eq name (codes "mux") then mux_request rows
+    else (if bytes_eq name (codes "monitor") then monitor_request rows else None)))))
 
 -- of words without a fault
 unfoldable pub subcommand_request : Option (Text × List Row) → Option Request
@@ -97,3 +113,4 @@ Fits (Some Plan) = Unit {0}
 Fits (Some Demux) = Unit {0}
 Fits (Some (Check switch)) = Unit {0}
 Fits (Some (Mux options)) = Unit {0}
+Fits (Some (Monitor options)) = Unit {0}

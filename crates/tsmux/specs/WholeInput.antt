@@ -1,5 +1,6 @@
 -- An input that is read to its end.
-use Rattle.std.specs.Prelude.{◌≡◌, ◌⊎◌, ◌+◌, ◌++◌, ◌^◌, ◌<◌, ◌≤◌, ℕ, Bool, true, false, List, [], length, take, drop, Option, Some, None, Result, Ok, Err, ⊤}
+use Rattle.std.specs.Prelude.{◌≡◌, ◌⊎◌, ◌+◌, ◌++◌, ◌^◌, ◌<◌, ◌≤◌, ℕ, min, Bool, true, false, List, [], length, take, drop, Option, Some, None, Result, Ok, Err, ⊤}
+use Rattle.ts_packet.specs.Device.{IsFront}
 use Rattle.tsmux.specs.Devices.{Device, HasFailed, IsClean}
 use Rattle.tsmux.specs.declared.halt.Halt.{Halt}
 use Rattle.tsmux.specs.declared.halt.Halt.TheVariants.{Read, Write, Memory}
@@ -47,3 +48,15 @@ ReadsMore input before after (Ok ended) = ReadsPiece input before after ended
 ReadsMore input before after (Err Read) = HasFailed input
 ReadsMore input before after (Err Write) = ⊥
 ReadsMore input before after (Err Memory) = IsClean input
+
+-- the next n bytes of the input stand at the front of a piece, fewer than it holds only where the input ended
+pub record ReadsFront (input : Device) (piece : List ℕ) (n : ℕ) : Type 0 where
+  pub fits : n ≤ length piece
+  pub known : (xs : List ℕ) → input.before.bytes ≡ Some xs → (n ≡ min (length piece) (length xs)) × IsFront xs input.after.bytes piece n
+  pub clean : IsClean input
+
+abbrev pub ReadsNext : Device → List ℕ → Result ℕ Halt → Type 0
+ReadsNext input piece (Ok n) = ReadsFront input piece n
+ReadsNext input piece (Err Read) = HasFailed input
+ReadsNext input piece (Err Write) = ⊥
+ReadsNext input piece (Err Memory) = ⊥

@@ -2,7 +2,7 @@
 ghost use Rattle.std.specs.Prelude.{◌≡◌, true, false, IfOk, codes, map};
 ghost use Rattle.clap.specs.Words.{FailsBy, app_of, fault_of, rule_of, subcommand_of, subcommand_rows_of, with_subcommand};
 ghost use Rattle.clap.specs.declared.builder.command.Command.TheViews.{out-Command as fields_of};
-ghost use Rattle.tsmux.specs.CommandLine.{carry_app, check_app, demux_app, flag_rule, mux_app, option_rule, plan_app, tsmux_app, without_mux};
+ghost use Rattle.tsmux.specs.CommandLine.{carry_app, check_app, demux_app, flag_rule, monitor_app, mux_app, option_rule, plan_app, tsmux_app, without_mux};
 
 use clap::{Arg, ArgAction, ArgMatches, Command, Error};
 use std::alloc::{AllocError, Global};
@@ -64,6 +64,15 @@ fn mux<'a>(alloc: Global) -> Result<Command<'a>, AllocError>
         .arg(option(alloc, "switch"))
 }
 
+fn monitor<'a>(alloc: Global) -> Result<Command<'a>, AllocError>
+    ensures app { IfOk result (λ c. app_of c ≡ monitor_app) }
+    ensures local { IfOk result (λ c. (fields_of c).has_globals ≡ false) }
+{
+    Command::new(alloc, "monitor")
+        .arg(option(alloc, "rate"))?
+        .arg(option(alloc, "pcr"))
+}
+
 /// A command with one more subcommand.
 fn with<'a>(command: Command<'a>, sub: Command<'a>) -> Result<Command<'a>, AllocError>
     requires { (fields_of sub).has_globals ≡ false }
@@ -72,7 +81,7 @@ fn with<'a>(command: Command<'a>, sub: Command<'a>) -> Result<Command<'a>, Alloc
     command.subcommand(sub)
 }
 
-/// The words that look at a description, a job or packets, or need no plan.
+/// The words before `mux`.
 fn without_mux<'a>(alloc: Global) -> Result<Command<'a>, AllocError>
     ensures { IfOk result (λ c. app_of c ≡ without_mux) }
 {
@@ -89,7 +98,8 @@ fn tsmux<'a>(alloc: Global) -> Result<Command<'a>, AllocError>
     ensures { IfOk result (λ c. app_of c ≡ tsmux_app) }
 {
     let command = without_mux(alloc)?;
-    with(command, mux(alloc)?)
+    let command = with(command, mux(alloc)?)?;
+    with(command, monitor(alloc)?)
 }
 
 /// The subcommand that the words name, with what they give its options.

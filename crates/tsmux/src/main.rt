@@ -3,7 +3,7 @@
 //! `command_line`, `options` and `request` read the words. Each subcommand has a module: `carrying`; `demultiplexing`, with
 //! the lines of `finding_lines` on their way by `passing`; `planning`; `checking`, of the job that `jobs` reads, with `job_fault`, what
 //! is first wrong with it; `multiplexing`, of the same job with the units that `mux_jobs` reads after it (`unit_list`, over the
-//! bytes of `memory_bytes`), for as many slots as `usual_slots` says. `whole_input` reads an input, `lines` writes lines of numbers, `fault_lines` those of records and
+//! bytes of `memory_bytes`), for as many slots as `usual_slots` says; `monitoring`, of a stream as it comes. `whole_input` reads an input, `lines` writes lines of numbers, `fault_lines` those of records and
 //! units, `halt` is what ends a subcommand before its time. `program` is `run`, the whole program over any reader and
 //! writers, which `main` joins to the real ones.
 #![tactic(auto)]
@@ -20,6 +20,7 @@ mod job_parts;
 mod jobs;
 mod lines;
 mod memory_bytes;
+mod monitoring;
 mod multiplexing;
 mod mux_jobs;
 mod options;

@@ -24,6 +24,7 @@ fn is_decimal(text: &str) -> bool
 /// A number that lies within these limits.
 fn within(low: u64, high: u64, number: u64) -> Option<u64>
     ensures value { result ≡ asked.within low high number }
+    ensures least { IfSome result (λ n. low ≤ n) }
     ensures most { IfSome result (λ n. n ≤ high) }
 {
     if low <= number && number <= high {
@@ -36,6 +37,7 @@ fn within(low: u64, high: u64, number: u64) -> Option<u64>
 /// The number that decimal digits alone make, where it lies within these limits.
 pub fn number_in(text: &str, low: u64, high: u64) -> Option<u64>
     ensures value { result ≡ option_and_then (asked.within low high) (asked.decimal text.now) }
+    ensures least { IfSome result (λ n. low ≤ n) }
     ensures most { IfSome result (λ n. n ≤ high) }
 {
     if !is_decimal(text) {
@@ -63,6 +65,19 @@ pub fn number_option(text: Option<&str>, low: u64, high: u64, usual: u64) -> Opt
 {
     match text {
         None => Some(usual),
+        Some(text) => number_in(text, low, high),
+    }
+}
+
+/// The number of an option that must be given.
+#[tactic(auto, unfolding(crate::specs::Request::number_given))]
+pub fn number_given(text: Option<&str>, low: u64, high: u64) -> Option<u64>
+    ensures value { result ≡ asked.number_given low high (option_map (λ s. s.now) text.entry) }
+    ensures least { IfSome result (λ n. low ≤ n) }
+    ensures most { IfSome result (λ n. n ≤ high) }
+{
+    match text {
+        None => None,
         Some(text) => number_in(text, low, high),
     }
 }

@@ -4,19 +4,22 @@ ghost use Rattle.tsmux.specs.Carrying.{Carries};
 ghost use Rattle.tsmux.specs.Checking.{Checks};
 ghost use Rattle.tsmux.specs.Demultiplexing.{Demultiplexes};
 ghost use Rattle.tsmux.specs.Devices.{reads, writes};
+ghost use Rattle.tsmux.specs.Monitoring.{Monitors};
 ghost use Rattle.tsmux.specs.Multiplexing.{Muxes};
 ghost use Rattle.tsmux.specs.Performing.{LacksMemory, Performs, Streams};
 ghost use Rattle.tsmux.specs.Planning.{Plans};
 ghost use Rattle.tsmux.specs.Program.{IsUsage};
 ghost use Rattle.tsmux.specs.Request.{asked};
 ghost use Rattle.tsmux.specs.declared.request.Carriage.{Carriage};
+ghost use Rattle.tsmux.specs.declared.request.MonitorOptions.{MonitorOptions};
 ghost use Rattle.tsmux.specs.declared.request.MuxOptions.{MuxOptions};
-ghost use Rattle.tsmux.specs.declared.request.Request.TheVariants.{Carry, Check, Demux, Mux, Plan};
+ghost use Rattle.tsmux.specs.declared.request.Request.TheVariants.{Carry, Check, Demux, Monitor, Mux, Plan};
 
 use crate::carrying::carry_records;
 use crate::checking::check_job;
 use crate::demultiplexing::demultiplex;
 use crate::halt::{Halt, halted};
+use crate::monitoring::monitor_stream;
 use crate::multiplexing::multiplex_job;
 use crate::planning::make_plan;
 use crate::request::{Request, requested};
@@ -30,6 +33,7 @@ const USAGE: &str =
        tsmux demux < PACKETS > FINDINGS
        tsmux check [--switch] < JOB
        tsmux mux [--hex] [--slots N] [--switch Q] < JOB > PACKETS
+       tsmux monitor --rate 100000..100000000 [--pcr 1..100] < PACKETS > REPORT
 with no words: tsmux carry --hex
 ";
 
@@ -66,6 +70,9 @@ pub fn run<R: Source, W: Sink, E: Sink>(
     // A job with its units to the packets of its plan.
     ensures mux { (options : MuxOptions) → asked words.now ≡ Some (Mux options) →
         Performs (Muxes options) (reads R.Source input.old input.new) (writes W.Sink output.old output.new) (writes E.Sink faults.old faults.new) result }
+    // Packets to the report on them.
+    ensures monitor { (options : MonitorOptions) → asked words.now ≡ Some (Monitor options) →
+        Performs (Monitors options) (reads R.Source input.old input.new) (writes W.Sink output.old output.new) (writes E.Sink faults.old faults.new) result }
     // All other words.
     ensures usage { asked words.now ≡ None →
         IsUsage (reads R.Source input.old input.new) (writes W.Sink output.old output.new) result
@@ -77,6 +84,9 @@ pub fn run<R: Source, W: Sink, E: Sink>(
         Ok(Some(Request::Demux)) => demultiplex(alloc, input, output, faults),
         Ok(Some(Request::Check { switch })) => check_job(alloc, switch, input, output, faults),
         Ok(Some(Request::Mux(options))) => multiplex_job(alloc, options, input, output, faults),
+        Ok(Some(Request::Monitor(options))) => {
+            monitor_stream(alloc, options, input, output, faults)
+        }
         Ok(None) => tell_usage(faults),
         Err(_) => halted(faults, Halt::Memory),
     }

@@ -6,6 +6,7 @@ ghost use Rattle.tsmux.specs.Request as asked;
 use crate::{command_line, options};
 use clap::ArgMatches;
 use clap::error::ErrorKind;
+use clock27::Rate;
 use pes_packet::is_unit_id;
 use std::alloc::{AllocError, Global};
 
@@ -31,6 +32,15 @@ pub struct MuxOptions {
     pub periods: Option<u64>,
 }
 
+/// What `monitor` is to hold a stream to.
+#[derive(Clone, Copy, Debug, PartialEq, Eq)]
+pub struct MonitorOptions {
+    /// the rate of the stream
+    pub rate: Rate,
+    /// the greatest gap between program clock references, in milliseconds: 1 to 100
+    pub pcr_limit: u32,
+}
+
 /// A use of the program.
 #[derive(Clone, Copy, Debug, PartialEq, Eq)]
 pub enum Request {
@@ -44,6 +54,8 @@ pub enum Request {
     Check { switch: bool },
     /// a job to its packets
     Mux(MuxOptions),
+    /// packets to the report on them
+    Monitor(MonitorOptions),
 }
 
 #[tactic(auto, unfolding(crate::specs::Request::carriage_of))]
@@ -107,6 +119,37 @@ fn mux_request(matches: &ArgMatches<'_>) -> Option<Request>
     mux_of(hex, slots, periods)
 }
 
+#[tactic(auto, unfolding(crate::specs::Request::monitor_of))]
+fn monitor_of(rate: Option<u64>, pcr_limit: Option<u64>) -> Option<Request>
+    requires least { IfSome rate (λ n. 100000 ≤ n) }
+    requires most { IfSome rate (λ n. n ≤ 100000000) }
+    requires limit { IfSome pcr_limit (λ n. n ≤ 100) }
+    ensures value { result ≡ asked.monitor_of rate pcr_limit }
+    ensures fits { asked.Fits result }
+{
+    let Some(rate) = rate else {
+        return None;
+    };
+    let Some(pcr_limit) = pcr_limit else {
+        return None;
+    };
+    let Ok(rate) = Rate::new(rate) else {
+        return None;
+    };
+    let pcr_limit = pcr_limit as u32;
+    Some(Request::Monitor(MonitorOptions { rate, pcr_limit }))
+}
+
+#[tactic(auto, unfolding(crate::specs::Request::monitor_request))]
+fn monitor_request(matches: &ArgMatches<'_>) -> Option<Request>
+    ensures value { result ≡ asked.monitor_request (rows_of (found_of matches.now)) }
+    ensures fits { asked.Fits result }
+{
+    let rate = options::number_given(options::text_of(matches, "rate"), 100_000, 100_000_000);
+    let pcr_limit = options::number_option(options::text_of(matches, "pcr"), 1, 100, 40);
+    monitor_of(rate, pcr_limit)
+}
+
 #[tactic(auto, unfolding(crate::specs::Request::request_of))]
 fn request_of(name: &str, matches: &ArgMatches<'_>) -> Option<Request>
     ensures value { result ≡ asked.request_of name.now (rows_of (found_of matches.now)) }
@@ -121,6 +164,7 @@ fn request_of(name: &str, matches: &ArgMatches<'_>) -> Option<Request>
             Some(Request::Check { switch })
         }
         "mux" => mux_request(matches),
+        "monitor" => monitor_request(matches),
         _ => None,
     }
 }

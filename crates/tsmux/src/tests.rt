@@ -5,6 +5,7 @@ mod mux_measured;
 mod mux_runs;
 mod plan_checks;
 mod plans;
+mod stream_reports;
 
 use crate::program::run;
 use std::alloc::Global;

@@ -1,9 +1,9 @@
-//! An input, read whole.
+//! An input, read whole or piece by piece.
 ghost use Rattle.std.specs.Prelude.{◌≡◌, ◌⊎◌, ◌+◌, ◌<◌, ◌≤◌, ◌++◌, ℕ, List, [], Some, IfOk, IfErr, OnOk, OnErr, length, take};
 ghost use Rattle.std.specs.Result.{result_map_both};
 ghost use Rattle.ts_packet.specs.Device.{Failed};
 ghost use Rattle.tsmux.specs.Devices.{reads};
-ghost use Rattle.tsmux.specs.WholeInput.{ReadsInput, ReadsMore, longest_input};
+ghost use Rattle.tsmux.specs.WholeInput.{ReadsInput, ReadsMore, ReadsNext, longest_input};
 
 use crate::halt::Halt;
 use std::alloc::Global;
@@ -13,16 +13,26 @@ use ts_packet::{Source, read_part};
 const PIECE: usize = 1 << 18;
 
 /// The most bytes of an input.
-const LONGEST_INPUT: usize = 1 << 40;
+pub const LONGEST_INPUT: usize = 1 << 40;
 
 /// So many bytes to read into.
-fn room(alloc: Global, size: usize) -> Result<Vec<u8>, Halt>
+pub fn room(alloc: Global, size: usize) -> Result<Vec<u8>, Halt>
     ensures ok { IfOk result (λ piece. length piece.items ≡ size) }
     ensures err { IfErr result (λ halt. halt ≡ Halt.Memory) }
 {
     match vec![in alloc; 0u8; size] {
         Ok(piece) => Ok(piece),
         Err(_) => Err(Halt::Memory),
+    }
+}
+
+/// Reads the next bytes of the input into a piece, fewer than it holds only where the input ends, and says how many.
+pub fn read_piece<R: Source>(input: &mut R, piece: &mut [u8]) -> Result<usize, Halt>
+    ensures { ReadsNext (reads R.Source input.old input.new) piece.new result }
+{
+    match read_part(input, piece) {
+        Ok(n) => Ok(n),
+        Err(_) => Err(Halt::Read),
     }
 }
 

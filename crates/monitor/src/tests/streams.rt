@@ -77,10 +77,18 @@ fn broken(letter: u8) -> [u8; 188] {
     match letter {
         b'x' => bytes[0] = 0x46,
         b'r' => bytes[3] = 0x00,
+        b'a' => {
+            bytes[3] = 0x30;
+            bytes[4] = 0xFF;
+        }
         b'e' => bytes[1] = 0x9F,
         b's' => {
             bytes[1] = 0x02;
             bytes[3] = 0x90;
+        }
+        b'k' => {
+            bytes = packet(0, true, 1, &PAT);
+            bytes[3] = 0x91;
         }
         b'b' => {
             bytes = packet(0x300, true, 0, &pmt());
@@ -113,7 +121,16 @@ fn push_all(bytes: &mut Vec<u8>, counters: &mut [u8; 128], all: &[u8]) -> Result
     Ok(())
 }
 
-// Appends the packet of a letter so many times; `+` is a cycle.
+// Appends the last packet once more.
+fn push_again(bytes: &mut Vec<u8>) -> Result<(), AllocError> {
+    let mut again = [0u8; 188];
+    if let Some(last) = bytes.as_chunks::<188>().0.last() {
+        again = *last;
+    }
+    bytes.extend_from_slice(&again)
+}
+
+// Appends the packet of a letter so many times; `+` is a cycle, and `d` the packet before.
 fn push_times(
     bytes: &mut Vec<u8>,
     counters: &mut [u8; 128],
@@ -121,10 +138,10 @@ fn push_times(
     times: u32,
 ) -> Result<(), AllocError> {
     for _ in 0..times {
-        if which == b'+' {
-            push_all(bytes, counters, &CYCLE)?;
-        } else {
-            push(bytes, counters, which)?;
+        match which {
+            b'+' => push_all(bytes, counters, &CYCLE)?,
+            b'd' => push_again(bytes)?,
+            _ => push(bytes, counters, which)?,
         }
     }
     Ok(())

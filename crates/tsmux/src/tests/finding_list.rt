@@ -15,7 +15,7 @@ fn push_packet(bytes: &mut Vec<u8>, second: u8, last: u8) -> Result<(), AllocErr
 }
 
 /// A packet, the same again, the same with another last byte, and 100 bytes of another.
-fn stream(alloc: Global) -> Result<Vec<u8>, AllocError> {
+pub fn stream(alloc: Global) -> Result<Vec<u8>, AllocError> {
     let mut bytes = Vec::new(alloc);
     push_packet(&mut bytes, 0x41, 0x43)?;
     push_packet(&mut bytes, 0x41, 0x43)?;

@@ -1,9 +1,9 @@
 use Rattle.std.proofs.Common.{◌≡◌, IfOk, subst}
-use Rattle.monitor.specs.Watching.{StreamMarks}
+use Rattle.monitor.specs.Watching.{StreamMarks, packets_taken}
 use Rattle.monitor.specs.Reports.{ended_after, report_of, watched}
 use Rattle.monitor.proofs.monitor.watch.Goals as goal
 
 pub returns : goal.returns
-unfolding watched
+unfolding watched packets_taken
 returns g c =
     subst (λ (s : StreamMarks). IfOk c.finish_after.result (λ report. report ≡ report_of (ended_after s c.args.bytes.now))) c.in_ok-monitor.ensures c.finish_after.ensures
