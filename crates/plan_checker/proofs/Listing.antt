@@ -88,6 +88,19 @@ count_ends f i n e whole h lt some =
 pub count_done : (f : ℕ → Entry) (i n : ℕ) → n ≤ i → None ≡ first_failing (counting f (i + 1) (n - i))
 count_done f i n le = let e : n - i ≡ 0 = omega arith in rw e refl
 
+-- the first that fails of two
+abbrev pub first_of : Option Entry → Option Entry → Option Entry
+first_of None next = next
+first_of (Some e) next = Some e
+
+first_cond : (b : Bool) (e : Entry) (rest next whole : Option Entry) → whole ≡ first_of rest next → cond b whole (Some e) ≡ first_of (cond b rest (Some e)) next
+first_cond true e rest next whole same = same
+first_cond false e rest next whole same = refl
+
+pub first_of_both : (es fs : List Entry) → first_failing (es ++ fs) ≡ first_of (first_failing es) (first_failing fs)
+first_of_both [] fs = refl
+first_of_both (e ∷ es) fs = first_cond (entry_holds e) e (first_failing es) (first_failing fs) (first_failing (es ++ fs)) (first_of_both es fs)
+
 -- conditions before others
 pub then_after : (xs ys : List Entry) (r : Option Entry) → None ≡ first_failing xs → r ≡ first_failing ys → r ≡ first_failing (xs ++ ys)
 then_after xs ys r none e = e ∙ sym (failing_after xs ys (sym none))
