@@ -9,23 +9,26 @@ use Rattle.description.specs.Described.{Described}
 use Rattle.slot_plan.specs.Planned.{Planned}
 use Rattle.slot_plan.specs.Conditions.{counting, shape_entries, timing_entries, entries}
 
-test_after : (b : Bool) (e : Entry) (rest whole fs : Option Entry) → (rest ≡ None → whole ≡ fs) → cond b rest (Some e) ≡ None → cond b whole (Some e) ≡ fs
-test_after true e rest whole fs next none = next none
-test_after false e rest whole fs next none = absurd (cc)
+-- the first that fails of two
+abbrev pub first_of : Option Entry → Option Entry → Option Entry
+first_of None next = next
+first_of (Some e) next = Some e
 
-test_before : (b : Bool) (e f : Entry) (rest whole : Option Entry) → (rest ≡ Some e → whole ≡ Some e) → cond b rest (Some f) ≡ Some e → cond b whole (Some f) ≡ Some e
-test_before true e f rest whole next some = next some
-test_before false e f rest whole next some = some
+first_cond : (b : Bool) (e : Entry) (rest next whole : Option Entry) → whole ≡ first_of rest next → cond b whole (Some e) ≡ first_of (cond b rest (Some e)) next
+first_cond true e rest next whole same = same
+first_cond false e rest next whole same = refl
+
+pub first_of_both : (es fs : List Entry) → first_failing (es ++ fs) ≡ first_of (first_failing es) (first_failing fs)
+first_of_both [] fs = refl
+first_of_both (e ∷ es) fs = first_cond (entry_holds e) e (first_failing es) (first_failing fs) (first_failing (es ++ fs)) (first_of_both es fs)
 
 -- after conditions that hold, the first failing one is that of the rest
 pub failing_after : (es fs : List Entry) → first_failing es ≡ None → first_failing (es ++ fs) ≡ first_failing fs
-failing_after [] fs none = refl
-failing_after (e ∷ es) fs none = test_after (entry_holds e) e (first_failing es) (first_failing (es ++ fs)) (first_failing fs) (failing_after es fs) none
+failing_after es fs none = first_of_both es fs ∙ ap (λ (o : Option Entry). first_of o (first_failing fs)) none
 
 -- a failing condition stays the first, whatever follows
 pub failing_before : (es fs : List Entry) (e : Entry) → first_failing es ≡ Some e → first_failing (es ++ fs) ≡ Some e
-failing_before [] fs e some = absurd (cc)
-failing_before (f ∷ es) fs e some = test_before (entry_holds f) e f (first_failing es) (first_failing (es ++ fs)) (failing_before es fs e) some
+failing_before es fs e some = first_of_both es fs ∙ ap (λ (o : Option Entry). first_of o (first_failing fs)) some
 
 module _ {A : Type 0} (part : ℕ → A → List Entry) (xs : List A) where
   -- the conditions of the elements from number i on
@@ -88,12 +91,9 @@ count_ends f i n e whole h lt some =
 pub count_done : (f : ℕ → Entry) (i n : ℕ) → n ≤ i → None ≡ first_failing (counting f (i + 1) (n - i))
 count_done f i n le = let e : n - i ≡ 0 = omega arith in rw e refl
 
--- conditions before others
+-- conditions that hold before others
 pub then_after : (xs ys : List Entry) (r : Option Entry) → None ≡ first_failing xs → r ≡ first_failing ys → r ≡ first_failing (xs ++ ys)
 then_after xs ys r none e = e ∙ sym (failing_after xs ys (sym none))
-
-pub then_before : (xs ys : List Entry) (e : Entry) → Some e ≡ first_failing xs → Some e ≡ first_failing (xs ++ ys)
-then_before xs ys e some = sym (failing_before xs ys e (sym some))
 
 -- the conditions of a plan are those of its shape where one of these fails
 pub shape_fails : (d : Described) (p : Planned) (e : Entry) → Some e ≡ first_failing (shape_entries d p) → Some e ≡ first_failing (entries d p)

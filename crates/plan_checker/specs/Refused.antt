@@ -1,5 +1,5 @@
 -- A refusal, as the condition that fails.
-use Rattle.std.specs.Prelude.{ℕ, Option, Some, None, Result, Ok, Err}
+use Rattle.std.specs.Prelude.{Option, Some, None, Result, Ok, Err}
 use Rattle.slot_plan.specs.Entries.{Entry}
 use Rattle.plan_checker.specs.declared.refusal.Refusal.{Refusal}
 

@@ -16,7 +16,7 @@ use crate::comparing::at_most;
 use crate::counting::own_count;
 use crate::plans::ShapedPlan;
 use crate::refusal::Refusal;
-use crate::sides::{lead_given, lead_needed};
+use crate::sides::{time_given, time_needed};
 use crate::turns::OnEach;
 use slot_plan::{Condition, Item, Stream};
 use std::alloc::Allocator;
@@ -104,9 +104,10 @@ fn units_lead<A: Allocator>(
     let packets = packets_of_units(stream, units);
     let rate = plans.description.rate().bits_per_second();
     let rx = stream.rx as u64;
-    let needed = lead_needed(claim.spread, packets, period, count, rx, claim.peak);
-    let given = lead_given(
-        count,
+    let slots = claim.spread as u128 + packets as u128 * period as u128 + count as u128;
+    let needed = time_needed(slots, count as u128, rx, claim.peak);
+    let given = time_given(
+        count as u128,
         stream.lead as u64,
         units as u64,
         stream.interval as u64,

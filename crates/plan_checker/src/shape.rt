@@ -19,6 +19,7 @@ use std::alloc::Allocator;
 const LONGEST_PERIOD: u128 = 65_536;
 
 /// The conditions of code 1.
+#[tactic(auto, using(crate::proofs::Listing::first_of_both))]
 pub fn shape<A: Allocator>(description: &Description, plan: &Plan<A>) -> Result<(), Refusal>
     ensures { failed result ≡ first_failing (shape_entries description.now plan.now) }
 {

@@ -27,23 +27,21 @@ pub fn rate_given(count: u64, group: u64, interval: u64, rate: u64) -> u128
     count as u128 * group as u128 * interval as u128 * rate as u128
 }
 
-/// When the last of `packets` packets has left the transport buffer at the latest, with that spread and peak.
-pub fn lead_needed(spread: u64, packets: u64, period: u64, count: u64, rx: u64, peak: u64) -> u128
-    requires spread { spread < 10 ^ 18 }
-    requires packets { packets ≤ 2 ^ 21 }
-    requires period { period ≤ 65536 }
-    requires count { count ≤ 65536 }
+/// When the last of the packets that take so many slots has left the transport buffer at the latest, `count` the own
+/// slots of the periods multiplied.
+pub fn time_needed(slots: u128, count: u128, rx: u64, peak: u64) -> u128
+    requires slots { slots < 2 ^ 60 }
+    requires count { count ≤ 2 ^ 32 }
     requires rx { rx ≤ 200000000 }
     requires peak { peak < 10 ^ 18 }
-    ensures { result ≡ (spread + packets * period + count) * slot_units * rx + count * peak * byte_units }
+    ensures { result ≡ slots * slot_units * rx + count * peak * byte_units }
 {
-    (spread as u128 + packets as u128 * period as u128 + count as u128) * SLOT_UNITS * rx as u128
-        + count as u128 * peak as u128 * BYTE_UNITS
+    slots * SLOT_UNITS * rx as u128 + count * peak as u128 * BYTE_UNITS
 }
 
 /// When it has to have left: the decoding time of the `units`-th unit on end.
-pub fn lead_given(count: u64, lead: u64, units: u64, interval: u64, rate: u64, rx: u64) -> u128
-    requires count { count ≤ 65536 }
+pub fn time_given(count: u128, lead: u64, units: u64, interval: u64, rate: u64, rx: u64) -> u128
+    requires count { count ≤ 2 ^ 32 }
     requires lead { lead ≤ 90000 }
     requires units { units ≤ 64 }
     requires some { 0 < units }
@@ -52,10 +50,8 @@ pub fn lead_given(count: u64, lead: u64, units: u64, interval: u64, rate: u64, r
     requires rx { rx ≤ 200000000 }
     ensures { result ≡ count * (lead + (units - 1) * interval) * rate * rx }
 {
-    count as u128
-        * (lead as u128 + (units as u128 - 1) * interval as u128)
-        * rate as u128
-        * rx as u128
+    let time = lead + (units - 1) * interval;
+    count * time as u128 * rate as u128 * rx as u128
 }
 
 /// The most own slots in a window of `window` slots, with that spread.

@@ -18,6 +18,7 @@ use slot_plan::{Description, Plan};
 use std::alloc::Allocator;
 
 /// Codes 2 to 9.
+#[tactic(auto, using(crate::proofs::Listing::first_of_both))]
 pub fn timing<A: Allocator>(description: &Description, plan: &Plan<A>) -> Result<(), Refusal>
     requires shaped { IsShaped description.now plan.now }
     ensures { failed result ≡ first_failing (timing_entries description.now plan.now) }

@@ -21,6 +21,7 @@ use slot_plan::{Description, Plan};
 use std::alloc::Allocator;
 
 /// The conditions of two plans together, codes 12 to 16.
+#[tactic(auto, using(crate::proofs::Listing::first_of_both))]
 fn joint<A: Allocator>(
     description: &Description,
     first: &Plan<A>,

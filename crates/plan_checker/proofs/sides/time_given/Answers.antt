@@ -1,6 +1,6 @@
 use Rattle.std.proofs.Common.{ℕ, ◌+◌, ◌-◌, ◌*◌, ◌^◌, ◌≤◌, arith}
 use Rattle.std.proofs.lemmas.Nat.{mul-le}
-use Rattle.plan_checker.proofs.switch.sides.time_given.Goals as goal
+use Rattle.plan_checker.proofs.sides.time_given.Goals as goal
 
 -- the decoding time of the last unit on end, after that of the first
 time_most : (lead units interval : ℕ) → lead ≤ 90000 → units ≤ 64 → interval ≤ 90000 → lead + (units - 1) * interval ≤ 5760000
