@@ -20,8 +20,6 @@ mod place;
 mod roles;
 mod sections;
 mod states;
-#[cfg(test)]
-mod tests;
 mod verdicts;
 
 pub use demultiplexer::{Demux, whole};

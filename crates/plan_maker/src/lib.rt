@@ -18,6 +18,3 @@ mod certifying;
 
 pub use making::{MakeError, make};
 pub use reasoning::{Reason, no_plan_serves, reasons};
-
-#[cfg(test)]
-mod tests;

@@ -31,6 +31,3 @@ mod units;
 pub use fullness::{Fullness, LateUnit, StreamFullness, SystemFullness};
 pub use measurement::measure;
 pub use refusal::MeasureError;
-
-#[cfg(test)]
-mod tests;

@@ -5,7 +5,7 @@ mod memory;
 mod reference;
 mod reference_marks;
 
-use crate::{Demux, DemuxError, Finding, Kind, Part, What, whole};
+use demux::{Demux, DemuxError, Finding, Kind, Part, What, whole};
 use std::alloc::{AllocError, Allocator, Global};
 use std::test::Fail;
 

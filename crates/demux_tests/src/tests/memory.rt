@@ -1,6 +1,6 @@
 //! Refused memory.
 use super::{WORKED, lines, long_packet, worked_stream};
-use crate::{Demux, DemuxError};
+use demux::{Demux, DemuxError};
 use linked_list_allocator::LocalHeap;
 use std::alloc::AllocError;
 use std::test::Fail;

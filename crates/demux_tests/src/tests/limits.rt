@@ -1,6 +1,6 @@
 //! Long streams and many PIDs, with memory enough.
 use super::{lines, long_packet, pes_packet};
-use crate::Demux;
+use demux::Demux;
 use std::test::Fail;
 use ts_packet::null_packet;
 

@@ -1,5 +1,4 @@
 //! Worked runs of the base description, each refusal, and refused memory.
-use crate::{Fullness, LateUnit, MeasureError, StreamFullness, SystemFullness, measure};
 use clock27::Pcr;
 use description::Description;
 use linked_list_allocator::LocalHeap;
@@ -8,6 +7,7 @@ use std::alloc::{AllocError, Allocator, Global};
 use std::process::Abort;
 use std::test::Fail;
 use ts_packet::{PacketError, null_packet, write_payload, write_pcr};
+use tstd::{Fullness, LateUnit, MeasureError, StreamFullness, SystemFullness, measure};
 
 const BASE: &str =
     "rate = 1504000\nstart = \"1993-10-13T12:45:00\"\nts_id = 1\noriginal_network_id = 1\nsdt = true\ntdt = true\n\n[network]\nid = 1\nname = \"Net\"\n\n[[program]]\nnumber = 1\npmt_pid = 4096\npcr_pid = 257\nservice_type = 2\nname = \"One\"\n\n[[stream]]\nprogram = 1\npid = 256\nid = 192\ntype = 3\ninterval = 2160\nsize = 576\nlead = 1600\n\n[[event]]\nprogram = 1\nid = 7\nstart = \"1993-10-13T12:45:00\"\nduration = 5400\nlanguage = \"eng\"\nname = \"News\"\ntext = \"\"\n";

@@ -1,8 +1,8 @@
 //! Plans made for worked and for full services; refused memory.
 
-use crate::{MakeError, Reason, make, reasons};
 use linked_list_allocator::LocalHeap;
 use plan_checker::CheckedPlan;
+use plan_maker::{MakeError, Reason, make, reasons};
 use slot_plan::{Description, Plan, Slot};
 use std::alloc::{AllocError, Allocator, Global};
 use std::test::Fail;

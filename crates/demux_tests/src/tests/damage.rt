@@ -1,6 +1,6 @@
 //! Streams that were damaged on their way, against the plain program that looks back over all packets.
 use super::{in_pieces, lines, long_packet, pat_packet, pes_packet, reference, section_in_two};
-use crate::whole;
+use demux::whole;
 use std::alloc::{AllocError, Global};
 use std::test::Fail;
 
