@@ -34,6 +34,7 @@ bench: binary
 	python3 bench/slots.py $(BINARY)
 	python3 bench/carry.py $(BINARY)
 	python3 bench/demux.py $(BINARY)
+	python3 bench/monitor.py $(BINARY)
 	python3 bench/packets.py
 	python3 bench/check.py
 	python3 bench/measure.py

@@ -1,12 +1,13 @@
 //! Damaged streams, each with its faults, and refused memory. What is expected was worked out by hand from the rules.
 mod streams;
 
-use crate::{Fault, Monitor, ReportError, Rule, report};
+use crate::{Fault, Monitor, Report, ReportError, Rule, WriteError, report};
 use linked_list_allocator::LocalHeap;
 use std::alloc::{AllocError, Global};
 use std::process::Abort;
 use std::test::Fail;
 use streams::{slow, stream};
+use ts_packet::{Counted, Failing};
 
 // Letters, each so many times, and the faults of the stream of their packets.
 type Case = (&'static [(u8, u32)], &'static [(u64, Rule, Option<u16>)]);
@@ -168,19 +169,47 @@ fn packet_by_packet(rt: HostRuntime) -> Result<(), Fail> {
     Ok(())
 }
 
+// A packet without its sync byte, one whose counter does not follow, and 100 bytes after it.
+const LINES: &str = "packets 4
+pid 256 packets 3 starts 1 duplicates 0 scrambled 0
+fault 2 - sync
+fault 3 256 counter
+fault 4 - cut
+faults 3
+";
+
+fn cut_report(alloc: Global) -> Result<Report, Fail> {
+    let letters = [(b'V', 1), (b'v', 1), (b'x', 1), (b'j', 1), (b'.', 1)];
+    let mut bytes = stream(alloc, &letters)?;
+    bytes.truncate(4 * 188 + 100);
+    Ok(report(alloc, slow()?, 40, &bytes)?)
+}
+
 #[test]
 fn lines_of_a_cut_stream(rt: HostRuntime) -> Result<(), Fail> {
+    let text = cut_report(rt.alloc())?.write_text(rt.alloc())?;
+    assert_eq!(rt; text.as_str(), LINES);
+    Ok(())
+}
+
+// A writer with room for all lines, and writers that fail after some bytes of them.
+#[test]
+fn lines_on_a_writer(rt: HostRuntime) -> Result<(), Fail> {
     let alloc = rt.alloc();
-    let mut bytes = stream(
-        alloc,
-        &[(b'V', 1), (b'v', 1), (b'x', 1), (b'j', 1), (b'.', 1)],
-    )?;
-    bytes.truncate(4 * 188 + 100);
-    let text = report(alloc, slow()?, 40, &bytes)?.write_text(alloc)?;
-    assert_eq!(rt;
-        text.as_str(),
-        "packets 4\npid 256 packets 3 starts 1 duplicates 0 scrambled 0\nfault 2 - sync\nfault 3 256 counter\nfault 4 - cut\nfaults 3\n"
-    );
+    let report = cut_report(alloc)?;
+    let all = LINES.len() as u64;
+    for room in [0, 1, 62, all - 1, all] {
+        let mut output = Counted::new(Failing::after_bytes(Vec::new(alloc), room));
+        let wanted = if room < all {
+            Err(WriteError::Device { sent: room })
+        } else {
+            Ok(all)
+        };
+        assert_eq!(rt; report.write(alloc, &mut output), wanted);
+        let held: Vec<u8> = output.into_inner().into_inner();
+        assert_eq!(rt; held.len() as u64, room);
+        assert!(rt; LINES.as_bytes().starts_with(held.as_slice()));
+    }
     Ok(())
 }
 

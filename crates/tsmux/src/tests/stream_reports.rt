@@ -106,24 +106,22 @@ fn reports_on_a_multiplex(rt: HostRuntime) -> Result<(), Fail> {
     Ok(())
 }
 
-/// Words that are a usage error: no rate, and numbers past their limits.
+/// No rate, and numbers past their limits.
+const WRONG: [&[&str]; 6] = [
+    &["monitor"],
+    &["monitor", "--pcr", "40"],
+    &["monitor", "--rate", "99999"],
+    &["monitor", "--rate", "100000001"],
+    &["monitor", "--rate", "100000", "--pcr", "0"],
+    &["monitor", "--rate", "100000", "--pcr", "101"],
+];
+
+/// Words that are a usage error.
 #[test]
 fn tells_the_usage_of_monitor(rt: HostRuntime) -> Result<(), Fail> {
-    let alloc = rt.alloc();
-    assert_usage(&rt, alloc, ["monitor"].as_slice());
-    assert_usage(&rt, alloc, ["monitor", "--pcr", "40"].as_slice());
-    assert_usage(&rt, alloc, ["monitor", "--rate", "99999"].as_slice());
-    assert_usage(&rt, alloc, ["monitor", "--rate", "100000001"].as_slice());
-    assert_usage(
-        &rt,
-        alloc,
-        ["monitor", "--rate", "100000", "--pcr", "0"].as_slice(),
-    );
-    assert_usage(
-        &rt,
-        alloc,
-        ["monitor", "--rate", "100000", "--pcr", "101"].as_slice(),
-    );
+    for words in WRONG {
+        assert_usage(&rt, rt.alloc(), words);
+    }
     Ok(())
 }
 

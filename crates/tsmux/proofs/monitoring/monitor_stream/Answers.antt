@@ -1,6 +1,5 @@
-use Rattle.std.proofs.Common.{◌≡◌, ◌∙◌, List, ℕ, ap, refl, subst, string_bytes}
+use Rattle.std.proofs.Common.{◌≡◌, ◌∙◌, ap, refl}
 use Rattle.monitor.specs.ReportLines.{report_text}
-use Rattle.tsmux.specs.Devices.{Takes}
 use Rattle.tsmux.specs.Monitoring.{Monitors, monitored, report_status, wanted_report}
 use Rattle.tsmux.proofs.Performances.{performed, tells_none, text_unwritten}
 use Rattle.tsmux.proofs.monitoring.monitor_stream.Goals as goal
@@ -10,8 +9,9 @@ unfolding monitored
 returns-in-Ok-write_text-2 g c =
     let bytes = c.in-Ok.ensures.bytes in
     let text : c.deref.result.now ≡ report_text (wanted_report c.args.options bytes) = c.deref.ensures ∙ c.in-Ok-write_text.ensures ∙ ap report_text c.in-Ok.ensures.is in
+    let written = rw text at c.in-Ok-write_text-2.ensures.0 in
     performed (Monitors c.args.options) bytes (monitored c.args.options bytes) _ _ _ _ c.in-Ok.ensures.read refl
-    (subst (λ (x : List ℕ). Takes _ x) text c.in-Ok-write_text-2.ensures.0) c.in-Ok-write_text-2.ensures.1 (tells_none _ refl)
+    written c.in-Ok-write_text-2.ensures.1 (tells_none _ refl)
     (c.status_of.ensures ∙ ap report_status c.in-Ok.ensures.is)
 
 pub returns : goal.returns
