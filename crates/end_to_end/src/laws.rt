@@ -46,9 +46,10 @@ pub fn monitored()
     ensures jobs { JobSoundLaw }
 {}
 
-/// Nor, at the description's rate, of clock references that come too late, where the limit given to the monitor, in
-/// milliseconds, is at least each program's (ISO/IEC 13818-1, 2.7.2). For one plan that keeps its conditions and for two.
-pub fn monitored_clocks()
+/// Nor, at the description's rate, of what comes too late: clock references, where the limit given to the monitor, in
+/// milliseconds, is at least each program's (ISO/IEC 13818-1, 2.7.2), and sections of the PAT, NIT, SDT, EIT and TDT (ETSI
+/// TR 101 290, 5.2.1 and 5.2.3). For one plan that keeps its conditions and for two, whatever sections are ready-made.
+pub fn monitored_times()
     ensures whole { InTimeLaw }
     ensures standing { StandingInTimeLaw }
     ensures jobs { JobInTimeLaw }
