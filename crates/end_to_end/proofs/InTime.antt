@@ -1,5 +1,5 @@
 -- What is to come again comes in time.
-use Rattle.std.proofs.Common.{◌≡◌, ℕ, ◌-◌, ◌^◌, ◌<◌, ◌≤◌, arith}
+use Rattle.std.proofs.Common.{arith}
 use Rattle.mux_core.proofs.Accepted.{units_kept}
 use Rattle.mux_core.proofs.Whole.{contents_fit, headline}
 use Rattle.end_to_end.specs.Monitored.{InTimeLaw, StandingInTimeLaw}

@@ -1,5 +1,5 @@
 -- Sections of NIT, SDT, EIT and TDT begin in time once they have begun.
-use Rattle.std.proofs.Common.{◌≡◌, ℕ, ◌+◌, ◌-◌, ◌*◌, ◌^◌, ◌<◌, ◌≤◌, ◌==◌, ◌⊎◌, Bool, true, false, List, [], ◌∷◌, ◌++◌, map, slice_get, Option, None, Some, refl, sym, ap, subst, ◌∙◌, arith, All, inl, inr, append-nil, ne_eqb}
+use Rattle.std.proofs.Common.{◌≡◌, ℕ, ◌-◌, ◌*◌, ◌^◌, ◌<◌, ◌≤◌, ◌==◌, false, List, [], ◌∷◌, map, slice_get, Option, None, Some, refl, sym, ap, subst, ◌∙◌, arith, All, inl, inr, append-nil, ne_eqb}
 use Rattle.std.specs.Option.{option_to_list}
 use Rattle.std.proofs.lemmas.Bool.{cases_Bool}
 use Rattle.std.proofs.lemmas.List.Elements.{All-head}
@@ -8,7 +8,7 @@ use Rattle.ts_packet.specs.Contents.{run_bytes}
 use Rattle.ts_packet.proofs.Runs.{run_length}
 use Rattle.description.specs.Described.{Described, DescribedProgram, DescribedStream, DescribedTable}
 use Rattle.description.specs.Ranges.{IsInRange, IsProgram, IsStream, IsTable}
-use Rattle.description.specs.Tables.{table_kinds, table_count, table_pid, kind_pid, kind_limit}
+use Rattle.description.specs.Tables.{table_kinds, table_pid, kind_pid, kind_limit}
 use Rattle.description.specs.declared.table_kind.TableKind.{TableKind}
 use Rattle.description.specs.declared.table_kind.TableKind.TheVariants.{Pat, Pmt, Nit, Sdt, Eit, Tdt, Private}
 use Rattle.description.proofs.Pids.{at_place}
@@ -39,8 +39,8 @@ IsLow pid = (0 < pid) × (pid < 32)
 -- a table of this kind has this table_id, and a limit that is no greater
 record Suits (d : Described) (id limit : ℕ) (k : TableKind) : Type 0 where
   made : IsMade k
-  id : table_id_of k ≡ id
-  limit : kind_limit d k ≤ limit
+  table_id : table_id_of k ≡ id
+  within : kind_limit d k ≤ limit
 
 program_higher : (pid : ℕ) (o : Option DescribedProgram) → IsLow pid → All IsProgram (option_to_list o) → elim o as (λ _. ℕ) [ None ↦ 0 | Some program ↦ program.pmt_pid ] ≡ pid → ⊥
 program_higher pid None low is e = let some = low.0 in omega (arith, some, e)
@@ -85,10 +85,10 @@ sent_in_time : (d : Scheduled) (units : ℕ → List AccessUnit) (n id limit t :
     UnitsKept d units → n < 2 ^ 64 - 1 → slice_get (table_kinds d.description) t ≡ Some k → Suits d.description id limit k →
     Late d units n (table_pid d.description t) id limit ≡ []
 sent_in_time d units n id limit t k r promised kept few is suits =
-    subst (λ (x : ℕ). Late d units n (table_pid d.description t) x limit ≡ []) suits.id
+    subst (λ (x : ℕ). Late d units n (table_pid d.description t) x limit ≡ []) suits.table_id
     (first_dropped d.description.rate limit 0 begins
     (ap (λ (places : List ℕ). late d.description.rate limit (0 ∷ places)) (sym (append-nil begins))
-    ∙ made_in_time d units n limit t k [] r promised kept few is suits.made suits.limit tt))
+    ∙ made_in_time d units n limit t k [] r promised kept few is suits.made suits.within tt))
   where
     begins : List ℕ
     begins = table_begins (table_id_of k) (found_on (table_pid d.description t) (run_bytes (content_at d units) 0 n))
@@ -129,19 +129,19 @@ InTimeOn pid id limit = (d : Scheduled) (units : ℕ → List AccessUnit) (n : �
 pub nit_in_time : InTimeOn 0x10 0x40 10000
 nit_in_time d units n r promised kept few = pid_in_time d units n 0x10 0x40 10000 r promised kept few (omega arith, omega arith)
     (λ k on. kind_on (Suits d.description 0x40 10000) d.description 0x10 k r (omega arith, omega arith) on
-    (λ e. record { made = tt; id = refl; limit = omega arith }) (λ e. absurd (omega (arith, e))) (λ e. absurd (omega (arith, e))) (λ e. absurd (omega (arith, e))))
+    (λ e. record { made = tt; table_id = refl; within = omega arith }) (λ e. absurd (omega (arith, e))) (λ e. absurd (omega (arith, e))) (λ e. absurd (omega (arith, e))))
 
 pub sdt_in_time : InTimeOn 0x11 0x42 2000
 sdt_in_time d units n r promised kept few = pid_in_time d units n 0x11 0x42 2000 r promised kept few (omega arith, omega arith)
     (λ k on. kind_on (Suits d.description 0x42 2000) d.description 0x11 k r (omega arith, omega arith) on
-    (λ e. absurd (omega (arith, e))) (λ e. record { made = tt; id = refl; limit = omega arith }) (λ e. absurd (omega (arith, e))) (λ e. absurd (omega (arith, e))))
+    (λ e. absurd (omega (arith, e))) (λ e. record { made = tt; table_id = refl; within = omega arith }) (λ e. absurd (omega (arith, e))) (λ e. absurd (omega (arith, e))))
 
 pub eit_in_time : InTimeOn 0x12 0x4E 2000
 eit_in_time d units n r promised kept few = pid_in_time d units n 0x12 0x4E 2000 r promised kept few (omega arith, omega arith)
     (λ k on. kind_on (Suits d.description 0x4E 2000) d.description 0x12 k r (omega arith, omega arith) on
-    (λ e. absurd (omega (arith, e))) (λ e. absurd (omega (arith, e))) (λ e. record { made = tt; id = refl; limit = omega arith }) (λ e. absurd (omega (arith, e))))
+    (λ e. absurd (omega (arith, e))) (λ e. absurd (omega (arith, e))) (λ e. record { made = tt; table_id = refl; within = omega arith }) (λ e. absurd (omega (arith, e))))
 
 pub tdt_in_time : InTimeOn 0x14 0x70 30000
 tdt_in_time d units n r promised kept few = pid_in_time d units n 0x14 0x70 30000 r promised kept few (omega arith, omega arith)
     (λ k on. kind_on (Suits d.description 0x70 30000) d.description 0x14 k r (omega arith, omega arith) on
-    (λ e. absurd (omega (arith, e))) (λ e. absurd (omega (arith, e))) (λ e. absurd (omega (arith, e))) (λ e. record { made = tt; id = refl; limit = omega arith }))
+    (λ e. absurd (omega (arith, e))) (λ e. absurd (omega (arith, e))) (λ e. absurd (omega (arith, e))) (λ e. record { made = tt; table_id = refl; within = omega arith }))

@@ -1,5 +1,5 @@
 -- Where the sections of a table that is not ready-made begin, as the monitor finds it.
-use Rattle.std.proofs.Common.{◌≡◌, ℕ, ◌+◌, ◌-◌, ◌*◌, ◌/◌, ◌^◌, ◌<◌, ◌==◌, Bool, true, false, List, length, slice_get, Option, Some, sym, ap, subst, ◌∙◌, arith, All}
+use Rattle.std.proofs.Common.{◌≡◌, ℕ, ◌-◌, ◌*◌, ◌/◌, ◌^◌, ◌<◌, true, false, List, length, slice_get, Option, Some, sym, ap, subst, ◌∙◌, arith, All}
 use Rattle.std.proofs.lemmas.Option.{slice_get_within}
 use Rattle.std.proofs.lemmas.List.Elements.{All-nil}
 use Rattle.own_slots.specs.Slots.{own_slots}

@@ -1,5 +1,5 @@
 -- The table_id of each section of a table that is not ready-made.
-use Rattle.std.proofs.Common.{◌≡◌, ℕ, ◌+◌, ◌*◌, ◌/◌, ◌%◌, ◌<◌, Bool, true, false, List, [], length, map, slice_get, Option, None, Some, refl, subst, ◌∙◌, ap, arith, if◌then◌else◌}
+use Rattle.std.proofs.Common.{◌≡◌, ℕ, ◌/◌, ◌%◌, ◌<◌, Bool, true, false, List, [], length, map, slice_get, Option, None, Some, refl, subst, ◌∙◌, ap, arith, if◌then◌else◌}
 use Rattle.std.specs.Prelude.{is_some, slice_index}
 use Rattle.std.specs.Option.{option_to_list}
 use Rattle.psi_tables.specs.Spelling.{section_text, ended_text, header_text, front_text, start_text}
