@@ -22,3 +22,4 @@ pub mod TablesRecur
 pub mod ServicesRecur
 pub mod InTime
 pub mod MonitoredJobs
+pub mod Reporting
