@@ -1,8 +1,7 @@
 -- On each PID that has clock references they come in time.
-use Rattle.std.proofs.Common.{◌≡◌, ◌⊎◌, ℕ, zero, suc, ◌+◌, ◌-◌, ◌*◌, ◌≤◌, ◌==◌, ◌&&◌, Bool, true, false, List, [], ◌∷◌, map, filter, Option, Some, None, slice_get, refl, sym, ap, subst, ◌∙◌, All, inl, inr, eqb-true}
+use Rattle.std.proofs.Common.{◌≡◌, ◌⊎◌, ℕ, zero, suc, ◌+◌, ◌*◌, ◌≤◌, ◌==◌, ◌&&◌, Bool, true, false, List, [], ◌∷◌, map, Option, Some, None, slice_get, refl, sym, ap, subst, ◌∙◌, inl, inr, eqb-true}
 use Rattle.std.specs.Prelude.{⊤}
 use Rattle.std.proofs.lemmas.Bool.{cases_Bool, false≢true}
-use Rattle.std.proofs.lemmas.List.Elements.{All-head, All-tail}
 use Rattle.clock27.specs.Recurrence.{Recur}
 use Rattle.clock27.specs.Reference.{pcr_at}
 use Rattle.own_slots.specs.Slots.{own_before}

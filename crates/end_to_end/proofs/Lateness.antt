@@ -1,5 +1,5 @@
 -- What recurs within a limit is never late.
-use Rattle.std.proofs.Common.{◌≡◌, ℕ, ◌+◌, ◌-◌, ◌*◌, ◌≤◌, ◌<◌, Bool, false, List, [], ◌∷◌, map, refl, arith, ◌∙◌, le-ltb}
+use Rattle.std.proofs.Common.{◌≡◌, ℕ, ◌+◌, ◌-◌, ◌*◌, ◌≤◌, false, List, [], ◌∷◌, map, refl, arith, le-ltb}
 use Rattle.std.proofs.Math.Nat.{mul-le-mul_right}
 use Rattle.clock27.specs.Recurrence.{Recur}
 use Rattle.monitor.specs.Gaps.{is_long, late}

@@ -14,5 +14,12 @@ pub mod CarryBack
 pub mod AcceptedFit
 pub mod Driven
 pub mod Jobs
+pub mod Between
+pub mod SectionBegins
+pub mod TableIds
+pub mod TableBegins
+pub mod TablesRecur
+pub mod ServicesRecur
 pub mod InTime
 pub mod MonitoredJobs
+pub mod Reporting

@@ -1,5 +1,5 @@
 -- The monitor has nothing to report of whole jobs.
-use Rattle.std.proofs.Common.{◌≡◌, ℕ, ◌-◌, ◌^◌, ◌<◌, ◌≤◌, List, [], None, sym, subst, arith}
+use Rattle.std.proofs.Common.{◌≡◌, ℕ, List, [], None, sym, subst, arith}
 use Rattle.pes_packet.specs.AccessUnits.{AccessUnit}
 use Rattle.pes_packet.specs.Units.{units_of}
 use Rattle.description.specs.Ranges.{IsInRange}

@@ -1,11 +1,9 @@
 -- The monitor finds nothing wrong with the packets of a run, nor with what is found in them.
-use Rattle.std.proofs.Common.{◌≡◌, ℕ, zero, suc, ◌+◌, ◌-◌, ◌*◌, ◌/◌, ◌%◌, ◌^◌, ◌<◌, ◌≤◌, ◌==◌, Bool, true, false, List, [], ◌∷◌, ◌++◌, length, map, Option, Some, None, Result, Ok, Err, refl, sym, ap, subst, ◌∙◌, arith, All, inl, inr, if◌then◌else◌}
-use Rattle.std.specs.List.{enumerate_from, flat_map}
+use Rattle.std.proofs.Common.{◌≡◌, ℕ, zero, suc, ◌+◌, ◌-◌, ◌*◌, ◌/◌, ◌%◌, ◌^◌, ◌<◌, ◌==◌, Bool, false, List, [], ◌∷◌, ◌++◌, length, map, Some, None, Result, Ok, refl, sym, ap, subst, ◌∙◌, arith, All, inl, inr, if◌then◌else◌}
+use Rattle.std.specs.List.{enumerate_from}
 use Rattle.std.proofs.lemmas.Bool.{cases_Bool}
 use Rattle.std.proofs.lemmas.List.Concat.{flat_map-cons}
 use Rattle.std.proofs.lemmas.List.Elements.{All-head, All-tail}
-use Rattle.pes_packet.specs.AccessUnits.{AccessUnit}
-use Rattle.psi_tables.specs.declared.error.SectionError.{SectionError}
 use Rattle.ts_packet.specs.Views.{PacketView}
 use Rattle.ts_packet.specs.declared.packet.PacketError.{PacketError}
 use Rattle.ts_packet.specs.Reading.{packet_at}
@@ -14,24 +12,20 @@ use Rattle.ts_packet.specs.Contents.{Content, Carries, Clocks, Stuffs, ContentFi
 use Rattle.ts_packet.specs.RunLaws.{Fits}
 use Rattle.ts_packet.proofs.Runs.{content_again, run_length}
 use Rattle.ts_packet.proofs.Listing.{first_cut}
-use Rattle.demux.specs.Views.{WhatView, IsDuplicate, BreaksCounter, IsScrambled, IsTruncated, IsSection, IsBadSection, IsPes, IsBadPes, IsBadPacket, IsErrored, At, FindingView}
+use Rattle.demux.specs.Views.{WhatView, IsDuplicate, BreaksCounter, IsScrambled, IsTruncated, IsSection, IsBadSection, IsPes, IsBadPes, IsBadPacket, IsErrored, At}
 use Rattle.demux.specs.Findings.{findings_to_end}
 use Rattle.demux.specs.Laws.{told_at}
 use Rattle.demux.proofs.WholeStream.{each_pid_alone}
-use Rattle.description.specs.Ranges.{IsInRange}
 use Rattle.monitor.specs.declared.fault.Fault.{Fault}
-use Rattle.monitor.specs.declared.fault.Rule.{Rule}
 use Rattle.monitor.specs.Rules.{packet_rule, finding_rule, failing}
 use Rattle.monitor.specs.Begins.{found_on}
 use Rattle.monitor.specs.Faults.{packet_faults, cut_faults, finding_faults}
 use Rattle.round_trip.specs.Clean.{is_fault, IsClean as IsFaultless}
 use Rattle.round_trip.specs.Laws.{found_on as told_on}
-use Rattle.mux_core.specs.Scheduled.{Scheduled}
 use Rattle.mux_core.specs.Histories.{content_at}
-use Rattle.mux_core.specs.Headline.{UnitsKept}
 use Rattle.mux_core.proofs.Accepted.{units_kept}
 use Rattle.mux_core.proofs.Whole.{contents_fit}
-use Rattle.end_to_end.specs.Monitored.{IsSound, SoundLaw, StandingSoundLaw}
+use Rattle.end_to_end.specs.Monitored.{SoundLaw, StandingSoundLaw}
 use Rattle.end_to_end.proofs.Faultless.{pid_clean}
 
 -- ---- packets

@@ -16,7 +16,7 @@ use Rattle.end_to_end.proofs.TextsWritten.{IsWritten, Fits4096, pat_written, pmt
 
 -- ---- an SDT is only among the tables where the description wants one
 
-abbrev IsThere : Described → TableKind → Type 0
+abbrev pub IsThere : Described → TableKind → Type 0
 IsThere d Sdt = d.has_sdt ≡ true
 IsThere d Pat = ⊤
 IsThere d (Pmt p) = ⊤
@@ -33,7 +33,7 @@ one_if : (d : Described) (b : Bool) (k : TableKind) → (b ≡ true → IsThere 
 one_if d true k h = All-cons (IsThere d) k [] (h refl) (All-nil (IsThere d))
 one_if d false k h = All-nil (IsThere d)
 
-kinds_there : (d : Described) → All (IsThere d) (table_kinds d)
+pub kinds_there : (d : Described) → All (IsThere d) (table_kinds d)
 kinds_there d =
     All-append (IsThere d) (Pat ∷ map Pmt (numbers_from 0 d.programs)) (service_tables d ++ map Private (numbers_from 0 d.tables))
     (All-cons (IsThere d) Pat (map Pmt (numbers_from 0 d.programs)) tt (numbered d Pmt 0 d.programs (λ i. tt)))
@@ -114,11 +114,11 @@ kind_short d (Private i) r there made = absurd made
 
 -- ---- there is what is written
 
-eit_count : (ps : List DescribedProgram) → length (eit_lengths ps) ≡ 2 * length ps
+pub eit_count : (ps : List DescribedProgram) → length (eit_lengths ps) ≡ 2 * length ps
 eit_count [] = refl
 eit_count (p ∷ ps) = omega (arith, eit_count ps)
 
-some_there : {X : Type 0} (xs : List X) (i : ℕ) → i < length xs → is_some (slice_get xs i) ≡ true
+pub some_there : {X : Type 0} (xs : List X) (i : ℕ) → i < length xs → is_some (slice_get xs i) ≡ true
 some_there [] i lt = absurd (omega (arith, lt))
 some_there (x ∷ xs) zero lt = refl
 some_there (x ∷ xs) (suc i) lt = some_there xs i (omega (arith, lt))

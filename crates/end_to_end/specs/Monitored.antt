@@ -2,14 +2,13 @@
 use Rattle.std.specs.Prelude.{◌≡◌, ℕ, ◌-◌, ◌^◌, ◌<◌, ◌≤◌, false, List, [], None, All}
 use Rattle.std.specs.List.{enumerate_from}
 use Rattle.pes_packet.specs.AccessUnits.{AccessUnit}
-use Rattle.pes_packet.specs.Units.{units_of}
 use Rattle.ts_packet.specs.PidList.{cut_packets}
 use Rattle.ts_packet.specs.Contents.{run_bytes}
 use Rattle.description.specs.Described.{Described}
 use Rattle.description.specs.Ranges.{IsInRange}
 use Rattle.plan_timing.specs.Promised.{Promised}
 use Rattle.monitor.specs.Begins.{found_on}
-use Rattle.monitor.specs.Faults.{packet_faults, cut_faults, finding_faults, pcr_late}
+use Rattle.monitor.specs.Faults.{packet_faults, cut_faults, finding_faults, pat_late, table_late, pcr_late}
 use Rattle.mux_core.specs.Scheduled.{Scheduled}
 use Rattle.mux_core.specs.Histories.{History, content_at}
 use Rattle.mux_core.specs.Headline.{UnitsKept}
@@ -50,6 +49,16 @@ IsWide d limit = All (λ p. p.pcr_limit ≤ limit) d.programs
 pub record IsInTime (d : Scheduled) (limit : ℕ) (bytes : List ℕ) : Type 0 where
   -- on each PID that has clock references they come within the limit
   pub clocks : (pid : ℕ) → pcr_late d.description.rate limit bytes pid ≡ []
+  -- sections of program association begin every 500 ms, from the begin of the run to its end
+  pub associations : pat_late d.description.rate bytes ≡ []
+  -- those of the network information of the actual network, once they have begun, every 10 s
+  pub network : table_late d.description.rate 10000 0x10 0x40 bytes ≡ []
+  -- those of the service description of the actual stream every 2 s
+  pub services : table_late d.description.rate 2000 0x11 0x42 bytes ≡ []
+  -- those of present and following events of the actual stream every 2 s
+  pub events : table_late d.description.rate 2000 0x12 0x4E bytes ≡ []
+  -- those of time and date every 30 s
+  pub time : table_late d.description.rate 30000 0x14 0x70 bytes ≡ []
 
 -- so of every run over a schedule that keeps its promises: one plan or two
 abbrev pub InTimeLaw : Type 0

@@ -1,6 +1,6 @@
 use Rattle.end_to_end.proofs.InTime.{in_time, standing_in_time}
 use Rattle.end_to_end.proofs.MonitoredJobs.{job_in_time}
-use Rattle.end_to_end.proofs.laws.monitored_clocks.Goals as goal
+use Rattle.end_to_end.proofs.laws.monitored_times.Goals as goal
 
 pub returns-clause-whole : goal.returns-clause-whole
 returns-clause-whole c = in_time
