@@ -25,3 +25,4 @@ pub mod MapsNamed
 pub mod MapsRecur
 pub mod InTime
 pub mod MonitoredJobs
+pub mod Reporting

@@ -5,3 +5,4 @@ pub mod Clean
 pub mod CarriedBack
 pub mod Jobs
 pub mod Monitored
+pub mod Reported

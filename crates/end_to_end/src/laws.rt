@@ -3,6 +3,7 @@ ghost use Rattle.end_to_end.specs.GivenBack.{GivenBackLaw, StandingLaw, DrivenLa
 ghost use Rattle.end_to_end.specs.Clean.{CleanLaw, StandingCleanLaw, DrivenCleanLaw};
 ghost use Rattle.end_to_end.specs.Jobs.{JobLaw, JobCleanLaw};
 ghost use Rattle.end_to_end.specs.Monitored.{SoundLaw, StandingSoundLaw, JobSoundLaw, InTimeLaw, StandingInTimeLaw, JobInTimeLaw};
+ghost use Rattle.end_to_end.specs.Reported.{ReportedLaw, StandingReportedLaw, JobReportedLaw};
 ghost use Rattle.end_to_end.specs.CarriedBack.{CarriedBackLaw, AcceptedUnitsFit};
 
 /// The bytes of a run, demultiplexed with their end, give back on each stream's PID exactly its units, in order: each that
@@ -54,4 +55,12 @@ pub fn monitored_times()
     ensures whole { InTimeLaw }
     ensures standing { StandingInTimeLaw }
     ensures jobs { JobInTimeLaw }
+{}
+
+/// So, at the description's rate, all faults by all fifteen rules of a monitor are those of program maps that come too late
+/// on a PID that is named for them, and of PTS (ETSI TR 101 290, 5.2.1 and 5.2.2), which come as the units come.
+pub fn monitored_whole()
+    ensures whole { ReportedLaw }
+    ensures standing { StandingReportedLaw }
+    ensures jobs { JobReportedLaw }
 {}

@@ -1,0 +1,41 @@
+-- All that a monitor reports of the finished bytes of a run, at the description's rate: by all its rules together, faults of two of them at most.
+use Rattle.std.specs.Prelude.{◌≡◌, ℕ, ◌-◌, ◌^◌, ◌<◌, ◌≤◌, false, List, [], ◌++◌, map, None}
+use Rattle.pes_packet.specs.AccessUnits.{AccessUnit}
+use Rattle.ts_packet.specs.Contents.{run_bytes}
+use Rattle.description.specs.Ranges.{IsInRange}
+use Rattle.plan_timing.specs.Promised.{Promised}
+use Rattle.monitor.specs.declared.fault.Fault.{Fault}
+use Rattle.monitor.specs.declared.fault.Rule.TheVariants as rules
+use Rattle.monitor.specs.Begins.{found_on}
+use Rattle.monitor.specs.Named.{namings}
+use Rattle.monitor.specs.Faults.{on_each, packet_pids, map_late, pts_late, faults_of}
+use Rattle.mux_core.specs.Scheduled.{Scheduled}
+use Rattle.mux_core.specs.Histories.{History, content_at}
+use Rattle.mux_core.specs.Headline.{UnitsKept}
+use Rattle.mux_core.specs.Standing.{Mixer, Stands}
+use Rattle.mux_core.specs.Multiplexing.{first_refused, capacity_for, job_history, output_of}
+use Rattle.end_to_end.specs.Monitored.{IsWide}
+
+-- program maps that come too late on the PIDs that are named for them, and PTS, which come as the units come
+abbrev pub faults_left : ℕ → List ℕ → List Fault
+faults_left rate bytes =
+    on_each rules.Pmt (map_late rate bytes) (map (λ naming. naming.0) (namings (found_on 0 bytes))) ++ on_each rules.Pts (pts_late rate bytes) (packet_pids bytes)
+
+-- the faults of all fifteen rules are these
+abbrev pub IsReported : Scheduled → ℕ → List ℕ → Type 0
+IsReported d limit bytes = faults_of d.description.rate limit bytes ≡ faults_left d.description.rate bytes
+
+-- so of every run over a schedule that keeps its promises: one plan or two
+abbrev pub ReportedLaw : Type 0
+ReportedLaw = (d : Scheduled) (units : ℕ → List AccessUnit) (n limit : ℕ) → IsInRange d.description → Promised d.description d.schedule → UnitsKept d units →
+    IsWide d.description limit → n < 2 ^ 64 - 1 → IsReported d limit (run_bytes (content_at d units) 0 n)
+
+-- so of what a multiplexer stands for
+abbrev pub StandingReportedLaw : Type 0
+StandingReportedLaw = (h : History) (m : Mixer) (n limit : ℕ) → IsInRange m.line.description → Promised m.line.description m.line.schedule → Stands h m →
+    IsWide m.line.description limit → n ≤ 2 ^ 40 → IsReported m.line limit (run_bytes (content_at m.line h.units) 0 n)
+
+-- and of a whole job
+abbrev pub JobReportedLaw : Type 0
+JobReportedLaw = (d : Scheduled) (units : List (ℕ × AccessUnit)) (n limit : ℕ) → IsInRange d.description → Promised d.description d.schedule →
+    first_refused d (capacity_for units) [] units ≡ None → IsWide d.description limit → n ≤ 2 ^ 40 → IsReported d limit (output_of false d (job_history units n))
