@@ -1,5 +1,5 @@
 -- The PIDs that the program association sections of a run name are those of the description's program maps.
-use Rattle.std.proofs.Common.{◌≡◌, ℕ, zero, suc, ◌+◌, ◌-◌, ◌*◌, ◌/◌, ◌^◌, ◌<◌, ◌≤◌, ◌==◌, nat_le, nat_eq, Bool, true, false, cond, List, [], ◌∷◌, ◌++◌, length, map, take, drop, Option, Some, None, Ok, slice_get, refl, sym, ap, subst, ◌∙◌, arith, All, inl, inr, eqb-true, append-nil}
+use Rattle.std.proofs.Common.{◌≡◌, ℕ, suc, ◌+◌, ◌-◌, ◌*◌, ◌/◌, ◌^◌, ◌<◌, ◌≤◌, ◌==◌, nat_le, nat_eq, Bool, true, false, cond, List, [], ◌∷◌, ◌++◌, length, map, take, drop, Option, Some, None, Ok, slice_get, refl, sym, ap, subst, ◌∙◌, arith, All, inl, inr, eqb-true, append-nil}
 use Rattle.std.specs.Map.{lookup}
 use Rattle.std.specs.Option.{option_to_list}
 use Rattle.std.proofs.lemmas.Bool.{cases_Bool}
@@ -11,7 +11,7 @@ use Rattle.own_slots.specs.Rounds.{starts}
 use Rattle.pes_packet.specs.AccessUnits.{AccessUnit}
 use Rattle.psi_tables.specs.Reading.{section_at}
 use Rattle.psi_tables.specs.Spelling.{section_text}
-use Rattle.psi_tables.specs.ProgramAssociation.{PatFits, ProgramFits, ProgramsFit, pat_section}
+use Rattle.psi_tables.specs.ProgramAssociation.{PatFits, ProgramsFit, pat_section}
 use Rattle.psi_tables.specs.declared.pat.programs.Program.{Program}
 use Rattle.psi_tables.proofs.PatForms.{written}
 use Rattle.psi_tables.proofs.SectionWritten.{written as section_written}

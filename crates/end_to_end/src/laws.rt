@@ -57,8 +57,8 @@ pub fn monitored_times()
     ensures jobs { JobInTimeLaw }
 {}
 
-/// So, at the description's rate, all faults by all fifteen rules of a monitor are those of program maps that come too late
-/// on a PID that is named for them, and of PTS (ETSI TR 101 290, 5.2.1 and 5.2.2), which come as the units come.
+/// So, at the description's rate, all faults by all fifteen rules of a monitor are those of PTS (ETSI TR 101 290, 5.2.2), which
+/// come as the units come.
 pub fn monitored_whole()
     ensures whole { ReportedLaw }
     ensures standing { StandingReportedLaw }
