@@ -5,12 +5,14 @@ use Rattle.mux_core.proofs.Whole.{contents_fit, headline}
 use Rattle.end_to_end.specs.Monitored.{InTimeLaw, StandingInTimeLaw}
 use Rattle.end_to_end.proofs.ClocksRecur.{clocks_in_time}
 use Rattle.end_to_end.proofs.TablesRecur.{pat_in_time}
+use Rattle.end_to_end.proofs.MapsRecur.{maps_in_time}
 use Rattle.end_to_end.proofs.ServicesRecur.{nit_in_time, sdt_in_time, eit_in_time, tdt_in_time}
 
 pub in_time : InTimeLaw
 in_time d units n limit r promised kept wide few = record {
   clocks = λ pid. clocks_in_time d units n limit pid (contents_fit d units r kept) wide (headline d units n r promised kept).programs;
   associations = pat_in_time d units n r promised kept few;
+  maps = maps_in_time d units n r promised kept few;
   network = nit_in_time d units n r promised kept few;
   services = sdt_in_time d units n r promised kept few;
   events = eit_in_time d units n r promised kept few;

@@ -20,6 +20,9 @@ pub mod TableIds
 pub mod TableBegins
 pub mod TablesRecur
 pub mod ServicesRecur
+pub mod Since
+pub mod MapsNamed
+pub mod MapsRecur
 pub mod InTime
 pub mod MonitoredJobs
 pub mod Reporting

@@ -1,5 +1,5 @@
 -- The faults of all rules together are those that are left.
-use Rattle.std.proofs.Common.{◌≡◌, ℕ, List, [], ◌∷◌, ◌++◌, map, Some, refl, ap, ◌∙◌, append-nil}
+use Rattle.std.proofs.Common.{◌≡◌, ℕ, List, [], ◌∷◌, ◌++◌, map, Some, refl, ap, ◌∙◌}
 use Rattle.std.specs.List.{enumerate_from, flat_map}
 use Rattle.std.proofs.lemmas.List.Concat.{flat_map-cons}
 use Rattle.ts_packet.specs.PidList.{cut_packets}
@@ -24,18 +24,15 @@ none_of_each {X} {Y} f (x ∷ xs) h = flat_map-cons f x xs ∙ ap (λ (ys : List
 pub none_on_each : (rule : Rule) (places : ℕ → List ℕ) (pids : List ℕ) → ((pid : ℕ) → places pid ≡ []) → on_each rule places pids ≡ []
 none_on_each rule places pids h = none_of_each (λ pid. map (fault rule (Some pid)) (places pid)) pids (λ pid. ap (map (fault rule (Some pid))) (h pid))
 
-two_left : {X : Type 0} (packets cut clocks findings associations maps network services events time stamps : List X) → packets ≡ [] → cut ≡ [] → clocks ≡ [] → findings ≡ [] →
-    associations ≡ [] → network ≡ [] → services ≡ [] → events ≡ [] → time ≡ [] →
-    ((packets ++ cut) ++ clocks) ++ (findings ++ associations ++ maps ++ network ++ services ++ events ++ time ++ stamps) ≡ maps ++ stamps
-two_left {X} packets cut clocks findings associations maps network services events time stamps p c k f a n s e t =
-    let once : maps ++ [] ≡ maps = append-nil maps in
-    let all : maps ++ [] ++ [] ++ [] ++ [] ≡ maps = rw (once, once, once, once) refl in
-    rw (p, c, k, f, a, n, s, e, t) (ap (λ (faults : List X). faults ++ stamps) all)
+one_left : {X : Type 0} (packets cut clocks findings associations maps network services events time stamps : List X) → packets ≡ [] → cut ≡ [] → clocks ≡ [] → findings ≡ [] →
+    associations ≡ [] → maps ≡ [] → network ≡ [] → services ≡ [] → events ≡ [] → time ≡ [] →
+    ((packets ++ cut) ++ clocks) ++ (findings ++ associations ++ maps ++ network ++ services ++ events ++ time ++ stamps) ≡ stamps
+one_left packets cut clocks findings associations maps network services events time stamps p c k f a m n s e t = rw (p, c, k, f, a, m, n, s, e, t) refl
 
 all_reported : (d : Scheduled) (limit : ℕ) (bytes : List ℕ) → IsSound bytes → IsInTime d limit bytes → IsReported d limit bytes
 unfolding faults_of
 all_reported d limit bytes s t =
-    two_left (packet_faults (enumerate_from 0 (cut_packets bytes))) (cut_faults bytes) (on_each rules.Pcr (pcr_late rate limit bytes) (packet_pids bytes))
+    one_left (packet_faults (enumerate_from 0 (cut_packets bytes))) (cut_faults bytes) (on_each rules.Pcr (pcr_late rate limit bytes) (packet_pids bytes))
     (flat_map (λ pid. finding_faults pid (found_on pid bytes)) (packet_pids bytes)) (map (fault rules.Pat (Some 0x00)) (pat_late rate bytes))
     (on_each rules.Pmt (map_late rate bytes) (map (λ naming. naming.0) (namings (found_on 0 bytes))))
     (map (fault rules.Nit (Some 0x10)) (table_late rate 10000 0x10 0x40 bytes)) (map (fault rules.Sdt (Some 0x11)) (table_late rate 2000 0x11 0x42 bytes))
@@ -43,6 +40,7 @@ all_reported d limit bytes s t =
     (on_each rules.Pts (pts_late rate bytes) (packet_pids bytes))
     s.packets s.whole (none_on_each rules.Pcr (pcr_late rate limit bytes) (packet_pids bytes) t.clocks)
     (none_of_each (λ pid. finding_faults pid (found_on pid bytes)) (packet_pids bytes) s.findings) (ap (map (fault rules.Pat (Some 0x00))) t.associations)
+    (none_on_each rules.Pmt (map_late rate bytes) (map (λ naming. naming.0) (namings (found_on 0 bytes))) t.maps)
     (ap (map (fault rules.Nit (Some 0x10))) t.network) (ap (map (fault rules.Sdt (Some 0x11))) t.services) (ap (map (fault rules.Eit (Some 0x12))) t.events)
     (ap (map (fault rules.Tdt (Some 0x14))) t.time)
   where

@@ -8,7 +8,7 @@ use Rattle.description.specs.Described.{Described}
 use Rattle.description.specs.Ranges.{IsInRange}
 use Rattle.plan_timing.specs.Promised.{Promised}
 use Rattle.monitor.specs.Begins.{found_on}
-use Rattle.monitor.specs.Faults.{packet_faults, cut_faults, finding_faults, pat_late, table_late, pcr_late}
+use Rattle.monitor.specs.Faults.{packet_faults, cut_faults, finding_faults, pat_late, map_late, table_late, pcr_late}
 use Rattle.mux_core.specs.Scheduled.{Scheduled}
 use Rattle.mux_core.specs.Histories.{History, content_at}
 use Rattle.mux_core.specs.Headline.{UnitsKept}
@@ -51,6 +51,8 @@ pub record IsInTime (d : Scheduled) (limit : ℕ) (bytes : List ℕ) : Type 0 wh
   pub clocks : (pid : ℕ) → pcr_late d.description.rate limit bytes pid ≡ []
   -- sections of program association begin every 500 ms, from the begin of the run to its end
   pub associations : pat_late d.description.rate bytes ≡ []
+  -- those of the program map on each PID that these name, from the packet in which they name it to the end
+  pub maps : (pid : ℕ) → map_late d.description.rate bytes pid ≡ []
   -- those of the network information of the actual network, once they have begun, every 10 s
   pub network : table_late d.description.rate 10000 0x10 0x40 bytes ≡ []
   -- those of the service description of the actual stream every 2 s

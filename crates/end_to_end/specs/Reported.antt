@@ -1,14 +1,12 @@
--- All that a monitor reports of the finished bytes of a run, at the description's rate: by all its rules together, faults of two of them at most.
-use Rattle.std.specs.Prelude.{◌≡◌, ℕ, ◌-◌, ◌^◌, ◌<◌, ◌≤◌, false, List, [], ◌++◌, map, None}
+-- All that a monitor reports of the finished bytes of a run, at the description's rate: by all its rules together, faults of one of them at most.
+use Rattle.std.specs.Prelude.{◌≡◌, ℕ, ◌-◌, ◌^◌, ◌<◌, ◌≤◌, false, List, [], None}
 use Rattle.pes_packet.specs.AccessUnits.{AccessUnit}
 use Rattle.ts_packet.specs.Contents.{run_bytes}
 use Rattle.description.specs.Ranges.{IsInRange}
 use Rattle.plan_timing.specs.Promised.{Promised}
 use Rattle.monitor.specs.declared.fault.Fault.{Fault}
 use Rattle.monitor.specs.declared.fault.Rule.TheVariants as rules
-use Rattle.monitor.specs.Begins.{found_on}
-use Rattle.monitor.specs.Named.{namings}
-use Rattle.monitor.specs.Faults.{on_each, packet_pids, map_late, pts_late, faults_of}
+use Rattle.monitor.specs.Faults.{on_each, packet_pids, pts_late, faults_of}
 use Rattle.mux_core.specs.Scheduled.{Scheduled}
 use Rattle.mux_core.specs.Histories.{History, content_at}
 use Rattle.mux_core.specs.Headline.{UnitsKept}
@@ -16,10 +14,9 @@ use Rattle.mux_core.specs.Standing.{Mixer, Stands}
 use Rattle.mux_core.specs.Multiplexing.{first_refused, capacity_for, job_history, output_of}
 use Rattle.end_to_end.specs.Monitored.{IsWide}
 
--- program maps that come too late on the PIDs that are named for them, and PTS, which come as the units come
+-- PTS that come too late: they come as the units come
 abbrev pub faults_left : ℕ → List ℕ → List Fault
-faults_left rate bytes =
-    on_each rules.Pmt (map_late rate bytes) (map (λ naming. naming.0) (namings (found_on 0 bytes))) ++ on_each rules.Pts (pts_late rate bytes) (packet_pids bytes)
+faults_left rate bytes = on_each rules.Pts (pts_late rate bytes) (packet_pids bytes)
 
 -- the faults of all fifteen rules are these
 abbrev pub IsReported : Scheduled → ℕ → List ℕ → Type 0

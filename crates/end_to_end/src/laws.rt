@@ -48,16 +48,17 @@ pub fn monitored()
 {}
 
 /// Nor, at the description's rate, of what comes too late: clock references, where the limit given to the monitor, in
-/// milliseconds, is at least each program's (ISO/IEC 13818-1, 2.7.2), and sections of the PAT, NIT, SDT, EIT and TDT (ETSI
-/// TR 101 290, 5.2.1 and 5.2.3). For one plan that keeps its conditions and for two, whatever sections are ready-made.
+/// milliseconds, is at least each program's (ISO/IEC 13818-1, 2.7.2), and sections of the PAT, of the PMTs that it names, of
+/// the NIT, SDT, EIT and TDT (ETSI TR 101 290, 5.2.1 and 5.2.3). For one plan that keeps its conditions and for two, whatever
+/// sections are ready-made.
 pub fn monitored_times()
     ensures whole { InTimeLaw }
     ensures standing { StandingInTimeLaw }
     ensures jobs { JobInTimeLaw }
 {}
 
-/// So, at the description's rate, all faults by all fifteen rules of a monitor are those of program maps that come too late
-/// on a PID that is named for them, and of PTS (ETSI TR 101 290, 5.2.1 and 5.2.2), which come as the units come.
+/// So, at the description's rate, all faults by all fifteen rules of a monitor are those of PTS (ETSI TR 101 290, 5.2.2), which
+/// come as the units come.
 pub fn monitored_whole()
     ensures whole { ReportedLaw }
     ensures standing { StandingReportedLaw }
