@@ -31,15 +31,15 @@ all_read old mid new before after b p xs e =
     let m = after_more old mid new before after true b p xs e in
     (m.1 ∙ ap (λ (x : List ℕ). after ++ x) none ∙ append-nil after, k.1 ∙ ap Some none)
 
-whole_if : (known left : Option (List ℕ)) (bytes : List ℕ) → ((xs : List ℕ) → known ≡ Some xs → (xs ≡ bytes) × (left ≡ Some [])) → IsWhole known bytes
+pub whole_if : (known left : Option (List ℕ)) (bytes : List ℕ) → ((xs : List ℕ) → known ≡ Some xs → (xs ≡ bytes) × (left ≡ Some [])) → IsWhole known bytes
 whole_if None left bytes h = tt
 whole_if (Some xs) left bytes h = sym (h xs refl).0
 
-short_if : (known left : Option (List ℕ)) (bytes : List ℕ) → length bytes ≤ longest_input → ((xs : List ℕ) → known ≡ Some xs → (xs ≡ bytes) × (left ≡ Some [])) → IsShort known
+pub short_if : (known left : Option (List ℕ)) (bytes : List ℕ) → length bytes ≤ longest_input → ((xs : List ℕ) → known ≡ Some xs → (xs ≡ bytes) × (left ≡ Some [])) → IsShort known
 short_if None left bytes s h = tt
 short_if (Some xs) left bytes s h = subst (λ (x : List ℕ). length x ≤ longest_input) (sym (h xs refl).0) s
 
-long_if : (known left : Option (List ℕ)) (bytes : List ℕ) → longest_input < length bytes → ((xs : List ℕ) → known ≡ Some xs → (xs ≡ bytes) × (left ≡ Some [])) → IsLong known
+pub long_if : (known left : Option (List ℕ)) (bytes : List ℕ) → longest_input < length bytes → ((xs : List ℕ) → known ≡ Some xs → (xs ≡ bytes) × (left ≡ Some [])) → IsLong known
 long_if None left bytes s h = tt
 long_if (Some xs) left bytes s h = subst (λ (x : List ℕ). longest_input < length x) (sym (h xs refl).0) s
 

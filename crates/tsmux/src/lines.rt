@@ -1,4 +1,4 @@
-//! Lines of text: a name, numbers in decimal digits, and LF.
+//! Text on an output, and lines: a name, numbers in decimal digits, and LF.
 ghost use Rattle.std.specs.Prelude.{◌≡◌, ◌++◌, ◌∷◌, [], ◌+◌, ◌*◌, ◌≤◌, length, decimal};
 ghost use Rattle.arrayvec.specs.ArrayVec.{array_vec_len};
 ghost use Rattle.tsmux.specs.Devices.{writes};
@@ -58,6 +58,16 @@ pub fn write_line<W: Sink>(to: &mut W, name: &str, numbers: &[u128]) -> Result<(
 {
     let text = line(name, numbers);
     match write_part(to, text.as_slice()) {
+        Ok(()) => Ok(()),
+        Err(_) => Err(Halt::Write),
+    }
+}
+
+/// Writes a text whole.
+pub fn write_text<W: Sink>(text: &str, to: &mut W) -> Result<(), Halt>
+    ensures { WritesLine text.now (writes W.Sink to.old to.new) result }
+{
+    match write_part(to, text.as_bytes()) {
         Ok(()) => Ok(()),
         Err(_) => Err(Halt::Write),
     }

@@ -5,19 +5,18 @@ ghost use Rattle.slot_plan.specs.Planned.{Planned};
 ghost use Rattle.slot_plan.specs.Text.{plan_text};
 ghost use Rattle.plan_maker.specs.PlainPlan.{plain_plan, serves};
 ghost use Rattle.tsmux.specs.Devices.{reads, writes};
-ghost use Rattle.tsmux.specs.Passing.{WritesLine};
 ghost use Rattle.tsmux.specs.Performing.{Performs};
 ghost use Rattle.tsmux.specs.Planning.{IsPlanText, IsToldUnread, Plans};
 
 use crate::halt::{Halt, halted};
 use crate::job_fault::{JobFault, tell_fault};
 use crate::jobs::described;
-use crate::lines::tell;
+use crate::lines::{tell, write_text};
 use crate::whole_input::read_whole;
 use description::{DescError, Description};
 use plan_maker::{MakeError, make};
 use std::alloc::Global;
-use ts_packet::{Sink, Source, write_part};
+use ts_packet::{Sink, Source};
 
 /// The text of a plan that serves the description.
 fn text_for(alloc: Global, description: Description) -> Result<String, MakeError>
@@ -30,16 +29,6 @@ fn text_for(alloc: Global, description: Description) -> Result<String, MakeError
             Err(_) => Err(MakeError::Memory),
         },
         Err((error, _)) => Err(error),
-    }
-}
-
-/// Writes a text whole.
-fn write_text<W: Sink>(text: &str, to: &mut W) -> Result<(), Halt>
-    ensures { WritesLine text.now (writes W.Sink to.old to.new) result }
-{
-    match write_part(to, text.as_bytes()) {
-        Ok(()) => Ok(()),
-        Err(_) => Err(Halt::Write),
     }
 }
 

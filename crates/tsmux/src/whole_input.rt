@@ -13,10 +13,10 @@ use ts_packet::{Source, read_part};
 const PIECE: usize = 1 << 18;
 
 /// The most bytes of an input.
-const LONGEST_INPUT: usize = 1 << 40;
+pub const LONGEST_INPUT: usize = 1 << 40;
 
 /// So many bytes to read into.
-fn room(alloc: Global, size: usize) -> Result<Vec<u8>, Halt>
+pub fn room(alloc: Global, size: usize) -> Result<Vec<u8>, Halt>
     ensures ok { IfOk result (λ piece. length piece.items ≡ size) }
     ensures err { IfErr result (λ halt. halt ≡ Halt.Memory) }
 {
