@@ -1,9 +1,9 @@
 pub mod Numerals
 pub mod CommandLines
 pub mod Subcommands
-pub mod Passages
 pub mod Listing
 pub mod Reading
+pub mod Pieces
 pub mod Performances
 pub mod Judging
 pub mod PlanTexts

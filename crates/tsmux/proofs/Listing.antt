@@ -1,20 +1,22 @@
--- The lines of a stream's findings, packet by packet and to the end.
-use Rattle.std.proofs.Common.{◌≡◌, ℕ, ◌+◌, Bool, true, false, List, [], ◌++◌, length, take, drop, refl, sym, ap, subst, ◌∙◌, arith, append_assoc}
-use Rattle.std.specs.Prelude.{◌||◌}
-use Rattle.std.proofs.lemmas.List.{append-nil, length-take-le, take-append-drop}
+-- The lines of a stream's findings, piece by piece and to the end of the input.
+use Rattle.std.proofs.Common.{◌≡◌, ℕ, ◌+◌, ◌<◌, ◌≤◌, Bool, false, List, [], ◌++◌, length, take, refl, sym, ap, subst, ◌∙◌, Result, Ok, Err, inl, inr}
+use Rattle.std.specs.Prelude.{◌||◌, IfOk, IfErr}
+use Rattle.std.proofs.lemmas.List.{append-nil}
 use Rattle.std.proofs.lemmas.Grind.{flat_map-append}
 use Rattle.std.proofs.lemmas.List.Folds.{list_any-append}
-use Rattle.std.specs.Io.KnownBytes.{Appends}
+use Rattle.ts_packet.specs.Device.{Failed}
 use Rattle.demux.specs.Views.{FindingView}
-use Rattle.demux.specs.Stream.{StreamState, finished, found_in, is_aligned, pushed, start, taken}
-use Rattle.demux.specs.TakenAway.{FoundSoFar}
-use Rattle.demux.proofs.TakenAway.{all_are_found, nothing_at_first, packet_adds}
-use Rattle.tsmux.specs.Devices.{Port, between}
+use Rattle.demux.specs.Stream.{StreamState, finished, pushed, start}
+use Rattle.demux.specs.TakenAway.{FoundSoFar, with_found}
+use Rattle.demux.proofs.TakenAway.{all_are_found, nothing_at_first, piece_adds}
+use Rattle.tsmux.specs.Devices.{Device, Port, between}
 use Rattle.tsmux.specs.FindingLines.{finding_line, finding_lines, has_fault, is_fault}
-use Rattle.tsmux.specs.Passing.{Passed, StopsBy}
-use Rattle.tsmux.specs.Demultiplexing.{ListsSome, findings_of}
+use Rattle.tsmux.specs.Demultiplexing.{ListsAll, ListsBytes, ListsPiece, ListsPieces, ListsSome, ListsWhole, findings_of}
+use Rattle.tsmux.specs.WholeInput.{ReadsInput, longest_input}
 use Rattle.tsmux.specs.declared.halt.Halt.{Halt}
-use Rattle.tsmux.proofs.Passages.{passed_both, passed_none, stops_after, stops_within}
+use Rattle.tsmux.specs.declared.halt.Halt.TheVariants.{Read, Write, Memory}
+use Rattle.tsmux.proofs.Pieces.{all_known, long_known, piece_known, piece_size}
+use Rattle.tsmux.proofs.Reading.{IsAfter, long_if, short_if, whole_if}
 
 both_lines : (found more : List FindingView) → finding_lines (found ++ more) ≡ finding_lines found ++ finding_lines more
 both_lines found more = flat_map-append finding_line found more
@@ -22,100 +24,107 @@ both_lines found more = flat_map-append finding_line found more
 both_faults : (found more : List FindingView) → has_fault (found ++ more) ≡ (has_fault found || has_fault more)
 both_faults found more = list_any-append (λ (finding : FindingView). is_fault finding.what) found more
 
--- before the first packet
-pub lists_none : (bytes after : List ℕ) (demux : StreamState) (port : Port) → demux ≡ start → after ≡ [] → ListsSome bytes bytes demux false after (between port port)
-lists_none bytes after demux port d a = record {
-  done = [];
-  joined = refl;
+-- 1. Findings so far
+
+lists_none : (demux : StreamState) (lines : List ℕ) → demux ≡ start → lines ≡ [] → ListsSome [] demux false lines
+lists_none demux lines d l = record {
   found = [];
   so_far = subst (λ (s : StreamState). FoundSoFar [] s []) (sym d) nothing_at_first;
-  aligned = ap is_aligned d;
   faults = refl;
-  passed = subst (λ (x : List ℕ). Passed [] x [] (between port port)) (sym a) (passed_none [] port);
+  lines_are = l;
 }
 
--- the bytes before the rest, and a packet more
-one_more : (bytes done rest packet left : List ℕ) → bytes ≡ done ++ rest → rest ≡ packet ++ left → bytes ≡ (done ++ packet) ++ left
-one_more bytes done rest packet left j r = j ∙ ap (λ (x : List ℕ). done ++ x) r ∙ sym (append_assoc done packet left)
+lists_more : (bytes piece : List ℕ) (demux next : StreamState) (faulty here : Bool) (lines more : List ℕ) → ListsSome bytes demux faulty lines →
+    next ≡ with_found [] (pushed demux piece) → here ≡ has_fault (pushed demux piece).found → more ≡ lines ++ finding_lines (pushed demux piece).found →
+    ListsSome (bytes ++ piece) next (faulty || here) more
+lists_more bytes piece demux next faulty here lines more l n h m =
+    let found = (pushed demux piece).found in record {
+      found = l.found ++ found;
+      so_far = subst (λ (s : StreamState). FoundSoFar (bytes ++ piece) s (l.found ++ found)) (sym n) (piece_adds bytes piece demux l.found l.so_far);
+      faults = rw (l.faults, h) (sym (both_faults l.found found));
+      lines_are = m ∙ ap (λ (x : List ℕ). x ++ finding_lines found) l.lines_are ∙ sym (both_lines l.found found);
+    }
 
--- a packet more
-pub lists_more : (bytes rest packet left after later : List ℕ) (demux next : StreamState) (faulty here : Bool) (old mid new : Port) →
-    ListsSome bytes rest demux faulty after (between old mid) → rest ≡ packet ++ left → length packet ≡ 188 → next ≡ taken demux packet → is_aligned next ≡ true →
-    Passed after later (finding_lines (found_in demux packet)) (between mid new) → here ≡ has_fault (found_in demux packet) →
-    ListsSome bytes left next (faulty || here) later (between old new)
-lists_more bytes rest packet left after later demux next faulty here old mid new l r w n a p h = record {
-  done = l.done ++ packet;
-  joined = one_more bytes l.done rest packet left l.joined r;
-  found = l.found ++ found_in demux packet;
-  so_far = subst (λ (s : StreamState). FoundSoFar (l.done ++ packet) s (l.found ++ found_in demux packet)) (sym n)
-      (packet_adds l.done packet demux l.found l.so_far l.aligned w);
-  aligned = a;
-  faults = rw (l.faults, h) (sym (both_faults l.found (found_in demux packet)));
-  passed = subst (λ (x : List ℕ). Passed [] later x (between old new)) (sym (both_lines l.found (found_in demux packet)))
-      (passed_both [] after later (finding_lines l.found) (finding_lines (found_in demux packet)) old mid new l.passed p);
+-- all findings are those so far, and those of the end
+all_of : (bytes : List ℕ) (demux : StreamState) (found : List FindingView) → FoundSoFar bytes demux found → findings_of bytes ≡ found ++ (finished demux).found
+all_of bytes demux found s = ap (λ (x : List ℕ). findings_of x) (sym (append-nil bytes)) ∙ (all_are_found bytes [] demux found s).2
+
+-- 2. Some of the input was read and listed
+
+pub record ListsFront (old now : Port) (demux : StreamState) (faulty : Bool) (lines : List ℕ) (size : ℕ) : Type 0 where
+  pub bytes : List ℕ
+  pub size_is : size ≡ length bytes
+  pub lists : ListsSome bytes demux faulty lines
+  pub known : IsAfter old now bytes
+  pub clean : now.failed ≡ old.failed
+
+pub front_none : (port : Port) (demux : StreamState) (lines : List ℕ) → demux ≡ start → lines ≡ [] → ListsFront port port demux false lines 0
+front_none port demux lines d l = record {
+  bytes = [];
+  size_is = refl;
+  lists = lists_none demux lines d l;
+  known = λ xs e. (xs, refl, e);
+  clean = refl;
 }
 
--- all findings are those so far, and those that the rest of the stream and its end decide
-all_of : (bytes done rest : List ℕ) (demux : StreamState) (found : List FindingView) → bytes ≡ done ++ rest → FoundSoFar done demux found →
-    findings_of bytes ≡ found ++ (finished (pushed demux rest)).found
-all_of bytes done rest demux found j s = ap (λ (x : List ℕ). findings_of x) j ∙ (all_are_found done rest demux found s).2
+pub front_more : (old mid new : Port) (demux next : StreamState) (faulty here : Bool) (lines more : List ℕ) (size n : ℕ) (piece : List ℕ) →
+    ListsFront old mid demux faulty lines size → ListsBytes (between mid new) piece demux next lines more n here → ListsFront old new next (faulty || here) more (size + n)
+front_more old mid new demux next faulty here lines more size n piece f p = record {
+  bytes = f.bytes ++ take n piece;
+  size_is = piece_size size n f.bytes piece f.size_is p.fits;
+  lists = lists_more f.bytes (take n piece) demux next faulty here lines more f.lists p.state p.faults p.lines_are;
+  known = piece_known old mid new f.bytes piece n f.known p.known;
+  clean = p.clean ∙ f.clean;
+}
 
-all_found : (bytes rest after : List ℕ) (demux : StreamState) (faulty : Bool) (old mid : Port) → (l : ListsSome bytes rest demux faulty after (between old mid)) →
-    findings_of bytes ≡ l.found ++ (finished (pushed demux rest)).found
-all_found bytes rest after demux faulty old mid l = all_of bytes l.done rest demux l.found l.joined l.so_far
+-- to the end of the input
+pub front_whole : (old mid new : Port) (demux next : StreamState) (faulty here : Bool) (lines more : List ℕ) (size n : ℕ) (piece : List ℕ) (r : Result Bool Halt) →
+    ListsFront old mid demux faulty lines size → ListsBytes (between mid new) piece demux next lines more n here → n < length piece →
+    IfOk r (λ fault. (fault ≡ (faulty || here)) × (size + n ≤ longest_input)) → IfErr r (λ halt. (halt ≡ Read) × (longest_input < size + n)) →
+    ListsPieces (between old new) next more r
+front_whole old mid new demux next faulty here lines more size n piece (Ok fault) f p s k e =
+    let bytes = f.bytes ++ take n piece in
+    let all : size + n ≡ length bytes = piece_size size n f.bytes piece f.size_is p.fits in
+    let ended = all_known old mid new f.bytes piece n f.known p.known s in
+    let short : length bytes ≤ longest_input = subst (λ (x : ℕ). x ≤ longest_input) all k.1 in
+    record {
+      bytes = bytes;
+      read = (
+        whole_if old.bytes new.bytes bytes ended,
+        record { short = short_if old.bytes new.bytes bytes short ended; ends = λ xs known. (ended xs known).1; clean = p.clean ∙ f.clean },
+      );
+      lists = subst (λ (b : Bool). ListsSome bytes next b more) (sym k.0)
+          (lists_more f.bytes (take n piece) demux next faulty here lines more f.lists p.state p.faults p.lines_are);
+    }
+front_whole old mid new demux next faulty here lines more size n piece (Err halt) f p s k e =
+    let bytes = f.bytes ++ take n piece in
+    let all : size + n ≡ length bytes = piece_size size n f.bytes piece f.size_is p.fits in
+    let ended = all_known old mid new f.bytes piece n f.known p.known s in
+    subst (λ (x : Halt). ReadsInput (between old new) (Err x)) (sym e.0)
+    (inr (long_if old.bytes new.bytes bytes (subst (λ (x : ℕ). longest_input < x) all e.1) ended))
 
--- it stops within the lines of a packet
-pub lists_stopped : (bytes rest packet left after : List ℕ) (demux : StreamState) (faulty : Bool) (old mid new : Port) (halt : Halt) →
-    ListsSome bytes rest demux faulty after (between old mid) → rest ≡ packet ++ left → length packet ≡ 188 →
-    StopsBy (after ++ finding_lines (found_in demux packet)) (between mid new) halt → StopsBy (finding_lines (findings_of bytes)) (between old new) halt
-lists_stopped bytes rest packet left after demux faulty old mid new halt l r w s =
-    let so_far = l.found ++ found_in demux packet in
-    let to_come = (finished (pushed (taken demux packet) left)).found in
-    let all : findings_of bytes ≡ so_far ++ to_come =
-    all_of bytes (l.done ++ packet) left (taken demux packet) so_far (one_more bytes l.done rest packet left l.joined r)
-    (packet_adds l.done packet demux l.found l.so_far l.aligned w) in
-    subst (λ (x : List ℕ). StopsBy x (between old new) halt)
-    (ap (λ (x : List ℕ). x ++ finding_lines to_come) (sym (both_lines l.found (found_in demux packet))) ∙ sym (both_lines so_far to_come) ∙ ap finding_lines (sym all))
-    (stops_within (finding_lines l.found ++ finding_lines (found_in demux packet)) (finding_lines to_come) old new halt
-    (stops_after [] after (finding_lines l.found) (finding_lines (found_in demux packet)) old mid new halt l.passed s))
+-- too much was read
+pub front_long : (old now : Port) (demux : StreamState) (faulty : Bool) (lines : List ℕ) (size : ℕ) → ListsFront old now demux faulty lines size → longest_input < size →
+    ReadsInput (between old now) (Err Read)
+front_long old now demux faulty lines size f s = inr (long_known old.bytes now.bytes f.bytes (subst (λ (x : ℕ). longest_input < x) f.size_is s) f.known)
 
--- what the end decides is listed too
-pub lists_end : (bytes rest after later : List ℕ) (demux : StreamState) (faulty : Bool) (old mid new : Port) →
-    ListsSome bytes rest demux faulty after (between old mid) → Passed after later (finding_lines (finished (pushed demux rest)).found) (between mid new) →
-    Passed [] later (finding_lines (findings_of bytes)) (between old new)
-lists_end bytes rest after later demux faulty old mid new l p =
-    let to_come = (finished (pushed demux rest)).found in
-    subst (λ (x : List ℕ). Passed [] later x (between old new))
-    (sym (both_lines l.found to_come) ∙ ap finding_lines (sym (all_found bytes rest after demux faulty old mid l)))
-    (passed_both [] after later (finding_lines l.found) (finding_lines to_come) old mid new l.passed p)
+-- it stops within the input
+pub front_stopped : (old mid new : Port) (demux next : StreamState) (faulty : Bool) (lines more : List ℕ) (size : ℕ) (piece : List ℕ) (halt : Halt) →
+    ListsFront old mid demux faulty lines size → ListsPiece (between mid new) piece demux next lines more (Err halt) → ReadsInput (between old new) (Err halt)
+front_stopped old mid new demux next faulty lines more size piece Read f p = inl (subst (λ (x : ℕ). Failed x new.failed) f.clean p)
+front_stopped old mid new demux next faulty lines more size piece Write f p = absurd p
+front_stopped old mid new demux next faulty lines more size piece Memory f p = p ∙ f.clean
 
-pub end_stopped : (bytes rest after : List ℕ) (demux : StreamState) (faulty : Bool) (old mid new : Port) (halt : Halt) →
-    ListsSome bytes rest demux faulty after (between old mid) → StopsBy (after ++ finding_lines (finished (pushed demux rest)).found) (between mid new) halt →
-    StopsBy (finding_lines (findings_of bytes)) (between old new) halt
-end_stopped bytes rest after demux faulty old mid new halt l s =
-    let to_come = (finished (pushed demux rest)).found in
-    subst (λ (x : List ℕ). StopsBy x (between old new) halt)
-    (sym (both_lines l.found to_come) ∙ ap finding_lines (sym (all_found bytes rest after demux faulty old mid l)))
-    (stops_after [] after (finding_lines l.found) (finding_lines to_come) old mid new halt l.passed s)
+-- 3. What the end decides is listed too
 
-pub all_faults : (bytes rest after : List ℕ) (demux : StreamState) (faulty ended : Bool) (old mid : Port) →
-    ListsSome bytes rest demux faulty after (between old mid) → ended ≡ has_fault (finished (pushed demux rest)).found → (faulty || ended) ≡ has_fault (findings_of bytes)
-all_faults bytes rest after demux faulty ended old mid l e =
-    rw (l.faults, e) (sym (both_faults l.found (finished (pushed demux rest)).found) ∙ ap has_fault (sym (all_found bytes rest after demux faulty old mid l)))
-
--- what passed, once nothing waits, is written
-pub written_all : (held text : List ℕ) (old mid new : Port) → Passed [] held text (between old mid) → Passed held [] [] (between mid new) → Appends old.bytes new.bytes text
-written_all held text old mid new p q =
-    let both : Passed [] [] (text ++ []) (between old new) = passed_both [] held [] text [] old mid new p q in
-    subst (Appends old.bytes new.bytes) (sym (append-nil both.written) ∙ both.joined ∙ append-nil text) both.appends
-
-pub flush_stopped : (held text : List ℕ) (old mid new : Port) (halt : Halt) → Passed [] held text (between old mid) → StopsBy (held ++ []) (between mid new) halt → StopsBy text (between old new) halt
-flush_stopped held text old mid new halt p s =
-    subst (λ (x : List ℕ). StopsBy x (between old new) halt) (append-nil text) (stops_after [] held text [] old mid new halt p s)
-
--- the first packet and the rest
-pub first_packet : (rest packet left : List ℕ) → packet ≡ take 188 rest → left ≡ drop 188 rest → rest ≡ packet ++ left
-first_packet rest packet left p b = rw (p, b) (sym (take-append-drop 188 rest))
-
-pub packet_size : (rest packet left : List ℕ) → packet ≡ take 188 rest → length left + 188 ≡ length rest → length packet ≡ 188
-packet_size rest packet left p b = ap length p ∙ length-take-le 188 rest (omega arith)
+pub end_listed : (input : Device) (demux : StreamState) (faulty ended : Bool) (lines more : List ℕ) → ListsAll input demux lines faulty →
+    more ≡ lines ++ finding_lines (finished demux).found → ended ≡ has_fault (finished demux).found → ListsWhole input more (faulty || ended)
+end_listed input demux faulty ended lines more l m e =
+    let found = (finished demux).found in
+    let all : findings_of l.bytes ≡ l.lists.found ++ found = all_of l.bytes demux l.lists.found l.lists.so_far in
+    record {
+      bytes = l.bytes;
+      read = l.read;
+      faults = rw (l.lists.faults, e) (sym (both_faults l.lists.found found) ∙ ap has_fault (sym all));
+      lines_are = m ∙ ap (λ (x : List ℕ). x ++ finding_lines found) l.lists.lines_are ∙ sym (both_lines l.lists.found found) ∙ ap finding_lines (sym all);
+    }

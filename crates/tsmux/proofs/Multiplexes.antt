@@ -1,14 +1,14 @@
 -- What a job leads `mux` to.
-use Rattle.std.proofs.Common.{◌≡◌, ℕ, List, [], refl, sym, ap, subst, ◌∙◌, Option, Some, None, Result, Ok, Err}
+use Rattle.std.proofs.Common.{◌≡◌, ℕ, List, [], sym, ap, subst, ◌∙◌, Option, Some, None, Result, Ok, Err}
 use Rattle.std.specs.Prelude.{is_some}
 use Rattle.mux_core.specs.Multiplexing.{NamesWriter, OnWriting, Refuses, Writes}
 use Rattle.mux_core.specs.declared.multiplexing.MuxError.{MuxError}
 use Rattle.mux_core.specs.declared.multiplexing.MuxError.TheVariants.{TooManySlots, Periods, Feed, Device as AtWriter, Memory}
-use Rattle.tsmux.specs.Devices.{Device, IsUntouched, Port}
+use Rattle.tsmux.specs.Devices.{Device, IsUntouched}
 use Rattle.tsmux.specs.Lines.{Tells}
 use Rattle.tsmux.specs.MuxJobs.{MuxFaultView, MuxJobView, mux_fault_line, mux_job_of}
-use Rattle.tsmux.specs.Multiplexing.{IsKept, KeepsPromises, KeptUnlessRefused, Muxes, cause_of, early_of, error_line, error_status, multiplexed, packets_of, unless_refused, with_job}
-use Rattle.tsmux.specs.Performing.{Outcome, Performs, said, told}
+use Rattle.tsmux.specs.Multiplexing.{IsKept, KeepsPromises, KeptUnlessRefused, Muxes, cause_of, early_of, error_line, error_status, packets_of, unless_refused, with_job}
+use Rattle.tsmux.specs.Performing.{Performs, said, told}
 use Rattle.tsmux.specs.WholeInput.{ReadsInput}
 use Rattle.tsmux.specs.declared.request.MuxOptions.{MuxOptions}
 use Rattle.tsmux.proofs.Performances.{no_room, performed, told_only, unwritten}

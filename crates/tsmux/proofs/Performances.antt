@@ -5,8 +5,8 @@ use Rattle.std.specs.Io.KnownBytes.{Appends}
 use Rattle.tsmux.specs.Devices.{HasFailed, IsClean, IsUntouched, Takes, Device, Port}
 use Rattle.tsmux.specs.Halts.{halt_line}
 use Rattle.tsmux.specs.Lines.{Tells}
-use Rattle.tsmux.specs.Passing.{StopsBy, Stopped, WritesLine}
-use Rattle.tsmux.specs.Performing.{IsLedTo, Outcome, Performs, Streams, told}
+use Rattle.tsmux.specs.Passing.{Stopped, WritesLine}
+use Rattle.tsmux.specs.Performing.{IsLedTo, Outcome, Performs, told}
 use Rattle.tsmux.specs.WholeInput.{IsWhole, ReadsInput}
 use Rattle.tsmux.specs.declared.halt.Halt.{Halt}
 use Rattle.tsmux.specs.declared.halt.Halt.TheVariants.{Read, Write, Memory}
@@ -60,6 +60,13 @@ unwritten Leads bytes outcome input output faults status r l w f t s = inr (inr 
   status_is = s;
 })))
 
+-- a text was written whole
+pub text_written : (Leads : List ℕ → Outcome → Type 0) (bytes text : List ℕ) (outcome : Outcome) (input output faults : Device) (status : ℕ) →
+    ReadsInput input (Ok bytes) → Leads bytes outcome → text ≡ outcome.output → Takes output text → IsClean output → Tells faults outcome.told → status ≡ outcome.status →
+    Performs Leads input output faults status
+text_written Leads bytes text outcome input output faults status r l e w c t s =
+    performed Leads bytes outcome input output faults status r l (subst (λ (x : List ℕ). Takes output x) e w) c t s
+
 -- a text was not written whole
 pub text_unwritten : (V : Type 0) (Leads : List ℕ → Outcome → Type 0) (bytes text : List ℕ) (outcome : Outcome) (input output faults : Device) (status : ℕ) (halt : Halt) →
     ReadsInput input (Ok bytes) → Leads bytes outcome → text ≡ outcome.output → WritesLine {V = V} text output (Err halt) → Tells faults (halt_line halt) → status ≡ 3 →
@@ -68,23 +75,6 @@ text_unwritten V Leads bytes text outcome input output faults status Read r l e 
 text_unwritten V Leads bytes text outcome input output faults status Write r l e w t s =
     unwritten Leads bytes outcome input output faults status r l (subst (λ (x : List ℕ). Stopped x output) e w.0) w.1 t s
 text_unwritten V Leads bytes text outcome input output faults status Memory r l e w t s = absurd w
-
--- it stopped within its output
-pub stopped : (Leads : List ℕ → Outcome → Type 0) (bytes : List ℕ) (outcome : Outcome) (input output faults : Device) (status : ℕ) (halt : Halt) →
-    ReadsInput input (Ok bytes) → Leads bytes outcome → StopsBy outcome.output output halt → Tells faults (halt_line halt) → status ≡ 3 →
-    Streams Leads input output faults status
-stopped Leads bytes outcome input output faults status Read r l w t s = absurd w
-stopped Leads bytes outcome input output faults status Write r l w t s = inl (unwritten Leads bytes outcome input output faults status r l w.0 w.1 t s)
-stopped Leads bytes outcome input output faults status Memory r l w t s = inr (record {
-  outcome = outcome;
-  leads = led_to Leads bytes outcome input r l;
-  clean_input = r.1.clean;
-  taken = w.0.taken;
-  written = w.0.appends;
-  clean = w.1;
-  tells = t;
-  status_is = s;
-})
 
 -- it told a line, and wrote nothing
 pub told_only : (Leads : List ℕ → Outcome → Type 0) (bytes line : List ℕ) (input output faults : Device) (status : ℕ) →

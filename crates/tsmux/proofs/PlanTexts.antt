@@ -2,7 +2,6 @@
 use Rattle.std.proofs.Common.{◌≡◌, ◌⊎◌, ℕ, false, List, [], refl, ap, subst, ◌∙◌, Result, Ok, Err, inl, inr}
 use Rattle.std.specs.Prelude.{codes}
 use Rattle.description.specs.Described.{Described}
-use Rattle.description.specs.declared.fault.Fault.{Fault}
 use Rattle.description.specs.declared.fault.DescError.{DescError}
 use Rattle.description.specs.declared.fault.DescError.TheVariants.{Refused, Memory}
 use Rattle.plan_maker.specs.PlainPlan.{plain_plan, serves}

@@ -1,5 +1,5 @@
 -- A job with its units: what `mux` is given.
-use Rattle.std.specs.Prelude.{◌≡◌, ◌+◌, ◌*◌, ◌/◌, ◌^◌, ℕ, min, max, Bool, List, [], Option, Some, None, Result, Ok, Err, unwrap_or, ⊤}
+use Rattle.std.specs.Prelude.{◌≡◌, ◌+◌, ◌*◌, ◌/◌, ◌^◌, ℕ, min, max, Bool, List, [], Option, Result, Ok, Err, ⊤}
 use Rattle.std.specs.List.{fold}
 use Rattle.pes_packet.specs.AccessUnits.{AccessUnit}
 use Rattle.description.specs.Described.{Described}

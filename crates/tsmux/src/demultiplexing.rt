@@ -1,119 +1,115 @@
-//! `demux`: a line for each finding in a transport stream.
-ghost use Rattle.std.specs.Prelude.{◌≡◌, ◌++◌, ◌<◌, [], false, true, IfOk, OnOk, length, map, string_bytes};
+//! `demux`: a line for each finding in a transport stream, which is taken as it comes.
+ghost use Rattle.std.specs.Prelude.{◌≡◌, ◌++◌, ◌<◌, ◌≤◌, [], IfOk, IfErr, OnOk, length, map, string_bytes};
 ghost use Rattle.demux.specs.Shown.{finding_view};
 ghost use Rattle.demux.specs.Stream as stream;
 ghost use Rattle.tsmux.specs.Devices.{reads, writes};
-ghost use Rattle.tsmux.specs.Demultiplexing.{Demultiplexes, ListsPackets, findings_of};
+ghost use Rattle.tsmux.specs.Demultiplexing.{Demultiplexes, ListsInput, ListsPiece, ListsPieces};
 ghost use Rattle.tsmux.specs.FindingLines.{finding_lines, has_fault};
-ghost use Rattle.tsmux.specs.Passing.{Passes, WritesAll};
 ghost use Rattle.tsmux.specs.Performing.{Streams};
+ghost use Rattle.tsmux.specs.WholeInput.{longest_input};
 
 use crate::finding_lines::{has_fault, write_findings};
 use crate::halt::{Halt, halted};
-use crate::passing::{PIECE, flush, flush_piece};
-use crate::whole_input::read_whole;
+use crate::lines::write_text;
+use crate::whole_input::{LONGEST_INPUT, room};
 use demux::{Demux, Finding};
 use std::alloc::Global;
-use ts_packet::{Sink, Source};
+use ts_packet::{Sink, Source, read_part};
 
-/// The room for lines beyond a piece, in bytes.
-const ROOM: usize = 1 << 12;
+/// The bytes of a piece.
+const PIECE: usize = 1 << 18;
 
-/// Passes the lines of findings on, and says whether one is a fault.
-fn list<W: Sink>(found: &[Finding<'_>], text: &mut String, output: &mut W) -> Result<bool, Halt>
-    ensures passes { Passes (string_bytes text.old) (string_bytes text.new) (finding_lines (map finding_view found.now))
-        (writes W.Sink output.old output.new) result }
+/// Appends the lines of findings, and says whether one is a fault.
+fn list(found: &[Finding<'_>], text: &mut String) -> Result<bool, Halt>
+    ensures lines { OnOk result (string_bytes text.new ≡ string_bytes text.old ++ finding_lines (map finding_view found.now)) }
     ensures fault { IfOk result (λ faulty. faulty ≡ has_fault (map finding_view found.now)) }
+    ensures memory { IfErr result (λ halt. halt ≡ Halt.Memory) }
 {
     let Ok(()) = write_findings(text, found) else {
         return Err(Halt::Memory);
     };
-    flush_piece(text, output)?;
     Ok(has_fault(found))
 }
 
-/// Lists what is found in a packet.
-fn list_packet<'a, W: Sink>(
+/// Lists what is found in the next piece of the input; says how many bytes were read, and whether there is a fault.
+fn list_piece<R: Source>(
+    input: &mut R,
+    piece: &mut [u8],
     demux: &mut Demux,
-    packet: &'a [u8; 188],
-    found: &mut Vec<Finding<'a>>,
     text: &mut String,
-    output: &mut W,
-) -> Result<bool, Halt>
-    requires aligned { stream.is_aligned demux.old ≡ true }
-    requires empty { found.old.items ≡ [] }
-    ensures state { OnOk result (demux.new ≡ stream.taken demux.old packet.now) }
-    ensures empty { OnOk result (found.new.items ≡ []) }
-    ensures aligned { stream.is_aligned demux.new ≡ true }
-    ensures passes { Passes (string_bytes text.old) (string_bytes text.new) (finding_lines (stream.found_in demux.old packet.now))
-        (writes W.Sink output.old output.new) result }
-    ensures fault { IfOk result (λ faulty. faulty ≡ has_fault (stream.found_in demux.old packet.now)) }
+) -> Result<(usize, bool), Halt>
+    ensures { ListsPiece (reads R.Source input.old input.new) piece.new demux.old demux.new
+        (string_bytes text.old) (string_bytes text.new) result }
 {
-    let Ok(()) = demux.take(packet, found) else {
+    let Ok(n) = read_part(input, piece) else {
+        return Err(Halt::Read);
+    };
+    let Ok(()) = demux.push(&piece[..n]) else {
         return Err(Halt::Memory);
     };
-    let faulty = list(found, text, output)?;
-    found.clear();
-    Ok(faulty)
+    let faulty = list(demux.findings(), text)?;
+    demux.forget_findings();
+    Ok((n, faulty))
 }
 
-/// Lists what is found in the packets at the front, and gives the rest: less than a packet.
-fn list_packets<'a, W: Sink>(
-    alloc: Global,
+/// Whether there was a fault in a stream of so many bytes, if it is no longer than an input may be.
+fn within(size: usize, faulty: bool) -> Result<bool, Halt>
+    ensures ok { IfOk result (λ fault. (fault ≡ faulty) × (size ≤ longest_input)) }
+    ensures err { IfErr result (λ halt. (halt ≡ Halt.Read) × (longest_input < size)) }
+{
+    if size <= LONGEST_INPUT {
+        Ok(faulty)
+    } else {
+        Err(Halt::Read)
+    }
+}
+
+/// Lists what is found in the whole input before its end, and says whether there is a fault.
+fn list_pieces<R: Source>(
+    input: &mut R,
+    piece: &mut [u8],
     demux: &mut Demux,
-    bytes: &'a [u8],
     text: &mut String,
-    output: &mut W,
-) -> Result<(bool, &'a [u8]), Halt>
+) -> Result<bool, Halt>
+    requires room { length piece.old ≡ 262144 }
     requires start { demux.old ≡ stream.start }
     requires empty { string_bytes text.old ≡ [] }
-    ensures { ListsPackets (λ rest. rest.now) bytes.entry.now demux.new (string_bytes text.new)
-        (writes W.Sink output.old output.new) result }
+    ensures { ListsPieces (reads R.Source input.old input.new) demux.new (string_bytes text.new) result }
 {
+    let mut size = 0;
     let mut faulty = false;
-    let mut found = Vec::new(alloc);
-    let mut rest = bytes;
-    while let Some((packet, after)) = rest.split_first_chunk::<188>() {
-        let here = list_packet(demux, packet, &mut found, text, output)?;
+    while size <= LONGEST_INPUT {
+        let (n, here) = list_piece(input, piece, demux, text)?;
+        size += n;
         faulty |= here;
-        rest = after;
+        if n < piece.len() {
+            return within(size, faulty);
+        }
     }
-    Ok((faulty, rest))
+    Err(Halt::Read)
 }
 
-/// Lists what the rest of the stream and its end decide.
-fn list_end<W: Sink>(
-    demux: &mut Demux,
-    rest: &[u8],
-    text: &mut String,
-    output: &mut W,
-) -> Result<bool, Halt>
-    ensures passes { Passes (string_bytes text.old) (string_bytes text.new) (finding_lines (stream.finished (stream.pushed demux.old rest.now)).found)
-        (writes W.Sink output.old output.new) result }
-    ensures fault { IfOk result (λ faulty. faulty ≡ has_fault (stream.finished (stream.pushed demux.old rest.now)).found) }
+/// Lists what the end of the stream decides, and says whether there is a fault.
+fn list_end(demux: &mut Demux, text: &mut String) -> Result<bool, Halt>
+    ensures lines { OnOk result (string_bytes text.new ≡ string_bytes text.old ++ finding_lines (stream.finished demux.old).found) }
+    ensures fault { IfOk result (λ faulty. faulty ≡ has_fault (stream.finished demux.old).found) }
+    ensures memory { IfErr result (λ halt. halt ≡ Halt.Memory) }
 {
-    let Ok(()) = demux.push(rest) else {
-        return Err(Halt::Memory);
-    };
     let Ok(()) = demux.finish() else {
         return Err(Halt::Memory);
     };
-    list(demux.findings(), text, output)
+    list(demux.findings(), text)
 }
 
-/// Lists all that is found in a stream, and says whether there is a fault.
-fn list_whole<W: Sink>(alloc: Global, bytes: &[u8], output: &mut W) -> Result<bool, Halt>
-    ensures writes { WritesAll (finding_lines (findings_of bytes.now))
-        (writes W.Sink output.old output.new) result }
-    ensures fault { IfOk result (λ faulty. faulty ≡ has_fault (findings_of bytes.now)) }
+/// Lists all that is found in the input, and says whether there is a fault.
+fn list_input<R: Source>(alloc: Global, input: &mut R, text: &mut String) -> Result<bool, Halt>
+    requires { string_bytes text.old ≡ [] }
+    ensures { ListsInput (reads R.Source input.old input.new) (string_bytes text.new) result }
 {
-    let Ok(mut text) = String::with_capacity(alloc, PIECE + ROOM) else {
-        return Err(Halt::Memory);
-    };
+    let mut piece = room(alloc, PIECE)?;
     let mut demux = Demux::new(alloc);
-    let (faulty, rest) = list_packets(alloc, &mut demux, bytes, &mut text, output)?;
-    let ended = list_end(&mut demux, rest, &mut text, output)?;
-    flush(&mut text, output)?;
+    let faulty = list_pieces(input, &mut piece, &mut demux, text)?;
+    let ended = list_end(&mut demux, text)?;
     Ok(faulty | ended)
 }
 
@@ -130,13 +126,13 @@ pub fn demultiplex<R: Source, W: Sink, E: Sink>(
         (writes E.Sink faults.old faults.new)
         result }
 {
-    let bytes = match read_whole(alloc, input) {
-        Ok(bytes) => bytes,
+    let mut text = String::new(alloc);
+    let faulty = match list_input(alloc, input, &mut text) {
+        Ok(faulty) => faulty,
         Err(halt) => return halted(faults, halt),
     };
-    match list_whole(alloc, &bytes, output) {
-        Ok(true) => 1,
-        Ok(false) => 0,
+    match write_text(&text, output) {
+        Ok(()) => { if faulty { 1 } else { 0 } }
         Err(halt) => halted(faults, halt),
     }
 }

@@ -1,7 +1,7 @@
 use Rattle.std.proofs.Common.{map}
 use Rattle.tsmux.specs.CommandLine.{tsmux_app}
 use Rattle.clap.specs.Words.{app_of}
-use Rattle.tsmux.proofs.CommandLines.{faulty, named, simple, simple_and_free}
+use Rattle.tsmux.proofs.CommandLines.{faulty, named, simple}
 use Rattle.tsmux.proofs.command_line.matches_for.Goals as goal
 
 pub returns-clause-ok : goal.returns-clause-ok
