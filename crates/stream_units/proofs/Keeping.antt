@@ -1,0 +1,98 @@
+-- Units that a stream declares enough for.
+use Rattle.std.proofs.Common.{◌≡◌, ◌≤◌, ◌<◌, ℕ, ◌+◌, ◌-◌, ◌*◌, ◌/◌, ◌%◌, ◌^◌, ◌==◌, ◌++◌, nat_lt, min, max, Bool, true, false, if◌then◌else◌, Option, Some, None, List, [], ◌∷◌, length, map, take, refl, sym, ap, ◌∙◌, arith, All, inl, inr}
+use Rattle.std.proofs.Math.Nat.{le_trans}
+use Rattle.std.proofs.lemmas.Bool.{cases_Bool}
+use Rattle.std.proofs.lemmas.List.{length-append}
+use Rattle.std.proofs.lemmas.List.Elements.{All-nil, All-cons, All-head, All-tail}
+use Rattle.pes_packet.specs.AccessUnits.{AccessUnit}
+use Rattle.pes_packet.specs.Spelling.{unit_text, header_text, on_wire, header_size}
+use Rattle.pes_packet.proofs.Written.{header_sizes}
+use Rattle.unit_timing.specs.PesPacket.{PesPacket, pieces_of, packets_of, Spaced, Sized, Declared}
+use Rattle.unit_queue.specs.Lanes.{Lane, timed}
+use Rattle.unit_queue.specs.Queues.{IsUnit, Kept, most_packets}
+use Rattle.unit_queue.specs.declared.rules.StreamRules.{StreamRules}
+use Rattle.stream_units.specs.declared.stamps.StampFault.{StampFault}
+use Rattle.stream_units.specs.declared.stamps.StampFault.TheVariants.{TooFar, Presented}
+use Rattle.stream_units.specs.Stamps.{distance, dts_at, pts_at, unit_at, moved, falls, presented, too_far, or_fault, unit_fault, fault_or, first_fault}
+use Rattle.stream_units.specs.Declaration.{interval_after, least_interval, greatest_size, greatest_group, timed_units, unit_packets, group_packets}
+use Rattle.stream_units.specs.Laws.{FirstDue, Declares, UnitsAreKept}
+use Rattle.stream_units.proofs.Faults.{place_none, timely}
+
+-- 1. Each by itself
+
+unit_is : (r : StreamRules) (base : ℕ) (before : Option ℕ) (u : AccessUnit) → unit_fault base before u ≡ None →
+    1 ≤ length u.bytes → length (unit_at base before u).bytes ≤ r.size → IsUnit r (unit_at base before u)
+unfolding unit_at
+unit_is r base before u none some most =
+    let own = timely base before u none in
+    record { some = some; most = most; later = own.later; soon = own.soon; last = own.last }
+
+units_each : (r : StreamRules) (base place : ℕ) (before : Option ℕ) (us : List AccessUnit) → first_fault base before place us ≡ None →
+    All (λ u. 1 ≤ length u.bytes) us → greatest_size (moved base before us) ≤ r.size → All (IsUnit r) (moved base before us)
+unfolding moved first_fault greatest_size
+units_each r base place before [] none some size = All-nil (IsUnit r)
+units_each r base place before (u ∷ us) none some size =
+    let both = place_none place (unit_fault base before u) _ none in
+    let unit = unit_is r base before u both.0 (All-head (λ u. 1 ≤ length u.bytes) u us some) (omega (arith, size)) in
+    All-cons (IsUnit r) (unit_at base before u) (moved base (Some (dts_at base before u.dts)) us) unit
+    (units_each r base (place + 1) (Some (dts_at base before u.dts)) us both.1 (All-tail (λ u. 1 ≤ length u.bytes) u us some) (omega (arith, size)))
+
+-- 2. Their distances
+
+spaced_after : (l : Lane) (base last : ℕ) (us : List AccessUnit) → l.rules.interval ≤ interval_after last (moved base (Some last) us) →
+    Spaced l.rules.interval (last + l.rules.interval) (map (timed l) (moved base (Some last) us))
+unfolding moved Spaced interval_after unit_at dts_at
+spaced_after l base last [] le = tt
+spaced_after l base last (u ∷ us) le =
+    let dts = last + distance (last + base) u.dts in
+    (omega (arith, le), spaced_after l base dts us (omega (arith, le)))
+
+spaced_all : (l : Lane) (base : ℕ) (us : List AccessUnit) → l.rules.interval ≤ least_interval (moved base None us) → FirstDue l.rules.lead (moved base None us) →
+    Spaced l.rules.interval l.rules.lead (map (timed l) (moved base None us))
+unfolding moved Spaced least_interval FirstDue
+spaced_all l base [] le due = tt
+spaced_all l base (u ∷ us) le due = unfold unit_at in (due, spaced_after l base (dts_at base None u.dts) us le)
+
+-- 3. Their sizes
+
+header_most : (pts dts : ℕ) → header_size pts dts ≤ 19
+header_most pts dts = elim (cases_Bool (on_wire pts == on_wire dts)) [ inl y ↦ rw y (omega arith) | inr n ↦ rw n (omega arith) ]
+
+text_most : (l : Lane) (u : AccessUnit) (size : ℕ) → length u.bytes ≤ size → length (unit_text l.rules.stream_id l.rules.base0 u) ≤ 19 + size
+unfolding unit_text
+text_most l u size le =
+    let head = header_text l.rules.stream_id (length u.bytes) (u.pts + l.rules.base0) (u.dts + l.rules.base0) in
+    omega (
+      arith,
+      le,
+      length-append head u.bytes,
+      header_sizes l.rules.stream_id (length u.bytes) (u.pts + l.rules.base0) (u.dts + l.rules.base0),
+      header_most (u.pts + l.rules.base0) (u.dts + l.rules.base0),
+    )
+
+sized_all : (l : Lane) (us : List AccessUnit) → greatest_size us ≤ l.rules.size → Sized (19 + l.rules.size) (map (timed l) us)
+unfolding Sized greatest_size
+sized_all l [] le = tt
+sized_all l (u ∷ us) le = (text_most l u l.rules.size (omega (arith, le)), sized_all l us (omega (arith, le)))
+
+-- 4. Their groups
+
+declared_all : (l : Lane) (most : ℕ) (us : List AccessUnit) → greatest_size us ≤ l.rules.size → greatest_group l.rules.group (map (timed l) us) ≤ most →
+    Declared l.rules.group most (most_packets l.rules) (map (timed l) us)
+unfolding Declared greatest_size greatest_group
+declared_all l most [] size le = tt
+declared_all l most (u ∷ us) size le = (
+  omega (arith, text_most l u l.rules.size (omega (arith, size))),
+  omega (arith, le),
+  declared_all l most us (omega (arith, size)) (omega (arith, le)),
+)
+
+-- 5. All together
+
+pub units_kept : UnitsAreKept
+units_kept l base wire none some declares = record {
+  units = units_each l.rules base 0 None wire none some declares.size;
+  spaced = spaced_all l base wire declares.interval declares.lead;
+  sized = sized_all l (moved base None wire) declares.size;
+  grouped = declared_all l l.rules.group_packets (moved base None wire) declares.size (omega (arith, declares.group));
+}

@@ -1,0 +1,5 @@
+use Rattle.stream_units.proofs.laws.constant_is_least.Goals as goal
+use Rattle.stream_units.proofs.Stamping.{constant_least}
+
+pub returns : goal.returns
+returns c = constant_least

@@ -1,0 +1,5 @@
+use Rattle.stream_units.proofs.laws.units_are_kept.Goals as goal
+use Rattle.stream_units.proofs.Keeping.{units_kept}
+
+pub returns : goal.returns
+returns c = units_kept

@@ -1,0 +1,131 @@
+//! What a stream declares of its units, counted from them.
+
+ghost use Rattle.std.specs.Prelude.{◌≡◌, ◌≤◌, ◌<◌, ◌+◌, ◌/◌, ◌^◌, ℕ, min, length, take};
+ghost use Rattle.pes_packet.specs.Spelling.{on_wire, unit_text};
+ghost use Rattle.unit_timing.specs.PesPacket.{packets_of};
+ghost use Rattle.stream_units.specs.Declaration as spec;
+
+use crate::unit::{dts_of, size_of};
+use pes_packet::Unit;
+use std::alloc::Allocator;
+
+/// The least time from one DTS to the next, in units of 90 kHz: at most 90,000, and 90,000 for a single unit.
+pub fn least_interval<A: Allocator>(units: &[Unit<A>]) -> u32
+    ensures value { result ≡ spec.least_interval units.now }
+    ensures bound { result ≤ 90000 }
+{
+    let Some((first, rest)) = units.split_first() else {
+        return 90_000;
+    };
+    interval_after(dts_of(first), rest)
+}
+
+// The same of units after a DTS.
+fn interval_after<A: Allocator>(before: u64, units: &[Unit<A>]) -> u32
+    ensures value { result ≡ spec.interval_after before units.now }
+    ensures bound { result ≤ 90000 }
+{
+    let mut least = 90_000;
+    let mut last = before;
+    for unit in units {
+        let dts = dts_of(unit);
+        least = shorter(least, dts.saturating_sub(last));
+        last = dts;
+    }
+    least
+}
+
+// The shorter of two times.
+fn shorter(least: u32, time: u64) -> u32
+    ensures { result ≡ min least time }
+{
+    if time < u64::from(least) {
+        time as u32
+    } else {
+        least
+    }
+}
+
+/// The bytes of the greatest unit.
+pub fn greatest_size<A: Allocator>(units: &[Unit<A>]) -> usize
+    ensures value { result ≡ spec.greatest_size units.now }
+    ensures bound { result < 2 ^ 63 }
+{
+    let mut greatest = 0;
+    for unit in units {
+        greatest = greatest.max(size_of(unit));
+    }
+    greatest
+}
+
+// A stamp on the wire: moved by the clock's first value, in 33 bits.
+fn on_wire(base0: u64, stamp: u64) -> u64
+    ensures { result ≡ on_wire (stamp + base0) }
+{
+    ((u128::from(stamp) + u128::from(base0)) % (1 << 33)) as u64
+}
+
+// The packets of a unit, whatever its stream_id.
+#[tactic(auto, unfolding(pes_packet::specs::Spelling::unit_text))]
+fn unit_packets<A: Allocator>(base0: u64, unit: &Unit<A>) -> u64
+    ensures value { (id : ℕ) → result ≡ (length (unit_text id base0 unit.now) + 183) / 184 }
+    ensures bound { result ≤ 2 ^ 56 }
+{
+    pes_packet::header_sizes();
+    let size = unit.bytes.len() as u64;
+    let header = if on_wire(base0, unit.pts) == on_wire(base0, unit.dts) {
+        14
+    } else {
+        19
+    };
+    (header + size + 183) / 184
+}
+
+// The packets of the units, of which there are few.
+fn total_packets<A: Allocator>(base0: u64, units: &[Unit<A>]) -> u64
+    requires { length units.now < 2 ^ 7 }
+    ensures value { (id : ℕ) → result ≡ packets_of (spec.timed_units id base0 units.now) }
+    ensures bound { result ≤ 2 ^ 63 }
+{
+    let mut total = 0;
+    for unit in units {
+        total += unit_packets(base0, unit);
+    }
+    total
+}
+
+// The first of the units, at most so many.
+fn front<A: Allocator>(units: &[Unit<A>], count: usize) -> &[Unit<A>]
+    ensures value { result.now ≡ take count units.now }
+    ensures few { length result.now ≤ count }
+{
+    if count < units.len() {
+        &units[..count]
+    } else {
+        units
+    }
+}
+
+// The packets of a unit of so many bytes with the longest header.
+fn most_packets(size: usize) -> u64
+    requires { size < 2 ^ 63 }
+    ensures { result ≡ spec.unit_packets size }
+{
+    (19 + size as u64 + 183) / 184
+}
+
+/// The most packets of `group` units in a row, or of all where they are fewer; at least as many as a unit of the greatest
+/// size has, whatever its header. The units are counted with the clock's first value `base0`, which decides which of them
+/// have a DTS in their header.
+pub fn group_packets<A: Allocator>(base0: u64, units: &[Unit<A>], group: u8) -> u64
+    requires { group ≤ 64 }
+    ensures { (id : ℕ) → result ≡ spec.group_packets id base0 group units.now }
+{
+    let mut most = most_packets(greatest_size(units));
+    let mut rest = units;
+    while let Some((_, next)) = rest.split_first() {
+        most = most.max(total_packets(base0, front(rest, group as usize)));
+        rest = next;
+    }
+    most
+}

@@ -1,0 +1,24 @@
+//! Laws of the definitions. Each function does nothing: its contract is the law.
+
+ghost use Rattle.stream_units.specs.Laws.{FindingsOfThePid, MovedByOneConstant, ConstantIsLeast, UnitsAreKept};
+
+/// The units of a PID are a function of what is found of that PID.
+pub fn findings_of_the_pid()
+    ensures { FindingsOfThePid }
+{}
+
+/// The moments of a stream's units are their stamps less one constant: with it, modulo 2^33, they are what the wire has.
+pub fn moved_by_one_constant()
+    ensures { MovedByOneConstant }
+{}
+
+/// With the constant of a program the least first DTS of its streams is at the moment that was asked for, and each other
+/// one is as long after it as on the wire.
+pub fn constant_is_least()
+    ensures { ConstantIsLeast }
+{}
+
+/// Units whose stamps can be moments keep what is declared of them.
+pub fn units_are_kept()
+    ensures { UnitsAreKept }
+{}

@@ -1,0 +1,25 @@
+//! Access units from what a demultiplexer finds, and what a stream declares so that they keep it.
+//!
+//! The units of a PID are a function of its findings (`specs/Carried`); their stamps of 33 bits become moments of a run by
+//! one constant for a program (`specs/Stamps`); the least that a stream declares is counted from them
+//! (`specs/Declaration`). The laws say that the stamps on the wire are the moments with the constant modulo 2^33, and that
+//! the units keep what is declared, so that a queue accepts each.
+#![tactic(auto)]
+
+mod beginning;
+mod carrying;
+mod declaration;
+mod laws;
+mod moving;
+mod stamps;
+#[cfg(test)]
+mod tests;
+mod unit;
+mod wire_unit;
+
+pub use carrying::carried_units;
+pub use declaration::{greatest_size, group_packets, least_interval};
+pub use laws::{constant_is_least, findings_of_the_pid, moved_by_one_constant, units_are_kept};
+pub use moving::{StampError, moved_units};
+pub use stamps::{StampFault, constant, distance};
+pub use wire_unit::WireUnit;

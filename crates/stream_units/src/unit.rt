@@ -1,0 +1,21 @@
+//! What is asked of one unit.
+
+ghost use Rattle.std.specs.Prelude.{◌≡◌, ◌<◌, ◌^◌, length};
+
+use pes_packet::Unit;
+use std::alloc::Allocator;
+
+/// When it is due.
+pub(crate) fn dts_of<A: Allocator>(unit: &Unit<A>) -> u64
+    ensures { result ≡ unit.now.dts }
+{
+    unit.dts
+}
+
+/// Its size in bytes.
+pub(crate) fn size_of<A: Allocator>(unit: &Unit<A>) -> usize
+    ensures value { result ≡ length unit.now.bytes }
+    ensures bound { result < 2 ^ 63 }
+{
+    unit.bytes.len()
+}
