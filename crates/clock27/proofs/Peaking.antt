@@ -1,13 +1,12 @@
 -- The greatest fullness of a queue.
-use Rattle.std.proofs.Common.{◌≡◌, ℕ, zero, suc, ◌+◌, ◌-◌, ◌*◌, ◌/◌, ◌<◌, ◌≤◌, ◌⊎◌, max, cond, nat_le, nat_lt, ◌&&◌, List, [], ◌∷◌, ◌++◌, refl, inl, inr, arith, All}
-use Rattle.std.proofs.Math.Nat.{le_trans, mul-le-mul_left, mul-le-mul_right, lt-mul-div-succ, div-eq_of_lt, add-div_right}
+use Rattle.std.proofs.Common.{◌≡◌, ℕ, zero, suc, ◌+◌, ◌-◌, ◌*◌, ◌/◌, ◌<◌, ◌≤◌, max, cond, List, [], ◌∷◌, ◌++◌, refl, inl, inr, arith, All}
+use Rattle.std.proofs.Math.Nat.{le_trans, mul-le-mul_right, lt-mul-div-succ, div-eq_of_lt, add-div_right}
 use Rattle.std.proofs.lemmas.Bool.{cases_lt}
-use Rattle.std.proofs.lemmas.Bool.Decides.{nat_tests}
-use Rattle.std.proofs.lemmas.List.Elements.{All-nil, All-cons, All-weaker}
+use Rattle.std.proofs.lemmas.List.Elements.{All-nil, All-cons}
 use Rattle.clock27.specs.Arrival.{bytes_from, arrivals}
 use Rattle.clock27.specs.Departure.{departures}
 use Rattle.clock27.specs.Fullness.{is_in_buffer, fullness, Stays}
-use Rattle.clock27.specs.Peak.{IsPeak, Climbs, found, most_found, PeakLaw, ArrivalsClimb, DeparturesClimb}
+use Rattle.clock27.specs.Peak.{Climbs, found, most_found, PeakLaw, ArrivalsClimb, DeparturesClimb}
 use Rattle.clock27.proofs.Holding.{room_law, fullness_before, counted_one}
 
 -- bytes that take y to leave, rounded up

@@ -1,18 +1,18 @@
 -- Units fed and slots written in any order.
-use Rattle.std.proofs.Common.{◌≡◌, ◌≢◌, ℕ, zero, suc, ◌+◌, ◌<◌, ◌≤◌, ◌^◌, Bool, true, false, cond, List, [], ◌∷◌, ◌++◌, Option, Some, None, Result, Ok, Err, refl, sym, ap, ◌∙◌, subst, arith, append_assoc, append-nil, inl, inr}
-use Rattle.std.specs.Prelude.{nat_lt, slice_get, IfErr}
+use Rattle.std.proofs.Common.{◌≡◌, ℕ, suc, ◌+◌, ◌<◌, ◌≤◌, ◌^◌, Bool, false, cond, List, [], ◌∷◌, ◌++◌, Option, Some, None, Result, Ok, Err, refl, sym, ap, ◌∙◌, subst, arith, append_assoc, append-nil, inl, inr}
+use Rattle.std.specs.Prelude.{slice_get, IfErr}
 use Rattle.std.proofs.Math.Path.{fun_ext}
 use Rattle.std.proofs.lemmas.Bool.{lt-ltb, le-ltb, cases_lt}
 use Rattle.pes_packet.specs.AccessUnits.{AccessUnit}
-use Rattle.ts_packet.specs.Contents.{Content, packet_of, run_bytes}
+use Rattle.ts_packet.specs.Contents.{packet_of, run_bytes}
 use Rattle.description.specs.Ranges.{IsInRange}
 use Rattle.plan_timing.specs.Promised.{Promised}
 use Rattle.unit_queue.specs.Causes.{refusal}
 use Rattle.unit_queue.specs.declared.refusal.FeedError.{FeedError}
 use Rattle.mux_core.specs.PidPackets.{leaving}
 use Rattle.mux_core.specs.Scheduled.{Scheduled}
-use Rattle.mux_core.specs.Histories.{History, content_at, bytes_of, empty_history, slot_more, with_unit}
-use Rattle.mux_core.specs.Standing.{Mixer, Stands, Gives, Takes, feed_cause, refusal_of}
+use Rattle.mux_core.specs.Histories.{History, content_at, bytes_of, empty_history, slot_more}
+use Rattle.mux_core.specs.Standing.{Mixer, Stands, Gives, Takes, feed_cause}
 use Rattle.mux_core.specs.Headline.{Headline}
 use Rattle.mux_core.specs.Driving.{Step, FeedStep, SlotStep, fed_history, step_history, history_after, Adds, StandsOn, WrittenStays, OrderIsFree}
 use Rattle.mux_core.specs.declared.done.Done.{Done}

@@ -1,5 +1,5 @@
 -- A job from its units to the last byte.
-use Rattle.std.proofs.Common.{◌≡◌, ℕ, zero, suc, ◌+◌, ◌*◌, ◌<◌, ◌≤◌, ◌^◌, Bool, true, false, List, [], ◌∷◌, ◌++◌, length, take, Option, Some, None, Result, Ok, Err, refl, sym, ap, ◌∙◌, subst, arith}
+use Rattle.std.proofs.Common.{◌≡◌, ℕ, zero, suc, ◌+◌, ◌*◌, ◌<◌, ◌≤◌, ◌^◌, Bool, true, false, List, [], ◌∷◌, length, take, Option, Some, None, Result, Ok, Err, sym, ap, ◌∙◌, subst, arith}
 use Rattle.std.specs.Prelude.{IfOk, if◌then◌else◌}
 use Rattle.std.proofs.KnownBytes.{Appends-nil}
 use Rattle.std.proofs.lemmas.Bool.{lt-ltb, le-ltb}
@@ -16,10 +16,10 @@ use Rattle.description.specs.Ranges.{IsInRange}
 use Rattle.plan_timing.specs.Promised.{Promised}
 use Rattle.mux_core.specs.Scheduled.{Scheduled}
 use Rattle.mux_core.specs.Histories.{content_at, bytes_of}
-use Rattle.mux_core.specs.Standing.{Mixer, Stands}
+use Rattle.mux_core.specs.Standing.{Mixer}
 use Rattle.mux_core.specs.Headline.{Headline}
 use Rattle.mux_core.specs.PidPackets.{leaving}
-use Rattle.mux_core.specs.Collecting.{byte_count, Collected, Holds, Took}
+use Rattle.mux_core.specs.Collecting.{Collected, Holds}
 use Rattle.mux_core.specs.Making.{is_periods}
 use Rattle.mux_core.specs.Multiplexing.{job_history, capacity_for, or_cause, first_refused, job_cause, Refuses, run_output, output_of, slot_size, WritesAll, Writes, OnWriting, AllFed, slots_cause, periods_cause}
 use Rattle.mux_core.specs.declared.multiplexing.MuxError.{MuxError}

@@ -1,5 +1,5 @@
 -- The units of a job, fed one by one before the first slot.
-use Rattle.std.proofs.Common.{◌≡◌, ◌≢◌, ℕ, ◌+◌, Bool, true, false, cond, nat_eq, List, [], ◌∷◌, ◌++◌, length, Option, Some, None, refl, sym, ap, ◌∙◌, subst, arith, inl, inr, append-nil, append_assoc}
+use Rattle.std.proofs.Common.{◌≡◌, ℕ, ◌+◌, Bool, cond, nat_eq, List, [], ◌∷◌, ◌++◌, length, Option, Some, None, refl, sym, ap, ◌∙◌, subst, arith, inl, inr, append-nil, append_assoc}
 use Rattle.std.specs.Prelude.{slice_get}
 use Rattle.std.proofs.Math.Path.{fun_ext}
 use Rattle.std.proofs.lemmas.Bool.{eq-eqb, ne_eqb, cases_eq}
@@ -11,7 +11,6 @@ use Rattle.mux_core.specs.Scheduled.{Scheduled}
 use Rattle.mux_core.specs.Histories.{History, empty_history, with_unit}
 use Rattle.mux_core.specs.Standing.{Mixer, Stands, Takes, feed_cause}
 use Rattle.mux_core.specs.Multiplexing.{job_history, or_cause, unit_refused, cause_after, first_refused, AllFed}
-use Rattle.mux_core.specs.declared.multiplexing.MuxError.{MuxError}
 use Rattle.mux_core.specs.declared.multiplexing.MuxError.TheVariants.{Feed}
 use Rattle.mux_core.proofs.UnitCounts.{own_units, other_units, units_append}
 

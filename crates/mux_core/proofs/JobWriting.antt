@@ -1,11 +1,10 @@
 -- The slots of a job, written one by one.
-use Rattle.std.proofs.Common.{◌≡◌, ℕ, zero, suc, ◌+◌, ◌-◌, ◌*◌, ◌<◌, ◌≤◌, ◌^◌, Bool, true, false, List, [], ◌∷◌, ◌++◌, length, Option, Some, None, Result, Ok, Err, refl, sym, ap, ◌∙◌, subst, arith, append_assoc, append-nil}
-use Rattle.std.proofs.lemmas.List.{length-append}
+use Rattle.std.proofs.Common.{◌≡◌, ℕ, zero, suc, ◌+◌, ◌-◌, ◌<◌, ◌≤◌, ◌^◌, Bool, false, List, [], ◌++◌, Option, Ok, Err, refl, sym, ap, ◌∙◌, subst, arith, append_assoc, append-nil}
 use Rattle.ts_packet.specs.Contents.{Content, packet_of, run_bytes}
 use Rattle.mux_core.specs.Collecting.{Collected, Holds, Took}
 use Rattle.mux_core.specs.PidPackets.{leaving}
 use Rattle.mux_core.specs.Scheduled.{Scheduled}
-use Rattle.mux_core.specs.Histories.{History, content_at, slot_more}
+use Rattle.mux_core.specs.Histories.{History, content_at}
 use Rattle.mux_core.specs.Standing.{Mixer, Stands, Gives}
 use Rattle.mux_core.specs.Multiplexing.{run_output}
 use Rattle.mux_core.specs.declared.done.Done.{Done}

@@ -1,6 +1,6 @@
 -- The room that a job takes for its units is enough: none is refused for want of room but a stream's unit number 1,048,577.
-use Rattle.std.proofs.Common.{◌≡◌, ◌≢◌, ℕ, zero, suc, ◌+◌, ◌<◌, ◌≤◌, min, max, Bool, true, false, cond, nat_lt, List, [], ◌∷◌, ◌++◌, length, Option, Some, None, refl, sym, ap, ◌∙◌, subst, arith, inl, inr, append_assoc}
-use Rattle.std.specs.Prelude.{slice_get, nat_le}
+use Rattle.std.proofs.Common.{◌≡◌, ℕ, suc, ◌+◌, ◌<◌, ◌≤◌, Bool, true, false, cond, nat_lt, List, [], ◌∷◌, ◌++◌, length, Option, Some, None, refl, sym, ap, ◌∙◌, subst, arith, inl, inr, append_assoc}
+use Rattle.std.specs.Prelude.{slice_get}
 use Rattle.std.proofs.lemmas.Bool.{lt-leb, cases_eq, cases_lt}
 use Rattle.std.proofs.lemmas.List.{length-append}
 use Rattle.pes_packet.specs.AccessUnits.{AccessUnit}
@@ -9,7 +9,7 @@ use Rattle.description.specs.Described.{DescribedStream}
 use Rattle.own_slots.specs.Slots.{own_before}
 use Rattle.unit_queue.specs.Lanes.{Lane, end_slot, packet_count}
 use Rattle.unit_queue.specs.Places.{Left, left_at, left_before}
-use Rattle.unit_queue.specs.Causes.{first_cause, is_late, is_full, exceeds_group, earliest_of, unit_cause}
+use Rattle.unit_queue.specs.Causes.{first_cause, is_late, is_full, exceeds_group, earliest_of}
 use Rattle.unit_queue.specs.declared.refusal.FeedError.{FeedError}
 use Rattle.mux_core.specs.Scheduled.{Scheduled}
 use Rattle.mux_core.specs.Histories.{lane_of}

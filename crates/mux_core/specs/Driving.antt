@@ -1,10 +1,9 @@
 -- Units fed and slots written in any order, and the history that they leave.
 use Rattle.std.specs.Prelude.{◌≡◌, ◌^◌, ℕ, nat_lt, cond, List, [], ◌∷◌, ◌++◌, slice_get, Option, Some, None}
 use Rattle.pes_packet.specs.AccessUnits.{AccessUnit}
-use Rattle.ts_packet.specs.Contents.{packet_of}
 use Rattle.unit_queue.specs.declared.refusal.FeedError.{FeedError}
 use Rattle.mux_core.specs.Scheduled.{Scheduled}
-use Rattle.mux_core.specs.Histories.{History, content_at, bytes_of, empty_history, slot_more, with_unit}
+use Rattle.mux_core.specs.Histories.{History, bytes_of, empty_history, slot_more, with_unit}
 use Rattle.mux_core.specs.Standing.{Mixer, Stands, feed_cause}
 use Rattle.mux_core.specs.declared.driving.Event.{Event}
 use Rattle.mux_core.specs.declared.driving.Event.TheVariants.{Feed, Slot}

@@ -15,7 +15,6 @@ use Rattle.mux_core.specs.Standing.{Mixer, Stands, feed_cause}
 use Rattle.mux_core.specs.Making.{is_periods}
 use Rattle.mux_core.specs.Collecting.{byte_count, Took}
 use Rattle.mux_core.specs.PidPackets.{leaving}
-use Rattle.mux_core.specs.Headline.{Headline}
 use Rattle.mux_core.specs.declared.multiplexing.MuxError.{MuxError}
 use Rattle.mux_core.specs.declared.multiplexing.MuxError.TheVariants.{TooManySlots, Periods, Feed, Device, Memory}
 

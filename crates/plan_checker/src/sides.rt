@@ -1,6 +1,6 @@
 //! The two sides of the conditions that multiply: whole numbers of up to 128 bits.
 
-ghost use Rattle.std.specs.Prelude.{◌≡◌, ◌+◌, ◌-◌, ◌*◌, ◌/◌, ◌^◌, ◌<◌, ◌≤◌, max};
+ghost use Rattle.std.specs.Prelude.{◌≡◌, ◌+◌, ◌-◌, ◌*◌, ◌/◌, ◌^◌, ◌<◌, ◌≤◌};
 ghost use Rattle.clock27.specs.Release.{slot_units};
 ghost use Rattle.clock27.specs.Units.{byte_units};
 ghost use Rattle.own_slots.specs.Spread.{most_within};

@@ -1,7 +1,6 @@
 //! The spread of an item's own slots.
 
 ghost use Rattle.std.specs.Prelude.{◌≡◌, ◌+◌, ◌*◌, ◌≤◌, length};
-ghost use Rattle.own_slots.specs.Period.{per_period};
 ghost use Rattle.own_slots.specs.Spread.{spread};
 ghost use Rattle.slot_plan.specs.Items.{marks};
 

@@ -1,7 +1,5 @@
-use Rattle.std.proofs.Common.{◌≡◌, ◌∷◌, [], ℕ, List, length, map, refl, sym, ap, ◌∙◌, subst, arith, rules}
-use Rattle.pes_packet.specs.Units.{units_of}
-use Rattle.mux_core.specs.Histories.{History, bytes_of}
-use Rattle.mux_core.specs.Standing.{Mixer}
+use Rattle.std.proofs.Common.{◌≡◌, ◌∷◌, [], ℕ, List, length, map, sym, ap, ◌∙◌, subst, arith, rules}
+use Rattle.mux_core.specs.Histories.{bytes_of}
 use Rattle.mux_core.specs.Headline.{Headline}
 use Rattle.mux_core.specs.declared.driving.Event.{Event}
 use Rattle.mux_core.specs.Driving.{Step, FeedStep, SlotStep, shown, history_after, Adds, StandsOn}

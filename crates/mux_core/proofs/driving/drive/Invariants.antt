@@ -1,4 +1,4 @@
-use Rattle.std.proofs.Common.{◌≡◌, ◌≤◌, ◌+◌, ◌*◌, length, map}
+use Rattle.std.proofs.Common.{◌≤◌, ◌+◌, ◌*◌, length, map}
 use Rattle.std.specs.Vec.{vec_len, vec_capacity}
 use Rattle.mux_core.specs.Histories.{History}
 use Rattle.mux_core.specs.Standing.{Stands}

@@ -1,4 +1,4 @@
-use Rattle.std.proofs.Common.{◌≡◌, ◌+◌, ◌≤◌, ◌^◌, length}
+use Rattle.std.proofs.Common.{◌+◌, ◌≤◌, ◌^◌, length}
 use Rattle.mux_core.specs.Histories.{empty_history}
 use Rattle.mux_core.specs.Standing.{Stands}
 use Rattle.mux_core.proofs.JobFeeding.{FedSoFar}

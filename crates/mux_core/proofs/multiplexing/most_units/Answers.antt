@@ -1,4 +1,4 @@
-use Rattle.std.proofs.Common.{refl, ◌∙◌, ◌-◌, arith, sym, ap}
+use Rattle.std.proofs.Common.{refl, ◌∙◌, ◌-◌, arith}
 use Rattle.std.proofs.lemmas.List.{length-set}
 use Rattle.plan_checker.proofs.Extremes.{max_is}
 use Rattle.mux_core.proofs.UnitCounts.{counts_none, count_own, most_none, most_more}

@@ -1,4 +1,3 @@
-use Rattle.std.proofs.Common.{[]}
 use Rattle.mux_core.proofs.JobDone.{holds_empty}
 use Rattle.mux_core.proofs.multiplexing.write_all.Goals as goal
 

@@ -1,6 +1,6 @@
 use Rattle.std.proofs.Common.{refl, ap}
 use Rattle.mux_core.specs.Collecting.{Collected}
-use Rattle.mux_core.specs.Multiplexing.{job_history, slot_size}
+use Rattle.mux_core.specs.Multiplexing.{job_history}
 use Rattle.mux_core.proofs.JobDone.{cause_is, answers, writes, sends, on_writing, output_short, fed_size, fed_short, fed_headline, fed_writes}
 use Rattle.mux_core.proofs.multiplexing.write_job.Goals as goal
 
