@@ -53,7 +53,10 @@ fn memory_for_one_plan(rt: HostRuntime) -> Result<(), Fail> {
 }
 
 // The plan, and then the plan again.
-fn twice<A: Allocator + Copy>(global: Global, alloc: A) -> Result<CheckedSwitch<A>, Fail> {
+pub(super) fn twice<A: Allocator + Copy>(
+    global: Global,
+    alloc: A,
+) -> Result<CheckedSwitch<A>, Fail> {
     let (second, _) = Plan::read_text(alloc, BASE_PLAN.as_bytes())?;
     match check_switch(checked(global, alloc, "lead = 1600", GROUP)?, second) {
         Ok(switch) => Ok(switch),

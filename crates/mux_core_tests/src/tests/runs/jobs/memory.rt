@@ -1,8 +1,9 @@
 //! Each request for memory refused in turn: Memory with nothing written, or the job.
 
 use crate::tests::runs::checked;
+use crate::tests::runs::memory::twice;
 use linked_list_allocator::LocalHeap;
-use mux_core::{MuxError, Unit, multiplex};
+use mux_core::{MuxError, Unit, multiplex, multiplex_switch};
 use std::alloc::{Allocator, Global};
 use std::test::Fail;
 use ts_packet::Counted;
@@ -22,6 +23,15 @@ fn units<A: Allocator + Copy>(alloc: A) -> Result<Vec<(u8, Unit<A>), A>, Fail> {
     Ok(units)
 }
 
+// Whether 18 slots are written; where they are not, memory is wanting, and nothing is.
+fn is_whole(answer: Result<u64, MuxError>, length: usize) -> Result<bool, Fail> {
+    match (answer, length) {
+        (Ok(3_384), 3_384) => Ok(true),
+        (Err(MuxError::Memory), 0) => Ok(false),
+        _ => Err(Fail::from("another answer")),
+    }
+}
+
 // Whether a job of 18 slots is written, where it may take so many bytes beside its plan and its unit.
 fn is_written(global: Global, size: usize) -> Result<bool, Fail> {
     let given = LocalHeap::new(global, 16_384)?;
@@ -31,18 +41,32 @@ fn is_written(global: Global, size: usize) -> Result<bool, Fail> {
     let mut to = Counted::new(Vec::new(global));
     let answer = multiplex(&heap, plan, units, 18, &mut to);
     let output = to.into_inner();
-    match (answer, output.len()) {
-        (Ok(3_384), 3_384) => Ok(true),
-        (Err(MuxError::Memory), 0) => Ok(false),
-        _ => Err(Fail::from("another answer")),
-    }
+    is_whole(answer, output.len())
+}
+
+// The same over the plan and, after it, the plan again.
+fn is_written_by_two(global: Global, size: usize) -> Result<bool, Fail> {
+    let given = LocalHeap::new(global, 16_384)?;
+    let heap = LocalHeap::new(global, size)?;
+    let switch = twice(global, &given)?;
+    let units = units(&given)?;
+    let mut to = Counted::new(Vec::new(global));
+    let answer = multiplex_switch(&heap, switch, 1, units, 18, &mut to);
+    let output = to.into_inner();
+    is_whole(answer, output.len())
 }
 
 // How many of 64 jobs are written, each with room for so many bytes more than the last, and the first with none.
-fn written(global: Global, more: u16) -> Result<usize, Fail> {
+fn written(global: Global, two: bool, more: u16) -> Result<usize, Fail> {
     let mut written = 0usize;
     for n in 0..64usize {
-        if is_written(global, n * more as usize)? {
+        let room = n * more as usize;
+        let is_whole = if two {
+            is_written_by_two(global, room)?
+        } else {
+            is_written(global, room)?
+        };
+        if is_whole {
             written = written.saturating_add(1);
         }
     }
@@ -52,8 +76,10 @@ fn written(global: Global, more: u16) -> Result<usize, Fail> {
 // No room for the units that wait, for the sections, for the output; and room for all.
 #[test]
 fn memory_for_a_job(rt: HostRuntime) -> Result<(), Fail> {
-    assert_eq!(rt; written(rt.alloc(), 16)?, 0);
-    let written = written(rt.alloc(), 4_096)?;
-    assert!(rt; 0 < written && written < 63, "{written}");
+    for two in [false, true] {
+        assert_eq!(rt; written(rt.alloc(), two, 16)?, 0);
+        let written = written(rt.alloc(), two, 4_096)?;
+        assert!(rt; 0 < written && written < 63, "{written}");
+    }
     Ok(())
 }
