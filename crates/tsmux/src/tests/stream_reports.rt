@@ -3,7 +3,7 @@ use super::finding_list::stream;
 use super::plan_checks::{DESCRIPTION, PLAN, job};
 use super::{assert_told, assert_usage, ran, ran_on};
 use crate::program::run;
-use std::alloc::Global;
+use std::alloc::{AllocError, Global};
 use std::process::Abort;
 use std::test::Fail;
 use ts_packet::{Counted, Failing};
@@ -11,12 +11,19 @@ use ts_packet::{Counted, Failing};
 /// The service at its rate.
 const WORDS: &[&str] = &["monitor", "--rate", "1504000"];
 
-/// The report on a packet, the same again, and the same with another last byte.
+/// The report on three packets.
 const THREE: &[u8] = b"packets 3
 pid 256 packets 3 starts 3 duplicates 1 scrambled 0
 fault 2 256 counter
 faults 1
 ";
+
+/// A packet, the same again, and the same with another last byte.
+fn three_packets(alloc: Global) -> Result<Vec<u8>, AllocError> {
+    let mut bytes = stream(alloc)?;
+    bytes.truncate(564);
+    Ok(bytes)
+}
 
 fn assert_reports(
     rt: &impl Abort,
@@ -35,9 +42,10 @@ fn assert_reports(
 #[test]
 fn reports_on_packets(rt: HostRuntime) -> Result<(), Fail> {
     let alloc = rt.alloc();
+    let three = three_packets(alloc)?;
     let bytes = stream(alloc)?;
     assert_reports(&rt, alloc, WORDS, b"", 0, b"packets 0\nfaults 0\n");
-    assert_reports(&rt, alloc, WORDS, &bytes[..564], 1, THREE);
+    assert_reports(&rt, alloc, WORDS, three.as_slice(), 1, THREE);
     let cut = b"packets 3
 pid 256 packets 3 starts 3 duplicates 1 scrambled 0
 fault 2 256 counter
@@ -143,9 +151,9 @@ fn tells_of_a_reader_of_a_stream(rt: HostRuntime) -> Result<(), Fail> {
 #[test]
 fn tells_of_a_writer_of_a_report(rt: HostRuntime) -> Result<(), Fail> {
     let alloc = rt.alloc();
-    let bytes = stream(alloc)?;
+    let bytes = three_packets(alloc)?;
     for taken in 0..THREE.len() as u64 {
-        let mut input = Counted::new(&bytes[..564]);
+        let mut input = Counted::new(bytes.as_slice());
         let mut output = Counted::new(Failing::after_bytes(Vec::new(alloc), taken));
         let mut faults = Counted::new(Vec::new(alloc));
         let status = run(alloc, WORDS, &mut input, &mut output, &mut faults);
