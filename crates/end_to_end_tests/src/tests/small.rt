@@ -1,6 +1,8 @@
 //! A small service through the multiplexer and back: 1,000 slots a second, 90 units of 90 kHz a slot.
 
+use clock27::Rate;
 use demux::{Finding, Part, What, whole};
+use monitor::report;
 use mux_core::{Mux, Unit};
 use pes_packet::Stamps;
 use plan_checker::check;
@@ -101,13 +103,13 @@ fn feed(mux: &mut Mux, alloc: Global, dts: u64, pts: u64) -> Result<(), Fail> {
     }
 }
 
-// The first 40 packets.
-fn output(alloc: Global) -> Result<Vec<u8>, Fail> {
+// So many packets.
+fn output(alloc: Global, packets: u32) -> Result<Vec<u8>, Fail> {
     let mut mux = mux(alloc)?;
     feed(&mut mux, alloc, 2_000, 2_500)?;
     feed(&mut mux, alloc, 4_160, 4_660)?;
     let mut bytes = Vec::new(alloc);
-    for _ in 0..40 {
+    for _ in 0..packets {
         let Ok(packet) = mux.next_packet() else {
             return Err(Fail::from("done"));
         };
@@ -147,7 +149,7 @@ fn row(finding: &Finding<'_>) -> Row {
 #[test]
 fn what_goes_in_comes_back(rt: HostRuntime) -> Result<(), Fail> {
     let alloc = rt.alloc();
-    let bytes = output(alloc)?;
+    let bytes = output(alloc, 40)?;
     let found = whole(alloc, bytes.as_slice())?;
     let mut rows = Vec::new(alloc);
     for finding in found.as_slice() {
@@ -179,11 +181,28 @@ fn is_unit(finding: &Finding<'_>) -> bool {
 #[test]
 fn a_unit_comes_back_with_its_stamps(rt: HostRuntime) -> Result<(), Fail> {
     let alloc = rt.alloc();
-    let bytes = output(alloc)?;
+    let bytes = output(alloc, 40)?;
     let found = whole(alloc, bytes.as_slice())?;
     match found.as_slice().get(6) {
         Some(finding) => assert!(rt; is_unit(finding)),
         None => assert!(rt; false, "a unit"),
+    }
+    Ok(())
+}
+
+// A rate in bits a second, and how many faults 2,200 packets have at it. At the description's, none. At a tenth of it PAT
+// and PMT come every 1,200 ms, 18 times more after the first each, and clock references every 240 ms, 91 times more.
+const FAULTS: [(u64, usize); 2] = [(1_504_000, 0), (150_400, 127)];
+
+#[test]
+fn a_monitor_reports_nothing(rt: HostRuntime) -> Result<(), Fail> {
+    let alloc = rt.alloc();
+    let bytes = output(alloc, 2_200)?;
+    for (bits, faults) in FAULTS {
+        let rate = Rate::new(bits)?;
+        let report = report(alloc, rate, 40, bytes.as_slice())?;
+        assert_eq!(rt; report.packets(), 2_200);
+        assert_eq!(rt; report.faults().len(), faults);
     }
     Ok(())
 }
