@@ -1,28 +1,26 @@
 -- PES packets with a PTS begin in time on each PID, where units come often and each section can be told.
-use Rattle.std.proofs.Common.{◌≡◌, ℕ, zero, suc, ◌+◌, ◌-◌, ◌*◌, ◌/◌, ◌^◌, ◌<◌, ◌≤◌, ◌==◌, min, Bool, true, false, List, [], ◌∷◌, ◌++◌, length, map, take, drop, Some, slice_get, refl, sym, ap, subst, ◌∙◌, arith, All, inl, inr, if◌then◌else◌}
+use Rattle.std.proofs.Common.{◌≡◌, ℕ, zero, suc, ◌+◌, ◌-◌, ◌*◌, ◌/◌, ◌^◌, ◌<◌, ◌≤◌, ◌==◌, Bool, false, List, [], ◌∷◌, ◌++◌, length, map, take, drop, Some, slice_get, refl, sym, ap, subst, ◌∙◌, arith, All, inl, inr, if◌then◌else◌}
 use Rattle.std.proofs.Math.Nat.{mul-le-mul_right}
 use Rattle.std.proofs.lemmas.Bool.{cases_Bool}
 use Rattle.std.proofs.lemmas.List.{length-drop, length-take, drop_all}
 use Rattle.std.proofs.lemmas.List.Elements.{All-head, All-take}
 use Rattle.clock27.specs.Release.{release}
-use Rattle.own_slots.specs.Slots.{own_before, own_slots}
+use Rattle.own_slots.specs.Slots.{own_slots}
 use Rattle.pes_packet.specs.AccessUnits.{AccessUnit}
 use Rattle.ts_packet.specs.PidList.{pid_list}
-use Rattle.ts_packet.specs.Contents.{Content, run_bytes}
+use Rattle.ts_packet.specs.Contents.{run_bytes}
 use Rattle.ts_packet.specs.RunLaws.{Fits}
 use Rattle.ts_packet.proofs.Runs.{run_length}
 use Rattle.description.specs.Described.{DescribedStream}
 use Rattle.description.specs.Ranges.{IsInRange}
-use Rattle.description.specs.Tables.{table_count, table_pid}
+use Rattle.description.specs.Tables.{table_pid}
 use Rattle.description.proofs.Pids.{stream_range}
 use Rattle.demux.specs.Findings.{findings_to_end}
-use Rattle.demux.specs.Laws.{told_at}
 use Rattle.slot_plan.specs.declared.slot.Item.TheVariants.{Stream as StreamItem}
 use Rattle.slot_plan.specs.Schedule.{owned}
 use Rattle.plan_timing.specs.Promised.{declaration, Promised}
 use Rattle.tstd.specs.Carried.{timed_texts}
 use Rattle.unit_timing.specs.Plans.{Keeps}
-use Rattle.unit_timing.specs.Schedule.{first_slot as first_own_slot}
 use Rattle.unit_queue.specs.Lanes.{Lane, timed, packet_count, first_slot, end_slot}
 use Rattle.unit_queue.proofs.Leftover.{count_some, first_free, first_released}
 use Rattle.monitor.specs.Gaps.{late}

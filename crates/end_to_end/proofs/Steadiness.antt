@@ -1,5 +1,5 @@
 -- A run of which units come often has no fault by any rule.
-use Rattle.std.proofs.Common.{◌≡◌, ℕ, ◌-◌, ◌^◌, ◌<◌, ◌≤◌, List, [], sym, subst, ◌∙◌, arith}
+use Rattle.std.proofs.Common.{◌≡◌, ℕ, List, [], sym, subst, ◌∙◌, arith}
 use Rattle.pes_packet.specs.Units.{units_of}
 use Rattle.ts_packet.specs.Contents.{run_bytes}
 use Rattle.monitor.specs.declared.fault.Rule.TheVariants as rules

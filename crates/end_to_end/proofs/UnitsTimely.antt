@@ -1,5 +1,5 @@
 -- Each unit begins, of all that is sent of it, no earlier than its lead before its decoding time, and no later than that.
-use Rattle.std.proofs.Common.{◌≡◌, ℕ, zero, suc, ◌+◌, ◌-◌, ◌*◌, ◌/◌, ◌<◌, ◌≤◌, min, Bool, List, [], ◌∷◌, ◌++◌, length, take, drop, refl, sym, ap, subst, ◌∙◌, arith, All, inl, inr}
+use Rattle.std.proofs.Common.{◌≡◌, ℕ, zero, suc, ◌+◌, ◌-◌, ◌*◌, ◌<◌, ◌≤◌, min, Bool, List, [], ◌∷◌, ◌++◌, length, take, drop, refl, ap, subst, ◌∙◌, arith, All, inl, inr}
 use Rattle.std.proofs.Math.Nat.{mul-le-mul_right}
 use Rattle.std.proofs.lemmas.Bool.{cases_Bool, cases_lt}
 use Rattle.std.proofs.lemmas.List.{append_assoc, length-drop, length-take}
@@ -11,7 +11,7 @@ use Rattle.clock27.proofs.Leaving.{length-departures, earliest, row}
 use Rattle.own_slots.specs.Slots.{own_before, own_slots}
 use Rattle.own_slots.proofs.Counting.{own_before_own, own_before_other, own_before_lt}
 use Rattle.unit_timing.specs.PesPacket.{PesPacket, pieces_of}
-use Rattle.unit_timing.specs.Schedule.{Packet, first_slot, cut, packets_in_slots}
+use Rattle.unit_timing.specs.Schedule.{first_slot, cut, packets_in_slots}
 use Rattle.unit_timing.specs.Transport.{pes_left}
 use Rattle.unit_timing.specs.Arrived.{AllLeft}
 use Rattle.unit_timing.proofs.Filling.{length-bytes_from, pes_left-cons}

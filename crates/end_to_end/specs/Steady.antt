@@ -20,8 +20,8 @@ use Rattle.end_to_end.specs.Monitored.{IsWide}
 abbrev pub greatest_gap : ℕ
 greatest_gap = 63000
 
--- each unit has its DTS no later than 700 ms less the lead after that of the one before, so that it begins within 700 ms of that one even where
--- that one is sent as early as it may be and it itself as late
+-- the DTS of each unit is at most 700 ms less the lead after that of the one before: so it begins within 700 ms after that one, even where that
+-- one is sent as early as it may be, and it itself as late
 unfoldable pub FollowSoon : ℕ → ℕ → List AccessUnit → Type 0
 FollowSoon lead before [] = Unit {0}
 FollowSoon lead before (u ∷ us) = (u.dts + lead ≤ before + greatest_gap) × FollowSoon lead u.dts us
