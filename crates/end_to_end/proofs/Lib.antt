@@ -25,4 +25,8 @@ pub mod MapsNamed
 pub mod MapsRecur
 pub mod InTime
 pub mod MonitoredJobs
+pub mod UnitHeads
+pub mod UnitsTimely
+pub mod StampsRecur
 pub mod Reporting
+pub mod Steadiness

@@ -18,7 +18,7 @@ kept_of : (d : Scheduled) (capacity : ℕ) (h : History) → IsInRange d.descrip
 kept_of d capacity h r w =
     subst (λ (x : Scheduled). UnitsKept x h.units) w.line (units_kept h w.mixer (subst (λ (x : Scheduled). IsInRange x.description) (sym w.line) r) w.stands)
 
-job_kept : (d : Scheduled) (units : List (ℕ × AccessUnit)) → IsInRange d.description → first_refused d (capacity_for units) [] units ≡ None →
+pub job_kept : (d : Scheduled) (units : List (ℕ × AccessUnit)) → IsInRange d.description → first_refused d (capacity_for units) [] units ≡ None →
     UnitsKept d (λ k. units_of k units)
 job_kept d units r none = kept_of d (capacity_for units) (job_history units 0) r (job_stands d units r none)
 

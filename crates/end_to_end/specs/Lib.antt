@@ -6,3 +6,4 @@ pub mod CarriedBack
 pub mod Jobs
 pub mod Monitored
 pub mod Reported
+pub mod Steady

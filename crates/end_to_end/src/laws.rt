@@ -4,6 +4,7 @@ ghost use Rattle.end_to_end.specs.Clean.{CleanLaw, StandingCleanLaw, DrivenClean
 ghost use Rattle.end_to_end.specs.Jobs.{JobLaw, JobCleanLaw};
 ghost use Rattle.end_to_end.specs.Monitored.{SoundLaw, StandingSoundLaw, JobSoundLaw, InTimeLaw, StandingInTimeLaw, JobInTimeLaw};
 ghost use Rattle.end_to_end.specs.Reported.{ReportedLaw, StandingReportedLaw, JobReportedLaw};
+ghost use Rattle.end_to_end.specs.Steady.{SteadyLaw, StandingSteadyLaw, JobSteadyLaw};
 ghost use Rattle.end_to_end.specs.CarriedBack.{CarriedBackLaw, AcceptedUnitsFit};
 
 /// The bytes of a run, demultiplexed with their end, give back on each stream's PID exactly its units, in order: each that
@@ -63,4 +64,12 @@ pub fn monitored_whole()
     ensures whole { ReportedLaw }
     ensures standing { StandingReportedLaw }
     ensures jobs { JobReportedLaw }
+{}
+
+/// And there is no fault at all where each unit's DTS is at most 700 ms less the stream's lead after that of the one before,
+/// and no ready-made section is taken for a PES packet or for stuffing.
+pub fn monitored_steady()
+    ensures whole { SteadyLaw }
+    ensures standing { StandingSteadyLaw }
+    ensures jobs { JobSteadyLaw }
 {}

@@ -8,7 +8,7 @@
 //! Definitions stand in `specs/`: `Placed` says which slots carry which unit and which section, `Told` which ready-made
 //! sections are taken for something else, `GivenBack` what is found of all of them, `Clean` what is never found; `Jobs`
 //! says the same of a whole job, `CarriedBack` of what `carry` writes; `Monitored` says what a monitor never
-//! reports, `Reported` what is left of all its rules.
+//! reports, `Reported` what is left of all its rules, `Steady` where nothing is.
 //!
 //! - [`laws`]: what is given back, that nothing is wrong with it, also by `monitor`'s rules, and the same of whole jobs and
 //!   of `carry`.

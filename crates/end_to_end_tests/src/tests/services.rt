@@ -1,163 +1,91 @@
-//! Services with all their tables: a network, a schedule, and the time.
+//! Two services: what goes into them, and what is to be found.
 
-/// Two programs of one stream each, whose units come in groups; 1,000 slots a second, 90 units of 90 kHz a slot. The clock's
-/// first value is 92 units before it comes round.
-pub const TWO_PROGRAMS: &str = "rate = 1504000
-start = \"1993-10-13T12:45:00\"
-ts_id = 1
-original_network_id = 1
-base0 = 8589934500
-sdt = true
-tdt = true
+use super::sources::Source;
+use super::texts::{FIRST_PLAN, RADIO, RADIO_PLAN, SECOND_PLAN, TWO_PROGRAMS};
 
-[network]
-id = 1
-name = \"Net\"
+/// A service, with as many findings as it has units and sections.
+pub struct Service {
+    pub description: &'static str,
+    pub plan: &'static str,
+    pub second: Option<&'static str>,
+    pub slots: u64,
+    pub base0: u64,
+    pub sources: &'static [Source],
+    pub table_pids: &'static [u16],
+    pub pat: &'static [u8],
+    pub sections: usize,
+    pub findings: usize,
+}
 
-[[program]]
-number = 1
-pmt_pid = 4096
-pcr_pid = 257
-service_type = 2
-name = \"One\"
+pub const SERVICES: [Service; 2] = [
+    Service {
+        description: TWO_PROGRAMS,
+        plan: FIRST_PLAN,
+        second: Some(SECOND_PLAN),
+        slots: 600,
+        base0: 8_589_934_500,
+        sources: &TWO_SOURCES,
+        table_pids: &[0, 4096, 4097, 0x10, 0x11, 0x12, 0x14],
+        pat: &PAT_OF_TWO,
+        sections: 5,
+        findings: 174,
+    },
+    Service {
+        description: RADIO,
+        plan: RADIO_PLAN,
+        second: None,
+        slots: 6_000,
+        base0: 0,
+        sources: &ONE_SOURCE,
+        table_pids: &[0, 4096, 0x10, 0x11, 0x12, 0x14],
+        pat: &PAT_OF_ONE,
+        sections: 50,
+        findings: 544,
+    },
+];
 
-[[program]]
-number = 2
-pmt_pid = 4097
-pcr_pid = 513
-service_type = 2
-name = \"Two\"
+// Of two successive units of stream 0 there are 4 packets, of four of stream 1 there are 8.
+const TWO_SOURCES: [Source; 2] = [
+    Source {
+        stream: 0,
+        pid: 256,
+        id: 192,
+        sizes: [533, 165, 533, 165],
+        first: 1_800,
+        interval: 720,
+        held: 180,
+        count: 70,
+    },
+    Source {
+        stream: 1,
+        pid: 512,
+        id: 193,
+        sizes: [576, 170, 354, 170],
+        first: 2_600,
+        interval: 720,
+        held: 0,
+        count: 69,
+    },
+];
 
-[[stream]]
-program = 1
-pid = 256
-id = 192
-type = 3
-interval = 720
-group = 2
-group_packets = 4
-size = 533
-lead = 1700
-language = \"eng\"
+const ONE_SOURCE: [Source; 1] = [Source {
+    stream: 0,
+    pid: 256,
+    id: 192,
+    sizes: [576; 4],
+    first: 12_960,
+    interval: 2_160,
+    held: 0,
+    count: 244,
+}];
 
-[[stream]]
-program = 2
-pid = 512
-id = 193
-type = 3
-interval = 720
-group = 4
-group_packets = 8
-size = 576
-lead = 2500
+// The PID of the network, and those of the maps.
+const PAT_OF_TWO: [u8; 24] = [
+    0x00, 0xb0, 0x15, 0x00, 0x01, 0xc1, 0x00, 0x00, 0x00, 0x00, 0xe0, 0x10, 0x00, 0x01, 0xf0, 0x00,
+    0x00, 0x02, 0xf0, 0x01, 0xf5, 0x01, 0x21, 0x58,
+];
 
-[[event]]
-program = 1
-id = 7
-start = \"1993-10-13T12:45:00\"
-duration = 5400
-language = \"eng\"
-name = \"News\"
-text = \"\"
-
-[[event]]
-program = 2
-id = 8
-start = \"1993-10-13T12:45:00\"
-duration = 3600
-language = \"eng\"
-name = \"Music\"
-text = \"\"
-";
-
-/// Its plan: each stream has every fourth slot, each table one slot of 120.
-pub const FIRST_PLAN: &str = "tsplan 1
-period 120
-S0 S1 P0 P1 S0 S1 T0 T1 S0 S1 T2 T3 S0 S1 T4 T5 S0 S1 T6 - S0 S1 - -
-S0 S1 P0 P1 S0 S1 - - S0 S1 - - S0 S1 - - S0 S1 - - S0 S1 - -
-S0 S1 P0 P1 S0 S1 - - S0 S1 - - S0 S1 - - S0 S1 - - S0 S1 - -
-S0 S1 P0 P1 S0 S1 - - S0 S1 - - S0 S1 - - S0 S1 - - S0 S1 - -
-S0 S1 P0 P1 S0 S1 - - S0 S1 - - S0 S1 - - S0 S1 - - S0 S1 - -
-stream 0 spread 0 start 0 peak 282752000
-stream 1 spread 0 start 0 peak 282752000
-program 0 tstart 0 tpeak 377504000 bstart 0 bpeak 550464000
-program 1 tstart 0 tpeak 282752000 bstart 0 bpeak 505344000
-end
-";
-
-/// The plan with each slot one place later, the last one first.
-pub const SECOND_PLAN: &str = "tsplan 1
-period 120
-- S0 S1 P0 P1 S0 S1 T0 T1 S0 S1 T2 T3 S0 S1 T4 T5 S0 S1 T6 - S0 S1 -
-- S0 S1 P0 P1 S0 S1 - - S0 S1 - - S0 S1 - - S0 S1 - - S0 S1 -
-- S0 S1 P0 P1 S0 S1 - - S0 S1 - - S0 S1 - - S0 S1 - - S0 S1 -
-- S0 S1 P0 P1 S0 S1 - - S0 S1 - - S0 S1 - - S0 S1 - - S0 S1 -
-- S0 S1 P0 P1 S0 S1 - - S0 S1 - - S0 S1 - - S0 S1 - - S0 S1 -
-stream 0 spread 0 start 0 peak 282752000
-stream 1 spread 0 start 0 peak 282752000
-program 0 tstart 0 tpeak 377504000 bstart 0 bpeak 550464000
-program 1 tstart 0 tpeak 282752000 bstart 0 bpeak 505344000
-end
-";
-
-/// The radio service of the examples: one program of one stream.
-pub const RADIO: &str = "rate = 1504000
-start = \"2026-03-29T00:59:50\"
-ts_id = 1
-original_network_id = 1
-sdt = true
-tdt = true
-
-[network]
-id = 1
-name = \"Test Net\"
-
-[[program]]
-number = 1
-pmt_pid = 4096
-pcr_pid = 257
-service_type = 2
-provider = \"Lab\"
-name = \"Service 1\"
-
-[[stream]]
-program = 1
-pid = 256
-id = 192
-type = 3
-interval = 2160
-size = 576
-lead = 12960
-language = \"eng\"
-
-[[event]]
-program = 1
-id = 10
-start = \"2026-03-29T00:59:00\"
-duration = 55
-language = \"eng\"
-name = \"Now\"
-text = \"Test\"
-
-[[event]]
-program = 1
-id = 11
-start = \"2026-03-29T00:59:55\"
-duration = 3600
-language = \"eng\"
-name = \"Next é\"
-text = \"Test\"
-";
-
-/// Its plan.
-pub const RADIO_PLAN: &str = "tsplan 1
-period 120
-S0 P0 T0 T1 S0 T3 T2 T4 S0 T5 - - S0 - - - S0 - - - S0 - - -
-S0 P0 - - S0 - - - S0 - - - S0 - - - S0 - - - S0 - - -
-S0 P0 - - S0 - - - S0 - - - S0 - - - S0 - - - S0 - - -
-S0 P0 - - S0 - - - S0 - - - S0 - - - S0 - - - S0 - - -
-S0 P0 - - S0 - - - S0 - - - S0 - - - S0 - - - S0 - - -
-stream 0 spread 0 start 0 peak 282752000
-program 0 tstart 0 tpeak 377504000 bstart 0 bpeak 550464000
-end
-";
+const PAT_OF_ONE: [u8; 20] = [
+    0x00, 0xb0, 0x11, 0x00, 0x01, 0xc1, 0x00, 0x00, 0x00, 0x00, 0xe0, 0x10, 0x00, 0x01, 0xf0, 0x00,
+    0x5c, 0xee, 0x3e, 0x59,
+];
