@@ -5,7 +5,7 @@ BINARY = crates/tsmux/out/tsmux
 .PHONY: run try test bench binary clean
 
 # The main job on an example: a plan is made for a radio service, and its 167 access units, four seconds of MPEG audio, become
-# a transport stream with all its tables; what is in that stream is listed.
+# a transport stream with all its tables; what is in that stream is listed, and the monitor reports on it.
 run: binary
 	mkdir -p out
 	$(BINARY) plan < examples/radio/radio.toml > out/radio.plan
@@ -14,6 +14,7 @@ run: binary
 	@ls -l out/radio.ts
 	$(BINARY) demux < out/radio.ts > out/radio.findings
 	@tail -n 1 out/radio.findings
+	$(BINARY) monitor --rate 1504000 < out/radio.ts
 
 # The same program without its proofs, in a minute or two: it makes a plan for the radio service.
 try:
