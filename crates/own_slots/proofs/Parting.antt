@@ -1,8 +1,8 @@
 -- A part of an item's own slots.
-use Rattle.std.proofs.Common.{◌≡◌, ℕ, zero, suc, ◌≤◌, Bool, true, List, [], ◌∷◌, inl, inr, arith}
+use Rattle.std.proofs.Common.{ℕ, zero, suc, Bool, List, [], ◌∷◌, inl, inr, arith}
 use Rattle.std.proofs.lemmas.Bool.{cases_Bool}
 use Rattle.own_slots.specs.Slots.{own_slots, Rises}
-use Rattle.own_slots.specs.Parts.{IsPart, PartLaw}
+use Rattle.own_slots.specs.Parts.{PartLaw}
 
 rises_before : (own : ℕ → Bool) (s : ℕ) (xs : List ℕ) → Rises own (suc s) xs → Rises own s xs
 unfolding Rises
