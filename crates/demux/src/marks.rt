@@ -1,5 +1,5 @@
 //! What a packet of a PID is to the packet before it (ISO/IEC 13818-1, 2.4.3.3).
-ghost use Rattle.std.specs.Prelude.{◌≡◌, false};
+ghost use Rattle.std.specs.Prelude.{◌≡◌, false, Some};
 ghost use Rattle.ts_packet.specs.Views.{packet_view};
 ghost use Rattle.demux.specs.Marks as marks;
 ghost use Rattle.demux.specs.Shown.{entry_with, mark_broken, mark_duplicate};
@@ -85,9 +85,9 @@ pub(crate) fn mark_of(
     follows(last, index, packet, bytes)
 }
 
-/// What is kept of a packet.
+// What is kept of a packet.
 #[tactic(auto, unfolding(crate::specs::Marks::seen))]
-pub(crate) fn seen(mark: Mark, index: u64, packet: &Packet<'_>, bytes: &[u8; 188]) -> Last
+fn seen(mark: Mark, index: u64, packet: &Packet<'_>, bytes: &[u8; 188]) -> Last
     ensures { result ≡ marks.seen (record { entry = entry_with index bytes.now packet.now; duplicate = mark_duplicate mark; broken = mark_broken mark }) }
 {
     Last {
@@ -96,5 +96,28 @@ pub(crate) fn seen(mark: Mark, index: u64, packet: &Packet<'_>, bytes: &[u8; 188
         counter: packet.header.continuity_counter,
         has_pcr: has_pcr(packet),
         bytes: *bytes,
+    }
+}
+
+/// Keeps a packet in the place of the last one; its bytes are written over that one's.
+#[tactic(auto, unfolding(crate::specs::Marks::seen))]
+pub(crate) fn keep(
+    last: &mut Option<Last>,
+    mark: Mark,
+    index: u64,
+    packet: &Packet<'_>,
+    bytes: &[u8; 188],
+)
+    ensures { last.new ≡ Some (marks.seen (record { entry = entry_with index bytes.now packet.now; duplicate = mark_duplicate mark; broken = mark_broken mark })) }
+{
+    match last {
+        None => *last = Some(seen(mark, index, packet, bytes)),
+        Some(kept) => {
+            kept.duplicate = matches!(mark, Mark::Duplicate);
+            kept.has_payload = packet.payload.is_some();
+            kept.counter = packet.header.continuity_counter;
+            kept.has_pcr = has_pcr(packet);
+            kept.bytes = *bytes;
+        }
     }
 }

@@ -9,7 +9,7 @@ use crate::beginnings::begin_pes;
 use crate::endings::{cut_short, end, end_before, go_on};
 use crate::finding::{Finding, What};
 use crate::last::Last;
-use crate::marks::{Mark, mark_of, seen};
+use crate::marks::{Mark, keep, mark_of};
 use crate::open_part::Begun;
 use crate::payload_bytes::PayloadBytes;
 use crate::place::{Place, note};
@@ -206,7 +206,7 @@ impl<A: Allocator + Clone> PidState<A> {
         let mark = mark_of(&self.last, place.packet, packet, bytes);
         let role = role_of(&packet.header, payload);
         read(alloc, place, mark, role, &mut self.part, found)?;
-        self.last = Some(seen(mark, place.packet, packet, bytes));
+        keep(&mut self.last, mark, place.packet, packet, bytes);
         Ok(())
     }
 

@@ -4,10 +4,12 @@ pub mod Subcommands
 pub mod Listing
 pub mod Reading
 pub mod Pieces
+pub mod InputPieces
 pub mod Performances
 pub mod Judging
 pub mod PlanTexts
 pub mod UnitLists
+pub mod LongerJobs
 pub mod MuxJobs
 pub mod Multiplexes
 pub mod Monitored

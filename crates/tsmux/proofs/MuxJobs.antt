@@ -1,5 +1,5 @@
 -- A job and its records, in the terms of a job with its units.
-use Rattle.std.proofs.Common.{◌≡◌, ℕ, Bool, List, [], ap, ◌∙◌, Ok, Err}
+use Rattle.std.proofs.Common.{◌≡◌, ℕ, Bool, List, [], ap, Ok, Err}
 use Rattle.pes_packet.specs.AccessUnits.{AccessUnit}
 use Rattle.mux_core.specs.declared.unit_records.UnitFileError.{UnitFileError}
 use Rattle.tsmux.specs.JobFaults.{plans_view}
@@ -13,14 +13,14 @@ pub job_unread : (switch : Bool) (bytes : List ℕ) (fault : JobFaultView) → E
 unfolding with_records
 job_unread switch bytes fault e = ap with_records e
 
-pub all_read : (switch : Bool) (bytes : List ℕ) (plans : Plans) (rest : List ℕ) (units : List (ℕ × AccessUnit)) →
-    Ok (plans_view plans rest) ≡ job_of switch bytes → Ok units ≡ units_in rest → Ok (served (plans_view plans []) units) ≡ mux_job_of switch bytes
+pub units_read : (plans : Plans) (rest : List ℕ) (units : List (ℕ × AccessUnit)) → Ok units ≡ units_in rest →
+    Ok (served (plans_view plans []) units) ≡ with_records (Ok (plans_view plans rest))
 unfolding with_records with_units
-all_read switch bytes (One c) rest units e u = ap (λ (us : Units). with_units (plans_view (One c) rest) us) u ∙ ap with_records e
-all_read switch bytes (Two c) rest units e u = ap (λ (us : Units). with_units (plans_view (Two c) rest) us) u ∙ ap with_records e
+units_read (One c) rest units u = ap (λ (us : Units). with_units (plans_view (One c) rest) us) u
+units_read (Two c) rest units u = ap (λ (us : Units). with_units (plans_view (Two c) rest) us) u
 
-pub record_unread : (switch : Bool) (bytes : List ℕ) (plans : Plans) (rest : List ℕ) (index : ℕ) (fault : UnitFileError) →
-    Ok (plans_view plans rest) ≡ job_of switch bytes → Err (index, fault) ≡ units_in rest → Err (InRecord index fault) ≡ mux_job_of switch bytes
+pub record_unread : (plans : Plans) (rest : List ℕ) (index : ℕ) (fault : UnitFileError) → Err (index, fault) ≡ units_in rest →
+    Err (InRecord index fault) ≡ with_records (Ok (plans_view plans rest))
 unfolding with_records with_units
-record_unread switch bytes (One c) rest index fault e u = ap (λ (us : Units). with_units (plans_view (One c) rest) us) u ∙ ap with_records e
-record_unread switch bytes (Two c) rest index fault e u = ap (λ (us : Units). with_units (plans_view (Two c) rest) us) u ∙ ap with_records e
+record_unread (One c) rest index fault u = ap (λ (us : Units). with_units (plans_view (One c) rest) us) u
+record_unread (Two c) rest index fault u = ap (λ (us : Units). with_units (plans_view (Two c) rest) us) u

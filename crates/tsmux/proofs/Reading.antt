@@ -43,7 +43,7 @@ pub long_if : (known left : Option (List ℕ)) (bytes : List ℕ) → longest_in
 long_if None left bytes s h = tt
 long_if (Some xs) left bytes s h = subst (λ (x : List ℕ). longest_input < length x) (sym (h xs refl).0) s
 
-whole_result : {V : Type 0} (items : V → List ℕ) (bytes : V) (r : Result V Halt) (old new : Port) → new.failed ≡ old.failed →
+pub whole_result : {V : Type 0} (items : V → List ℕ) (bytes : V) (r : Result V Halt) (old new : Port) → new.failed ≡ old.failed →
     ((xs : List ℕ) → old.bytes ≡ Some xs → (xs ≡ items bytes) × (new.bytes ≡ Some [])) →
     IfOk r (λ whole. (whole ≡ bytes) × (length (items bytes) ≤ longest_input)) → IfErr r (λ halt. (halt ≡ Read) × (longest_input < length (items bytes))) →
     ReadsInput (between old new) (result_map_both items (λ halt. halt) r)

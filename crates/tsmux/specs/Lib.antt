@@ -4,6 +4,7 @@ pub mod Devices
 pub mod Lines
 pub mod Halts
 pub mod WholeInput
+pub mod InputPieces
 pub mod Performing
 pub mod FaultLines
 pub mod Carrying

@@ -1,5 +1,5 @@
 -- A job with its units: what `mux` is given.
-use Rattle.std.specs.Prelude.{◌≡◌, ◌+◌, ◌*◌, ◌/◌, ◌^◌, ℕ, min, max, Bool, List, [], Option, Result, Ok, Err, ⊤}
+use Rattle.std.specs.Prelude.{◌≡◌, ◌+◌, ◌*◌, ◌/◌, ◌^◌, ◌≤◌, ℕ, min, max, Bool, List, [], length, drop, Option, Result, Ok, Err, ⊤}
 use Rattle.std.specs.List.{fold}
 use Rattle.pes_packet.specs.AccessUnits.{AccessUnit}
 use Rattle.description.specs.Described.{Described}
@@ -9,6 +9,9 @@ use Rattle.tsmux.specs.FaultLines.{record_line}
 use Rattle.tsmux.specs.JobFaults.{fault_line, fault_view, plans_view}
 use Rattle.tsmux.specs.Jobs.{JobFaultView, JobView, job_of}
 use Rattle.tsmux.specs.UnitList.{Units, units_in}
+use Rattle.tsmux.specs.declared.job_fault.JobError.{JobError}
+use Rattle.tsmux.specs.declared.job_fault.JobError.TheVariants as job_refused
+use Rattle.tsmux.specs.declared.jobs.Plans.{Plans}
 use Rattle.tsmux.specs.declared.mux_jobs.MuxFault.{MuxFault}
 use Rattle.tsmux.specs.declared.mux_jobs.MuxFault.TheVariants.{Job, Record}
 use Rattle.tsmux.specs.declared.mux_jobs.MuxJob.{MuxJob}
@@ -69,6 +72,12 @@ abbrev pub IsMuxJob : Result MuxJobView MuxFaultView → Result MuxJob MuxJobErr
 IsMuxJob wanted (Ok j) = Ok (mux_job_view j) ≡ wanted
 IsMuxJob wanted (Err (Fault f)) = Err (mux_fault_view f) ≡ wanted
 IsMuxJob wanted (Err Memory) = ⊤
+
+-- plans at the front of bytes, and the place after them, or their fault is given, or there was no memory
+abbrev pub IsPlacedJob : Result JobView JobFaultView → List ℕ → Result (Plans × ℕ) JobError → Type 0
+IsPlacedJob wanted bytes (Ok r) = (r.1 ≤ length bytes) × (Ok (plans_view r.0 (drop r.1 bytes)) ≡ wanted)
+IsPlacedJob wanted bytes (Err (job_refused.Fault f)) = Err (fault_view f) ≡ wanted
+IsPlacedJob wanted bytes (Err job_refused.Memory) = ⊤
 
 -- 4. What is told of a fault
 

@@ -10,12 +10,12 @@ ghost use Rattle.tsmux.specs.Performing.{Performs};
 
 use crate::fault_lines::tell_unit;
 use crate::halt::{Halt, halted};
+use crate::input_pieces::read_pieces;
 use crate::jobs::Plans;
 use crate::lines::tell;
 use crate::mux_jobs::{MuxJob, MuxJobError, read_mux_job, tell_mux_fault};
 use crate::request::MuxOptions;
 use crate::usual_slots::usual_slots;
-use crate::whole_input::read_whole;
 use mux_core::{MuxError, multiplex_as, multiplex_switch_as};
 use std::alloc::Global;
 use ts_packet::{Sink, Source};
@@ -100,11 +100,11 @@ pub fn multiplex_job<R: Source, W: Sink, E: Sink>(
     ensures { Performs (asked.Muxes options) (reads R.Source input.old input.new)
         (writes W.Sink output.old output.new) (writes E.Sink faults.old faults.new) result }
 {
-    let bytes = match read_whole(alloc, input) {
-        Ok(bytes) => bytes,
+    let pieces = match read_pieces(alloc, input) {
+        Ok(pieces) => pieces,
         Err(halt) => return halted(faults, halt),
     };
-    let job = match read_mux_job(alloc, options.periods.is_some(), bytes) {
+    let job = match read_mux_job(alloc, options.periods.is_some(), pieces) {
         Ok(job) => job,
         Err(MuxJobError::Fault(fault)) => {
             tell_mux_fault(faults, fault);

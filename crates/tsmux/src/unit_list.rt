@@ -1,9 +1,10 @@
 //! The unit records after a job's plans, read whole.
 ghost use Rattle.std.specs.Prelude.{◌≡◌};
 ghost use Rattle.std.specs.Result.{result_map_both};
+ghost use Rattle.tsmux.specs.InputPieces.{left_of};
 ghost use Rattle.tsmux.specs.UnitList.{IsList, unread_as, units_in};
 
-use crate::memory_bytes::MemoryBytes;
+use crate::pieces_left::PiecesLeft;
 use mux_core::{Unit, UnitFileError, read_unit};
 use std::alloc::Global;
 
@@ -27,12 +28,12 @@ fn unread(index: u64, fault: UnitFileError) -> ListError
     }
 }
 
-/// The units of all records, with the numbers of their streams.
-pub fn read_units(alloc: Global, bytes: &[u8]) -> Result<Vec<(u8, Unit)>, ListError>
-    ensures { IsList (units_in bytes.now) (result_map_both (λ units. units.items) (λ error. error) result) }
+/// The units of all records, with the numbers of their streams. The memory of the records is given back as they are read.
+pub fn read_units(alloc: Global, records: PiecesLeft) -> Result<Vec<(u8, Unit)>, ListError>
+    ensures { IsList (units_in (left_of records)) (result_map_both (λ units. units.items) (λ error. error) result) }
 {
     let mut units = Vec::new(alloc);
-    let mut from = MemoryBytes { left: bytes };
+    let mut from = records;
     'records: loop {
         match read_unit(alloc, &mut from) {
             Ok(None) => return Ok(units),

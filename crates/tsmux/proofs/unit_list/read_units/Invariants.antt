@@ -1,11 +1,12 @@
 use Rattle.std.proofs.Common.{length}
+use Rattle.tsmux.specs.InputPieces.{left_of}
 use Rattle.tsmux.proofs.UnitLists.{ReadSoFar}
 use Rattle.tsmux.proofs.unit_list.read_units.Given as goal
 
 abbrev pub invariant-records : goal.invariant-records
 invariant-records l = record {
-  read : ReadSoFar l.fn.bytes l.units.items l.from.left.now;
+  read : ReadSoFar (left_of l.fn.records) l.units.items (left_of l.from);
 }
 
 abbrev pub decreases-records : goal.decreases-records
-decreases-records l = length l.from.left.now
+decreases-records l = length (left_of l.from)
