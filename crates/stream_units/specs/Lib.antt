@@ -1,5 +1,7 @@
 pub mod Carried
 pub mod Shown
+pub mod LeavingOut
+pub mod Damage
 pub mod Stamps
 pub mod Refusals
 pub mod Declaration

@@ -10,7 +10,9 @@ mod beginning;
 mod carrying;
 mod declaration;
 mod laws;
+mod leaving_out;
 mod moving;
+mod reason;
 mod stamps;
 #[cfg(test)]
 mod tests;
@@ -20,6 +22,8 @@ mod wire_unit;
 pub use carrying::carried_units;
 pub use declaration::{greatest_size, group_packets, least_interval};
 pub use laws::{constant_is_least, findings_of_the_pid, moved_by_one_constant, units_are_kept};
+pub use leaving_out::left_out;
 pub use moving::{StampError, moved_units};
+pub use reason::{LeftOut, Reason};
 pub use stamps::{StampFault, constant, distance};
 pub use wire_unit::WireUnit;
