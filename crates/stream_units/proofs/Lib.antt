@@ -7,3 +7,4 @@ pub mod Counting
 pub mod Keeping
 pub mod Accepting
 pub mod LeftOvers
+pub mod SameIds

@@ -57,12 +57,26 @@ fn pes_reason(led: bool, alone: bool, unended: bool, stamps: Stamps, size: usize
     ensures { result ≡ spec.pes_reason led alone unended stamps size }
 {
     match stamps {
-        Stamps::Absent => { if led { taken_if(unended) } else { Some(Reason::NoUnit(size)) } }
+        Stamps::Absent => {
+            if led {
+                taken_if(unended)
+            } else {
+                Some(Reason::NoUnit(size))
+            }
+        }
         Stamps::Pts(_) => {
-            if size == 0 && alone { Some(Reason::Empty) } else { taken_if(unended) }
+            if size == 0 && alone {
+                Some(Reason::Empty)
+            } else {
+                taken_if(unended)
+            }
         }
         Stamps::PtsDts { .. } => {
-            if size == 0 && alone { Some(Reason::Empty) } else { taken_if(unended) }
+            if size == 0 && alone {
+                Some(Reason::Empty)
+            } else {
+                taken_if(unended)
+            }
         }
     }
 }
@@ -71,7 +85,11 @@ fn pes_reason(led: bool, alone: bool, unended: bool, stamps: Stamps, size: usize
 fn cut_reason(count: u64, packet: u64, size: usize) -> Reason
     ensures { result ≡ spec.cut_reason count packet size }
 {
-    if count <= packet { Reason::CutByEnd(size) } else { Reason::Cut(size) }
+    if count <= packet {
+        Reason::CutByEnd(size)
+    } else {
+        Reason::Cut(size)
+    }
 }
 
 // Why what is found is in no unit.

@@ -10,10 +10,7 @@ use psi_tables::SectionError;
 #[derive(Clone, Copy, Debug, PartialEq, Eq)]
 pub enum Reason {
     /// A continuity_counter that does not follow the one before.
-    Counter {
-        expected: u8,
-        found: u8,
-    },
+    Counter { expected: u8, found: u8 },
     /// A packet whose payload is scrambled.
     Scrambled,
     /// So many bytes of a PES packet or a section that was cut short.

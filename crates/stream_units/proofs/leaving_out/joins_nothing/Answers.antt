@@ -14,7 +14,7 @@ returns-then-not-is_empty g c =
     let fs = c.args.later.now in
     let rest = joined c.args.pid (map (finding_view {A = g.row.A.Denot}) (drop (i + 1) fs)) in
     let here = joined_at (finding_view {A = g.row.A.Denot}) c.args.pid i fs c.finding-item.result c.loop-finding-test.true c.finding-item.is
-        ∙ ap (λ (b : Brings). joined_by b rest) (sym c.brought_by.ensures ∙ ap brought_view c.in-Continues.is) in
+    ∙ ap (λ (b : Brings). joined_by b rest) (sym c.brought_by.ensures ∙ ap brought_view c.in-Continues.is) in
     let some : 0 < length c.in-Continues.body.now = search (rules, arith) in
     sym (c.loop-finding.invariant ∙ ap (λ (xs : List ℕ). length xs == 0) here ∙ alone_some c.in-Continues.body.now rest some)
 
@@ -25,7 +25,7 @@ returns-in-Begins g c =
     let fs = c.args.later.now in
     let rest = joined c.args.pid (map (finding_view {A = g.row.A.Denot}) (drop (i + 1) fs)) in
     let here = joined_at (finding_view {A = g.row.A.Denot}) c.args.pid i fs c.finding-item.result c.loop-finding-test.true c.finding-item.is
-        ∙ ap (λ (b : Brings). joined_by b rest) (sym c.brought_by.ensures ∙ ap brought_view c.in-Begins.is) in
+    ∙ ap (λ (b : Brings). joined_by b rest) (sym c.brought_by.ensures ∙ ap brought_view c.in-Begins.is) in
     sym (c.loop-finding.invariant ∙ ap (λ (xs : List ℕ). length xs == 0) here)
 
 pub returns-in-Breaks : goal.returns-in-Breaks
@@ -35,7 +35,7 @@ returns-in-Breaks g c =
     let fs = c.args.later.now in
     let rest = joined c.args.pid (map (finding_view {A = g.row.A.Denot}) (drop (i + 1) fs)) in
     let here = joined_at (finding_view {A = g.row.A.Denot}) c.args.pid i fs c.finding-item.result c.loop-finding-test.true c.finding-item.is
-        ∙ ap (λ (b : Brings). joined_by b rest) (sym c.brought_by.ensures ∙ ap brought_view c.in-Breaks.is) in
+    ∙ ap (λ (b : Brings). joined_by b rest) (sym c.brought_by.ensures ∙ ap brought_view c.in-Breaks.is) in
     sym (c.loop-finding.invariant ∙ ap (λ (xs : List ℕ). length xs == 0) here)
 
 pub loop-finding-preserved : goal.loop-finding-preserved
@@ -45,7 +45,7 @@ loop-finding-preserved g c =
     let fs = c.args.later.now in
     let rest = joined c.args.pid (map (finding_view {A = g.row.A.Denot}) (drop (i + 1) fs)) in
     let here = joined_at (finding_view {A = g.row.A.Denot}) c.args.pid i fs c.finding-item.result c.loop-finding-test.true c.finding-item.is
-        ∙ ap (λ (b : Brings). joined_by b rest) (sym c.brought_by.ensures) in
+    ∙ ap (λ (b : Brings). joined_by b rest) (sym c.brought_by.ensures) in
     let on = c.loop-finding.invariant ∙ ap (λ (xs : List ℕ). length xs == 0) here in
     elim c.match-brought_by.branch [
       | in-Nothing w ↦ on ∙ ap (λ (b : Brings). length (joined_by b rest) == 0) (ap brought_view w.in-Nothing.is)
