@@ -5,3 +5,6 @@ pub mod Stamping
 pub mod MovedUnits
 pub mod Counting
 pub mod Keeping
+pub mod Accepting
+pub mod LeftOvers
+pub mod SameIds

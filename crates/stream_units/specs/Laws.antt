@@ -1,8 +1,9 @@
 -- What the laws of this crate say.
-use Rattle.std.specs.Prelude.{◌≡◌, ◌≤◌, ◌<◌, ℕ, ◌+◌, ◌-◌, ◌^◌, Option, None, List, [], ◌∷◌, length, map, All}
+use Rattle.std.specs.Prelude.{◌≡◌, ◌≤◌, ◌<◌, ℕ, ◌+◌, ◌-◌, ◌^◌, ◌++◌, Option, None, List, [], ◌∷◌, length, map, All}
 use Rattle.pes_packet.specs.AccessUnits.{AccessUnit}
 use Rattle.pes_packet.specs.Spelling.{on_wire}
 use Rattle.unit_queue.specs.Lanes.{Lane}
+use Rattle.unit_queue.specs.Causes.{unit_cause}
 use Rattle.unit_queue.specs.Queues.{Kept}
 use Rattle.stream_units.specs.Stamps.{distance, moved, first_fault, least_after, constant_of}
 use Rattle.demux.specs.Views.{FindingView}
@@ -48,3 +49,8 @@ pub record Declares (l : Lane) (us : List AccessUnit) : Type 0 where
 abbrev pub UnitsAreKept : Type 0
 UnitsAreKept = (l : Lane) (base : ℕ) (wire : List AccessUnit) → first_fault base None 0 wire ≡ None → All (λ u. 1 ≤ length u.bytes) wire →
     Declares l (moved base None wire) → Kept l (moved base None wire)
+
+-- each of them is then taken after those before it while no slot is written, where there is room for one
+abbrev pub TakenOneByOne : Type 0
+TakenOneByOne = (l : Lane) (capacity : ℕ) (us : List AccessUnit) (u : AccessUnit) (more : List AccessUnit) → 1 ≤ l.rules.group →
+    Kept l (us ++ u ∷ more) → length us < capacity → unit_cause l 0 capacity us u ≡ None

@@ -1,5 +1,9 @@
 pub mod Carried
 pub mod Shown
+pub mod LeavingOut
+pub mod Damage
+pub mod StreamIds
+pub mod Buffers
 pub mod Stamps
 pub mod Refusals
 pub mod Declaration

@@ -32,8 +32,8 @@ pub(crate) enum Brought<'f> {
     Breaks,
 }
 
-// The bytes of a finding.
-fn bytes_of<'f, A: Allocator>(part: &'f Part<'_, A>) -> &'f [u8]
+/// The bytes of a finding.
+pub(crate) fn bytes_of<'f, A: Allocator>(part: &'f Part<'_, A>) -> &'f [u8]
     ensures { result.now ≡ part_bytes part.now }
 {
     match part {
@@ -61,9 +61,9 @@ fn stamped<'f>(packet: u64, stream_id: u8, stamps: Stamps, body: &'f [u8]) -> Br
     })
 }
 
-// The packet of the first byte.
+/// The packet of the first byte.
 #[tactic(auto, unfolding(crate::specs::Carried::begun_at))]
-fn begun_at(packet: u64, begun: Option<(u64, Kind)>) -> u64
+pub(crate) fn begun_at(packet: u64, begun: Option<(u64, Kind)>) -> u64
     ensures { result ≡ spec.begun_at packet begun }
 {
     match begun {

@@ -1,6 +1,6 @@
 //! Laws of the definitions. Each function does nothing: its contract is the law.
 
-ghost use Rattle.stream_units.specs.Laws.{FindingsOfThePid, MovedByOneConstant, ConstantIsLeast, UnitsAreKept};
+ghost use Rattle.stream_units.specs.Laws.{FindingsOfThePid, MovedByOneConstant, ConstantIsLeast, UnitsAreKept, TakenOneByOne};
 
 /// The units of a PID are a function of what is found of that PID.
 pub fn findings_of_the_pid()
@@ -21,4 +21,9 @@ pub fn constant_is_least()
 /// Units whose stamps can be moments keep what is declared of them.
 pub fn units_are_kept()
     ensures { UnitsAreKept }
+{}
+
+/// A queue refuses none of them, in their order, before its first slot.
+pub fn taken_one_by_one()
+    ensures { TakenOneByOne }
 {}

@@ -1,8 +1,9 @@
 //! Values worked by hand.
 
 use crate::{
-    StampError, StampFault, WireUnit, carried_units, constant, distance, greatest_size,
-    group_packets, least_interval, moved_units,
+    Buffers, Coding, Reason, StampError, StampFault, WireUnit, buffers_of, carried_units, constant,
+    distance, first_other, greatest_size, group_packets, least_interval, left_out, moved_units,
+    written_id,
 };
 use clock27::Rate;
 use demux::{Finding, Kind, Part, What};
@@ -50,10 +51,8 @@ fn other(packet: u64, what: What<'static>) -> Finding<'static> {
     }
 }
 
-// PES packets without a stamp join the one before them, across duplicates and other PIDs but not across a break.
-#[test]
-fn units_of_a_pid(rt: HostRuntime) -> Result<(), Fail> {
-    let alloc = rt.alloc();
+// What is found of PIDs 256 and 257 in a stream of 20 packets.
+fn worked_findings(alloc: Global) -> Result<Vec<Finding<'static>>, AllocError> {
     let counter = What::CounterBreak {
         expected: 5,
         found: 7,
@@ -62,6 +61,8 @@ fn units_of_a_pid(rt: HostRuntime) -> Result<(), Fail> {
         pts: 10_800,
         dts: 7_200,
     };
+    let cut = What::Truncated(Part::Joined(Vec::from_slice(alloc, &[1, 2])?));
+    let last = What::Truncated(Part::Joined(Vec::from_slice(alloc, &[1, 2, 3])?));
     let mut found = Vec::new(alloc);
     found.push(pes(alloc, 256, 1, Stamps::Pts(3_600), &[1, 2])?)?;
     found.push(pes(alloc, 257, 2, Stamps::Pts(3_600), &[9])?)?;
@@ -72,6 +73,16 @@ fn units_of_a_pid(rt: HostRuntime) -> Result<(), Fail> {
     found.push(pes(alloc, 256, 7, both, &[])?)?;
     found.push(pes(alloc, 256, 8, Stamps::Absent, &[5, 6])?)?;
     found.push(pes(alloc, 256, 9, Stamps::Pts(14_400), &[])?)?;
+    found.push(other(10, cut))?;
+    found.push(other(20, last))?;
+    Ok(found)
+}
+
+// PES packets without a stamp join the one before them, across duplicates and other PIDs but not across a break.
+#[test]
+fn units_of_a_pid(rt: HostRuntime) -> Result<(), Fail> {
+    let alloc = rt.alloc();
+    let found = worked_findings(alloc)?;
     let units = carried_units(alloc, 256, &found)?;
     let wanted: [(u64, u64, u64, &[u8]); 2] = [
         (1, 3_600, 3_600, &[1, 2, 3]),
@@ -84,6 +95,73 @@ fn units_of_a_pid(rt: HostRuntime) -> Result<(), Fail> {
         assert_eq!(rt; (unit.unit.dts, unit.unit.pts), (dts, pts));
         assert_eq!(rt; unit.unit.bytes.as_slice(), bytes);
     }
+    Ok(())
+}
+
+// What is in no unit; no damage are the PES packet after the break, the unit without bytes and the end of the stream.
+#[test]
+fn what_is_left_out(rt: HostRuntime) -> Result<(), Fail> {
+    let alloc = rt.alloc();
+    let found = worked_findings(alloc)?;
+    let counter = Reason::Counter {
+        expected: 5,
+        found: 7,
+    };
+    let wanted = [
+        (5, counter, true),
+        (6, Reason::NoUnit(1), false),
+        (9, Reason::Empty, false),
+        (10, Reason::Cut(2), true),
+        (20, Reason::CutByEnd(3), false),
+    ];
+    let out = left_out(alloc, 256, 20, &found)?;
+    assert_eq!(rt; out.len(), 5);
+    for (left, (packet, why, damage)) in out.iter().zip(wanted) {
+        assert_eq!(rt; (left.packet, left.why), (packet, why));
+        assert_eq!(rt; left.why.is_damage(), damage);
+    }
+    Ok(())
+}
+
+// Rates and buffers of codings, as the tables of their standards give them.
+#[test]
+fn buffers_of_codings(rt: HostRuntime) -> Result<(), Fail> {
+    for (coding, rx, main) in [
+        (Coding::Mpeg(8), 18_000_000, 239_376),
+        (Coding::Mpeg(0), 18_000_000, 239_376),
+        (Coding::Avc(40), 24_000_000, 3_766_000),
+        (Coding::Avc(10), 2_000_000, 27_583),
+        (Coding::Avc(51), 200_000_000, 10_000_000),
+        (Coding::Hevc(120), 13_200_000, 1_658_800),
+        (Coding::Aac(2), 2_000_000, 3_584),
+        (Coding::Aac(6), 5_529_600, 8_976),
+        (Coding::Ac3, 2_000_000, 5_696),
+    ] {
+        assert_eq!(rt; buffers_of(coding), Buffers { rx, main });
+    }
+    Ok(())
+}
+
+#[test]
+fn stream_ids(rt: HostRuntime) -> Result<(), Fail> {
+    let alloc = rt.alloc();
+    let mut units = wire(alloc, &[(0, 0, 1), (1, 1, 1), (2, 2, 1)])?;
+    assert_eq!(rt; first_other(224, &units), None);
+    let bytes = vec![in alloc; 0u8; 1]?;
+    let unit = Unit {
+        dts: 3,
+        pts: 3,
+        bytes,
+    };
+    units.push(WireUnit {
+        packet: 0,
+        stream_id: 225,
+        unit,
+    })?;
+    assert_eq!(rt; first_other(224, &units), Some(3));
+    assert_eq!(rt; written_id(253, true), Some(189));
+    assert_eq!(rt; written_id(253, false), None);
+    assert_eq!(rt; written_id(224, true), Some(224));
     Ok(())
 }
 
