@@ -349,12 +349,14 @@ fn packets_pushed(rt: HostRuntime) -> Result<(), Fail> {
     check_pushed(&rt, alloc, &packets_without_length(), WITHOUT_LENGTH)
 }
 
-// A stream may be ended twice, and takes nothing more.
+// A stream may be ended twice, of which the second end finds nothing, and takes nothing more.
 #[test]
 fn an_end(rt: HostRuntime) {
     let mut demux = Demux::new(rt.alloc());
+    assert_eq!(rt; demux.push(&long_packet(true, 0)), Ok(()));
     assert_eq!(rt; demux.finish(), Ok(()));
     assert_eq!(rt; demux.finish(), Ok(()));
+    assert_eq!(rt; demux.findings().len(), 1);
     assert_eq!(rt; demux.push(&[0x47]), Err(DemuxError::Ended));
     assert_eq!(rt; DemuxError::Ended.code(), 2);
 }
