@@ -7,6 +7,7 @@ mod reference_marks;
 
 use demux::{Demux, DemuxError, Finding, Kind, Part, What, whole};
 use std::alloc::{AllocError, Allocator, Global};
+use std::process::Abort;
 use std::test::Fail;
 
 // A packet of PID 256 with a PES packet of three bytes, 41 42 43, with PTS 90,000, after stuffing.
@@ -147,6 +148,37 @@ fn pieces_of_any_size(rt: HostRuntime) -> Result<(), Fail> {
     Ok(())
 }
 
+// The body of a PES packet is a slice of the packet that was taken.
+fn assert_slice(rt: &impl Abort, finding: &Finding<'_>) {
+    match &finding.what {
+        What::Pes {
+            body: Part::Span(body),
+            ..
+        } => assert_eq!(rt; *body, &pes_packet()[185..]),
+        _ => assert!(rt; false, "a slice"),
+    }
+}
+
+// Takes a packet, pushes it in two parts, ends the stream, and takes it once more.
+fn take_and_push<'a>(
+    rt: &impl Abort,
+    demux: &mut Demux,
+    packet: &'a [u8; 188],
+    found: &mut Vec<Finding<'a>>,
+) -> Result<(), DemuxError> {
+    assert!(rt; demux.aligned());
+    demux.take(packet, found)?;
+    assert!(rt; demux.findings().is_empty());
+    demux.push(&packet[..100])?;
+    assert!(rt; !demux.aligned());
+    demux.push(&packet[100..])?;
+    assert!(rt; demux.aligned());
+    demux.finish()?;
+    assert!(rt; demux.aligned());
+    assert_eq!(rt; demux.take(packet, found), Err(DemuxError::Ended));
+    Ok(())
+}
+
 // A PES packet that lies in the packet that is taken is a slice of it; `take` wants whole packets, and the end refuses more.
 #[test]
 fn packets_taken_and_pushed(rt: HostRuntime) -> Result<(), Fail> {
@@ -154,66 +186,17 @@ fn packets_taken_and_pushed(rt: HostRuntime) -> Result<(), Fail> {
     let packet = pes_packet();
     let mut demux = Demux::new(alloc);
     let mut found = Vec::new(alloc);
-    demux.take(&packet, &mut found)?;
-    assert_eq!(rt;
-        lines(alloc, &found)?.as_str(),
-        "0 256 pes 192 false 3 from 0 pes true\n"
-    );
+    let done = take_and_push(&rt, &mut demux, &packet, &mut found);
+    assert_eq!(rt; done, Ok(()));
     for finding in &found {
-        match &finding.what {
-            What::Pes {
-                body: Part::Span(body),
-                ..
-            } => assert_eq!(rt; *body, &packet[185..]),
-            _ => assert!(rt; false, "a slice"),
-        }
+        assert_slice(&rt, finding);
     }
+    let taken = lines(alloc, &found)?;
+    assert_eq!(rt; taken.as_str(), "0 256 pes 192 false 3 from 0 pes true\n");
+    let pushed = lines(alloc, demux.findings())?;
+    assert_eq!(rt; pushed.as_str(), "1 256 duplicate\n");
+    demux.forget_findings();
     assert!(rt; demux.findings().is_empty());
-    demux.push(&packet[..100])?;
-    assert!(rt; !demux.aligned());
-    demux.push(&packet[100..])?;
-    assert!(rt; demux.aligned());
-    demux.finish()?;
-    assert_eq!(rt; demux.take(&packet, &mut found), Err(DemuxError::Ended));
-    assert_eq!(rt;
-        lines(alloc, demux.findings())?.as_str(),
-        "1 256 duplicate\n"
-    );
-    Ok(())
-}
-
-// A packet is repeated once. The third one alike breaks the counter, and the fourth repeats it.
-#[test]
-fn a_third_copy(rt: HostRuntime) -> Result<(), Fail> {
-    let alloc = rt.alloc();
-    let mut demux = Demux::new(alloc);
-    for _ in 0..4 {
-        demux.push(&pes_packet())?;
-    }
-    let want =
-        "0 256 pes 192 false 3 from 0 pes true\n1 256 duplicate\n2 256 counter 1 0\n2 256 pes 192 false 3 from 2 pes true\n3 256 duplicate\n";
-    assert_eq!(rt; lines(alloc, demux.findings())?.as_str(), want);
-    Ok(())
-}
-
-#[test]
-fn a_section(rt: HostRuntime) -> Result<(), Fail> {
-    let alloc = rt.alloc();
-    let packet = pat_packet();
-    let mut demux = Demux::new(alloc);
-    let mut found = Vec::new(alloc);
-    assert!(rt; demux.aligned());
-    demux.take(&packet, &mut found)?;
-    assert_eq!(rt;
-        lines(alloc, &found)?.as_str(),
-        "0 0 section 16 from 0 table 0\n"
-    );
-    for finding in &found {
-        assert!(rt;
-            matches!(&finding.what, What::Section(Part::Span(_))),
-            "lies in the packet"
-        );
-    }
     Ok(())
 }
 
@@ -229,98 +212,166 @@ pub fn section_in_two() -> ([u8; 188], [u8; 188]) {
     (first, second)
 }
 
-#[test]
-fn a_section_in_two_packets(rt: HostRuntime) -> Result<(), Fail> {
-    let alloc = rt.alloc();
-    let (first, second) = section_in_two();
-    let mut demux = Demux::new(alloc);
-    let mut found = Vec::new(alloc);
-    assert!(rt; demux.aligned());
-    demux.take(&first, &mut found)?;
-    assert_eq!(rt; lines(alloc, &found)?.as_str(), "");
-    assert!(rt; demux.aligned());
-    demux.take(&second, &mut found)?;
-    assert_eq!(rt;
-        lines(alloc, &found)?.as_str(),
-        "1 0 section 16 from 0 table 0\n"
-    );
-    for finding in &found {
-        match &finding.what {
-            What::Section(Part::Joined(bytes)) => assert_eq!(rt;
-                bytes.as_slice(),
-                &pat_packet()[5..21]
-            ),
-            _ => assert!(rt; false, "joined"),
+// The section, as a slice of its packet or joined from two.
+fn assert_section(rt: &impl Abort, finding: &Finding<'_>, slice: bool) {
+    match &finding.what {
+        What::Section(Part::Span(bytes)) => {
+            assert!(rt;
+                slice && *bytes == &pat_packet()[5..21],
+                "lies in the packet"
+            );
         }
+        What::Section(Part::Joined(bytes)) => {
+            assert!(rt;
+                !slice && bytes.as_slice() == &pat_packet()[5..21],
+                "joined"
+            );
+        }
+        _ => assert!(rt; false, "a section"),
+    }
+}
+
+// Takes packets one by one: whole packets leave nothing over.
+fn take_each<'a>(
+    rt: &impl Abort,
+    demux: &mut Demux,
+    packets: &'a [[u8; 188]],
+    found: &mut Vec<Finding<'a>>,
+) -> Result<(), DemuxError> {
+    for packet in packets {
+        assert!(rt; demux.aligned());
+        demux.take(packet, found)?;
     }
     Ok(())
 }
 
-// A wrong check word, a null packet, a packet with transport_error_indicator, no packet, and a scrambled one.
-#[test]
-fn damaged_packets(rt: HostRuntime) -> Result<(), Fail> {
-    let alloc = rt.alloc();
+// A section in these packets: what is found when they are taken.
+fn check_section(
+    rt: &impl Abort,
+    alloc: Global,
+    packets: &[[u8; 188]],
+    want: &str,
+    slice: bool,
+) -> Result<(), Fail> {
     let mut demux = Demux::new(alloc);
-    let mut packet = pat_packet();
-    packet[20] = 0xB3;
-    demux.push(&packet)?;
-    packet[1] = 0x1F;
-    packet[2] = 0xFF;
-    demux.push(&packet)?;
-    packet[1] = 0x9F;
-    demux.push(&packet)?;
-    packet[0] = 0x46;
-    demux.push(&packet)?;
-    packet[0] = 0x47;
-    packet[1] = 0x40;
-    packet[2] = 0x00;
-    packet[3] = 0x51;
-    demux.push(&packet)?;
-    // pointer_field points past the end
-    packet[3] = 0x12;
-    packet[4] = 184;
-    demux.push(&packet)?;
-    assert_eq!(rt;
-        lines(alloc, demux.findings())?.as_str(),
-        "0 0 bad section 3 from 0 table 0\n2 none errored\n3 none bad packet 1\n4 0 scrambled\n5 0 bad section 5\n"
-    );
-    demux.forget_findings();
-    assert!(rt; demux.findings().is_empty());
+    let mut found = Vec::new(alloc);
+    let taken = take_each(rt, &mut demux, packets, &mut found);
+    assert_eq!(rt; taken, Ok(()));
+    for finding in &found {
+        assert_section(rt, finding, slice);
+    }
+    assert_eq!(rt; lines(alloc, &found)?.as_str(), want);
     Ok(())
 }
 
-// A PES packet without a length ends where the next begins, or with the stream; a packet of another PID ends none.
+// In one packet, and in two: then it is found at the second.
 #[test]
-fn a_length_of_none(rt: HostRuntime) -> Result<(), Fail> {
+fn a_section(rt: HostRuntime) -> Result<(), Fail> {
+    let (first, second) = section_in_two();
+    let one = [pat_packet()];
+    check_section(
+        &rt,
+        rt.alloc(),
+        &one,
+        "0 0 section 16 from 0 table 0\n",
+        true,
+    )?;
+    let two = [first, second];
+    check_section(
+        &rt,
+        rt.alloc(),
+        &two,
+        "1 0 section 16 from 0 table 0\n",
+        false,
+    )
+}
+
+// A wrong check word, a null packet, a packet with transport_error_indicator, no packet, a scrambled one, and one whose
+// pointer_field points past the end.
+fn damaged_packets() -> [[u8; 188]; 6] {
+    let mut packet = pat_packet();
+    packet[20] = 0xB3;
+    let wrong = packet;
+    packet[1] = 0x1F;
+    packet[2] = 0xFF;
+    let null = packet;
+    packet[1] = 0x9F;
+    let errored = packet;
+    packet[0] = 0x46;
+    let none = packet;
+    packet[..4].copy_from_slice(&[0x47, 0x40, 0x00, 0x51]);
+    let scrambled = packet;
+    packet[3] = 0x12;
+    packet[4] = 184;
+    [wrong, null, errored, none, scrambled, packet]
+}
+
+const DAMAGED: &str =
+    "0 0 bad section 3 from 0 table 0\n2 none errored\n3 none bad packet 1\n4 0 scrambled\n5 0 bad section 5\n";
+
+// A packet is repeated once. The third one alike breaks the counter, and the fourth repeats it.
+const ALIKE: &str =
+    "0 256 pes 192 false 3 from 0 pes true\n1 256 duplicate\n2 256 counter 1 0\n2 256 pes 192 false 3 from 2 pes true\n3 256 duplicate\n";
+
+// A PES packet without a length ends where the next begins, or with the stream; a packet of another PID ends none.
+fn packets_without_length() -> [[u8; 188]; 4] {
+    [
+        long_packet(true, 0),
+        pes_packet(),
+        long_packet(false, 1),
+        long_packet(true, 2),
+    ]
+}
+
+const WITHOUT_LENGTH: &str =
+    "1 256 pes 192 false 3 from 1 pes true\n3 257 pes 224 false 359 from 0 pes false\n4 257 pes 224 true 175 from 3 pes false\n";
+
+// What is found in packets that are pushed.
+fn check_pushed(
+    rt: &impl Abort,
+    alloc: Global,
+    packets: &[[u8; 188]],
+    want: &str,
+) -> Result<(), Fail> {
+    let mut stream = Vec::new(alloc);
+    for packet in packets {
+        stream.extend_from_slice(packet)?;
+    }
+    assert_eq!(rt; in_pieces(alloc, &stream, 188)?.as_str(), want);
+    Ok(())
+}
+
+#[test]
+fn packets_pushed(rt: HostRuntime) -> Result<(), Fail> {
     let alloc = rt.alloc();
-    let mut demux = Demux::new(alloc);
-    demux.push(&long_packet(true, 0))?;
-    demux.push(&pes_packet())?;
-    demux.push(&long_packet(false, 1))?;
-    demux.push(&long_packet(true, 2))?;
-    demux.finish()?;
-    demux.finish()?;
-    let want =
-        "1 256 pes 192 false 3 from 1 pes true\n3 257 pes 224 false 359 from 0 pes false\n4 257 pes 224 true 175 from 3 pes false\n";
-    assert_eq!(rt; lines(alloc, demux.findings())?.as_str(), want);
+    check_pushed(&rt, alloc, &[pes_packet(); 4], ALIKE)?;
+    check_pushed(&rt, alloc, &damaged_packets(), DAMAGED)?;
+    check_pushed(&rt, alloc, &packets_without_length(), WITHOUT_LENGTH)
+}
+
+// A stream may be ended twice, of which the second end finds nothing, and takes nothing more.
+#[test]
+fn an_end(rt: HostRuntime) {
+    let mut demux = Demux::new(rt.alloc());
+    assert_eq!(rt; demux.push(&long_packet(true, 0)), Ok(()));
+    assert_eq!(rt; demux.finish(), Ok(()));
+    assert_eq!(rt; demux.finish(), Ok(()));
+    assert_eq!(rt; demux.findings().len(), 1);
     assert_eq!(rt; demux.push(&[0x47]), Err(DemuxError::Ended));
     assert_eq!(rt; DemuxError::Ended.code(), 2);
-    Ok(())
 }
 
 // The first packet that brings it past 8,388,608 bytes cuts it short: 45,591 packets of 184 bytes.
 #[test]
 fn a_pes_packet_that_is_too_long(rt: HostRuntime) -> Result<(), Fail> {
     let alloc = rt.alloc();
-    let mut demux = Demux::new(alloc);
-    demux.push(&long_packet(true, 0))?;
-    for i in 1..45_600u32 {
-        demux.push(&long_packet(false, (i % 16) as u8))?;
+    let mut stream = Vec::new(alloc);
+    for i in 0..45_600u32 {
+        stream.extend_from_slice(&long_packet(i == 0, (i % 16) as u8))?;
     }
-    demux.push(&long_packet(true, 0))?;
-    demux.finish()?;
+    stream.extend_from_slice(&long_packet(true, 0))?;
     let want =
         "45590 257 truncated 8388744 from 0 pes false\n45601 257 pes 224 true 175 from 45600 pes false\n";
-    assert_eq!(rt; lines(alloc, demux.findings())?.as_str(), want);
+    assert_eq!(rt; in_pieces(alloc, &stream, 188)?.as_str(), want);
     Ok(())
 }

@@ -1,4 +1,5 @@
 //! The program over bytes, and over readers and writers that fail.
+mod devices;
 mod finding_list;
 mod mux_faults;
 mod mux_measured;

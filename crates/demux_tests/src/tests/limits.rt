@@ -1,5 +1,5 @@
 //! Long streams and many PIDs, with memory enough.
-use super::{lines, long_packet, pes_packet};
+use super::{in_pieces, lines, long_packet, pes_packet};
 use demux::Demux;
 use std::test::Fail;
 use ts_packet::null_packet;
@@ -13,11 +13,8 @@ fn a_piece_of_16_megabytes(rt: HostRuntime) -> Result<(), Fail> {
         piece.extend_from_slice(&null_packet())?;
     }
     piece.extend_from_slice(&pes_packet())?;
-    let mut demux = Demux::new(alloc);
-    demux.push(&piece)?;
-    demux.finish()?;
     assert_eq!(rt;
-        lines(alloc, demux.findings())?.as_str(),
+        in_pieces(alloc, &piece, 16_777_308)?.as_str(),
         "89240 256 pes 192 false 3 from 89240 pes true\n"
     );
     Ok(())

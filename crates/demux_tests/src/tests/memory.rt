@@ -1,8 +1,9 @@
 //! Refused memory.
 use super::{WORKED, lines, long_packet, worked_stream};
-use demux::{Demux, DemuxError};
+use demux::{Demux, DemuxError, Finding};
 use linked_list_allocator::LocalHeap;
-use std::alloc::AllocError;
+use std::alloc::{AllocError, Global};
+use std::process::Abort;
 use std::test::Fail;
 
 // What is left of a piece of which so much was taken.
@@ -50,47 +51,94 @@ fn fill<'h>(heap: &'h LocalHeap, left: usize) -> Result<Vec<u8, &'h LocalHeap>, 
     Vec::with_capacity(heap, 64 * blocks.saturating_sub(left).min(1_023))
 }
 
-// The same packet by packet, with an end of the stream: what is refused changes nothing, and succeeds once there is memory.
-#[test]
-fn refused_packets(rt: HostRuntime) -> Result<(), Fail> {
-    let alloc = rt.alloc();
+// Takes a packet where memory is wanting, and again where it is there; whether it was refused. None where it is refused again.
+fn take_again<'a, 'h>(
+    rt: &impl Abort,
+    heap: &'h LocalHeap,
+    left: usize,
+    demux: &mut Demux<&'h LocalHeap>,
+    packet: &'a [u8; 188],
+    found: &mut Vec<Finding<'a, &'h LocalHeap>, &'h LocalHeap>,
+) -> Option<bool> {
+    let block = fill(heap, left).ok()?;
+    assert!(rt; demux.aligned());
+    let first = demux.take(packet, found);
+    drop(block);
+    if first.is_ok() {
+        return Some(false);
+    }
+    assert_eq!(rt; first, Err(DemuxError::Memory { taken: 0 }));
+    assert!(rt; demux.aligned());
+    demux.take(packet, found).ok()?;
+    Some(true)
+}
+
+// The same of each packet.
+fn take_all<'a, 'h>(
+    rt: &impl Abort,
+    heap: &'h LocalHeap,
+    left: usize,
+    demux: &mut Demux<&'h LocalHeap>,
+    packets: &'a [[u8; 188]],
+    found: &mut Vec<Finding<'a, &'h LocalHeap>, &'h LocalHeap>,
+) -> Option<bool> {
+    let mut refused = false;
+    for packet in packets {
+        if take_again(rt, heap, left, demux, packet, found)? {
+            refused = true;
+        }
+    }
+    Some(refused)
+}
+
+// The same of the stream's end.
+fn finish_again(heap: &LocalHeap, left: usize, demux: &mut Demux<&LocalHeap>) -> Option<bool> {
+    let block = fill(heap, left).ok()?;
+    let first = demux.finish();
+    drop(block);
+    if first.is_ok() {
+        return Some(false);
+    }
+    demux.finish().ok()?;
+    Some(true)
+}
+
+// Whether a packet was refused, or the end.
+fn refused_at(rt: &impl Abort, alloc: Global, left: usize) -> Result<bool, Fail> {
     let packets = [
         long_packet(true, 0),
         long_packet(false, 1),
         long_packet(true, 2),
     ];
+    let heap = LocalHeap::new(alloc, 65_536)?;
+    let mut found = Vec::with_capacity(&heap, 4)?;
+    let mut demux = Demux::new(&heap);
+    let taken = take_all(rt, &heap, left, &mut demux, &packets, &mut found);
+    let at_packets = lines(alloc, &found);
+    let ended = finish_again(&heap, left, &mut demux);
+    let at_end = lines(alloc, demux.findings());
+    assert_eq!(rt;
+        at_packets?.as_str(),
+        "2 257 pes 224 false 359 from 0 pes false\n"
+    );
+    assert_eq!(rt;
+        at_end?.as_str(),
+        "3 257 pes 224 true 175 from 2 pes false\n"
+    );
+    match (taken, ended) {
+        (Some(at_packet), Some(at_end)) => Ok(at_packet || at_end),
+        _ => Err(Fail::from("refused twice")),
+    }
+}
+
+// The same packet by packet, with an end of the stream: what is refused changes nothing, and succeeds once there is memory.
+#[test]
+fn refused_packets(rt: HostRuntime) -> Result<(), Fail> {
     let mut refused = false;
     for left in 0..48usize {
-        let heap = LocalHeap::new(alloc, 65_536)?;
-        let mut found = Vec::with_capacity(&heap, 4)?;
-        let mut demux = Demux::new(&heap);
-        for packet in &packets {
-            let block = fill(&heap, left)?;
-            assert!(rt; demux.aligned());
-            let first = demux.take(packet, &mut found);
-            drop(block);
-            if first.is_err() {
-                refused = true;
-                assert_eq!(rt; first, Err(DemuxError::Memory { taken: 0 }));
-                assert!(rt; demux.aligned());
-                demux.take(packet, &mut found)?;
-            }
-        }
-        assert_eq!(rt;
-            lines(alloc, &found)?.as_str(),
-            "2 257 pes 224 false 359 from 0 pes false\n"
-        );
-        let block = fill(&heap, left)?;
-        let first = demux.finish();
-        drop(block);
-        if first.is_err() {
+        if refused_at(&rt, rt.alloc(), left)? {
             refused = true;
-            demux.finish()?;
         }
-        assert_eq!(rt;
-            lines(alloc, demux.findings())?.as_str(),
-            "3 257 pes 224 true 175 from 2 pes false\n"
-        );
     }
     assert!(rt; refused, "never refused");
     Ok(())
