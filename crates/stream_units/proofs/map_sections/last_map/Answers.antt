@@ -1,4 +1,4 @@
-use Rattle.std.proofs.Common.{◌≡◌, ◌∙◌, sym, ap, Option, map, option_map}
+use Rattle.std.proofs.Common.{◌∙◌, sym, ap, Option, map, option_map}
 use Rattle.std.specs.Option.{option_or}
 use Rattle.psi_tables.specs.ProgramMap.{PmtView, pmt_view}
 use Rattle.demux.specs.Shown.{finding_view}
