@@ -1,5 +1,5 @@
 -- Units that keep a declaration are taken one by one.
-use Rattle.std.proofs.Common.{◌≡◌, ◌≤◌, ◌<◌, ℕ, zero, suc, ◌+◌, ◌-◌, ◌^◌, ◌==◌, ◌++◌, nat_lt, nat_le, Bool, true, false, None, List, [], ◌∷◌, length, map, refl, sym, ap, ◌∙◌, subst, arith, All, inl, inr}
+use Rattle.std.proofs.Common.{◌≡◌, ◌≤◌, ◌<◌, ℕ, ◌+◌, ◌-◌, ◌^◌, ◌==◌, ◌++◌, nat_lt, false, None, List, [], ◌∷◌, length, map, refl, sym, subst, arith, All, inl, inr}
 use Rattle.std.proofs.lemmas.Bool.{cases_Bool, le-ltb, lt-leb}
 use Rattle.std.proofs.lemmas.Bool.Decides.{nat_tests}
 use Rattle.std.proofs.lemmas.List.{append_assoc, append-nil, map-append}
@@ -7,11 +7,11 @@ use Rattle.std.proofs.lemmas.List.Elements.{All-nil, All-cons, All-head, All-tai
 use Rattle.clock27.specs.Release.{release}
 use Rattle.own_slots.specs.Slots.{own_before}
 use Rattle.pes_packet.specs.AccessUnits.{AccessUnit}
-use Rattle.unit_timing.specs.PesPacket.{PesPacket, Spaced, Sized, Declared, next_due, last_packets, pieces_of}
+use Rattle.unit_timing.specs.PesPacket.{PesPacket, Spaced, Sized, Declared, next_due, last_packets}
 use Rattle.unit_timing.proofs.Adding.{spaced_more_law, sized_more_law, group_more_law}
 use Rattle.unit_queue.specs.Lanes.{Lane, timed, packet_count, end_slot}
 use Rattle.unit_queue.specs.Places.{left_at, left_before}
-use Rattle.unit_queue.specs.Causes.{or_cause, own_cause, time_cause, room_cause, is_late, is_full, exceeds_group, earliest_of, unit_cause}
+use Rattle.unit_queue.specs.Causes.{or_cause, own_cause, time_cause, room_cause, is_late, is_full, exceeds_group, earliest_of}
 use Rattle.unit_queue.specs.Queues.{IsUnit, Kept, most_packets}
 use Rattle.unit_queue.specs.declared.rules.StreamRules.{StreamRules}
 use Rattle.stream_units.specs.Laws.{TakenOneByOne}

@@ -1,10 +1,10 @@
 -- Counting over units from their front.
-use Rattle.std.proofs.Common.{◌≡◌, ◌≤◌, ◌<◌, ℕ, ◌+◌, ◌∙◌, ap, ◌-◌, min, max, List, [], ◌∷◌, length, map, take, drop, get_or, refl, sym, arith, add-one}
+use Rattle.std.proofs.Common.{◌≡◌, ◌≤◌, ◌<◌, ℕ, ◌+◌, ◌∙◌, ap, ◌-◌, min, max, List, [], ◌∷◌, length, take, drop, get_or, refl, sym, arith, add-one}
 use Rattle.std.proofs.Math.Seq.{drop-cons}
 use Rattle.std.proofs.lemmas.List.{drop_all, take-map}
 use Rattle.pes_packet.specs.AccessUnits.{AccessUnit}
 use Rattle.stream_units.specs.Stamps.{distance, least_after}
-use Rattle.unit_timing.specs.PesPacket.{PesPacket, packets_of}
+use Rattle.unit_timing.specs.PesPacket.{packets_of}
 use Rattle.stream_units.specs.Declaration.{interval_after, least_interval, greatest_size, greatest_group, timed_units}
 
 pub size_more : (i : ℕ) (us : List AccessUnit) (u : AccessUnit) → i < length us → u ≡ get_or us i u →

@@ -1,21 +1,18 @@
 -- Units that a stream declares enough for.
-use Rattle.std.proofs.Common.{◌≡◌, ◌≤◌, ◌<◌, ℕ, ◌+◌, ◌-◌, ◌*◌, ◌/◌, ◌%◌, ◌^◌, ◌==◌, ◌++◌, nat_lt, min, max, Bool, true, false, if◌then◌else◌, Option, Some, None, List, [], ◌∷◌, length, map, take, refl, sym, ap, ◌∙◌, arith, All, inl, inr}
-use Rattle.std.proofs.Math.Nat.{le_trans}
+use Rattle.std.proofs.Common.{◌≡◌, ◌≤◌, ℕ, ◌+◌, ◌==◌, Option, Some, None, List, [], ◌∷◌, length, map, arith, All, inl, inr}
 use Rattle.std.proofs.lemmas.Bool.{cases_Bool}
 use Rattle.std.proofs.lemmas.List.{length-append}
 use Rattle.std.proofs.lemmas.List.Elements.{All-nil, All-cons, All-head, All-tail}
 use Rattle.pes_packet.specs.AccessUnits.{AccessUnit}
 use Rattle.pes_packet.specs.Spelling.{unit_text, header_text, on_wire, header_size}
 use Rattle.pes_packet.proofs.Written.{header_sizes}
-use Rattle.unit_timing.specs.PesPacket.{PesPacket, pieces_of, packets_of, Spaced, Sized, Declared}
+use Rattle.unit_timing.specs.PesPacket.{Spaced, Sized, Declared}
 use Rattle.unit_queue.specs.Lanes.{Lane, timed}
-use Rattle.unit_queue.specs.Queues.{IsUnit, Kept, most_packets}
+use Rattle.unit_queue.specs.Queues.{IsUnit, most_packets}
 use Rattle.unit_queue.specs.declared.rules.StreamRules.{StreamRules}
-use Rattle.stream_units.specs.declared.stamps.StampFault.{StampFault}
-use Rattle.stream_units.specs.declared.stamps.StampFault.TheVariants.{TooFar, Presented}
-use Rattle.stream_units.specs.Stamps.{distance, dts_at, pts_at, unit_at, moved, falls, presented, too_far, or_fault, unit_fault, fault_or, first_fault}
-use Rattle.stream_units.specs.Declaration.{interval_after, least_interval, greatest_size, greatest_group, timed_units, unit_packets, group_packets}
-use Rattle.stream_units.specs.Laws.{FirstDue, Declares, UnitsAreKept}
+use Rattle.stream_units.specs.Stamps.{distance, dts_at, unit_at, moved, unit_fault, first_fault}
+use Rattle.stream_units.specs.Declaration.{interval_after, least_interval, greatest_size, greatest_group}
+use Rattle.stream_units.specs.Laws.{FirstDue, UnitsAreKept}
 use Rattle.stream_units.proofs.Faults.{place_none, timely}
 
 -- 1. Each by itself

@@ -1,9 +1,9 @@
 -- What is left out, finding by finding.
-use Rattle.std.proofs.Common.{◌≡◌, ◌≤◌, ◌<◌, ℕ, zero, suc, ◌+◌, ◌++◌, ◌==◌, Bool, true, false, List, [], ◌∷◌, length, map, drop, get_or, refl, sym, ap, ◌∙◌, arith, add-one}
+use Rattle.std.proofs.Common.{◌≡◌, ◌≤◌, ◌<◌, ℕ, suc, ◌+◌, ◌++◌, ◌==◌, Bool, false, List, [], ◌∷◌, length, map, drop, get_or, refl, sym, arith, add-one}
 use Rattle.std.proofs.Math.Seq.{drop-cons}
 use Rattle.std.proofs.lemmas.List.{append_assoc, drop_all, length-append}
 use Rattle.demux.specs.Views.{FindingView}
-use Rattle.stream_units.specs.Carried.{brings, begun_at, joined}
+use Rattle.stream_units.specs.Carried.{brings, begun_at}
 use Rattle.stream_units.specs.LeavingOut.{leads, reason_at, noted, left_out}
 use Rattle.stream_units.specs.declared.reason.LeftOut.{LeftOut}
 use Rattle.stream_units.proofs.Accepting.{not_none}

@@ -8,3 +8,4 @@ pub mod Keeping
 pub mod Accepting
 pub mod LeftOvers
 pub mod SameIds
+pub mod LastMaps

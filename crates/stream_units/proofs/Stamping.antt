@@ -1,9 +1,8 @@
 -- Stamps and moments.
-use Rattle.std.proofs.Common.{◌≡◌, ◌≤◌, ◌<◌, ℕ, ◌+◌, ◌-◌, ◌%◌, ◌^◌, Option, Some, None, List, [], ◌∷◌, map, refl, sym, ap, ◌∙◌, arith}
-use Rattle.pes_packet.specs.AccessUnits.{AccessUnit}
+use Rattle.std.proofs.Common.{◌≡◌, ◌≤◌, ◌<◌, ℕ, ◌+◌, ◌-◌, ◌%◌, ◌^◌, Option, Some, None, [], ◌∷◌, refl, arith}
 use Rattle.pes_packet.specs.Spelling.{on_wire}
-use Rattle.stream_units.specs.Stamps.{distance, dts_at, unit_at, moved, least_after, constant_of}
-use Rattle.stream_units.specs.Laws.{MovedByOneConstant, ConstantIsLeast, after_half}
+use Rattle.stream_units.specs.Stamps.{distance, dts_at, unit_at, moved, least_after}
+use Rattle.stream_units.specs.Laws.{MovedByOneConstant, ConstantIsLeast}
 
 -- the clock shows the stamp at that moment
 pub shows : (a w : ℕ) → (a + distance a w) % 2 ^ 33 ≡ w % 2 ^ 33

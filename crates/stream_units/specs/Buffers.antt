@@ -1,6 +1,6 @@
 -- The buffers that a decoder has for a stream (ISO/IEC 13818-1, 2.4.2): the rate out of its transport buffer in bits a second,
 -- and its main buffer in bytes, multiplex and elementary stream buffer together.
-use Rattle.std.specs.Prelude.{ℕ, ◌+◌, ◌*◌, ◌/◌, ◌==◌, nat_le, min, max, if◌then◌else◌, Option, Some, None}
+use Rattle.std.specs.Prelude.{ℕ, ◌+◌, ◌*◌, ◌/◌, ◌==◌, nat_le, min, max, if◌then◌else◌}
 use Rattle.stream_units.specs.declared.buffers.Coding.{Coding}
 use Rattle.stream_units.specs.declared.buffers.Coding.TheVariants.{Mpeg, Avc, Hevc, Audio, Aac, Ac3, Subtitles, Teletext, Other}
 use Rattle.stream_units.specs.declared.buffers.Buffers.{Buffers}

@@ -4,7 +4,7 @@ use Rattle.pes_packet.specs.declared.time_stamps.Stamps.{Stamps}
 use Rattle.pes_packet.specs.declared.time_stamps.Stamps.TheVariants.{Absent, Pts, PtsDts}
 use Rattle.demux.specs.Views.{WhatView, IsDuplicate, BreaksCounter, IsScrambled, IsTruncated, IsSection, IsBadSection, IsPes, IsBadPes, IsBadPacket, IsErrored, FindingView}
 use Rattle.demux.specs.Laws.{has_pid}
-use Rattle.stream_units.specs.Carried.{Brings, Nothing, Begins, Continues, Breaks, brings, begun_at, joined}
+use Rattle.stream_units.specs.Carried.{Brings, Begins, Breaks, brings, begun_at, joined}
 use Rattle.stream_units.specs.declared.reason.Reason.{Reason}
 use Rattle.stream_units.specs.declared.reason.Reason.TheVariants as reasons
 use Rattle.stream_units.specs.declared.reason.LeftOut.{LeftOut}

@@ -1,7 +1,7 @@
 use Rattle.std.proofs.Common.{◌≡◌, ◌+◌, ◌++◌, ◌∙◌, sym, ap, List, ℕ, map, drop, rules}
 use Rattle.std.proofs.lemmas.List.{append-nil, append_assoc}
 use Rattle.demux.specs.Shown.{finding_view}
-use Rattle.stream_units.specs.Carried.{Brings, Nothing, Begins, Continues, Breaks, joined, joined_by}
+use Rattle.stream_units.specs.Carried.{Brings, joined, joined_by}
 use Rattle.stream_units.specs.Shown.{brought_view}
 use Rattle.stream_units.proofs.Joining.{joined_at, joined_end}
 use Rattle.stream_units.proofs.carrying.append_joined.Goals as goal

@@ -1,4 +1,4 @@
-use Rattle.std.proofs.Common.{◌≡◌, ◌∙◌, sym, ap, ℕ, List, arith}
+use Rattle.std.proofs.Common.{◌∙◌, ap, List, arith}
 use Rattle.pes_packet.specs.AccessUnits.{AccessUnit}
 use Rattle.unit_timing.specs.PesPacket.{packets_of}
 use Rattle.stream_units.specs.Declaration.{timed_units}

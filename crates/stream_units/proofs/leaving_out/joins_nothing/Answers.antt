@@ -1,6 +1,6 @@
-use Rattle.std.proofs.Common.{◌≡◌, ◌<◌, ◌+◌, ◌==◌, ◌∙◌, sym, ap, List, ℕ, length, map, drop, rules, arith, refl}
+use Rattle.std.proofs.Common.{◌≡◌, ◌<◌, ◌+◌, ◌==◌, ◌∙◌, sym, ap, List, ℕ, length, map, drop, rules, arith}
 use Rattle.demux.specs.Shown.{finding_view}
-use Rattle.stream_units.specs.Carried.{Brings, Nothing, Begins, Continues, Breaks, joined, joined_by}
+use Rattle.stream_units.specs.Carried.{Brings, joined, joined_by}
 use Rattle.stream_units.specs.Shown.{brought_view}
 use Rattle.stream_units.proofs.Joining.{joined_at, joined_end}
 use Rattle.stream_units.proofs.LeftOvers.{alone_more, alone_some}

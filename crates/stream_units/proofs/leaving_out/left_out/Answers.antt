@@ -1,4 +1,4 @@
-use Rattle.std.proofs.Common.{◌≡◌, ◌+◌, ◌++◌, ◌∙◌, sym, ap, ap₂, ℕ, Option, List, map, drop, rules}
+use Rattle.std.proofs.Common.{◌≡◌, ◌+◌, ◌++◌, ◌∙◌, sym, ap, ap₂, ℕ, Option, List, drop, rules}
 use Rattle.std.proofs.lemmas.List.{append-nil}
 use Rattle.demux.specs.Shown.{finding_view}
 use Rattle.stream_units.specs.Carried.{Brings}

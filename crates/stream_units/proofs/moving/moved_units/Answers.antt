@@ -1,4 +1,4 @@
-use Rattle.std.proofs.Common.{◌≡◌, ◌∷◌, [], ◌+◌, ◌++◌, ◌∙◌, ℕ, Some, None, List, length, map, refl, sym, ap, subst, rules, arith}
+use Rattle.std.proofs.Common.{◌≡◌, ◌∷◌, [], ◌+◌, ◌++◌, ◌∙◌, Some, None, List, length, map, ap, subst, rules}
 use Rattle.std.proofs.lemmas.List.{length-append}
 use Rattle.pes_packet.specs.AccessUnits.{AccessUnit}
 use Rattle.stream_units.specs.Carried.{CarriedUnit}

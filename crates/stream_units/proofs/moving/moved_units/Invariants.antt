@@ -1,4 +1,4 @@
-use Rattle.std.proofs.Common.{◌≡◌, ◌≤◌, ◌+◌, ◌^◌, ◌++◌, None, length, map}
+use Rattle.std.proofs.Common.{◌≡◌, ◌≤◌, ◌^◌, ◌++◌, None, length, map}
 use Rattle.std.specs.Prelude.{IfSome}
 use Rattle.stream_units.specs.Stamps.{moved, first_fault}
 use Rattle.stream_units.proofs.moving.moved_units.Given as goal
