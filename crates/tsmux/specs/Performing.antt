@@ -59,24 +59,8 @@ pub record FailsToWrite (Leads : List ℕ → Outcome → Type 0) (input output 
   pub tells : Tells faults (halt_line Write)
   pub status_is : status ≡ 3
 
--- memory ran out within the output: a front of it is written
-pub record RunsOut (Leads : List ℕ → Outcome → Type 0) (input output faults : Device) (status : ℕ) : Type 0 where
-  pub outcome : Outcome
-  pub leads : IsLedTo Leads input outcome
-  pub clean_input : IsClean input
-  pub taken : ℕ
-  pub written : Takes output (take taken outcome.output)
-  pub clean : IsClean output
-  pub tells : Tells faults (halt_line Memory)
-  pub status_is : status ≡ 3
-
--- a run of a subcommand that takes all memory before its first byte
+-- a run of a subcommand that takes all its memory before the first byte of its output
 abbrev pub Performs : (List ℕ → Outcome → Type 0) → Device → Device → Device → ℕ → Type 0
 Performs Leads input output faults status =
     Ends Leads input output faults status ⊎ (FailsToRead input output faults status
     ⊎ (LacksMemory input output faults status ⊎ FailsToWrite Leads input output faults status))
-
--- a run of a subcommand that writes as it goes
-abbrev pub Streams : (List ℕ → Outcome → Type 0) → Device → Device → Device → ℕ → Type 0
-Streams Leads input output faults status =
-    Performs Leads input output faults status ⊎ RunsOut Leads input output faults status

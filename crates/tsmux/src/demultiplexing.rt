@@ -5,7 +5,7 @@ ghost use Rattle.demux.specs.Stream as stream;
 ghost use Rattle.tsmux.specs.Devices.{reads, writes};
 ghost use Rattle.tsmux.specs.Demultiplexing.{Demultiplexes, ListsInput, ListsPiece, ListsPieces};
 ghost use Rattle.tsmux.specs.FindingLines.{finding_lines, has_fault};
-ghost use Rattle.tsmux.specs.Performing.{Streams};
+ghost use Rattle.tsmux.specs.Performing.{Performs};
 ghost use Rattle.tsmux.specs.WholeInput.{longest_input};
 
 use crate::finding_lines::{has_fault, write_findings};
@@ -120,7 +120,7 @@ pub fn demultiplex<R: Source, W: Sink, E: Sink>(
     output: &mut W,
     faults: &mut E,
 ) -> u8
-    ensures { Streams Demultiplexes
+    ensures { Performs Demultiplexes
         (reads R.Source input.old input.new)
         (writes W.Sink output.old output.new)
         (writes E.Sink faults.old faults.new)

@@ -6,7 +6,7 @@ ghost use Rattle.tsmux.specs.Demultiplexing.{Demultiplexes};
 ghost use Rattle.tsmux.specs.Devices.{reads, writes};
 ghost use Rattle.tsmux.specs.Monitoring.{Monitors};
 ghost use Rattle.tsmux.specs.Multiplexing.{Muxes};
-ghost use Rattle.tsmux.specs.Performing.{LacksMemory, Performs, Streams};
+ghost use Rattle.tsmux.specs.Performing.{LacksMemory, Performs};
 ghost use Rattle.tsmux.specs.Planning.{Plans};
 ghost use Rattle.tsmux.specs.Program.{IsUsage};
 ghost use Rattle.tsmux.specs.Request.{asked};
@@ -63,7 +63,7 @@ pub fn run<R: Source, W: Sink, E: Sink>(
         Performs Plans (reads R.Source input.old input.new) (writes W.Sink output.old output.new) (writes E.Sink faults.old faults.new) result }
     // Packets to a line for each finding.
     ensures demux { asked words.now ≡ Some Demux →
-        Streams Demultiplexes (reads R.Source input.old input.new) (writes W.Sink output.old output.new) (writes E.Sink faults.old faults.new) result }
+        Performs Demultiplexes (reads R.Source input.old input.new) (writes W.Sink output.old output.new) (writes E.Sink faults.old faults.new) result }
     // A job to what is said of it.
     ensures check { (switch : Bool) → asked words.now ≡ Some (Check switch) →
         Performs (Checks switch) (reads R.Source input.old input.new) (writes W.Sink output.old output.new) (writes E.Sink faults.old faults.new) result }
