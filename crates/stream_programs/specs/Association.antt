@@ -1,0 +1,80 @@
+-- The programs that a stream's program association table names (ISO/IEC 13818-1, 2.4.4.3).
+use Rattle.std.specs.Prelude.{ℕ, ◌==◌, ◌||◌, not, Bool, false, if◌then◌else◌, List, [], ◌∷◌, ◌++◌, flat_map, Option, Some, None, option_map, option_and_then, Result, Ok, Err}
+use Rattle.std.specs.List.{list_any}
+use Rattle.std.specs.Option.{option_or}
+use Rattle.psi_tables.specs.Views.{SectionView}
+use Rattle.psi_tables.specs.Reading.{section_at}
+use Rattle.psi_tables.specs.ProgramAssociation.{PatView, pat_at}
+use Rattle.psi_tables.specs.declared.error.SectionError.{SectionError}
+use Rattle.psi_tables.specs.declared.pat.programs.Program.{Program}
+use Rattle.demux.specs.Views.{FindingView}
+use Rattle.stream_programs.specs.Sections.{section_on}
+
+-- 1. The tables
+
+-- a table that is in force now, and not the next one
+unfoldable pub in_force : Result PatView SectionError → Option PatView
+in_force (Err error) = None
+in_force (Ok pat) = if pat.header.current_next then Some pat else None
+
+unfoldable pub pat_of_section : Result (SectionView × ℕ) SectionError → Option PatView
+pat_of_section (Err error) = None
+pat_of_section (Ok section) = in_force (pat_at section.0)
+
+unfoldable pub pat_in : List ℕ → Option PatView
+pat_in bytes = pat_of_section (section_at bytes)
+
+-- the table that a finding has: a section on PID 0
+unfoldable pub pat_found : FindingView → Option PatView
+pat_found finding = option_and_then pat_in (section_on 0 finding)
+
+-- the first one of a stream
+unfoldable pub first_pat : List FindingView → Option PatView
+first_pat [] = None
+first_pat (finding ∷ findings) = option_or (pat_found finding) (first_pat findings)
+
+-- 2. Their entries
+
+-- those of a table of this version
+unfoldable pub entries_of : ℕ → Option PatView → List Program
+entries_of version None = []
+entries_of version (Some pat) = if pat.header.version_number == version then pat.programs else []
+
+-- those of all the sections of this version
+unfoldable pub entries : ℕ → List FindingView → List Program
+entries version findings = flat_map (λ finding. entries_of version (pat_found finding)) findings
+
+unfoldable pub is_named : ℕ → List Program → Bool
+is_named number programs = list_any (λ program. program.program_number == number) programs
+
+-- an entry beside the programs that are named: 0 names the network PID, and of a number the first entry counts
+unfoldable pub with_program : List Program → Program → List Program
+with_program named p = if (p.program_number == 0) || is_named p.program_number named then named else named ++ p ∷ []
+
+unfoldable pub with_programs : List Program → List Program → List Program
+with_programs named [] = named
+with_programs named (p ∷ ps) = with_programs (with_program named p) ps
+
+-- 3. The association
+
+pub record AssociationView : Type 0 where
+  pub transport_stream_id : ℕ
+  pub programs : List Program
+
+-- what the sections of the first one's version name
+unfoldable pub association : List FindingView → Option AssociationView
+association findings = option_map (λ first. record {
+  transport_stream_id = first.header.table_id_extension;
+  programs = with_programs [] (entries first.header.version_number findings);
+}) (first_pat findings)
+
+-- a table of another version
+unfoldable pub is_other : ℕ → Option PatView → Bool
+is_other version None = false
+is_other version (Some pat) = not (pat.header.version_number == version)
+
+-- the packet at which the first one is found
+unfoldable pub association_change : ℕ → List FindingView → Option ℕ
+association_change version [] = None
+association_change version (finding ∷ findings) =
+    if is_other version (pat_found finding) then Some finding.packet else association_change version findings

@@ -1,0 +1,17 @@
+-- PIDs that are free.
+use Rattle.std.specs.Prelude.{◌≡◌, ◌≤◌, ◌<◌, ℕ, ◌==◌, Bool, true, false, List}
+use Rattle.std.specs.List.{list_any}
+
+unfoldable pub is_taken : ℕ → List ℕ → Bool
+is_taken pid taken = list_any (λ other. other == pid) taken
+
+-- all PIDs from one to before another are taken
+abbrev pub AreTaken : ℕ → ℕ → List ℕ → Type 0
+AreTaken from to taken = (pid : ℕ) → from ≤ pid → pid < to → is_taken pid taken ≡ true
+
+-- the first one that is not, of those that a stream may have
+pub record IsLeastFree (from : ℕ) (taken : List ℕ) (pid : ℕ) : Type 0 where
+  pub after : from ≤ pid
+  pub below : pid < 8191
+  pub free : is_taken pid taken ≡ false
+  pub least : AreTaken from pid taken

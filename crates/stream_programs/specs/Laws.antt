@@ -1,0 +1,25 @@
+-- What the laws of this crate say.
+use Rattle.std.specs.Prelude.{◌≡◌, List, [], ◌∷◌}
+use Rattle.psi_tables.specs.declared.pat.programs.Program.{Program}
+use Rattle.demux.specs.Views.{FindingView}
+use Rattle.demux.specs.Laws.{found_of}
+use Rattle.stream_programs.specs.Association.{association}
+use Rattle.stream_programs.specs.ProgramMaps.{program_map}
+use Rattle.stream_programs.specs.Programs.{programs_of}
+
+-- the programs that are named are those of what is found on PID 0 alone
+abbrev pub FindingsOfPidZero : Type 0
+FindingsOfPidZero = (findings : List FindingView) → association (found_of 0 findings) ≡ association findings
+
+-- the map of a program is that of what is found on its PID alone
+abbrev pub FindingsOfTheMap : Type 0
+FindingsOfTheMap = (p : Program) (findings : List FindingView) → program_map p (found_of p.pid findings) ≡ program_map p findings
+
+-- two streams have the same findings on the PIDs of these programs' maps
+abbrev pub SameOnMaps : List Program → List FindingView → List FindingView → Type 0
+SameOnMaps [] one other = Unit {0}
+SameOnMaps (p ∷ ps) one other = (found_of p.pid one ≡ found_of p.pid other) × SameOnMaps ps one other
+
+-- and so the same programs
+abbrev pub MapsDecide : Type 0
+MapsDecide = (named : List Program) (one other : List FindingView) → SameOnMaps named one other → programs_of named one ≡ programs_of named other

@@ -1,0 +1,36 @@
+-- Which streams of a program map table are kept.
+use Rattle.std.specs.Prelude.{ℕ, ◌==◌, ◌&&◌, ◌||◌, nat_le, nat_lt, Bool, if◌then◌else◌, List, [], ◌∷◌, Option, Some, None}
+use Rattle.stream_programs.specs.declared.left_out.LeftOut.{LeftOut}
+use Rattle.stream_programs.specs.declared.left_out.LeftOut.TheVariants.{NoPes, Reserved, Taken}
+
+-- an elementary stream of a program, with its whole descriptors but for those of conditional access
+pub record FoundStreamView : Type 0 where
+  pub program : ℕ
+  pub stream_type : ℕ
+  pub pid : ℕ
+  pub descriptors : List ℕ
+
+-- stream_types whose data are sections (ISO/IEC 13818-1, table 2-34; SCTE 35 for 0x86), and DSM-CC (0x08), whose stream_id
+-- is one of its own: private sections, ISO/IEC 13818-6 A to D, ISO/IEC 14496 sections, synchronized download, metadata
+unfoldable pub has_no_pes : ℕ → Bool
+has_no_pes t =
+    t == 0x05 || (t == 0x08 || (nat_le 0x0A t && nat_le t 0x0D || (t == 0x13 || (t == 0x14 || (nat_le 0x16 t && nat_le t 0x19 || t == 0x86)))))
+
+-- PIDs that no elementary stream may have: below 32 those of tables, and that of null packets
+unfoldable pub is_reserved : ℕ → Bool
+is_reserved pid = nat_lt pid 32 || nat_le 8191 pid
+
+-- the program of the first stream that has a PID
+unfoldable pub holder : ℕ → List FoundStreamView → Option ℕ
+holder pid [] = None
+holder pid (s ∷ ss) = if s.pid == pid then Some s.program else holder pid ss
+
+abbrev pub taken : ℕ → ℕ → Option ℕ → Option LeftOut
+taken program pid None = None
+taken program pid (Some other) = Some (Taken program pid other)
+
+-- why a stream is left out beside those that are kept
+unfoldable pub refused : ℕ → ℕ → ℕ → List FoundStreamView → Option LeftOut
+refused program stream_type pid kept =
+    if has_no_pes stream_type then Some (NoPes program pid stream_type)
+    else (if is_reserved pid then Some (Reserved program pid) else taken program pid (holder pid kept))

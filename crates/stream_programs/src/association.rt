@@ -1,0 +1,194 @@
+//! The programs that the program association table names (ISO/IEC 13818-1, 2.4.4.3).
+
+ghost use Rattle.std.specs.Prelude.{◌≡◌, IfOk, OnOk, map, option_map};
+ghost use Rattle.bit_fields.specs.Reading.{Gives};
+ghost use Rattle.psi_tables.specs.ProgramAssociation.{pat_at, pat_view, programs_of};
+ghost use Rattle.psi_tables.specs.Reading.{section_at};
+ghost use Rattle.psi_tables.specs.Views.{section_view};
+ghost use Rattle.demux.specs.Shown.{finding_view};
+ghost use Rattle.stream_programs.specs.Association as spec;
+
+use crate::sections::section_on;
+use demux::Finding;
+use psi_tables::{Pat, Program, Section};
+use std::alloc::{AllocError, Allocator, Global};
+use std::marker::Model;
+
+/// The programs of a transport stream, each with the PID of its program map table.
+#[derive(Drop)]
+pub struct Association<A: Allocator = Global> {
+    pub transport_stream_id: u16,
+    /// In the order of the table, each program_number once; program 0, which names the network PID, is none.
+    pub programs: Vec<Program, A>,
+}
+
+// A contract sees the programs as a list.
+impl<A: Allocator> Model for Association<A> {
+    ghost use Rattle.stream_programs.specs.Association.{AssociationView};
+
+    ghost Value = { AssociationView };
+
+    ghost view = { λ a. record { transport_stream_id = a.transport_stream_id; programs = a.programs.items } };
+}
+
+// A table that is in force now.
+#[tactic(auto, unfolding(crate::specs::Association::pat_of_section, crate::specs::Association::in_force))]
+fn pat_of_section<'f>(section: &Section<'f>) -> Option<Pat<'f>>
+    ensures { option_map pat_view result ≡ spec.in_force (pat_at (section_view section.now)) }
+{
+    match Pat::read(section) {
+        Err(_) => None,
+        Ok(pat) => {
+            if pat.header.current_next {
+                Some(pat)
+            } else {
+                None
+            }
+        }
+    }
+}
+
+#[tactic(auto, unfolding(crate::specs::Association::pat_in, crate::specs::Association::pat_of_section))]
+fn pat_in(bytes: &[u8]) -> Option<Pat<'_>>
+    ensures { option_map pat_view result ≡ spec.pat_in bytes.now }
+{
+    match Section::read(bytes) {
+        Err(_) => None,
+        Ok((section, _)) => pat_of_section(&section),
+    }
+}
+
+// The table that a finding has.
+#[tactic(auto, unfolding(crate::specs::Association::pat_found))]
+fn pat_found<'f, A: Allocator>(finding: &'f Finding<'_, A>) -> Option<Pat<'f>>
+    ensures { option_map pat_view result ≡ spec.pat_found (finding_view finding.now) }
+{
+    match section_on(0, finding) {
+        None => None,
+        Some(bytes) => pat_in(bytes),
+    }
+}
+
+// The first table in force.
+fn first_pat<'f, A: Allocator>(findings: &'f [Finding<'_, A>]) -> Option<Pat<'f>>
+    ensures { option_map pat_view result ≡ spec.first_pat (map finding_view findings.now) }
+{
+    for finding in findings {
+        if let Some(pat) = pat_found(finding) {
+            return Some(pat);
+        }
+    }
+    None
+}
+
+// Whether a program_number is named.
+#[tactic(auto, unfolding(crate::specs::Association::is_named))]
+fn is_named(number: u16, programs: &[Program]) -> bool
+    ensures { result ≡ spec.is_named number programs.now }
+{
+    programs
+        .iter()
+        .any(|program| program.program_number == number)
+}
+
+#[tactic(auto, unfolding(crate::specs::Association::with_program))]
+fn add_program<A: Allocator>(
+    program: Program,
+    programs: &mut Vec<Program, A>,
+) -> Result<(), AllocError>
+    ensures { OnOk result (programs.new.items ≡ spec.with_program programs.old.items program) }
+{
+    if program.program_number != 0 && !is_named(program.program_number, programs) {
+        programs.push(program)?;
+    }
+    Ok(())
+}
+
+// The entries of a table.
+#[tactic(auto, unfolding(crate::specs::Association::with_programs))]
+fn add_entries<A: Allocator>(pat: Pat<'_>, programs: &mut Vec<Program, A>) -> Result<(), AllocError>
+    ensures { OnOk result (programs.new.items ≡ spec.with_programs programs.old.items (programs_of pat.entry.programs)) }
+{
+    for program in pat.programs {
+        add_program(program, programs)?;
+    }
+    Ok(())
+}
+
+// The entries of what a finding has, where it is of this version.
+#[tactic(auto, unfolding(crate::specs::Association::with_programs, crate::specs::Association::entries_of))]
+fn add_version<A: Allocator>(
+    version: u8,
+    finding: &Finding<'_, A>,
+    programs: &mut Vec<Program, A>,
+) -> Result<(), AllocError>
+    ensures { OnOk result (programs.new.items ≡ spec.with_programs programs.old.items (spec.entries_of version (spec.pat_found (finding_view finding.now)))) }
+{
+    match pat_found(finding) {
+        None => Ok(()),
+        Some(pat) => {
+            if pat.header.version_number == version {
+                add_entries(pat, programs)
+            } else {
+                Ok(())
+            }
+        }
+    }
+}
+
+// The entries of a version.
+fn add_all<A: Allocator>(
+    version: u8,
+    findings: &[Finding<'_, A>],
+    programs: &mut Vec<Program, A>,
+) -> Result<(), AllocError>
+    ensures { OnOk result (programs.new.items ≡ spec.with_programs programs.old.items (spec.entries version (map finding_view findings.now))) }
+{
+    for finding in findings {
+        add_version(version, finding, programs)?;
+    }
+    Ok(())
+}
+
+/// The programs of a stream, by what is found of it: those that the program association sections of the first one's version
+/// name. Where there is no such section in force there is no answer.
+#[tactic(auto, unfolding(crate::specs::Association::association))]
+pub fn named_programs<A: Allocator>(
+    alloc: A,
+    findings: &[Finding<'_, A>],
+) -> Result<Option<Association<A>>, AllocError>
+    ensures { IfOk result (λ found. found ≡ spec.association (map finding_view findings.now)) }
+{
+    let Some(first) = first_pat(findings) else {
+        return Ok(None);
+    };
+    let mut programs = Vec::new(alloc);
+    add_all(first.header.version_number, findings, &mut programs)?;
+    Ok(Some(Association {
+        transport_stream_id: first.header.table_id_extension,
+        programs,
+    }))
+}
+
+// Whether a finding has a table of another version.
+#[tactic(auto, unfolding(crate::specs::Association::is_other))]
+fn is_other<A: Allocator>(version: u8, finding: &Finding<'_, A>) -> bool
+    ensures { result ≡ spec.is_other version (spec.pat_found (finding_view finding.now)) }
+{
+    match pat_found(finding) {
+        None => false,
+        Some(pat) => pat.header.version_number != version,
+    }
+}
+
+/// The packet in which a program association section in force of another version than this ends first.
+pub fn association_change<A: Allocator>(version: u8, findings: &[Finding<'_, A>]) -> Option<u64>
+    ensures { result ≡ spec.association_change version (map finding_view findings.now) }
+{
+    for finding in findings {
+        if is_other(version, finding) {
+            return Some(finding.packet);
+        }
+    }
+    None
+}

@@ -1,0 +1,35 @@
+//! The sections of a PID in the findings of a stream.
+
+ghost use Rattle.std.specs.Prelude.{◌≡◌, option_map};
+ghost use Rattle.demux.specs.Shown.{finding_view, part_bytes};
+ghost use Rattle.stream_programs.specs.Sections as spec;
+
+use demux::{Finding, Part, What};
+use std::alloc::Allocator;
+
+// The bytes of a finding.
+fn bytes_of<'f, A: Allocator>(part: &'f Part<'_, A>) -> &'f [u8]
+    ensures { result.now ≡ part_bytes part.now }
+{
+    match part {
+        Part::Span(bytes) => bytes,
+        Part::Joined(bytes) => bytes.as_slice(),
+    }
+}
+
+/// The bytes of a section that is found on a PID.
+#[tactic(auto, unfolding(crate::specs::Sections::section_on, crate::specs::Sections::section_bytes))]
+pub(crate) fn section_on<'f, A: Allocator>(
+    pid: u16,
+    finding: &'f Finding<'_, A>,
+) -> Option<&'f [u8]>
+    ensures { option_map (λ bytes. bytes.now) result ≡ spec.section_on pid (finding_view finding.now) }
+{
+    if finding.pid != Some(pid) {
+        return None;
+    }
+    match &finding.what {
+        What::Section(part) => Some(bytes_of(part)),
+        _ => None,
+    }
+}
