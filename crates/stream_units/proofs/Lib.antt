@@ -8,4 +8,3 @@ pub mod Keeping
 pub mod Accepting
 pub mod LeftOvers
 pub mod SameIds
-pub mod LastMaps

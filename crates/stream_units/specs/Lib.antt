@@ -2,7 +2,6 @@ pub mod Carried
 pub mod Shown
 pub mod LeavingOut
 pub mod Damage
-pub mod MapSections
 pub mod StreamIds
 pub mod Buffers
 pub mod Stamps

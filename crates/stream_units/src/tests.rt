@@ -2,8 +2,8 @@
 
 use crate::{
     Buffers, Coding, Reason, StampError, StampFault, WireUnit, buffers_of, carried_units, constant,
-    distance, first_other, greatest_size, group_packets, last_map, least_interval, left_out,
-    moved_units, written_id,
+    distance, first_other, greatest_size, group_packets, least_interval, left_out, moved_units,
+    written_id,
 };
 use clock27::Rate;
 use demux::{Finding, Kind, Part, What};
@@ -301,49 +301,5 @@ fn few_units(rt: HostRuntime) -> Result<(), Fail> {
     assert_eq!(rt; least_interval(&units), 90_000);
     assert_eq!(rt; group_packets(0, &units, 64), 2);
     assert_eq!(rt; greatest_size::<Global>(&[]), 0);
-    Ok(())
-}
-
-// A PMT of program 1 with one stream, one with two, one of program 2, and one of program 1 that is not yet in force.
-const MAPS: [&[u8]; 4] = [
-    &[
-        0x02, 0xb0, 0x12, 0x00, 0x01, 0xc1, 0x00, 0x00, 0xe1, 0x00, 0xf0, 0x00, 0x1b, 0xe1, 0x00,
-        0xf0, 0x00, 0x15, 0xbd, 0x4d, 0x56,
-    ],
-    &[
-        0x02, 0xb0, 0x17, 0x00, 0x01, 0xc1, 0x00, 0x00, 0xe1, 0x00, 0xf0, 0x00, 0x1b, 0xe1, 0x00,
-        0xf0, 0x00, 0x03, 0xe1, 0x01, 0xf0, 0x00, 0x4e, 0x59, 0x3d, 0x1e,
-    ],
-    &[
-        0x02, 0xb0, 0x12, 0x00, 0x02, 0xc1, 0x00, 0x00, 0xe1, 0x00, 0xf0, 0x00, 0x02, 0xe1, 0x2c,
-        0xf0, 0x00, 0x91, 0x14, 0x82, 0xad,
-    ],
-    &[
-        0x02, 0xb0, 0x0d, 0x00, 0x01, 0xc0, 0x00, 0x00, 0xe1, 0x00, 0xf0, 0x00, 0x2a, 0xa2, 0x77,
-        0x26,
-    ],
-];
-
-// The last one of its program that is in force counts.
-#[test]
-fn last_maps(rt: HostRuntime) -> Result<(), Fail> {
-    let alloc = rt.alloc();
-    let mut found = Vec::new(alloc);
-    for bytes in MAPS {
-        let section = What::Section(Part::Joined(Vec::from_slice(alloc, bytes)?));
-        found.push(other(1, section))?;
-    }
-    for (pid, number, wanted) in [
-        (256, 1, Some(10)),
-        (256, 2, Some(5)),
-        (256, 3, None),
-        (257, 1, None),
-    ] {
-        let streams = match last_map(pid, number, &found) {
-            Some(map) => Some(map.streams.text_length()),
-            None => None,
-        };
-        assert_eq!(rt; streams, wanted);
-    }
     Ok(())
 }
