@@ -24,7 +24,9 @@ mod wire_unit;
 pub use buffers::{Buffers, Coding, buffers_of};
 pub use carrying::carried_units;
 pub use declaration::{greatest_size, group_packets, least_interval};
-pub use laws::{constant_is_least, findings_of_the_pid, moved_by_one_constant, units_are_kept};
+pub use laws::{
+    constant_is_least, findings_of_the_pid, moved_by_one_constant, taken_one_by_one, units_are_kept,
+};
 pub use leaving_out::left_out;
 pub use moving::{StampError, moved_units};
 pub use reason::{LeftOut, Reason};
