@@ -2,9 +2,11 @@
 use super::mux_runs::{TURNED, patient, push_record};
 use super::plan_checks::{DESCRIPTION, PLAN, job};
 use super::{assert_told, ran_on};
+use crate::pieces_left::PiecesLeft;
 use crate::unit_list::read_units;
 use description::Description;
 use std::alloc::{AllocError, Global};
+use std::collections::VecDeque;
 use std::process::Abort;
 use std::test::Fail;
 use tstd::{Fullness, measure};
@@ -92,7 +94,12 @@ fn measured_over(
     let Ok(description) = Description::read(alloc, text) else {
         return Err(Fail::from("no description"));
     };
-    let Ok(units) = read_units(alloc, records) else {
+    let pieces = PiecesLeft {
+        front: Vec::from_slice(alloc, records)?,
+        at: 0,
+        rest: VecDeque::new(alloc),
+    };
+    let Ok(units) = read_units(alloc, pieces) else {
         return Err(Fail::from("no units"));
     };
     match measure(alloc, &description, &units, outcome.output.as_slice()) {
