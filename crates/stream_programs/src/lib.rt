@@ -13,6 +13,7 @@ mod left_out;
 mod program_map;
 mod programs;
 mod sections;
+mod services;
 mod streams;
 #[cfg(test)]
 mod tests;
@@ -23,4 +24,5 @@ pub use laws::{findings_of_pid_zero, findings_of_the_map, maps_decide};
 pub use left_out::LeftOut;
 pub use program_map::last_program_map;
 pub use programs::{FoundProgram, Programs, found_programs};
+pub use services::{FoundService, last_service};
 pub use streams::FoundStream;
