@@ -1,8 +1,9 @@
 //! The programs of a transport stream and their elementary streams, from what a demultiplexer finds of its tables.
 //!
 //! The program association table in force names the programs (`specs/Association`), and the last program map table of each
-//! its streams (`specs/ProgramMaps`, `specs/Streams`, `specs/Programs`). What is left out of the tables is said. The laws say
-//! that the findings of the tables' PIDs alone decide.
+//! its streams (`specs/ProgramMaps`, `specs/Streams`, `specs/Programs`); the service description has its name
+//! (`specs/Services`). What is left out of the tables is said. The laws say that the findings of PID 0 and of the maps' PIDs
+//! alone decide.
 #![tactic(auto)]
 
 mod association;
