@@ -7,7 +7,7 @@ use Rattle.demux.specs.Views.{FindingView}
 use Rattle.stream_programs.specs.ProgramMaps.{pmt_found, program_map}
 use Rattle.stream_programs.proofs.Slices.{more, done}
 
-or_both : {Y Z : Type 0} (shown : Y → Z) (o : Option Z) (found last : Option Y) →
+pub or_both : {Y Z : Type 0} (shown : Y → Z) (o : Option Z) (found last : Option Y) →
     option_or (option_or o (option_map shown found)) (option_map shown last) ≡ option_or o (option_map shown (option_or found last))
 or_both shown None None last = refl
 or_both shown None (Some y) last = refl

@@ -3,6 +3,7 @@ pub mod Associating
 pub mod DescriptorParts
 pub mod Holding
 pub mod LastMaps
+pub mod LastServices
 pub mod Gathering
 pub mod Taking
 pub mod TablesAlone

@@ -5,4 +5,5 @@ pub mod ProgramMaps
 pub mod Streams
 pub mod Programs
 pub mod FreePids
+pub mod Services
 pub mod Laws

@@ -1,12 +1,8 @@
-//! What is left out of the tables of a stream, or told apart in them.
+//! What is left out of the tables of a stream.
 
 /// What of a stream's tables is not taken as it stands.
 #[derive(Clone, Copy, Debug, PartialEq, Eq)]
 pub enum LeftOut {
-    /// From this packet on there is a program association table of another version: the first one stands.
-    Association {
-        packet: u64,
-    },
     /// The program has no program map table.
     NoMap {
         program: u16,

@@ -1,12 +1,14 @@
 //! Tables of ffmpeg's streams, and tables made by hand.
 mod vectors;
 
-use crate::{LeftOut, Programs, association_change, found_programs, free_pid, named_programs};
+use crate::{
+    LeftOut, Programs, association_change, found_programs, free_pid, last_service, named_programs,
+};
 use demux::{Finding, Kind, Part, What};
 use psi_tables::Program;
 use std::alloc::{AllocError, Global};
 use std::test::Fail;
-use vectors::{EMPTY_MAP, FIRST_MAP, LAST_MAP, MORE, NEXT_PAT, OTHER_PAT, PAT, PMT};
+use vectors::{EMPTY_MAP, FIRST_MAP, LAST_MAP, MORE, NEXT_PAT, OTHER_PAT, PAT, PMT, SDT};
 
 // Sections on PIDs, one in each packet.
 fn found(alloc: Global, sections: &[(u16, &[u8])]) -> Result<Vec<Finding<'static>>, AllocError> {
@@ -153,4 +155,19 @@ fn least_free_pids(rt: HostRuntime) {
     assert_eq!(rt; free_pid(8190, &[]), Some(8190));
     assert_eq!(rt; free_pid(8190, &[8190]), None);
     assert_eq!(rt; free_pid(9000, &[]), None);
+}
+
+// The service of ffmpeg's stream.
+#[test]
+fn service_of_ffmpeg(rt: HostRuntime) -> Result<(), Fail> {
+    let alloc = rt.alloc();
+    let findings = found(alloc, &[(0x11, &PMT), (0x11, &SDT), (0x12, &SDT)])?;
+    let Some(service) = last_service(1, &findings) else {
+        panic!(rt; "no service");
+    };
+    assert_eq!(rt; service.service_type, 1);
+    assert_eq!(rt; service.provider, b"FFmpeg".as_slice());
+    assert_eq!(rt; service.name, b"Service01".as_slice());
+    assert!(rt; last_service(2, &findings).is_none());
+    Ok(())
 }
