@@ -14,8 +14,6 @@ mod reports;
 mod program_maps;
 mod recurrence;
 mod table_watch;
-#[cfg(test)]
-mod tests;
 
 // What is kept of packets, and of what is found in them.
 mod counts;

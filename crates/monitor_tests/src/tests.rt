@@ -1,8 +1,8 @@
 //! Damaged streams, each with its faults, and refused memory. What is expected was worked out by hand from the rules.
 mod streams;
 
-use crate::{Fault, Monitor, Report, ReportError, Rule, WriteError, report};
 use linked_list_allocator::LocalHeap;
+use monitor::{Fault, Monitor, Report, ReportError, Rule, WriteError, report};
 use std::alloc::{AllocError, Global};
 use std::process::Abort;
 use std::test::Fail;
@@ -213,36 +213,52 @@ fn lines_on_a_writer(rt: HostRuntime) -> Result<(), Fail> {
     Ok(())
 }
 
-// A report where memory is refused from some use on, or the faults.
-fn refused(alloc: Global, bytes: &[u8], room: usize) -> Result<bool, Fail> {
+// Whether memory was refused in a heap of this size. A report that is given is the one of an undisturbed run.
+fn refused(
+    rt: &impl Abort,
+    alloc: Global,
+    bytes: &[u8],
+    undisturbed: &Report,
+    room: usize,
+) -> Result<bool, Fail> {
     let heap = LocalHeap::new(alloc, room)?;
     match report(&heap, slow()?, 40, bytes) {
-        Ok(report) => Ok(report.faults().len() == 3),
-        Err(ReportError::Memory) => Ok(false),
+        Ok(report) => {
+            assert_eq!(rt; report.packets(), undisturbed.packets());
+            assert_eq!(rt; report.pids(), undisturbed.pids());
+            assert_eq!(rt; report.faults(), undisturbed.faults());
+            Ok(false)
+        }
+        Err(ReportError::Memory) => Ok(true),
     }
 }
 
+// A sync byte lost, tables, a wrong check word, a clock reference, and a header that is refused.
+const MANY: [(u8, u32); 6] = [
+    (b'x', 1),
+    (b'P', 1),
+    (b'b', 1),
+    (b'C', 1),
+    (b'N', 1),
+    (b'r', 1),
+];
+
+// Heaps from 64 bytes to 64 KiB, each 64 bytes larger than the one before: the smallest is too small, the largest is not.
 #[test]
 fn refused_memory(rt: HostRuntime) -> Result<(), Fail> {
     let alloc = rt.alloc();
-    let bytes = stream(
-        alloc,
-        &[
-            (b'x', 1),
-            (b'P', 1),
-            (b'b', 1),
-            (b'C', 1),
-            (b'N', 1),
-            (b'r', 1),
-        ],
-    )?;
+    let bytes = stream(alloc, &MANY)?;
+    let undisturbed = report(alloc, slow()?, 40, &bytes)?;
+    assert_eq!(rt; undisturbed.faults().len(), 3);
     let mut refusals = 0u32;
-    for n in 1..32usize {
-        if !refused(alloc, &bytes, 2048 * n)? {
+    let mut last = true;
+    for n in 1..1_025usize {
+        last = refused(&rt, alloc, &bytes, &undisturbed, 64 * n)?;
+        if last {
             refusals = refusals.saturating_add(1);
         }
     }
-    assert!(rt; 0 < refusals, "never refused");
-    assert!(rt; refusals < 31, "always refused");
+    assert!(rt; 16 < refusals, "refused {refusals} times");
+    assert!(rt; !last, "refused in 64 KiB");
     Ok(())
 }
