@@ -1,4 +1,6 @@
 //! Damaged streams, each with its faults, and refused memory. What is expected was worked out by hand from the rules.
+mod hostile;
+mod plain;
 mod streams;
 
 use linked_list_allocator::LocalHeap;
