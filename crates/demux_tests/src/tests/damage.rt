@@ -2,6 +2,7 @@
 use super::{in_pieces, lines, long_packet, pat_packet, pes_packet, reference, section_in_two};
 use demux::whole;
 use std::alloc::{AllocError, Global};
+use std::process::Abort;
 use std::test::Fail;
 
 // A PES packet of 262 bytes begins in a packet of PID 258.
@@ -82,18 +83,60 @@ fn hostile_stream(alloc: Global, seed: &mut u32) -> Result<Vec<u8>, AllocError> 
     Ok(stream)
 }
 
+// What is found in a stream that comes in pieces, and whole, is what the plain program finds.
+fn check(rt: &impl Abort, alloc: Global, stream: &[u8]) -> Result<(), Fail> {
+    let want = reference::lines(alloc, stream)?;
+    assert_eq!(rt; in_pieces(alloc, stream, 50)?.as_str(), want.as_str());
+    let found = whole(alloc, stream)?;
+    assert_eq!(rt; lines(alloc, &found)?.as_str(), want.as_str());
+    Ok(())
+}
+
 #[test]
 fn hostile_streams(rt: HostRuntime) -> Result<(), Fail> {
     let alloc = rt.alloc();
     let mut seed = 1;
-    for _ in 0..40 {
+    for _ in 0..1_000 {
         let stream = hostile_stream(alloc, &mut seed)?;
-        let want = reference::lines(alloc, &stream)?;
-        assert_eq!(rt; in_pieces(alloc, &stream, 50)?.as_str(), want.as_str());
-        assert_eq!(rt;
-            lines(alloc, &whole(alloc, &stream)?)?.as_str(),
-            want.as_str()
-        );
+        check(&rt, alloc, &stream)?;
     }
     Ok(())
+}
+
+// A PES packet, a section, and a PES packet that ends with the stream.
+fn short_stream(alloc: Global) -> Result<Vec<u8>, AllocError> {
+    let mut bytes = Vec::new(alloc);
+    bytes.extend_from_slice(&pes_packet())?;
+    bytes.extend_from_slice(&pat_packet())?;
+    bytes.extend_from_slice(&long_packet(true, 0))?;
+    Ok(bytes)
+}
+
+#[test]
+fn beginnings(rt: HostRuntime) -> Result<(), Fail> {
+    let alloc = rt.alloc();
+    let bytes = short_stream(alloc)?;
+    assert_eq!(rt; bytes.len(), 564);
+    for size in 0..565usize {
+        check(&rt, alloc, bytes.get(..size).unwrap_or(&[]))?;
+    }
+    Ok(())
+}
+
+// Each change of one byte.
+fn changes_of(rt: &impl Abort, alloc: Global, row: &[u8]) -> Result<(), Fail> {
+    for at in 0..row.len() {
+        for value in [0x00, 0x7F, 0x80, 0xFF] {
+            let mut changed = row.to_vec(alloc)?;
+            changed[at] = value;
+            check(rt, alloc, &changed)?;
+        }
+    }
+    Ok(())
+}
+
+#[test]
+fn one_byte_changed(rt: HostRuntime) -> Result<(), Fail> {
+    let alloc = rt.alloc();
+    changes_of(&rt, alloc, &short_stream(alloc)?)
 }
