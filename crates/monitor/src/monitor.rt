@@ -207,8 +207,8 @@ impl<A: Allocator + Copy> Monitor<A> {
     fn report_rest(&mut self, bytes: &[u8]) -> Result<Report<A>, AllocError>
         ensures { IfOk result (λ report. report ≡ report_of (ended_after self.old bytes.now)) }
     {
-        let (packets, _) = bytes.as_chunks::<188>();
-        self.take_each(packets)?;
+        let (whole, _) = bytes.as_chunks::<188>();
+        self.take_each(whole)?;
         self.end_report(bytes.len() % 188 != 0)
     }
 
