@@ -1,5 +1,6 @@
 //! Worked records and their packets, each refusal, failing devices and refused memory.
 
+mod records;
 mod runs;
 mod services;
 
