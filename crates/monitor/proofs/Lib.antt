@@ -21,3 +21,5 @@ pub mod FirstSeen
 pub mod Grouping
 pub mod Reporting
 pub mod Taking
+pub mod RuleNames
+pub mod Leaving

@@ -1,23 +1,52 @@
--- A report on a writer.
-use Rattle.std.specs.Prelude.{◌≡◌, ℕ, ◌<◌, List, length, Result, Ok, Err, ⊤}
+-- A text on its way to a writer, and what the writer has of it in the end.
+use Rattle.std.specs.Prelude.{◌≡◌, ℕ, ◌<◌, ◌≤◌, ◌-◌, ◌^◌, ◌++◌, min, Bool, true, false, List, length, take, drop, Option, Result, Ok, Err}
+use Rattle.std.specs.Io.KnownBytes.{Appends}
 use Rattle.ts_packet.specs.Device.{CountsOne}
-use Rattle.monitor.specs.declared.report_output.WriteError.{WriteError}
-use Rattle.monitor.specs.declared.report_output.WriteError.TheVariants.{Device, Memory}
+use Rattle.monitor.specs.declared.report_output.WriteFault.{WriteFault}
 
--- how many bytes of a text of this size the writer took
-abbrev pub sent_of : Result ℕ WriteError → ℕ
-sent_of (Ok sent) = sent
-sent_of (Err (Device sent)) = sent
-sent_of (Err Memory) = 0
+-- a number of bytes as it is answered: it stops at 2^64 - 1
+abbrev pub byte_count : ℕ → ℕ
+byte_count n = min n (2 ^ 64 - 1)
 
--- the whole text was written; or a call of the writer failed within it; or there was no memory, and nothing is written
-abbrev pub Ends : List ℕ → Result ℕ WriteError → Type 0
-Ends text (Ok sent) = sent ≡ length text
-Ends text (Err (Device sent)) = sent < length text
-Ends text (Err Memory) = ⊤
+-- the writer took exactly the first bytes of the text, and `sent` counts them
+pub record Took (before after : Option (List ℕ)) (text : List ℕ) (sent : ℕ) : Type 0 where
+  pub taken : ℕ
+  pub within : taken < length text
+  pub appends : Appends before after (take taken text)
+  pub sent_is : sent ≡ byte_count taken
 
--- a call of the writer failed exactly where that is the answer; `before` and `after` count those that did
-abbrev pub NamesDevice : Result ℕ WriteError → ℕ → ℕ → Type 0
-NamesDevice (Ok sent) before after = after ≡ before
-NamesDevice (Err (Device sent)) before after = CountsOne before after
-NamesDevice (Err Memory) before after = after ≡ before
+-- the writer took the whole text, or, where a call of it failed, the first bytes
+abbrev pub Writes : Option (List ℕ) → Option (List ℕ) → List ℕ → Result ℕ WriteFault → Type 0
+Writes before after text (Ok sent) = (sent ≡ byte_count (length text)) × Appends before after text
+Writes before after text (Err fault) = Took before after text fault.sent
+
+-- of the calls that failed, one is counted more exactly where that is the answer
+abbrev pub NamesFault : ℕ → ℕ → Result ℕ WriteFault → Type 0
+NamesFault before after (Ok sent) = after ≡ before
+NamesFault before after (Err fault) = CountsOne before after
+
+-- what waits, how many bytes were written, and whether a call failed
+pub record Collected : Type 0 where
+  pub waiting : List ℕ
+  pub sent : ℕ
+  pub failed : Bool
+
+-- of a text, after what the writer held at the start, the writer holds the front, and the rest waits unless a call failed
+pub record Holds (start now : Option (List ℕ)) (first failures : ℕ) (lines : Collected) (text : List ℕ) : Type 0 where
+  pub taken : ℕ
+  pub within : taken ≤ length text
+  pub appends : Appends start now (take taken text)
+  pub sent_is : lines.sent ≡ byte_count taken
+  pub waits : lines.failed ≡ false → drop taken text ≡ lines.waiting
+  pub clean : lines.failed ≡ false → failures ≡ first
+  pub fault : lines.failed ≡ true → (taken < length text) × CountsOne first failures
+
+-- more text
+abbrev pub Adds : Option (List ℕ) → Option (List ℕ) → ℕ → ℕ → Collected → Collected → List ℕ → Type 0
+Adds now later failures failed before after more = (start : Option (List ℕ)) (first : ℕ) (text : List ℕ) →
+    Holds start now first failures before text → Holds start later first failed after (text ++ more)
+
+-- the end of a text
+abbrev pub Finishes : Option (List ℕ) → Option (List ℕ) → ℕ → ℕ → Collected → Result ℕ WriteFault → Type 0
+Finishes now later failures failed lines result = (start : Option (List ℕ)) (first : ℕ) (text : List ℕ) →
+    Holds start now first failures lines text → Writes start later text result × NamesFault first failed result

@@ -31,5 +31,5 @@ mod laws;
 pub use fault::{Fault, Rule};
 pub use laws::{gaps_of_each_pid, packet_by_packet, report_without_state};
 pub use monitor::{Monitor, report};
-pub use report_output::WriteError;
+pub use report_output::WriteFault;
 pub use reports::{PidCounts, Report, ReportError};

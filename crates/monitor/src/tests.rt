@@ -1,7 +1,7 @@
 //! Damaged streams, each with its faults, and refused memory. What is expected was worked out by hand from the rules.
 mod streams;
 
-use crate::{Fault, Monitor, Report, ReportError, Rule, WriteError, report};
+use crate::{Fault, Monitor, Report, ReportError, Rule, WriteFault, report};
 use linked_list_allocator::LocalHeap;
 use std::alloc::{AllocError, Global};
 use std::process::Abort;
@@ -201,11 +201,11 @@ fn lines_on_a_writer(rt: HostRuntime) -> Result<(), Fail> {
     for room in [0, 1, 62, all - 1, all] {
         let mut output = Counted::new(Failing::after_bytes(Vec::new(alloc), room));
         let wanted = if room < all {
-            Err(WriteError::Device { sent: room })
+            Err(WriteFault { sent: room })
         } else {
             Ok(all)
         };
-        assert_eq!(rt; report.write(alloc, &mut output), wanted);
+        assert_eq!(rt; report.write(&mut output), wanted);
         let held: Vec<u8> = output.into_inner().into_inner();
         assert_eq!(rt; held.len() as u64, room);
         assert!(rt; LINES.as_bytes().starts_with(held.as_slice()));
