@@ -1,45 +1,15 @@
 //! `tsmux`: a constant-rate MPEG-2 transport stream multiplexer (ISO/IEC 13818-1, EN 300 468, TR 101 290).
 //!
-//! `command_line`, `options` and `request` read the words. Each subcommand has a module: `carrying`; `demultiplexing`, with
-//! the lines of `finding_lines`; `planning`; `checking`, of the job that `jobs` reads, with `job_fault`, what is first wrong
-//! with it; `multiplexing`, of the same job with the units that `mux_jobs` reads after it (`unit_list`, over the pieces of
-//! `pieces_left`), for as many slots as `usual_slots` says; `monitoring`, of a stream as it comes. `whole_input` reads an
-//! input, `input_pieces` one that is held in pieces, `lines` writes lines of numbers, `fault_lines` those of records and
-//! units, `halt` is what ends a subcommand before its time. `program` is `run`, the whole program over any reader and
-//! writers, which `main` joins to the real ones.
+//! The program is `subcommands::run` over any reader and two writers; `main` joins it to the real ones. `subcommands` has a
+//! module a subcommand, and the words of the command line; `devices` reads inputs, writes lines and says what ends a
+//! program before its time.
 #![tactic(auto)]
 
-mod carrying;
-mod checking;
-mod command_line;
-mod demultiplexing;
-mod fault_lines;
-mod finding_lines;
-mod halt;
-mod input_pieces;
-mod job_fault;
-mod job_parts;
-mod jobs;
-mod lines;
-mod monitoring;
-mod multiplexing;
-mod mux_jobs;
-mod options;
-mod pieces_left;
-mod planning;
-mod program;
-mod request;
-#[cfg(test)]
-mod tests;
-mod unit_list;
-mod usual_slots;
-mod whole_input;
-
-use halt::{Halt, halted};
-use program::{run, tell_usage};
+use devices::{Halt, halted};
 use std::env;
 use std::io::{BufReader, Error, ErrorKind};
 use std::process::ExitCode;
+use subcommands::{run, tell_usage};
 use ts_packet::{Counted, Sink};
 
 /// The room of the input's buffer, in bytes.

@@ -1,0 +1,5 @@
+pub mod Numerals
+pub mod Reading
+pub mod Pieces
+pub mod InputPieces
+pub mod Performances

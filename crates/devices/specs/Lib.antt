@@ -1,0 +1,9 @@
+pub mod Devices
+pub mod Lines
+pub mod Halts
+pub mod Passing
+pub mod WholeInput
+pub mod InputPieces
+pub mod Performing
+pub mod Usage
+pub mod Options

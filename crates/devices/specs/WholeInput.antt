@@ -1,0 +1,62 @@
+-- An input that is read to its end.
+use Rattle.std.specs.Prelude.{◌≡◌, ◌⊎◌, ◌+◌, ◌++◌, ◌^◌, ◌<◌, ◌≤◌, ℕ, min, Bool, true, false, List, [], length, take, drop, Option, Some, None, Result, Ok, Err, ⊤}
+use Rattle.ts_packet.specs.Device.{IsFront}
+use Rattle.devices.specs.Devices.{Device, HasFailed, IsClean}
+use Rattle.devices.specs.declared.halt.Halt.{Halt}
+use Rattle.devices.specs.declared.halt.Halt.TheVariants.{Read, Write, Memory}
+
+-- the most bytes of an input
+abbrev pub longest_input : ℕ
+longest_input = 2 ^ 40
+
+abbrev pub IsLong : Option (List ℕ) → Type 0
+IsLong None = ⊤
+IsLong (Some xs) = longest_input < length xs
+
+abbrev pub IsShort : Option (List ℕ) → Type 0
+IsShort None = ⊤
+IsShort (Some xs) = length xs ≤ longest_input
+
+-- the input was read to its end, and is not too long
+pub record IsAllRead (input : Device) : Type 0 where
+  pub short : IsShort input.before.bytes
+  pub ends : (xs : List ℕ) → input.before.bytes ≡ Some xs → input.after.bytes ≡ Some []
+  pub clean : IsClean input
+
+-- the bytes of the input are these
+abbrev pub IsWhole : Option (List ℕ) → List ℕ → Type 0
+IsWhole None bytes = ⊤
+IsWhole (Some xs) bytes = bytes ≡ xs
+
+-- the whole input was read; or a call of the reader failed, or the input is too long; or there was no memory for it
+abbrev pub ReadsInput : Device → Result (List ℕ) Halt → Type 0
+ReadsInput input (Ok bytes) = IsWhole input.before.bytes bytes × IsAllRead input
+ReadsInput input (Err Read) = HasFailed input ⊎ IsLong input.before.bytes
+ReadsInput input (Err Write) = ⊥
+ReadsInput input (Err Memory) = IsClean input
+
+-- one piece more: the bytes so far grow by the next n of the input, by some unless it ended there
+pub record ReadsPiece (input : Device) (before after : List ℕ) (ended : Bool) : Type 0 where
+  pub n : ℕ
+  pub clean : IsClean input
+  pub longer : length after ≡ length before + n
+  pub more : ended ≡ false → 0 < n
+  pub known : (xs : List ℕ) → input.before.bytes ≡ Some xs → (after ≡ before ++ take n xs) × (input.after.bytes ≡ Some (drop n xs)) × (ended ≡ true → drop n xs ≡ [])
+
+abbrev pub ReadsMore : Device → List ℕ → List ℕ → Result Bool Halt → Type 0
+ReadsMore input before after (Ok ended) = ReadsPiece input before after ended
+ReadsMore input before after (Err Read) = HasFailed input
+ReadsMore input before after (Err Write) = ⊥
+ReadsMore input before after (Err Memory) = IsClean input
+
+-- the next n bytes of the input stand at the front of a piece, fewer than it holds only where the input ended
+pub record ReadsFront (input : Device) (piece : List ℕ) (n : ℕ) : Type 0 where
+  pub fits : n ≤ length piece
+  pub known : (xs : List ℕ) → input.before.bytes ≡ Some xs → (n ≡ min (length piece) (length xs)) × IsFront xs input.after.bytes piece n
+  pub clean : IsClean input
+
+abbrev pub ReadsNext : Device → List ℕ → Result ℕ Halt → Type 0
+ReadsNext input piece (Ok n) = ReadsFront input piece n
+ReadsNext input piece (Err Read) = HasFailed input
+ReadsNext input piece (Err Write) = ⊥
+ReadsNext input piece (Err Memory) = ⊥

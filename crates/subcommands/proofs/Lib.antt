@@ -1,0 +1,10 @@
+pub mod CommandLines
+pub mod Subcommands
+pub mod Listing
+pub mod Judging
+pub mod PlanTexts
+pub mod UnitLists
+pub mod LongerJobs
+pub mod MuxJobs
+pub mod Multiplexes
+pub mod Monitored

@@ -1,0 +1,26 @@
+-- A job and its records, in the terms of a job with its units.
+use Rattle.std.proofs.Common.{◌≡◌, ℕ, Bool, List, [], ap, Ok, Err}
+use Rattle.pes_packet.specs.AccessUnits.{AccessUnit}
+use Rattle.mux_core.specs.declared.unit_records.UnitFileError.{UnitFileError}
+use Rattle.subcommands.specs.JobFaults.{plans_view}
+use Rattle.subcommands.specs.Jobs.{JobFaultView, job_of}
+use Rattle.subcommands.specs.MuxJobs.{InJob, InRecord, mux_job_of, served, with_records, with_units}
+use Rattle.subcommands.specs.UnitList.{Units, units_in}
+use Rattle.subcommands.specs.declared.jobs.Plans.{Plans}
+use Rattle.subcommands.specs.declared.jobs.Plans.TheVariants.{One, Two}
+
+pub job_unread : (switch : Bool) (bytes : List ℕ) (fault : JobFaultView) → Err fault ≡ job_of switch bytes → Err (InJob fault) ≡ mux_job_of switch bytes
+unfolding with_records
+job_unread switch bytes fault e = ap with_records e
+
+pub units_read : (plans : Plans) (rest : List ℕ) (units : List (ℕ × AccessUnit)) → Ok units ≡ units_in rest →
+    Ok (served (plans_view plans []) units) ≡ with_records (Ok (plans_view plans rest))
+unfolding with_records with_units
+units_read (One c) rest units u = ap (λ (us : Units). with_units (plans_view (One c) rest) us) u
+units_read (Two c) rest units u = ap (λ (us : Units). with_units (plans_view (Two c) rest) us) u
+
+pub record_unread : (plans : Plans) (rest : List ℕ) (index : ℕ) (fault : UnitFileError) → Err (index, fault) ≡ units_in rest →
+    Err (InRecord index fault) ≡ with_records (Ok (plans_view plans rest))
+unfolding with_records with_units
+record_unread (One c) rest index fault u = ap (λ (us : Units). with_units (plans_view (One c) rest) us) u
+record_unread (Two c) rest index fault u = ap (λ (us : Units). with_units (plans_view (Two c) rest) us) u

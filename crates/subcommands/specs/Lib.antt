@@ -1,0 +1,14 @@
+pub mod CommandLine
+pub mod Request
+pub mod FaultLines
+pub mod Carrying
+pub mod FindingLines
+pub mod Demultiplexing
+pub mod Jobs
+pub mod JobFaults
+pub mod Checking
+pub mod UnitList
+pub mod MuxJobs
+pub mod Multiplexing
+pub mod Planning
+pub mod Monitoring
