@@ -1,0 +1,55 @@
+-- The descriptors of a loop (ISO/IEC 13818-1, 2.6): a tag, the number of the bytes after it, and these bytes.
+use Rattle.std.specs.Prelude.{ℕ, zero, suc, ◌==◌, nat_lt, Bool, if◌then◌else◌, List, [], ◌∷◌, length, take, drop, flat_map, Option, Some, None}
+use Rattle.std.specs.Option.{option_map_or}
+use Rattle.std.specs.List.{list_any}
+use Rattle.descriptor_loops.specs.declared.descriptors.Descriptor.{Descriptor}
+use Rattle.descriptor_loops.specs.declared.descriptors.Descriptors.{Descriptors}
+
+pub record DescriptorView : Type 0 where
+  pub tag : ℕ
+  pub size : ℕ
+  pub body : List ℕ
+
+abbrev pub descriptor_view : Descriptor → DescriptorView
+descriptor_view d = record { tag = d.tag; size = d.size; body = d.body.now }
+
+-- the descriptor at the front, and what stands after it; none where it is not whole
+unfoldable pub first_descriptor : List ℕ → Option (DescriptorView × List ℕ)
+first_descriptor [] = None
+first_descriptor (tag ∷ []) = None
+first_descriptor (tag ∷ size ∷ rest) =
+    if nat_lt (length rest) size then None else Some (record { tag = tag; size = size; body = take size rest }, drop size rest)
+
+-- at most n descriptors, up to the first one that is not whole
+unfoldable pub descriptors_from : ℕ → List ℕ → List DescriptorView
+descriptors_from zero bytes = []
+descriptors_from (suc n) bytes = option_map_or (λ p. p.0 ∷ descriptors_from n p.1) (first_descriptor bytes) []
+
+-- the descriptors that are whole, up to the first one that is not
+unfoldable pub descriptors_in : List ℕ → List DescriptorView
+descriptors_in bytes = descriptors_from (length bytes) bytes
+
+unfoldable pub descriptors_of : Descriptors → List DescriptorView
+descriptors_of d = descriptors_in d.bytes.now
+
+-- one of them has a tag
+unfoldable pub is_tagged : ℕ → DescriptorView → Bool
+is_tagged tag d = d.tag == tag
+
+unfoldable pub has_tag : ℕ → List ℕ → Bool
+has_tag tag bytes = list_any (is_tagged tag) (descriptors_in bytes)
+
+-- a CA descriptor (2.6.16)
+unfoldable pub is_ca : DescriptorView → Bool
+is_ca d = is_tagged 9 d
+
+unfoldable pub has_ca : List ℕ → Bool
+has_ca bytes = has_tag 9 bytes
+
+-- a descriptor's bytes, but for those of conditional access
+unfoldable pub kept_bytes : DescriptorView → List ℕ
+kept_bytes d = if is_ca d then [] else d.tag ∷ d.size ∷ d.body
+
+-- the whole descriptors of a loop but for those of conditional access
+unfoldable pub kept_descriptors : List ℕ → List ℕ
+kept_descriptors bytes = flat_map kept_bytes (descriptors_in bytes)

@@ -1,0 +1,13 @@
+//! The descriptors of the loops that tables have (ISO/IEC 13818-1, 2.6; EN 300 468, 6): a tag, the number of the bytes after
+//! it, and these bytes (`specs/Descriptors`).
+#![tactic(auto)]
+
+mod descriptors;
+mod kept;
+mod tags;
+#[cfg(test)]
+mod tests;
+
+pub use descriptors::{Descriptor, Descriptors};
+pub use kept::kept_descriptors;
+pub use tags::{has_ca, has_tag};

@@ -1,0 +1,156 @@
+//! Where a coded stream says its level, or how many channels it has.
+
+ghost use Rattle.std.specs.Prelude.{◌≡◌, option_map};
+ghost use Rattle.std.specs.List.{slice_get};
+ghost use Rattle.stream_coding.specs.Fields as spec;
+
+/// What is looked for in a unit.
+#[derive(Clone, Copy)]
+pub(crate) enum Field {
+    /// The level of ISO/IEC 13818-2 video.
+    MpegLevel,
+    /// level_idc of ISO/IEC 14496-10 video.
+    AvcLevel,
+    /// general_level_idc of ISO/IEC 23008-2 video.
+    HevcLevel,
+    /// The channels of ISO/IEC 13818-7 audio.
+    AdtsChannels,
+}
+
+// The bytes after a start code prefix at the front.
+#[tactic(auto, unfolding(crate::specs::Fields::after_start))]
+fn after_start(bytes: &[u8]) -> Option<&[u8]>
+    ensures { option_map (λ rest. rest.now) result ≡ spec.after_start bytes.now }
+{
+    bytes.strip_prefix(&[0, 0, 1])
+}
+
+// Of a sequence extension.
+#[tactic(auto, unfolding(crate::specs::Fields::mpeg_level))]
+fn mpeg_level(bytes: &[u8]) -> Option<u8>
+    ensures { result ≡ spec.mpeg_level bytes.now }
+{
+    match bytes {
+        [code, first, second, ..] => {
+            if *code == 0xb5 && *first / 8 == 2 {
+                Some(*second / 16)
+            } else {
+                None
+            }
+        }
+        _ => None,
+    }
+}
+
+// Of a sequence parameter set of ISO/IEC 14496-10.
+#[tactic(auto, unfolding(crate::specs::Fields::avc_level))]
+fn avc_level(bytes: &[u8]) -> Option<u8>
+    ensures { result ≡ spec.avc_level bytes.now }
+{
+    match bytes {
+        [header, _, _, level, ..] => {
+            if *header % 32 == 7 {
+                Some(*level)
+            } else {
+                None
+            }
+        }
+        _ => None,
+    }
+}
+
+// The byte of a NAL unit that has this number among those that prevent no emulation.
+#[tactic(auto, using(crate::proofs::Searching::byte_here, crate::proofs::Searching::byte_later, crate::proofs::Searching::byte_second, crate::proofs::Searching::byte_after, crate::proofs::Searching::byte_nowhere))]
+fn payload_byte(number: usize, bytes: &[u8]) -> Option<u8>
+    ensures { result ≡ slice_get (spec.without_prevention bytes.now) number }
+{
+    let mut left = bytes;
+    let mut before = number;
+    while let Some((first, rest)) = left.split_first() {
+        if before == 0 {
+            return Some(*first);
+        }
+        match left.strip_prefix(&[0, 0, 3]) {
+            None => {
+                left = rest;
+                before -= 1;
+            }
+            Some(_) if before == 1 => return Some(0),
+            Some(after) => {
+                left = after;
+                before -= 2;
+            }
+        }
+    }
+    None
+}
+
+// Of a sequence parameter set of ISO/IEC 23008-2.
+#[tactic(auto, unfolding(crate::specs::Fields::hevc_level))]
+fn hevc_level(bytes: &[u8]) -> Option<u8>
+    ensures { result ≡ spec.hevc_level bytes.now }
+{
+    match bytes {
+        [first, second, rest @ ..] => {
+            if *first == 0x42 && *second < 8 {
+                payload_byte(12, rest)
+            } else {
+                None
+            }
+        }
+        _ => None,
+    }
+}
+
+// The channels of a channel_configuration.
+#[tactic(auto, unfolding(crate::specs::Fields::channels_of))]
+fn channels_of(configuration: u8) -> u8
+    ensures { result ≡ spec.channels_of configuration }
+{
+    if configuration == 7 { 8 } else { configuration }
+}
+
+// Of an ADTS header.
+#[tactic(auto, unfolding(crate::specs::Fields::adts_channels))]
+fn adts_channels(bytes: &[u8]) -> Option<u8>
+    ensures { result ≡ spec.adts_channels bytes.now }
+{
+    match bytes {
+        [a, b, c, d, ..] => {
+            if *a == 0xff && *b / 16 == 15 && *b / 2 % 4 == 0 {
+                Some(channels_of(*c % 2 * 4 + *d / 64))
+            } else {
+                None
+            }
+        }
+        _ => None,
+    }
+}
+
+// A field, where what it stands in begins with the first of these bytes.
+#[tactic(auto, unfolding(crate::specs::Fields::field_at_front))]
+fn field_at_front(field: Field, bytes: &[u8]) -> Option<u8>
+    ensures { result ≡ spec.field_at_front field bytes.now }
+{
+    match field {
+        Field::MpegLevel => mpeg_level(after_start(bytes)?),
+        Field::AvcLevel => avc_level(after_start(bytes)?),
+        Field::HevcLevel => hevc_level(after_start(bytes)?),
+        Field::AdtsChannels => adts_channels(bytes),
+    }
+}
+
+/// A field at the first place in a unit at which it stands.
+#[tactic(auto, using(crate::proofs::Searching::found_here, crate::proofs::Searching::found_later, crate::proofs::Searching::found_nowhere))]
+pub(crate) fn found_in(field: Field, unit: &[u8]) -> Option<u8>
+    ensures { result ≡ spec.found_in field unit.now }
+{
+    let mut left = unit;
+    while let Some((_, rest)) = left.split_first() {
+        if let Some(value) = field_at_front(field, left) {
+            return Some(value);
+        }
+        left = rest;
+    }
+    None
+}
