@@ -1,9 +1,12 @@
 pub mod Slices
 pub mod Associating
-pub mod DescriptorParts
 pub mod Holding
 pub mod LastMaps
 pub mod LastServices
 pub mod Gathering
 pub mod Taking
+pub mod Freeing
+pub mod Giving
+pub mod Filling
+pub mod Apart
 pub mod TablesAlone

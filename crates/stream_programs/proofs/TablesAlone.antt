@@ -45,6 +45,7 @@ pub pid_zero : FindingsOfPidZero
 unfolding a.association
 pid_zero fs = rw (same_first fs) (same_map (a.first_pat fs) _ _ (λ first. ap (λ (ps : List Program). record {
   transport_stream_id = first.header.table_id_extension;
+  version_number = first.header.version_number;
   programs = a.with_programs [] ps;
 }) (same_entries first.header.version_number fs)))
 

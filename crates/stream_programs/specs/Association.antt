@@ -59,12 +59,14 @@ with_programs named (p ∷ ps) = with_programs (with_program named p) ps
 
 pub record AssociationView : Type 0 where
   pub transport_stream_id : ℕ
+  pub version_number : ℕ
   pub programs : List Program
 
 -- what the sections of the first one's version name
 unfoldable pub association : List FindingView → Option AssociationView
 association findings = option_map (λ first. record {
   transport_stream_id = first.header.table_id_extension;
+  version_number = first.header.version_number;
   programs = with_programs [] (entries first.header.version_number findings);
 }) (first_pat findings)
 

@@ -1,6 +1,6 @@
 -- PIDs that are free.
-use Rattle.std.specs.Prelude.{◌≡◌, ◌≤◌, ◌<◌, ℕ, ◌==◌, Bool, true, false, List}
-use Rattle.std.specs.List.{list_any}
+use Rattle.std.specs.Prelude.{◌≡◌, ◌≤◌, ◌<◌, ◌-◌, ℕ, ◌==◌, not, Bool, true, false, List, Option}
+use Rattle.std.specs.List.{list_any, find, range_with_len}
 
 unfoldable pub is_taken : ℕ → List ℕ → Bool
 is_taken pid taken = list_any (λ other. other == pid) taken
@@ -15,3 +15,7 @@ pub record IsLeastFree (from : ℕ) (taken : List ℕ) (pid : ℕ) : Type 0 wher
   pub below : pid < 8191
   pub free : is_taken pid taken ≡ false
   pub least : AreTaken from pid taken
+
+-- the same as a function: the first of 8,190 at most
+unfoldable pub least_free : ℕ → List ℕ → Option ℕ
+least_free from taken = find (λ pid. not (is_taken pid taken)) (range_with_len from (8191 - from))

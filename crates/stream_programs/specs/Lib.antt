@@ -1,9 +1,11 @@
 pub mod Sections
 pub mod Association
-pub mod Descriptors
 pub mod ProgramMaps
 pub mod Streams
 pub mod Programs
 pub mod FreePids
+pub mod Placing
 pub mod Services
+pub mod Texts
+pub mod Tables
 pub mod Laws

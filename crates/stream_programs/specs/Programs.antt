@@ -4,7 +4,7 @@ use Rattle.std.specs.List.{list_any}
 use Rattle.psi_tables.specs.ProgramMap.{StreamView, PmtView}
 use Rattle.psi_tables.specs.declared.pat.programs.Program.{Program}
 use Rattle.demux.specs.Views.{FindingView}
-use Rattle.stream_programs.specs.Descriptors.{has_ca, kept_descriptors}
+use Rattle.descriptor_loops.specs.Descriptors.{has_ca, kept_descriptors}
 use Rattle.stream_programs.specs.ProgramMaps.{program_map}
 use Rattle.stream_programs.specs.Streams.{FoundStreamView, refused}
 use Rattle.stream_programs.specs.declared.left_out.LeftOut.{LeftOut}

@@ -7,7 +7,7 @@ use Rattle.psi_tables.specs.declared.error.SectionError.{SectionError}
 use Rattle.dvb_tables.specs.Services.{ServiceView}
 use Rattle.dvb_tables.specs.ServiceDescription.{SdtView, sdt_at}
 use Rattle.demux.specs.Views.{FindingView}
-use Rattle.stream_programs.specs.Descriptors.{DescriptorView, descriptors_in}
+use Rattle.descriptor_loops.specs.Descriptors.{DescriptorView, descriptors_in}
 use Rattle.stream_programs.specs.Sections.{section_on}
 use Rattle.stream_programs.specs.declared.services.FoundService.{FoundService}
 

@@ -18,6 +18,8 @@ use std::marker::Model;
 #[derive(Drop)]
 pub struct Association<A: Allocator = Global> {
     pub transport_stream_id: u16,
+    /// Of the sections that name the programs: 5 bits. `association_change` with it says where another version comes.
+    pub version_number: u8,
     /// In the order of the table, each program_number once; program 0, which names the network PID, is none.
     pub programs: Vec<Program, A>,
 }
@@ -28,7 +30,7 @@ impl<A: Allocator> Model for Association<A> {
 
     ghost Value = { AssociationView };
 
-    ghost view = { λ a. record { transport_stream_id = a.transport_stream_id; programs = a.programs.items } };
+    ghost view = { λ a. record { transport_stream_id = a.transport_stream_id; version_number = a.version_number; programs = a.programs.items } };
 }
 
 // A table that is in force now.
@@ -166,6 +168,7 @@ pub fn named_programs<A: Allocator>(
     add_all(first.header.version_number, findings, &mut programs)?;
     Ok(Some(Association {
         transport_stream_id: first.header.table_id_extension,
+        version_number: first.header.version_number,
         programs,
     }))
 }

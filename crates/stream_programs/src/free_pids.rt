@@ -3,9 +3,9 @@
 ghost use Rattle.std.specs.Prelude.{◌≡◌, IfSome, IfNone};
 ghost use Rattle.stream_programs.specs.FreePids as spec;
 
-// Whether a PID is one of these.
+/// Whether a PID is one of these.
 #[tactic(auto, unfolding(crate::specs::FreePids::is_taken))]
-fn is_taken(pid: u16, taken: &[u16]) -> bool
+pub(crate) fn is_taken(pid: u16, taken: &[u16]) -> bool
     ensures { result ≡ spec.is_taken pid taken.now }
 {
     taken.iter().any(|other| *other == pid)
@@ -15,6 +15,7 @@ fn is_taken(pid: u16, taken: &[u16]) -> bool
 pub fn free_pid(from: u16, taken: &[u16]) -> Option<u16>
     ensures least { IfSome result (λ pid. spec.IsLeastFree from taken.now pid) }
     ensures none { IfNone result (spec.AreTaken from 8191 taken.now) }
+    ensures value { result ≡ spec.least_free from taken.now }
 {
     for pid in from..8191 {
         if !is_taken(pid, taken) {

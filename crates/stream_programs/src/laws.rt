@@ -1,6 +1,6 @@
 //! Laws of the definitions. Each function does nothing: its contract is the law.
 
-ghost use Rattle.stream_programs.specs.Laws.{FindingsOfPidZero, FindingsOfTheMap, MapsDecide};
+ghost use Rattle.stream_programs.specs.Laws.{EachIsPlaced, FindingsOfPidZero, FindingsOfTheMap, MapsDecide, PidsAreApart};
 
 /// The programs that are named are a function of what is found on PID 0.
 pub fn findings_of_pid_zero()
@@ -15,4 +15,14 @@ pub fn findings_of_the_map()
 /// Programs and streams are a function of what is found on the PIDs of the program map tables.
 pub fn maps_decide()
     ensures { MapsDecide }
+{}
+
+/// The PIDs of the streams that are found and those that their maps and clocks are given are 32 to 8,190, and no two are equal.
+pub fn pids_are_apart()
+    ensures { PidsAreApart }
+{}
+
+/// Each program is given a PID of its map and one of its clock.
+pub fn each_is_placed()
+    ensures { EachIsPlaced }
 {}

@@ -1,7 +1,7 @@
 //! The program map table of a program (ISO/IEC 13818-1, 2.4.4.8).
 
 ghost use Rattle.std.specs.Prelude.{◌≡◌, map, option_map};
-ghost use Rattle.psi_tables.specs.ProgramMap.{pmt_at, pmt_view};
+ghost use Rattle.psi_tables.specs.ProgramMap.{pmt_at, pmt_view, stream_view, streams_of};
 ghost use Rattle.psi_tables.specs.Reading.{section_at};
 ghost use Rattle.psi_tables.specs.Views.{section_view};
 ghost use Rattle.demux.specs.Shown.{finding_view};
@@ -9,7 +9,7 @@ ghost use Rattle.stream_programs.specs.ProgramMaps as spec;
 
 use crate::sections::section_on;
 use demux::Finding;
-use psi_tables::{Pmt, Program, Section};
+use psi_tables::{Pmt, Program, Section, Stream, Streams};
 use std::alloc::Allocator;
 
 // A table that is in force now, of this program.
@@ -62,4 +62,83 @@ pub fn last_program_map<'f, A: Allocator>(
         last = pmt_found(program, finding).or(last);
     }
     last
+}
+
+// Whether two streams have one stream_type and PID.
+#[tactic(auto, unfolding(crate::specs::ProgramMaps::is_same_stream))]
+fn is_same_stream(one: Stream<'_>, other: Stream<'_>) -> bool
+    ensures { result ≡ spec.is_same_stream (stream_view one.entry) (stream_view other.entry) }
+{
+    one.stream_type == other.stream_type && one.elementary_pid == other.elementary_pid
+}
+
+// Whether a stream is one of these.
+#[tactic(auto, unfolding(crate::specs::ProgramMaps::has_stream))]
+fn has_stream(streams: Streams<'_>, stream: Stream<'_>) -> bool
+    ensures { result ≡ spec.has_stream (streams_of streams.entry) (stream_view stream.entry) }
+{
+    for other in streams {
+        if is_same_stream(other, stream) {
+            return true;
+        }
+    }
+    false
+}
+
+// Whether all others are.
+#[tactic(auto, unfolding(crate::specs::ProgramMaps::has_streams))]
+fn has_streams(streams: Streams<'_>, others: Streams<'_>) -> bool
+    ensures { result ≡ spec.has_streams (streams_of streams.entry) (streams_of others.entry) }
+{
+    for other in others {
+        if !has_stream(streams, other) {
+            return false;
+        }
+    }
+    true
+}
+
+#[tactic(auto, unfolding(crate::specs::ProgramMaps::names_same))]
+fn names_same(one: Streams<'_>, other: Streams<'_>) -> bool
+    ensures { result ≡ spec.names_same (streams_of one.entry) (streams_of other.entry) }
+{
+    has_streams(one, other) && has_streams(other, one)
+}
+
+// Whether a finding has a table of the program that names other streams.
+#[tactic(auto, unfolding(crate::specs::ProgramMaps::names_others))]
+fn names_others<A: Allocator>(program: Program, last: Streams<'_>, finding: &Finding<'_, A>) -> bool
+    ensures { result ≡ spec.names_others (streams_of last.entry) (spec.pmt_found program (finding_view finding.now)) }
+{
+    match pmt_found(program, finding) {
+        None => false,
+        Some(pmt) => !names_same(last, pmt.streams),
+    }
+}
+
+fn others_named<A: Allocator>(
+    program: Program,
+    last: Streams<'_>,
+    findings: &[Finding<'_, A>],
+) -> Option<u64>
+    ensures { result ≡ spec.others_named program (streams_of last.entry) (map finding_view findings.now) }
+{
+    for finding in findings {
+        if names_others(program, last, finding) {
+            return Some(finding.packet);
+        }
+    }
+    None
+}
+
+/// The packet in which a program map section in force of this program ends that names other streams, by stream_type and PID,
+/// than the last one does; of several the first. The last one stands all the same.
+#[tactic(auto, unfolding(crate::specs::ProgramMaps::map_change))]
+pub fn map_change<A: Allocator>(program: Program, findings: &[Finding<'_, A>]) -> Option<u64>
+    ensures { result ≡ spec.map_change program (map finding_view findings.now) }
+{
+    match last_program_map(program, findings) {
+        None => None,
+        Some(last) => others_named(program, last.streams, findings),
+    }
 }

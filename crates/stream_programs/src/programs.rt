@@ -6,11 +6,11 @@ ghost use Rattle.demux.specs.Shown.{finding_view};
 ghost use Rattle.stream_programs.specs.ProgramMaps.{program_map};
 ghost use Rattle.stream_programs.specs.Programs as spec;
 
-use crate::descriptors::{has_ca, kept_descriptors};
 use crate::left_out::LeftOut;
 use crate::program_map::last_program_map;
 use crate::streams::{FoundStream, refused};
 use demux::Finding;
+use descriptor_loops::{has_ca, kept_descriptors};
 use psi_tables::{Pmt, Program, Stream, Streams};
 use std::alloc::{AllocError, Allocator, Global};
 use std::marker::Model;

@@ -6,12 +6,12 @@ ghost use Rattle.psi_tables.specs.Views.{section_view};
 ghost use Rattle.demux.specs.Shown.{finding_view};
 ghost use Rattle.dvb_tables.specs.ServiceDescription.{sdt_at, sdt_view};
 ghost use Rattle.dvb_tables.specs.Services.{service_view, services_of};
-ghost use Rattle.stream_programs.specs.Descriptors.{descriptor_view, descriptors_in};
+ghost use Rattle.descriptor_loops.specs.Descriptors.{descriptor_view, descriptors_in};
 ghost use Rattle.stream_programs.specs.Services as spec;
 
-use crate::descriptors::{Descriptor, Descriptors};
 use crate::sections::section_on;
 use demux::Finding;
+use descriptor_loops::{Descriptor, Descriptors};
 use dvb_tables::{Sdt, Service, Services};
 use psi_tables::Section;
 use std::alloc::Allocator;

@@ -42,9 +42,9 @@ fn has_no_pes(stream_type: u8) -> bool
         || stream_type == 0x86
 }
 
-// Whether a PID is kept for tables (below 32) or null packets (ISO/IEC 13818-1, table 2-3; EN 300 468, 5.1.3).
+/// Whether a PID is kept for tables (below 32) or null packets (ISO/IEC 13818-1, table 2-3; EN 300 468, 5.1.3).
 #[tactic(auto, unfolding(crate::specs::Streams::is_reserved))]
-fn is_reserved(pid: u16) -> bool
+pub(crate) fn is_reserved(pid: u16) -> bool
     ensures { result ≡ spec.is_reserved pid }
 {
     pid < 32 || pid >= 8191

@@ -1,4 +1,5 @@
 use Rattle.std.proofs.Common.{◌≡◌, ◌≤◌, ◌∙◌, sym, true, false, rules, arith}
+use Rattle.stream_programs.proofs.Freeing.{least_is, none_is}
 use Rattle.stream_programs.proofs.Taking.{taken_none, taken_more, taken_less}
 use Rattle.stream_programs.proofs.free_pids.free_pid.Goals as goal
 
@@ -20,6 +21,12 @@ returns-then-not-is_taken-clause-least c =
       least = c.loop-pid.invariant.1;
     }
 
+pub returns-then-not-is_taken-clause-value : goal.returns-then-not-is_taken-clause-value
+returns-then-not-is_taken-clause-value c = least_is c.args.from c.args.taken.now c.loop-pid.pid (returns-then-not-is_taken-clause-least c)
+
 pub returns-clause-none : goal.returns-clause-none
 returns-clause-none c =
     taken_less c.args.from c.loop-pid.pid 8191 c.args.taken.now (let past : 8191 ≤ c.loop-pid.pid = omega (arith, c.loop-pid-test.false) in past) c.loop-pid.invariant.1
+
+pub returns-clause-value : goal.returns-clause-value
+returns-clause-value c = none_is c.args.from c.args.taken.now (returns-clause-none c)

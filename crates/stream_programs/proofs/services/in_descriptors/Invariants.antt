@@ -1,5 +1,5 @@
 use Rattle.std.proofs.Common.{◌≡◌}
-use Rattle.stream_programs.specs.Descriptors.{descriptors_of, descriptors_in}
+use Rattle.descriptor_loops.specs.Descriptors.{descriptors_of, descriptors_in}
 use Rattle.stream_programs.specs.Services.{in_descriptors}
 use Rattle.stream_programs.proofs.services.in_descriptors.Given as goal
 

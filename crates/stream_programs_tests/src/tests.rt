@@ -1,13 +1,16 @@
 //! Tables of ffmpeg's streams, and tables made by hand.
+mod placing;
+mod texts;
 mod vectors;
 
-use crate::{
-    LeftOut, Programs, association_change, found_programs, free_pid, last_service, named_programs,
-};
 use demux::{Finding, Kind, Part, What};
 use psi_tables::Program;
 use std::alloc::{AllocError, Global};
 use std::test::Fail;
+use stream_programs::{
+    LeftOut, Placed, Programs, association_change, found_programs, free_pid, last_service,
+    map_change, named_programs, stream_tables,
+};
 use vectors::{EMPTY_MAP, FIRST_MAP, LAST_MAP, MORE, NEXT_PAT, OTHER_PAT, PAT, PMT, SDT};
 
 // Sections on PIDs, one in each packet.
@@ -122,6 +125,17 @@ fn parts_of_tables_are_left_out(rt: HostRuntime) -> Result<(), Fail> {
     );
     assert_eq!(rt; association_change(0, &findings), Some(5));
     assert_eq!(rt; association_change(1, &findings), Some(1));
+    for (program_number, pid, wanted) in [
+        (1, 0x1000, None),
+        (2, 0x1001, Some(3)),
+        (3, 0x1002, None),
+    ] {
+        let program = Program {
+            program_number,
+            pid,
+        };
+        assert_eq!(rt; map_change(program, &findings), wanted);
+    }
     Ok(())
 }
 
@@ -133,6 +147,11 @@ fn named_once(rt: HostRuntime) -> Result<(), Fail> {
         panic!(rt; "no program");
     };
     assert_eq!(rt; association.transport_stream_id, 1);
+    assert_eq!(rt; association.version_number, 0);
+    assert_eq!(rt;
+        association_change(association.version_number, &findings),
+        None
+    );
     let named = [(1, 0x1000), (2, 0x1001), (3, 0x1002), (4, 0x1003)];
     assert_eq!(rt; association.programs.len(), named.len());
     for (program, (program_number, pid)) in association.programs.iter().zip(named) {
@@ -169,5 +188,33 @@ fn service_of_ffmpeg(rt: HostRuntime) -> Result<(), Fail> {
     assert_eq!(rt; service.provider, b"FFmpeg".as_slice());
     assert_eq!(rt; service.name, b"Service01".as_slice());
     assert!(rt; last_service(2, &findings).is_none());
+    Ok(())
+}
+
+// All that the tables of ffmpeg's stream say.
+#[test]
+fn tables_of_ffmpeg(rt: HostRuntime) -> Result<(), Fail> {
+    let alloc = rt.alloc();
+    let findings = found(alloc, &[(0x11, &SDT), (0x1000, &PMT), (0, &PAT)])?;
+    let tables = stream_tables(alloc, &findings)?;
+    let Some(said) = &tables else {
+        panic!(rt; "no program");
+    };
+    assert_eq!(rt; (said.transport_stream_id, said.version_number), (1, 0));
+    assert_eq!(rt; said.services.len(), 1);
+    let Some(places) = &said.places else {
+        panic!(rt; "no PID is left");
+    };
+    let place = Placed {
+        map_pid: 0x1000,
+        pcr_pid: 0x102,
+    };
+    assert_eq!(rt; places.as_slice(), [place].as_slice());
+    let Some(service) = &said.services[0] else {
+        panic!(rt; "no service");
+    };
+    assert_eq!(rt; service.service_type, 1);
+    assert_eq!(rt; service.provider.as_str(), "FFmpeg");
+    assert_eq!(rt; service.name.as_str(), "Service01");
     Ok(())
 }
