@@ -8,3 +8,5 @@ pub mod Keeping
 pub mod Accepting
 pub mod LeftOvers
 pub mod SameIds
+pub mod Orders
+pub mod Makings

@@ -3,8 +3,9 @@ pub mod Shown
 pub mod LeavingOut
 pub mod Damage
 pub mod StreamIds
-pub mod Buffers
 pub mod Stamps
 pub mod Refusals
+pub mod Making
+pub mod MakeRefusals
 pub mod Declaration
 pub mod Laws

@@ -7,29 +7,30 @@
 #![tactic(auto)]
 
 mod beginning;
-mod buffers;
 mod carrying;
 mod declaration;
 mod laws;
 mod leaving_out;
+mod making;
+mod moments;
 mod moving;
 mod reason;
+mod restamping;
 mod stamps;
 mod stream_ids;
-#[cfg(test)]
-mod tests;
 mod unit;
 mod wire_unit;
 
-pub use buffers::{Buffers, Coding, buffers_of};
 pub use carrying::carried_units;
 pub use declaration::{greatest_size, group_packets, least_interval};
 pub use laws::{
     constant_is_least, findings_of_the_pid, moved_by_one_constant, taken_one_by_one, units_are_kept,
 };
 pub use leaving_out::left_out;
+pub use making::{MakeError, MakeFault, made_dts};
 pub use moving::{StampError, moved_units};
 pub use reason::{LeftOut, Reason};
+pub use restamping::made_stamps;
 pub use stamps::{StampFault, constant, distance};
 pub use stream_ids::{first_other, written_id};
 pub use wire_unit::WireUnit;

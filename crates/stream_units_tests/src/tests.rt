@@ -1,15 +1,15 @@
 //! Values worked by hand.
 
-use crate::{
-    Buffers, Coding, Reason, StampError, StampFault, WireUnit, buffers_of, carried_units, constant,
-    distance, first_other, greatest_size, group_packets, least_interval, left_out, moved_units,
-    written_id,
-};
 use clock27::Rate;
 use demux::{Finding, Kind, Part, What};
 use pes_packet::{PesHeader, Stamps, Unit};
 use std::alloc::{AllocError, Global};
 use std::test::Fail;
+use stream_units::{
+    MakeError, MakeFault, Reason, StampError, StampFault, WireUnit, carried_units, constant,
+    distance, first_other, greatest_size, group_packets, least_interval, left_out, made_dts,
+    made_stamps, moved_units, written_id,
+};
 use unit_queue::{FeedError, StreamRules, UnitQueue};
 
 // The range of stamps, 2^33.
@@ -119,25 +119,6 @@ fn what_is_left_out(rt: HostRuntime) -> Result<(), Fail> {
     for (left, (packet, why, damage)) in out.iter().zip(wanted) {
         assert_eq!(rt; (left.packet, left.why), (packet, why));
         assert_eq!(rt; left.why.is_damage(), damage);
-    }
-    Ok(())
-}
-
-// Rates and buffers of codings, as the tables of their standards give them.
-#[test]
-fn buffers_of_codings(rt: HostRuntime) -> Result<(), Fail> {
-    for (coding, rx, main) in [
-        (Coding::Mpeg(8), 18_000_000, 239_376),
-        (Coding::Mpeg(0), 18_000_000, 239_376),
-        (Coding::Avc(40), 24_000_000, 3_766_000),
-        (Coding::Avc(10), 2_000_000, 27_583),
-        (Coding::Avc(51), 200_000_000, 10_000_000),
-        (Coding::Hevc(120), 13_200_000, 1_658_800),
-        (Coding::Aac(2), 2_000_000, 3_584),
-        (Coding::Aac(6), 5_529_600, 8_976),
-        (Coding::Ac3, 2_000_000, 5_696),
-    ] {
-        assert_eq!(rt; buffers_of(coding), Buffers { rx, main });
     }
     Ok(())
 }
@@ -301,5 +282,52 @@ fn few_units(rt: HostRuntime) -> Result<(), Fail> {
     assert_eq!(rt; least_interval(&units), 90_000);
     assert_eq!(rt; group_packets(0, &units, 64), 2);
     assert_eq!(rt; greatest_size::<Global>(&[]), 0);
+    Ok(())
+}
+
+// Six pictures of 25 a second in the order in which they are decoded, across the end of the range; the DTS of all are 3,600
+// before the earliest that a PTS allows.
+#[test]
+fn dts_of_pictures(rt: HostRuntime) -> Result<(), Fail> {
+    let alloc = rt.alloc();
+    let first = RANGE - 10_000;
+    let mut pts = Vec::new(alloc);
+    for after in [3_600, 14_400, 7_200, 10_800, 21_600, 18_000] {
+        pts.push((first + after) % RANGE)?;
+    }
+    let mut stamps = Vec::new(alloc);
+    for shown in pts.iter() {
+        stamps.push((0, *shown, 1))?;
+    }
+    let Ok(units) = made_stamps(alloc, wire(alloc, &stamps)?) else {
+        return Ok(assert!(rt; false, "stamps"));
+    };
+    assert_eq!(rt; units.len(), 6);
+    let wanted = [0, 3_600, 7_200, 10_800, 14_400, 18_000];
+    for ((unit, shown), after) in units.iter().zip(pts.iter()).zip(wanted) {
+        assert_eq!(rt; unit.unit.dts, (first + after) % RANGE);
+        assert_eq!(rt; unit.unit.pts, *shown);
+        assert_eq!(rt; unit.unit.bytes.len(), 1);
+    }
+    Ok(())
+}
+
+// The PTS of which no DTS are made.
+#[test]
+fn pts_without_dts(rt: HostRuntime) -> Result<(), Fail> {
+    let alloc = rt.alloc();
+    for (pts, wanted) in [
+        ([7_200, 3_600, 7_200], MakeFault::Same(7_200)),
+        (
+            [0, 100_000, 3_600],
+            MakeFault::Late {
+                index: 0,
+                after: 96_400,
+            },
+        ),
+    ] {
+        let made = made_dts(alloc, &pts);
+        assert_eq!(rt; made.err(), Some(MakeError::Fault(wanted)));
+    }
     Ok(())
 }
