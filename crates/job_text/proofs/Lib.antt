@@ -1,0 +1,4 @@
+pub mod Scalars
+pub mod Tables
+pub mod Reading
+pub mod RecordReading

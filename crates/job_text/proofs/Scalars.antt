@@ -1,0 +1,85 @@
+-- Tables of strings, numbers and truth values, as lines.
+use Rattle.std.proofs.Common.{◌≡◌, ℕ, Bool, true, false, List, [], ◌++◌, refl}
+use Rattle.std.specs.Int.{w64}
+use Rattle.std.specs.Prelude.{FitsSigned}
+use Rattle.toml_writer.specs.Text.{key_text}
+use Rattle.toml.specs.Data.{Data, string, integer, float, boolean, datetime, array, table, Members, no_members, member, members_depth, members_have_valid_dates}
+use Rattle.toml.specs.Tables.{key_value}
+use Rattle.toml.specs.Text.{IsLineText, IsLinesText, IsValueText, pairs, sections, is_section}
+use Rattle.job_text.specs.KeyLines.{value_text, key_line}
+
+-- a value that stands on one line
+abbrev pub IsScalar : Data → Type 0
+IsScalar (string s) = Unit {0}
+IsScalar (integer z) = FitsSigned w64 z
+IsScalar (boolean b) = Unit {0}
+IsScalar _ = ⊥
+
+-- each value of a table is one, at a key that needs no quotes
+abbrev pub AreScalars : Members → Type 0
+AreScalars no_members = Unit {0}
+AreScalars (member k d ms) = (key_text k ≡ k) × IsScalar d × AreScalars ms
+
+-- their lines
+abbrev pub scalar_lines : Members → List ℕ
+scalar_lines no_members = []
+scalar_lines (member k d ms) = key_line k d ++ scalar_lines ms
+
+value_is_text : (d : Data) → IsScalar d → IsValueText false d (value_text d)
+value_is_text (string s) h = refl
+value_is_text (integer z) h = (refl, h)
+value_is_text (boolean b) h = refl
+value_is_text (float x) h = absurd h
+value_is_text (datetime x) h = absurd h
+value_is_text (array x) h = absurd h
+value_is_text (table x) h = absurd h
+
+is_no_section : (d : Data) → IsScalar d → is_section d ≡ false
+is_no_section (string s) h = refl
+is_no_section (integer z) h = refl
+is_no_section (boolean b) h = refl
+is_no_section (float x) h = absurd h
+is_no_section (datetime x) h = absurd h
+is_no_section (array x) h = absurd h
+is_no_section (table x) h = absurd h
+
+-- the line of a scalar is TOML's
+line_is_text : (started : Bool) (k : List ℕ) (d : Data) → key_text k ≡ k → IsScalar d → IsLineText false started ([], k) (key_value d) (key_line k d)
+unfolding key_line
+line_is_text started k d bare h = (value_text d, rw bare refl, value_is_text d h)
+
+pub lines_are_text : (started : Bool) (ms : Members) → AreScalars ms → IsLinesText false started (pairs ms) (scalar_lines ms)
+lines_are_text started no_members h = refl
+lines_are_text started (member k d ms) h =
+    rw (is_no_section d h.1) (key_line k d, scalar_lines ms, refl, line_is_text started k d h.0 h.1, lines_are_text true ms h.2)
+
+-- and it has no tables, is flat, and has no dates
+pub no_sections : (path : List (List ℕ)) (ms : Members) → AreScalars ms → sections path ms ≡ []
+no_sections path no_members h = refl
+no_sections path (member k (string s) ms) h = no_sections path ms h.2
+no_sections path (member k (integer z) ms) h = no_sections path ms h.2
+no_sections path (member k (boolean b) ms) h = no_sections path ms h.2
+no_sections path (member k (float x) ms) h = absurd h.1
+no_sections path (member k (datetime x) ms) h = absurd h.1
+no_sections path (member k (array x) ms) h = absurd h.1
+no_sections path (member k (table x) ms) h = absurd h.1
+
+pub flat : (ms : Members) → AreScalars ms → members_depth ms ≡ 0
+flat no_members h = refl
+flat (member k (string s) ms) h = rw (flat ms h.2)
+flat (member k (integer z) ms) h = rw (flat ms h.2)
+flat (member k (boolean b) ms) h = rw (flat ms h.2)
+flat (member k (float x) ms) h = absurd h.1
+flat (member k (datetime x) ms) h = absurd h.1
+flat (member k (array x) ms) h = absurd h.1
+flat (member k (table x) ms) h = absurd h.1
+
+pub dated : (ms : Members) → AreScalars ms → members_have_valid_dates ms ≡ true
+dated no_members h = refl
+dated (member k (string s) ms) h = dated ms h.2
+dated (member k (integer z) ms) h = dated ms h.2
+dated (member k (boolean b) ms) h = dated ms h.2
+dated (member k (float x) ms) h = absurd h.1
+dated (member k (datetime x) ms) h = absurd h.1
+dated (member k (array x) ms) h = absurd h.1
+dated (member k (table x) ms) h = absurd h.1

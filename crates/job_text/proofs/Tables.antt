@@ -1,0 +1,89 @@
+-- Arrays of tables, as lines.
+use Rattle.std.proofs.Common.{◌≡◌, ℕ, suc, max, ◌≤◌, true, false, List, [], ◌∷◌, ◌++◌, refl, arith, append_assoc, append-nil}
+use Rattle.std.proofs.lemmas.Bool.Decides.{nat_tests}
+use Rattle.std.specs.List.{flat_map}
+use Rattle.toml_writer.specs.Text.{key_text}
+use Rattle.std.specs.Ordering.{nat_cmp, is_lt}
+use Rattle.std.specs.Cmp.Lexicographic.{slice_cmp}
+use Rattle.toml.specs.Data.{is_before, Members, items_depth, members_depth, items_have_valid_dates, members_have_valid_dates, items_are_sorted, members_are_sorted}
+use Rattle.toml.specs.Tables.{array_table}
+use Rattle.toml.specs.Text.{IsLineText, IsLinesText, pairs, sections, elements, are_tables}
+use Rattle.toml.proofs.Lines.{IsLinesText-append}
+use Rattle.job_text.specs.KeyLines.{header}
+use Rattle.job_text.specs.Documents.{elements_of, with_tables}
+use Rattle.job_text.proofs.Scalars.{AreScalars, scalar_lines, lines_are_text, no_sections, flat, dated}
+
+-- each table has scalars alone, its keys in order
+abbrev pub AreTables : List Members → Type 0
+AreTables [] = Unit {0}
+AreTables (t ∷ ts) = AreScalars t × (members_are_sorted t ≡ true) × AreTables ts
+
+-- the lines of an array's element
+abbrev pub element_lines : List ℕ → Members → List ℕ
+element_lines key t = header key ++ scalar_lines t
+
+pub all_tables : (ts : List Members) → are_tables (elements_of ts) ≡ true
+all_tables [] = refl
+all_tables (t ∷ ts) = all_tables ts
+
+low_max : (n : ℕ) → n ≤ 1 → max 1 n ≤ 1
+low_max n h = grind (arith, nat_tests)
+
+two_max : (m n : ℕ) → m ≤ 1 → n ≤ 2 → max (suc m) n ≤ 2
+two_max m n h k = grind (arith, nat_tests)
+
+pub low : (ts : List Members) → AreTables ts → items_depth (elements_of ts) ≤ 1
+low [] h = omega arith
+low (t ∷ ts) h = rw (flat t h.0) (low_max (items_depth (elements_of ts)) (low ts h.2))
+
+pub all_dated : (ts : List Members) → AreTables ts → items_have_valid_dates (elements_of ts) ≡ true
+all_dated [] h = refl
+all_dated (t ∷ ts) h = rw (dated t h.0) (all_dated ts h.2)
+
+pub all_sorted : (ts : List Members) → AreTables ts → items_are_sorted (elements_of ts) ≡ true
+all_sorted [] h = refl
+all_sorted (t ∷ ts) h = rw h.1 (all_sorted ts h.2)
+
+header_is_text : (key : List ℕ) → key_text key ≡ key → IsLineText false true ([], key) array_table (header key)
+unfolding header
+header_is_text key bare = rw bare refl
+
+-- their lines are TOML's
+pub elements_are_text : (key : List ℕ) (ts : List Members) → key_text key ≡ key → AreTables ts
+    → IsLinesText false true (elements ([], key) (elements_of ts)) (flat_map (element_lines key) ts)
+elements_are_text key [] bare h = refl
+elements_are_text key (t ∷ ts) bare h =
+    let more = elements_are_text key ts bare h.2 in
+    let own : IsLinesText false true (pairs t ++ []) (scalar_lines t) = rw append-nil (lines_are_text true t h.0) in
+    let both = IsLinesText-append false true (pairs t ++ []) (elements ([], key) (elements_of ts)) (scalar_lines t) (flat_map (element_lines key) ts) own more in
+    rw (no_sections (key ∷ []) t h.0) (header key, scalar_lines t ++ flat_map (element_lines key) ts, simp append_assoc, header_is_text key bare, both)
+
+-- an array among other keys
+pub pairs_past : (key : List ℕ) (ts : List Members) (more : Members) → pairs (with_tables key ts more) ≡ pairs more
+pairs_past key [] more = refl
+pairs_past key (t ∷ ts) more = rw (all_tables ts)
+
+pub sections_with : (key : List ℕ) (ts : List Members) (more : Members)
+    → sections [] (with_tables key ts more) ≡ elements ([], key) (elements_of ts) ++ sections [] more
+sections_with key [] more = refl
+sections_with key (t ∷ ts) more = rw (all_tables ts)
+
+pub shallow : (key : List ℕ) (ts : List Members) (more : Members) → AreTables ts → members_depth more ≤ 2 → members_depth (with_tables key ts more) ≤ 2
+shallow key [] more h low_more = low_more
+shallow key (t ∷ ts) more h low_more =
+    let here : items_depth (elements_of (t ∷ ts)) ≤ 1 = low (t ∷ ts) h in
+    two_max (items_depth (elements_of (t ∷ ts))) (members_depth more) here low_more
+
+pub dated_past : (key : List ℕ) (ts : List Members) (more : Members) → AreTables ts → members_have_valid_dates (with_tables key ts more) ≡ members_have_valid_dates more
+dated_past key [] more h = refl
+dated_past key (t ∷ ts) more h = rw (all_dated (t ∷ ts) h)
+
+pub sorted_past : (key : List ℕ) (ts : List Members) (more : Members) → is_before key more ≡ true → AreTables ts
+    → members_are_sorted (with_tables key ts more) ≡ members_are_sorted more
+sorted_past key [] more first h = refl
+sorted_past key (t ∷ ts) more first h = rw (first, all_sorted (t ∷ ts) h)
+
+pub before_tables : (other key : List ℕ) (ts : List Members) (more : Members) → is_lt (slice_cmp nat_cmp other key) ≡ true → is_before other more ≡ true
+    → is_before other (with_tables key ts more) ≡ true
+before_tables other key [] more first last = last
+before_tables other key (t ∷ ts) more first last = first

@@ -1,0 +1,5 @@
+use Rattle.job_text.proofs.Reading.{texts_are_read}
+use Rattle.job_text.proofs.laws.texts_are_read.Goals as goal
+
+pub returns : goal.returns
+returns c = texts_are_read

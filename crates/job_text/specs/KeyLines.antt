@@ -1,0 +1,48 @@
+-- Lines of TOML: a key, and its value.
+use Rattle.std.specs.Prelude.{ℕ, pos, ◌==◌, if◌then◌else◌, List, [], ◌∷◌, ◌++◌, length, codes}
+use Rattle.std.specs.Borrow.{Bor}
+use Rattle.std.specs.List.{flat_map}
+use Rattle.std.specs.Fmt.{signed_decimal}
+use Rattle.hex.specs.Hex.{encode_lower}
+use Rattle.toml.specs.Data.{Data, string, integer, boolean, Members, member}
+use Rattle.toml_writer.specs.Text.{string_text}
+
+-- a string, a number or a truth value; no other kind of value is written
+abbrev pub value_text : Data → List ℕ
+value_text (string s) = string_text s
+value_text (integer n) = signed_decimal n
+value_text (boolean b) = if b then codes "true" else codes "false"
+value_text _ = []
+
+-- `KEY = VALUE` and LF
+unfoldable pub key_line : List ℕ → Data → List ℕ
+key_line key value = key ++ (codes " = " ++ (value_text value ++ codes "\n"))
+
+-- of a number
+abbrev pub number_line : List ℕ × ℕ → List ℕ
+number_line field = key_line field.0 (integer (pos field.1))
+
+-- of a number at a key that the code lends
+abbrev pub field_line : Bor (List ℕ) × ℕ → List ℕ
+field_line field = number_line (field.0.now, field.1)
+
+-- keys with their numbers, each on its line
+abbrev pub number_lines : List (List ℕ × ℕ) → List ℕ
+number_lines fields = flat_map number_line fields
+
+-- they stand in a table before its other keys
+abbrev pub with_numbers : List (List ℕ × ℕ) → Members → Members
+with_numbers [] more = more
+with_numbers (field ∷ fields) more = member field.0 (integer (pos field.1)) (with_numbers fields more)
+
+-- bytes as pairs of hexadecimal digits; no line where there are no bytes
+unfoldable pub hex_line : List ℕ → List ℕ → List ℕ
+hex_line key bytes = if length bytes == 0 then [] else key_line key (string (encode_lower bytes))
+
+-- they stand in a table before its other keys
+unfoldable pub with_hex : List ℕ → List ℕ → Members → Members
+with_hex key bytes more = if length bytes == 0 then more else member key (string (encode_lower bytes)) more
+
+-- an empty line, and the header of an element of an array of tables
+unfoldable pub header : List ℕ → List ℕ
+header key = codes "\n[[" ++ (key ++ codes "]]\n")

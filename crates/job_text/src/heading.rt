@@ -1,0 +1,43 @@
+//! The head of a service description.
+
+ghost use Rattle.std.specs.Prelude.{◌≡◌, ◌++◌, OnOk, string_bytes};
+ghost use Rattle.job_text.specs.Texts.{heading_text};
+
+use crate::key_line::{write_flag, write_number, write_numbers, write_string};
+use std::alloc::{AllocError, Allocator};
+
+/// What a description says of the whole transport stream. There is no network: a description with one has a table
+/// `[network]` besides.
+#[derive(Clone, Copy, Debug, PartialEq, Eq)]
+pub struct Heading<'a> {
+    /// The rate, in bits a second.
+    pub rate: u32,
+    /// The moment of the first slot, as `YYYY-MM-DDThh:mm:ss` in UTC.
+    pub start: &'a str,
+    /// The system clock as the run begins, in units of 90 kHz.
+    pub base0: u64,
+    pub transport_stream_id: u16,
+    pub original_network_id: u16,
+    /// Whether there is a service description table (EN 300 468, 5.2.3).
+    pub sdt: bool,
+    /// Whether there is a time and date table (EN 300 468, 5.2.5).
+    pub tdt: bool,
+}
+
+impl Heading<'_> {
+    /// Appends its lines: every key, the ones with defaults too.
+    pub fn write_text<A: Allocator>(&self, text: &mut String<A>) -> Result<(), AllocError>
+        ensures { OnOk result (string_bytes text.new ≡ string_bytes text.old ++ heading_text self.now) }
+    {
+        let first = [
+            ("base0", self.base0),
+            ("original_network_id", self.original_network_id as u64),
+        ];
+        write_numbers(text, &first)?;
+        write_number(text, "rate", self.rate as u64)?;
+        write_flag(text, "sdt", self.sdt)?;
+        write_string(text, "start", self.start)?;
+        write_flag(text, "tdt", self.tdt)?;
+        write_number(text, "ts_id", self.transport_stream_id as u64)
+    }
+}

@@ -1,0 +1,117 @@
+//! A key with its value, on a line.
+
+ghost use Rattle.std.specs.Prelude.{◌≡◌, ◌++◌, OnOk, codes, string_bytes};
+ghost use Rattle.std.specs.List.{flat_map};
+ghost use Rattle.toml.specs.Data.{string, boolean};
+ghost use Rattle.job_text.specs.KeyLines.{key_line, number_line, field_line, header, hex_line};
+
+use std::alloc::{AllocError, Allocator};
+use std::fmt;
+use std::fmt::Write;
+
+// A string in the first of TOML's forms that needs no escape.
+#[derive(Clone, Copy)]
+struct Quoted<'a> {
+    text: &'a str,
+}
+
+impl fmt::Display for Quoted<'_> {
+    ghost use Rattle.std.specs.Prelude.{Some};
+    ghost use Rattle.toml_writer.specs.Text.{string_text};
+
+    ghost output = { λ q. Some (string_text q.text.now) };
+
+    fn fmt<W: fmt::Write>(&self, f: &mut fmt::Formatter<W>) -> fmt::Result {
+        toml_writer::write_string(f, self.text)
+    }
+}
+
+#[tactic(auto, unfolding(crate::specs::KeyLines::key_line))]
+pub(crate) fn write_number<A: Allocator>(
+    text: &mut String<A>,
+    key: &str,
+    number: u64,
+) -> Result<(), AllocError>
+    ensures { OnOk result (string_bytes text.new ≡ string_bytes text.old ++ number_line (key.now, number)) }
+{
+    write!(text, "{key} = {number}\n")
+}
+
+// A key with its number.
+fn write_field<A: Allocator>(text: &mut String<A>, field: &(&str, u64)) -> Result<(), AllocError>
+    ensures { OnOk result (string_bytes text.new ≡ string_bytes text.old ++ field_line field.now) }
+{
+    let (key, number) = field;
+    write_number(text, key, *number)
+}
+
+/// Each key with its number.
+pub(crate) fn write_numbers<A: Allocator>(
+    text: &mut String<A>,
+    fields: &[(&str, u64)],
+) -> Result<(), AllocError>
+    ensures { OnOk result (string_bytes text.new ≡ string_bytes text.old ++ flat_map field_line fields.now) }
+{
+    for field in fields {
+        write_field(text, field)?;
+    }
+    Ok(())
+}
+
+#[tactic(auto, unfolding(crate::specs::KeyLines::key_line))]
+pub(crate) fn write_flag<A: Allocator>(
+    text: &mut String<A>,
+    key: &str,
+    flag: bool,
+) -> Result<(), AllocError>
+    ensures { OnOk result (string_bytes text.new ≡ string_bytes text.old ++ key_line key.now (boolean flag)) }
+{
+    write!(text, "{key} = {flag}\n")
+}
+
+#[tactic(auto, unfolding(crate::specs::KeyLines::key_line))]
+pub(crate) fn write_string<A: Allocator>(
+    text: &mut String<A>,
+    key: &str,
+    value: &str,
+) -> Result<(), AllocError>
+    ensures { OnOk result (string_bytes text.new ≡ string_bytes text.old ++ key_line key.now (string value.now)) }
+{
+    let value = Quoted { text: value };
+    write!(text, "{key} = {value}\n")
+}
+
+// Bytes as pairs of lower-case hexadecimal digits, and no line where there are none.
+#[tactic(auto, unfolding(crate::specs::KeyLines::hex_line))]
+fn write_hex<A: Allocator + Clone>(
+    text: &mut String<A>,
+    key: &str,
+    bytes: &[u8],
+) -> Result<(), AllocError>
+    ensures { OnOk result (string_bytes text.new ≡ string_bytes text.old ++ hex_line key.now bytes.now) }
+{
+    if bytes.is_empty() {
+        return Ok(());
+    }
+    let digits = hex::encode(text.allocator().clone()?, bytes)?;
+    write_string(text, key, digits.as_str())
+}
+
+#[tactic(auto, unfolding(crate::specs::KeyLines::header))]
+fn write_header<A: Allocator>(text: &mut String<A>, key: &str) -> Result<(), AllocError>
+    ensures { OnOk result (string_bytes text.new ≡ string_bytes text.old ++ header key.now) }
+{
+    write!(text, "\n[[{key}]]\n")
+}
+
+/// The header of an element of an array of tables, and its descriptors.
+pub(crate) fn write_element<A: Allocator + Clone>(
+    text: &mut String<A>,
+    key: &str,
+    descriptors: &[u8],
+) -> Result<(), AllocError>
+    ensures { OnOk result (string_bytes text.new ≡ string_bytes text.old ++ (header key.now ++ hex_line (codes "descriptors") descriptors.now)) }
+{
+    write_header(text, key)?;
+    write_hex(text, "descriptors", descriptors)
+}

@@ -1,0 +1,93 @@
+-- What is tried and kept is in range, and its buffers hold.
+use Rattle.std.proofs.Common.{◌≡◌, ℕ, ◌+◌, ◌-◌, ◌*◌, ◌≤◌, ◌&&◌, min, Bool, true, false, Option, Some, None, refl, arith, nat_le, nat_lt, subst}
+use Rattle.std.specs.Prelude.{if◌then◌else◌}
+use Rattle.std.proofs.lemmas.Bool.Decides.{nat_tests}
+use Rattle.clock27.specs.Release.{slot_units}
+use Rattle.stream_choice.specs.declared.needs.Needs.{Needs}
+use Rattle.stream_choice.specs.declared.choice.Choice.{Choice}
+use Rattle.stream_choice.specs.Shares.{parts, free_share, apart, lead_share}
+use Rattle.stream_choice.specs.Leads.{pace_lead, numbered_lead}
+use Rattle.stream_choice.specs.Choices.{drains, holds, waiting_bytes, choice_of, tried}
+
+pub record IsKept (needs : Needs) (wait group packets lead : ℕ) (c : Choice) : Type 0 where
+  pub units : c.group ≡ group
+  pub group_packets : c.group_packets ≡ packets
+  pub same_lead : c.lead ≡ lead
+  pub share : lead_share needs c.group c.group_packets wait c.lead ≡ Some c.share
+  pub drained : c.share * slot_units ≤ needs.rx * parts
+  pub held : waiting_bytes needs c.group c.group_packets c.lead c.share ≤ needs.main
+
+both_hold : (a b c d : ℕ) → (nat_le a b && nat_le c d) ≡ true → (a ≤ b) × (c ≤ d)
+both_hold a b c d e = (grind (arith, nat_tests), grind (arith, nat_tests))
+
+same : (x y : Choice) → Some x ≡ Some y → x ≡ y
+same x y e = cc
+
+nothing : (x : Choice) → ◌≡◌ {A = Option Choice} None (Some x) → ⊥
+nothing x e = cc
+
+choice_kept : (needs : Needs) (group packets wait lead : ℕ) (c : Choice) → choice_of needs group packets wait lead ≡ Some c → IsKept needs wait group packets lead c
+choice_kept needs group packets wait lead c e = step (lead_share needs group packets wait lead) refl e
+  where
+    made : ℕ → Choice
+    made share = record { group = group; group_packets = packets; lead = lead; share = share }
+
+    kept : (share : ℕ) → lead_share needs group packets wait lead ≡ Some share →
+        (drains needs share && holds needs group packets lead share) ≡ true → IsKept needs wait group packets lead (made share)
+    kept share is passes =
+        let hold = both_hold (share * slot_units) (needs.rx * parts) (waiting_bytes needs group packets lead share) needs.main passes in
+        record { units = refl; group_packets = refl; same_lead = refl; share = is; drained = hold.0; held = hold.1 }
+
+    tests : (share : ℕ) (b : Bool) → (b ≡ true → IsKept needs wait group packets lead (made share)) →
+        ◌≡◌ {A = Option Choice} (if b then Some (made share) else None) (Some c) → IsKept needs wait group packets lead c
+    tests share true keeps e = subst (λ (d : Choice). IsKept needs wait group packets lead d) (same (made share) c e) (keeps refl)
+    tests share false keeps e = absurd (nothing c e)
+
+    step : (o : Option ℕ) → lead_share needs group packets wait lead ≡ o →
+        ◌≡◌ {A = Option Choice} (elim o [
+          | None ↦ None
+          | Some share ↦ if drains needs share && holds needs group packets lead share then Some (made share) else None
+        ]) (Some c) → IsKept needs wait group packets lead c
+    step None is e = absurd (nothing c e)
+    step (Some share) is e = tests share (drains needs share && holds needs group packets lead share) (λ yes. kept share is yes) e
+
+-- a lead with a share is longer than the wait
+pub some_lead : (needs : Needs) (group packets wait lead share : ℕ) → lead_share needs group packets wait lead ≡ Some share → 1 ≤ lead
+some_lead needs group packets wait lead share e = step (nat_lt wait lead) (λ yes. longer wait lead yes) e
+  where
+    longer : (a b : ℕ) → nat_lt a b ≡ true → 1 ≤ b
+    longer a b e = grind (arith, nat_tests)
+
+    none : (x : ℕ) → ◌≡◌ {A = Option ℕ} None (Some x) → ⊥
+    none x e = cc
+
+    step : (b : Bool) → (b ≡ true → 1 ≤ lead) →
+        ◌≡◌ {A = Option ℕ} (if b then (let late = wait + apart (free_share needs group packets (lead - wait)) in
+        if nat_lt late lead then Some (free_share needs group packets (lead - late)) else None) else None) (Some share) → 1 ≤ lead
+    step true some e = some refl
+    step false some e = absurd (none share e)
+
+pub record IsTried (needs : Needs) (wait most_lead group packets : ℕ) (c : Choice) : Type 0 where
+  pub in_range : c.lead ≤ most_lead
+  pub units : c.group ≡ group
+  pub group_packets : c.group_packets ≡ packets
+  pub share : lead_share needs c.group c.group_packets wait c.lead ≡ Some c.share
+  pub drained : c.share * slot_units ≤ needs.rx * parts
+  pub held : waiting_bytes needs c.group c.group_packets c.lead c.share ≤ needs.main
+
+pub tried_kept : (needs : Needs) (wait most_lead group packets number : ℕ) (c : Choice) →
+    tried needs wait most_lead group packets number ≡ Some c → IsTried needs wait most_lead group packets c
+tried_kept needs wait most_lead group packets number c e = step (nat_le lead (min (pace_lead needs group packets wait) most_lead)) (λ yes. below lead (pace_lead needs group packets wait) most_lead yes) e
+  where
+    lead : ℕ
+    lead = numbered_lead needs (pace_lead needs group packets wait) most_lead number
+
+    below : (a b c : ℕ) → nat_le a (min b c) ≡ true → a ≤ c
+    below a b c e = grind (arith, nat_tests)
+
+    step : (b : Bool) → (b ≡ true → lead ≤ most_lead) →
+        ◌≡◌ {A = Option Choice} (if b then choice_of needs group packets wait lead else None) (Some c) → IsTried needs wait most_lead group packets c
+    step true le e =
+        let k : IsKept needs wait group packets lead c = choice_kept needs group packets wait lead c e in
+        record { in_range = omega (arith, k.same_lead, le refl); units = k.units; group_packets = k.group_packets; share = k.share; drained = k.drained; held = k.held }
+    step false le e = absurd (nothing c e)

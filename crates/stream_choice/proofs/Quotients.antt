@@ -1,0 +1,17 @@
+-- Bounds on quotients that are rounded up.
+use Rattle.std.proofs.Common.{ℕ, ◌+◌, ◌*◌, ◌<◌, ◌≤◌, arith, mul-le-mul_left}
+use Rattle.std.specs.Int.{div_ceil}
+use Rattle.std.proofs.lemmas.Grind.{div_ceil_times, common_steps}
+
+pub at_most : (x y q : ℕ) → 0 < y → x ≤ q * y → div_ceil x y ≤ q
+at_most x y q pos le = within (div_ceil x y) q y (below (div_ceil_times x y pos).1)
+  where
+    below : div_ceil x y * y < x + y → div_ceil x y * y < (q + 1) * y
+    below lt = grind (arith, common_steps)
+
+    within : (a b y : ℕ) → a * y < (b + 1) * y → a ≤ b
+    within a b y lt = grind (arith, common_steps)
+
+-- by a greater number it is less
+pub less_of : (x y z : ℕ) → 0 < y → y ≤ z → div_ceil x z ≤ div_ceil x y
+less_of x y z pos le = at_most x z (div_ceil x y) (omega (arith, pos, le)) (omega (arith, (div_ceil_times x y pos).0, mul-le-mul_left (div_ceil x y) le))

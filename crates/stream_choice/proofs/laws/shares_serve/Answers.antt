@@ -1,0 +1,5 @@
+use Rattle.stream_choice.proofs.laws.shares_serve.Goals as goal
+use Rattle.stream_choice.proofs.Sharing.{share_law}
+
+pub returns : goal.returns
+returns c = share_law

@@ -1,0 +1,6 @@
+pub mod Ranges
+pub mod Shares
+pub mod Leads
+pub mod Choices
+pub mod Rates
+pub mod Serving

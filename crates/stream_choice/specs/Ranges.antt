@@ -1,0 +1,28 @@
+-- The numbers with which a choice can begin.
+use Rattle.std.specs.Prelude.{ℕ, ◌^◌, ◌≤◌, List, length, All}
+use Rattle.stream_choice.specs.declared.needs.Needs.{Needs}
+
+-- what a description can declare of a stream
+pub record IsNeeds (needs : Needs) : Type 0 where
+  pub some_interval : 1 ≤ needs.interval
+  pub most_interval : needs.interval ≤ 90000
+  pub some_size : 1 ≤ needs.size
+  pub most_size : needs.size ≤ 4000000
+  pub least_rx : 64000 ≤ needs.rx
+  pub most_rx : needs.rx ≤ 200000000
+  pub some_main : 1 ≤ needs.main
+  pub most_main : needs.main ≤ 10000000
+
+-- so many units in a row, and the most packets that they have together
+pub record IsGroup (group packets : ℕ) : Type 0 where
+  pub some_units : 1 ≤ group
+  pub most_units : group ≤ 64
+  pub some_packets : 1 ≤ packets
+  pub most_packets : packets ≤ 2 ^ 21
+
+-- the most packets of 1, 2, .. units in a row
+pub record IsMost (most : List ℕ) : Type 0 where
+  pub some_groups : 1 ≤ length most
+  pub most_groups : length most ≤ 64
+  pub some_packets : All (λ packets. 1 ≤ packets) most
+  pub most_packets : All (λ packets. packets ≤ 2 ^ 21) most

@@ -1,0 +1,53 @@
+use Rattle.std.proofs.Common.{sum_by, arith, sym, ◌∙◌, rules, ◌≡◌, ◌≤◌, ◌<◌, IfOk, IfSome, IfNone, [], None, Some, All, length, map, option_map, slice_get, ℕ, ◌+◌, ◌-◌, ◌*◌, ◌/◌, ◌%◌, Bool, true, false, nat_eq, nat_lt, List, ◌∷◌, ◌++◌, slice_index_or, slice_set, bit_and, bit_or, Fits, w8, w32, w64, Bor, MutBor}
+use Rattle.std.proofs.lemmas.Option.{slice_get_within}
+use Rattle.std.proofs.lemmas.List.{length-map}
+use Rattle.unit_order.specs.Merging as spec
+use Rattle.unit_order.proofs.Lefts.{one_more, one_fewer, none_merged, all_merged, some_or_none}
+use Rattle.unit_order.proofs.Nexts.{first_next, none_next}
+use Rattle.unit_order.proofs.merging.merged.Goals as goal
+
+pub take_next-requires : goal.take_next-requires
+take_next-requires g c =
+    let found : spec.next_of 0 None (map (λ s. s.items) c.units.queues.items) ≡ Some (c.in-Some.k, c.in-Some.field-0-1) = search rules in
+    let unit = first_next (map (λ s. s.items) c.units.queues.items) (c.in-Some.k, c.in-Some.field-0-1) found in
+    let lt : c.in-Some.k < length (map (λ s. s.items) c.units.queues.items) = slice_get_within (map (λ s. s.items) c.units.queues.items) c.in-Some.k (unit.0 ∷ unit.1) unit.2 in
+    omega (arith, lt, length-map c.units.queues.items (λ s. s.items))
+
+pub overflow_cast-k : goal.overflow_cast-k
+overflow_cast-k g c =
+    let found : spec.next_of 0 None (map (λ s. s.items) c.units.queues.items) ≡ Some (c.in-Some.k, c.in-Some.field-0-1) = search rules in
+    let unit = first_next (map (λ s. s.items) c.units.queues.items) (c.in-Some.k, c.in-Some.field-0-1) found in
+    let lt : c.in-Some.k < length (map (λ s. s.items) c.units.queues.items) = slice_get_within (map (λ s. s.items) c.units.queues.items) c.in-Some.k (unit.0 ∷ unit.1) unit.2 in
+    let same : length (map (λ s. s.items) c.units.queues.items) ≡ length (map (λ s. s.items) c.args.streams.items) = c.units.invariant.same in
+    let few : c.in-Some.k < 256 = omega (arith, lt, same, length-map c.args.streams.items (λ s. s.items), c.requires) in
+    search rules
+
+pub units-smaller-in-Continue-1 : goal.units-smaller-in-Continue-1
+units-smaller-in-Continue-1 g c =
+    let some = c.in-Some-take_next.ensures.some in
+    let left : sum_by length (map (λ s. s.items) c.take_next.new.queues.items) + 1 ≡ sum_by length (map (λ s. s.items) c.units.queues.items) = rw some.left (one_fewer (map (λ s. s.items) c.units.queues.items) c.in-Some.k c.in-Some-take_next.unit some.rest some.first) in
+    omega (arith, left)
+
+pub units-preserved-in-Continue-1 : goal.units-preserved-in-Continue-1
+units-preserved-in-Continue-1 g c =
+    let some = c.in-Some-take_next.ensures.some in
+    rw (some.left, c.in_ok-push.ensures.items) (one_more (map (λ s. s.items) c.args.streams.items) (map (λ s. s.items) c.units.queues.items) c.units.units.items c.in-Some.k c.in-Some-take_next.unit some.rest c.units.invariant some.first)
+
+pub units-smaller : goal.units-smaller
+units-smaller g c =
+    let found : spec.next_of 0 None (map (λ s. s.items) c.units.queues.items) ≡ Some (c.in-Some.k, c.in-Some.field-0-1) = search rules in
+    let unit = first_next (map (λ s. s.items) c.units.queues.items) (c.in-Some.k, c.in-Some.field-0-1) found in
+    let none : slice_get (map (λ s. s.items) c.units.queues.items) c.in-Some.k ≡ Some [] = search rules in
+    absurd (some_or_none unit.0 unit.1 (sym none ∙ unit.2))
+
+pub units-preserved : goal.units-preserved
+units-preserved g c =
+    let found : spec.next_of 0 None (map (λ s. s.items) c.units.queues.items) ≡ Some (c.in-Some.k, c.in-Some.field-0-1) = search rules in
+    let unit = first_next (map (λ s. s.items) c.units.queues.items) (c.in-Some.k, c.in-Some.field-0-1) found in
+    let none : slice_get (map (λ s. s.items) c.units.queues.items) c.in-Some.k ≡ Some [] = search rules in
+    absurd (some_or_none unit.0 unit.1 (sym none ∙ unit.2))
+
+pub returns : goal.returns
+returns g c =
+    let found : spec.next_of 0 None (map (λ s. s.items) c.units.queues.items) ≡ None = search rules in
+    all_merged (map (λ s. s.items) c.args.streams.items) (map (λ s. s.items) c.units.queues.items) c.units.units.items c.units.invariant (none_next 0 None (map (λ s. s.items) c.units.queues.items) found)

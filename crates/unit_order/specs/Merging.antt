@@ -1,0 +1,37 @@
+-- The units of several streams in one list, by their decoding times.
+use Rattle.std.specs.Prelude.{◌≡◌, ◌<◌, ℕ, ◌+◌, ◌++◌, List, [], ◌∷◌, length, map, slice_get, slice_set, Option, Some, None, All, nat_lt, if◌then◌else◌}
+use Rattle.pes_packet.specs.AccessUnits.{AccessUnit}
+use Rattle.pes_packet.specs.Units.{units_of}
+
+-- when the first of units is due
+unfoldable pub head_dts : List AccessUnit → Option ℕ
+head_dts [] = None
+head_dts (u ∷ us) = Some u.dts
+
+-- the earlier of two streams with the times when they are due next, the first one where these are the same
+unfoldable pub earlier : Option (ℕ × ℕ) → ℕ → Option ℕ → Option (ℕ × ℕ)
+earlier best k None = best
+earlier None k (Some dts) = Some (k, dts)
+earlier (Some best) k (Some dts) = if nat_lt dts best.1 then Some (k, dts) else Some best
+
+-- of streams, of which the first has number k, the one that is due next, and when
+unfoldable pub next_of : ℕ → Option (ℕ × ℕ) → List (List AccessUnit) → Option (ℕ × ℕ)
+next_of k best [] = best
+next_of k best (us ∷ rest) = next_of (k + 1) (earlier best k (head_dts us)) rest
+
+-- the units of each stream in their order, each with the stream's number
+pub record AreMerged (streams : List (List AccessUnit)) (units : List (ℕ × AccessUnit)) : Type 0 where
+  pub each : (k : ℕ) (us : List AccessUnit) → slice_get streams k ≡ Some us → units_of k units ≡ us
+  pub numbered : All (λ e. e.0 < length streams) units
+
+-- the next unit of stream k is taken from what is left of the streams
+pub record Takes (before after : List (List AccessUnit)) (k : ℕ) (u : AccessUnit) : Type 0 where
+  pub rest : List AccessUnit
+  pub first : slice_get before k ≡ Some (u ∷ rest)
+  pub left : after ≡ slice_set before k rest
+
+-- units that are merged already, and what is left of the streams
+pub record AreLeft (streams left : List (List AccessUnit)) (units : List (ℕ × AccessUnit)) : Type 0 where
+  pub each : (k : ℕ) (us : List AccessUnit) → slice_get streams k ≡ Some us → (rest : List AccessUnit) × (slice_get left k ≡ Some rest) × (units_of k units ++ rest ≡ us)
+  pub numbered : All (λ e. e.0 < length streams) units
+  pub same : length left ≡ length streams
