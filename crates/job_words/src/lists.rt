@@ -1,0 +1,85 @@
+//! Options that are lists: their parts have commas between them.
+
+use devices::number_in;
+use std::alloc::{AllocError, Global};
+use stream_coding::Buffers;
+use stream_jobs::PidBuffers;
+
+// The parts of a text between commas.
+fn list_parts<'a>(alloc: Global, text: &'a str) -> Result<Vec<&'a str>, AllocError> {
+    text.split(',').collect(alloc)
+}
+
+// The parts of a text between colons.
+fn colon_parts<'a>(alloc: Global, text: &'a str) -> Result<Vec<&'a str>, AllocError> {
+    text.split(':').collect(alloc)
+}
+
+// The numbers of texts, each up to `most`; none where one has none.
+fn numbers_of(alloc: Global, most: u16, texts: &[&str]) -> Result<Option<Vec<u16>>, AllocError> {
+    let mut numbers = Vec::new(alloc);
+    for text in texts {
+        match number_in(text, 0, u64::from(most)) {
+            Some(number) => numbers.push(number as u16)?,
+            None => return Ok(None),
+        }
+    }
+    Ok(Some(numbers))
+}
+
+/// The numbers of a list, each up to `most`: no numbers where it is not given, none where one is no such number.
+pub(crate) fn number_list(
+    alloc: Global,
+    most: u16,
+    text: Option<&str>,
+) -> Result<Option<Vec<u16>>, AllocError> {
+    match text {
+        None => Ok(Some(Vec::new(alloc))),
+        Some(text) => numbers_of(alloc, most, &list_parts(alloc, text)?),
+    }
+}
+
+// The buffers that three numbers say, each in its range.
+fn ranged(pid: &str, rx: &str, main: &str) -> Option<PidBuffers> {
+    let pid = number_in(pid, 0, 8191)?;
+    let rx = number_in(rx, 64_000, 200_000_000)?;
+    let main = number_in(main, 1, 10_000_000)?;
+    Some(PidBuffers {
+        pid: pid as u16,
+        buffers: Buffers {
+            rx: rx as u32,
+            main: main as u32,
+        },
+    })
+}
+
+// The buffers of a part `PID:RX:MAIN`.
+fn buffers_in(alloc: Global, part: &str) -> Result<Option<PidBuffers>, AllocError> {
+    match colon_parts(alloc, part)?.as_slice() {
+        [pid, rx, main] => Ok(ranged(pid, rx, main)),
+        _ => Ok(None),
+    }
+}
+
+// Those of parts; none where one is no such part.
+fn all_buffers(alloc: Global, parts: &[&str]) -> Result<Option<Vec<PidBuffers>>, AllocError> {
+    let mut all = Vec::new(alloc);
+    for part in parts {
+        match buffers_in(alloc, part)? {
+            Some(buffers) => all.push(buffers)?,
+            None => return Ok(None),
+        }
+    }
+    Ok(Some(all))
+}
+
+/// The buffers of a list `PID:RX:MAIN,..`: none are named where it is not given, none where a part is out of its range.
+pub(crate) fn buffer_list(
+    alloc: Global,
+    text: Option<&str>,
+) -> Result<Option<Vec<PidBuffers>>, AllocError> {
+    match text {
+        None => Ok(Some(Vec::new(alloc))),
+        Some(text) => all_buffers(alloc, &list_parts(alloc, text)?),
+    }
+}

@@ -1,0 +1,9 @@
+use Rattle.std.proofs.Common.{length}
+use Rattle.stream_jobs.specs.Jobs.{AgreeInTurn}
+use Rattle.stream_jobs.proofs.agreeing.first_disagreeing.Given as goal
+
+abbrev pub invariant-streams : goal.invariant-streams
+invariant-streams l = AgreeInTurn l.description l.ones l.rest → AgreeInTurn l.description l.initial.ones l.initial.rest
+
+abbrev pub decreases-streams : goal.decreases-streams
+decreases-streams l = length l.ones

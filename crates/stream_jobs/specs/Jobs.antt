@@ -1,0 +1,68 @@
+-- What a job is of what a demultiplexer finds.
+use Rattle.std.specs.Prelude.{◌≡◌, ◌≤◌, ◌<◌, ⊤, ℕ, Bool, List, ◌∷◌, length, slice_get, Some, Ok, All}
+use Rattle.pes_packet.specs.AccessUnits.{AccessUnit}
+use Rattle.pes_packet.specs.Units.{units_of}
+use Rattle.demux.specs.Views.{FindingView}
+use Rattle.stream_units.specs.Carried.{CarriedUnit}
+use Rattle.description.specs.Described.{Described, DescribedStream}
+use Rattle.toml.specs.Parse.{parse_document}
+use Rattle.description.specs.Reading.{description_of}
+use Rattle.stream_jobs.specs.Moving.{AreFound, Declares, source_of}
+
+-- a stream's PID and its units as they are found
+pub record Carried : Type 0 where
+  pub pid : ℕ
+  pub units : List CarriedUnit
+
+abbrev pub IsCarried : Bool → List FindingView → Carried → Type 0
+IsCarried made findings c = c.units ≡ source_of made c.pid findings
+
+-- a stream's PID and its units at their moments
+pub record Timed : Type 0 where
+  pub pid : ℕ
+  pub units : List AccessUnit
+
+abbrev pub IsMoved : Bool → List FindingView → Timed → Type 0
+IsMoved made findings t = AreFound made findings t.pid t.units
+
+-- as many as a multiplexer may hold
+abbrev pub IsFew : Timed → Type 0
+IsFew t = length t.units ≤ 1_048_576
+
+-- what a job is made of: its streams
+pub record Streams : Type 0 where
+  pub streams : List Timed
+
+pub record AreStreams (made : Bool) (findings : List FindingView) (m : Streams) : Type 0 where
+  pub moved : All (IsMoved made findings) m.streams
+  pub few : All IsFew m.streams
+  pub least : length m.streams ≤ 32
+
+-- a stream of a description has these units, and what it declares of them is what they need
+pub record Agrees (d : Described) (s : DescribedStream) (t : Timed) : Type 0 where
+  pub pid : s.pid ≡ t.pid
+  pub declares : Declares d s t.units
+
+-- streams and units, one after another
+unfoldable pub AgreeInTurn : Described → List DescribedStream → List Timed → Type 0
+AgreeInTurn d (s ∷ ss) (t ∷ ts) = Agrees d s t × AgreeInTurn d ss ts
+AgreeInTurn d _ _ = ⊤
+
+pub record AllAgree (d : Described) (streams : List Timed) : Type 0 where
+  pub same : length streams ≡ length d.streams
+  pub each : (k : ℕ) (s : DescribedStream) (t : Timed) → slice_get d.streams k ≡ Some s → slice_get streams k ≡ Some t → Agrees d s t
+
+-- the units of a job, each with the number of its stream: those of a stream are what is found of its PID, in order, and keep
+-- what the description declares
+pub record IsStream (made : Bool) (findings : List FindingView) (d : Described) (s : DescribedStream) (us : List AccessUnit) : Type 0 where
+  pub found : AreFound made findings s.pid us
+  pub declares : Declares d s us
+  pub few : length us ≤ 1_048_576
+
+pub record AreUnits (made : Bool) (findings : List FindingView) (d : Described) (units : List (ℕ × AccessUnit)) : Type 0 where
+  pub streams : (k : ℕ) (s : DescribedStream) → slice_get d.streams k ≡ Some s → IsStream made findings d s (units_of k units)
+  pub numbered : All (λ e. e.0 < length d.streams) units
+
+-- the text of a description is read as it
+abbrev pub IsText : Described → List ℕ → Type 0
+IsText d text = Ok d ≡ description_of (parse_document text)

@@ -1,0 +1,85 @@
+//! Whether a description declares what units need.
+
+ghost use Rattle.std.specs.Prelude.{◌≡◌, ◌≤◌, ◌<◌, ◌^◌, true, false, IfNone, IsTrue};
+ghost use Rattle.stream_units.specs.Declaration.{group_packets};
+ghost use Rattle.stream_units.specs.Laws.{FirstDue};
+ghost use Rattle.stream_jobs.specs.Jobs.{AgreeInTurn, Agrees, AllAgree};
+ghost use Rattle.stream_jobs.specs.Moving.{Declares};
+
+use crate::moving::JobStream;
+use description::{Description, Stream};
+use pes_packet::Unit;
+use std::alloc::Global;
+use stream_units::{greatest_size, group_packets, least_interval};
+
+// Whether the first unit is due no earlier than a moment.
+#[tactic(auto, unfolding(stream_units::specs::Laws::FirstDue))]
+fn first_due(from: u64, units: &[Unit]) -> bool
+    ensures { IsTrue result → FirstDue from units.now }
+{
+    match units.first() {
+        Some(unit) => from <= unit.dts,
+        None => true,
+    }
+}
+
+// Whether the packets of units are as declared.
+fn groups_fit(base0: u64, declared: &Stream, units: &[Unit]) -> bool
+    ensures { IsTrue result → group_packets declared.now.stream_id base0 declared.now.group units.now ≤ declared.now.group_packets }
+{
+    declared.group <= 64
+        && group_packets(base0, units, declared.group) <= u64::from(declared.group_packets)
+}
+
+// Whether a description declares what units need.
+fn declares(description: &Description, declared: &Stream, units: &[Unit]) -> bool
+    ensures { IsTrue result → Declares description.now declared.now units.now }
+{
+    let size = greatest_size(units) <= declared.size as usize;
+    let interval = declared.interval <= least_interval(units);
+    let lead = first_due(u64::from(declared.lead), units);
+    size && interval && lead && groups_fit(description.base0(), declared, units)
+}
+
+// Whether a stream is the declared one.
+fn agrees(description: &Description, declared: &Stream, stream: &JobStream) -> bool
+    ensures { IsTrue result → Agrees description.now declared.now stream.now }
+{
+    declared.pid == stream.pid && declares(description, declared, &stream.units)
+}
+
+// The PID of the first stream that is not the declared one in its place.
+#[tactic(auto, unfolding(crate::specs::Jobs::AgreeInTurn))]
+fn first_disagreeing(
+    description: &Description,
+    declared: &[Stream],
+    streams: &[JobStream],
+) -> Option<u16>
+    ensures { IfNone result (AgreeInTurn description.now declared.now streams.now) }
+{
+    let mut ones = declared;
+    let mut rest = streams;
+    'streams: while let Some((one, later_ones)) = ones.split_first() {
+        let Some((stream, later)) = rest.split_first() else {
+            return None;
+        };
+        if !agrees(description, one, stream) {
+            return Some(stream.pid);
+        }
+        ones = later_ones;
+        rest = later;
+    }
+    None
+}
+
+/// The PID of the first stream of whose units the description does not declare what they need.
+#[tactic(auto, using(crate::proofs::InTurn::in_turn))]
+pub(crate) fn disagreeing(description: &Description, streams: &[JobStream]) -> Option<u16>
+    ensures { IfNone result (AllAgree description.now streams.now) }
+{
+    let declared = description.streams();
+    if declared.len() != streams.len() {
+        return Some(0);
+    }
+    first_disagreeing(description, declared, streams)
+}

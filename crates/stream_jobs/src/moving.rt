@@ -1,0 +1,182 @@
+//! The units of streams at the moments of a run.
+
+ghost use Rattle.std.specs.Prelude.{◌≡◌, ◌<◌, ◌^◌, IfOk, All, length, map};
+ghost use Rattle.demux.specs.Shown.{finding_view};
+ghost use Rattle.stream_jobs.specs.Jobs.{IsCarried, IsMoved};
+
+use crate::refusal::Refusal;
+use crate::wire_streams::WireStream;
+use demux::Finding;
+use pes_packet::Unit;
+use std::alloc::{AllocError, Global};
+use std::marker::Model;
+use stream_units::{StampError, carried_units, constant, moved_units};
+
+/// The range of stamps (ISO/IEC 13818-1, 2.4.3.7).
+const RANGE: u64 = 1 << 33;
+
+/// A stream whose units have their moments.
+#[derive(Drop)]
+pub(crate) struct JobStream {
+    pub program: u16,
+    pub pid: u16,
+    pub stream_type: u8,
+    pub stream_id: u8,
+    pub descriptors: Vec<u8>,
+    pub units: Vec<Unit>,
+}
+
+// A contract sees its PID and its units.
+impl Model for JobStream {
+    ghost use Rattle.stream_jobs.specs.Jobs.{Timed};
+
+    ghost Value = { Timed };
+
+    ghost view = { λ s. record { pid = s.pid; units = s.units.items } };
+}
+
+/// The first DTS of a stream, as on the wire.
+#[derive(Clone, Copy)]
+struct First {
+    program: u16,
+    dts: u64,
+}
+
+// The first DTS of a stream.
+fn first_of(stream: &WireStream) -> First {
+    let dts = match stream.units.first() {
+        Some(unit) => unit.unit.dts,
+        None => 0,
+    };
+    First {
+        program: stream.program,
+        dts,
+    }
+}
+
+// Those of all streams.
+fn firsts_of(alloc: Global, streams: &[WireStream]) -> Result<Vec<First>, AllocError> {
+    streams.iter().map(|stream| first_of(stream)).collect(alloc)
+}
+
+// Those of the streams of a program.
+fn stamps_of(alloc: Global, program: u16, firsts: &[First]) -> Result<Vec<u64>, AllocError> {
+    let mut stamps = Vec::new(alloc);
+    for first in firsts {
+        if first.program == program {
+            stamps.push(first.dts)?;
+        }
+    }
+    Ok(stamps)
+}
+
+// What the clock of a program shows at moment 0, where the first of its units is due at `earliest`.
+fn base_of(alloc: Global, earliest: u64, program: u16, firsts: &[First]) -> Result<u64, AllocError>
+    ensures { IfOk result (λ base. base < 2 ^ 33) }
+{
+    let stamps = stamps_of(alloc, program, firsts)?;
+    match stamps.first() {
+        Some(first) => Ok(constant(earliest, *first % RANGE, &stamps)),
+        None => Ok(0),
+    }
+}
+
+// The packet in which a unit of a PID begins.
+fn packet_of(
+    alloc: Global,
+    pid: u16,
+    index: usize,
+    findings: &[Finding<'_>],
+) -> Result<u64, AllocError> {
+    let units = carried_units(alloc, pid, findings)?;
+    match units.get(index) {
+        Some(unit) => Ok(unit.packet),
+        None => Ok(0),
+    }
+}
+
+// Why the units of a stream have no moments.
+fn unmoved(alloc: Global, pid: u16, error: StampError, findings: &[Finding<'_>]) -> Refusal {
+    match error {
+        StampError::Memory => Refusal::Memory,
+        StampError::Unit { index, fault } => match packet_of(alloc, pid, index, findings) {
+            Ok(packet) => Refusal::Stamps { packet, pid, fault },
+            Err(_) => Refusal::Memory,
+        },
+    }
+}
+
+// A stream with its units at their moments.
+fn moved_stream(
+    alloc: Global,
+    make_dts: bool,
+    base: u64,
+    stream: WireStream,
+    findings: &[Finding<'_>],
+) -> Result<JobStream, Refusal>
+    requires base { base < 2 ^ 33 }
+    requires carried { IsCarried make_dts (map finding_view findings.now) stream }
+    ensures { IfOk result (IsMoved make_dts (map finding_view findings.now)) }
+{
+    let pid = stream.pid;
+    match moved_units(alloc, base, stream.units) {
+        Ok(units) => Ok(JobStream {
+            program: stream.program,
+            pid,
+            stream_type: stream.stream_type,
+            stream_id: stream.stream_id,
+            descriptors: stream.descriptors,
+            units,
+        }),
+        Err(error) => Err(unmoved(alloc, pid, error, findings)),
+    }
+}
+
+/// The streams with their units at moments: those of a program with one constant, by which the first of them is due at
+/// `earliest`.
+fn moved_by(
+    alloc: Global,
+    make_dts: bool,
+    earliest: u64,
+    firsts: &[First],
+    streams: Vec<WireStream>,
+    findings: &[Finding<'_>],
+) -> Result<Vec<JobStream>, Refusal>
+    requires { All (IsCarried make_dts (map finding_view findings.now)) streams.items }
+    ensures { IfOk result (λ moved. All (IsMoved make_dts (map finding_view findings.now)) moved.items) }
+{
+    let mut moved = Vec::new(alloc);
+    for stream in streams {
+        let base = base_of(alloc, earliest, stream.program, firsts)?;
+        moved.push(moved_stream(alloc, make_dts, base, stream, findings)?)?;
+    }
+    Ok(moved)
+}
+
+// The constant of the first stream's program.
+fn first_base(alloc: Global, earliest: u64, firsts: &[First]) -> Result<u64, AllocError>
+    ensures { IfOk result (λ base. base < 2 ^ 33) }
+{
+    match firsts.first() {
+        Some(first) => base_of(alloc, earliest, first.program, firsts),
+        None => Ok(0),
+    }
+}
+
+/// The streams with their units at moments, by which the first unit of each program is due at `earliest`; and what the clock
+/// of the first program shows at moment 0.
+pub(crate) fn moved_streams(
+    alloc: Global,
+    make_dts: bool,
+    earliest: u64,
+    streams: Vec<WireStream>,
+    findings: &[Finding<'_>],
+) -> Result<(Vec<JobStream>, u64), Refusal>
+    requires { All (IsCarried make_dts (map finding_view findings.now)) streams.items }
+    ensures { IfOk result (λ moved. All (IsMoved make_dts (map finding_view findings.now)) moved.0.items) }
+{
+    let firsts = firsts_of(alloc, &streams)?;
+    let base0 = first_base(alloc, earliest, &firsts)?;
+    let moved = moved_by(alloc, make_dts, earliest, &firsts, streams, findings)?;
+    Ok((moved, base0))
+}

@@ -1,0 +1,85 @@
+//! Why no job is given.
+
+ghost use Rattle.std.specs.Prelude.{◌≡◌};
+
+use description::Fault;
+use std::alloc::{AllocError, AllocFailed};
+use stream_units::{MakeFault, StampFault};
+
+/// Why a transport stream gives no job. Nothing of it is written then.
+#[derive(Clone, Copy, Debug, PartialEq, Eq)]
+pub enum Refusal {
+    /// No memory was left.
+    Memory,
+    /// No program association section in force is found.
+    NoAssociation,
+    /// No program that is asked for has a program map section in force with a stream of PES packets.
+    NoProgram,
+    /// No stream has a unit.
+    NoStream,
+    /// A description has at most 16 programs.
+    Programs(usize),
+    /// A description has at most 32 streams.
+    Streams(usize),
+    /// The units of a PID have a stream_id that no unit may have.
+    StreamId {
+        packet: u64,
+        pid: u16,
+        id: u8,
+    },
+    /// The units of a PID have two stream_ids.
+    OtherStreamId {
+        packet: u64,
+        pid: u16,
+        id: u8,
+        first: u8,
+    },
+    /// The stamps of a unit, which begins in this packet, can't be moments of a run.
+    Stamps {
+        packet: u64,
+        pid: u16,
+        fault: StampFault,
+    },
+    /// No DTS can be made from the PTS of the units of a PID.
+    Dts {
+        pid: u16,
+        fault: MakeFault,
+    },
+    /// A stream has at most 1,048,576 units.
+    Units {
+        pid: u16,
+        count: usize,
+    },
+    /// A unit is larger than a PES packet of its stream may be.
+    Size {
+        pid: u16,
+        size: usize,
+    },
+    /// No lead and no group let units of up to so many bytes into these buffers.
+    Buffers {
+        pid: u16,
+        size: u32,
+        rx: u32,
+        main: u32,
+    },
+    /// There is no PID left for the clock references or the program map table of a program.
+    Pids,
+    /// The description that was written is refused.
+    Description(Fault),
+    /// No plan is found at this rate, in bits a second.
+    Plan(u64),
+    /// The description that was written does not declare what the units of this PID need.
+    Declaration(u16),
+}
+
+impl From<AllocError> for Refusal {
+    fn from(_error: AllocError) -> Refusal {
+        Refusal::Memory
+    }
+}
+
+impl<T: Drop> From<AllocFailed<T>> for Refusal {
+    fn from(_error: AllocFailed<T>) -> Refusal {
+        Refusal::Memory
+    }
+}

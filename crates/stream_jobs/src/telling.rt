@@ -1,0 +1,103 @@
+//! What is told of the packets and of the streams of a job.
+
+use crate::told::Told;
+use crate::wire_streams::WireStream;
+use demux::{Finding, Part, What};
+use psi_tables::Program;
+use std::alloc::{AllocError, Global};
+use stream_programs::{Association, association_change, map_change};
+use stream_units::left_out;
+
+// How many bytes a finding has.
+fn size_of(part: &Part<'_>) -> usize {
+    match part {
+        Part::Span(bytes) => bytes.len(),
+        Part::Joined(bytes) => bytes.len(),
+    }
+}
+
+// What is told of what is found on no PID.
+fn lost(finding: &Finding<'_>) -> Option<Told> {
+    if finding.pid.is_some() {
+        return None;
+    }
+    let packet = finding.packet;
+    match &finding.what {
+        What::BadPacket(_) => Some(Told::BadPacket { packet }),
+        What::Errored => Some(Told::Errored { packet }),
+        What::Truncated(part) => Some(Told::Rest {
+            size: size_of(part),
+        }),
+        _ => None,
+    }
+}
+
+/// Tells what packets could not be read.
+pub(crate) fn tell_packets(
+    findings: &[Finding<'_>],
+    told: &mut Vec<Told>,
+) -> Result<(), AllocError> {
+    for finding in findings {
+        if let Some(lost) = lost(finding) {
+            told.push(lost)?;
+        }
+    }
+    Ok(())
+}
+
+/// Tells that the programs change, or the streams of one.
+pub(crate) fn tell_changes(
+    association: &Association,
+    findings: &[Finding<'_>],
+    told: &mut Vec<Told>,
+) -> Result<(), AllocError> {
+    if let Some(packet) = association_change(association.version_number, findings) {
+        told.push(Told::AssociationChanges { packet })?;
+    }
+    Ok(())
+}
+
+/// Tells that the streams of programs change.
+pub(crate) fn tell_map_changes(
+    programs: &[Program],
+    findings: &[Finding<'_>],
+    told: &mut Vec<Told>,
+) -> Result<(), AllocError> {
+    for program in programs {
+        if let Some(packet) = map_change(*program, findings) {
+            told.push(Told::MapChanges {
+                program: program.program_number,
+                packet,
+            })?;
+        }
+    }
+    Ok(())
+}
+
+// Tells what of a PID is in no unit.
+fn tell_pid(
+    alloc: Global,
+    pid: u16,
+    count: u64,
+    findings: &[Finding<'_>],
+    told: &mut Vec<Told>,
+) -> Result<(), AllocError> {
+    for left_out in left_out(alloc, pid, count, findings)? {
+        told.push(Told::Units { pid, left_out })?;
+    }
+    Ok(())
+}
+
+/// Tells what of the PIDs of streams is in no unit.
+pub(crate) fn tell_streams(
+    alloc: Global,
+    count: u64,
+    streams: &[WireStream],
+    findings: &[Finding<'_>],
+    told: &mut Vec<Told>,
+) -> Result<(), AllocError> {
+    for stream in streams {
+        tell_pid(alloc, stream.pid, count, findings, told)?;
+    }
+    Ok(())
+}

@@ -1,0 +1,164 @@
+//! The streams of a transport stream with their units as they are on the wire.
+
+ghost use Rattle.std.specs.Prelude.{◌≡◌, IfOk, IfSome, All, map};
+ghost use Rattle.demux.specs.Shown.{finding_view};
+ghost use Rattle.stream_jobs.specs.Jobs.{IsCarried};
+ghost use Rattle.stream_jobs.specs.Moving.{source_of};
+
+use crate::refusal::Refusal;
+use crate::told::Told;
+use demux::Finding;
+use std::alloc::Global;
+use std::marker::Model;
+use stream_coding::is_ac3;
+use stream_programs::FoundStream;
+use stream_units::{MakeError, WireUnit, carried_units, first_other, made_stamps, written_id};
+
+/// A stream that has units.
+#[derive(Drop)]
+pub(crate) struct WireStream {
+    pub program: u16,
+    pub pid: u16,
+    pub stream_type: u8,
+    pub stream_id: u8,
+    pub descriptors: Vec<u8>,
+    pub units: Vec<WireUnit>,
+}
+
+// A contract sees its PID and its units.
+impl Model for WireStream {
+    ghost use Rattle.stream_jobs.specs.Jobs.{Carried};
+
+    ghost Value = { Carried };
+
+    ghost view = { λ s. record { pid = s.pid; units = s.units.items } };
+}
+
+// The first unit of another stream_id.
+fn other_id(pid: u16, first: u8, units: &[WireUnit]) -> Option<Refusal> {
+    let at = first_other(first, units)?;
+    let unit = units.get(at)?;
+    Some(Refusal::OtherStreamId {
+        packet: unit.packet,
+        pid,
+        id: unit.stream_id,
+        first,
+    })
+}
+
+// The stream_id that is written for all of these units.
+fn common_id(pid: u16, is_ac3: bool, units: &[WireUnit]) -> Result<u8, Refusal> {
+    let Some(first) = units.first() else {
+        return Err(Refusal::NoStream);
+    };
+    let id = first.stream_id;
+    if let Some(refusal) = other_id(pid, id, units) {
+        return Err(refusal);
+    }
+    match written_id(id, is_ac3) {
+        Some(written) => Ok(written),
+        None => Err(Refusal::StreamId {
+            packet: first.packet,
+            pid,
+            id,
+        }),
+    }
+}
+
+// The units of a PID, with DTS that are made from their PTS where that is asked for.
+#[tactic(auto, unfolding(crate::specs::Moving::source_of))]
+fn units_of(
+    alloc: Global,
+    make_dts: bool,
+    pid: u16,
+    findings: &[Finding<'_>],
+) -> Result<Vec<WireUnit>, Refusal>
+    ensures { IfOk result (λ units. units.items ≡ source_of make_dts pid (map finding_view findings.now)) }
+{
+    let Ok(units) = carried_units(alloc, pid, findings) else {
+        return Err(Refusal::Memory);
+    };
+    if !make_dts {
+        return Ok(units);
+    }
+    match made_stamps(alloc, units) {
+        Ok(made) => Ok(made),
+        Err(MakeError::Fault(fault)) => Err(Refusal::Dts { pid, fault }),
+        Err(MakeError::Memory) => Err(Refusal::Memory),
+    }
+}
+
+// A stream with its units; none where it has none.
+fn wire_stream(
+    alloc: Global,
+    make_dts: bool,
+    stream: FoundStream,
+    findings: &[Finding<'_>],
+) -> Result<Option<WireStream>, Refusal>
+    ensures { IfOk result (λ carried. IfSome carried (IsCarried make_dts (map finding_view findings.now))) }
+{
+    let units = units_of(alloc, make_dts, stream.pid, findings)?;
+    if units.is_empty() {
+        return Ok(None);
+    }
+    let is_ac3 = is_ac3(stream.stream_type, &stream.descriptors);
+    let stream_id = common_id(stream.pid, is_ac3, &units)?;
+    Ok(Some(WireStream {
+        program: stream.program,
+        pid: stream.pid,
+        stream_type: stream.stream_type,
+        stream_id,
+        descriptors: stream.descriptors,
+        units,
+    }))
+}
+
+// Notes a stream with its units, unless it is to be left out; where it has none that is told.
+fn note_stream(
+    alloc: Global,
+    make_dts: bool,
+    without: &[u16],
+    stream: FoundStream,
+    findings: &[Finding<'_>],
+    streams: &mut Vec<WireStream>,
+    told: &mut Vec<Told>,
+) -> Result<(), Refusal>
+    requires { All (IsCarried make_dts (map finding_view findings.now)) streams.old.items }
+    ensures { All (IsCarried make_dts (map finding_view findings.now)) streams.new.items }
+{
+    let (program, pid) = (stream.program, stream.pid);
+    if without.contains(&pid) {
+        return Ok(());
+    }
+    match wire_stream(alloc, make_dts, stream, findings)? {
+        Some(stream) => streams.push(stream)?,
+        None => told.push(Told::NoUnit { program, pid })?,
+    }
+    Ok(())
+}
+
+/// The streams that are not to be left out, each with its units; of those that have none that is told.
+pub(crate) fn wire_streams(
+    alloc: Global,
+    make_dts: bool,
+    without: &[u16],
+    found: Vec<FoundStream>,
+    findings: &[Finding<'_>],
+    told: &mut Vec<Told>,
+) -> Result<Vec<WireStream>, Refusal>
+    ensures { IfOk result (λ streams. All (IsCarried make_dts (map finding_view findings.now)) streams.items) }
+{
+    let mut streams = Vec::new(alloc);
+    for stream in found {
+        note_stream(
+            alloc,
+            make_dts,
+            without,
+            stream,
+            findings,
+            &mut streams,
+            told,
+        )?;
+    }
+    Ok(streams)
+}

@@ -1,0 +1,31 @@
+//! What is asked of a job.
+
+use stream_coding::Buffers;
+
+/// The buffers of the stream of a PID.
+#[derive(Clone, Copy, Debug)]
+pub struct PidBuffers {
+    pub pid: u16,
+    pub buffers: Buffers,
+}
+
+/// What is asked of a job; the rest is taken from the stream.
+#[derive(Clone, Copy, Debug)]
+pub struct Wishes<'a> {
+    /// The rate of the new stream in bits a second; without it the least at which a plan is found.
+    pub rate: Option<u64>,
+    /// The moment of its first slot, as a description has it.
+    pub start: &'a str,
+    /// The greatest time between two clock references, 1 to 100 ms.
+    pub pcr_limit: u8,
+    /// The longest time from the arrival of a unit to its decoding, 1 to 90,000 units of 90 kHz.
+    pub lead: u32,
+    /// DTS are made from the PTS.
+    pub make_dts: bool,
+    /// The programs that are taken; none: all.
+    pub programs: &'a [u16],
+    /// The PIDs that are left out.
+    pub without: &'a [u16],
+    /// Buffers in place of those by coding and level.
+    pub buffers: &'a [PidBuffers],
+}
