@@ -1,0 +1,168 @@
+"""A transport stream read plainly: the PES packets and sections of each PID with their bytes, and its tables as docs/ANY_STREAM.md takes
+them. tools/plain-job uses it."""
+
+import sys
+from importlib.machinery import SourceFileLoader
+from pathlib import Path
+
+sys.dont_write_bytecode = True
+TOOLS = Path(__file__).resolve().parent
+syntax = SourceFileLoader("compare_demux", str(TOOLS / "compare-demux")).load_module()
+jobs = SourceFileLoader("read_job", str(TOOLS / "read-job")).load_module()
+
+
+class Refused(Exception):
+    """There is no job of the stream: the line that says why."""
+
+
+# ---- what is found of each PID
+
+
+class Pid(syntax.Pid):
+    """One PID: its PES packets with their bytes, its sections, and the rest as lines, each with the packet in which it begins."""
+
+    def __init__(self, pid):
+        super().__init__(pid, [])
+        self.found, self.begun = [], None
+
+    def look(self, packet):
+        self.begun = packet if self.begun is None else self.begun
+        done = super().look(packet)
+        self.begun = None if done else self.begun
+        return done
+
+    def truncate(self, packet):
+        super().truncate(packet)
+        self.begun = None
+
+    def tell_pes(self, packet, header, size, tail):
+        number, _, pts, dts, length = header
+        body = self.part[1][length: length + size]
+        self.found.append((packet, self.begun, "pes", (number, dts if dts is not None else pts, pts, body, tail != "")))
+
+    def tell(self, packet, text):
+        kind, *rest = text.split()
+        begins = self.begun if kind in ("truncated", "bad-pes", "section", "bad-section") and self.begun is not None else packet
+        value = self.part[1][: int(rest[2])] if kind == "section" else rest
+        self.found.append((packet, begins, kind, value))
+
+
+class Stream:
+    """The findings of a stream by PID, and its packets that can't be told a PID."""
+
+    def __init__(self, data):
+        self.count, self.pids, self.lines, self.bad = len(data) // 188, {}, [], 0
+        for packet in range(self.count):
+            fields = syntax.read_packet(data[188 * packet: 188 * packet + 188])
+            if isinstance(fields, int):
+                self.bad += 1
+                self.lines.append(f"packet {packet} bad-packet")
+            elif fields["error"]:
+                self.lines.append(f"packet {packet} errored")
+            elif fields["pid"] != 8191:
+                self.pids.setdefault(fields["pid"], Pid(fields["pid"])).step(packet, fields)
+        if len(data) % 188:
+            self.lines.append(f"rest of {len(data) % 188} bytes")
+        for pid in self.pids.values():
+            pid.end_pes(self.count, True)
+
+    def found(self, pid):
+        return self.pids[pid].found if pid in self.pids else []
+
+    def sections(self, pid, table):
+        """The sections of a PID with a table_id, of the long form, in force now, each with the packet in which it ends."""
+        whole = [(packet, value) for packet, _, kind, value in self.found(pid) if kind == "section"]
+        return [(packet, s) for packet, s in whole if s[0] == table and s[1] >> 7 and s[5] & 1 and len(s) <= 1024]
+
+
+# ---- tables
+
+
+def descriptors(data):
+    """The whole descriptors at the front of a loop: tag and body."""
+    while len(data) >= 2 and len(data) >= 2 + data[1]:
+        yield data[0], data[2: 2 + data[1]]
+        data = data[2 + data[1]:]
+
+
+def kept(data):
+    return b"".join(bytes([tag, len(body)]) + body for tag, body in descriptors(data) if tag != 9)
+
+
+def loops(data, head):
+    """Entries of a loop: a head, whose last 12 bits count the descriptors after it. None where one does not fit."""
+    entries = []
+    while data:
+        size = (data[head - 2] & 15) << 8 | data[head - 1] if len(data) >= head else 4096
+        if len(data) < head + size:
+            return None
+        entries.append((data[:head], data[head: head + size]))
+        data = data[head + size:]
+    return entries
+
+
+def association(stream, lines=None):
+    """transport_stream_id, and (number, PID) of the programs."""
+    tables = [(packet, s) for packet, s in stream.sections(0, 0) if len(s) % 4 == 0]
+    if not tables:
+        raise Refused("no PAT")
+    first, named, changes = tables[0][1], {}, []
+    for packet, s in tables:
+        if s[5] >> 1 & 31 != first[5] >> 1 & 31:
+            changes.append(f"packet {packet} PAT changes: the first one stands")
+            continue
+        for i in range(8, len(s) - 4, 4):
+            number = s[i] << 8 | s[i + 1]
+            if number:
+                named.setdefault(number, (s[i + 2] & 31) << 8 | s[i + 3])
+    if lines is not None:
+        lines += changes[:1]
+    return first[3] << 8 | first[4], list(named.items())
+
+
+def program_maps(stream, number, pid):
+    """Of each program map in force: the packet in which it ends, its descriptors, and (stream_type, PID, descriptors) of its streams."""
+    maps = []
+    for packet, s in stream.sections(pid, 2):
+        size = (s[10] & 15) << 8 | s[11] if len(s) >= 16 else 4096
+        entries = loops(s[12 + size: -4], 5) if len(s) >= 16 + size else None
+        if entries is not None and s[3] << 8 | s[4] == number:
+            maps.append((packet, s[12: 12 + size], [(h[0], (h[1] & 31) << 8 | h[2], d) for h, d in entries]))
+    return maps
+
+
+def service(stream, number):
+    """service_type, provider and name of the last description of a program."""
+    last = None
+    for _, s in stream.sections(0x11, 0x42):
+        for head, inner in loops(s[11:-4], 5) or []:
+            if head[0] << 8 | head[1] == number:
+                texts = [t for t in (texts_of(body) for tag, body in descriptors(inner) if tag == 0x48) if t]
+                last = texts[0] if texts else last
+                if texts:
+                    break
+    return last
+
+
+def texts_of(body):
+    if len(body) < 2 or len(body) < 3 + body[1] or len(body) < 3 + body[1] + body[2 + body[1]]:
+        return None
+    name = 3 + body[1]
+    return body[0], readable(body[2: name - 1]), readable(body[name: name + body[name - 1]])
+
+
+def readable(data):
+    """A text of EN 300 468, annex A, as far as it is ASCII or UTF-8, of at most 100 bytes as it is written again."""
+    if data[:1] == b"\x15":
+        text = data[1:].decode("utf-8", "replace")
+    elif data and data[0] < 0x20:
+        text = "".join(chr(b) for b in data[3 if data[0] == 0x10 else 1:] if b < 0x80)
+    else:
+        try:
+            text = data.decode("utf-8")
+        except UnicodeDecodeError:
+            text = "".join(chr(b) if b < 0x80 else "?" for b in data)
+    text = "".join(c for c in text if ord(c) >= 0x20 and not 0x7F <= ord(c) <= 0x9F)
+    while jobs.written(text) > 100:
+        text = text[:-1]
+    return text
