@@ -103,68 +103,78 @@ fn fault(alloc: Global, length: usize) -> Option<UnitFileError> {
 #[test]
 fn a_record_is_read(rt: HostRuntime) -> Result<(), Fail> {
     assert!(rt; is_read(rt.alloc()));
-    for (length, wanted) in [
-        (0, None),
-        (1, Some(UnitFileError::Cut)),
-        (23, Some(UnitFileError::Cut)),
-    ] {
-        assert_eq!(rt; fault(rt.alloc(), length), wanted, "{length}");
-    }
+    let faults = [
+        fault(rt.alloc(), 0),
+        fault(rt.alloc(), 1),
+        fault(rt.alloc(), 23),
+    ];
+    assert_eq!(rt;
+        faults,
+        [None, Some(UnitFileError::Cut), Some(UnitFileError::Cut)]
+    );
     Ok(())
 }
 
 #[test]
-fn numbers_of_faults(rt: HostRuntime) -> Result<(), Fail> {
-    for (fault, code) in [
-        (UnitFileError::Cut, 1),
-        (UnitFileError::Size, 2),
-        (UnitFileError::Device, 3),
-    ] {
-        assert_eq!(rt; fault.code(), code);
-    }
-    Ok(())
+fn numbers_of_faults(rt: HostRuntime) {
+    let codes = [
+        UnitFileError::Cut.code(),
+        UnitFileError::Size.code(),
+        UnitFileError::Device.code(),
+    ];
+    assert_eq!(rt; codes, [1, 2, 3]);
+}
+
+// Whether `carry` on these records answers and writes so.
+fn carries(alloc: Global, records: &[u8], hex: bool, bytes: &[u8]) -> Result<bool, AllocError> {
+    let (answer, output) = carried(alloc, records, hex)?;
+    Ok(answer == Ok(bytes.len() as u64) && output.as_slice() == bytes)
 }
 
 #[test]
 fn one_record_is_one_packet(rt: HostRuntime) -> Result<(), Fail> {
     let alloc = rt.alloc();
-    let (answer, output) = carried(alloc, &RECORD, false)?;
-    assert_eq!(rt; answer, Ok(188));
-    assert_eq!(rt; output.as_slice(), packet(alloc)?.as_slice());
-    let (answer, output) = carried(alloc, &RECORD, true)?;
-    assert_eq!(rt; answer, Ok(377));
-    assert_eq!(rt; output.as_slice(), line(alloc)?.as_slice());
-    let (answer, output) = carried(alloc, &[], true)?;
-    assert_eq!(rt; answer, Ok(0));
-    assert_eq!(rt; output.len(), 0);
+    assert!(rt; carries(alloc, &RECORD, false, packet(alloc)?.as_slice())?);
+    assert!(rt; carries(alloc, &RECORD, true, line(alloc)?.as_slice())?);
+    assert!(rt; carries(alloc, &[], true, &[])?);
     Ok(())
+}
+
+// Sizes of units, and the first bytes of the packet of each.
+const FRONTS: [(u32, &[u8]); 3] = [
+    (169, &[0x47, 0x41, 0x00, 0x30, 0x00, 0x00, 0x00, 0x01]),
+    (170, &[0x47, 0x41, 0x00, 0x10, 0x00, 0x00, 0x01]),
+    (168, &[0x47, 0x41, 0x00, 0x30, 0x01, 0x00, 0x00, 0x00, 0x01]),
+];
+
+// Whether the packet of a unit of so many bytes begins so, and ends with two of them.
+fn is_filled(alloc: Global, size: u32, front: &[u8]) -> Result<bool, AllocError> {
+    let record = record(alloc, 0, size, 90_000, 90_000)?;
+    let (answer, output) = carried(alloc, record.as_slice(), false)?;
+    let packet = output.as_slice();
+    Ok(answer == Ok(188) && packet.starts_with(front) && packet.ends_with(&[0xa5, 0xa5]))
 }
 
 // Texts of 183, 184 and 182 bytes fill their packet by an adaptation field of 1, 0 and 2 bytes.
 #[test]
 fn packets_are_filled(rt: HostRuntime) -> Result<(), Fail> {
-    let alloc = rt.alloc();
-    for (size, front) in [
-        (
-            169,
-            [0x47, 0x41, 0x00, 0x30, 0x00, 0x00, 0x00, 0x01].as_slice(),
-        ),
-        (170, [0x47, 0x41, 0x00, 0x10, 0x00, 0x00, 0x01].as_slice()),
-        (
-            168,
-            [0x47, 0x41, 0x00, 0x30, 0x01, 0x00, 0x00, 0x00, 0x01].as_slice(),
-        ),
-    ] {
-        let (answer, output) = carried(
-            alloc,
-            record(alloc, 0, size, 90_000, 90_000)?.as_slice(),
-            false,
-        )?;
-        assert_eq!(rt; answer, Ok(188));
-        assert!(rt; output.as_slice().starts_with(front), "{size}");
-        assert!(rt; output.as_slice().ends_with(&[0xa5, 0xa5]), "{size}");
+    for (size, front) in FRONTS {
+        assert!(rt; is_filled(rt.alloc(), size, front)?, "{size}");
     }
     Ok(())
+}
+
+// Whether packet n of two units, of 17 packets and of three, has its header.
+fn goes_on(n: usize, packet: &[u8]) -> bool {
+    let starts = n == 0 || n == 17;
+    match packet {
+        [_, flags, _, control, ..] => {
+            packet.len() == 188
+                && *flags == (if starts { 0x41 } else { 0x01 })
+                && (*control % 16) as usize == n % 16
+        }
+        _ => false,
+    }
 }
 
 // Counters go on from unit to unit, modulo 16, and a unit begins a packet of its own.
@@ -174,15 +184,9 @@ fn counters_go_on(rt: HostRuntime) -> Result<(), Fail> {
     let mut records = record(alloc, 0, 3_000, 1, 2)?;
     records.extend_from_slice(record(alloc, 0, 400, 2, 3)?.as_slice())?;
     let (answer, output) = carried(alloc, records.as_slice(), false)?;
-    assert_eq!(rt; answer, Ok(20 * 188));
+    assert!(rt; answer == Ok(20 * 188));
     for (n, packet) in output.as_slice().chunks(188).enumerate() {
-        assert!(rt; packet.len() == 188);
-        assert_eq!(rt;
-            packet[1],
-            if n == 0 || n == 17 { 0x41 } else { 0x01 },
-            "packet {n}"
-        );
-        assert_eq!(rt; (packet[3] % 16) as usize, n % 16, "packet {n}");
+        assert!(rt; goes_on(n, packet), "packet {n}");
     }
     Ok(())
 }
@@ -196,33 +200,43 @@ fn file_fault(alloc: Global, records: &[u8]) -> Result<UnitFileError, Fail> {
     }
 }
 
+// Refused files, and the fault of each.
+const FAULTS: [(&[u8], UnitFileError); 4] = [
+    (
+        &[
+            0x00, 0x00, 0x00, 0x00, 0x03, 0x00, 0x00, 0x00, 0x00, 0x00, 0x01, 0x5f, 0x90, 0x00,
+            0x00, 0x00, 0x00, 0x00, 0x01, 0x5f, 0x90, 0x41, 0x42,
+        ],
+        UnitFileError::Cut,
+    ),
+    (&LARGE, UnitFileError::Size),
+    (&[0, 0x00, 0x3d, 0x09, 0x01], UnitFileError::Size),
+    (&GREATEST, UnitFileError::Cut),
+];
+
 #[test]
 fn files_are_refused(rt: HostRuntime) -> Result<(), Fail> {
-    for (records, fault) in [
-        (RECORD.get(..23), UnitFileError::Cut),
-        (LARGE.get(..), UnitFileError::Size),
-        (LARGE.get(..5), UnitFileError::Size),
-        (GREATEST.get(..), UnitFileError::Cut),
-    ] {
-        assert_eq!(rt; file_fault(rt.alloc(), records.unwrap_or(&[]))?, fault);
+    for (records, fault) in FAULTS {
+        assert!(rt; file_fault(rt.alloc(), records)? == fault);
     }
     Ok(())
 }
 
-// The same record twice: the second is too soon, and the first is written.
+// Whether the same record twice is refused for the second one, which is too soon, and the first is written.
+fn is_too_soon(alloc: Global) -> Result<bool, Fail> {
+    let mut twice = Vec::from_slice(alloc, &RECORD)?;
+    twice.extend_from_slice(&RECORD)?;
+    let (answer, output) = carried(alloc, twice.as_slice(), true)?;
+    let soon = CarryError::Unit {
+        index: 1,
+        cause: FeedError::TooSoon,
+    };
+    Ok(answer == Err(soon) && output.as_slice() == line(alloc)?.as_slice())
+}
+
 #[test]
 fn the_second_record(rt: HostRuntime) -> Result<(), Fail> {
-    let mut twice = Vec::from_slice(rt.alloc(), &RECORD)?;
-    twice.extend_from_slice(&RECORD)?;
-    let (answer, output) = carried(rt.alloc(), twice.as_slice(), true)?;
-    assert_eq!(rt;
-        answer,
-        Err(CarryError::Unit {
-            index: 1,
-            cause: FeedError::TooSoon
-        })
-    );
-    assert_eq!(rt; output.as_slice(), line(rt.alloc())?.as_slice());
+    assert!(rt; is_too_soon(rt.alloc())?);
     Ok(())
 }
 
@@ -235,21 +249,23 @@ fn cause(alloc: Global, records: &[u8]) -> Result<FeedError, Fail> {
     }
 }
 
+// Stream, size, DTS and PTS of refused units, and the cause of each.
+const CAUSES: [(u8, u32, u64, u64, FeedError); 7] = [
+    (1, 0, 0, 0, FeedError::UnknownStream),
+    (0, 0, 0, 0, FeedError::Empty),
+    (0, 65_523, 0, 0, FeedError::TooLarge),
+    (0, 1, 8, 7, FeedError::BadPts),
+    (0, 1, 8, 90_009, FeedError::BadPts),
+    (0, 1, (1 << 52) + 1, (1 << 52) + 1, FeedError::TooFar),
+    (0, 1, u64::MAX, u64::MAX, FeedError::TooFar),
+];
+
 #[test]
 fn units_are_refused(rt: HostRuntime) -> Result<(), Fail> {
-    for (stream, size, dts, pts, wanted) in [
-        (1, 0, 0, 0, FeedError::UnknownStream),
-        (0, 0, 0, 0, FeedError::Empty),
-        (0, 65_523, 0, 0, FeedError::TooLarge),
-        (0, 1, 8, 7, FeedError::BadPts),
-        (0, 1, 8, 90_009, FeedError::BadPts),
-        (0, 1, (1 << 52) + 1, (1 << 52) + 1, FeedError::TooFar),
-        (0, 1, u64::MAX, u64::MAX, FeedError::TooFar),
-    ] {
+    for (stream, size, dts, pts, wanted) in CAUSES {
         let record = record(rt.alloc(), stream, size, dts, pts)?;
-        assert_eq!(rt;
-            cause(rt.alloc(), record.as_slice())?,
-            wanted,
+        assert!(rt;
+            cause(rt.alloc(), record.as_slice())? == wanted,
             "{stream} {size} {dts} {pts}"
         );
     }
@@ -257,18 +273,16 @@ fn units_are_refused(rt: HostRuntime) -> Result<(), Fail> {
 }
 
 #[test]
-fn numbers_of_causes(rt: HostRuntime) -> Result<(), Fail> {
-    for (cause, code) in [
-        (FeedError::UnknownStream, 1),
-        (FeedError::Empty, 2),
-        (FeedError::TooLarge, 3),
-        (FeedError::TooSoon, 4),
-        (FeedError::BadPts, 5),
-        (FeedError::TooFar, 7),
-    ] {
-        assert_eq!(rt; cause.code(), code);
-    }
-    Ok(())
+fn numbers_of_causes(rt: HostRuntime) {
+    let codes = [
+        FeedError::UnknownStream.code(),
+        FeedError::Empty.code(),
+        FeedError::TooLarge.code(),
+        FeedError::TooSoon.code(),
+        FeedError::BadPts.code(),
+        FeedError::TooFar.code(),
+    ];
+    assert_eq!(rt; codes, [1, 2, 3, 4, 5, 7]);
 }
 
 // What a writer took that fails once, after so many bytes.
@@ -294,9 +308,8 @@ fn writers_fail(rt: HostRuntime) -> Result<(), Fail> {
     let whole = line(rt.alloc())?;
     for bytes in 0..377u16 {
         let taken = taken(rt.alloc(), bytes as u64)?;
-        assert_eq!(rt;
-            Some(taken.as_slice()),
-            whole.get(..bytes as usize),
+        assert!(rt;
+            Some(taken.as_slice()) == whole.get(..bytes as usize),
             "{bytes}"
         );
     }
@@ -318,10 +331,16 @@ fn written_before(alloc: Global, calls: u64, named: u64) -> Result<usize, Fail> 
     }
 }
 
+// The call that fails, the record that is named, and the bytes written before.
+const CALLS: [(u64, u64, usize); 4] = [(0, 0, 0), (1, 0, 0), (2, 0, 0), (3, 1, 377)];
+
 #[test]
 fn readers_fail(rt: HostRuntime) -> Result<(), Fail> {
-    for (calls, named, bytes) in [(0, 0, 0), (1, 0, 0), (2, 0, 0), (3, 1, 377)] {
-        assert_eq!(rt; written_before(rt.alloc(), calls, named)?, bytes, "{calls}");
+    for (calls, named, bytes) in CALLS {
+        assert!(rt;
+            written_before(rt.alloc(), calls, named)? == bytes,
+            "{calls}"
+        );
     }
     Ok(())
 }

@@ -1,9 +1,8 @@
 //! Beginnings of two unit records, and the two with one byte changed, against a rule of this file's own.
 use super::{RECORD, carried};
 use linked_list_allocator::LocalHeap;
-use mux_core::{CarryError, FeedError, UnitFileError, read_unit};
+use mux_core::{CarryError, FeedError, Unit, UnitFileError, read_unit};
 use std::alloc::Global;
-use std::process::Abort;
 use std::test::Fail;
 use ts_packet::Counted;
 
@@ -52,37 +51,54 @@ fn after<'a>(bytes: &'a [u8], parts: &Parts<'a>) -> &'a [u8] {
         .unwrap_or(&[])
 }
 
-// Reads a record as the rule says it; what stands after it.
-fn read_next<'a>(
-    rt: &impl Abort,
-    alloc: Global,
-    input: &mut Counted<&'a [u8]>,
-    bytes: &'a [u8],
-) -> &'a [u8] {
-    let wanted = rule(bytes);
-    match read_unit(alloc, input) {
+// What `read_unit` answers, where the unit has these parts.
+fn is_as_wanted(
+    read: Result<Option<(u8, Unit)>, UnitFileError>,
+    wanted: Result<Option<Parts<'_>>, UnitFileError>,
+) -> bool {
+    match read {
         Ok(Some((stream, unit))) => {
-            let parts = (stream, unit.dts, unit.pts, unit.bytes.as_slice());
-            assert_eq!(rt; wanted, Ok(Some(parts)));
+            wanted == Ok(Some((stream, unit.dts, unit.pts, unit.bytes.as_slice())))
         }
-        Ok(None) => assert_eq!(rt; wanted, Ok(None)),
-        Err(refusal) => assert_eq!(rt; wanted, Err(refusal)),
-    }
-    match &wanted {
-        Ok(Some(parts)) => after(bytes, parts),
-        _ => &[],
+        Ok(None) => wanted == Ok(None),
+        Err(refusal) => wanted == Err(refusal),
     }
 }
 
-// Where there is hardly any memory, a size over the greatest is named as ever.
-fn check_size(rt: &impl Abort, alloc: Global, bytes: &[u8]) -> Result<(), Fail> {
-    let heap = LocalHeap::new(alloc, 256)?;
-    let mut input = Counted::new(bytes);
-    if rule(bytes) == Err(UnitFileError::Size) {
-        let refusal = read_unit(&heap, &mut input).err();
-        assert_eq!(rt; refusal, Some(UnitFileError::Size));
+// Reads a record as the rule says it; what stands after it, None where it is read otherwise.
+fn read_next<'a>(
+    alloc: Global,
+    input: &mut Counted<&'a [u8]>,
+    bytes: &'a [u8],
+) -> Option<&'a [u8]> {
+    let wanted = rule(bytes);
+    if !is_as_wanted(read_unit(alloc, input), wanted) {
+        return None;
     }
-    Ok(())
+    match &wanted {
+        Ok(Some(parts)) => Some(after(bytes, parts)),
+        _ => Some(&[]),
+    }
+}
+
+// Whether two records are read so, one after the other.
+fn reads_two(alloc: Global, bytes: &[u8]) -> bool {
+    let mut input = Counted::new(bytes);
+    match read_next(alloc, &mut input, bytes) {
+        None => false,
+        Some([]) => true,
+        Some(rest) => read_next(alloc, &mut input, rest).is_some(),
+    }
+}
+
+// Whether a size over the greatest is named as ever where there is hardly any memory.
+fn names_the_size(alloc: Global, bytes: &[u8]) -> Result<bool, Fail> {
+    if rule(bytes) != Err(UnitFileError::Size) {
+        return Ok(true);
+    }
+    let heap = LocalHeap::new(alloc, 256)?;
+    let refusal = read_unit(&heap, &mut Counted::new(bytes)).err();
+    Ok(refusal == Some(UnitFileError::Size))
 }
 
 // Why `carry` refuses a unit after one with this DTS.
@@ -129,23 +145,21 @@ fn records_before(answer: &Result<u64, CarryError>) -> u64 {
     }
 }
 
-fn check_carry(rt: &impl Abort, alloc: Global, bytes: &[u8]) -> Result<(), Fail> {
+// Whether `carry` answers as the rule says, and writes the packets of the records before its answer.
+fn carries_as_ruled(alloc: Global, bytes: &[u8]) -> Result<bool, Fail> {
     let wanted = carry_rule(bytes);
     let (answer, output) = carried(alloc, bytes, false)?;
-    assert_eq!(rt; answer, wanted);
-    assert_eq!(rt; output.len() % 188, 0);
-    assert_eq!(rt; (output.len() / 188) as u64, records_before(&wanted));
-    Ok(())
+    let packets = (output.len() / 188) as u64;
+    Ok(answer == wanted && output.len() % 188 == 0 && packets == records_before(&wanted))
 }
 
-fn check(rt: &impl Abort, alloc: Global, bytes: &[u8]) -> Result<(), Fail> {
-    let mut input = Counted::new(bytes);
-    let rest = read_next(rt, alloc, &mut input, bytes);
-    if !rest.is_empty() {
-        read_next(rt, alloc, &mut input, rest);
-    }
-    check_size(rt, alloc, bytes)?;
-    check_carry(rt, alloc, bytes)
+// What is answered to a file of these bytes, each as the rule says.
+fn answers(alloc: Global, bytes: &[u8]) -> Result<[bool; 3], Fail> {
+    Ok([
+        reads_two(alloc, bytes),
+        names_the_size(alloc, bytes)?,
+        carries_as_ruled(alloc, bytes)?,
+    ])
 }
 
 fn two_records() -> [u8; 47] {
@@ -159,9 +173,10 @@ fn two_records() -> [u8; 47] {
 fn beginnings(rt: HostRuntime) -> Result<(), Fail> {
     let bytes = two_records();
     for size in 0..48usize {
-        check(&rt, rt.alloc(), bytes.get(..size).unwrap_or(&[]))?;
+        let beginning = bytes.get(..size).unwrap_or(&[]);
+        assert!(rt; answers(rt.alloc(), beginning)? == [true; 3], "{size}");
     }
-    assert_eq!(rt; carry_rule(&bytes), Ok(376));
+    assert!(rt; carry_rule(&bytes) == Ok(376));
     Ok(())
 }
 
@@ -171,7 +186,10 @@ fn one_byte_changed(rt: HostRuntime) -> Result<(), Fail> {
         for value in [0x00, 0x7F, 0x80, 0xFF] {
             let mut changed = two_records();
             changed[at] = value;
-            check(&rt, rt.alloc(), &changed)?;
+            assert!(rt;
+                answers(rt.alloc(), &changed)? == [true; 3],
+                "{value} at {at}"
+            );
         }
     }
     Ok(())

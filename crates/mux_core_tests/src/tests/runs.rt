@@ -108,6 +108,14 @@ fn carries(mux: &mut Mux, slot: u64, from: usize, bytes: &[u8]) -> Result<bool, 
     }
 }
 
+// Whether the packet of a slot among these begins so.
+fn begins(packets: &[u8], slot: usize, head: &[u8]) -> bool {
+    match packets.chunks(188).nth(slot) {
+        Some(packet) => packet.starts_with(head),
+        None => false,
+    }
+}
+
 fn waiting(mux: &Mux, stream: u8) -> Option<usize> {
     mux.waiting(stream)
 }

@@ -51,77 +51,125 @@ impl Write for Scripted {
 
 const ONE_FAILS: [Option<usize>; 3] = [Some(2), None, Some(3)];
 
-#[test]
-fn a_read_is_one_call(rt: HostRuntime) {
+/// What four calls answer, then the count of faults and of calls.
+type Answers = ([Option<usize>; 4], u64, usize);
+
+fn read_four() -> Answers {
     let mut device = device_with(ONE_FAILS);
     let mut part = [0; 8];
-    for (turn, wanted) in [Some(2), None, Some(3), Some(8)].into_iter().enumerate() {
-        assert_eq!(rt; device.read(&mut part).ok(), wanted, "call {turn}");
-    }
-    assert_eq!(rt; Source::faults(&device), 0);
-    assert_eq!(rt; device.into_inner().calls, 4);
+    let answers = [
+        device.read(&mut part).ok(),
+        device.read(&mut part).ok(),
+        device.read(&mut part).ok(),
+        device.read(&mut part).ok(),
+    ];
+    (answers, Source::faults(&device), device.into_inner().calls)
+}
+
+#[test]
+fn a_read_is_one_call(rt: HostRuntime) {
+    assert_eq!(rt; read_four(), ([Some(2), None, Some(3), Some(8)], 0, 4));
+}
+
+fn write_four() -> Answers {
+    let mut device = device_with(ONE_FAILS);
+    let answers = [
+        device.write(&[7; 8]).ok(),
+        device.write(&[7; 8]).ok(),
+        device.write(&[7; 8]).ok(),
+        device.write(&[7; 8]).ok(),
+    ];
+    (answers, Sink::faults(&device), device.into_inner().calls)
 }
 
 #[test]
 fn a_write_is_one_call(rt: HostRuntime) {
+    assert_eq!(rt; write_four(), ([Some(2), None, Some(3), Some(8)], 0, 4));
+}
+
+fn flush_four() -> ([bool; 4], u64, usize) {
     let mut device = device_with(ONE_FAILS);
-    for (turn, wanted) in [Some(2), None, Some(3), Some(8)].into_iter().enumerate() {
-        assert_eq!(rt; device.write(&[7; 8]).ok(), wanted, "call {turn}");
-    }
-    assert_eq!(rt; Sink::faults(&device), 0);
-    assert_eq!(rt; device.into_inner().calls, 4);
+    let answers = [
+        device.flush().is_ok(),
+        device.flush().is_ok(),
+        device.flush().is_ok(),
+        device.flush().is_ok(),
+    ];
+    (answers, Sink::faults(&device), device.into_inner().calls)
 }
 
 #[test]
 fn a_flush_is_one_call(rt: HostRuntime) {
-    let mut device = device_with(ONE_FAILS);
-    for (turn, wanted) in [true, false, true, true].into_iter().enumerate() {
-        assert_eq!(rt; device.flush().is_ok(), wanted, "call {turn}");
-    }
-    assert_eq!(rt; Sink::faults(&device), 0);
-    assert_eq!(rt; device.into_inner().calls, 4);
+    assert_eq!(rt; flush_four(), ([true, false, true, true], 0, 4));
+}
+
+/// What a call answers, and the count of faults after it.
+type Counts = (Option<usize>, u64);
+
+fn read_counted(device: &mut Counted<Scripted>) -> Counts {
+    let answer = device.read_some(&mut [0; 8]).ok();
+    (answer, Source::faults(device))
 }
 
 #[test]
 fn a_counted_read_is_one_call(rt: HostRuntime) {
     let mut device = device_with(ONE_FAILS);
-    let mut part = [0; 8];
-    for (wanted, faults) in [(Some(2), 0), (None, 1), (Some(3), 1), (Some(8), 1)] {
-        assert_eq!(rt; device.read_some(&mut part).ok(), wanted);
-        assert_eq!(rt; Source::faults(&device), faults);
+    for wanted in [(Some(2), 0), (None, 1), (Some(3), 1), (Some(8), 1)] {
+        assert_eq!(rt; read_counted(&mut device), wanted);
     }
     assert_eq!(rt; device.into_inner().calls, 4);
+}
+
+fn write_counted(device: &mut Counted<Scripted>) -> Counts {
+    let answer = device.write_some(&[7; 8]).ok();
+    (answer, Sink::faults(device))
 }
 
 #[test]
 fn a_counted_write_is_one_call(rt: HostRuntime) {
     let mut device = device_with([Some(2), None, Some(0)]);
-    for (wanted, faults) in [(Some(2), 0), (None, 1), (None, 2), (Some(8), 2)] {
-        assert_eq!(rt; device.write_some(&[7; 8]).ok(), wanted);
-        assert_eq!(rt; Sink::faults(&device), faults);
+    for wanted in [(Some(2), 0), (None, 1), (None, 2), (Some(8), 2)] {
+        assert_eq!(rt; write_counted(&mut device), wanted);
     }
     assert_eq!(rt; device.into_inner().calls, 4);
+}
+
+/// Whether a part of eight bytes is read so, with so many faults and calls.
+fn is_read(
+    answers: [Option<usize>; 3],
+    wanted: Result<usize, DeviceFault>,
+    faults: u64,
+    calls: usize,
+) -> bool {
+    let mut device = device_with(answers);
+    read_part(&mut device, &mut [0; 8]) == wanted
+        && Source::faults(&device) == faults
+        && device.into_inner().calls == calls
+}
+
+/// Whether it is written so.
+fn is_written(
+    answers: [Option<usize>; 3],
+    wanted: Result<(), DeviceFault>,
+    faults: u64,
+    calls: usize,
+) -> bool {
+    let mut device = device_with(answers);
+    write_part(&mut device, &[7; 8]) == wanted
+        && Sink::faults(&device) == faults
+        && device.into_inner().calls == calls
 }
 
 #[test]
 fn a_part_ends_at_the_first_fault(rt: HostRuntime) {
     let fault = DeviceFault { taken: 2 };
-    let mut device = device_with(ONE_FAILS);
-    assert_eq!(rt; read_part(&mut device, &mut [0; 8]), Err(fault));
-    assert_eq!(rt; Source::faults(&device), 1);
-    assert_eq!(rt; device.into_inner().calls, 2);
-    let mut device = device_with(ONE_FAILS);
-    assert_eq!(rt; write_part(&mut device, &[7; 8]), Err(fault));
-    assert_eq!(rt; Sink::faults(&device), 1);
-    assert_eq!(rt; device.into_inner().calls, 2);
+    assert!(rt; is_read(ONE_FAILS, Err(fault), 1, 2));
+    assert!(rt; is_written(ONE_FAILS, Err(fault), 1, 2));
 }
 
 #[test]
 fn a_part_is_asked_for_until_it_is_whole(rt: HostRuntime) {
-    let mut device = device_with([Some(2), Some(3), Some(1)]);
-    assert_eq!(rt; read_part(&mut device, &mut [0; 8]), Ok(8));
-    assert_eq!(rt; device.into_inner().calls, 4);
-    let mut device = device_with([Some(2), Some(3), Some(1)]);
-    assert_eq!(rt; write_part(&mut device, &[7; 8]), Ok(()));
-    assert_eq!(rt; device.into_inner().calls, 4);
+    let answers = [Some(2), Some(3), Some(1)];
+    assert!(rt; is_read(answers, Ok(8), 0, 4));
+    assert!(rt; is_written(answers, Ok(()), 0, 4));
 }

@@ -1,6 +1,6 @@
 //! Units and slots in any order, by a list of events.
 
-use super::{checked, mux, unit};
+use super::{begins, checked, mux, unit};
 use linked_list_allocator::LocalHeap;
 use mux_core::Mux;
 use mux_core::laws::{Event, drive};
@@ -36,30 +36,38 @@ fn driven(alloc: Global, slots: u64) -> Result<Vec<u8>, Fail> {
 }
 
 // Before slot 0 or after 24 slots the second unit is taken, and the bytes are the same; one slot later it is refused.
+fn are_alike(alloc: Global) -> Result<[bool; 2], Fail> {
+    let early = driven(alloc, 0)?;
+    let late = driven(alloc, 24)?;
+    let refused = driven(alloc, 25)?;
+    Ok([
+        late.as_slice() == early.as_slice(),
+        refused.as_slice() == early.as_slice(),
+    ])
+}
+
 #[test]
 fn a_unit_between_slots(rt: HostRuntime) -> Result<(), Fail> {
-    let early = driven(rt.alloc(), 0)?;
-    for (slots, same) in [(24, true), (25, false)] {
-        let late = driven(rt.alloc(), slots)?;
-        assert_eq!(rt; late.as_slice() == early.as_slice(), same, "{slots}");
-    }
+    assert_eq!(rt; are_alike(rt.alloc())?, [true, false]);
     Ok(())
 }
+
+// Slots of two units, and how their packets begin.
+const HEADS: [(usize, [u8; 4]); 6] = [
+    (0, [0x47, 0x41, 0x00, 0x10]),
+    (24, [0x47, 0x41, 0x00, 0x14]),
+    (28, [0x47, 0x01, 0x00, 0x15]),
+    (32, [0x47, 0x01, 0x00, 0x16]),
+    (36, [0x47, 0x01, 0x00, 0x37]),
+    (40, [0x47, 0x1f, 0xff, 0x10]),
+];
 
 #[test]
 fn packets_of_two_units(rt: HostRuntime) -> Result<(), Fail> {
     let bytes = driven(rt.alloc(), 24)?;
-    assert_eq!(rt; bytes.len(), 7_896);
-    for (slot, head) in [
-        (0, [0x47, 0x41, 0x00, 0x10]),
-        (24, [0x47, 0x41, 0x00, 0x14]),
-        (28, [0x47, 0x01, 0x00, 0x15]),
-        (32, [0x47, 0x01, 0x00, 0x16]),
-        (36, [0x47, 0x01, 0x00, 0x37]),
-        (40, [0x47, 0x1f, 0xff, 0x10]),
-    ] {
-        let packet = bytes.as_slice().chunks(188).nth(slot).unwrap_or(&[]);
-        assert!(rt; packet.starts_with(&head), "slot {slot}");
+    assert!(rt; bytes.len() == 7_896);
+    for (slot, head) in HEADS {
+        assert!(rt; begins(&bytes, slot, &head), "slot {slot}");
     }
     Ok(())
 }

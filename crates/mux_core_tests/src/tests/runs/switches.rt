@@ -33,17 +33,19 @@ fn refusal(alloc: Global, periods: u64, capacity: usize) -> Result<NewError, Fai
     }
 }
 
+// Periods and capacities, and the refusal of each.
+const REFUSED: [(u64, usize, NewError); 4] = [
+    (0, 0, NewError::Capacity),
+    (1, 1_048_577, NewError::Capacity),
+    (0, 1, NewError::Periods),
+    (9_162_596_899, 1, NewError::Periods),
+];
+
 #[test]
 fn switches_refused(rt: HostRuntime) -> Result<(), Fail> {
-    for (periods, capacity, error) in [
-        (0, 0, NewError::Capacity),
-        (1, 1_048_577, NewError::Capacity),
-        (0, 1, NewError::Periods),
-        (9_162_596_899, 1, NewError::Periods),
-    ] {
-        assert_eq!(rt;
-            refusal(rt.alloc(), periods, capacity)?,
-            error,
+    for (periods, capacity, error) in REFUSED {
+        assert!(rt;
+            refusal(rt.alloc(), periods, capacity)? == error,
             "{periods} {capacity}"
         );
     }
@@ -67,12 +69,16 @@ fn period(mux: &mut Mux, alloc: Global) -> Result<Vec<u8>, Fail> {
     Ok(bytes)
 }
 
-#[test]
-fn the_first_plan_alone(rt: HostRuntime) -> Result<(), Fail> {
-    let alloc = rt.alloc();
+// The packets of the first period of the switch, and of the first plan alone.
+fn both(alloc: Global) -> Result<bool, Fail> {
     let switched = period(&mut two(alloc)?, alloc)?;
     let single = period(&mut mux(alloc, "lead = 1600", "lead = 1688", 1)?, alloc)?;
-    assert_eq!(rt; switched.as_slice(), single.as_slice());
+    Ok(switched.as_slice() == single.as_slice())
+}
+
+#[test]
+fn the_first_plan_alone(rt: HostRuntime) -> Result<(), Fail> {
+    assert!(rt; both(rt.alloc())?);
     Ok(())
 }
 
@@ -84,11 +90,7 @@ fn carried(alloc: Global, slot: u64, from: usize, bytes: &[u8]) -> Result<bool, 
 
 #[test]
 fn the_second_plan_from_its_start(rt: HostRuntime) -> Result<(), Fail> {
-    for (slot, from, bytes) in [
-        (121, 0, [0x47, 0x1f, 0xff, 0x10].as_slice()),
-        (122, 6, [0x00, 0x00, 0x15, 0x74, 0x7e, 0xec].as_slice()),
-    ] {
-        assert!(rt; carried(rt.alloc(), slot, from, bytes)?, "slot {slot}");
-    }
+    assert!(rt; carried(rt.alloc(), 121, 0, &[0x47, 0x1f, 0xff, 0x10])?);
+    assert!(rt; carried(rt.alloc(), 122, 6, &[0x00, 0x00, 0x15, 0x74, 0x7e, 0xec])?);
     Ok(())
 }

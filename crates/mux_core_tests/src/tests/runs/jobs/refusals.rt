@@ -23,25 +23,36 @@ fn refused(alloc: Global, stream: u8, dts: u64, size: u32, slots: u64) -> Result
     }
 }
 
-// Each is tested before those after it.
+const TOO_LARGE: MuxError = MuxError::Feed {
+    index: 0,
+    cause: FeedError::TooLarge,
+};
+
+const LATE: MuxError = MuxError::Feed {
+    index: 0,
+    cause: FeedError::Late,
+};
+
+const UNKNOWN: MuxError = MuxError::Feed {
+    index: 0,
+    cause: FeedError::UnknownStream,
+};
+
+// Stream, DTS, size and slots, and the refusal. Each is tested before those after it.
+const REFUSED: [(u8, u64, u32, u64, MuxError); 4] = [
+    (0, 1_600, 577, (1 << 40) + 1, MuxError::TooManySlots),
+    (0, 1_600, 577, 1 << 40, TOO_LARGE),
+    (0, 1_599, 576, 18, LATE),
+    (1, 1_600, 576, 18, UNKNOWN),
+];
+
 #[test]
 fn jobs_refused(rt: HostRuntime) -> Result<(), Fail> {
-    for (stream, dts, size, slots, error) in [
-        (0, 1_600, 577, (1 << 40) + 1, MuxError::TooManySlots),
-        (0, 1_600, 577, 1 << 40, fed(FeedError::TooLarge)),
-        (0, 1_599, 576, 18, fed(FeedError::Late)),
-        (1, 1_600, 576, 18, fed(FeedError::UnknownStream)),
-    ] {
-        assert_eq!(rt;
-            refused(rt.alloc(), stream, dts, size, slots)?,
-            error,
+    for (stream, dts, size, slots, error) in REFUSED {
+        assert!(rt;
+            refused(rt.alloc(), stream, dts, size, slots)? == error,
             "{stream} {dts} {size} {slots}"
         );
     }
     Ok(())
-}
-
-// The first unit is refused.
-fn fed(cause: FeedError) -> MuxError {
-    MuxError::Feed { index: 0, cause }
 }
