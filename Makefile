@@ -2,7 +2,7 @@
 
 BINARY = crates/tsmux/out/tsmux
 
-.PHONY: run try test bench binary clean
+.PHONY: run try test bench binary tsjob any-stream clean
 
 # The main job on an example: a plan is made for a radio service, and its 167 access units, four seconds of MPEG audio, become
 # a transport stream with all its tables; what is in that stream is listed, and the monitor reports on it.
@@ -23,6 +23,14 @@ try:
 # Proves, builds and links the program (with no words and no input it does nothing).
 binary:
 	cd crates/tsmux && rt run < /dev/null
+
+# The same of the program that makes jobs of any stream (of no input it says `no PAT`, with status 1).
+tsjob:
+	cd crates/tsjob && { rt run < /dev/null; test -x out/tsjob; }
+
+# Streams of ffmpeg and GStreamer through both programs, and what came out beside what went in (examples/README.md has what it wants).
+any-stream: binary tsjob
+	sh examples/any-stream/run.sh crates/tsjob/out/tsjob $(BINARY)
 
 # Every proof from nothing, the must-fail edits, each test, and each program as two compilers make it.
 test:
