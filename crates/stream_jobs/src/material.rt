@@ -203,6 +203,7 @@ fn with_programs(
     let streams = wire_streams(
         alloc,
         wishes.make_dts,
+        count,
         wishes.without,
         found.streams,
         findings,

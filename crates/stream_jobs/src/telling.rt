@@ -74,8 +74,8 @@ pub(crate) fn tell_map_changes(
     Ok(())
 }
 
-// Tells what of a PID is in no unit.
-fn tell_pid(
+/// Tells what of a PID is in no unit.
+pub(crate) fn tell_pid(
     alloc: Global,
     pid: u16,
     count: u64,

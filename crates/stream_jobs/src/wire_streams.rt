@@ -6,6 +6,7 @@ ghost use Rattle.stream_jobs.specs.Jobs.{IsCarried};
 ghost use Rattle.stream_jobs.specs.Moving.{source_of};
 
 use crate::refusal::Refusal;
+use crate::telling::tell_pid;
 use crate::told::Told;
 use demux::Finding;
 use std::alloc::Global;
@@ -113,10 +114,11 @@ fn wire_stream(
     }))
 }
 
-// Notes a stream with its units, unless it is to be left out; where it has none that is told.
+// Notes a stream with its units, unless it is to be left out; where it has none that is told, and what is found of it.
 fn note_stream(
     alloc: Global,
     make_dts: bool,
+    count: u64,
     without: &[u16],
     stream: FoundStream,
     findings: &[Finding<'_>],
@@ -132,15 +134,20 @@ fn note_stream(
     }
     match wire_stream(alloc, make_dts, stream, findings)? {
         Some(stream) => streams.push(stream)?,
-        None => told.push(Told::NoUnit { program, pid })?,
+        None => {
+            told.push(Told::NoUnit { program, pid })?;
+            tell_pid(alloc, pid, count, findings, told)?;
+        }
     }
     Ok(())
 }
 
-/// The streams that are not to be left out, each with its units; of those that have none that is told.
+/// The streams that are not to be left out, each with its units; of those that have none that is told,
+/// and what is found of them.
 pub(crate) fn wire_streams(
     alloc: Global,
     make_dts: bool,
+    count: u64,
     without: &[u16],
     found: Vec<FoundStream>,
     findings: &[Finding<'_>],
@@ -153,6 +160,7 @@ pub(crate) fn wire_streams(
         note_stream(
             alloc,
             make_dts,
+            count,
             without,
             stream,
             findings,
