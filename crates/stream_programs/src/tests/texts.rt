@@ -1,9 +1,9 @@
 //! Texts of services.
 
+use crate::readable;
 use linked_list_allocator::LocalHeap;
 use std::alloc::AllocError;
 use std::test::Fail;
-use stream_programs::readable;
 
 // Coded texts, the most bytes that they may take, and what is read of them.
 const ROWS: [(&[u8], usize, &str); 14] = [

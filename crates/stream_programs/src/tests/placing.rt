@@ -1,9 +1,9 @@
 //! PIDs of maps and clocks, worked by hand.
 
+use crate::{FoundProgram, FoundStream, Placed, Programs, placed_pids};
 use linked_list_allocator::LocalHeap;
 use std::alloc::{AllocError, Allocator};
 use std::test::Fail;
-use stream_programs::{FoundProgram, FoundStream, Placed, Programs, placed_pids};
 
 // Programs with maps on these PIDs, and streams on those.
 fn programs<A: Allocator + Copy>(

@@ -3,14 +3,14 @@ mod placing;
 mod texts;
 mod vectors;
 
+use crate::{
+    LeftOut, Placed, Programs, association_change, found_programs, free_pid, last_service,
+    map_change, named_programs, stream_tables,
+};
 use demux::{Finding, Kind, Part, What};
 use psi_tables::Program;
 use std::alloc::{AllocError, Global};
 use std::test::Fail;
-use stream_programs::{
-    LeftOut, Placed, Programs, association_change, found_programs, free_pid, last_service,
-    map_change, named_programs, stream_tables,
-};
 use vectors::{EMPTY_MAP, FIRST_MAP, LAST_MAP, MORE, NEXT_PAT, OTHER_PAT, PAT, PMT, SDT};
 
 // Sections on PIDs, one in each packet.
