@@ -305,7 +305,7 @@ fn dts_of_pictures(rt: HostRuntime) -> Result<(), Fail> {
     assert_eq!(rt; units.len(), 6);
     let wanted = [0, 3_600, 7_200, 10_800, 14_400, 18_000];
     for ((unit, shown), after) in units.iter().zip(pts.iter()).zip(wanted) {
-        assert_eq!(rt; unit.unit.dts, (first + after) % RANGE);
+        assert_eq!(rt; unit.unit.dts, first.saturating_add(after) % RANGE);
         assert_eq!(rt; unit.unit.pts, *shown);
         assert_eq!(rt; unit.unit.bytes.len(), 1);
     }
