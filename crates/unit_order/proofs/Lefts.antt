@@ -1,5 +1,5 @@
 -- Units that are merged, and what is left of their streams.
-use Rattle.std.proofs.Common.{◌≡◌, ◌<◌, ◌==◌, ℕ, ◌+◌, ◌++◌, Option, Some, None, List, [], ◌∷◌, All, length, map, slice_get, slice_set, slice_index_or, get_or, sum_by, zero, suc, sym, ap, ◌∙◌, ◌⊎◌, inl, inr, arith}
+use Rattle.std.proofs.Common.{◌≡◌, ◌<◌, ◌==◌, ℕ, ◌+◌, ◌++◌, drop, Option, Some, None, List, [], ◌∷◌, All, length, map, slice_get, slice_set, slice_index_or, get_or, sum_by, zero, suc, sym, ap, ◌∙◌, ◌⊎◌, inl, inr, arith}
 use Rattle.std.specs.List.{filter}
 use Rattle.std.specs.Option.{option_to_list}
 use Rattle.std.specs.Prelude.{IfSome, IfNone, option_map}
@@ -10,7 +10,7 @@ use Rattle.std.proofs.lemmas.List.{append_assoc, append-nil, length-set, map-app
 use Rattle.std.proofs.lemmas.List.Elements.{All-nil, All-cons, All-append, filter-append}
 use Rattle.pes_packet.specs.AccessUnits.{AccessUnit}
 use Rattle.pes_packet.specs.Units.{units_of}
-use Rattle.unit_order.specs.Merging.{AreLeft, AreMerged, Takes}
+use Rattle.unit_order.specs.Merging.{AreLeft, AreMerged, AreTaken, Takes, due}
 
 units_more : (j : ℕ) (units : List (ℕ × AccessUnit)) (e : ℕ × AccessUnit) → units_of j (units ++ e ∷ []) ≡ units_of j units ++ units_of j (e ∷ [])
 units_more j units e = ap (map (λ u. u.1)) (filter-append (λ u. u.0 == j) units (e ∷ [])) ∙ map-append (λ u. u.1) (filter (λ u. u.0 == j) units) (filter (λ u. u.0 == j) (e ∷ []))
@@ -68,15 +68,27 @@ each_left streams left units k u rest are at j us is = elim (cases_eq j k) [
   | inr apart ↦ other_left streams left units j k u rest us are apart is
 ]
 
+-- it is taken after those before it
+taken_more : (units : List (ℕ × AccessUnit)) (streams left : List (List AccessUnit)) (k : ℕ) (u : AccessUnit) (rest : List AccessUnit) →
+    AreTaken streams units left → due left ≡ Some k → slice_get left k ≡ Some (u ∷ rest) → AreTaken streams (units ++ (k, u) ∷ []) (slice_set left k rest)
+unfolding AreTaken
+taken_more [] streams left k u rest is next has =
+    let here : slice_get streams k ≡ Some (u ∷ rest) = rw is at has in
+    let own : drop 1 (get_or streams k []) ≡ rest = ap (drop 1) (get_or_from_slice_get streams k (u ∷ rest) [] here) in
+    (rw is at next, ap (λ l. slice_set l k rest) is ∙ ap (λ r. slice_set streams k r) (sym own))
+taken_more (e ∷ es) streams left k u rest is next has =
+    (is.0, taken_more es (slice_set streams e.0 (drop 1 (get_or streams e.0 []))) left k u rest is.1 next has)
+
 pub one_more : (streams left : List (List AccessUnit)) (units : List (ℕ × AccessUnit)) (k : ℕ) (u : AccessUnit) (rest : List AccessUnit) →
-    AreLeft streams left units → slice_get left k ≡ Some (u ∷ rest) → AreLeft streams (slice_set left k rest) (units ++ (k, u) ∷ [])
-one_more streams left units k u rest are at =
+    AreLeft streams left units → due left ≡ Some k → slice_get left k ≡ Some (u ∷ rest) → AreLeft streams (slice_set left k rest) (units ++ (k, u) ∷ [])
+one_more streams left units k u rest are next at =
     let lt : k < length left = slice_get_within left k (u ∷ rest) at in
     record {
       each = each_left streams left units k u rest are at;
       numbered = All-append (λ e. e.0 < length streams) units ((k, u) ∷ []) are.numbered
           (All-cons (λ e. e.0 < length streams) (k, u) [] (omega (arith, lt, are.same)) (All-nil (λ e. e.0 < length streams)));
       same = length-set left k rest ∙ are.same;
+      order = taken_more units streams left k u rest are.order next at;
     }
 
 -- one fewer is left
@@ -109,10 +121,12 @@ some_or_none u rest e = absurd cc
 -- ---- the beginning and the end
 
 pub none_merged : (streams : List (List AccessUnit)) → AreLeft streams streams []
+unfolding AreTaken
 none_merged streams = record {
   each = λ k us is. (us, is, λ i. us);
   numbered = All-nil (λ e. e.0 < length streams);
   same = λ i. length streams;
+  order = λ i. streams;
 }
 
 pub all_merged : (streams left : List (List AccessUnit)) (units : List (ℕ × AccessUnit)) → AreLeft streams left units → All (λ us. us ≡ []) left → AreMerged streams units
@@ -122,4 +136,5 @@ all_merged streams left units are none = record {
       let empty : old.0 ≡ [] = sym (get_or_from_slice_get left k old.0 [] old.1) ∙ none k [] (slice_get_within left k old.0 old.1) in
       sym (append-nil (units_of k units)) ∙ ap (λ r. units_of k units ++ r) (sym empty) ∙ old.2;
   numbered = are.numbered;
+  order = (left, are.order);
 }

@@ -1,5 +1,5 @@
 -- The units of several streams in one list, by their decoding times.
-use Rattle.std.specs.Prelude.{◌≡◌, ◌<◌, ℕ, ◌+◌, ◌++◌, List, [], ◌∷◌, length, map, slice_get, slice_set, Option, Some, None, All, nat_lt, if◌then◌else◌}
+use Rattle.std.specs.Prelude.{◌≡◌, ◌<◌, ℕ, ◌+◌, ◌++◌, List, [], ◌∷◌, length, map, slice_get, slice_set, get_or, drop, Option, Some, None, option_map, All, nat_lt, if◌then◌else◌}
 use Rattle.pes_packet.specs.AccessUnits.{AccessUnit}
 use Rattle.pes_packet.specs.Units.{units_of}
 
@@ -19,10 +19,20 @@ unfoldable pub next_of : ℕ → Option (ℕ × ℕ) → List (List AccessUnit) 
 next_of k best [] = best
 next_of k best (us ∷ rest) = next_of (k + 1) (earlier best k (head_dts us)) rest
 
--- the units of each stream in their order, each with the stream's number
+-- the number of the stream that is due next, none where all are at their end
+abbrev pub due : List (List AccessUnit) → Option ℕ
+due streams = option_map (λ b. b.0) (next_of 0 None streams)
+
+-- units one after another, each of the stream that is due next where the units before it are taken, and what is left of the streams
+unfoldable pub AreTaken : List (List AccessUnit) → List (ℕ × AccessUnit) → List (List AccessUnit) → Type 0
+AreTaken streams [] left = left ≡ streams
+AreTaken streams (e ∷ es) left = (due streams ≡ Some e.0) × AreTaken (slice_set streams e.0 (drop 1 (get_or streams e.0 []))) es left
+
+-- the units of each stream in their order, each with the stream's number, and each where its stream is due next
 pub record AreMerged (streams : List (List AccessUnit)) (units : List (ℕ × AccessUnit)) : Type 0 where
   pub each : (k : ℕ) (us : List AccessUnit) → slice_get streams k ≡ Some us → units_of k units ≡ us
   pub numbered : All (λ e. e.0 < length streams) units
+  pub order : (left : List (List AccessUnit)) × AreTaken streams units left
 
 -- the next unit of stream k is taken from what is left of the streams
 pub record Takes (before after : List (List AccessUnit)) (k : ℕ) (u : AccessUnit) : Type 0 where
@@ -35,3 +45,4 @@ pub record AreLeft (streams left : List (List AccessUnit)) (units : List (ℕ ×
   pub each : (k : ℕ) (us : List AccessUnit) → slice_get streams k ≡ Some us → (rest : List AccessUnit) × (slice_get left k ≡ Some rest) × (units_of k units ++ rest ≡ us)
   pub numbered : All (λ e. e.0 < length streams) units
   pub same : length left ≡ length streams
+  pub order : AreTaken streams units left

@@ -59,7 +59,7 @@ fn take_next<A: Allocator>(queues: &mut Vec<VecDeque<Unit<A>, A>, A>, k: usize) 
 }
 
 /// The units of up to 256 streams by their DTS, those of one DTS in the order of the streams, each with the number of its
-/// stream.
+/// stream. A unit waits for those before it in its stream, whatever their DTS.
 pub fn merged<A: Allocator + Clone>(
     alloc: A,
     streams: Vec<VecDeque<Unit<A>, A>, A>,

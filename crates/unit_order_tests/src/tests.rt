@@ -24,7 +24,10 @@ const MERGED: [(u8, u64, u64); 8] = [
 ];
 
 // The units of a stream, each with its number as PTS.
-fn units<A: Allocator + Copy>(alloc: A, stream: &[u64]) -> Result<VecDeque<Unit<A>, A>, AllocError> {
+fn units<A: Allocator + Copy>(
+    alloc: A,
+    stream: &[u64],
+) -> Result<VecDeque<Unit<A>, A>, AllocError> {
     let mut units = Vec::new(alloc);
     for (n, dts) in stream.iter().enumerate() {
         let bytes = Vec::from_slice(alloc, &[0xa5])?;

@@ -1,10 +1,13 @@
-use Rattle.std.proofs.Common.{sum_by, arith, sym, ◌∙◌, rules, ◌≡◌, ◌≤◌, ◌<◌, IfOk, IfSome, IfNone, [], None, Some, All, length, map, option_map, slice_get, ℕ, ◌+◌, ◌-◌, ◌*◌, ◌/◌, ◌%◌, Bool, true, false, nat_eq, nat_lt, List, ◌∷◌, ◌++◌, slice_index_or, slice_set, bit_and, bit_or, Fits, w8, w32, w64, Bor, MutBor}
+use Rattle.std.proofs.Common.{sum_by, arith, sym, ap, ◌∙◌, rules, ◌≡◌, ◌≤◌, ◌<◌, IfOk, IfSome, IfNone, [], None, Some, All, length, map, option_map, slice_get, ℕ, ◌+◌, ◌-◌, ◌*◌, ◌/◌, ◌%◌, Bool, true, false, nat_eq, nat_lt, List, ◌∷◌, ◌++◌, slice_index_or, slice_set, bit_and, bit_or, Fits, w8, w32, w64, Bor, MutBor}
 use Rattle.std.proofs.lemmas.Option.{slice_get_within}
 use Rattle.std.proofs.lemmas.List.{length-map}
 use Rattle.unit_order.specs.Merging as spec
 use Rattle.unit_order.proofs.Lefts.{one_more, one_fewer, none_merged, all_merged, some_or_none}
 use Rattle.unit_order.proofs.Nexts.{first_next, none_next}
 use Rattle.unit_order.proofs.merging.merged.Goals as goal
+
+pub units-init : goal.units-init
+units-init g c = rw c.new-units.ensures.items (none_merged (map (λ s. s.items) c.args.streams.items))
 
 pub take_next-requires : goal.take_next-requires
 take_next-requires g c =
@@ -31,7 +34,9 @@ units-smaller-in-Continue-1 g c =
 pub units-preserved-in-Continue-1 : goal.units-preserved-in-Continue-1
 units-preserved-in-Continue-1 g c =
     let some = c.in-Some-take_next.ensures.some in
-    rw (some.left, c.in_ok-push.ensures.items) (one_more (map (λ s. s.items) c.args.streams.items) (map (λ s. s.items) c.units.queues.items) c.units.units.items c.in-Some.k c.in-Some-take_next.unit some.rest c.units.invariant some.first)
+    let found : spec.next_of 0 None (map (λ s. s.items) c.units.queues.items) ≡ Some (c.in-Some.k, c.in-Some.field-0-1) = search rules in
+    let next : spec.due (map (λ s. s.items) c.units.queues.items) ≡ Some c.in-Some.k = ap (option_map (λ b. b.0)) found in
+    rw (some.left, c.in_ok-push.ensures.items) (one_more (map (λ s. s.items) c.args.streams.items) (map (λ s. s.items) c.units.queues.items) c.units.units.items c.in-Some.k c.in-Some-take_next.unit some.rest c.units.invariant next some.first)
 
 pub units-smaller : goal.units-smaller
 units-smaller g c =
