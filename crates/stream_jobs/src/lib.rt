@@ -14,8 +14,6 @@ mod moving;
 mod rates;
 mod refusal;
 mod telling;
-#[cfg(test)]
-mod tests;
 mod told;
 mod wire_streams;
 mod wishes;
