@@ -8,9 +8,13 @@
 mod agreeing;
 mod declaring;
 mod draft;
+mod earliest;
 mod job;
+mod job_programs;
 mod material;
 mod moving;
+mod named_service;
+mod packets;
 mod rates;
 mod refusal;
 mod telling;
@@ -20,6 +24,6 @@ mod wishes;
 
 pub use job::{Job, describe, make_job, units, why};
 pub use material::{Material, material_of};
-pub use refusal::Refusal;
+pub use refusal::{JobError, Refusal};
 pub use told::Told;
 pub use wishes::{PidBuffers, Wishes};

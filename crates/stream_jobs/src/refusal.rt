@@ -1,6 +1,7 @@
 //! Why no job is given.
 
 ghost use Rattle.std.specs.Prelude.{◌≡◌};
+ghost use Rattle.stream_jobs.specs.declared.refusal.JobError.TheVariants.{Memory, Refused};
 
 use description::Fault;
 use std::alloc::{AllocError, AllocFailed};
@@ -9,8 +10,8 @@ use stream_units::{MakeFault, StampFault};
 /// Why a transport stream gives no job. Nothing of it is written then.
 #[derive(Clone, Copy, Debug, PartialEq, Eq)]
 pub enum Refusal {
-    /// No memory was left.
-    Memory,
+    /// More than half of its packets of 188 bytes are no packets.
+    NoPackets,
     /// No program association section in force is found.
     NoAssociation,
     /// No program that is asked for has a program map section in force with a stream of PES packets.
@@ -66,20 +67,42 @@ pub enum Refusal {
     Pids,
     /// The description that was written is refused.
     Description(Fault),
-    /// No plan is found at this rate, in bits a second.
+    /// No plan is found at this rate, in bits a second: the one that is asked for; else the least at which all have slots,
+    /// nor at those after it that are tried; or at no rate all have slots, of which this is the greatest.
     Plan(u64),
     /// The description that was written does not declare what the units of this PID need.
     Declaration(u16),
 }
 
-impl From<AllocError> for Refusal {
-    fn from(_error: AllocError) -> Refusal {
-        Refusal::Memory
+/// Why a call gives no job.
+#[derive(Clone, Copy, Debug, PartialEq, Eq)]
+pub enum JobError {
+    /// No memory was left.
+    Memory,
+    /// The stream is refused.
+    Refused(Refusal),
+}
+
+impl From<AllocError> for JobError {
+    ghost from_gives = { λ _ e. e ≡ Memory };
+
+    fn from(_error: AllocError) -> JobError {
+        JobError::Memory
     }
 }
 
-impl<T: Drop> From<AllocFailed<T>> for Refusal {
-    fn from(_error: AllocFailed<T>) -> Refusal {
-        Refusal::Memory
+impl<T: Drop> From<AllocFailed<T>> for JobError {
+    ghost from_gives = { λ _ e. e ≡ Memory };
+
+    fn from(_error: AllocFailed<T>) -> JobError {
+        JobError::Memory
+    }
+}
+
+impl From<Refusal> for JobError {
+    ghost from_gives = { λ refusal e. e ≡ Refused refusal };
+
+    fn from(refusal: Refusal) -> JobError {
+        JobError::Refused(refusal)
     }
 }

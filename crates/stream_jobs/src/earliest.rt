@@ -1,0 +1,66 @@
+//! When the first unit of each program is due.
+
+ghost use Rattle.std.specs.Prelude.{◌≡◌, ◌-◌, ◌^◌, min, sum_by};
+ghost use Rattle.std.specs.List.{list_any};
+ghost use Rattle.stream_jobs.specs.Moments as spec;
+
+use crate::job_programs::JobProgram;
+use crate::wire_streams::WireStream;
+
+/// The first unit is due two seconds after the first slot, in units of 90 kHz: a unit may be sent a second before it is due,
+/// and in the other second each table that it needs has come. Half a second more where a program map section has more than
+/// one packet.
+const EARLIEST: u64 = 180_000;
+
+const LATER: u64 = 225_000;
+
+// The bytes of a stream in the program map section of a program.
+#[tactic(auto, unfolding(crate::specs::Moments::entry_size))]
+fn entry_size(number: u16, stream: &WireStream) -> usize
+    ensures { result ≡ spec.entry_size number stream.now }
+{
+    if stream.program == number {
+        5 + stream.descriptors.len()
+    } else {
+        0
+    }
+}
+
+// Those of all streams, or the greatest number where they are more.
+fn entries_size(number: u16, streams: &[WireStream]) -> usize
+    ensures { result ≡ min (sum_by (spec.entry_size number) streams.now) (2 ^ 64 - 1) }
+{
+    let mut size: usize = 0;
+    for stream in streams {
+        size = size.saturating_add(entry_size(number, stream));
+    }
+    size
+}
+
+// Whether the program map section of a program has more than one packet.
+#[tactic(auto, unfolding(crate::specs::Moments::map_size, crate::specs::Moments::is_long_map))]
+fn is_long_map(program: &JobProgram, streams: &[WireStream]) -> bool
+    ensures { result ≡ spec.is_long_map streams.now program.now }
+{
+    let entries = entries_size(program.number, streams);
+    entries.saturating_add(16 + program.descriptors.len()) > 183
+}
+
+// Whether that of any program has.
+fn has_long_map(programs: &[JobProgram], streams: &[WireStream]) -> bool
+    ensures { result ≡ list_any (spec.is_long_map streams.now) programs.now }
+{
+    programs.iter().any(|program| is_long_map(program, streams))
+}
+
+/// When the first unit of each program is due, in units of 90 kHz.
+#[tactic(auto, unfolding(crate::specs::Moments::earliest))]
+pub(crate) fn earliest_of(programs: &[JobProgram], streams: &[WireStream]) -> u64
+    ensures { result ≡ spec.earliest programs.now streams.now }
+{
+    if has_long_map(programs, streams) {
+        LATER
+    } else {
+        EARLIEST
+    }
+}
