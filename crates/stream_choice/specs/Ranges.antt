@@ -1,5 +1,6 @@
 -- The numbers with which a choice can begin.
-use Rattle.std.specs.Prelude.{ℕ, ◌^◌, ◌≤◌, List, length, All}
+use Rattle.std.specs.Prelude.{ℕ, ◌^◌, ◌≤◌, ◌&&◌, nat_le, Bool, List, length, All}
+use Rattle.std.specs.List.{list_all}
 use Rattle.stream_choice.specs.declared.needs.Needs.{Needs}
 
 -- what a description can declare of a stream
@@ -26,3 +27,14 @@ pub record IsMost (most : List ℕ) : Type 0 where
   pub most_groups : length most ≤ 64
   pub some_packets : All (λ packets. 1 ≤ packets) most
   pub most_packets : All (λ packets. packets ≤ 2 ^ 21) most
+
+-- the same as functions
+unfoldable pub is_within : ℕ → ℕ → ℕ → Bool
+is_within least most n = nat_le least n && nat_le n most
+
+unfoldable pub is_needs : Needs → Bool
+is_needs needs =
+    is_within 1 90000 needs.interval && is_within 1 4000000 needs.size && is_within 64000 200000000 needs.rx && is_within 1 10000000 needs.main
+
+unfoldable pub is_most : List ℕ → Bool
+is_most most = is_within 1 64 (length most) && list_all (is_within 1 (2 ^ 21)) most

@@ -1,7 +1,8 @@
 -- Streams that agree one after another.
 use Rattle.std.proofs.Common.{◌≡◌, ℕ, zero, suc, Some, List, [], ◌∷◌, length, slice_get, sym}
 use Rattle.description.specs.Described.{Described, DescribedStream}
-use Rattle.stream_jobs.specs.Jobs.{AgreeInTurn, Agrees, AllAgree, Timed}
+use Rattle.stream_jobs.specs.Jobs.{AgreeInTurn, Agrees, AllAgree}
+use Rattle.stream_jobs.specs.Moments.{Timed}
 
 some_same : {X : Type 0} (x y : X) → Some x ≡ Some y → x ≡ y
 some_same x y e = cc

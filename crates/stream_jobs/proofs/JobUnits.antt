@@ -8,10 +8,11 @@ use Rattle.pes_packet.specs.Units.{units_of}
 use Rattle.demux.specs.Views.{FindingView}
 use Rattle.description.specs.Described.{Described, DescribedStream}
 use Rattle.unit_order.specs.Merging.{AreMerged}
-use Rattle.stream_jobs.specs.Jobs.{AllAgree, AreUnits, IsFew, IsMoved, IsStream, Timed}
+use Rattle.stream_jobs.specs.Jobs.{AllAgree, AreUnits, IsFew, IsMoved, IsStream}
+use Rattle.stream_jobs.specs.Moments.{Timed}
 
 none : Timed
-none = record { pid = 0; units = [] }
+none = record { program = 0; pid = 0; stream_type = 0; stream_id = 0; descriptors = []; units = [] }
 
 stream_of : (made : Bool) (findings : List FindingView) (d : Described) (streams : List Timed) (units : List (ℕ × AccessUnit)) →
     All (IsMoved made findings) streams → All IsFew streams → AllAgree d streams → AreMerged (map (λ t. t.units) streams) units →

@@ -1,27 +1,26 @@
 -- What a job is of what a demultiplexer finds.
-use Rattle.std.specs.Prelude.{◌≡◌, ◌≤◌, ◌<◌, ⊤, ℕ, Bool, List, ◌∷◌, length, slice_get, Some, Ok, All}
+use Rattle.std.specs.Prelude.{◌≡◌, ◌≤◌, ◌<◌, ⊤, ⊥, ℕ, Bool, false, List, ◌∷◌, length, map, slice_get, Option, Some, Ok, Err, IfSome, All}
 use Rattle.pes_packet.specs.AccessUnits.{AccessUnit}
 use Rattle.pes_packet.specs.Units.{units_of}
 use Rattle.demux.specs.Views.{FindingView}
-use Rattle.stream_units.specs.Carried.{CarriedUnit}
 use Rattle.description.specs.Described.{Described, DescribedStream}
 use Rattle.toml.specs.Parse.{parse_document}
 use Rattle.description.specs.Reading.{description_of}
+use Rattle.unit_order.specs.Merging.{AreMerged}
+use Rattle.stream_jobs.specs.Materials.{MaterialView}
+use Rattle.stream_jobs.specs.Moments.{Timed}
 use Rattle.stream_jobs.specs.Moving.{AreFound, Declares, source_of}
+use Rattle.stream_jobs.specs.Texts.{description_text}
+use Rattle.stream_jobs.specs.Wire.{WireView}
+use Rattle.stream_jobs.specs.Wished.{WishesView}
 
--- a stream's PID and its units as they are found
-pub record Carried : Type 0 where
-  pub pid : ℕ
-  pub units : List CarriedUnit
+-- 1. Streams
 
-abbrev pub IsCarried : Bool → List FindingView → Carried → Type 0
-IsCarried made findings c = c.units ≡ source_of made c.pid findings
+-- its units are those that are found of its PID
+abbrev pub IsCarried : Bool → List FindingView → WireView → Type 0
+IsCarried made findings s = s.units ≡ source_of made s.pid findings
 
--- a stream's PID and its units at their moments
-pub record Timed : Type 0 where
-  pub pid : ℕ
-  pub units : List AccessUnit
-
+-- at moments by one constant
 abbrev pub IsMoved : Bool → List FindingView → Timed → Type 0
 IsMoved made findings t = AreFound made findings t.pid t.units
 
@@ -29,14 +28,12 @@ IsMoved made findings t = AreFound made findings t.pid t.units
 abbrev pub IsFew : Timed → Type 0
 IsFew t = length t.units ≤ 1_048_576
 
--- what a job is made of: its streams
-pub record Streams : Type 0 where
-  pub streams : List Timed
-
-pub record AreStreams (made : Bool) (findings : List FindingView) (m : Streams) : Type 0 where
+pub record AreStreams (made : Bool) (findings : List FindingView) (m : MaterialView) : Type 0 where
   pub moved : All (IsMoved made findings) m.streams
   pub few : All IsFew m.streams
   pub least : length m.streams ≤ 32
+
+-- 2. What a description declares of them
 
 -- a stream of a description has these units, and what it declares of them is what they need
 pub record Agrees (d : Described) (s : DescribedStream) (t : Timed) : Type 0 where
@@ -52,6 +49,8 @@ pub record AllAgree (d : Described) (streams : List Timed) : Type 0 where
   pub same : length streams ≡ length d.streams
   pub each : (k : ℕ) (s : DescribedStream) (t : Timed) → slice_get d.streams k ≡ Some s → slice_get streams k ≡ Some t → Agrees d s t
 
+-- 3. Units
+
 -- the units of a job, each with the number of its stream: those of a stream are what is found of its PID, in order, and keep
 -- what the description declares
 pub record IsStream (made : Bool) (findings : List FindingView) (d : Described) (s : DescribedStream) (us : List AccessUnit) : Type 0 where
@@ -63,6 +62,20 @@ pub record AreUnits (made : Bool) (findings : List FindingView) (d : Described) 
   pub streams : (k : ℕ) (s : DescribedStream) → slice_get d.streams k ≡ Some s → IsStream made findings d s (units_of k units)
   pub numbered : All (λ e. e.0 < length d.streams) units
 
+-- 4. A job
+
 -- the text of a description is read as it
 abbrev pub IsText : Described → List ℕ → Type 0
 IsText d text = Ok d ≡ description_of (parse_document text)
+
+-- a description of these streams at a rate: the one that is asked for, where one is
+pub record IsDescription (w : WishesView) (findings : List FindingView) (m : MaterialView) (rate : ℕ) (text : List ℕ) : Type 0 where
+  pub rate_is : IfSome w.rate (λ asked. rate ≡ asked)
+  pub text_is : text ≡ description_text w findings m rate
+
+-- with what it is read as, and the units of all streams by their DTS
+pub record IsJob (w : WishesView) (findings : List FindingView) (m : MaterialView) (d : Described) (text : List ℕ) (units : List (ℕ × AccessUnit)) : Type 0 where
+  pub rate : ℕ
+  pub described : IsDescription w findings m rate text
+  pub read : IsText d text
+  pub merged : AreMerged (map (λ s. s.units) m.streams) units

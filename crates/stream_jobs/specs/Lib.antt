@@ -1,2 +1,11 @@
+pub mod Wished
+pub mod Answers
+pub mod Telling
+pub mod Wire
+pub mod JobPrograms
+pub mod Moments
+pub mod Declaring
+pub mod Materials
+pub mod Texts
 pub mod Moving
 pub mod Jobs

@@ -1,16 +1,24 @@
 //! What is declared of a stream's units.
 
-ghost use Rattle.std.specs.Prelude.{◌≡◌, ◌≤◌, ◌^◌, All, IsTrue};
+ghost use Rattle.std.specs.Prelude.{◌≡◌, ◌≤◌, ◌^◌, IfErr, IfNone, IfOk, Ok, All};
+ghost use Rattle.stream_jobs.specs.Answers.{Refuses};
+ghost use Rattle.stream_jobs.specs.Declaring as spec;
 ghost use Rattle.stream_jobs.specs.Jobs.{IsFew};
 
 use crate::moving::JobStream;
-use crate::refusal::Refusal;
+use crate::refusal::{JobError, Refusal};
 use crate::wishes::Wishes;
 use pes_packet::greatest_size as greatest_of_id;
 use std::alloc::{AllocError, Global};
+use std::marker::Model;
 use stream_choice::{Choice, Needs, are_most, choose, least_share, wait};
 use stream_coding::{Buffers, buffers_of, coding_of};
 use stream_units::{greatest_size, group_packets, least_interval};
+
+/// The most programs and streams of a description.
+const MOST_PROGRAMS: usize = 16;
+
+const MOST_STREAMS: usize = 32;
 
 /// The most units of a stream that a job has.
 const MOST_UNITS: usize = 1_048_576;
@@ -25,24 +33,43 @@ pub(crate) struct Counted {
     pub most: Vec<u32>,
 }
 
-/// Whether each stream has at most 1,048,576 units.
-pub(crate) fn are_few(streams: &[JobStream]) -> bool
-    ensures { IsTrue result → All IsFew streams.now }
+// A contract sees its packets as a list.
+impl Model for Counted {
+    ghost use Rattle.stream_jobs.specs.Declaring.{CountedView};
+
+    ghost Value = { CountedView };
+
+    ghost view = { λ c. record { needs = c.needs; most = c.most.items } };
+}
+
+/// Why there are too many programs or streams.
+pub(crate) fn too_many(programs: usize, streams: usize) -> Option<Refusal>
+    ensures value { result ≡ spec.too_many programs streams }
+    ensures least { IfNone result (streams ≤ 32) }
 {
-    streams
-        .iter()
-        .all(|stream| stream.units.len() <= MOST_UNITS)
+    if streams == 0 {
+        Some(Refusal::NoStream)
+    } else if programs > MOST_PROGRAMS {
+        Some(Refusal::Programs(programs))
+    } else if streams > MOST_STREAMS {
+        Some(Refusal::Streams(streams))
+    } else {
+        None
+    }
 }
 
 /// The first stream with more.
-pub(crate) fn too_long(streams: &[JobStream]) -> Refusal {
-    for stream in streams {
-        let (pid, count) = (stream.pid, stream.units.len());
-        if count > MOST_UNITS {
-            return Refusal::Units { pid, count };
-        }
-    }
-    Refusal::NoStream
+pub(crate) fn too_long(streams: &[JobStream]) -> Option<Refusal>
+    ensures value { result ≡ spec.too_long streams.now }
+    ensures few { IfNone result (All IsFew streams.now) }
+{
+    let stream = streams
+        .iter()
+        .find(|stream| stream.units.len() > MOST_UNITS)?;
+    Some(Refusal::Units {
+        pid: stream.pid,
+        count: stream.units.len(),
+    })
 }
 
 // The bytes of the first unit.
@@ -76,11 +103,11 @@ fn count_stream(
     alloc: Global,
     wishes: &Wishes<'_>,
     stream: &JobStream,
-) -> Result<Counted, Refusal> {
+) -> Result<Counted, JobError> {
     let pid = stream.pid;
     let size = greatest_size(&stream.units);
     if size > greatest_of_id(stream.stream_id) {
-        return Err(Refusal::Size { pid, size });
+        return Err(JobError::Refused(Refusal::Size { pid, size }));
     }
     let buffers = buffers_for(wishes, stream);
     let needs = Needs {
@@ -98,7 +125,10 @@ pub(crate) fn count_units(
     alloc: Global,
     wishes: &Wishes<'_>,
     streams: &[JobStream],
-) -> Result<Vec<Counted>, Refusal> {
+) -> Result<Vec<Counted>, JobError>
+    ensures counted { IfOk result (λ all. spec.all_counted wishes.now.buffers streams.now ≡ Ok all.items) }
+    ensures refused { IfErr result (Refuses (spec.all_counted wishes.now.buffers streams.now)) }
+{
     let mut all = Vec::new(alloc);
     for stream in streams {
         all.push(count_stream(alloc, wishes, stream)?)?;
@@ -145,18 +175,18 @@ fn chosen(
     sum: u64,
     stream: &JobStream,
     counted: &Counted,
-) -> Result<Choice, Refusal>
+) -> Result<Choice, JobError>
     requires { 2 ^ 17 ≤ sum }
 {
     let needs = counted.needs;
     match choice_of(greatest_lead, sum, counted) {
         Some(choice) => Ok(choice),
-        None => Err(Refusal::Buffers {
+        None => Err(JobError::Refused(Refusal::Buffers {
             pid: stream.pid,
             size: needs.size,
             rx: needs.rx,
             main: needs.main,
-        }),
+        })),
     }
 }
 
@@ -166,7 +196,10 @@ pub(crate) fn choices(
     greatest_lead: u32,
     streams: &[JobStream],
     all: &[Counted],
-) -> Result<Vec<Choice>, Refusal> {
+) -> Result<Vec<Choice>, JobError>
+    ensures chosen { IfOk result (λ chosen. spec.choices greatest_lead streams.now all.now ≡ Ok chosen.items) }
+    ensures refused { IfErr result (Refuses (spec.choices greatest_lead streams.now all.now)) }
+{
     let sum = shares_of(all);
     let mut choices = Vec::new(alloc);
     for (stream, counted) in streams.iter().zip(all) {

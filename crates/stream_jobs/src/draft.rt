@@ -5,15 +5,16 @@ ghost use Rattle.toml.specs.Parse.{parse_document};
 ghost use Rattle.description.specs.Reading.{description_of};
 
 use crate::declaring::Counted;
+use crate::job_programs::JobProgram;
 use crate::moving::JobStream;
-use crate::refusal::Refusal;
+use crate::refusal::{JobError, Refusal};
 use crate::wishes::Wishes;
 use demux::Finding;
 use description::{DescError, Description};
 use job_text::{Heading, ProgramEntry, StreamEntry};
 use std::alloc::{AllocError, Global};
 use stream_choice::Choice;
-use stream_programs::{FoundProgram, Placed, last_service, readable};
+use stream_programs::{last_service, readable};
 
 /// The most bytes of a service's name and provider, as written in a descriptor.
 const LONGEST_NAME: usize = 100;
@@ -30,8 +31,7 @@ pub(crate) struct Draft<'a, 'f> {
     pub wishes: Wishes<'a>,
     pub transport_stream_id: u16,
     pub base0: u64,
-    pub programs: &'a [FoundProgram],
-    pub placed: &'a [Placed],
+    pub programs: &'a [JobProgram],
     pub streams: &'a [JobStream],
     pub counted: &'a [Counted],
     pub choices: &'a [Choice],
@@ -60,8 +60,7 @@ impl<'a, 'f> Draft<'a, 'f> {
     fn write_program(
         &self,
         alloc: Global,
-        program: &FoundProgram,
-        placed: Placed,
+        program: &JobProgram,
         text: &mut String,
     ) -> Result<(), AllocError> {
         let (service_type, provider, name) = match last_service(program.number, self.findings) {
@@ -74,8 +73,8 @@ impl<'a, 'f> Draft<'a, 'f> {
         };
         let entry = ProgramEntry {
             number: program.number,
-            pmt_pid: placed.map_pid,
-            pcr_pid: placed.pcr_pid,
+            pmt_pid: program.map_pid,
+            pcr_pid: program.pcr_pid,
             pcr_limit: self.wishes.pcr_limit,
             descriptors: &program.descriptors,
             service_type,
@@ -86,8 +85,8 @@ impl<'a, 'f> Draft<'a, 'f> {
     }
 
     fn write_programs(&self, alloc: Global, text: &mut String) -> Result<(), AllocError> {
-        for (program, placed) in self.programs.iter().zip(self.placed) {
-            self.write_program(alloc, program, *placed, text)?;
+        for program in self.programs {
+            self.write_program(alloc, program, text)?;
         }
         Ok(())
     }
@@ -137,12 +136,12 @@ fn write_stream(
 }
 
 /// The description that a text says.
-pub(crate) fn described(alloc: Global, text: &str) -> Result<Description, Refusal>
+pub(crate) fn described(alloc: Global, text: &str) -> Result<Description, JobError>
     ensures { IfOk result (λ d. Ok d ≡ description_of (parse_document text.now)) }
 {
     match Description::read(alloc, text) {
         Ok(description) => Ok(description),
-        Err(DescError::Refused(fault)) => Err(Refusal::Description(fault)),
-        Err(DescError::Memory) => Err(Refusal::Memory),
+        Err(DescError::Refused(fault)) => Err(JobError::Refused(Refusal::Description(fault))),
+        Err(DescError::Memory) => Err(JobError::Memory),
     }
 }

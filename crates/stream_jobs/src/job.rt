@@ -9,7 +9,7 @@ use crate::draft::described;
 use crate::material::Material;
 use crate::moving::JobStream;
 use crate::rates::{Planned, first_rate, plan_draft};
-use crate::refusal::Refusal;
+use crate::refusal::{JobError, Refusal};
 use crate::wishes::Wishes;
 use demux::Finding;
 use pes_packet::Unit;
@@ -47,14 +47,14 @@ pub fn make_job(
     wishes: &Wishes<'_>,
     findings: &[Finding<'_>],
     material: Material,
-) -> Result<Job, Refusal>
+) -> Result<Job, JobError>
     requires { AreStreams wishes.now.make_dts (map finding_view findings.now) material }
     ensures text { IfOk result (λ j. IsText j.plan.description (string_bytes j.text)) }
     ensures units { IfOk result (λ j. AreUnits wishes.now.make_dts (map finding_view findings.now) j.plan.description j.units.items) }
 {
     let Planned { text, plan } = plan_draft(alloc, &material.draft(wishes, findings))?;
     if let Some(pid) = disagreeing(plan.description(), &material.streams) {
-        return Err(Refusal::Declaration(pid));
+        return Err(JobError::Refused(Refusal::Declaration(pid)));
     }
     let units = merged(alloc, queues_of(alloc, material.streams)?)?;
     Ok(Job { text, plan, units })
@@ -66,7 +66,7 @@ pub fn describe(
     wishes: &Wishes<'_>,
     findings: &[Finding<'_>],
     material: &Material,
-) -> Result<String, Refusal> {
+) -> Result<String, JobError> {
     let draft = material.draft(wishes, findings);
     match wishes.rate {
         Some(rate) => Ok(draft.text(alloc, rate)?),
@@ -75,7 +75,7 @@ pub fn describe(
 }
 
 /// The units of a job without its description, by their DTS, each with the number of its stream.
-pub fn units(alloc: Global, material: Material) -> Result<Vec<(u8, Unit)>, Refusal>
+pub fn units(alloc: Global, material: Material) -> Result<Vec<(u8, Unit)>, JobError>
     requires { length material.streams ≤ 32 }
 {
     let queues = queues_of(alloc, material.streams)?;
@@ -88,7 +88,7 @@ pub fn why(
     wishes: &Wishes<'_>,
     findings: &[Finding<'_>],
     material: &Material,
-) -> Result<Vec<Reason>, Refusal> {
+) -> Result<Vec<Reason>, JobError> {
     let rate = first_rate(alloc, &material.draft(wishes, findings))?;
     let text = material
         .draft(wishes, findings)

@@ -8,7 +8,9 @@
 mod agreeing;
 mod declaring;
 mod draft;
+mod earliest;
 mod job;
+mod job_programs;
 mod material;
 mod moving;
 mod rates;
@@ -20,6 +22,6 @@ mod wishes;
 
 pub use job::{Job, describe, make_job, units, why};
 pub use material::{Material, material_of};
-pub use refusal::Refusal;
+pub use refusal::{JobError, Refusal};
 pub use told::Told;
 pub use wishes::{PidBuffers, Wishes};

@@ -2,12 +2,17 @@
 
 ghost use Rattle.std.specs.Prelude.{◌≡◌, ◌≤◌, IfOk, IfNone, All, length, map};
 ghost use Rattle.demux.specs.Shown.{finding_view};
-ghost use Rattle.stream_jobs.specs.Jobs.{AreStreams};
+ghost use Rattle.stream_jobs.specs.Answers.{Answers};
+ghost use Rattle.stream_jobs.specs.Jobs.{AreStreams, IsCarried};
+ghost use Rattle.stream_jobs.specs.Materials as spec;
+ghost use Rattle.stream_jobs.specs.Wished.{is_wished};
 
-use crate::declaring::{Counted, are_few, choices, count_units, too_long};
+use crate::declaring::{Counted, choices, count_units, too_long, too_many};
 use crate::draft::Draft;
-use crate::moving::{JobStream, moved_streams};
-use crate::refusal::Refusal;
+use crate::earliest::earliest_of;
+use crate::job_programs::{JobProgram, job_programs};
+use crate::moving::{JobStream, first_base, moved_streams};
+use crate::refusal::{JobError, Refusal};
 use crate::telling::{tell_changes, tell_map_changes, tell_packets, tell_streams};
 use crate::told::Told;
 use crate::wire_streams::{WireStream, wire_streams};
@@ -17,29 +22,14 @@ use psi_tables::Program;
 use std::alloc::{AllocError, Global};
 use std::marker::Model;
 use stream_choice::Choice;
-use stream_programs::{
-    FoundProgram, Placed, Programs, found_programs, named_programs, placed_pids,
-};
-
-/// The most programs and streams of a description.
-const MOST_PROGRAMS: usize = 16;
-
-const MOST_STREAMS: usize = 32;
-
-/// The first unit is due two seconds after the first slot, in units of 90 kHz: a unit may be sent a second before it is due,
-/// and in the other second each table that it needs has come. Half a second more where a program map section has more than
-/// one packet.
-const EARLIEST: u64 = 180_000;
-
-const LATER: u64 = 225_000;
+use stream_programs::{Association, Placed, Programs, found_programs, named_programs, placed_pids};
 
 /// What a job is made of.
 #[derive(Drop)]
 pub struct Material {
     pub(crate) transport_stream_id: u16,
     pub(crate) base0: u64,
-    pub(crate) programs: Vec<FoundProgram>,
-    pub(crate) placed: Vec<Placed>,
+    pub(crate) programs: Vec<JobProgram>,
     pub(crate) streams: Vec<JobStream>,
     pub(crate) counted: Vec<Counted>,
     pub(crate) choices: Vec<Choice>,
@@ -47,18 +37,28 @@ pub struct Material {
     pub told: Vec<Told>,
 }
 
-// A contract sees its streams with their units.
+// A contract sees its parts as lists.
 impl Model for Material {
-    ghost use Rattle.stream_jobs.specs.Jobs.{Streams};
+    ghost use Rattle.stream_jobs.specs.Materials.{MaterialView};
 
-    ghost Value = { Streams };
+    ghost Value = { MaterialView };
 
-    ghost view = { λ m. record { streams = m.streams.items } };
+    ghost view = { λ m. record {
+      transport_stream_id = m.transport_stream_id;
+      base0 = m.base0;
+      programs = m.programs.items;
+      streams = m.streams.items;
+      counted = m.counted.items;
+      choices = m.choices.items;
+      told = m.told.items;
+    } };
 }
 
 // Whether a program is taken.
-fn is_wished(number: u16, wished: &[u16]) -> bool {
-    wished.is_empty() || wished.contains(&number)
+fn is_wished(wished: &[u16], program: &Program) -> bool
+    ensures { result ≡ is_wished wished.now program.now }
+{
+    wished.is_empty() || wished.contains(&program.program_number)
 }
 
 // The programs that are taken.
@@ -66,137 +66,89 @@ fn wished_programs(
     alloc: Global,
     wished: &[u16],
     named: &[Program],
-) -> Result<Vec<Program>, AllocError> {
+) -> Result<Vec<Program>, AllocError>
+    ensures { IfOk result (λ taken. taken.items ≡ filter (is_wished wished.now) named.now) }
+{
     let mut taken = Vec::new(alloc);
     for program in named {
-        if is_wished(program.program_number, wished) {
+        if is_wished(wished, program) {
             taken.push(*program)?;
         }
     }
     Ok(taken)
 }
 
-// The bytes of the program map section of a program.
-fn map_size(program: &FoundProgram, streams: &[WireStream]) -> usize {
-    let mut size = 16_usize.saturating_add(program.descriptors.len());
-    for stream in streams {
-        if stream.program == program.number {
-            size = size
-                .saturating_add(5)
-                .saturating_add(stream.descriptors.len());
-        }
-    }
-    size
-}
-
-// When the first unit of each program is due.
-fn earliest_of(programs: &[FoundProgram], streams: &[WireStream]) -> u64 {
-    if programs
-        .iter()
-        .any(|program| map_size(program, streams) > 183)
-    {
-        LATER
-    } else {
-        EARLIEST
-    }
-}
-
-// Programs with a stream that has units, each with its places.
-#[derive(Drop)]
-struct Kept {
-    programs: Vec<FoundProgram>,
-    placed: Vec<Placed>,
-}
-
-impl Kept {
-    fn note(
-        &mut self,
-        program: FoundProgram,
-        placed: Placed,
-        streams: &[WireStream],
-        told: &mut Vec<Told>,
-    ) -> Result<(), AllocError> {
-        if !streams
-            .iter()
-            .any(|stream| stream.program == program.number)
-        {
-            told.push(Told::NoStream {
-                program: program.number,
-            })?;
-            return Ok(());
-        }
-        if program.map_pid != placed.map_pid {
-            told.push(Told::MapMoved {
-                program: program.number,
-                from: program.map_pid,
-                to: placed.map_pid,
-            })?;
-        }
-        self.programs.push(program)?;
-        self.placed.push(placed)?;
-        Ok(())
-    }
-}
-
-fn kept_programs(
-    alloc: Global,
-    programs: Vec<FoundProgram>,
-    placed: Vec<Placed>,
-    streams: &[WireStream],
-    told: &mut Vec<Told>,
-) -> Result<Kept, AllocError> {
-    let mut kept = Kept {
-        programs: Vec::new(alloc),
-        placed: Vec::new(alloc),
-    };
-    for (program, places) in programs.into_iter().zip(placed) {
-        kept.note(program, places, streams, told)?;
-    }
-    Ok(kept)
-}
-
-// Why there are too many programs or streams.
-fn too_many(programs: usize, streams: usize) -> Option<Refusal>
-    ensures { IfNone result (streams ≤ 32) }
-{
-    if streams == 0 {
-        Some(Refusal::NoStream)
-    } else if programs > MOST_PROGRAMS {
-        Some(Refusal::Programs(programs))
-    } else if streams > MOST_STREAMS {
-        Some(Refusal::Streams(streams))
-    } else {
-        None
-    }
-}
-
-// What is declared of streams whose units have their moments.
-fn declared(
+// With what is declared of streams whose units have their moments.
+fn with_moved(
     alloc: Global,
     wishes: &Wishes<'_>,
-    streams: &[JobStream],
-) -> Result<(Vec<Counted>, Vec<Choice>), Refusal> {
-    let counted = count_units(alloc, wishes, streams)?;
-    let choices = choices(alloc, wishes.lead, streams, &counted)?;
-    Ok((counted, choices))
+    transport_stream_id: u16,
+    base0: u64,
+    programs: Vec<JobProgram>,
+    told: Vec<Told>,
+    streams: Vec<JobStream>,
+) -> Result<Material, JobError>
+    ensures { Answers (spec.with_moved wishes.now transport_stream_id base0 programs.items told.items streams.items) result }
+{
+    if let Some(refusal) = too_many(programs.len(), streams.len()) {
+        return Err(JobError::Refused(refusal));
+    }
+    if let Some(refusal) = too_long(&streams) {
+        return Err(JobError::Refused(refusal));
+    }
+    let counted = count_units(alloc, wishes, &streams)?;
+    let choices = choices(alloc, wishes.lead, &streams, &counted)?;
+    Ok(Material {
+        transport_stream_id,
+        base0,
+        programs,
+        streams,
+        counted,
+        choices,
+        told,
+    })
 }
 
-// The streams of programs, with the places of these.
-fn with_programs(
+// With the moments of streams whose units are as on the wire.
+fn with_streams(
+    alloc: Global,
+    wishes: &Wishes<'_>,
+    findings: &[Finding<'_>],
+    transport_stream_id: u16,
+    programs: Vec<JobProgram>,
+    told: Vec<Told>,
+    streams: Vec<WireStream>,
+) -> Result<Material, JobError>
+    requires { All (IsCarried wishes.now.make_dts (map finding_view findings.now)) streams.items }
+    ensures value { Answers (spec.with_streams wishes.now (map finding_view findings.now) transport_stream_id programs.items told.items streams.items) result }
+    ensures streams { IfOk result (AreStreams wishes.now.make_dts (map finding_view findings.now)) }
+{
+    let earliest = earliest_of(&programs, &streams);
+    let base0 = first_base(alloc, earliest, &streams)?;
+    let moved = moved_streams(alloc, wishes.make_dts, earliest, streams, findings)?;
+    with_moved(
+        alloc,
+        wishes,
+        transport_stream_id,
+        base0,
+        programs,
+        told,
+        moved,
+    )
+}
+
+// With the streams of programs that are given PIDs.
+fn with_places(
     alloc: Global,
     wishes: &Wishes<'_>,
     count: u64,
+    findings: &[Finding<'_>],
     transport_stream_id: u16,
     found: Programs,
-    findings: &[Finding<'_>],
+    placed: Vec<Placed>,
     told: Vec<Told>,
-) -> Result<Material, Refusal>
-    ensures { IfOk result (AreStreams wishes.now.make_dts (map finding_view findings.now)) }
-{
+) -> Result<Material, JobError> {
     let mut told = told;
-    let Some(placed) = placed_pids(alloc, &found)? else {
-        return Err(Refusal::Pids);
-    };
     for left_out in &found.left_out {
         told.push(Told::Table(*left_out))?;
     }
@@ -209,52 +161,60 @@ fn with_programs(
         findings,
         &mut told,
     )?;
-    let kept = kept_programs(alloc, found.programs, placed, &streams, &mut told)?;
+    let programs = job_programs(alloc, &streams, found.programs, placed, &mut told)?;
     tell_streams(alloc, count, &streams, findings, &mut told)?;
-    let earliest = earliest_of(&kept.programs, &streams);
-    let (streams, base0) = moved_streams(alloc, wishes.make_dts, earliest, streams, findings)?;
-    if let Some(refusal) = too_many(kept.programs.len(), streams.len()) {
-        return Err(refusal);
-    }
-    if !are_few(&streams) {
-        return Err(too_long(&streams));
-    }
-    let (counted, choices) = declared(alloc, wishes, &streams)?;
-    Ok(Material {
+    with_streams(
+        alloc,
+        wishes,
+        findings,
         transport_stream_id,
-        base0,
-        programs: kept.programs,
-        placed: kept.placed,
-        streams,
-        counted,
-        choices,
+        programs,
         told,
-    })
+        streams,
+    )
 }
 
-/// What a job of these findings is made of; `count` is the number of whole packets of the stream.
+// What is told of packets and of tables that change.
+fn told_of_tables(
+    alloc: Global,
+    association: &Association,
+    named: &[Program],
+    findings: &[Finding<'_>],
+) -> Result<Vec<Told>, AllocError> {
+    let mut told = Vec::new(alloc);
+    tell_packets(findings, &mut told)?;
+    tell_changes(association, findings, &mut told)?;
+    tell_map_changes(named, findings, &mut told)?;
+    Ok(told)
+}
+
+/// What a job of these findings is made of; `count` is the number of whole packets of the stream. Refusals, the first one
+/// that holds: no program association table, no program with a map, no PID left; of a stream two stream_ids, one that can't
+/// be written, DTS that can't be made; stamps that are no moments; too many programs, streams, or units of a stream; a unit
+/// that is too large, and buffers in which units can't wait.
 pub fn material_of(
     alloc: Global,
     wishes: &Wishes<'_>,
     count: u64,
     findings: &[Finding<'_>],
-) -> Result<Material, Refusal>
-    ensures { IfOk result (AreStreams wishes.now.make_dts (map finding_view findings.now)) }
+) -> Result<Material, JobError>
+    ensures value { Answers (spec.material wishes.now count (map finding_view findings.now)) result }
+    ensures streams { IfOk result (AreStreams wishes.now.make_dts (map finding_view findings.now)) }
 {
     let Some(association) = named_programs(alloc, findings)? else {
-        return Err(Refusal::NoAssociation);
+        return Err(JobError::Refused(Refusal::NoAssociation));
     };
     let named = wished_programs(alloc, wishes.programs, &association.programs)?;
-    let mut told = Vec::new(alloc);
-    tell_packets(findings, &mut told)?;
-    tell_changes(&association, findings, &mut told)?;
-    tell_map_changes(&named, findings, &mut told)?;
+    let told = told_of_tables(alloc, &association, &named, findings)?;
     let found = found_programs(alloc, &named, findings)?;
     if found.programs.is_empty() {
-        return Err(Refusal::NoProgram);
+        return Err(JobError::Refused(Refusal::NoProgram));
     }
+    let Some(placed) = placed_pids(alloc, &found)? else {
+        return Err(JobError::Refused(Refusal::Pids));
+    };
     let id = association.transport_stream_id;
-    with_programs(alloc, wishes, count, id, found, findings, told)
+    with_places(alloc, wishes, count, findings, id, found, placed, told)
 }
 
 impl Material {
@@ -269,7 +229,6 @@ impl Material {
             transport_stream_id: self.transport_stream_id,
             base0: self.base0,
             programs: &self.programs,
-            placed: &self.placed,
             streams: &self.streams,
             counted: &self.counted,
             choices: &self.choices,

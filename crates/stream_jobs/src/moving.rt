@@ -1,10 +1,12 @@
 //! The units of streams at the moments of a run.
 
-ghost use Rattle.std.specs.Prelude.{◌≡◌, ◌<◌, ◌^◌, IfOk, All, length, map};
+ghost use Rattle.std.specs.Prelude.{◌≡◌, ◌<◌, ◌^◌, IfOk, IfErr, Ok, All, length, map};
 ghost use Rattle.demux.specs.Shown.{finding_view};
+ghost use Rattle.stream_jobs.specs.Answers.{Refuses};
 ghost use Rattle.stream_jobs.specs.Jobs.{IsCarried, IsMoved};
+ghost use Rattle.stream_jobs.specs.Moments as spec;
 
-use crate::refusal::Refusal;
+use crate::refusal::{JobError, Refusal};
 use crate::wire_streams::WireStream;
 use demux::Finding;
 use pes_packet::Unit;
@@ -26,13 +28,20 @@ pub(crate) struct JobStream {
     pub units: Vec<Unit>,
 }
 
-// A contract sees its PID and its units.
+// A contract sees its bytes and units as lists.
 impl Model for JobStream {
-    ghost use Rattle.stream_jobs.specs.Jobs.{Timed};
+    ghost use Rattle.stream_jobs.specs.Moments.{Timed};
 
     ghost Value = { Timed };
 
-    ghost view = { λ s. record { pid = s.pid; units = s.units.items } };
+    ghost view = { λ s. record {
+      program = s.program;
+      pid = s.pid;
+      stream_type = s.stream_type;
+      stream_id = s.stream_id;
+      descriptors = s.descriptors.items;
+      units = s.units.items;
+    } };
 }
 
 /// The first DTS of a stream, as on the wire.
@@ -96,12 +105,12 @@ fn packet_of(
 }
 
 // Why the units of a stream have no moments.
-fn unmoved(alloc: Global, pid: u16, error: StampError, findings: &[Finding<'_>]) -> Refusal {
+fn unmoved(alloc: Global, pid: u16, error: StampError, findings: &[Finding<'_>]) -> JobError {
     match error {
-        StampError::Memory => Refusal::Memory,
+        StampError::Memory => JobError::Memory,
         StampError::Unit { index, fault } => match packet_of(alloc, pid, index, findings) {
-            Ok(packet) => Refusal::Stamps { packet, pid, fault },
-            Err(_) => Refusal::Memory,
+            Ok(packet) => JobError::Refused(Refusal::Stamps { packet, pid, fault }),
+            Err(_) => JobError::Memory,
         },
     }
 }
@@ -113,7 +122,7 @@ fn moved_stream(
     base: u64,
     stream: WireStream,
     findings: &[Finding<'_>],
-) -> Result<JobStream, Refusal>
+) -> Result<JobStream, JobError>
     requires base { base < 2 ^ 33 }
     requires carried { IsCarried make_dts (map finding_view findings.now) stream }
     ensures { IfOk result (IsMoved make_dts (map finding_view findings.now)) }
@@ -141,7 +150,7 @@ fn moved_by(
     firsts: &[First],
     streams: Vec<WireStream>,
     findings: &[Finding<'_>],
-) -> Result<Vec<JobStream>, Refusal>
+) -> Result<Vec<JobStream>, JobError>
     requires { All (IsCarried make_dts (map finding_view findings.now)) streams.items }
     ensures { IfOk result (λ moved. All (IsMoved make_dts (map finding_view findings.now)) moved.items) }
 {
@@ -153,30 +162,34 @@ fn moved_by(
     Ok(moved)
 }
 
-// The constant of the first stream's program.
-fn first_base(alloc: Global, earliest: u64, firsts: &[First]) -> Result<u64, AllocError>
-    ensures { IfOk result (λ base. base < 2 ^ 33) }
+/// What the clock of the first stream's program shows at moment 0, where the first of its units is due at `earliest`.
+pub(crate) fn first_base(
+    alloc: Global,
+    earliest: u64,
+    streams: &[WireStream],
+) -> Result<u64, AllocError>
+    ensures { IfOk result (λ base. base ≡ spec.first_base earliest streams.now) }
 {
+    let firsts = firsts_of(alloc, streams)?;
     match firsts.first() {
-        Some(first) => base_of(alloc, earliest, first.program, firsts),
+        Some(first) => base_of(alloc, earliest, first.program, &firsts),
         None => Ok(0),
     }
 }
 
-/// The streams with their units at moments, by which the first unit of each program is due at `earliest`; and what the clock
-/// of the first program shows at moment 0.
+/// The streams with their units at moments, by which the first unit of each program is due at `earliest`.
 pub(crate) fn moved_streams(
     alloc: Global,
     make_dts: bool,
     earliest: u64,
     streams: Vec<WireStream>,
     findings: &[Finding<'_>],
-) -> Result<(Vec<JobStream>, u64), Refusal>
+) -> Result<Vec<JobStream>, JobError>
     requires { All (IsCarried make_dts (map finding_view findings.now)) streams.items }
-    ensures { IfOk result (λ moved. All (IsMoved make_dts (map finding_view findings.now)) moved.0.items) }
+    ensures streams { IfOk result (λ moved. spec.moved_streams (map finding_view findings.now) earliest streams.items ≡ Ok moved.items) }
+    ensures refused { IfErr result (Refuses (spec.moved_streams (map finding_view findings.now) earliest streams.items)) }
+    ensures moved { IfOk result (λ moved. All (IsMoved make_dts (map finding_view findings.now)) moved.items) }
 {
     let firsts = firsts_of(alloc, &streams)?;
-    let base0 = first_base(alloc, earliest, &firsts)?;
-    let moved = moved_by(alloc, make_dts, earliest, &firsts, streams, findings)?;
-    Ok((moved, base0))
+    moved_by(alloc, make_dts, earliest, &firsts, streams, findings)
 }

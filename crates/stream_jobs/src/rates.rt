@@ -4,7 +4,7 @@ ghost use Rattle.std.specs.Prelude.{◌≡◌, ◌≤◌, IfOk, IfSome, Ok, stri
 ghost use Rattle.stream_jobs.specs.Jobs.{IsText};
 
 use crate::draft::{Draft, described};
-use crate::refusal::Refusal;
+use crate::refusal::{JobError, Refusal};
 use description::Description;
 use plan_checker::CheckedPlan;
 use plan_maker::{MakeError, make};
@@ -60,7 +60,7 @@ fn shares_of(alloc: Global, choices: &[Choice]) -> Result<Vec<u64>, AllocError> 
 }
 
 /// The rate at which all shares together are the whole.
-pub(crate) fn first_rate(alloc: Global, draft: &Draft<'_, '_>) -> Result<u64, Refusal> {
+pub(crate) fn first_rate(alloc: Global, draft: &Draft<'_, '_>) -> Result<u64, JobError> {
     let text = draft.text(alloc, GREATEST_RATE)?;
     let description = described(alloc, &text)?;
     let mut recurring = Vec::new(alloc);
@@ -69,12 +69,12 @@ pub(crate) fn first_rate(alloc: Global, draft: &Draft<'_, '_>) -> Result<u64, Re
     let shares = shares_of(alloc, draft.choices)?;
     match least_rate(&shares, &recurring) {
         Some(rate) => Ok(u64::from(rate)),
-        None => Err(Refusal::Plan(GREATEST_RATE)),
+        None => Err(JobError::Refused(Refusal::Plan(GREATEST_RATE))),
     }
 }
 
 // The plan at a rate, where one is found.
-fn plan_at(alloc: Global, draft: &Draft<'_, '_>, rate: u64) -> Result<Option<Planned>, Refusal>
+fn plan_at(alloc: Global, draft: &Draft<'_, '_>, rate: u64) -> Result<Option<Planned>, JobError>
     ensures { IfOk result (λ found. IfSome found (λ p. IsText p.plan.description (string_bytes p.text))) }
 {
     let text = draft.text(alloc, rate)?;
@@ -82,7 +82,7 @@ fn plan_at(alloc: Global, draft: &Draft<'_, '_>, rate: u64) -> Result<Option<Pla
     match make(alloc, description) {
         Ok(plan) => Ok(Some(Planned { text, plan })),
         Err((MakeError::NotFound, _)) => Ok(None),
-        Err((MakeError::Memory, _)) => Err(Refusal::Memory),
+        Err((MakeError::Memory, _)) => Err(JobError::Memory),
     }
 }
 
@@ -98,24 +98,24 @@ fn next_rate(rate: u64, tried: u32) -> u64
 }
 
 // The first plan that is found from the least rate up.
-fn first_plan(alloc: Global, draft: &Draft<'_, '_>) -> Result<Planned, Refusal>
+fn first_plan(alloc: Global, draft: &Draft<'_, '_>) -> Result<Planned, JobError>
     ensures { IfOk result (λ p. IsText p.plan.description (string_bytes p.text)) }
 {
     let mut rate = first_rate(alloc, draft)?;
     for tried in 0..TRIES {
         if rate > GREATEST_RATE {
-            return Err(Refusal::Plan(GREATEST_RATE));
+            return Err(JobError::Refused(Refusal::Plan(GREATEST_RATE)));
         }
         if let Some(planned) = plan_at(alloc, draft, rate)? {
             return Ok(planned);
         }
         rate = next_rate(rate, tried);
     }
-    Err(Refusal::Plan(rate))
+    Err(JobError::Refused(Refusal::Plan(rate)))
 }
 
 /// The description at the rate that is wished, else at the least that is found, with a plan that serves it.
-pub(crate) fn plan_draft(alloc: Global, draft: &Draft<'_, '_>) -> Result<Planned, Refusal>
+pub(crate) fn plan_draft(alloc: Global, draft: &Draft<'_, '_>) -> Result<Planned, JobError>
     ensures { IfOk result (λ p. IsText p.plan.description (string_bytes p.text)) }
 {
     let Some(rate) = draft.wishes.rate else {
@@ -123,6 +123,6 @@ pub(crate) fn plan_draft(alloc: Global, draft: &Draft<'_, '_>) -> Result<Planned
     };
     match plan_at(alloc, draft, rate)? {
         Some(planned) => Ok(planned),
-        None => Err(Refusal::Plan(rate)),
+        None => Err(JobError::Refused(Refusal::Plan(rate))),
     }
 }

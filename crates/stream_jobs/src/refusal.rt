@@ -1,6 +1,7 @@
 //! Why no job is given.
 
 ghost use Rattle.std.specs.Prelude.{◌≡◌};
+ghost use Rattle.stream_jobs.specs.declared.refusal.JobError.TheVariants.{Memory, Refused};
 
 use description::Fault;
 use std::alloc::{AllocError, AllocFailed};
@@ -9,8 +10,6 @@ use stream_units::{MakeFault, StampFault};
 /// Why a transport stream gives no job. Nothing of it is written then.
 #[derive(Clone, Copy, Debug, PartialEq, Eq)]
 pub enum Refusal {
-    /// No memory was left.
-    Memory,
     /// No program association section in force is found.
     NoAssociation,
     /// No program that is asked for has a program map section in force with a stream of PES packets.
@@ -72,14 +71,35 @@ pub enum Refusal {
     Declaration(u16),
 }
 
-impl From<AllocError> for Refusal {
-    fn from(_error: AllocError) -> Refusal {
-        Refusal::Memory
+/// Why a call gives no job.
+#[derive(Clone, Copy, Debug, PartialEq, Eq)]
+pub enum JobError {
+    /// No memory was left.
+    Memory,
+    /// The stream is refused.
+    Refused(Refusal),
+}
+
+impl From<AllocError> for JobError {
+    fn from(_error: AllocError) -> JobError
+        ensures { result ≡ Memory }
+    {
+        JobError::Memory
     }
 }
 
-impl<T: Drop> From<AllocFailed<T>> for Refusal {
-    fn from(_error: AllocFailed<T>) -> Refusal {
-        Refusal::Memory
+impl<T: Drop> From<AllocFailed<T>> for JobError {
+    fn from(_error: AllocFailed<T>) -> JobError
+        ensures { result ≡ Memory }
+    {
+        JobError::Memory
+    }
+}
+
+impl From<Refusal> for JobError {
+    fn from(refusal: Refusal) -> JobError
+        ensures { result ≡ Refused refusal }
+    {
+        JobError::Refused(refusal)
     }
 }

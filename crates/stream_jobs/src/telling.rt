@@ -1,5 +1,9 @@
 //! What is told of the packets and of the streams of a job.
 
+ghost use Rattle.std.specs.Prelude.{◌≡◌, ◌++◌, OnOk, map, flat_map, option_to_list};
+ghost use Rattle.demux.specs.Shown.{finding_view};
+ghost use Rattle.stream_jobs.specs.Telling as spec;
+
 use crate::told::Told;
 use crate::wire_streams::WireStream;
 use demux::{Finding, Part, What};
@@ -17,7 +21,9 @@ fn size_of(part: &Part<'_>) -> usize {
 }
 
 // What is told of what is found on no PID.
-fn lost(finding: &Finding<'_>) -> Option<Told> {
+fn lost(finding: &Finding<'_>) -> Option<Told>
+    ensures { option_to_list result ≡ spec.lost (finding_view finding.now) }
+{
     if finding.pid.is_some() {
         return None;
     }
@@ -33,10 +39,9 @@ fn lost(finding: &Finding<'_>) -> Option<Told> {
 }
 
 /// Tells what packets could not be read.
-pub(crate) fn tell_packets(
-    findings: &[Finding<'_>],
-    told: &mut Vec<Told>,
-) -> Result<(), AllocError> {
+pub(crate) fn tell_packets(findings: &[Finding<'_>], told: &mut Vec<Told>) -> Result<(), AllocError>
+    ensures { OnOk result (told.new.items ≡ told.old.items ++ spec.packets_told (map finding_view findings.now)) }
+{
     for finding in findings {
         if let Some(lost) = lost(finding) {
             told.push(lost)?;
@@ -50,7 +55,9 @@ pub(crate) fn tell_changes(
     association: &Association,
     findings: &[Finding<'_>],
     told: &mut Vec<Told>,
-) -> Result<(), AllocError> {
+) -> Result<(), AllocError>
+    ensures { OnOk result (told.new.items ≡ told.old.items ++ spec.association_told association.now.version_number (map finding_view findings.now)) }
+{
     if let Some(packet) = association_change(association.version_number, findings) {
         told.push(Told::AssociationChanges { packet })?;
     }
@@ -62,7 +69,9 @@ pub(crate) fn tell_map_changes(
     programs: &[Program],
     findings: &[Finding<'_>],
     told: &mut Vec<Told>,
-) -> Result<(), AllocError> {
+) -> Result<(), AllocError>
+    ensures { OnOk result (told.new.items ≡ told.old.items ++ spec.maps_told (map finding_view findings.now) programs.now) }
+{
     for program in programs {
         if let Some(packet) = map_change(*program, findings) {
             told.push(Told::MapChanges {
@@ -81,7 +90,9 @@ pub(crate) fn tell_pid(
     count: u64,
     findings: &[Finding<'_>],
     told: &mut Vec<Told>,
-) -> Result<(), AllocError> {
+) -> Result<(), AllocError>
+    ensures { OnOk result (told.new.items ≡ told.old.items ++ spec.pid_told count (map finding_view findings.now) pid) }
+{
     for left_out in left_out(alloc, pid, count, findings)? {
         told.push(Told::Units { pid, left_out })?;
     }
@@ -95,7 +106,9 @@ pub(crate) fn tell_streams(
     streams: &[WireStream],
     findings: &[Finding<'_>],
     told: &mut Vec<Told>,
-) -> Result<(), AllocError> {
+) -> Result<(), AllocError>
+    ensures { OnOk result (told.new.items ≡ told.old.items ++ flat_map (λ s. spec.pid_told count (map finding_view findings.now) s.pid) streams.now) }
+{
     for stream in streams {
         tell_pid(alloc, stream.pid, count, findings, told)?;
     }

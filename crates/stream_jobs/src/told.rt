@@ -1,6 +1,8 @@
 //! What is told of a stream that gives a job.
 
-use std::alloc::AllocError;
+ghost use Rattle.std.specs.Prelude.{◌≡◌};
+ghost use Rattle.stream_jobs.specs.Telling as spec;
+
 use stream_programs::LeftOut as TableLeftOut;
 use stream_units::LeftOut as UnitLeftOut;
 
@@ -31,7 +33,9 @@ pub enum Told {
 
 impl Told {
     /// Whether the stream is damaged.
-    pub fn is_damage(self) -> bool {
+    pub fn is_damage(self) -> bool
+        ensures { result ≡ spec.is_damage self }
+    {
         match self {
             Told::BadPacket { .. } => true,
             Told::Errored { .. } => true,

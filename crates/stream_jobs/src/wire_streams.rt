@@ -1,11 +1,13 @@
 //! The streams of a transport stream with their units as they are on the wire.
 
-ghost use Rattle.std.specs.Prelude.{◌≡◌, IfOk, IfSome, All, map};
+ghost use Rattle.std.specs.Prelude.{◌≡◌, ◌++◌, IfOk, IfErr, IfSome, OnOk, Ok, All, map};
 ghost use Rattle.demux.specs.Shown.{finding_view};
 ghost use Rattle.stream_jobs.specs.Jobs.{IsCarried};
 ghost use Rattle.stream_jobs.specs.Moving.{source_of};
+ghost use Rattle.stream_jobs.specs.Answers.{Refuses};
+ghost use Rattle.stream_jobs.specs.Wire as spec;
 
-use crate::refusal::Refusal;
+use crate::refusal::{JobError, Refusal};
 use crate::telling::tell_pid;
 use crate::told::Told;
 use demux::Finding;
@@ -26,13 +28,20 @@ pub(crate) struct WireStream {
     pub units: Vec<WireUnit>,
 }
 
-// A contract sees its PID and its units.
+// A contract sees its bytes and units as lists.
 impl Model for WireStream {
-    ghost use Rattle.stream_jobs.specs.Jobs.{Carried};
+    ghost use Rattle.stream_jobs.specs.Wire.{WireView};
 
-    ghost Value = { Carried };
+    ghost Value = { WireView };
 
-    ghost view = { λ s. record { pid = s.pid; units = s.units.items } };
+    ghost view = { λ s. record {
+      program = s.program;
+      pid = s.pid;
+      stream_type = s.stream_type;
+      stream_id = s.stream_id;
+      descriptors = s.descriptors.items;
+      units = s.units.items;
+    } };
 }
 
 // The first unit of another stream_id.
@@ -48,21 +57,21 @@ fn other_id(pid: u16, first: u8, units: &[WireUnit]) -> Option<Refusal> {
 }
 
 // The stream_id that is written for all of these units.
-fn common_id(pid: u16, is_ac3: bool, units: &[WireUnit]) -> Result<u8, Refusal> {
+fn common_id(pid: u16, is_ac3: bool, units: &[WireUnit]) -> Result<u8, JobError> {
     let Some(first) = units.first() else {
-        return Err(Refusal::NoStream);
+        return Err(JobError::Refused(Refusal::NoStream));
     };
     let id = first.stream_id;
     if let Some(refusal) = other_id(pid, id, units) {
-        return Err(refusal);
+        return Err(JobError::Refused(refusal));
     }
     match written_id(id, is_ac3) {
         Some(written) => Ok(written),
-        None => Err(Refusal::StreamId {
+        None => Err(JobError::Refused(Refusal::StreamId {
             packet: first.packet,
             pid,
             id,
-        }),
+        })),
     }
 }
 
@@ -73,19 +82,19 @@ fn units_of(
     make_dts: bool,
     pid: u16,
     findings: &[Finding<'_>],
-) -> Result<Vec<WireUnit>, Refusal>
+) -> Result<Vec<WireUnit>, JobError>
     ensures { IfOk result (λ units. units.items ≡ source_of make_dts pid (map finding_view findings.now)) }
 {
     let Ok(units) = carried_units(alloc, pid, findings) else {
-        return Err(Refusal::Memory);
+        return Err(JobError::Memory);
     };
     if !make_dts {
         return Ok(units);
     }
     match made_stamps(alloc, units) {
         Ok(made) => Ok(made),
-        Err(MakeError::Fault(fault)) => Err(Refusal::Dts { pid, fault }),
-        Err(MakeError::Memory) => Err(Refusal::Memory),
+        Err(MakeError::Fault(fault)) => Err(JobError::Refused(Refusal::Dts { pid, fault })),
+        Err(MakeError::Memory) => Err(JobError::Memory),
     }
 }
 
@@ -95,7 +104,7 @@ fn wire_stream(
     make_dts: bool,
     stream: FoundStream,
     findings: &[Finding<'_>],
-) -> Result<Option<WireStream>, Refusal>
+) -> Result<Option<WireStream>, JobError>
     ensures { IfOk result (λ carried. IfSome carried (IsCarried make_dts (map finding_view findings.now))) }
 {
     let units = units_of(alloc, make_dts, stream.pid, findings)?;
@@ -124,7 +133,7 @@ fn note_stream(
     findings: &[Finding<'_>],
     streams: &mut Vec<WireStream>,
     told: &mut Vec<Told>,
-) -> Result<(), Refusal>
+) -> Result<(), JobError>
     requires { All (IsCarried make_dts (map finding_view findings.now)) streams.old.items }
     ensures { All (IsCarried make_dts (map finding_view findings.now)) streams.new.items }
 {
@@ -152,8 +161,11 @@ pub(crate) fn wire_streams(
     found: Vec<FoundStream>,
     findings: &[Finding<'_>],
     told: &mut Vec<Told>,
-) -> Result<Vec<WireStream>, Refusal>
-    ensures { IfOk result (λ streams. All (IsCarried make_dts (map finding_view findings.now)) streams.items) }
+) -> Result<Vec<WireStream>, JobError>
+    ensures streams { IfOk result (λ streams. spec.wire_streams make_dts without.now (map finding_view findings.now) found.items ≡ Ok streams.items) }
+    ensures refused { IfErr result (Refuses (spec.wire_streams make_dts without.now (map finding_view findings.now) found.items)) }
+    ensures told { OnOk result (told.new.items ≡ told.old.items ++ spec.empties_told count without.now (map finding_view findings.now) found.items) }
+    ensures carried { IfOk result (λ streams. All (IsCarried make_dts (map finding_view findings.now)) streams.items) }
 {
     let mut streams = Vec::new(alloc);
     for stream in found {

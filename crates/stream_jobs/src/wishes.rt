@@ -1,5 +1,6 @@
 //! What is asked of a job.
 
+use std::marker::Model;
 use stream_coding::Buffers;
 
 /// The buffers of the stream of a PID.
@@ -28,4 +29,22 @@ pub struct Wishes<'a> {
     pub without: &'a [u16],
     /// Buffers in place of those by coding and level.
     pub buffers: &'a [PidBuffers],
+}
+
+// A contract sees its texts and lists.
+impl Model for Wishes<'_> {
+    ghost use Rattle.stream_jobs.specs.Wished.{WishesView};
+
+    ghost Value = { WishesView };
+
+    ghost view = { λ w. record {
+      rate = w.rate;
+      start = w.start.now;
+      pcr_limit = w.pcr_limit;
+      lead = w.lead;
+      make_dts = w.make_dts;
+      programs = w.programs.now;
+      without = w.without.now;
+      buffers = w.buffers.now;
+    } };
 }

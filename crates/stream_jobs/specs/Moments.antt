@@ -1,0 +1,94 @@
+-- The units of streams at the moments of a run.
+use Rattle.std.specs.Prelude.{ℕ, ◌+◌, ◌%◌, ◌^◌, ◌==◌, nat_lt, Bool, if◌then◌else◌, List, [], ◌∷◌, length, map, filter, sum_by, slice_get, unwrap_or, Option, None, option_map, Result, Ok}
+use Rattle.std.specs.List.{list_any}
+use Rattle.pes_packet.specs.AccessUnits.{AccessUnit}
+use Rattle.demux.specs.Views.{FindingView}
+use Rattle.stream_units.specs.Carried.{CarriedUnit, carried_units}
+use Rattle.stream_units.specs.Stamps.{constant_of, first_fault, moved}
+use Rattle.stream_units.specs.declared.stamps.StampFault.{StampFault}
+use Rattle.stream_jobs.specs.declared.refusal.Refusal.{Refusal}
+use Rattle.stream_jobs.specs.declared.refusal.Refusal.TheVariants as why
+use Rattle.stream_jobs.specs.Answers.{unless, each}
+use Rattle.stream_jobs.specs.JobPrograms.{JobProgramView}
+use Rattle.stream_jobs.specs.Wire.{WireView}
+
+-- a stream whose units have their moments
+pub record Timed : Type 0 where
+  pub program : ℕ
+  pub pid : ℕ
+  pub stream_type : ℕ
+  pub stream_id : ℕ
+  pub descriptors : List ℕ
+  pub units : List AccessUnit
+
+-- 1. When the first unit of a program is due
+
+unfoldable pub is_of : ℕ → WireView → Bool
+is_of number s = s.program == number
+
+-- the bytes of a program map section (ISO/IEC 13818-1, 2.4.4.8): 16, the program's descriptors, and of each stream 5 and its own
+unfoldable pub map_size : List WireView → JobProgramView → ℕ
+map_size streams p = 16 + length p.descriptors + sum_by (λ s. 5 + length s.descriptors) (filter (is_of p.number) streams)
+
+-- it has more than one packet
+unfoldable pub is_long_map : List WireView → JobProgramView → Bool
+is_long_map streams p = nat_lt 183 (map_size streams p)
+
+-- 2 seconds after the first slot, and half a second more where a map has more than one packet, in units of 90 kHz: a unit may
+-- be sent a second before it is due, and before that each table that it needs has come
+unfoldable pub earliest : List JobProgramView → List WireView → ℕ
+earliest programs streams = if list_any (is_long_map streams) programs then 225_000 else 180_000
+
+-- 2. What the clock of a program shows at moment 0
+
+unfoldable pub first_dts : List CarriedUnit → ℕ
+first_dts [] = 0
+first_dts (u ∷ us) = u.unit.dts
+
+-- the first DTS of each of its streams
+unfoldable pub first_stamps : ℕ → List WireView → List ℕ
+first_stamps number streams = map (λ s. first_dts s.units) (filter (is_of number) streams)
+
+unfoldable pub base_for : ℕ → List ℕ → ℕ
+base_for due [] = 0
+base_for due (first ∷ more) = constant_of due (first % 2 ^ 33) (first ∷ more)
+
+-- the first of its units is due at a moment
+unfoldable pub base_of : ℕ → List WireView → ℕ → ℕ
+base_of due streams number = base_for due (first_stamps number streams)
+
+-- that of the first stream's program
+unfoldable pub first_base : ℕ → List WireView → ℕ
+first_base due [] = 0
+first_base due (s ∷ ss) = base_of due (s ∷ ss) s.program
+
+-- 3. Moments
+
+-- the packet in which a unit of a PID begins
+unfoldable pub packet_of : List FindingView → ℕ → ℕ → ℕ
+packet_of findings pid index = unwrap_or (option_map (λ u. u.packet) (slice_get (carried_units pid findings) index)) 0
+
+unfoldable pub stamps_fault : List FindingView → ℕ → ℕ × StampFault → Refusal
+stamps_fault findings pid fault = why.Stamps (packet_of findings pid fault.0) pid fault.1
+
+abbrev pub wire_of : WireView → List AccessUnit
+wire_of s = map (λ u. u.unit) s.units
+
+unfoldable pub with_moments : ℕ → WireView → Timed
+with_moments base s = record {
+  program = s.program;
+  pid = s.pid;
+  stream_type = s.stream_type;
+  stream_id = s.stream_id;
+  descriptors = s.descriptors;
+  units = moved base None (wire_of s);
+}
+
+-- a stream with its units at moments by a constant
+unfoldable pub moved_stream : List FindingView → ℕ → WireView → Result Timed Refusal
+moved_stream findings base s =
+    unless (option_map (stamps_fault findings s.pid) (first_fault base None 0 (wire_of s))) (Ok (with_moments base s))
+
+-- those of a program have one constant
+unfoldable pub moved_streams : List FindingView → ℕ → List WireView → Result (List Timed) Refusal
+moved_streams findings due streams = each (λ s. moved_stream findings (base_of due streams s.program) s) streams

@@ -1,0 +1,84 @@
+-- The description of a job as text.
+use Rattle.std.specs.Prelude.{ℕ, Bool, false, List, [], ◌∷◌, ◌++◌, map, flat_map, zip, is_some, Option, Some, None}
+use Rattle.std.specs.List.{list_any}
+use Rattle.demux.specs.Views.{FindingView}
+use Rattle.job_text.specs.Entries.{HeadingView, ProgramEntryView, StreamEntryView}
+use Rattle.job_text.specs.Texts.{heading_text, program_text, stream_text}
+use Rattle.stream_choice.specs.declared.choice.Choice.{Choice}
+use Rattle.stream_programs.specs.Services.{ServiceTexts, service}
+use Rattle.stream_programs.specs.Texts.{readable}
+use Rattle.stream_jobs.specs.Declaring.{CountedView}
+use Rattle.stream_jobs.specs.JobPrograms.{JobProgramView}
+use Rattle.stream_jobs.specs.Materials.{MaterialView}
+use Rattle.stream_jobs.specs.Moments.{Timed}
+use Rattle.stream_jobs.specs.Wished.{WishesView}
+
+-- 1. The head
+
+-- a service of one of these programs is described
+unfoldable pub has_services : List FindingView → List JobProgramView → Bool
+has_services findings programs = list_any (λ p. is_some (service p.number findings)) programs
+
+-- at a rate in bits a second; original_network_id is one for private use (ETSI TS 101 162)
+unfoldable pub heading_of : WishesView → List FindingView → MaterialView → ℕ → HeadingView
+heading_of w findings m rate = record {
+  rate = rate;
+  start = w.start;
+  base0 = m.base0;
+  transport_stream_id = m.transport_stream_id;
+  original_network_id = 0xFF01;
+  sdt = has_services findings m.programs;
+  tdt = false;
+}
+
+-- 2. Programs, each with its service
+
+-- the texts with at most 100 bytes each; where there is no service a digital television service without a name (EN 300 468,
+-- table 87)
+unfoldable pub named_service : Option ServiceTexts → ServiceTexts
+named_service (Some s) = record { service_type = s.service_type; provider = readable 100 s.provider; name = readable 100 s.name }
+named_service None = record { service_type = 1; provider = []; name = [] }
+
+unfoldable pub program_with : WishesView → JobProgramView → ServiceTexts → ProgramEntryView
+program_with w p s = record {
+  number = p.number;
+  pmt_pid = p.map_pid;
+  pcr_pid = p.pcr_pid;
+  pcr_limit = w.pcr_limit;
+  descriptors = p.descriptors;
+  service_type = s.service_type;
+  provider = s.provider;
+  name = s.name;
+}
+
+unfoldable pub program_entry : WishesView → List FindingView → JobProgramView → ProgramEntryView
+program_entry w findings p = program_with w p (named_service (service p.number findings))
+
+-- 3. Streams
+
+unfoldable pub stream_entry : Timed × (CountedView × Choice) → StreamEntryView
+stream_entry s = record {
+  program = s.0.program;
+  pid = s.0.pid;
+  stream_id = s.0.stream_id;
+  stream_type = s.0.stream_type;
+  interval = s.1.0.needs.interval;
+  size = s.1.0.needs.size;
+  lead = s.1.1.lead;
+  rx = s.1.0.needs.rx;
+  main = s.1.0.needs.main;
+  descriptors = s.0.descriptors;
+  group = s.1.1.group;
+  group_packets = s.1.1.group_packets;
+}
+
+-- 4. The whole
+
+abbrev pub programs_text : WishesView → List FindingView → MaterialView → List ℕ
+programs_text w findings m = flat_map (λ p. program_text (program_entry w findings p)) m.programs
+
+abbrev pub streams_text : MaterialView → List ℕ
+streams_text m = flat_map (λ s. stream_text (stream_entry s)) (zip m.streams (zip m.counted m.choices))
+
+unfoldable pub description_text : WishesView → List FindingView → MaterialView → ℕ → List ℕ
+description_text w findings m rate = heading_text (heading_of w findings m rate) ++ (programs_text w findings m ++ streams_text m)
