@@ -32,17 +32,25 @@ pub record MaterialView : Type 0 where
 
 -- 1. What is told
 
--- of packets, of tables that change, of what is left out of the tables, and of streams that have no units
-unfoldable pub told_of_tables : WishesView → ℕ → List FindingView → ℕ → List Program → ProgramsView → List Told
-told_of_tables w count findings version named found =
-    ((packets_told findings ++ association_told version findings) ++ maps_told findings named)
-    ++ (map told.Table found.left_out ++ empties_told count w.without findings found.streams)
+-- of packets, and of tables that change
+unfoldable pub told_of_changes : AssociationView → List Program → List FindingView → List Told
+told_of_changes a named findings =
+    (packets_told findings ++ association_told a.version_number findings) ++ maps_told findings named
+
+-- and of what is left out of the tables
+unfoldable pub told_of_tables : AssociationView → List Program → List FindingView → ProgramsView → List Told
+told_of_tables a named findings found = told_of_changes a named findings ++ map told.Table found.left_out
+
+-- and of streams that have no units
+unfoldable pub told_of_found : WishesView → ℕ → List FindingView → AssociationView → List Program → ProgramsView → List Told
+told_of_found w count findings a named found =
+    told_of_tables a named findings found ++ empties_told count w.without findings found.streams
 
 -- and of programs, and of what of the streams is in no unit
-unfoldable pub told_of : WishesView → ℕ → List FindingView → ℕ → List Program → ProgramsView → List Placed → List WireView → List Told
-told_of w count findings version named found places streams =
-    told_of_tables w count findings version named found
-    ++ (programs_told streams found.programs places ++ flat_map (λ s. pid_told count findings s.pid) streams)
+unfoldable pub told_of : WishesView → ℕ → List FindingView → AssociationView → List Program → ProgramsView → List Placed → List WireView → List Told
+told_of w count findings a named found places streams =
+    (told_of_found w count findings a named found ++ programs_told streams found.programs places)
+    ++ flat_map (λ s. pid_told count findings s.pid) streams
 
 -- 2. What it is made of, step by step
 
@@ -75,7 +83,7 @@ with_streams w findings id programs all_told streams =
 unfoldable pub with_places : WishesView → ℕ → List FindingView → AssociationView → List Program → ProgramsView → List Placed → Result MaterialView Refusal
 with_places w count findings a named found places =
     and_then (λ streams. with_streams w findings a.transport_stream_id (job_programs streams found.programs places)
-    (told_of w count findings a.version_number named found places streams) streams)
+    (told_of w count findings a named found places streams) streams)
     (wire_streams w.make_dts w.without findings found.streams)
 
 unfoldable pub with_programs : WishesView → ℕ → List FindingView → AssociationView → List Program → ProgramsView → Result MaterialView Refusal

@@ -1,14 +1,14 @@
 //! What a job is made of: the programs and streams of a transport stream, and what is declared of their units.
 
-ghost use Rattle.std.specs.Prelude.{◌≡◌, ◌≤◌, IfOk, IfNone, All, length, map};
+ghost use Rattle.std.specs.Prelude.{◌≡◌, ◌++◌, ◌≤◌, IfOk, OnOk, All, filter, length, map};
 ghost use Rattle.demux.specs.Shown.{finding_view};
 ghost use Rattle.stream_jobs.specs.Answers.{Answers};
-ghost use Rattle.stream_jobs.specs.Jobs.{AreStreams, IsCarried};
+ghost use Rattle.stream_jobs.specs.Jobs.{AreStreams, IsCarried, IsFew};
 ghost use Rattle.stream_jobs.specs.Materials as spec;
-ghost use Rattle.stream_jobs.specs.Wished.{is_wished};
+ghost use Rattle.stream_jobs.specs.Wished.{is_among, is_wished};
+ghost use Rattle.stream_jobs.specs.declared.told.Told.TheVariants.{Table};
 
 use crate::declaring::{Counted, choices, count_units, too_long, too_many};
-use crate::draft::Draft;
 use crate::earliest::earliest_of;
 use crate::job_programs::{JobProgram, job_programs};
 use crate::moving::{JobStream, first_base, moved_streams};
@@ -22,7 +22,9 @@ use psi_tables::Program;
 use std::alloc::{AllocError, Global};
 use std::marker::Model;
 use stream_choice::Choice;
-use stream_programs::{Association, Placed, Programs, found_programs, named_programs, placed_pids};
+use stream_programs::{
+    Association, LeftOut, Placed, Programs, found_programs, named_programs, placed_pids,
+};
 
 /// What a job is made of.
 #[derive(Drop)]
@@ -54,11 +56,20 @@ impl Model for Material {
     } };
 }
 
+// Whether a number is among others.
+#[tactic(auto, unfolding(crate::specs::Wished::is_among))]
+fn is_among(number: u16, numbers: &[u16]) -> bool
+    ensures { result ≡ is_among number numbers.now }
+{
+    numbers.iter().any(|other| *other == number)
+}
+
 // Whether a program is taken.
+#[tactic(auto, unfolding(crate::specs::Wished::is_wished))]
 fn is_wished(wished: &[u16], program: &Program) -> bool
     ensures { result ≡ is_wished wished.now program.now }
 {
-    wished.is_empty() || wished.contains(&program.program_number)
+    wished.is_empty() || is_among(program.program_number, wished)
 }
 
 // The programs that are taken.
@@ -69,16 +80,42 @@ fn wished_programs(
 ) -> Result<Vec<Program>, AllocError>
     ensures { IfOk result (λ taken. taken.items ≡ filter (is_wished wished.now) named.now) }
 {
-    let mut taken = Vec::new(alloc);
-    for program in named {
-        if is_wished(wished, program) {
-            taken.push(*program)?;
-        }
+    named
+        .iter()
+        .filter(|program| is_wished(wished, program))
+        .copied()
+        .collect(alloc)
+}
+
+// What is told of packets and of tables that change.
+#[tactic(auto, unfolding(crate::specs::Materials::told_of_changes))]
+fn told_of_changes(
+    alloc: Global,
+    association: &Association,
+    named: &[Program],
+    findings: &[Finding<'_>],
+) -> Result<Vec<Told>, AllocError>
+    ensures { IfOk result (λ told. told.items ≡ spec.told_of_changes association.now named.now (map finding_view findings.now)) }
+{
+    let mut told = Vec::new(alloc);
+    tell_packets(findings, &mut told)?;
+    tell_changes(association, findings, &mut told)?;
+    tell_map_changes(named, findings, &mut told)?;
+    Ok(told)
+}
+
+// Tells what is left out of the tables.
+fn tell_left_out(left_outs: &[LeftOut], told: &mut Vec<Told>) -> Result<(), AllocError>
+    ensures { OnOk result (told.new.items ≡ told.old.items ++ map Table left_outs.now) }
+{
+    for left_out in left_outs {
+        told.push(Told::Table(*left_out))?;
     }
-    Ok(taken)
+    Ok(())
 }
 
 // With what is declared of streams whose units have their moments.
+#[tactic(auto, unfolding(crate::specs::Materials::with_moved, crate::specs::Materials::with_counted, crate::specs::Answers::unless, crate::specs::Answers::and_then, crate::specs::Answers::Answers, crate::specs::Answers::Refuses), using(crate::proofs::Answering::then_refuses))]
 fn with_moved(
     alloc: Global,
     wishes: &Wishes<'_>,
@@ -88,7 +125,10 @@ fn with_moved(
     told: Vec<Told>,
     streams: Vec<JobStream>,
 ) -> Result<Material, JobError>
-    ensures { Answers (spec.with_moved wishes.now transport_stream_id base0 programs.items told.items streams.items) result }
+    ensures value { Answers (spec.with_moved wishes.now transport_stream_id base0 programs.items told.items streams.items) result }
+    ensures same { IfOk result (λ m. m.streams ≡ streams.items) }
+    ensures few { IfOk result (λ m. All IsFew m.streams) }
+    ensures least { IfOk result (λ m. length m.streams ≤ 32) }
 {
     if let Some(refusal) = too_many(programs.len(), streams.len()) {
         return Err(JobError::Refused(refusal));
@@ -110,6 +150,7 @@ fn with_moved(
 }
 
 // With the moments of streams whose units are as on the wire.
+#[tactic(auto, unfolding(crate::specs::Materials::with_streams, crate::specs::Answers::and_then, crate::specs::Answers::Answers, crate::specs::Answers::Refuses), using(crate::proofs::Answering::then_refuses))]
 fn with_streams(
     alloc: Global,
     wishes: &Wishes<'_>,
@@ -138,20 +179,22 @@ fn with_streams(
 }
 
 // With the streams of programs that are given PIDs.
+#[tactic(auto, unfolding(crate::specs::Materials::with_places, crate::specs::Materials::told_of, crate::specs::Materials::told_of_found, crate::specs::Materials::told_of_tables, crate::specs::Answers::and_then, crate::specs::Answers::Answers, crate::specs::Answers::Refuses), using(crate::proofs::Answering::then_refuses))]
 fn with_places(
     alloc: Global,
     wishes: &Wishes<'_>,
     count: u64,
     findings: &[Finding<'_>],
-    transport_stream_id: u16,
+    association: &Association,
+    named: &[Program],
     found: Programs,
     placed: Vec<Placed>,
-    told: Vec<Told>,
-) -> Result<Material, JobError> {
-    let mut told = told;
-    for left_out in &found.left_out {
-        told.push(Told::Table(*left_out))?;
-    }
+) -> Result<Material, JobError>
+    ensures value { Answers (spec.with_places wishes.now count (map finding_view findings.now) association.now named.now found placed.items) result }
+    ensures streams { IfOk result (AreStreams wishes.now.make_dts (map finding_view findings.now)) }
+{
+    let mut told = told_of_changes(alloc, association, named, findings)?;
+    tell_left_out(&found.left_out, &mut told)?;
     let streams = wire_streams(
         alloc,
         wishes.make_dts,
@@ -163,35 +206,64 @@ fn with_places(
     )?;
     let programs = job_programs(alloc, &streams, found.programs, placed, &mut told)?;
     tell_streams(alloc, count, &streams, findings, &mut told)?;
-    with_streams(
+    let id = association.transport_stream_id;
+    with_streams(alloc, wishes, findings, id, programs, told, streams)
+}
+
+// With the PIDs of programs that are found.
+#[tactic(auto, unfolding(crate::specs::Materials::with_programs, crate::specs::Answers::and_then, crate::specs::Answers::unless, crate::specs::Answers::Answers, crate::specs::Answers::Refuses))]
+fn with_programs(
+    alloc: Global,
+    wishes: &Wishes<'_>,
+    count: u64,
+    findings: &[Finding<'_>],
+    association: &Association,
+    named: &[Program],
+    found: Programs,
+) -> Result<Material, JobError>
+    ensures value { Answers (spec.with_programs wishes.now count (map finding_view findings.now) association.now named.now found) result }
+    ensures streams { IfOk result (AreStreams wishes.now.make_dts (map finding_view findings.now)) }
+{
+    if found.programs.is_empty() {
+        return Err(JobError::Refused(Refusal::NoProgram));
+    }
+    let Some(placed) = placed_pids(alloc, &found)? else {
+        return Err(JobError::Refused(Refusal::Pids));
+    };
+    with_places(
         alloc,
         wishes,
+        count,
         findings,
-        transport_stream_id,
-        programs,
-        told,
-        streams,
+        association,
+        named,
+        found,
+        placed,
     )
 }
 
-// What is told of packets and of tables that change.
-fn told_of_tables(
+// With the programs of an association.
+#[tactic(auto, unfolding(crate::specs::Materials::with_association, crate::specs::Answers::Answers, crate::specs::Answers::Refuses))]
+fn with_association(
     alloc: Global,
-    association: &Association,
-    named: &[Program],
+    wishes: &Wishes<'_>,
+    count: u64,
     findings: &[Finding<'_>],
-) -> Result<Vec<Told>, AllocError> {
-    let mut told = Vec::new(alloc);
-    tell_packets(findings, &mut told)?;
-    tell_changes(association, findings, &mut told)?;
-    tell_map_changes(named, findings, &mut told)?;
-    Ok(told)
+    association: &Association,
+) -> Result<Material, JobError>
+    ensures value { Answers (spec.with_association wishes.now count (map finding_view findings.now) association.now) result }
+    ensures streams { IfOk result (AreStreams wishes.now.make_dts (map finding_view findings.now)) }
+{
+    let named = wished_programs(alloc, wishes.programs, &association.programs)?;
+    let found = found_programs(alloc, &named, findings)?;
+    with_programs(alloc, wishes, count, findings, association, &named, found)
 }
 
 /// What a job of these findings is made of; `count` is the number of whole packets of the stream. Refusals, the first one
 /// that holds: no program association table, no program with a map, no PID left; of a stream two stream_ids, one that can't
 /// be written, DTS that can't be made; stamps that are no moments; too many programs, streams, or units of a stream; a unit
 /// that is too large, and buffers in which units can't wait.
+#[tactic(auto, unfolding(crate::specs::Materials::material, crate::specs::Answers::and_then, crate::specs::Answers::Answers, crate::specs::Answers::Refuses))]
 pub fn material_of(
     alloc: Global,
     wishes: &Wishes<'_>,
@@ -201,38 +273,8 @@ pub fn material_of(
     ensures value { Answers (spec.material wishes.now count (map finding_view findings.now)) result }
     ensures streams { IfOk result (AreStreams wishes.now.make_dts (map finding_view findings.now)) }
 {
-    let Some(association) = named_programs(alloc, findings)? else {
-        return Err(JobError::Refused(Refusal::NoAssociation));
-    };
-    let named = wished_programs(alloc, wishes.programs, &association.programs)?;
-    let told = told_of_tables(alloc, &association, &named, findings)?;
-    let found = found_programs(alloc, &named, findings)?;
-    if found.programs.is_empty() {
-        return Err(JobError::Refused(Refusal::NoProgram));
-    }
-    let Some(placed) = placed_pids(alloc, &found)? else {
-        return Err(JobError::Refused(Refusal::Pids));
-    };
-    let id = association.transport_stream_id;
-    with_places(alloc, wishes, count, findings, id, found, placed, told)
-}
-
-impl Material {
-    /// All that the description says but for its rate.
-    pub(crate) fn draft<'a, 'f>(
-        &'a self,
-        wishes: &Wishes<'a>,
-        findings: &'a [Finding<'f>],
-    ) -> Draft<'a, 'f> {
-        Draft {
-            wishes: *wishes,
-            transport_stream_id: self.transport_stream_id,
-            base0: self.base0,
-            programs: &self.programs,
-            streams: &self.streams,
-            counted: &self.counted,
-            choices: &self.choices,
-            findings,
-        }
+    match named_programs(alloc, findings)? {
+        Some(association) => with_association(alloc, wishes, count, findings, &association),
+        None => Err(JobError::Refused(Refusal::NoAssociation)),
     }
 }

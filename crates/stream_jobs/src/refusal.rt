@@ -81,25 +81,25 @@ pub enum JobError {
 }
 
 impl From<AllocError> for JobError {
-    fn from(_error: AllocError) -> JobError
-        ensures { result ≡ Memory }
-    {
+    ghost from_gives = { λ _ e. e ≡ Memory };
+
+    fn from(_error: AllocError) -> JobError {
         JobError::Memory
     }
 }
 
 impl<T: Drop> From<AllocFailed<T>> for JobError {
-    fn from(_error: AllocFailed<T>) -> JobError
-        ensures { result ≡ Memory }
-    {
+    ghost from_gives = { λ _ e. e ≡ Memory };
+
+    fn from(_error: AllocFailed<T>) -> JobError {
         JobError::Memory
     }
 }
 
 impl From<Refusal> for JobError {
-    fn from(refusal: Refusal) -> JobError
-        ensures { result ≡ Refused refusal }
-    {
+    ghost from_gives = { λ refusal e. e ≡ Refused refusal };
+
+    fn from(refusal: Refusal) -> JobError {
         JobError::Refused(refusal)
     }
 }
