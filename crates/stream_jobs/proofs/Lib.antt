@@ -1,3 +1,5 @@
 mod InTurn
 mod Elements
 mod JobUnits
+mod Each
+mod CarriedStreams
