@@ -3,3 +3,5 @@ mod Elements
 mod JobUnits
 mod Answering
 mod Placing
+mod Each
+mod CarriedStreams

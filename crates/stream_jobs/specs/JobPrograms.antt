@@ -22,7 +22,7 @@ unfoldable pub has_stream : List WireView → FoundProgramView × Placed → Boo
 has_stream streams p = list_any (λ s. s.program == p.0.number) streams
 
 -- those that have one, each with the PIDs that it is given
-unfoldable pub job_programs : List WireView → List FoundProgramView → List Placed → List JobProgramView
+abbrev pub job_programs : List WireView → List FoundProgramView → List Placed → List JobProgramView
 job_programs streams programs places = map placed_program (filter (has_stream streams) (zip programs places))
 
 -- what is told: it has no stream, or its map is on another PID than before
@@ -31,5 +31,5 @@ program_told streams p =
     if has_stream streams p then (if p.0.map_pid == p.1.map_pid then [] else MapMoved p.0.number p.0.map_pid p.1.map_pid ∷ [])
     else NoStream p.0.number ∷ []
 
-unfoldable pub programs_told : List WireView → List FoundProgramView → List Placed → List Told
+abbrev pub programs_told : List WireView → List FoundProgramView → List Placed → List Told
 programs_told streams programs places = flat_map (program_told streams) (zip programs places)

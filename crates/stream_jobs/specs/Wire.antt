@@ -1,5 +1,5 @@
 -- The streams of a job with their units as they are on the wire.
-use Rattle.std.specs.Prelude.{ℕ, ◌==◌, not, Bool, true, false, if◌then◌else◌, List, [], ◌∷◌, ◌++◌, length, slice_get, filter, flat_map, ok_or, Option, Some, None, option_map, option_and_then, Result, Ok, Err}
+use Rattle.std.specs.Prelude.{ℕ, ◌==◌, not, Bool, true, false, if◌then◌else◌, List, [], ◌∷◌, length, slice_get, filter, flat_map, ok_or, Option, Some, None, option_map, option_and_then, Result, Ok, Err}
 use Rattle.demux.specs.Views.{FindingView}
 use Rattle.stream_coding.specs.Codings.{is_ac3}
 use Rattle.stream_programs.specs.Streams.{FoundStreamView}
@@ -71,15 +71,23 @@ wire_stream made findings s = stream_of made s (carried_units s.pid findings)
 unfoldable pub has_units : List FindingView → FoundStreamView → Bool
 has_units findings s = not (length (carried_units s.pid findings) == 0)
 
+-- a stream with its units, if it has any
+unfoldable pub some_stream : Bool → List FindingView → FoundStreamView → Result (Option WireView) Refusal
+some_stream made findings s = if has_units findings s then and_then (λ w. Ok (Some w)) (wire_stream made findings s) else Ok None
+
 abbrev pub wanted : List ℕ → List FoundStreamView → List FoundStreamView
 wanted without streams = filter (is_wanted without) streams
 
-unfoldable pub wire_streams : Bool → List ℕ → List FindingView → List FoundStreamView → Result (List WireView) Refusal
-wire_streams made without findings streams = each (wire_stream made findings) (filter (has_units findings) (wanted without streams))
+-- those that have units
+unfoldable pub carried_streams : Bool → List FindingView → List FoundStreamView → Result (List WireView) Refusal
+carried_streams made findings streams = each (wire_stream made findings) (filter (has_units findings) streams)
+
+abbrev pub wire_streams : Bool → List ℕ → List FindingView → List FoundStreamView → Result (List WireView) Refusal
+wire_streams made without findings streams = carried_streams made findings (wanted without streams)
 
 -- what is told of those that have none
 unfoldable pub empty_told : ℕ → List FindingView → FoundStreamView → List Told
 empty_told count findings s = if has_units findings s then [] else told.NoUnit s.program s.pid ∷ pid_told count findings s.pid
 
-unfoldable pub empties_told : ℕ → List ℕ → List FindingView → List FoundStreamView → List Told
+abbrev pub empties_told : ℕ → List ℕ → List FindingView → List FoundStreamView → List Told
 empties_told count without findings streams = flat_map (empty_told count findings) (wanted without streams)

@@ -1,8 +1,9 @@
 //! What is told of the packets and of the streams of a job.
 
-ghost use Rattle.std.specs.Prelude.{◌≡◌, ◌++◌, OnOk, map, flat_map, option_to_list};
-ghost use Rattle.demux.specs.Shown.{finding_view};
+ghost use Rattle.std.specs.Prelude.{◌≡◌, ◌++◌, OnOk, map, flat_map, length, option_to_list};
+ghost use Rattle.demux.specs.Shown.{finding_view, part_bytes};
 ghost use Rattle.stream_jobs.specs.Telling as spec;
+ghost use Rattle.stream_jobs.specs.declared.told.Told.TheVariants.{Units};
 
 use crate::told::Told;
 use crate::wire_streams::WireStream;
@@ -10,10 +11,12 @@ use demux::{Finding, Part, What};
 use psi_tables::Program;
 use std::alloc::{AllocError, Global};
 use stream_programs::{Association, association_change, map_change};
-use stream_units::left_out;
+use stream_units::{LeftOut, left_out};
 
 // How many bytes a finding has.
-fn size_of(part: &Part<'_>) -> usize {
+fn size_of(part: &Part<'_>) -> usize
+    ensures { result ≡ length (part_bytes part.now) }
+{
     match part {
         Part::Span(bytes) => bytes.len(),
         Part::Joined(bytes) => bytes.len(),
@@ -21,6 +24,7 @@ fn size_of(part: &Part<'_>) -> usize {
 }
 
 // What is told of what is found on no PID.
+#[tactic(auto, unfolding(crate::specs::Telling::lost, crate::specs::Telling::lost_by))]
 fn lost(finding: &Finding<'_>) -> Option<Told>
     ensures { option_to_list result ≡ spec.lost (finding_view finding.now) }
 {
@@ -38,14 +42,22 @@ fn lost(finding: &Finding<'_>) -> Option<Told>
     }
 }
 
+// Tells of what is found on no PID.
+fn tell_packet(finding: &Finding<'_>, told: &mut Vec<Told>) -> Result<(), AllocError>
+    ensures { OnOk result (told.new.items ≡ told.old.items ++ spec.lost (finding_view finding.now)) }
+{
+    if let Some(lost) = lost(finding) {
+        told.push(lost)?;
+    }
+    Ok(())
+}
+
 /// Tells what packets could not be read.
 pub(crate) fn tell_packets(findings: &[Finding<'_>], told: &mut Vec<Told>) -> Result<(), AllocError>
     ensures { OnOk result (told.new.items ≡ told.old.items ++ spec.packets_told (map finding_view findings.now)) }
 {
     for finding in findings {
-        if let Some(lost) = lost(finding) {
-            told.push(lost)?;
-        }
+        tell_packet(finding, told)?;
     }
     Ok(())
 }
@@ -64,6 +76,24 @@ pub(crate) fn tell_changes(
     Ok(())
 }
 
+// Tells that the streams of a program change.
+#[tactic(auto, unfolding(crate::specs::Telling::map_told))]
+fn tell_map_change(
+    program: Program,
+    findings: &[Finding<'_>],
+    told: &mut Vec<Told>,
+) -> Result<(), AllocError>
+    ensures { OnOk result (told.new.items ≡ told.old.items ++ spec.map_told (map finding_view findings.now) program) }
+{
+    if let Some(packet) = map_change(program, findings) {
+        told.push(Told::MapChanges {
+            program: program.program_number,
+            packet,
+        })?;
+    }
+    Ok(())
+}
+
 /// Tells that the streams of programs change.
 pub(crate) fn tell_map_changes(
     programs: &[Program],
@@ -73,17 +103,26 @@ pub(crate) fn tell_map_changes(
     ensures { OnOk result (told.new.items ≡ told.old.items ++ spec.maps_told (map finding_view findings.now) programs.now) }
 {
     for program in programs {
-        if let Some(packet) = map_change(*program, findings) {
-            told.push(Told::MapChanges {
-                program: program.program_number,
-                packet,
-            })?;
-        }
+        tell_map_change(*program, findings, told)?;
+    }
+    Ok(())
+}
+
+// Tells what of a PID is in no unit.
+fn tell_units(pid: u16, units: &[LeftOut], told: &mut Vec<Told>) -> Result<(), AllocError>
+    ensures { OnOk result (told.new.items ≡ told.old.items ++ map (Units pid) units.now) }
+{
+    for left_out in units {
+        told.push(Told::Units {
+            pid,
+            left_out: *left_out,
+        })?;
     }
     Ok(())
 }
 
 /// Tells what of a PID is in no unit.
+#[tactic(auto, unfolding(crate::specs::Telling::pid_told))]
 pub(crate) fn tell_pid(
     alloc: Global,
     pid: u16,
@@ -93,10 +132,7 @@ pub(crate) fn tell_pid(
 ) -> Result<(), AllocError>
     ensures { OnOk result (told.new.items ≡ told.old.items ++ spec.pid_told count (map finding_view findings.now) pid) }
 {
-    for left_out in left_out(alloc, pid, count, findings)? {
-        told.push(Told::Units { pid, left_out })?;
-    }
-    Ok(())
+    tell_units(pid, &left_out(alloc, pid, count, findings)?, told)
 }
 
 /// Tells what of the PIDs of streams is in no unit.

@@ -33,6 +33,7 @@ pub enum Told {
 
 impl Told {
     /// Whether the stream is damaged.
+    #[tactic(auto, unfolding(crate::specs::Telling::is_damage))]
     pub fn is_damage(self) -> bool
         ensures { result ≡ spec.is_damage self }
     {

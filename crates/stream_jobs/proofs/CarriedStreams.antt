@@ -1,0 +1,148 @@
+-- Streams with their units, one after another.
+use Rattle.std.proofs.Common.{◌≡◌, ◌∙◌, ◌++◌, refl, sym, ap, Bool, true, false, if◌then◌else◌, List, [], ◌∷◌, filter, flat_map, length, Option, Some, None, Result, Ok, Err, All}
+use Rattle.std.specs.Prelude.{option_to_list}
+use Rattle.std.proofs.lemmas.List.{append_assoc, append-nil, nil_from_length}
+use Rattle.std.proofs.lemmas.List.Elements.{All-nil, All-cons}
+use Rattle.demux.specs.Views.{FindingView}
+use Rattle.stream_programs.specs.Streams.{FoundStreamView}
+use Rattle.stream_units.specs.Carried.{CarriedUnit, carried_units}
+use Rattle.stream_units.specs.Making.{made_units}
+use Rattle.stream_coding.specs.Codings.{is_ac3}
+use Rattle.stream_jobs.specs.declared.refusal.Refusal.{Refusal}
+use Rattle.stream_jobs.specs.declared.refusal.JobError.{JobError}
+use Rattle.stream_jobs.specs.declared.refusal.JobError.TheVariants.{Memory, Refused}
+use Rattle.stream_jobs.specs.Answers.{Refuses, and_then, unless, each}
+use Rattle.stream_jobs.specs.Jobs.{IsCarried}
+use Rattle.stream_jobs.specs.Moving.{source_of}
+use Rattle.stream_jobs.specs.Wire.{WireView, carried_streams, common_id, dts_fault, has_units, some_stream, stamped, stream_of, wire_stream, with_units}
+use Rattle.stream_jobs.proofs.Each.{after, each_begins, each_ends, each_goes_on, each_stops}
+
+-- 1. What comes of what
+
+ok_same : {A : Type 0} (x y : A) (one : Result A Refusal) → one ≡ Ok x → one ≡ Ok y → x ≡ y
+ok_same x y one is there = cc
+
+granted : {A : Type 0} (against : Option Refusal) (answer : Result A Refusal) (value : A) → unless against answer ≡ Ok value → answer ≡ Ok value
+unfolding unless
+granted None answer value is = is
+granted (Some why) answer value is = absurd cc
+
+record Comes (A B : Type 0) (next : A → Result B Refusal) (first : Result A Refusal) (last : B) : Type 0 where
+  value : A
+  first_is : first ≡ Ok value
+  last_is : next value ≡ Ok last
+
+comes : {A B : Type 0} (next : A → Result B Refusal) (first : Result A Refusal) (last : B) → and_then next first ≡ Ok last → Comes A B next first last
+unfolding and_then
+comes next (Ok value) last is = record { value = value; first_is = refl; last_is = is }
+comes next (Err why) last is = absurd cc
+
+-- what holds of what comes of one element holds of each that comes of a list
+each_all : {A B : Type 0} (f : A → Result B Refusal) (P : B → Type 0) → ((x : A) (y : B) → f x ≡ Ok y → P y) →
+    (xs : List A) (ys : List B) → each f xs ≡ Ok ys → All P ys
+unfolding each
+each_all f P holds [] ys is = rw (sym (ok_same [] ys (Ok []) refl is)) (All-nil P)
+each_all f P holds (x ∷ xs) ys is =
+    let first = comes (λ y. and_then (λ zs. Ok (y ∷ zs)) (each f xs)) (f x) ys is in
+    let rest = comes (λ zs. Ok (first.value ∷ zs)) (each f xs) ys first.last_is in
+    rw (sym (ok_same (first.value ∷ rest.value) ys (Ok (first.value ∷ rest.value)) refl rest.last_is))
+    (All-cons P first.value rest.value (holds x first.value first.first_is) (each_all f P holds xs rest.value rest.first_is))
+
+-- 2. The units of a stream are those that are found of its PID
+
+stamped_units : (made : Bool) (pid : _) (findings : List FindingView) (us : List CarriedUnit) →
+    stamped made pid (carried_units pid findings) ≡ Ok us → us ≡ source_of made pid findings
+unfolding stamped source_of
+stamped_units false pid findings us is = cc
+stamped_units true pid findings us is =
+    sym (ok_same (made_units (carried_units pid findings)) us (Ok (made_units (carried_units pid findings))) refl
+    (granted (dts_fault pid (carried_units pid findings)) (Ok (made_units (carried_units pid findings))) us is))
+
+one_carried : (made : Bool) (findings : List FindingView) (s : FoundStreamView) (w : WireView) → wire_stream made findings s ≡ Ok w → IsCarried made findings w
+unfolding wire_stream stream_of with_units
+one_carried made findings s w is =
+    let id = comes (λ id. and_then (λ us. Ok (with_units s id us)) (stamped made s.pid (carried_units s.pid findings)))
+    (common_id s.pid (is_ac3 s.stream_type s.descriptors) (carried_units s.pid findings)) w is in
+    let us = comes (λ us. Ok (with_units s id.value us)) (stamped made s.pid (carried_units s.pid findings)) w id.last_is in
+    rw (sym (ok_same (with_units s id.value us.value) w (Ok (with_units s id.value us.value)) refl us.last_is)) (stamped_units made s.pid findings us.value us.first_is)
+
+pub all_carried : (made : Bool) (findings : List FindingView) (ss : List FoundStreamView) (ws : List WireView) →
+    carried_streams made findings ss ≡ Ok ws → All (IsCarried made findings) ws
+unfolding carried_streams
+all_carried made findings ss ws is =
+    each_all (wire_stream made findings) (IsCarried made findings) (one_carried made findings) (filter (has_units findings) ss) ws is
+
+-- 3. Of a list that is taken from its front
+
+pub carried_begin : (made : Bool) (findings : List FindingView) (ss : List FoundStreamView) →
+    carried_streams made findings ss ≡ after [] (carried_streams made findings ss)
+unfolding carried_streams
+carried_begin made findings ss = each_begins (wire_stream made findings) (filter (has_units findings) ss)
+
+-- a stream with its units, if it has any
+some_of : Bool → Result WireView Refusal → Result (Option WireView) Refusal
+some_of has stream = if has then and_then (λ w. Ok (Some w)) stream else Ok None
+
+-- streams, and that one
+with_some : List WireView → Result (Option WireView) Refusal → Result (List WireView) Refusal
+with_some ws one = and_then (λ o. Ok (ws ++ option_to_list o)) one
+
+record Added (stream : Result WireView Refusal) (ws vs : List WireView) : Type 0 where
+  added : WireView
+  stream_is : stream ≡ Ok added
+  all_are : vs ≡ ws ++ added ∷ []
+
+added_one : (stream : Result WireView Refusal) (ws vs : List WireView) → with_some ws (some_of true stream) ≡ Ok vs → Added stream ws vs
+unfolding with_some some_of and_then
+added_one (Ok w) ws vs is = record { added = w; stream_is = refl; all_are = cc }
+added_one (Err why) ws vs is = absurd cc
+
+goes_on : (f : FoundStreamView → Result WireView Refusal) (has : Bool) (s : FoundStreamView) (ss : List FoundStreamView) (ws vs : List WireView) →
+    with_some ws (some_of has (f s)) ≡ Ok vs → after ws (each f (if has then s ∷ ss else ss)) ≡ after vs (each f ss)
+unfolding with_some some_of and_then
+goes_on f true s ss ws vs is =
+    let one = added_one (f s) ws vs is in
+    each_goes_on f s ss ws one.added one.stream_is ∙ ap (λ (l : List WireView). after l (each f ss)) (sym one.all_are)
+goes_on f false s ss ws vs is = ap (λ (l : List WireView). after l (each f ss)) (sym (append-nil ws) ∙ ok_same (ws ++ []) vs (Ok (ws ++ [])) refl is)
+
+pub carried_goes_on : (made : Bool) (findings : List FindingView) (s : FoundStreamView) (ss : List FoundStreamView) (ws vs : List WireView) →
+    and_then (λ o. Ok (ws ++ option_to_list o)) (some_stream made findings s) ≡ Ok vs →
+    after ws (carried_streams made findings (s ∷ ss)) ≡ after vs (carried_streams made findings ss)
+unfolding carried_streams some_stream with_some some_of
+carried_goes_on made findings s ss ws vs is =
+    goes_on (wire_stream made findings) (has_units findings s) s (filter (has_units findings) ss) ws vs is
+
+refused_one : (stream : Result WireView Refusal) (why : Refusal) → some_of true stream ≡ Err why → stream ≡ Err why
+unfolding some_of and_then
+refused_one (Ok w) why is = absurd cc
+refused_one (Err other) why is = cc
+
+stops : (f : FoundStreamView → Result WireView Refusal) (has : Bool) (s : FoundStreamView) (ss : List FoundStreamView) (ws : List WireView) (why : Refusal) →
+    some_of has (f s) ≡ Err why → after ws (each f (if has then s ∷ ss else ss)) ≡ Err why
+unfolding some_of
+stops f true s ss ws why is = each_stops f s ss ws why (refused_one (f s) why is)
+stops f false s ss ws why is = absurd cc
+
+pub carried_stops : (made : Bool) (findings : List FindingView) (s : FoundStreamView) (ss : List FoundStreamView) (ws : List WireView) (why : Refusal) →
+    some_stream made findings s ≡ Err why → after ws (carried_streams made findings (s ∷ ss)) ≡ Err why
+unfolding carried_streams some_stream some_of
+carried_stops made findings s ss ws why is =
+    stops (wire_stream made findings) (has_units findings s) s (filter (has_units findings) ss) ws why is
+
+pub carried_end : (made : Bool) (findings : List FindingView) (rest : List FoundStreamView) (ws : List WireView) → length rest ≡ 0 →
+    after ws (carried_streams made findings rest) ≡ Ok ws
+unfolding carried_streams
+carried_end made findings rest ws none = rw (nil_from_length rest none) (each_ends (wire_stream made findings) ws)
+
+-- the same with why there is none
+pub carried_refused : (made : Bool) (findings : List FindingView) (s : FoundStreamView) (ss : List FoundStreamView) (ws : List WireView) (error : JobError) →
+    Refuses (some_stream made findings s) error → Refuses (after ws (carried_streams made findings (s ∷ ss))) error
+unfolding Refuses
+carried_refused made findings s ss ws Memory is = tt
+carried_refused made findings s ss ws (Refused why) is = carried_stops made findings s ss ws why is
+
+-- 4. What is told of each
+
+pub told_more : {A T : Type 0} (f : A → List T) (x : A) (xs : List A) (before after : List T) → after ≡ before ++ f x →
+    before ++ flat_map f (x ∷ xs) ≡ after ++ flat_map f xs
+told_more f x xs before after is = rw is (sym (append_assoc before (f x) (flat_map f xs)))
