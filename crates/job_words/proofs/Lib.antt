@@ -1,3 +1,5 @@
+pub mod CommandLines
+pub mod AllOf
 pub mod Taking
 pub mod Sending
 pub mod Answering

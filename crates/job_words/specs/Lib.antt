@@ -1,3 +1,6 @@
+pub mod CommandLine
+pub mod Lists
+pub mod Asked
 pub mod Streams
 pub mod Records
 pub mod Outcomes
