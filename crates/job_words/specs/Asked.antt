@@ -1,5 +1,5 @@
 -- What the words ask for.
-use Rattle.std.specs.Prelude.{ℕ, ◌==◌, ◌||◌, Bool, List, [], ◌∷◌, Option, Some, None, if◌then◌else◌, codes, map, option_and_then, option_map}
+use Rattle.std.specs.Prelude.{ℕ, ◌==◌, ◌||◌, Bool, List, [], ◌∷◌, Option, Some, None, if◌then◌else◌, codes, map}
 use Rattle.std.specs.Borrow.{Bor}
 use Rattle.std.specs.Char.{is_ascii_digit}
 use Rattle.std.specs.List.{list_all}
@@ -11,7 +11,7 @@ use Rattle.devices.specs.Options.{is_given, number_if_given, number_option}
 use Rattle.job_words.specs.declared.asked.Word.{Word}
 use Rattle.job_words.specs.declared.asked.Word.TheVariants.{Whole, Describe, Units, Why}
 use Rattle.job_words.specs.CommandLine.{tsjob_app}
-use Rattle.job_words.specs.Lists.{buffer_list, number_list}
+use Rattle.job_words.specs.Lists.{buffer_list, given, number_list}
 
 -- 1. One value each
 
@@ -49,16 +49,12 @@ plain word rate start pcr_limit lead make_dts = record {
 -- the options that are one value each: a rate in bits a second, a limit in milliseconds, a lead in units of 90 kHz
 unfoldable pub values_of : List Row → Option AskedView
 values_of rows =
-    option_and_then (λ word.
-    option_and_then (λ rate.
-    option_and_then (λ start.
-    option_and_then (λ pcr_limit.
-    option_map (λ lead. plain word rate start pcr_limit lead (is_given (first_of (codes "make-dts") rows)))
-    (number_option 1 90000 90000 (first_of (codes "lead") rows)))
-    (number_option 1 100 40 (first_of (codes "pcr") rows)))
-    (start_of (first_of (codes "start") rows)))
-    (number_if_given 100000 100000000 (first_of (codes "rate") rows)))
-    (word_of (first_of (codes "word") rows))
+    given (word_of (first_of (codes "word") rows)) (λ word.
+    given (number_if_given 100000 100000000 (first_of (codes "rate") rows)) (λ rate.
+    given (start_of (first_of (codes "start") rows)) (λ start.
+    given (number_option 1 100 40 (first_of (codes "pcr") rows)) (λ pcr_limit.
+    given (number_option 1 90000 90000 (first_of (codes "lead") rows)) (λ lead.
+    Some (plain word rate start pcr_limit lead (is_given (first_of (codes "make-dts") rows))))))))
 
 -- with lists
 abbrev pub with_lists : List ℕ → List ℕ → List PidBuffers → AskedView → AskedView
@@ -66,14 +62,11 @@ with_lists programs without buffers asked = record asked { wishes = record asked
 
 unfoldable pub asked_of : List Row → Option AskedView
 asked_of rows =
-    option_and_then (λ values.
-    option_and_then (λ programs.
-    option_and_then (λ without.
-    option_map (λ buffers. with_lists programs without buffers values)
-    (buffer_list (first_of (codes "buffers") rows)))
-    (number_list 8191 (first_of (codes "without") rows)))
-    (number_list 65535 (first_of (codes "program") rows)))
-    (values_of rows)
+    given (values_of rows) (λ values.
+    given (number_list 65535 (first_of (codes "program") rows)) (λ programs.
+    given (number_list 8191 (first_of (codes "without") rows)) (λ without.
+    given (buffer_list (first_of (codes "buffers") rows)) (λ buffers.
+    Some (with_lists programs without buffers values)))))
 
 -- 3. Of words
 

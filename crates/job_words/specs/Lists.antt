@@ -12,6 +12,10 @@ comma_parts text = slice_split (λ b. b == 44) text
 abbrev pub colon_parts : Text → List Text
 colon_parts text = slice_split (λ b. b == 58) text
 
+-- what a value gives, nothing where there is none
+abbrev pub given : {A B : Type 0} → Option A → (A → Option B) → Option B
+given value f = option_and_then f value
+
 -- all values, none where one is none
 unfoldable pub all_of : {T : Type 0} → List (Option T) → Option (List T)
 all_of [] = Some []
@@ -31,13 +35,13 @@ unfoldable pub number_list : ℕ → Option Text → Option (List ℕ)
 number_list most None = Some []
 number_list most (Some text) = numbers_of most (comma_parts text)
 
--- buffers of three numbers
-abbrev pub buffers_from : Option ℕ → Option ℕ → Option ℕ → Option PidBuffers
-buffers_from pid rx main = option_and_then (λ p. option_and_then (λ r. option_map (λ m. record { pid = p; buffers = record { rx = r; main = m } }) main) rx) pid
-
 -- PID:RX:MAIN, each in its range
 unfoldable pub buffers_of : List Text → Option PidBuffers
-buffers_of (pid ∷ rx ∷ main ∷ []) = buffers_from (number_in 0 8191 pid) (number_in 64000 200000000 rx) (number_in 1 10000000 main)
+buffers_of (pid ∷ rx ∷ main ∷ []) =
+    given (number_in 0 8191 pid) (λ p.
+    given (number_in 64000 200000000 rx) (λ r.
+    given (number_in 1 10000000 main) (λ m.
+    Some (record { pid = p; buffers = record { rx = r; main = m } }))))
 buffers_of parts = None
 
 abbrev pub all_buffers : List Text → Option (List PidBuffers)

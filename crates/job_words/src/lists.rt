@@ -1,6 +1,6 @@
 //! Options that are lists: their parts have commas between them.
 
-ghost use Rattle.std.specs.Prelude.{◌≡◌, IfOk, map, option_map};
+ghost use Rattle.std.specs.Prelude.{◌≡◌, IfOk, [], ◌∷◌, map, option_map};
 ghost use Rattle.job_words.specs.Lists as spec;
 
 use devices::number_in;
@@ -52,8 +52,9 @@ pub(crate) fn number_list(
 }
 
 // The buffers that three numbers say, each in its range.
+#[tactic(auto, unfolding(crate::specs::Lists::buffers_of))]
 fn ranged(pid: &str, rx: &str, main: &str) -> Option<PidBuffers>
-    ensures { result ≡ spec.buffers_from (spec.number_in 0 8191 pid.now) (spec.number_in 64000 200000000 rx.now) (spec.number_in 1 10000000 main.now) }
+    ensures { result ≡ spec.buffers_of (pid.now ∷ rx.now ∷ main.now ∷ []) }
 {
     let pid = number_in(pid, 0, 8191)?;
     let rx = number_in(rx, 64_000, 200_000_000)?;
