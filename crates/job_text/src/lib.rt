@@ -16,5 +16,5 @@ mod stream_entry;
 pub use heading::Heading;
 pub use laws::{records_are_read, texts_are_read};
 pub use program_entry::ProgramEntry;
-pub use record::write_record;
+pub use record::{record_head, write_record};
 pub use stream_entry::StreamEntry;

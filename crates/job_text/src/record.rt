@@ -1,6 +1,6 @@
 //! The record of an access unit.
 
-ghost use Rattle.std.specs.Prelude.{◌≡◌, ◌++◌, OnOk, OnErr};
+ghost use Rattle.std.specs.Prelude.{◌≡◌, ◌++◌, OnOk, OnErr, length};
 ghost use Rattle.job_text.specs.Records.{record_head, record_bytes};
 
 use arrayvec::ArrayVec;
@@ -8,19 +8,20 @@ use bit_fields::append;
 use pes_packet::Unit;
 use std::alloc::{AllocError, Allocator};
 
-// The bytes of a record before those of its unit.
+/// The bytes of a record before those of its unit.
 const HEAD: usize = 21;
 
-// The stream, the size in its lowest 32 bits and the stamps.
+/// The record of a unit before its bytes: the stream, the size in its lowest 32 bits and the stamps.
 #[tactic(auto, unfolding(crate::specs::Records::record_head))]
-fn record_head(stream: u8, size: u64, dts: u64, pts: u64) -> ArrayVec<u8, HEAD>
-    ensures { result.items ≡ record_head stream size dts pts }
+pub fn record_head<B: Allocator>(stream: u8, unit: &Unit<B>) -> ArrayVec<u8, HEAD>
+    ensures { result.items ≡ record_head stream (length unit.now.bytes) unit.now.dts unit.now.pts }
 {
+    let size = unit.bytes.len() as u64;
     let [_, _, _, _, a, b, c, d] = size.to_be_bytes();
     let mut head = ArrayVec::new();
     append(&mut head, &[stream, a, b, c, d]);
-    append(&mut head, &dts.to_be_bytes());
-    append(&mut head, &pts.to_be_bytes());
+    append(&mut head, &unit.dts.to_be_bytes());
+    append(&mut head, &unit.pts.to_be_bytes());
     head
 }
 
@@ -34,9 +35,8 @@ pub fn write_record<A: Allocator, B: Allocator>(
     ensures written { OnOk result (out.new.items ≡ out.old.items ++ record_bytes stream unit.now) }
     ensures unchanged { OnErr result (out.new.items ≡ out.old.items) }
 {
-    let size = unit.bytes.len();
-    out.reserve(HEAD + size)?;
-    let head = record_head(stream, size as u64, unit.dts, unit.pts);
+    out.reserve(HEAD + unit.bytes.len())?;
+    let head = record_head(stream, unit);
     out.extend_from_slice(head.as_slice()).unwrap();
     out.extend_from_slice(unit.bytes.as_slice()).unwrap();
     Ok(())

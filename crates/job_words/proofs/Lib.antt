@@ -1,3 +1,6 @@
+pub mod CommandLines
+pub mod AllOf
+pub mod TellingOn
 pub mod Taking
 pub mod Sending
 pub mod Answering

@@ -1,25 +1,28 @@
 //! The command line as `clap` reads it.
 
+ghost use Rattle.std.specs.Prelude.{◌≡◌, IfOk, map};
+ghost use Rattle.clap.specs.Words.{FailsBy, app_of, fault_of, found_of, matches_of, new_rule, rows_of, rule_of};
+ghost use Rattle.job_words.specs.CommandLine.{rate_app, times_app, tsjob_app};
+
 use clap::{Arg, ArgMatches, Command, Error};
 use devices::{flag, option};
 use std::alloc::{AllocError, Global};
 
-// The word that says what is written.
-fn word<'a>(alloc: Global) -> Arg<'a> {
-    Arg::new(alloc, "word")
-}
-
 // The word, and what the new stream is to be.
-fn with_rate<'a>(alloc: Global) -> Result<Command<'a>, AllocError> {
+fn with_rate<'a>(alloc: Global) -> Result<Command<'a>, AllocError>
+    ensures { IfOk result (λ c. app_of c ≡ rate_app) }
+{
     Command::new(alloc, "tsjob")
         .no_binary_name(true)
-        .arg(word(alloc))?
+        .arg(Arg::new(alloc, "word"))?
         .arg(option(alloc, "rate"))?
         .arg(option(alloc, "start"))
 }
 
 // With what is asked of its clock references and leads.
-fn with_times<'a>(alloc: Global) -> Result<Command<'a>, AllocError> {
+fn with_times<'a>(alloc: Global) -> Result<Command<'a>, AllocError>
+    ensures { IfOk result (λ c. app_of c ≡ times_app) }
+{
     with_rate(alloc)?
         .arg(option(alloc, "pcr"))?
         .arg(option(alloc, "lead"))?
@@ -27,7 +30,10 @@ fn with_times<'a>(alloc: Global) -> Result<Command<'a>, AllocError> {
 }
 
 // The program's command line.
-fn tsjob<'a>(alloc: Global) -> Result<Command<'a>, AllocError> {
+#[tactic(auto, unfolding(crate::specs::CommandLine::tsjob_app))]
+fn tsjob<'a>(alloc: Global) -> Result<Command<'a>, AllocError>
+    ensures { IfOk result (λ c. app_of c ≡ tsjob_app) }
+{
     with_times(alloc)?
         .arg(option(alloc, "program"))?
         .arg(option(alloc, "without"))?
@@ -35,9 +41,9 @@ fn tsjob<'a>(alloc: Global) -> Result<Command<'a>, AllocError> {
 }
 
 /// What the words give the options.
-pub(crate) fn matches_for<'a>(
-    alloc: Global,
-    words: &'a [&'a str],
-) -> Result<ArgMatches<'a>, Error> {
+pub(crate) fn matches_for<'a>(alloc: Global, words: &'a [&'a str]) -> Result<ArgMatches<'a>, Error>
+    ensures ok { IfOk result (λ m. rows_of (found_of m) ≡ matches_of tsjob_app (map (λ s. s.now) words.entry.now)) }
+    ensures fault { FailsBy (fault_of tsjob_app (map (λ s. s.now) words.entry.now)) result }
+{
     tsjob(alloc)?.try_get_matches_from(words)
 }

@@ -1,22 +1,31 @@
 //! Options that are lists: their parts have commas between them.
 
+ghost use Rattle.std.specs.Prelude.{◌≡◌, IfOk, [], ◌∷◌, map, option_map};
+ghost use Rattle.job_words.specs.Lists as spec;
+
 use devices::number_in;
 use std::alloc::{AllocError, Global};
 use stream_coding::Buffers;
 use stream_jobs::PidBuffers;
 
 // The parts of a text between commas.
-fn list_parts<'a>(alloc: Global, text: &'a str) -> Result<Vec<&'a str>, AllocError> {
+fn comma_parts<'a>(alloc: Global, text: &'a str) -> Result<Vec<&'a str>, AllocError>
+    ensures { IfOk result (λ parts. map (λ s. s.now) parts.items ≡ spec.comma_parts text.entry.now) }
+{
     text.split(',').collect(alloc)
 }
 
 // The parts of a text between colons.
-fn colon_parts<'a>(alloc: Global, text: &'a str) -> Result<Vec<&'a str>, AllocError> {
+fn colon_parts<'a>(alloc: Global, text: &'a str) -> Result<Vec<&'a str>, AllocError>
+    ensures { IfOk result (λ parts. map (λ s. s.now) parts.items ≡ spec.colon_parts text.entry.now) }
+{
     text.split(':').collect(alloc)
 }
 
 // The numbers of texts, each up to `most`; none where one has none.
-fn numbers_of(alloc: Global, most: u16, texts: &[&str]) -> Result<Option<Vec<u16>>, AllocError> {
+fn numbers_of(alloc: Global, most: u16, texts: &[&str]) -> Result<Option<Vec<u16>>, AllocError>
+    ensures { IfOk result (λ r. option_map (λ numbers. numbers.items) r ≡ spec.numbers_of most (map (λ s. s.now) texts.now)) }
+{
     let mut numbers = Vec::new(alloc);
     for text in texts {
         match number_in(text, 0, u64::from(most)) {
@@ -28,19 +37,25 @@ fn numbers_of(alloc: Global, most: u16, texts: &[&str]) -> Result<Option<Vec<u16
 }
 
 /// The numbers of a list, each up to `most`: no numbers where it is not given, none where one is no such number.
+#[tactic(auto, unfolding(crate::specs::Lists::number_list))]
 pub(crate) fn number_list(
     alloc: Global,
     most: u16,
     text: Option<&str>,
-) -> Result<Option<Vec<u16>>, AllocError> {
+) -> Result<Option<Vec<u16>>, AllocError>
+    ensures { IfOk result (λ r. option_map (λ numbers. numbers.items) r ≡ spec.number_list most (option_map (λ s. s.now) text.entry)) }
+{
     match text {
         None => Ok(Some(Vec::new(alloc))),
-        Some(text) => numbers_of(alloc, most, &list_parts(alloc, text)?),
+        Some(text) => numbers_of(alloc, most, &comma_parts(alloc, text)?),
     }
 }
 
 // The buffers that three numbers say, each in its range.
-fn ranged(pid: &str, rx: &str, main: &str) -> Option<PidBuffers> {
+#[tactic(auto, unfolding(crate::specs::Lists::buffers_of))]
+fn ranged(pid: &str, rx: &str, main: &str) -> Option<PidBuffers>
+    ensures { result ≡ spec.buffers_of (pid.now ∷ rx.now ∷ main.now ∷ []) }
+{
     let pid = number_in(pid, 0, 8191)?;
     let rx = number_in(rx, 64_000, 200_000_000)?;
     let main = number_in(main, 1, 10_000_000)?;
@@ -54,7 +69,10 @@ fn ranged(pid: &str, rx: &str, main: &str) -> Option<PidBuffers> {
 }
 
 // The buffers of a part `PID:RX:MAIN`.
-fn buffers_in(alloc: Global, part: &str) -> Result<Option<PidBuffers>, AllocError> {
+#[tactic(auto, unfolding(crate::specs::Lists::buffers_of))]
+fn buffers_in(alloc: Global, part: &str) -> Result<Option<PidBuffers>, AllocError>
+    ensures { IfOk result (λ r. r ≡ spec.buffers_of (spec.colon_parts part.now)) }
+{
     match colon_parts(alloc, part)?.as_slice() {
         [pid, rx, main] => Ok(ranged(pid, rx, main)),
         _ => Ok(None),
@@ -62,7 +80,9 @@ fn buffers_in(alloc: Global, part: &str) -> Result<Option<PidBuffers>, AllocErro
 }
 
 // Those of parts; none where one is no such part.
-fn all_buffers(alloc: Global, parts: &[&str]) -> Result<Option<Vec<PidBuffers>>, AllocError> {
+fn all_buffers(alloc: Global, parts: &[&str]) -> Result<Option<Vec<PidBuffers>>, AllocError>
+    ensures { IfOk result (λ r. option_map (λ buffers. buffers.items) r ≡ spec.all_buffers (map (λ s. s.now) parts.now)) }
+{
     let mut all = Vec::new(alloc);
     for part in parts {
         match buffers_in(alloc, part)? {
@@ -74,12 +94,15 @@ fn all_buffers(alloc: Global, parts: &[&str]) -> Result<Option<Vec<PidBuffers>>,
 }
 
 /// The buffers of a list `PID:RX:MAIN,..`: none are named where it is not given, none where a part is out of its range.
+#[tactic(auto, unfolding(crate::specs::Lists::buffer_list))]
 pub(crate) fn buffer_list(
     alloc: Global,
     text: Option<&str>,
-) -> Result<Option<Vec<PidBuffers>>, AllocError> {
+) -> Result<Option<Vec<PidBuffers>>, AllocError>
+    ensures { IfOk result (λ r. option_map (λ buffers. buffers.items) r ≡ spec.buffer_list (option_map (λ s. s.now) text.entry)) }
+{
     match text {
         None => Ok(Some(Vec::new(alloc))),
-        Some(text) => all_buffers(alloc, &list_parts(alloc, text)?),
+        Some(text) => all_buffers(alloc, &comma_parts(alloc, text)?),
     }
 }

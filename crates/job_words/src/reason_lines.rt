@@ -1,11 +1,17 @@
 //! The lines that tell why no plan serves a description.
 
+ghost use Rattle.std.specs.Prelude.{◌≡◌, ◌++◌, OnOk, string_bytes};
+ghost use Rattle.job_words.specs.ReasonLines.{reason_line, reason_lines};
+
 use plan_maker::Reason;
 use std::alloc::AllocError;
 use std::fmt::Write;
 
 // The line of a reason.
-fn write_reason(reason: Reason, text: &mut String) -> Result<(), AllocError> {
+#[tactic(auto, unfolding(crate::specs::ReasonLines::reason_line))]
+fn write_reason(reason: Reason, text: &mut String) -> Result<(), AllocError>
+    ensures { OnOk result (string_bytes text.new ≡ string_bytes text.old ++ reason_line reason) }
+{
     match reason {
         Reason::PcrLimit(program, least) => {
             write!(text, "program {program} pcr_limit is less than {least}\n")
@@ -28,7 +34,9 @@ fn write_reason(reason: Reason, text: &mut String) -> Result<(), AllocError> {
 }
 
 /// A line for each reason.
-pub(crate) fn write_reasons(reasons: &[Reason], text: &mut String) -> Result<(), AllocError> {
+pub(crate) fn write_reasons(reasons: &[Reason], text: &mut String) -> Result<(), AllocError>
+    ensures { OnOk result (string_bytes text.new ≡ string_bytes text.old ++ reason_lines reasons.now) }
+{
     for reason in reasons {
         write_reason(*reason, text)?;
     }

@@ -1,45 +1,21 @@
 //! The records of access units on an output: stream 1 byte, size 4, DTS 8, PTS 8, the highest byte first, then the unit's
 //! bytes.
 
-ghost use Rattle.std.specs.Prelude.{◌≡◌, ◌++◌, ◌+◌, ◌≤◌, OnOk, length, []};
-ghost use Rattle.arrayvec.specs.ArrayVec.{array_vec_len};
+ghost use Rattle.std.specs.Prelude.{◌≡◌, ◌++◌, OnOk, []};
 ghost use Rattle.devices.specs.Devices.{writes};
 ghost use Rattle.devices.specs.Passing.{WritesLine};
-ghost use Rattle.job_text.specs.Records.{record_bytes, record_head};
+ghost use Rattle.job_text.specs.Records.{record_bytes};
 ghost use Rattle.job_words.specs.Records as spec;
 
 use arrayvec::ArrayVec;
+use bit_fields::append;
 use devices::Halt;
+use job_text::record_head;
 use pes_packet::Unit;
 use ts_packet::{Sink, write_part};
 
 /// The bytes that are held back for one write.
 pub(crate) const ROOM: usize = 1 << 16;
-
-/// The bytes of a record before those of its unit.
-const HEAD: usize = 21;
-
-// Appends bytes.
-fn append<const N: usize>(bytes: &mut ArrayVec<u8, N>, part: &[u8])
-    requires { array_vec_len bytes.old + length part.now ≤ N }
-    ensures { bytes.new.items ≡ bytes.old.items ++ part.now }
-{
-    let _ = bytes.try_extend_from_slice(part);
-}
-
-// The record of a unit before its bytes.
-#[tactic(auto, unfolding(job_text::specs::Records::record_head))]
-fn head(stream: u8, unit: &Unit) -> ArrayVec<u8, HEAD>
-    ensures { result.items ≡ record_head stream (length unit.now.bytes) unit.now.dts unit.now.pts }
-{
-    let size = unit.bytes.len().to_be_bytes();
-    let mut head = ArrayVec::new();
-    head.push(stream);
-    append(&mut head, &size[4..]);
-    append(&mut head, &unit.dts.to_be_bytes());
-    append(&mut head, &unit.pts.to_be_bytes());
-    head
-}
 
 // The bytes of a unit.
 fn bytes_of(unit: &Unit) -> &[u8]
@@ -107,7 +83,7 @@ fn put_record<W: Sink>(
 ) -> Result<(), Halt>
     ensures { spec.Puts (writes W.Sink to.old to.new) (held.old.items ++ record_bytes stream unit.now) held.new.items result }
 {
-    match put(to, held, head(stream, unit).as_slice()) {
+    match put(to, held, record_head(stream, unit).as_slice()) {
         Ok(()) => put(to, held, bytes_of(unit)),
         Err(halt) => Err(halt),
     }

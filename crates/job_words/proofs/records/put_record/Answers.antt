@@ -13,7 +13,7 @@ returns-in-Ok g c =
     let unit = c.args.unit.now in
     let head = record_head c.args.stream (length unit.bytes) unit.dts unit.pts in
     let first : Puts (between old mid) (c.args.held.now.items ++ head) c.put.new.held.items (Ok tt) =
-    subst (λ (x : List ℕ). Puts (between old mid) (c.args.held.now.items ++ x) c.put.new.held.items (Ok tt)) (c.as_slice.ensures.value ∙ c.head.ensures) c.in-Ok.ensures in
+    subst (λ (x : List ℕ). Puts (between old mid) (c.args.held.now.items ++ x) c.put.new.held.items (Ok tt)) (c.as_slice.ensures.value ∙ c.record_head.ensures) c.in-Ok.ensures in
     let second : Puts (between mid new) (c.put.new.held.items ++ unit.bytes) c.put-in-Ok.new.held.items c.put-in-Ok.result =
     subst (λ (x : List ℕ). Puts (between mid new) (c.put.new.held.items ++ x) c.put-in-Ok.new.held.items c.put-in-Ok.result) c.bytes_of.ensures c.put-in-Ok.ensures in
     puts_grouped (between old new) c.args.held.now.items head unit.bytes c.put-in-Ok.new.held.items c.put-in-Ok.result
@@ -26,6 +26,6 @@ returns-in-Err g c =
     let unit = c.args.unit.now in
     let head = record_head c.args.stream (length unit.bytes) unit.dts unit.pts in
     let first : Puts (between old new) (c.args.held.now.items ++ head) c.put.new.held.items (Err c.in-Err.halt) =
-    subst (λ (x : List ℕ). Puts (between old new) (c.args.held.now.items ++ x) c.put.new.held.items (Err c.in-Err.halt)) (c.as_slice.ensures.value ∙ c.head.ensures) c.in-Err.ensures in
+    subst (λ (x : List ℕ). Puts (between old new) (c.args.held.now.items ++ x) c.put.new.held.items (Err c.in-Err.halt)) (c.as_slice.ensures.value ∙ c.record_head.ensures) c.in-Err.ensures in
     puts_grouped (between old new) c.args.held.now.items head unit.bytes c.put.new.held.items (Err c.in-Err.halt)
     (puts_failed (between old new) (c.args.held.now.items ++ head) c.put.new.held.items unit.bytes c.put.new.held.items c.in-Err.halt first)

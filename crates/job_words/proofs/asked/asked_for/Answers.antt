@@ -1,0 +1,19 @@
+use Rattle.std.proofs.Common.{◌∙◌, List, ℕ, Bor, inl, inr, map, sym}
+use Rattle.clap.specs.Words.{fault_of, matches_of}
+use Rattle.job_words.specs.Asked.{asked_of}
+use Rattle.job_words.specs.CommandLine.{tsjob_app}
+use Rattle.job_words.proofs.CommandLines.{accepted, refused}
+use Rattle.job_words.proofs.asked.asked_for.Goals as goal
+
+pub returns-in-Ok : goal.returns-in-Ok
+returns-in-Ok c =
+    let t = map (λ (s : Bor (List ℕ)). s.now) c.args.words.now in
+    accepted (fault_of tsjob_app t) _ (matches_of tsjob_app t) c.asked_of.result c.in-Ok.ensures.ok c.in-Ok.ensures.fault c.asked_of.ensures
+
+pub returns : goal.returns
+returns c =
+    let t = map (λ (s : Bor (List ℕ)). s.now) c.args.words.now in
+    elim c.in-Err.ensures.fault [
+      | inl e ↦ absurd (c.in_default.not-OutOfMemory (c.kind.ensures ∙ e))
+      | inr i ↦ sym (refused _ (fault_of tsjob_app t) (asked_of (matches_of tsjob_app t)) i)
+    ]
