@@ -3,6 +3,7 @@ pub mod Associating
 pub mod Holding
 pub mod LastMaps
 pub mod LastServices
+pub mod FirstNetworks
 pub mod Gathering
 pub mod Taking
 pub mod Freeing

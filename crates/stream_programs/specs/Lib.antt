@@ -6,6 +6,7 @@ pub mod Programs
 pub mod FreePids
 pub mod Placing
 pub mod Services
+pub mod Networks
 pub mod Texts
 pub mod Tables
 pub mod Laws

@@ -5,7 +5,7 @@ mod vectors;
 
 use crate::{
     LeftOut, Placed, Programs, association_change, found_programs, free_pid, last_service,
-    map_change, named_programs, stream_tables,
+    map_change, named_programs, original_network, stream_tables,
 };
 use demux::{Finding, Kind, Part, What};
 use psi_tables::Program;
@@ -188,6 +188,7 @@ fn service_of_ffmpeg(rt: HostRuntime) -> Result<(), Fail> {
     assert_eq!(rt; service.provider, b"FFmpeg".as_slice());
     assert_eq!(rt; service.name, b"Service01".as_slice());
     assert!(rt; last_service(2, &findings).is_none());
+    assert_eq!(rt; original_network(&findings), Some(0xff01));
     Ok(())
 }
 
