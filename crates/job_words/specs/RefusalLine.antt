@@ -6,7 +6,7 @@ use Rattle.stream_units.specs.declared.stamps.StampFault.TheVariants.{Falls, Pre
 use Rattle.stream_units.specs.declared.making.MakeFault.{MakeFault}
 use Rattle.stream_units.specs.declared.making.MakeFault.TheVariants.{Same, Late}
 use Rattle.stream_jobs.specs.declared.refusal.Refusal.{Refusal}
-use Rattle.stream_jobs.specs.declared.refusal.Refusal.TheVariants.{NoAssociation, NoProgram, NoStream, Programs, Streams, StreamId, OtherStreamId, Stamps, Dts, Units, Size, Buffers, Pids, Description, Plan, Declaration}
+use Rattle.stream_jobs.specs.declared.refusal.Refusal.TheVariants.{NoPackets, NoAssociation, NoProgram, NoStream, Programs, Streams, StreamId, OtherStreamId, Stamps, Dts, Units, Size, Buffers, Pids, Description, Plan, Declaration}
 
 -- stamps that can't be moments of a run, after the packet and the PID of their unit
 unfoldable pub stamps_text : StampFault → List ℕ
@@ -20,6 +20,7 @@ making_text (Same pts) = codes " two PTS are " ++ decimal pts ++ codes "\n"
 making_text (Late index after) = codes " unit " ++ decimal index ++ codes " PTS is " ++ decimal after ++ codes " after its DTS: not 0 to 90000\n"
 
 unfoldable pub refusal_line : Refusal → List ℕ
+refusal_line NoPackets = codes "not a stream of 188-byte packets\n"
 refusal_line NoAssociation = codes "no PAT\n"
 refusal_line NoProgram = codes "no PMT\n"
 refusal_line NoStream = codes "no stream\n"

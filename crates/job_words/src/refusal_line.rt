@@ -131,6 +131,7 @@ pub(crate) fn write_refusal(refusal: Refusal, text: &mut String) -> Result<(), A
     ensures { OnOk result (string_bytes text.new ≡ string_bytes text.old ++ spec.refusal_line refusal) }
 {
     match refusal {
+        Refusal::NoPackets => text.push_str("not a stream of 188-byte packets\n"),
         Refusal::NoAssociation => text.push_str("no PAT\n"),
         Refusal::NoProgram => text.push_str("no PMT\n"),
         Refusal::NoStream => text.push_str("no stream\n"),

@@ -1,5 +1,6 @@
 pub mod Wished
 pub mod Answers
+pub mod Packets
 pub mod Telling
 pub mod Wire
 pub mod JobPrograms

@@ -15,6 +15,7 @@ use Rattle.stream_jobs.specs.Answers.{and_then, unless}
 use Rattle.stream_jobs.specs.Declaring.{CountedView, too_many, too_long, all_counted, choices}
 use Rattle.stream_jobs.specs.JobPrograms.{JobProgramView, job_programs, programs_told}
 use Rattle.stream_jobs.specs.Moments.{Timed, earliest, first_base, moved_streams}
+use Rattle.stream_jobs.specs.Packets.{no_packets}
 use Rattle.stream_jobs.specs.Telling.{packets_told, association_told, maps_told, pid_told}
 use Rattle.stream_jobs.specs.Wire.{WireView, wire_streams, empties_told}
 use Rattle.stream_jobs.specs.Wished.{WishesView, is_wished}
@@ -100,4 +101,5 @@ with_association w count findings a = with_programs w count findings a (named_of
 
 -- what a stream of so many whole packets gives
 unfoldable pub material : WishesView → ℕ → List FindingView → Result MaterialView Refusal
-material w count findings = and_then (with_association w count findings) (ok_or (association findings) why.NoAssociation)
+material w count findings =
+    unless (no_packets count findings) (and_then (with_association w count findings) (ok_or (association findings) why.NoAssociation))

@@ -13,6 +13,7 @@ mod job;
 mod job_programs;
 mod material;
 mod moving;
+mod packets;
 mod rates;
 mod refusal;
 mod telling;

@@ -12,6 +12,7 @@ use crate::declaring::{Counted, choices, count_units, too_long, too_many};
 use crate::earliest::earliest_of;
 use crate::job_programs::{JobProgram, job_programs};
 use crate::moving::{JobStream, first_base, moved_streams};
+use crate::packets::no_packets;
 use crate::refusal::{JobError, Refusal};
 use crate::telling::{tell_changes, tell_map_changes, tell_packets, tell_streams};
 use crate::told::Told;
@@ -260,10 +261,10 @@ fn with_association(
 }
 
 /// What a job of these findings is made of; `count` is the number of whole packets of the stream. Refusals, the first one
-/// that holds: no program association table, no program with a map, no PID left; of a stream two stream_ids, one that can't
+/// that holds: more than half of the packets are none, no program association table, no program with a map, no PID left; of a stream two stream_ids, one that can't
 /// be written, DTS that can't be made; stamps that are no moments; too many programs, streams, or units of a stream; a unit
 /// that is too large, and buffers in which units can't wait.
-#[tactic(auto, unfolding(crate::specs::Materials::material, crate::specs::Answers::and_then, crate::specs::Answers::Answers, crate::specs::Answers::Refuses))]
+#[tactic(auto, unfolding(crate::specs::Materials::material, crate::specs::Answers::unless, crate::specs::Answers::and_then, crate::specs::Answers::Answers, crate::specs::Answers::Refuses))]
 pub fn material_of(
     alloc: Global,
     wishes: &Wishes<'_>,
@@ -273,6 +274,9 @@ pub fn material_of(
     ensures value { Answers (spec.material wishes.now count (map finding_view findings.now)) result }
     ensures streams { IfOk result (AreStreams wishes.now.make_dts (map finding_view findings.now)) }
 {
+    if let Some(refusal) = no_packets(count, findings) {
+        return Err(JobError::Refused(refusal));
+    }
     match named_programs(alloc, findings)? {
         Some(association) => with_association(alloc, wishes, count, findings, &association),
         None => Err(JobError::Refused(Refusal::NoAssociation)),

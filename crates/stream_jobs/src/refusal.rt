@@ -10,6 +10,8 @@ use stream_units::{MakeFault, StampFault};
 /// Why a transport stream gives no job. Nothing of it is written then.
 #[derive(Clone, Copy, Debug, PartialEq, Eq)]
 pub enum Refusal {
+    /// More than half of its packets of 188 bytes are no packets.
+    NoPackets,
     /// No program association section in force is found.
     NoAssociation,
     /// No program that is asked for has a program map section in force with a stream of PES packets.
