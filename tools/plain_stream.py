@@ -144,6 +144,12 @@ def service(stream, number):
     return last
 
 
+def network(stream):
+    """original_network_id of the first service description, 0xFF01 without one."""
+    said = (s[8] << 8 | s[9] for _, s in stream.sections(0x11, 0x42) if loops(s[11:-4], 5) is not None)
+    return next(said, 0xFF01)
+
+
 def texts_of(body):
     if len(body) < 2 or len(body) < 3 + body[1] or len(body) < 3 + body[1] + body[2 + body[1]]:
         return None
