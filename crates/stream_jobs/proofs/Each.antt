@@ -1,8 +1,10 @@
 -- What comes of each element of a list, and of one more.
-use Rattle.std.proofs.Common.{◌≡◌, ◌∙◌, ◌++◌, refl, sym, ap, List, [], ◌∷◌, Result, Ok, Err}
+use Rattle.std.proofs.Common.{◌≡◌, ◌∙◌, ◌++◌, refl, sym, ap, List, [], ◌∷◌, length, zip, Result, Ok, Err}
 use Rattle.std.proofs.lemmas.List.{append_assoc, append-nil}
 use Rattle.stream_jobs.specs.declared.refusal.Refusal.{Refusal}
-use Rattle.stream_jobs.specs.Answers.{and_then, each}
+use Rattle.stream_jobs.specs.declared.refusal.JobError.{JobError}
+use Rattle.stream_jobs.specs.declared.refusal.JobError.TheVariants.{Memory, Refused}
+use Rattle.stream_jobs.specs.Answers.{and_then, each, Refuses}
 
 -- what comes of the first and what comes of the others
 joined : {B : Type 0} → Result B Refusal → Result (List B) Refusal → Result (List B) Refusal
@@ -88,3 +90,41 @@ each_stops f x xs ys why is = rw is refl
 pub each_ends : {A B : Type 0} (f : A → Result B Refusal) (ys : List B) → after ys (each f []) ≡ Ok ys
 unfolding and_then after each
 each_ends f ys = ap Ok (append-nil ys)
+
+-- the same along a loop over what is left of all
+pub each_step : {A B : Type 0} (f : A → Result B Refusal) (all left later : List A) (x : A) (ys zs : List B) (y : B) →
+    each f all ≡ after ys (each f left) → left ≡ x ∷ later → f x ≡ Ok y → zs ≡ ys ++ y ∷ [] → each f all ≡ after zs (each f later)
+each_step f all left later x ys zs y so_far first is more =
+    so_far
+    ∙ ap (λ (l : List _). after ys (each f l)) first
+    ∙ each_goes_on f x later ys y is
+    ∙ ap (λ (l : List _). after l (each f later)) (sym more)
+
+pub each_done : {A B : Type 0} (f : A → Result B Refusal) (all left : List A) (ys : List B) →
+    each f all ≡ after ys (each f left) → length left ≡ 0 → each f all ≡ Ok ys
+each_done f all [] ys so_far none = so_far ∙ each_ends f ys
+each_done f all (x ∷ left) ys so_far none = absurd cc
+
+pub each_refused : {A B : Type 0} (f : A → Result B Refusal) (all left later : List A) (x : A) (ys : List B) (error : JobError) →
+    each f all ≡ after ys (each f left) → left ≡ x ∷ later → Refuses (f x) error → Refuses (each f all) error
+unfolding Refuses
+each_refused f all left later x ys Memory so_far first is = tt
+each_refused f all left later x ys (Refused why) so_far first is =
+    so_far ∙ ap (λ (l : List _). after ys (each f l)) first ∙ each_stops f x later ys why is
+
+pub each_start : {A B : Type 0} (f : A → Result B Refusal) (all left : List A) (ys : List B) → left ≡ all → ys ≡ [] → each f all ≡ after ys (each f left)
+each_start f all left ys whole none =
+    ap (each f) (sym whole) ∙ each_begins f left ∙ ap (λ (l : List _). after l (each f left)) (sym none)
+
+-- two lists side by side
+pub zip_first : {A B : Type 0} (xs later : List A) (ys more : List B) (x : A) (y : B) → xs ≡ x ∷ later → ys ≡ y ∷ more → zip xs ys ≡ (x, y) ∷ zip later more
+zip_first xs later ys more x y first other = rw (first, other) refl
+
+pub zip_no_first : {A B : Type 0} (xs : List A) (ys : List B) → length xs ≡ 0 → length (zip xs ys) ≡ 0
+zip_no_first [] ys none = refl
+zip_no_first (x ∷ xs) ys none = absurd cc
+
+pub zip_no_other : {A B : Type 0} (xs : List A) (ys : List B) → length ys ≡ 0 → length (zip xs ys) ≡ 0
+zip_no_other [] ys none = refl
+zip_no_other (x ∷ xs) [] none = refl
+zip_no_other (x ∷ xs) (y ∷ ys) none = absurd cc

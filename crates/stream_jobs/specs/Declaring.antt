@@ -1,5 +1,5 @@
 -- What is declared of the streams of a job.
-use Rattle.std.specs.Prelude.{ℕ, ◌+◌, ◌-◌, ◌^◌, ◌==◌, ◌&&◌, min, max, nat_le, nat_lt, Bool, if◌then◌else◌, List, [], ◌∷◌, length, map, find, zip, sum_by, unwrap_or, ok_or, Option, Some, None, option_map, Result, Ok}
+use Rattle.std.specs.Prelude.{ℕ, ◌+◌, ◌-◌, ◌^◌, ◌==◌, ◌&&◌, min, max, nat_lt, Bool, if◌then◌else◌, List, [], ◌∷◌, length, map, find, zip, sum_by, unwrap_or, ok_or, Option, Some, None, option_map, Result, Ok}
 use Rattle.std.specs.List.{range_with_len}
 use Rattle.pes_packet.specs.AccessUnits.{AccessUnit}
 use Rattle.pes_packet.specs.StreamIds.{greatest_size as greatest_of_id}
@@ -17,7 +17,6 @@ use Rattle.stream_jobs.specs.declared.refusal.Refusal.TheVariants as why
 use Rattle.stream_jobs.specs.declared.wishes.PidBuffers.{PidBuffers}
 use Rattle.stream_jobs.specs.Answers.{unless, each}
 use Rattle.stream_jobs.specs.Moments.{Timed}
-use Rattle.stream_jobs.specs.Wished.{WishesView}
 
 -- 1. What a description can't hold
 
@@ -28,8 +27,14 @@ too_many programs streams =
     else (if nat_lt 32 streams then Some (why.Streams streams) else None))
 
 -- the first stream of more units than a multiplexer may hold
+unfoldable pub is_too_long : Timed → Bool
+is_too_long s = nat_lt 1_048_576 (length s.units)
+
+unfoldable pub units_fault : Timed → Refusal
+units_fault s = why.Units s.pid (length s.units)
+
 unfoldable pub too_long : List Timed → Option Refusal
-too_long streams = option_map (λ s. why.Units s.pid (length s.units)) (find (λ s. nat_lt 1_048_576 (length s.units)) streams)
+too_long streams = option_map units_fault (find is_too_long streams)
 
 -- 2. Buffers: those that are asked for, else those of the coding and its level
 
@@ -58,8 +63,11 @@ needs_of wishes s = record {
 }
 
 -- of groups of up to 64 units, as numbers of 32 bits
+unfoldable pub most_packets : List AccessUnit → ℕ → ℕ
+most_packets units group = min (group_packets 0 0 group units) (2 ^ 32 - 1)
+
 unfoldable pub most_of : Timed → List ℕ
-most_of s = map (λ group. min (group_packets 0 0 group s.units) (2 ^ 32 - 1)) (range_with_len 1 (min (length s.units) 64))
+most_of s = map (λ before. most_packets s.units (before + 1)) (range_with_len 0 (min (length s.units) 64))
 
 unfoldable pub size_fault : Timed → Option Refusal
 size_fault s = if nat_lt (greatest_of_id s.stream_id) (greatest_size s.units) then Some (why.Size s.pid (greatest_size s.units)) else None

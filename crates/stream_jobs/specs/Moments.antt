@@ -1,11 +1,12 @@
 -- The units of streams at the moments of a run.
-use Rattle.std.specs.Prelude.{ℕ, ◌+◌, ◌%◌, ◌^◌, ◌==◌, nat_lt, Bool, if◌then◌else◌, List, [], ◌∷◌, length, map, filter, sum_by, slice_get, unwrap_or, Option, None, option_map, Result, Ok}
+use Rattle.std.specs.Prelude.{ℕ, ◌+◌, ◌%◌, ◌^◌, ◌==◌, nat_lt, Bool, if◌then◌else◌, List, [], ◌∷◌, length, map, filter, sum_by, slice_get, unwrap_or, None, option_map, Result, Ok}
 use Rattle.std.specs.List.{list_any}
 use Rattle.pes_packet.specs.AccessUnits.{AccessUnit}
 use Rattle.demux.specs.Views.{FindingView}
 use Rattle.stream_units.specs.Carried.{CarriedUnit, carried_units}
 use Rattle.stream_units.specs.Stamps.{constant_of, first_fault, moved}
 use Rattle.stream_units.specs.declared.stamps.StampFault.{StampFault}
+use Rattle.stream_jobs.specs.declared.moving.First.{First}
 use Rattle.stream_jobs.specs.declared.refusal.Refusal.{Refusal}
 use Rattle.stream_jobs.specs.declared.refusal.Refusal.TheVariants as why
 use Rattle.stream_jobs.specs.Answers.{unless, each}
@@ -23,12 +24,12 @@ pub record Timed : Type 0 where
 
 -- 1. When the first unit of a program is due
 
-unfoldable pub is_of : ℕ → WireView → Bool
-is_of number s = s.program == number
-
 -- the bytes of a program map section (ISO/IEC 13818-1, 2.4.4.8): 16, the program's descriptors, and of each stream 5 and its own
+unfoldable pub entry_size : ℕ → WireView → ℕ
+entry_size number s = if s.program == number then 5 + length s.descriptors else 0
+
 unfoldable pub map_size : List WireView → JobProgramView → ℕ
-map_size streams p = 16 + length p.descriptors + sum_by (λ s. 5 + length s.descriptors) (filter (is_of p.number) streams)
+map_size streams p = 16 + length p.descriptors + sum_by (entry_size p.number) streams
 
 -- it has more than one packet
 unfoldable pub is_long_map : List WireView → JobProgramView → Bool
@@ -45,22 +46,35 @@ unfoldable pub first_dts : List CarriedUnit → ℕ
 first_dts [] = 0
 first_dts (u ∷ us) = u.unit.dts
 
--- the first DTS of each of its streams
-unfoldable pub first_stamps : ℕ → List WireView → List ℕ
-first_stamps number streams = map (λ s. first_dts s.units) (filter (is_of number) streams)
+-- the first DTS of each stream, beside its program
+unfoldable pub first_of : WireView → First
+first_of s = record { program = s.program; dts = first_dts s.units }
+
+abbrev pub firsts : List WireView → List First
+firsts streams = map first_of streams
+
+-- those of a program
+unfoldable pub is_of : ℕ → First → Bool
+is_of number f = f.program == number
+
+abbrev pub stamps_of : ℕ → List First → List ℕ
+stamps_of number all = map (λ f. f.dts) (filter (is_of number) all)
 
 unfoldable pub base_for : ℕ → List ℕ → ℕ
 base_for due [] = 0
 base_for due (first ∷ more) = constant_of due (first % 2 ^ 33) (first ∷ more)
 
 -- the first of its units is due at a moment
-unfoldable pub base_of : ℕ → List WireView → ℕ → ℕ
-base_of due streams number = base_for due (first_stamps number streams)
+unfoldable pub base_of : ℕ → List First → ℕ → ℕ
+base_of due all number = base_for due (stamps_of number all)
 
 -- that of the first stream's program
+unfoldable pub base_of_first : ℕ → List First → ℕ
+base_of_first due [] = 0
+base_of_first due (f ∷ fs) = base_of due (f ∷ fs) f.program
+
 unfoldable pub first_base : ℕ → List WireView → ℕ
-first_base due [] = 0
-first_base due (s ∷ ss) = base_of due (s ∷ ss) s.program
+first_base due streams = base_of_first due (firsts streams)
 
 -- 3. Moments
 
@@ -90,5 +104,8 @@ moved_stream findings base s =
     unless (option_map (stamps_fault findings s.pid) (first_fault base None 0 (wire_of s))) (Ok (with_moments base s))
 
 -- those of a program have one constant
+unfoldable pub moved_by : List FindingView → ℕ → List First → WireView → Result Timed Refusal
+moved_by findings due all s = moved_stream findings (base_of due all s.program) s
+
 unfoldable pub moved_streams : List FindingView → ℕ → List WireView → Result (List Timed) Refusal
-moved_streams findings due streams = each (λ s. moved_stream findings (base_of due streams s.program) s) streams
+moved_streams findings due streams = each (moved_by findings due (firsts streams)) streams

@@ -1,6 +1,7 @@
 //! When the first unit of each program is due.
 
-ghost use Rattle.std.specs.Prelude.{◌≡◌};
+ghost use Rattle.std.specs.Prelude.{◌≡◌, ◌-◌, ◌^◌, min, sum_by};
+ghost use Rattle.std.specs.List.{list_any};
 ghost use Rattle.stream_jobs.specs.Moments as spec;
 
 use crate::job_programs::JobProgram;
@@ -13,27 +14,51 @@ const EARLIEST: u64 = 180_000;
 
 const LATER: u64 = 225_000;
 
-// The bytes of the program map section of a program.
-fn map_size(program: &JobProgram, streams: &[WireStream]) -> usize {
-    let mut size = 16_usize.saturating_add(program.descriptors.len());
+// The bytes of a stream in the program map section of a program.
+#[tactic(auto, unfolding(crate::specs::Moments::entry_size))]
+fn entry_size(number: u16, stream: &WireStream) -> usize
+    ensures { result ≡ spec.entry_size number stream.now }
+{
+    if stream.program == number {
+        5 + stream.descriptors.len()
+    } else {
+        0
+    }
+}
+
+// Those of all streams, or the greatest number where they are more.
+fn entries_size(number: u16, streams: &[WireStream]) -> usize
+    ensures { result ≡ min (sum_by (spec.entry_size number) streams.now) (2 ^ 64 - 1) }
+{
+    let mut size: usize = 0;
     for stream in streams {
-        if stream.program == program.number {
-            size = size
-                .saturating_add(5)
-                .saturating_add(stream.descriptors.len());
-        }
+        size = size.saturating_add(entry_size(number, stream));
     }
     size
 }
 
+// Whether the program map section of a program has more than one packet.
+#[tactic(auto, unfolding(crate::specs::Moments::map_size, crate::specs::Moments::is_long_map))]
+fn is_long_map(program: &JobProgram, streams: &[WireStream]) -> bool
+    ensures { result ≡ spec.is_long_map streams.now program.now }
+{
+    let entries = entries_size(program.number, streams);
+    entries.saturating_add(16 + program.descriptors.len()) > 183
+}
+
+// Whether that of any program has.
+fn has_long_map(programs: &[JobProgram], streams: &[WireStream]) -> bool
+    ensures { result ≡ list_any (spec.is_long_map streams.now) programs.now }
+{
+    programs.iter().any(|program| is_long_map(program, streams))
+}
+
 /// When the first unit of each program is due, in units of 90 kHz.
+#[tactic(auto, unfolding(crate::specs::Moments::earliest))]
 pub(crate) fn earliest_of(programs: &[JobProgram], streams: &[WireStream]) -> u64
     ensures { result ≡ spec.earliest programs.now streams.now }
 {
-    if programs
-        .iter()
-        .any(|program| map_size(program, streams) > 183)
-    {
+    if has_long_map(programs, streams) {
         LATER
     } else {
         EARLIEST

@@ -2,7 +2,7 @@
 
 ghost use Rattle.std.specs.Prelude.{◌≡◌, ◌<◌, ◌^◌, IfOk, IfErr, Ok, All, length, map};
 ghost use Rattle.demux.specs.Shown.{finding_view};
-ghost use Rattle.stream_jobs.specs.Answers.{Refuses};
+ghost use Rattle.stream_jobs.specs.Answers.{Answers, Refuses, each};
 ghost use Rattle.stream_jobs.specs.Jobs.{IsCarried, IsMoved};
 ghost use Rattle.stream_jobs.specs.Moments as spec;
 
@@ -12,7 +12,7 @@ use demux::Finding;
 use pes_packet::Unit;
 use std::alloc::{AllocError, Global};
 use std::marker::Model;
-use stream_units::{StampError, carried_units, constant, moved_units};
+use stream_units::{StampError, StampFault, carried_units, constant, moved_units};
 
 /// The range of stamps (ISO/IEC 13818-1, 2.4.3.7).
 const RANGE: u64 = 1 << 33;
@@ -46,13 +46,16 @@ impl Model for JobStream {
 
 /// The first DTS of a stream, as on the wire.
 #[derive(Clone, Copy)]
-struct First {
-    program: u16,
-    dts: u64,
+pub(crate) struct First {
+    pub program: u16,
+    pub dts: u64,
 }
 
 // The first DTS of a stream.
-fn first_of(stream: &WireStream) -> First {
+#[tactic(auto, unfolding(crate::specs::Moments::first_dts, crate::specs::Moments::first_of))]
+fn first_of(stream: &WireStream) -> First
+    ensures { result ≡ spec.first_of stream.now }
+{
     let dts = match stream.units.first() {
         Some(unit) => unit.unit.dts,
         None => 0,
@@ -64,15 +67,27 @@ fn first_of(stream: &WireStream) -> First {
 }
 
 // Those of all streams.
-fn firsts_of(alloc: Global, streams: &[WireStream]) -> Result<Vec<First>, AllocError> {
+fn firsts_of(alloc: Global, streams: &[WireStream]) -> Result<Vec<First>, AllocError>
+    ensures { IfOk result (λ firsts. firsts.items ≡ spec.firsts streams.now) }
+{
     streams.iter().map(|stream| first_of(stream)).collect(alloc)
 }
 
+// Whether it is one of a program's streams.
+#[tactic(auto, unfolding(crate::specs::Moments::is_of))]
+fn is_of(program: u16, first: &First) -> bool
+    ensures { result ≡ spec.is_of program first.now }
+{
+    first.program == program
+}
+
 // Those of the streams of a program.
-fn stamps_of(alloc: Global, program: u16, firsts: &[First]) -> Result<Vec<u64>, AllocError> {
+fn stamps_of(alloc: Global, program: u16, firsts: &[First]) -> Result<Vec<u64>, AllocError>
+    ensures { IfOk result (λ stamps. stamps.items ≡ spec.stamps_of program firsts.now) }
+{
     let mut stamps = Vec::new(alloc);
     for first in firsts {
-        if first.program == program {
+        if is_of(program, first) {
             stamps.push(first.dts)?;
         }
     }
@@ -80,8 +95,10 @@ fn stamps_of(alloc: Global, program: u16, firsts: &[First]) -> Result<Vec<u64>, 
 }
 
 // What the clock of a program shows at moment 0, where the first of its units is due at `earliest`.
+#[tactic(auto, unfolding(crate::specs::Moments::base_for, crate::specs::Moments::base_of))]
 fn base_of(alloc: Global, earliest: u64, program: u16, firsts: &[First]) -> Result<u64, AllocError>
-    ensures { IfOk result (λ base. base < 2 ^ 33) }
+    ensures value { IfOk result (λ base. base ≡ spec.base_of earliest firsts.now program) }
+    ensures bound { IfOk result (λ base. base < 2 ^ 33) }
 {
     let stamps = stamps_of(alloc, program, firsts)?;
     match stamps.first() {
@@ -91,12 +108,15 @@ fn base_of(alloc: Global, earliest: u64, program: u16, firsts: &[First]) -> Resu
 }
 
 // The packet in which a unit of a PID begins.
+#[tactic(auto, unfolding(crate::specs::Moments::packet_of))]
 fn packet_of(
     alloc: Global,
     pid: u16,
     index: usize,
     findings: &[Finding<'_>],
-) -> Result<u64, AllocError> {
+) -> Result<u64, AllocError>
+    ensures { IfOk result (λ packet. packet ≡ spec.packet_of (map finding_view findings.now) pid index) }
+{
     let units = carried_units(alloc, pid, findings)?;
     match units.get(index) {
         Some(unit) => Ok(unit.packet),
@@ -104,18 +124,23 @@ fn packet_of(
     }
 }
 
-// Why the units of a stream have no moments.
-fn unmoved(alloc: Global, pid: u16, error: StampError, findings: &[Finding<'_>]) -> JobError {
-    match error {
-        StampError::Memory => JobError::Memory,
-        StampError::Unit { index, fault } => match packet_of(alloc, pid, index, findings) {
-            Ok(packet) => JobError::Refused(Refusal::Stamps { packet, pid, fault }),
-            Err(_) => JobError::Memory,
-        },
-    }
+// Why the units of a stream have no moments, where the stamps of this unit can't be any.
+#[tactic(auto, unfolding(crate::specs::Moments::stamps_fault))]
+fn unmoved(
+    alloc: Global,
+    pid: u16,
+    index: usize,
+    fault: StampFault,
+    findings: &[Finding<'_>],
+) -> Result<Refusal, AllocError>
+    ensures { IfOk result (λ why. why ≡ spec.stamps_fault (map finding_view findings.now) pid (index, fault)) }
+{
+    let packet = packet_of(alloc, pid, index, findings)?;
+    Ok(Refusal::Stamps { packet, pid, fault })
 }
 
 // A stream with its units at their moments.
+#[tactic(auto, unfolding(crate::specs::Moments::moved_stream, crate::specs::Moments::with_moments, crate::specs::Answers::unless, crate::specs::Answers::Answers, crate::specs::Answers::Refuses))]
 fn moved_stream(
     alloc: Global,
     make_dts: bool,
@@ -125,7 +150,8 @@ fn moved_stream(
 ) -> Result<JobStream, JobError>
     requires base { base < 2 ^ 33 }
     requires carried { IsCarried make_dts (map finding_view findings.now) stream }
-    ensures { IfOk result (IsMoved make_dts (map finding_view findings.now)) }
+    ensures value { Answers (spec.moved_stream (map finding_view findings.now) base stream) result }
+    ensures moved { IfOk result (IsMoved make_dts (map finding_view findings.now)) }
 {
     let pid = stream.pid;
     match moved_units(alloc, base, stream.units) {
@@ -137,13 +163,35 @@ fn moved_stream(
             descriptors: stream.descriptors,
             units,
         }),
-        Err(error) => Err(unmoved(alloc, pid, error, findings)),
+        Err(StampError::Memory) => Err(JobError::Memory),
+        Err(StampError::Unit { index, fault }) => {
+            let refusal = unmoved(alloc, pid, index, fault, findings)?;
+            Err(JobError::Refused(refusal))
+        }
     }
 }
 
-/// The streams with their units at moments: those of a program with one constant, by which the first of them is due at
-/// `earliest`.
+// With the constant of its program.
+#[tactic(auto, unfolding(crate::specs::Moments::moved_by, crate::specs::Answers::Answers, crate::specs::Answers::Refuses))]
 fn moved_by(
+    alloc: Global,
+    make_dts: bool,
+    earliest: u64,
+    firsts: &[First],
+    stream: WireStream,
+    findings: &[Finding<'_>],
+) -> Result<JobStream, JobError>
+    requires { IsCarried make_dts (map finding_view findings.now) stream }
+    ensures value { Answers (spec.moved_by (map finding_view findings.now) earliest firsts.now stream) result }
+    ensures moved { IfOk result (IsMoved make_dts (map finding_view findings.now)) }
+{
+    let base = base_of(alloc, earliest, stream.program, firsts)?;
+    moved_stream(alloc, make_dts, base, stream, findings)
+}
+
+// All streams.
+#[tactic(auto, unfolding(crate::specs::Answers::Refuses))]
+fn each_moved(
     alloc: Global,
     make_dts: bool,
     earliest: u64,
@@ -152,17 +200,20 @@ fn moved_by(
     findings: &[Finding<'_>],
 ) -> Result<Vec<JobStream>, JobError>
     requires { All (IsCarried make_dts (map finding_view findings.now)) streams.items }
-    ensures { IfOk result (λ moved. All (IsMoved make_dts (map finding_view findings.now)) moved.items) }
+    ensures streams { IfOk result (λ moved. each (spec.moved_by (map finding_view findings.now) earliest firsts.now) streams.items ≡ Ok moved.items) }
+    ensures refused { IfErr result (Refuses (each (spec.moved_by (map finding_view findings.now) earliest firsts.now) streams.items)) }
+    ensures moved { IfOk result (λ moved. All (IsMoved make_dts (map finding_view findings.now)) moved.items) }
 {
     let mut moved = Vec::new(alloc);
     for stream in streams {
-        let base = base_of(alloc, earliest, stream.program, firsts)?;
-        moved.push(moved_stream(alloc, make_dts, base, stream, findings)?)?;
+        let next = moved_by(alloc, make_dts, earliest, firsts, stream, findings)?;
+        moved.push(next)?;
     }
     Ok(moved)
 }
 
 /// What the clock of the first stream's program shows at moment 0, where the first of its units is due at `earliest`.
+#[tactic(auto, unfolding(crate::specs::Moments::first_base, crate::specs::Moments::base_of_first))]
 pub(crate) fn first_base(
     alloc: Global,
     earliest: u64,
@@ -178,6 +229,7 @@ pub(crate) fn first_base(
 }
 
 /// The streams with their units at moments, by which the first unit of each program is due at `earliest`.
+#[tactic(auto, unfolding(crate::specs::Moments::moved_streams, crate::specs::Answers::Refuses))]
 pub(crate) fn moved_streams(
     alloc: Global,
     make_dts: bool,
@@ -191,5 +243,5 @@ pub(crate) fn moved_streams(
     ensures moved { IfOk result (λ moved. All (IsMoved make_dts (map finding_view findings.now)) moved.items) }
 {
     let firsts = firsts_of(alloc, &streams)?;
-    moved_by(alloc, make_dts, earliest, &firsts, streams, findings)
+    each_moved(alloc, make_dts, earliest, &firsts, streams, findings)
 }
