@@ -1,3 +1,4 @@
 mod InTurn
 mod Elements
 mod JobUnits
+mod Trying

@@ -13,6 +13,7 @@ mod job;
 mod job_programs;
 mod material;
 mod moving;
+mod named_service;
 mod rates;
 mod refusal;
 mod telling;

@@ -8,7 +8,6 @@ ghost use Rattle.stream_jobs.specs.Materials as spec;
 ghost use Rattle.stream_jobs.specs.Wished.{is_wished};
 
 use crate::declaring::{Counted, choices, count_units, too_long, too_many};
-use crate::draft::Draft;
 use crate::earliest::earliest_of;
 use crate::job_programs::{JobProgram, job_programs};
 use crate::moving::{JobStream, first_base, moved_streams};
@@ -215,24 +214,4 @@ pub fn material_of(
     };
     let id = association.transport_stream_id;
     with_places(alloc, wishes, count, findings, id, found, placed, told)
-}
-
-impl Material {
-    /// All that the description says but for its rate.
-    pub(crate) fn draft<'a, 'f>(
-        &'a self,
-        wishes: &Wishes<'a>,
-        findings: &'a [Finding<'f>],
-    ) -> Draft<'a, 'f> {
-        Draft {
-            wishes: *wishes,
-            transport_stream_id: self.transport_stream_id,
-            base0: self.base0,
-            programs: &self.programs,
-            streams: &self.streams,
-            counted: &self.counted,
-            choices: &self.choices,
-            findings,
-        }
-    }
 }

@@ -65,7 +65,8 @@ pub enum Refusal {
     Pids,
     /// The description that was written is refused.
     Description(Fault),
-    /// No plan is found at this rate, in bits a second.
+    /// No plan is found at this rate, in bits a second: the one that is asked for; else the least at which all have slots,
+    /// nor at those after it that are tried; or at no rate all have slots, of which this is the greatest.
     Plan(u64),
     /// The description that was written does not declare what the units of this PID need.
     Declaration(u16),
@@ -81,25 +82,25 @@ pub enum JobError {
 }
 
 impl From<AllocError> for JobError {
-    fn from(_error: AllocError) -> JobError
-        ensures { result ≡ Memory }
-    {
+    ghost from_gives = { λ _ e. e ≡ Memory };
+
+    fn from(_error: AllocError) -> JobError {
         JobError::Memory
     }
 }
 
 impl<T: Drop> From<AllocFailed<T>> for JobError {
-    fn from(_error: AllocFailed<T>) -> JobError
-        ensures { result ≡ Memory }
-    {
+    ghost from_gives = { λ _ e. e ≡ Memory };
+
+    fn from(_error: AllocFailed<T>) -> JobError {
         JobError::Memory
     }
 }
 
 impl From<Refusal> for JobError {
-    fn from(refusal: Refusal) -> JobError
-        ensures { result ≡ Refused refusal }
-    {
+    ghost from_gives = { λ refusal e. e ≡ Refused refusal };
+
+    fn from(refusal: Refusal) -> JobError {
         JobError::Refused(refusal)
     }
 }

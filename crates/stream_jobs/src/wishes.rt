@@ -11,7 +11,7 @@ pub struct PidBuffers {
 }
 
 /// What is asked of a job; the rest is taken from the stream.
-#[derive(Clone, Copy, Debug)]
+#[derive(Debug)]
 pub struct Wishes<'a> {
     /// The rate of the new stream in bits a second; without it the least at which a plan is found.
     pub rate: Option<u64>,
@@ -32,7 +32,7 @@ pub struct Wishes<'a> {
 }
 
 // A contract sees its texts and lists.
-impl Model for Wishes<'_> {
+impl<'a> Model for Wishes<'a> {
     ghost use Rattle.stream_jobs.specs.Wished.{WishesView};
 
     ghost Value = { WishesView };
