@@ -1,5 +1,5 @@
 -- Rates that are tried one after another.
-use Rattle.std.proofs.Common.{◌≡◌, ◌≤◌, ◌<◌, ℕ, zero, suc, ◌+◌, ◌-◌, true, false, nat_le, List, [], ◌∷◌, ◌++◌, length, map, All, Contains, slice_index_or, refl, sym, subst, ap, ◌∙◌, arith}
+use Rattle.std.proofs.Common.{◌≡◌, ◌≤◌, ◌<◌, ℕ, zero, suc, ◌+◌, ◌-◌, true, false, nat_le, List, [], ◌∷◌, ◌++◌, length, map, All, Contains, slice_index_or, refl, sym, subst, ap, ◌∙◌, arith, append_assoc}
 use Rattle.std.proofs.lemmas.Bool.Decides.{nat_tests}
 use Rattle.std.proofs.lemmas.List.Elements.{All-nil, All-cons}
 use Rattle.std.proofs.lemmas.List.FromFn.{map-range_with_len_more}
@@ -63,3 +63,9 @@ among_passed k first rate whole within h r c =
 -- one more table
 pub tables_more : {X : Type 0} (f : ℕ → X) (n : ℕ) → map f (range_with_len 0 (n + 1)) ≡ map f (range_with_len 0 n) ++ f n ∷ []
 tables_more f n = map-range_with_len_more f 0 n n (omega arith)
+
+pub pushed_table : {X : Type 0} (f : ℕ → X) (old : List X) (now : List X) (n : ℕ) → now ≡ old ++ map f (range_with_len 0 n) → now ++ f n ∷ [] ≡ old ++ map f (range_with_len 0 (n + 1))
+pushed_table f old now n so_far = rw (so_far, tables_more f n) (append_assoc old (map f (range_with_len 0 n)) (f n ∷ []))
+
+pub all_tables : {X : Type 0} (f : ℕ → X) (old : List X) (now : List X) (n count : ℕ) → now ≡ old ++ map f (range_with_len 0 n) → n ≡ count → now ≡ old ++ map f (range_with_len 0 count)
+all_tables f old now n count so_far same = so_far ∙ ap (λ k. old ++ map f (range_with_len 0 k)) same

@@ -1,5 +1,5 @@
 -- The rates at which a plan is looked for.
-use Rattle.std.specs.Prelude.{◌≡◌, ◌≤◌, ⊎, ℕ, zero, suc, ◌+◌, ◌/◌, ◌-◌, ◌^◌, min, nat_le, nat_lt, false, if◌then◌else◌, List, [], ◌∷◌, ◌++◌, map, Option, Some, None, Ok, All, Contains}
+use Rattle.std.specs.Prelude.{◌≡◌, ◌⊎◌, ℕ, zero, suc, ◌+◌, ◌/◌, ◌-◌, ◌^◌, min, nat_le, nat_lt, false, if◌then◌else◌, List, [], ◌∷◌, ◌++◌, map, Option, Some, None, Ok, All, Contains}
 use Rattle.std.specs.List.{range_with_len}
 use Rattle.demux.specs.Views.{FindingView}
 use Rattle.description.specs.Described.{Described, DescribedProgram}

@@ -1,9 +1,10 @@
 -- Why there is no job of this material.
-use Rattle.std.specs.Prelude.{◌≡◌, ⊤, ⊥, ℕ, List, Option, Some, Err}
+use Rattle.std.specs.Prelude.{◌≡◌, ⊤, ℕ, List, Option, Some, Err}
 use Rattle.demux.specs.Views.{FindingView}
 use Rattle.description.specs.Described.{Described}
 use Rattle.description.specs.Reading.{description_of}
 use Rattle.description.specs.declared.fault.Fault.{Fault}
+use Rattle.description.specs.declared.fault.DescError.TheVariants as read
 use Rattle.toml.specs.Parse.{parse_document}
 use Rattle.stream_jobs.specs.declared.refusal.Refusal.{Refusal}
 use Rattle.stream_jobs.specs.declared.refusal.Refusal.TheVariants.{Declaration, Description, Plan}
@@ -17,7 +18,7 @@ use Rattle.stream_jobs.specs.Wished.{WishesView}
 
 -- a text is refused as a description
 abbrev pub IsFault : Fault → List ℕ → Type 0
-IsFault fault text = Err fault ≡ description_of (parse_document text)
+IsFault fault text = Err (read.Refused fault) ≡ description_of (parse_document text)
 
 -- why a text is not read: there is no memory, or this is what is wrong with it
 abbrev pub IsUnread : List ℕ → JobError → Type 0

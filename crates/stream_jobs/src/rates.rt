@@ -44,7 +44,6 @@ fn table_recurs(description: &Description, table: usize) -> Recurring
 }
 
 // Those of all tables.
-#[tactic(auto, using(crate::proofs::Trying::tables_more))]
 fn push_tables(description: &Description, recurring: &mut Vec<Recurring>) -> Result<(), AllocError>
     ensures { OnOk result (recurring.new.items ≡ recurring.old.items ++ map (spec.table_recurs description.now) (range_with_len 0 (table_count description.now))) }
 {
