@@ -11,7 +11,7 @@ pub struct PidBuffers {
 }
 
 /// What is asked of a job; the rest is taken from the stream.
-#[derive(Debug)]
+#[derive(Debug, Drop)]
 pub struct Wishes<'a> {
     /// The rate of the new stream in bits a second; without it the least at which a plan is found.
     pub rate: Option<u64>,
