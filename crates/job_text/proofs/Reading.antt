@@ -10,9 +10,7 @@ use Rattle.toml.specs.Text.{IsLinesText, IsDocumentText, expressions, pairs, sec
 use Rattle.toml.specs.Tables.{Expression}
 use Rattle.toml.proofs.Lines.{IsLinesText-append, after}
 use Rattle.toml.proofs.ReadBack.{parse_document-printed}
-use Rattle.job_text.specs.declared.heading.Heading.{Heading}
-use Rattle.job_text.specs.declared.program_entry.ProgramEntry.{ProgramEntry}
-use Rattle.job_text.specs.declared.stream_entry.StreamEntry.{StreamEntry}
+use Rattle.job_text.specs.Entries.{HeadingView, ProgramEntryView, StreamEntryView}
 use Rattle.job_text.specs.KeyLines.{with_numbers, with_hex, hex_line, key_line}
 use Rattle.job_text.specs.Fields.{program_numbers, stream_numbers}
 use Rattle.job_text.specs.Documents.{document, elements_of, with_tables, program_table, stream_table}
@@ -61,92 +59,92 @@ hex_lines [] more = ap scalar_lines (hex_none more) ∙ ap (λ (l : List ℕ). l
 hex_lines (b ∷ bytes) more = ap scalar_lines (hex_some b bytes more) ∙ ap (λ (l : List ℕ). l ++ scalar_lines more) (sym (line_some b bytes))
 
 -- a program
-program_rest : ProgramEntry → Members
+program_rest : ProgramEntryView → Members
 program_rest p =
-    member (codes "name") (string p.name.now)
+    member (codes "name") (string p.name)
     (with_numbers (program_numbers p)
-    (member (codes "provider") (string p.provider.now)
+    (member (codes "provider") (string p.provider)
     (member (codes "service_type") (integer (pos p.service_type)) no_members)))
 
-program_scalars : (p : ProgramEntry) → FitsProgram p → AreScalars (program_table p)
+program_scalars : (p : ProgramEntryView) → FitsProgram p → AreScalars (program_table p)
 unfolding key_text program_rest
 program_scalars p h =
-    hex_scalars p.descriptors.now (program_rest p) (
+    hex_scalars p.descriptors (program_rest p) (
       refl,
       tt,
       (refl, small p.number h.number, (refl, small p.pcr_limit h.pcr_limit, (refl, small p.pcr_pid h.pcr_pid, (refl, small p.pmt_pid h.pmt_pid, (refl, tt, (refl, small p.service_type h.service_type, tt)))))),
     )
 
-program_sorted : (p : ProgramEntry) → members_are_sorted (program_table p) ≡ true
+program_sorted : (p : ProgramEntryView) → members_are_sorted (program_table p) ≡ true
 unfolding program_rest
-program_sorted p = hex_sorted p.descriptors.now (program_rest p) refl refl
+program_sorted p = hex_sorted p.descriptors (program_rest p) refl refl
 
-program_lines : (p : ProgramEntry) → element_lines (codes "program") (program_table p) ≡ program_text p
+program_lines : (p : ProgramEntryView) → element_lines (codes "program") (program_table p) ≡ program_text p
 unfolding program_rest
-program_lines p = rw (hex_lines p.descriptors.now (program_rest p)) (simp (append_assoc, append-nil))
+program_lines p = rw (hex_lines p.descriptors (program_rest p)) (simp (append_assoc, append-nil))
 
 -- a stream
-stream_rest : StreamEntry → Members
+stream_rest : StreamEntryView → Members
 stream_rest s = with_numbers (stream_numbers s) no_members
 
-stream_scalars : (s : StreamEntry) → FitsStream s → AreScalars (stream_table s)
+stream_scalars : (s : StreamEntryView) → FitsStream s → AreScalars (stream_table s)
 unfolding key_text stream_rest
 stream_scalars s h =
-    hex_scalars s.descriptors.now (stream_rest s)
+    hex_scalars s.descriptors (stream_rest s)
     (refl, small s.group h.group, (refl, small s.group_packets h.group_packets, (refl, small s.stream_id h.stream_id, (refl, small s.interval h.interval, (refl, small s.lead h.lead, (refl, small s.main h.main, (refl, small s.pid h.pid, (refl, small s.program h.program, (refl, small s.rx h.rx, (refl, small s.size h.size, (refl, small s.stream_type h.stream_type, tt)))))))))))
 
-stream_sorted : (s : StreamEntry) → members_are_sorted (stream_table s) ≡ true
+stream_sorted : (s : StreamEntryView) → members_are_sorted (stream_table s) ≡ true
 unfolding stream_rest
-stream_sorted s = hex_sorted s.descriptors.now (stream_rest s) refl refl
+stream_sorted s = hex_sorted s.descriptors (stream_rest s) refl refl
 
-stream_lines : (s : StreamEntry) → element_lines (codes "stream") (stream_table s) ≡ stream_text s
+stream_lines : (s : StreamEntryView) → element_lines (codes "stream") (stream_table s) ≡ stream_text s
 unfolding stream_rest
-stream_lines s = rw (hex_lines s.descriptors.now (stream_rest s)) (simp (append_assoc, append-nil))
+stream_lines s = rw (hex_lines s.descriptors (stream_rest s)) (simp (append_assoc, append-nil))
 
 -- lists of them
 each : {X : Type 0} (P : X → Type 0) (x : X) (xs : List X) → All P (x ∷ xs) → P x × All P xs
 each P x xs h = (h 0 x (omega arith), λ k d less. h (suc k) d (omega (arith, less)))
 
-program_tables : (ps : List ProgramEntry) → All FitsProgram ps → AreTables (map program_table ps)
+program_tables : (ps : List ProgramEntryView) → All FitsProgram ps → AreTables (map program_table ps)
 program_tables [] h = tt
 program_tables (p ∷ ps) h = let e = each FitsProgram p ps h in (program_scalars p e.0, program_sorted p, program_tables ps e.1)
 
-stream_tables : (ss : List StreamEntry) → All FitsStream ss → AreTables (map stream_table ss)
+stream_tables : (ss : List StreamEntryView) → All FitsStream ss → AreTables (map stream_table ss)
 stream_tables [] h = tt
 stream_tables (s ∷ ss) h = let e = each FitsStream s ss h in (stream_scalars s e.0, stream_sorted s, stream_tables ss e.1)
 
-programs_lines : (ps : List ProgramEntry) → flat_map (element_lines (codes "program")) (map program_table ps) ≡ flat_map program_text ps
+programs_lines : (ps : List ProgramEntryView) → flat_map (element_lines (codes "program")) (map program_table ps) ≡ flat_map program_text ps
 programs_lines [] = refl
 programs_lines (p ∷ ps) = ap₂ (λ (a b : List ℕ). a ++ b) (program_lines p) (programs_lines ps)
 
-streams_lines : (ss : List StreamEntry) → flat_map (element_lines (codes "stream")) (map stream_table ss) ≡ flat_map stream_text ss
+streams_lines : (ss : List StreamEntryView) → flat_map (element_lines (codes "stream")) (map stream_table ss) ≡ flat_map stream_text ss
 streams_lines [] = refl
 streams_lines (s ∷ ss) = ap₂ (λ (a b : List ℕ). a ++ b) (stream_lines s) (streams_lines ss)
 
 -- the heading
-heading_scalars : (h : Heading) → FitsHeading h → AreScalars (document h [] [])
+heading_scalars : (h : HeadingView) → FitsHeading h → AreScalars (document h [] [])
 unfolding key_text
 heading_scalars h f =
     (refl, small h.base0 f.base0, (refl, small h.original_network_id f.original_network_id, (refl, small h.rate f.rate, (refl, tt, (refl, tt, (refl, tt, (refl, small h.transport_stream_id f.transport_stream_id, tt)))))))
 
-heading_lines : (h : Heading) → scalar_lines (document h [] []) ≡ heading_text h
+heading_lines : (h : HeadingView) → scalar_lines (document h [] []) ≡ heading_text h
 heading_lines h = simp (append_assoc, append-nil)
 
 -- the document after its programs, and after its streams
-abbrev after_streams : Heading → Members
+abbrev after_streams : HeadingView → Members
 after_streams h = member (codes "tdt") (boolean h.tdt) (member (codes "ts_id") (integer (pos h.transport_stream_id)) no_members)
 
-abbrev after_programs : Heading → List Members → Members
+abbrev after_programs : HeadingView → List Members → Members
 after_programs h us =
     member (codes "rate") (integer (pos h.rate))
     (member (codes "sdt") (boolean h.sdt)
-    (member (codes "start") (string h.start.now)
+    (member (codes "start") (string h.start)
     (with_tables (codes "stream") us (after_streams h))))
 
-whole_pairs : (h : Heading) (ts us : List Members) → pairs (document h ts us) ≡ pairs (document h [] [])
+whole_pairs : (h : HeadingView) (ts us : List Members) → pairs (document h ts us) ≡ pairs (document h [] [])
 whole_pairs h ts us = rw (pairs_past (codes "program") ts (after_programs h us), pairs_past (codes "stream") us (after_streams h))
 
-whole_sections : (h : Heading) (ts us : List Members)
+whole_sections : (h : HeadingView) (ts us : List Members)
     → sections [] (document h ts us) ≡ elements ([], codes "program") (elements_of ts) ++ (elements ([], codes "stream") (elements_of us) ++ [])
 whole_sections h ts us = rw (sections_with (codes "program") ts (after_programs h us), sections_with (codes "stream") us (after_streams h))
 
@@ -165,7 +163,7 @@ tables_are_text ts us a b =
     IsLinesText-append false true (elements ([], codes "program") (elements_of ts)) (elements ([], codes "stream") (elements_of us) ++ [])
     (flat_map (element_lines (codes "program")) ts) (flat_map (element_lines (codes "stream")) us) programs last
 
-document_is_text : (h : Heading) (ts us : List Members) → FitsHeading h → AreTables ts → AreTables us
+document_is_text : (h : HeadingView) (ts us : List Members) → FitsHeading h → AreTables ts → AreTables us
     → IsDocumentText false (document h ts us) (heading_text h ++ (flat_map (element_lines (codes "program")) ts ++ flat_map (element_lines (codes "stream")) us))
 document_is_text h ts us f a b =
     let head = pairs (document h [] []) in
@@ -179,7 +177,7 @@ document_is_text h ts us f a b =
     let same : expressions (document h ts us) ≡ head ++ rest = ap₂ (λ (xs ys : List Expression). xs ++ ys) (whole_pairs h ts us) (whole_sections h ts us) in
     subst (λ (es : List Expression). IsLinesText false false es (heading_text h ++ text)) (sym same) whole
 
-document_shallow : (h : Heading) (ts us : List Members) → AreTables ts → AreTables us → members_depth (document h ts us) ≤ 80
+document_shallow : (h : HeadingView) (ts us : List Members) → AreTables ts → AreTables us → members_depth (document h ts us) ≤ 80
 document_shallow h ts us a b =
     let last : members_depth (after_streams h) ≤ 2 = grind (arith, nat_tests) in
     let inner = shallow (codes "stream") us (after_streams h) b last in
@@ -187,10 +185,10 @@ document_shallow h ts us a b =
     let outer = shallow (codes "program") ts (after_programs h us) a middle in
     grind (arith, nat_tests)
 
-document_dated : (h : Heading) (ts us : List Members) → AreTables ts → AreTables us → members_have_valid_dates (document h ts us) ≡ true
+document_dated : (h : HeadingView) (ts us : List Members) → AreTables ts → AreTables us → members_have_valid_dates (document h ts us) ≡ true
 document_dated h ts us a b = rw (dated_past (codes "program") ts (after_programs h us) a, dated_past (codes "stream") us (after_streams h) b)
 
-document_sorted : (h : Heading) (ts us : List Members) → AreTables ts → AreTables us → members_are_sorted (document h ts us) ≡ true
+document_sorted : (h : HeadingView) (ts us : List Members) → AreTables ts → AreTables us → members_are_sorted (document h ts us) ≡ true
 document_sorted h ts us a b =
     rw (
       before_tables (codes "original_network_id") (codes "program") ts (after_programs h us) refl refl,

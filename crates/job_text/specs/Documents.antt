@@ -1,9 +1,7 @@
 -- What the texts say, as tables of TOML.
 use Rattle.std.specs.Prelude.{ℕ, pos, List, [], ◌∷◌, codes}
 use Rattle.toml.specs.Data.{string, integer, boolean, array, table, Items, no_items, item, Members, no_members, member}
-use Rattle.job_text.specs.declared.heading.Heading.{Heading}
-use Rattle.job_text.specs.declared.program_entry.ProgramEntry.{ProgramEntry}
-use Rattle.job_text.specs.declared.stream_entry.StreamEntry.{StreamEntry}
+use Rattle.job_text.specs.Entries.{HeadingView, ProgramEntryView, StreamEntryView}
 use Rattle.job_text.specs.KeyLines.{with_numbers, with_hex}
 use Rattle.job_text.specs.Fields.{first_numbers, program_numbers, stream_numbers}
 
@@ -17,25 +15,25 @@ abbrev pub with_tables : List ℕ → List Members → Members → Members
 with_tables key [] more = more
 with_tables key (t ∷ ts) more = member key (array (elements_of (t ∷ ts))) more
 
-abbrev pub program_table : ProgramEntry → Members
+abbrev pub program_table : ProgramEntryView → Members
 program_table p =
-    with_hex (codes "descriptors") p.descriptors.now
-    (member (codes "name") (string p.name.now)
+    with_hex (codes "descriptors") p.descriptors
+    (member (codes "name") (string p.name)
     (with_numbers (program_numbers p)
-    (member (codes "provider") (string p.provider.now)
+    (member (codes "provider") (string p.provider)
     (member (codes "service_type") (integer (pos p.service_type)) no_members))))
 
-abbrev pub stream_table : StreamEntry → Members
-stream_table s = with_hex (codes "descriptors") s.descriptors.now (with_numbers (stream_numbers s) no_members)
+abbrev pub stream_table : StreamEntryView → Members
+stream_table s = with_hex (codes "descriptors") s.descriptors (with_numbers (stream_numbers s) no_members)
 
 -- a description of this heading, with the tables of its programs and streams
-abbrev pub document : Heading → List Members → List Members → Members
+abbrev pub document : HeadingView → List Members → List Members → Members
 document h programs streams =
     with_numbers (first_numbers h)
     (with_tables (codes "program") programs
     (member (codes "rate") (integer (pos h.rate))
     (member (codes "sdt") (boolean h.sdt)
-    (member (codes "start") (string h.start.now)
+    (member (codes "start") (string h.start)
     (with_tables (codes "stream") streams
     (member (codes "tdt") (boolean h.tdt)
     (member (codes "ts_id") (integer (pos h.transport_stream_id)) no_members)))))))

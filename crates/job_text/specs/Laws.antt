@@ -6,9 +6,7 @@ use Rattle.pes_packet.specs.AccessUnits.{AccessUnit}
 use Rattle.mux_core.specs.UnitRecords.{record_at, after_record}
 use Rattle.mux_core.specs.Laws.{FitsRecord}
 use Rattle.job_text.specs.Records.{record_bytes}
-use Rattle.job_text.specs.declared.heading.Heading.{Heading}
-use Rattle.job_text.specs.declared.program_entry.ProgramEntry.{ProgramEntry}
-use Rattle.job_text.specs.declared.stream_entry.StreamEntry.{StreamEntry}
+use Rattle.job_text.specs.Entries.{HeadingView, ProgramEntryView, StreamEntryView}
 use Rattle.job_text.specs.Documents.{document, program_table, stream_table}
 use Rattle.job_text.specs.Texts.{heading_text, program_text, stream_text}
 
@@ -17,14 +15,14 @@ abbrev pub Fits : ℕ → Type 0
 Fits n = n < 2 ^ 63
 
 -- the numbers of a heading are TOML's
-pub record FitsHeading (h : Heading) : Type 0 where
+pub record FitsHeading (h : HeadingView) : Type 0 where
   pub base0 : Fits h.base0
   pub original_network_id : Fits h.original_network_id
   pub rate : Fits h.rate
   pub transport_stream_id : Fits h.transport_stream_id
 
 -- those of a program
-pub record FitsProgram (p : ProgramEntry) : Type 0 where
+pub record FitsProgram (p : ProgramEntryView) : Type 0 where
   pub number : Fits p.number
   pub pcr_limit : Fits p.pcr_limit
   pub pcr_pid : Fits p.pcr_pid
@@ -32,7 +30,7 @@ pub record FitsProgram (p : ProgramEntry) : Type 0 where
   pub service_type : Fits p.service_type
 
 -- those of a stream
-pub record FitsStream (s : StreamEntry) : Type 0 where
+pub record FitsStream (s : StreamEntryView) : Type 0 where
   pub group : Fits s.group
   pub group_packets : Fits s.group_packets
   pub stream_id : Fits s.stream_id
@@ -48,7 +46,7 @@ pub record FitsStream (s : StreamEntry) : Type 0 where
 -- a heading's text, the programs' and the streams' are one document
 abbrev pub TextsAreRead : Type 0
 TextsAreRead =
-    (h : Heading) (ps : List ProgramEntry) (ss : List StreamEntry) → FitsHeading h → All FitsProgram ps → All FitsStream ss
+    (h : HeadingView) (ps : List ProgramEntryView) (ss : List StreamEntryView) → FitsHeading h → All FitsProgram ps → All FitsStream ss
     → parse_document (heading_text h ++ (flat_map program_text ps ++ flat_map stream_text ss)) ≡ Some (document h (map program_table ps) (map stream_table ss))
 
 -- a record, whatever stands after it, is read as its stream and its unit, and what stands after it is left

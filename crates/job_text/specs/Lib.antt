@@ -1,4 +1,5 @@
 pub mod KeyLines
+pub mod Entries
 pub mod Fields
 pub mod Texts
 pub mod Documents

@@ -1,34 +1,32 @@
 -- The texts of a service description's parts: every key on its line, in ascending order.
 use Rattle.std.specs.Prelude.{ℕ, List, ◌++◌, codes}
 use Rattle.toml.specs.Data.{string, boolean}
-use Rattle.job_text.specs.declared.heading.Heading.{Heading}
-use Rattle.job_text.specs.declared.program_entry.ProgramEntry.{ProgramEntry}
-use Rattle.job_text.specs.declared.stream_entry.StreamEntry.{StreamEntry}
+use Rattle.job_text.specs.Entries.{HeadingView, ProgramEntryView, StreamEntryView}
 use Rattle.job_text.specs.KeyLines.{key_line, number_line, number_lines, hex_line, header}
 use Rattle.job_text.specs.Fields.{first_numbers, program_numbers, stream_numbers}
 
 -- the keys of the document itself
-abbrev pub heading_text : Heading → List ℕ
+abbrev pub heading_text : HeadingView → List ℕ
 heading_text h =
     number_lines (first_numbers h)
     ++ (number_line (codes "rate", h.rate)
     ++ (key_line (codes "sdt") (boolean h.sdt)
-    ++ (key_line (codes "start") (string h.start.now)
+    ++ (key_line (codes "start") (string h.start)
     ++ (key_line (codes "tdt") (boolean h.tdt)
     ++ number_line (codes "ts_id", h.transport_stream_id)))))
 
 -- of a program: the lines up to its name, and those of its service after the numbers
-abbrev pub program_front : ProgramEntry → List ℕ
-program_front p = (header (codes "program") ++ hex_line (codes "descriptors") p.descriptors.now) ++ key_line (codes "name") (string p.name.now)
+abbrev pub program_front : ProgramEntryView → List ℕ
+program_front p = (header (codes "program") ++ hex_line (codes "descriptors") p.descriptors) ++ key_line (codes "name") (string p.name)
 
-abbrev pub program_service : ProgramEntry → List ℕ
-program_service p = key_line (codes "provider") (string p.provider.now) ++ number_line (codes "service_type", p.service_type)
+abbrev pub program_service : ProgramEntryView → List ℕ
+program_service p = key_line (codes "provider") (string p.provider) ++ number_line (codes "service_type", p.service_type)
 
 -- an element of the array `program`
-abbrev pub program_text : ProgramEntry → List ℕ
+abbrev pub program_text : ProgramEntryView → List ℕ
 program_text p = program_front p ++ (number_lines (program_numbers p) ++ program_service p)
 
 -- an element of the array `stream`
-abbrev pub stream_text : StreamEntry → List ℕ
+abbrev pub stream_text : StreamEntryView → List ℕ
 stream_text s =
-    (header (codes "stream") ++ hex_line (codes "descriptors") s.descriptors.now) ++ number_lines (stream_numbers s)
+    (header (codes "stream") ++ hex_line (codes "descriptors") s.descriptors) ++ number_lines (stream_numbers s)

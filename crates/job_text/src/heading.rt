@@ -1,6 +1,7 @@
 //! The head of a service description.
 
 ghost use Rattle.std.specs.Prelude.{◌≡◌, ◌++◌, OnOk, string_bytes};
+ghost use Rattle.job_text.specs.Entries.{heading_view};
 ghost use Rattle.job_text.specs.Texts.{heading_text};
 
 use crate::key_line::{write_flag, write_number, write_numbers, write_string};
@@ -27,7 +28,7 @@ pub struct Heading<'a> {
 impl Heading<'_> {
     /// Appends its lines: every key, the ones with defaults too.
     pub fn write_text<A: Allocator>(&self, text: &mut String<A>) -> Result<(), AllocError>
-        ensures { OnOk result (string_bytes text.new ≡ string_bytes text.old ++ heading_text self.now) }
+        ensures { OnOk result (string_bytes text.new ≡ string_bytes text.old ++ heading_text (heading_view self.now)) }
     {
         let first = [
             ("base0", self.base0),

@@ -1,6 +1,7 @@
 //! A program of a service description.
 
 ghost use Rattle.std.specs.Prelude.{◌≡◌, ◌++◌, OnOk, string_bytes};
+ghost use Rattle.job_text.specs.Entries.{program_view};
 ghost use Rattle.job_text.specs.Texts.{program_text, program_front, program_service};
 
 use crate::key_line::{write_element, write_number, write_numbers, write_string};
@@ -27,7 +28,7 @@ pub struct ProgramEntry<'a> {
 impl ProgramEntry<'_> {
     /// Appends an empty line, `[[program]]`, and its lines: every key, but `descriptors` only where there are any.
     pub fn write_text<A: Allocator + Clone>(&self, text: &mut String<A>) -> Result<(), AllocError>
-        ensures { OnOk result (string_bytes text.new ≡ string_bytes text.old ++ program_text self.now) }
+        ensures { OnOk result (string_bytes text.new ≡ string_bytes text.old ++ program_text (program_view self.now)) }
     {
         let numbers = [
             ("number", self.number as u64),
@@ -42,7 +43,7 @@ impl ProgramEntry<'_> {
 
     // The lines up to its name.
     fn write_front<A: Allocator + Clone>(&self, text: &mut String<A>) -> Result<(), AllocError>
-        ensures { OnOk result (string_bytes text.new ≡ string_bytes text.old ++ program_front self.now) }
+        ensures { OnOk result (string_bytes text.new ≡ string_bytes text.old ++ program_front (program_view self.now)) }
     {
         write_element(text, "program", self.descriptors)?;
         write_string(text, "name", self.name)
@@ -50,7 +51,7 @@ impl ProgramEntry<'_> {
 
     // The lines of its service after the numbers.
     fn write_service<A: Allocator>(&self, text: &mut String<A>) -> Result<(), AllocError>
-        ensures { OnOk result (string_bytes text.new ≡ string_bytes text.old ++ program_service self.now) }
+        ensures { OnOk result (string_bytes text.new ≡ string_bytes text.old ++ program_service (program_view self.now)) }
     {
         write_string(text, "provider", self.provider)?;
         write_number(text, "service_type", self.service_type as u64)

@@ -1,6 +1,7 @@
 //! An elementary stream of a service description.
 
 ghost use Rattle.std.specs.Prelude.{◌≡◌, ◌++◌, OnOk, string_bytes};
+ghost use Rattle.job_text.specs.Entries.{stream_view};
 ghost use Rattle.job_text.specs.Texts.{stream_text};
 
 use crate::key_line::{write_element, write_numbers};
@@ -37,7 +38,7 @@ pub struct StreamEntry<'a> {
 impl StreamEntry<'_> {
     /// Appends an empty line, `[[stream]]`, and its lines: every key, but `descriptors` only where there are any.
     pub fn write_text<A: Allocator + Clone>(&self, text: &mut String<A>) -> Result<(), AllocError>
-        ensures { OnOk result (string_bytes text.new ≡ string_bytes text.old ++ stream_text self.now) }
+        ensures { OnOk result (string_bytes text.new ≡ string_bytes text.old ++ stream_text (stream_view self.now)) }
     {
         let numbers = [
             ("group", self.group as u64),

@@ -5,3 +5,4 @@ mod Answering
 mod Placing
 mod Each
 mod CarriedStreams
+mod Trying

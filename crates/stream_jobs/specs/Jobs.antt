@@ -1,15 +1,18 @@
 -- What a job is of what a demultiplexer finds.
-use Rattle.std.specs.Prelude.{◌≡◌, ◌≤◌, ◌<◌, ⊤, ⊥, ℕ, Bool, false, List, ◌∷◌, length, map, slice_get, Option, Some, Ok, Err, IfSome, All}
+use Rattle.std.specs.Prelude.{◌≡◌, ◌≤◌, ◌<◌, ⊤, ℕ, nat_le, ◌==◌, ◌&&◌, Bool, true, if◌then◌else◌, List, [], ◌∷◌, length, map, slice_get, Option, Some, None, All}
 use Rattle.pes_packet.specs.AccessUnits.{AccessUnit}
 use Rattle.pes_packet.specs.Units.{units_of}
 use Rattle.demux.specs.Views.{FindingView}
 use Rattle.description.specs.Described.{Described, DescribedStream}
-use Rattle.toml.specs.Parse.{parse_document}
-use Rattle.description.specs.Reading.{description_of}
+use Rattle.plan_maker.specs.Reasons.{reasons_of}
+use Rattle.plan_maker.specs.declared.reasoning.Reason.{Reason}
+use Rattle.stream_units.specs.Declaration.{least_interval, greatest_size, group_packets}
 use Rattle.unit_order.specs.Merging.{AreMerged}
 use Rattle.stream_jobs.specs.Materials.{MaterialView}
 use Rattle.stream_jobs.specs.Moments.{Timed}
 use Rattle.stream_jobs.specs.Moving.{AreFound, Declares, source_of}
+use Rattle.stream_jobs.specs.Rates.{IsAskedOrFirst, IsRate}
+pub use Rattle.stream_jobs.specs.Rates.{IsText}
 use Rattle.stream_jobs.specs.Texts.{description_text}
 use Rattle.stream_jobs.specs.Wire.{WireView}
 use Rattle.stream_jobs.specs.Wished.{WishesView}
@@ -49,6 +52,27 @@ pub record AllAgree (d : Described) (streams : List Timed) : Type 0 where
   pub same : length streams ≡ length d.streams
   pub each : (k : ℕ) (s : DescribedStream) (t : Timed) → slice_get d.streams k ≡ Some s → slice_get streams k ≡ Some t → Agrees d s t
 
+-- the first unit is due no earlier than a moment
+unfoldable pub first_due : ℕ → List AccessUnit → Bool
+first_due from [] = true
+first_due from (u ∷ us) = nat_le from u.dts
+
+-- the same as a test
+unfoldable pub keeps : Described → DescribedStream → List AccessUnit → Bool
+keeps d s us =
+    nat_le s.interval (least_interval us)
+    && (nat_le (greatest_size us) s.size
+    && (first_due s.lead us
+    && (nat_le s.group 64 && nat_le (group_packets s.stream_id d.base0 s.group us) s.group_packets)))
+
+-- the PID of the first stream that is not the declared one in its place, and 0 where there are not as many
+unfoldable pub first_disagreeing : Described → List DescribedStream → List Timed → Option ℕ
+first_disagreeing d (s ∷ ss) (t ∷ ts) = if s.pid == t.pid && keeps d s t.units then first_disagreeing d ss ts else Some t.pid
+first_disagreeing d _ _ = None
+
+unfoldable pub disagreeing : Described → List Timed → Option ℕ
+disagreeing d streams = if length d.streams == length streams then first_disagreeing d d.streams streams else Some 0
+
 -- 3. Units
 
 -- the units of a job, each with the number of its stream: those of a stream are what is found of its PID, in order, and keep
@@ -64,18 +88,24 @@ pub record AreUnits (made : Bool) (findings : List FindingView) (d : Described) 
 
 -- 4. A job
 
--- the text of a description is read as it
-abbrev pub IsText : Described → List ℕ → Type 0
-IsText d text = Ok d ≡ description_of (parse_document text)
-
--- a description of these streams at a rate: the one that is asked for, where one is
-pub record IsDescription (w : WishesView) (findings : List FindingView) (m : MaterialView) (rate : ℕ) (text : List ℕ) : Type 0 where
-  pub rate_is : IfSome w.rate (λ asked. rate ≡ asked)
+-- the description of these streams: at the rate that is asked for, else at one of those that are tried
+pub record IsDescription (w : WishesView) (findings : List FindingView) (m : MaterialView) (text : List ℕ) : Type 0 where
+  pub rate : ℕ
+  pub rate_is : IsRate w.rate w findings m rate
   pub text_is : text ≡ description_text w findings m rate
 
 -- with what it is read as, and the units of all streams by their DTS
 pub record IsJob (w : WishesView) (findings : List FindingView) (m : MaterialView) (d : Described) (text : List ℕ) (units : List (ℕ × AccessUnit)) : Type 0 where
-  pub rate : ℕ
-  pub described : IsDescription w findings m rate text
+  pub described : IsDescription w findings m text
   pub read : IsText d text
   pub merged : AreMerged (map (λ s. s.units) m.streams) units
+
+-- 5. Why no plan serves a description
+
+-- at the rate that is asked for, else at the least at which all have slots
+pub record AreReasons (w : WishesView) (findings : List FindingView) (m : MaterialView) (reasons : List Reason) : Type 0 where
+  pub rate : ℕ
+  pub rate_is : IsAskedOrFirst w.rate w findings m rate
+  pub description : Described
+  pub read : IsText description (description_text w findings m rate)
+  pub are : reasons ≡ reasons_of description

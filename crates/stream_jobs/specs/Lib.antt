@@ -9,4 +9,6 @@ pub mod Declaring
 pub mod Materials
 pub mod Texts
 pub mod Moving
+pub mod Rates
 pub mod Jobs
+pub mod Unmade

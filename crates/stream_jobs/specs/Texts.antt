@@ -1,5 +1,5 @@
 -- The description of a job as text.
-use Rattle.std.specs.Prelude.{ℕ, Bool, false, List, [], ◌∷◌, ◌++◌, map, flat_map, zip, is_some, Option, Some, None}
+use Rattle.std.specs.Prelude.{ℕ, ◌-◌, ◌^◌, min, Bool, false, List, [], ◌∷◌, ◌++◌, map, flat_map, zip, is_some, Option, Some, None}
 use Rattle.std.specs.List.{list_any}
 use Rattle.demux.specs.Views.{FindingView}
 use Rattle.job_text.specs.Entries.{HeadingView, ProgramEntryView, StreamEntryView}
@@ -19,10 +19,10 @@ use Rattle.stream_jobs.specs.Wished.{WishesView}
 unfoldable pub has_services : List FindingView → List JobProgramView → Bool
 has_services findings programs = list_any (λ p. is_some (service p.number findings)) programs
 
--- at a rate in bits a second; original_network_id is one for private use (ETSI TS 101 162)
+-- at a rate in bits a second, a number of 32 bits; original_network_id is one for private use (ETSI TS 101 162)
 unfoldable pub heading_of : WishesView → List FindingView → MaterialView → ℕ → HeadingView
 heading_of w findings m rate = record {
-  rate = rate;
+  rate = min rate (2 ^ 32 - 1);
   start = w.start;
   base0 = m.base0;
   transport_stream_id = m.transport_stream_id;
@@ -39,12 +39,12 @@ unfoldable pub named_service : Option ServiceTexts → ServiceTexts
 named_service (Some s) = record { service_type = s.service_type; provider = readable 100 s.provider; name = readable 100 s.name }
 named_service None = record { service_type = 1; provider = []; name = [] }
 
-unfoldable pub program_with : WishesView → JobProgramView → ServiceTexts → ProgramEntryView
-program_with w p s = record {
+unfoldable pub program_with : ℕ → JobProgramView → ServiceTexts → ProgramEntryView
+program_with pcr_limit p s = record {
   number = p.number;
   pmt_pid = p.map_pid;
   pcr_pid = p.pcr_pid;
-  pcr_limit = w.pcr_limit;
+  pcr_limit = pcr_limit;
   descriptors = p.descriptors;
   service_type = s.service_type;
   provider = s.provider;
@@ -52,7 +52,7 @@ program_with w p s = record {
 }
 
 unfoldable pub program_entry : WishesView → List FindingView → JobProgramView → ProgramEntryView
-program_entry w findings p = program_with w p (named_service (service p.number findings))
+program_entry w findings p = program_with w.pcr_limit p (named_service (service p.number findings))
 
 -- 3. Streams
 
@@ -74,11 +74,17 @@ stream_entry s = record {
 
 -- 4. The whole
 
-abbrev pub programs_text : WishesView → List FindingView → MaterialView → List ℕ
-programs_text w findings m = flat_map (λ p. program_text (program_entry w findings p)) m.programs
+abbrev pub program_lines : WishesView → List FindingView → JobProgramView → List ℕ
+program_lines w findings p = program_text (program_entry w findings p)
 
-abbrev pub streams_text : MaterialView → List ℕ
-streams_text m = flat_map (λ s. stream_text (stream_entry s)) (zip m.streams (zip m.counted m.choices))
+abbrev pub programs_text : WishesView → List FindingView → List JobProgramView → List ℕ
+programs_text w findings programs = flat_map (program_lines w findings) programs
+
+abbrev pub stream_lines : Timed × (CountedView × Choice) → List ℕ
+stream_lines s = stream_text (stream_entry s)
+
+abbrev pub streams_text : List Timed → List CountedView → List Choice → List ℕ
+streams_text streams counted choices = flat_map stream_lines (zip streams (zip counted choices))
 
 unfoldable pub description_text : WishesView → List FindingView → MaterialView → ℕ → List ℕ
-description_text w findings m rate = heading_text (heading_of w findings m rate) ++ (programs_text w findings m ++ streams_text m)
+description_text w findings m rate = heading_text (heading_of w findings m rate) ++ (programs_text w findings m.programs ++ streams_text m.streams m.counted m.choices)

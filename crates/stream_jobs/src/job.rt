@@ -1,11 +1,15 @@
 //! A job: a description, a plan that serves it, and the units of its streams.
 
-ghost use Rattle.std.specs.Prelude.{◌≡◌, ◌≤◌, IfOk, All, length, map, string_bytes};
+ghost use Rattle.std.specs.Prelude.{◌≡◌, ◌≤◌, IfErr, IfOk, All, length, map, string_bytes};
 ghost use Rattle.demux.specs.Shown.{finding_view};
-ghost use Rattle.stream_jobs.specs.Jobs.{AreStreams, AreUnits, IsText};
+ghost use Rattle.unit_order.specs.Merging.{AreMerged};
+ghost use Rattle.stream_jobs.specs.Jobs.{AllAgree, AreReasons, AreStreams, AreUnits, IsDescription, IsJob, IsText};
+ghost use Rattle.stream_jobs.specs.Rates.{IsAskedOrFirst, IsPlanned, IsRate};
+ghost use Rattle.stream_jobs.specs.Unmade.{IsUnmade, IsUnplanned, IsUnrated};
+ghost use Rattle.stream_jobs.specs.declared.refusal.JobError.TheVariants.{Memory};
 
 use crate::agreeing::disagreeing;
-use crate::draft::described;
+use crate::draft::{Draft, described};
 use crate::material::Material;
 use crate::moving::JobStream;
 use crate::rates::{Planned, first_rate, plan_draft};
@@ -41,6 +45,38 @@ fn queues_of(alloc: Global, streams: Vec<JobStream>) -> Result<Vec<VecDeque<Unit
     Ok(queues)
 }
 
+// The units of all streams, each with the number of its stream.
+fn merged_units(alloc: Global, streams: Vec<JobStream>) -> Result<Vec<(u8, Unit)>, AllocError>
+    requires { length streams.items ≤ 32 }
+    ensures { IfOk result (λ units. AreMerged (map (λ t. t.units) streams.items) units.items) }
+{
+    merged(alloc, queues_of(alloc, streams)?)
+}
+
+// A plan for the description, which declares what the units of the streams need.
+fn agreed_plan(
+    alloc: Global,
+    wishes: &Wishes<'_>,
+    findings: &[Finding<'_>],
+    material: &Material,
+) -> Result<Planned, JobError>
+    ensures planned { IfOk result (λ p. IsPlanned wishes.now (map finding_view findings.now) material.now p.rate p.plan.description (string_bytes p.text)) }
+    ensures rate { IfOk result (λ p. IsRate wishes.now.rate wishes.now (map finding_view findings.now) material.now p.rate) }
+    ensures agree { IfOk result (λ p. AllAgree p.plan.description material.now.streams) }
+    ensures refused { IfErr result (IsUnmade wishes.now (map finding_view findings.now) material.now) }
+{
+    let draft = Draft {
+        wishes,
+        findings,
+        material,
+    };
+    let planned = plan_draft(alloc, &draft)?;
+    match disagreeing(planned.plan.description(), &material.streams) {
+        Some(pid) => Err(JobError::Refused(Refusal::Declaration(pid))),
+        None => Ok(planned),
+    }
+}
+
 /// The job of this material.
 pub fn make_job(
     alloc: Global,
@@ -49,15 +85,18 @@ pub fn make_job(
     material: Material,
 ) -> Result<Job, JobError>
     requires { AreStreams wishes.now.make_dts (map finding_view findings.now) material }
+    ensures job { IfOk result (λ j. IsJob wishes.now (map finding_view findings.now) material j.plan.description (string_bytes j.text) j.units.items) }
     ensures text { IfOk result (λ j. IsText j.plan.description (string_bytes j.text)) }
     ensures units { IfOk result (λ j. AreUnits wishes.now.make_dts (map finding_view findings.now) j.plan.description j.units.items) }
+    ensures refused { IfErr result (IsUnmade wishes.now (map finding_view findings.now) material) }
 {
-    let Planned { text, plan } = plan_draft(alloc, &material.draft(wishes, findings))?;
-    if let Some(pid) = disagreeing(plan.description(), &material.streams) {
-        return Err(JobError::Refused(Refusal::Declaration(pid)));
-    }
-    let units = merged(alloc, queues_of(alloc, material.streams)?)?;
-    Ok(Job { text, plan, units })
+    let planned = agreed_plan(alloc, wishes, findings, &material)?;
+    let units = merged_units(alloc, material.streams)?;
+    Ok(Job {
+        text: planned.text,
+        plan: planned.plan,
+        units,
+    })
 }
 
 /// The text of the description of a job, at the rate that is wished, else at the least at which a plan is found.
@@ -66,8 +105,15 @@ pub fn describe(
     wishes: &Wishes<'_>,
     findings: &[Finding<'_>],
     material: &Material,
-) -> Result<String, JobError> {
-    let draft = material.draft(wishes, findings);
+) -> Result<String, JobError>
+    ensures description { IfOk result (λ text. IsDescription wishes.now (map finding_view findings.now) material.now (string_bytes text)) }
+    ensures refused { IfErr result (IsUnplanned wishes.now.rate wishes.now (map finding_view findings.now) material.now) }
+{
+    let draft = Draft {
+        wishes,
+        findings,
+        material,
+    };
     match wishes.rate {
         Some(rate) => Ok(draft.text(alloc, rate)?),
         None => Ok(plan_draft(alloc, &draft)?.text),
@@ -77,22 +123,41 @@ pub fn describe(
 /// The units of a job without its description, by their DTS, each with the number of its stream.
 pub fn units(alloc: Global, material: Material) -> Result<Vec<(u8, Unit)>, JobError>
     requires { length material.streams ≤ 32 }
+    ensures units { IfOk result (λ units. AreMerged (map (λ t. t.units) material.streams) units.items) }
+    ensures refused { IfErr result (λ error. error ≡ Memory) }
 {
-    let queues = queues_of(alloc, material.streams)?;
-    Ok(merged(alloc, queues)?)
+    Ok(merged_units(alloc, material.streams)?)
 }
 
-/// Why no plan serves the description of a job at the rate that is wished.
+// The rate that is wished, else the least at which all have slots.
+fn rate_of(alloc: Global, draft: &Draft<'_, '_>) -> Result<u64, JobError>
+    ensures rate { IfOk result (IsAskedOrFirst draft.now.wishes.now.rate draft.now.wishes.now (map finding_view draft.now.findings.now) draft.now.material.now) }
+    ensures refused { IfErr result (IsUnrated draft.now.wishes.now (map finding_view draft.now.findings.now) draft.now.material.now) }
+{
+    let wishes = draft.wishes;
+    match wishes.rate {
+        Some(rate) => Ok(rate),
+        None => first_rate(alloc, draft),
+    }
+}
+
+/// Why no plan serves the description of a job at the rate that is wished, else at the least at which all have slots.
 pub fn why(
     alloc: Global,
     wishes: &Wishes<'_>,
     findings: &[Finding<'_>],
     material: &Material,
-) -> Result<Vec<Reason>, JobError> {
-    let rate = first_rate(alloc, &material.draft(wishes, findings))?;
-    let text = material
-        .draft(wishes, findings)
-        .text(alloc, wishes.rate.unwrap_or(rate))?;
+) -> Result<Vec<Reason>, JobError>
+    ensures reasons { IfOk result (λ reasons. AreReasons wishes.now (map finding_view findings.now) material.now reasons.items) }
+    ensures refused { IfErr result (IsUnrated wishes.now (map finding_view findings.now) material.now) }
+{
+    let draft = Draft {
+        wishes,
+        findings,
+        material,
+    };
+    let rate = rate_of(alloc, &draft)?;
+    let text = draft.text(alloc, rate)?;
     let description = described(alloc, &text)?;
     Ok(reasons(alloc, &description)?)
 }

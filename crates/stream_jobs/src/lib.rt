@@ -14,6 +14,7 @@ mod job_programs;
 mod material;
 mod moving;
 mod packets;
+mod named_service;
 mod rates;
 mod refusal;
 mod telling;

@@ -1,11 +1,15 @@
 //! A rate with a plan.
 
-ghost use Rattle.std.specs.Prelude.{◌≡◌, ◌≤◌, IfOk, IfSome, Ok, string_bytes};
-ghost use Rattle.stream_jobs.specs.Jobs.{IsText};
+ghost use Rattle.std.specs.Prelude.{◌≡◌, ◌≤◌, ◌<◌, ◌++◌, IfOk, IfErr, IfSome, IfNone, Some, None, All, Contains, OnOk, map, string_bytes};
+ghost use Rattle.std.specs.List.{range_with_len};
+ghost use Rattle.demux.specs.Shown.{finding_view};
+ghost use Rattle.description.specs.Tables.{table_count};
+ghost use Rattle.stream_jobs.specs.Rates as spec;
+ghost use Rattle.stream_jobs.specs.Unmade.{IsUnplanned, IsUnrated, IsUnreadAt};
 
 use crate::draft::{Draft, described};
 use crate::refusal::{JobError, Refusal};
-use description::Description;
+use description::{Description, Program};
 use plan_checker::CheckedPlan;
 use plan_maker::{MakeError, make};
 use std::alloc::{AllocError, Global};
@@ -19,54 +23,84 @@ const TRIES: u32 = 96;
 
 const SMALL_STEPS: u32 = 32;
 
-/// A description with a plan that serves it, and its text.
+/// A description with a plan that serves it, its rate and its text.
 #[derive(Drop)]
 pub(crate) struct Planned {
+    pub rate: u64,
     pub text: String,
     pub plan: CheckedPlan,
 }
 
-// The sections of tables that recur.
-fn push_tables(
-    description: &Description,
-    recurring: &mut Vec<Recurring>,
-) -> Result<(), AllocError> {
+// The sections of a table.
+#[tactic(auto, unfolding(crate::specs::Rates::table_recurs))]
+fn table_recurs(description: &Description, table: usize) -> Recurring
+    requires { table < table_count description.now }
+    ensures { result ≡ spec.table_recurs description.now table }
+{
+    Recurring {
+        slots: description.round_places(table).min(u32::MAX as usize) as u32,
+        limit: u32::from(description.table_limit(table)),
+    }
+}
+
+// Those of all tables.
+fn push_tables(description: &Description, recurring: &mut Vec<Recurring>) -> Result<(), AllocError>
+    ensures { OnOk result (recurring.new.items ≡ recurring.old.items ++ map (spec.table_recurs description.now) (range_with_len 0 (table_count description.now))) }
+{
     for table in 0..description.tables() {
-        recurring.push(Recurring {
-            slots: u32::try_from(description.round_places(table)).unwrap_or(u32::MAX),
-            limit: u32::from(description.table_limit(table)),
-        })?;
+        recurring.push(table_recurs(description, table))?;
     }
     Ok(())
 }
 
-// The clock references of programs that recur.
-fn push_clocks(
-    description: &Description,
-    recurring: &mut Vec<Recurring>,
-) -> Result<(), AllocError> {
-    for program in description.programs() {
-        recurring.push(Recurring {
-            slots: 1,
-            limit: u32::from(program.pcr_limit()),
-        })?;
+// The clock references of a program.
+#[tactic(auto, unfolding(crate::specs::Rates::clock_recurs))]
+fn clock_recurs(program: &Program) -> Recurring
+    ensures { result ≡ spec.clock_recurs program.now }
+{
+    Recurring {
+        slots: 1,
+        limit: u32::from(program.pcr_limit()),
+    }
+}
+
+// Those of all programs.
+fn push_clocks(programs: &[Program], recurring: &mut Vec<Recurring>) -> Result<(), AllocError>
+    ensures { OnOk result (recurring.new.items ≡ recurring.old.items ++ map spec.clock_recurs programs.now) }
+{
+    for program in programs {
+        recurring.push(clock_recurs(program))?;
     }
     Ok(())
+}
+
+// All that recurs.
+fn recurring_of(alloc: Global, description: &Description) -> Result<Vec<Recurring>, AllocError>
+    ensures { IfOk result (λ all. all.items ≡ spec.recurring_of description.now) }
+{
+    let mut recurring = Vec::new(alloc);
+    push_tables(description, &mut recurring)?;
+    push_clocks(description.programs(), &mut recurring)?;
+    Ok(recurring)
 }
 
 // The shares of the streams.
-fn shares_of(alloc: Global, choices: &[Choice]) -> Result<Vec<u64>, AllocError> {
+fn shares_of(alloc: Global, choices: &[Choice]) -> Result<Vec<u64>, AllocError>
+    ensures { IfOk result (λ all. all.items ≡ map (λ c. c.share) choices.now) }
+{
     choices.iter().map(|choice| choice.share).collect(alloc)
 }
 
 /// The rate at which all shares together are the whole.
-pub(crate) fn first_rate(alloc: Global, draft: &Draft<'_, '_>) -> Result<u64, JobError> {
+pub(crate) fn first_rate(alloc: Global, draft: &Draft<'_, '_>) -> Result<u64, JobError>
+    ensures first { IfOk result (spec.IsFirstRate draft.now.wishes.now (map finding_view draft.now.findings.now) draft.now.material.now) }
+    ensures refused { IfErr result (IsUnrated draft.now.wishes.now (map finding_view draft.now.findings.now) draft.now.material.now) }
+{
+    let material = draft.material;
     let text = draft.text(alloc, GREATEST_RATE)?;
     let description = described(alloc, &text)?;
-    let mut recurring = Vec::new(alloc);
-    push_tables(&description, &mut recurring)?;
-    push_clocks(&description, &mut recurring)?;
-    let shares = shares_of(alloc, draft.choices)?;
+    let recurring = recurring_of(alloc, &description)?;
+    let shares = shares_of(alloc, &material.choices)?;
     match least_rate(&shares, &recurring) {
         Some(rate) => Ok(u64::from(rate)),
         None => Err(JobError::Refused(Refusal::Plan(GREATEST_RATE))),
@@ -75,20 +109,25 @@ pub(crate) fn first_rate(alloc: Global, draft: &Draft<'_, '_>) -> Result<u64, Jo
 
 // The plan at a rate, where one is found.
 fn plan_at(alloc: Global, draft: &Draft<'_, '_>, rate: u64) -> Result<Option<Planned>, JobError>
-    ensures { IfOk result (λ found. IfSome found (λ p. IsText p.plan.description (string_bytes p.text))) }
+    ensures planned { IfOk result (λ found. IfSome found (λ p. spec.IsPlanned draft.now.wishes.now (map finding_view draft.now.findings.now) draft.now.material.now p.rate p.plan.description (string_bytes p.text))) }
+    ensures rate { IfOk result (λ found. IfSome found (λ p. p.rate ≡ rate)) }
+    ensures none { IfOk result (λ found. IfNone found (spec.IsUnserved draft.now.wishes.now (map finding_view draft.now.findings.now) draft.now.material.now rate)) }
+    ensures refused { IfErr result (IsUnreadAt draft.now.wishes.now (map finding_view draft.now.findings.now) draft.now.material.now) }
 {
     let text = draft.text(alloc, rate)?;
     let description = described(alloc, &text)?;
     match make(alloc, description) {
-        Ok(plan) => Ok(Some(Planned { text, plan })),
+        Ok(plan) => Ok(Some(Planned { rate, text, plan })),
         Err((MakeError::NotFound, _)) => Ok(None),
         Err((MakeError::Memory, _)) => Err(JobError::Memory),
     }
 }
 
 // The rate that is tried after one: by small steps at first.
-fn next_rate(rate: u64, tried: u32) -> u64
+#[tactic(auto, unfolding(crate::specs::Rates::next_rate))]
+fn next_rate(tried: u32, rate: u64) -> u64
     requires { rate ≤ 100000000 }
+    ensures { result ≡ spec.next_rate tried rate }
 {
     if tried < SMALL_STEPS {
         rate + rate / 256
@@ -97,32 +136,60 @@ fn next_rate(rate: u64, tried: u32) -> u64
     }
 }
 
-// The first plan that is found from the least rate up.
-fn first_plan(alloc: Global, draft: &Draft<'_, '_>) -> Result<Planned, JobError>
-    ensures { IfOk result (λ p. IsText p.plan.description (string_bytes p.text)) }
+// The first plan that is found of those from a rate on.
+fn plan_from(alloc: Global, draft: &Draft<'_, '_>, first: u64) -> Result<Option<Planned>, JobError>
+    ensures planned { IfOk result (λ found. IfSome found (λ p. spec.IsPlanned draft.now.wishes.now (map finding_view draft.now.findings.now) draft.now.material.now p.rate p.plan.description (string_bytes p.text))) }
+    ensures tried { IfOk result (λ found. IfSome found (λ p. Contains (spec.tried_rates first) p.rate)) }
+    ensures none { IfOk result (λ found. IfNone found (All (spec.IsUnserved draft.now.wishes.now (map finding_view draft.now.findings.now) draft.now.material.now) (spec.tried_rates first))) }
+    ensures refused { IfErr result (IsUnreadAt draft.now.wishes.now (map finding_view draft.now.findings.now) draft.now.material.now) }
 {
-    let mut rate = first_rate(alloc, draft)?;
+    let mut rate = first;
     for tried in 0..TRIES {
         if rate > GREATEST_RATE {
-            return Err(JobError::Refused(Refusal::Plan(GREATEST_RATE)));
+            return Ok(None);
         }
         if let Some(planned) = plan_at(alloc, draft, rate)? {
-            return Ok(planned);
+            return Ok(Some(planned));
         }
-        rate = next_rate(rate, tried);
+        rate = next_rate(tried, rate);
     }
-    Err(JobError::Refused(Refusal::Plan(rate)))
+    Ok(None)
+}
+
+// The first plan that is found from the least rate on.
+fn first_plan(alloc: Global, draft: &Draft<'_, '_>) -> Result<Planned, JobError>
+    ensures planned { IfOk result (λ p. spec.IsPlanned draft.now.wishes.now (map finding_view draft.now.findings.now) draft.now.material.now p.rate p.plan.description (string_bytes p.text)) }
+    ensures tried { IfOk result (λ p. spec.IsTried draft.now.wishes.now (map finding_view draft.now.findings.now) draft.now.material.now p.rate) }
+    ensures refused { IfErr result (IsUnplanned None draft.now.wishes.now (map finding_view draft.now.findings.now) draft.now.material.now) }
+{
+    let first = first_rate(alloc, draft)?;
+    match plan_from(alloc, draft, first)? {
+        Some(planned) => Ok(planned),
+        None => Err(JobError::Refused(Refusal::Plan(first))),
+    }
+}
+
+// The plan at a rate that is asked for.
+fn asked_plan(alloc: Global, draft: &Draft<'_, '_>, rate: u64) -> Result<Planned, JobError>
+    ensures planned { IfOk result (λ p. spec.IsPlanned draft.now.wishes.now (map finding_view draft.now.findings.now) draft.now.material.now p.rate p.plan.description (string_bytes p.text)) }
+    ensures asked { IfOk result (λ p. p.rate ≡ rate) }
+    ensures refused { IfErr result (IsUnplanned (Some rate) draft.now.wishes.now (map finding_view draft.now.findings.now) draft.now.material.now) }
+{
+    match plan_at(alloc, draft, rate)? {
+        Some(planned) => Ok(planned),
+        None => Err(JobError::Refused(Refusal::Plan(rate))),
+    }
 }
 
 /// The description at the rate that is wished, else at the least that is found, with a plan that serves it.
 pub(crate) fn plan_draft(alloc: Global, draft: &Draft<'_, '_>) -> Result<Planned, JobError>
-    ensures { IfOk result (λ p. IsText p.plan.description (string_bytes p.text)) }
+    ensures planned { IfOk result (λ p. spec.IsPlanned draft.now.wishes.now (map finding_view draft.now.findings.now) draft.now.material.now p.rate p.plan.description (string_bytes p.text)) }
+    ensures rate { IfOk result (λ p. spec.IsRate draft.now.wishes.now.rate draft.now.wishes.now (map finding_view draft.now.findings.now) draft.now.material.now p.rate) }
+    ensures refused { IfErr result (IsUnplanned draft.now.wishes.now.rate draft.now.wishes.now (map finding_view draft.now.findings.now) draft.now.material.now) }
 {
-    let Some(rate) = draft.wishes.rate else {
-        return first_plan(alloc, draft);
-    };
-    match plan_at(alloc, draft, rate)? {
-        Some(planned) => Ok(planned),
-        None => Err(JobError::Refused(Refusal::Plan(rate))),
+    let wishes = draft.wishes;
+    match wishes.rate {
+        Some(rate) => asked_plan(alloc, draft, rate),
+        None => first_plan(alloc, draft),
     }
 }

@@ -67,7 +67,8 @@ pub enum Refusal {
     Pids,
     /// The description that was written is refused.
     Description(Fault),
-    /// No plan is found at this rate, in bits a second.
+    /// No plan is found at this rate, in bits a second: the one that is asked for; else the least at which all have slots,
+    /// nor at those after it that are tried; or at no rate all have slots, of which this is the greatest.
     Plan(u64),
     /// The description that was written does not declare what the units of this PID need.
     Declaration(u16),

@@ -1,0 +1,17 @@
+use Rattle.std.proofs.Common.{rules, ◌≡◌, Some, map, subst}
+use Rattle.demux.specs.Shown.{finding_view}
+use Rattle.stream_jobs.specs.Jobs.{disagreeing}
+use Rattle.stream_jobs.specs.Rates.{IsText}
+use Rattle.stream_jobs.proofs.job.agreed_plan.Goals as goal
+
+pub returns-in-Some-clause-refused : goal.returns-in-Some-clause-refused
+returns-in-Some-clause-refused c =
+    let planned = c.in_ok-planned.planned in
+    let disagree : disagreeing planned.plan.description c.args.material.now.streams ≡ Some c.in-Some.pid = search rules in
+    record {
+      rate = planned.rate;
+      rate_is = c.in_ok-planned.ensures.rate;
+      description = planned.plan.description;
+      read = subst (IsText planned.plan.description) c.in_ok-planned.ensures.planned.text_is c.in_ok-planned.ensures.planned.read;
+      disagree = disagree;
+    }

@@ -1,0 +1,93 @@
+//! What the description of a job says of a program's service.
+
+ghost use Rattle.std.specs.Prelude.{◌≡◌, IfOk, is_some, map, option_map};
+ghost use Rattle.demux.specs.Shown.{finding_view};
+ghost use Rattle.stream_programs.specs.Services.{service, service_texts};
+ghost use Rattle.stream_jobs.specs.Texts as spec;
+
+use crate::job_programs::JobProgram;
+use demux::Finding;
+use std::alloc::{AllocError, Global};
+use std::marker::Model;
+use stream_programs::{FoundService, last_service, readable};
+
+/// The most bytes of a service's name and provider, as written in a descriptor.
+const LONGEST_NAME: usize = 100;
+
+/// A digital television service (EN 300 468, table 87), where a stream has no service description.
+const TELEVISION: u8 = 1;
+
+/// A service, its texts as characters.
+#[derive(Drop)]
+pub(crate) struct NamedService {
+    pub service_type: u8,
+    pub provider: String,
+    pub name: String,
+}
+
+// A contract sees its texts as lists.
+impl Model for NamedService {
+    ghost use Rattle.std.specs.Prelude.{string_bytes};
+    ghost use Rattle.stream_programs.specs.Services.{ServiceTexts};
+
+    ghost Value = { ServiceTexts };
+
+    ghost view = { λ s. record {
+      service_type = s.service_type;
+      provider = string_bytes s.provider;
+      name = string_bytes s.name;
+    } };
+}
+
+// Whether the service of a program is described.
+fn has_service(findings: &[Finding<'_>], number: u16) -> bool
+    ensures { result ≡ is_some (service number (map finding_view findings.now)) }
+{
+    match last_service(number, findings) {
+        Some(_) => true,
+        None => false,
+    }
+}
+
+/// Whether a service of one of these programs is described.
+#[tactic(auto, unfolding(crate::specs::Texts::has_services))]
+pub(crate) fn has_services(findings: &[Finding<'_>], programs: &[JobProgram]) -> bool
+    ensures { result ≡ spec.has_services (map finding_view findings.now) programs.now }
+{
+    programs
+        .iter()
+        .any(|program| has_service(findings, program.number))
+}
+
+// A service, or a television service without a name.
+#[tactic(auto, unfolding(crate::specs::Texts::named_service))]
+fn named_service(
+    alloc: Global,
+    service: Option<FoundService<'_>>,
+) -> Result<NamedService, AllocError>
+    ensures { IfOk result (λ named. named ≡ spec.named_service (option_map service_texts service.entry)) }
+{
+    match service {
+        Some(service) => Ok(NamedService {
+            service_type: service.service_type,
+            provider: readable(alloc, service.provider, LONGEST_NAME)?,
+            name: readable(alloc, service.name, LONGEST_NAME)?,
+        }),
+        None => Ok(NamedService {
+            service_type: TELEVISION,
+            provider: String::new(alloc),
+            name: String::new(alloc),
+        }),
+    }
+}
+
+/// What is said of the service of a program.
+pub(crate) fn service_of(
+    alloc: Global,
+    number: u16,
+    findings: &[Finding<'_>],
+) -> Result<NamedService, AllocError>
+    ensures { IfOk result (λ named. named ≡ spec.named_service (service number (map finding_view findings.now))) }
+{
+    named_service(alloc, last_service(number, findings))
+}
