@@ -7,7 +7,37 @@ use stream_jobs::{JobError, Refusal, describe, make_job, material_of, units};
 // Units of 24 ms.
 const UNITS: [(u8, u64); 3] = [(192, 3_600), (192, 5_760), (192, 7_920)];
 
-const TEXT: &str = "";
+// base0 is what the clock shows two seconds before the first unit; group and lead are those that stream_choice chooses.
+const TEXT: &str = "base0 = 8589758192
+original_network_id = 65281
+rate = 2000000
+sdt = false
+start = \"2026-03-29T00:59:50\"
+tdt = false
+ts_id = 1
+
+[[program]]
+name = \"\"
+number = 1
+pcr_limit = 40
+pcr_pid = 257
+pmt_pid = 4096
+provider = \"\"
+service_type = 1
+
+[[stream]]
+group = 1
+group_packets = 1
+id = 192
+interval = 2160
+lead = 10985
+main = 3584
+pid = 256
+program = 1
+rx = 2000000
+size = 100
+type = 3
+";
 
 // The text, a plan for it, and the units: the first is due two seconds after the first slot.
 #[test]

@@ -54,7 +54,7 @@ pub fn add_programs(
     let front = [
         0,
         0xb0,
-        length as u8,
+        length.min(255) as u8,
         0,
         1,
         0xc1 | (version & 15) << 1,
@@ -63,13 +63,8 @@ pub fn add_programs(
     ];
     let mut bytes = Vec::from_slice(alloc, &front)?;
     for (number, pid) in programs {
-        let entry = [
-            (number >> 8) as u8,
-            *number as u8,
-            0xe0 | (pid >> 8) as u8,
-            *pid as u8,
-        ];
-        bytes.extend_from_slice(&entry)?;
+        let ([one, two], [high, low]) = (number.to_be_bytes(), pid.to_be_bytes());
+        bytes.extend_from_slice(&[one, two, 0xe0 | high, low])?;
     }
     add_section(0, bytes, found)
 }
@@ -86,7 +81,7 @@ pub fn add_map(
     let front = [
         2,
         0xb0,
-        length as u8,
+        length.min(255) as u8,
         0,
         number,
         0xc1,
@@ -99,8 +94,8 @@ pub fn add_map(
     ];
     let mut bytes = Vec::from_slice(alloc, &front)?;
     for (stream_type, pid) in streams {
-        let entry = [*stream_type, 0xe0 | (pid >> 8) as u8, *pid as u8, 0xf0, 0];
-        bytes.extend_from_slice(&entry)?;
+        let [high, low] = pid.to_be_bytes();
+        bytes.extend_from_slice(&[*stream_type, 0xe0 | high, low, 0xf0, 0])?;
     }
     add_section(pid, bytes, found)
 }

@@ -1,6 +1,6 @@
 //! What is told of a stream that is not taken as it stands.
 
-use crate::tests::streams::{Found, add, add_map, add_programs, add_unit, usual};
+use crate::tests::streams::{Found, add, add_map, add_programs, add_unit, refused, usual};
 use demux::{Part, What};
 use std::alloc::{AllocError, Global};
 use std::test::Fail;
@@ -21,8 +21,10 @@ fn worked(alloc: Global) -> Result<Found, AllocError> {
     add_map(alloc, 4_096, 1, &[(3, 256), (5, 301)], &mut found)?;
     add_map(alloc, 4_096, 2, &[(3, 257)], &mut found)?;
     add_map(alloc, 4_097, 3, &[(3, 258)], &mut found)?;
-    add_unit(alloc, 256, 192, 3_600, 100, &mut found)?;
-    add_unit(alloc, 257, 192, 3_600, 100, &mut found)?;
+    for pts in [3_600, 5_760] {
+        add_unit(alloc, 256, 192, pts, 100, &mut found)?;
+        add_unit(alloc, 257, 192, pts, 100, &mut found)?;
+    }
     add(Some(257), What::Scrambled, &mut found)?;
     add(Some(258), What::Scrambled, &mut found)?;
     let rest = What::Truncated(Part::Joined(Vec::from_slice(alloc, &[1, 2])?));
@@ -49,6 +51,7 @@ const TABLE: TableLeftOut = TableLeftOut::NoPes {
 fn all_is_told(rt: HostRuntime) -> Result<(), Fail> {
     let alloc = rt.alloc();
     let found = worked(alloc)?;
+    assert_eq!(rt; refused(alloc, &usual(), &found)?, None);
     let Ok(material) = material_of(alloc, &usual(), found.len() as u64, &found) else {
         panic!(rt; "no material");
     };
@@ -66,14 +69,14 @@ fn all_is_told(rt: HostRuntime) -> Result<(), Fail> {
             program: 3,
             pid: 258,
         },
-        scrambled(258, 11),
+        scrambled(258, 13),
         Told::MapMoved {
             program: 2,
             from: 4_096,
             to: 32,
         },
         Told::NoStream { program: 3 },
-        scrambled(257, 10),
+        scrambled(257, 12),
     ];
     assert_eq!(rt; material.told.as_slice(), wanted.as_slice());
     let damage = material.told.iter().filter(|told| told.is_damage()).count();
