@@ -1,10 +1,11 @@
 -- The description of a job as text.
-use Rattle.std.specs.Prelude.{ℕ, ◌-◌, ◌^◌, min, Bool, false, List, [], ◌∷◌, ◌++◌, map, flat_map, zip, is_some, Option, Some, None}
+use Rattle.std.specs.Prelude.{ℕ, ◌-◌, ◌^◌, min, Bool, false, List, [], ◌∷◌, ◌++◌, map, flat_map, zip, is_some, unwrap_or, Option, Some, None}
 use Rattle.std.specs.List.{list_any}
 use Rattle.demux.specs.Views.{FindingView}
 use Rattle.job_text.specs.Entries.{HeadingView, ProgramEntryView, StreamEntryView}
 use Rattle.job_text.specs.Texts.{heading_text, program_text, stream_text}
 use Rattle.stream_choice.specs.declared.choice.Choice.{Choice}
+use Rattle.stream_programs.specs.Networks.{network}
 use Rattle.stream_programs.specs.Services.{ServiceTexts, service}
 use Rattle.stream_programs.specs.Texts.{readable}
 use Rattle.stream_jobs.specs.Declaring.{CountedView}
@@ -19,14 +20,14 @@ use Rattle.stream_jobs.specs.Wished.{WishesView}
 unfoldable pub has_services : List FindingView → List JobProgramView → Bool
 has_services findings programs = list_any (λ p. is_some (service p.number findings)) programs
 
--- at a rate in bits a second, a number of 32 bits; original_network_id is one for private use (ETSI TS 101 162)
+-- at a rate in bits a second, a number of 32 bits; without a service description original_network_id is one for private use (ETSI TS 101 162)
 unfoldable pub heading_of : WishesView → List FindingView → MaterialView → ℕ → HeadingView
 heading_of w findings m rate = record {
   rate = min rate (2 ^ 32 - 1);
   start = w.start;
   base0 = m.base0;
   transport_stream_id = m.transport_stream_id;
-  original_network_id = 0xFF01;
+  original_network_id = unwrap_or (network findings) 0xFF01;
   sdt = has_services findings m.programs;
   tdt = false;
 }

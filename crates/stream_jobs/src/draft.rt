@@ -19,6 +19,7 @@ use description::{DescError, Description};
 use job_text::{Heading, ProgramEntry, StreamEntry};
 use std::alloc::{AllocError, Global};
 use stream_choice::Choice;
+use stream_programs::original_network;
 
 /// original_network_id where a stream has no service description (ETSI TS 101 162: 0xFF00 to 0xFFFF are for private use).
 const PRIVATE_NETWORK: u16 = 0xff01;
@@ -43,7 +44,7 @@ impl<'a, 'f> Draft<'a, 'f> {
             start: wishes.start,
             base0: material.base0,
             transport_stream_id: material.transport_stream_id,
-            original_network_id: PRIVATE_NETWORK,
+            original_network_id: original_network(self.findings).unwrap_or(PRIVATE_NETWORK),
             sdt: has_services(self.findings, &material.programs),
             tdt: false,
         };
