@@ -1,81 +1,120 @@
 -- What is written of an answer, and what the input that was read leads to.
-use Rattle.std.proofs.Common.{◌≡◌, ◌∙◌, ℕ, Bool, List, ap, subst, Ok, Err, inl, inr}
+use Rattle.std.proofs.Common.{◌≡◌, ◌∙◌, ◌++◌, ◌/◌, ℕ, List, [], length, sym, ap, subst, append-nil, Option, Some, Result, Ok, Err, inl, inr}
 use Rattle.pes_packet.specs.AccessUnits.{AccessUnit}
 use Rattle.description.specs.Described.{Described}
 use Rattle.slot_plan.specs.Conditions.{IsServing}
 use Rattle.slot_plan.specs.Planned.{Planned}
 use Rattle.slot_plan.specs.Text.{plan_text}
-use Rattle.stream_jobs.specs.Jobs.{AreUnits, IsText}
+use Rattle.stream_jobs.specs.Answers.{Answers, Refuses}
+use Rattle.stream_jobs.specs.Jobs.{AreUnits, IsJob}
+use Rattle.stream_jobs.specs.Materials.{MaterialView, material}
+use Rattle.stream_jobs.specs.Wished.{WishesView}
+use Rattle.stream_jobs.specs.declared.refusal.JobError.{JobError}
+use Rattle.stream_jobs.specs.declared.refusal.JobError.TheVariants.{Memory, Refused}
+use Rattle.stream_jobs.specs.declared.refusal.Refusal.{Refusal}
 use Rattle.demux.specs.Views.{FindingView}
 use Rattle.demux.specs.Stream.{StreamState}
-use Rattle.devices.specs.Devices.{Device, IsUntouched, Port, Takes}
+use Rattle.devices.specs.Devices.{Device, IsUntouched, Port}
 use Rattle.devices.specs.Halts.{halt_line}
 use Rattle.devices.specs.Lines.{Tells}
-use Rattle.devices.specs.Passing.{WritesLine}
 use Rattle.devices.specs.Performing.{Outcome, Performs}
 use Rattle.devices.specs.WholeInput.{ReadsInput}
-use Rattle.devices.specs.declared.halt.Halt.{Halt}
-use Rattle.devices.specs.declared.halt.Halt.TheVariants.{Read, Write, Memory}
+use Rattle.devices.specs.declared.halt.Halt.TheVariants as halt
 use Rattle.devices.proofs.Performances.{no_room, performed, unwritten}
 use Rattle.job_words.specs.declared.asked.Word.{Word}
-use Rattle.job_words.specs.Outcomes.{FindingsLead, GivesJob, IsWritten, Leads, Runs, written}
+use Rattle.job_words.specs.declared.asked.Word.TheVariants.{Whole, Describe, Units, Why}
+use Rattle.job_words.specs.Asked.{AskedView}
+use Rattle.job_words.specs.Outcomes.{FindingsLead, GivesJob, IsWritten, Leads, MaterialLeads, TellsWhy, Withholds}
+use Rattle.job_words.specs.Records.{written}
 use Rattle.job_words.specs.Streams.{TakesWhole, findings_of}
 
--- 1. An answer on the output
+-- 1. What a word gives
 
-pub writes_whole : (o : Outcome) (text : List ℕ) (output faults : Device) (status : ℕ) → text ≡ o.output → WritesLine {V = Unit {0}} text output (Ok tt) →
-    Tells faults o.told → status ≡ o.status → IsWritten o output faults status
-writes_whole o text output faults status e w t s = inl (subst (λ (x : List ℕ). Takes output x) e w.0, w.1, t, s)
+-- a text without a plan and without units
+pub text_alone : (text plan : List ℕ) (units : List (ℕ × AccessUnit)) → plan ≡ [] → units ≡ [] → written text plan units ≡ text
+text_alone text plan units p u =
+    ap (λ (x : List ℕ). written text x units) p ∙ (ap (λ (x : List (ℕ × AccessUnit)). written text [] x) u ∙ (append-nil (text ++ []) ∙ append-nil text))
 
-pub writes_part : (o : Outcome) (text : List ℕ) (output faults : Device) (status : ℕ) (halt : Halt) → text ≡ o.output → WritesLine {V = Unit {0}} text output (Err halt) →
-    Tells faults (halt_line halt) → status ≡ 3 → IsWritten o output faults status
-writes_part o text output faults status Read e w t s = absurd w
-writes_part o text output faults status Write e w t s =
-    let h = subst (λ (x : List ℕ). WritesLine {V = Unit {0}} x output (Err Write)) e w in inr (h.0, h.1, t, s)
-writes_part o text output faults status Memory e w t s = absurd w
-
--- 2. What was read leads to it
-
-leads_to : (word : Word) (make_dts : Bool) (bytes : List ℕ) (findings : List FindingView) (demux : StreamState) (o : Outcome) → findings ≡ demux.found → demux.found ≡ findings_of bytes →
-    FindingsLead word make_dts findings o → Leads word make_dts bytes o
-leads_to word make_dts bytes findings demux o f d l = subst (λ (x : List FindingView). FindingsLead word make_dts x o) d (subst (λ (x : List FindingView). FindingsLead word make_dts x o) f l)
-
-led : (word : Word) (make_dts : Bool) (bytes : List ℕ) (o : Outcome) (input output faults : Device) (status : ℕ) → ReadsInput input (Ok bytes) → Leads word make_dts bytes o →
-    IsWritten o output faults status → Performs (Leads word make_dts) input output faults status
-led word make_dts bytes o input output faults status r l (inl w) = performed (Leads word make_dts) bytes o input output faults status r l w.0 w.1 w.2 w.3
-led word make_dts bytes o input output faults status r l (inr w) = unwritten (Leads word make_dts) bytes o input output faults status r l w.0 w.1 w.2 w.3
-
-pub answered : (word : Word) (make_dts : Bool) (findings : List FindingView) (demux : StreamState) (o : Outcome) (input output faults : Device) (status : ℕ) →
-    TakesWhole input demux → findings ≡ demux.found → FindingsLead word make_dts findings o → IsWritten o output faults status → Performs (Leads word make_dts) input output faults status
-answered word make_dts findings demux o input output faults status t f l w =
-    led word make_dts t.bytes o input output faults status t.read (leads_to word make_dts t.bytes findings demux o f t.found l) w
-
-pub unanswered : (word : Word) (make_dts : Bool) (demux : StreamState) (input output faults : Device) (status : ℕ) →
-    TakesWhole input demux → IsUntouched output → Tells faults (halt_line Memory) → status ≡ 3 → Performs (Leads word make_dts) input output faults status
-unanswered word make_dts demux input output faults status t u m s = no_room (Leads word make_dts) t.bytes input output faults status t.read u m s
-
--- 3. A job
-
-pub given_job : (make_dts : Bool) (findings : List FindingView) (text plan : List ℕ) (d : Described) (p q : Planned) (units : List (ℕ × AccessUnit)) →
-    IsText d text → IsServing d p → AreUnits make_dts findings d units → plan ≡ plan_text q → q ≡ p → GivesJob make_dts findings (written text plan units)
-given_job make_dts findings text plan d p q units t s u e f = record {
-  text = text;
+pub given_job : (w : WishesView) (findings : List FindingView) (m : MaterialView) (text plan : List ℕ) (d : Described) (p q : Planned) (units : List (ℕ × AccessUnit)) →
+    IsJob w findings m d text units → AreUnits w.make_dts findings d units → IsServing d p → plan ≡ plan_text q → q ≡ p →
+    GivesJob w findings m (written text plan units)
+given_job w findings m text plan d p q units j u s e f = record {
   description = d;
+  text = text;
   plan = p;
   units = units;
-  read = t;
+  job = j;
+  found = u;
   serving = s;
-  are = u;
   is = ap (λ (x : List ℕ). written text x units) (e ∙ ap plan_text f);
 }
 
+-- 2. What material leads to
+
+-- there is no memory for what a word gives
+pub wanting : (word : Word) (w : WishesView) (findings : List FindingView) (m : MaterialView) (error : JobError) → error ≡ Memory → Withholds word w findings m error
+wanting Whole w findings m error e = subst (λ (x : JobError). Withholds Whole w findings m x) (sym e) tt
+wanting Describe w findings m error e = subst (λ (x : JobError). Withholds Describe w findings m x) (sym e) tt
+wanting Units w findings m error e = e
+wanting Why w findings m error e = subst (λ (x : JobError). Withholds Why w findings m x) (sym e) tt
+
+pub withheld : (asked : AskedView) (findings : List FindingView) (m : MaterialView) (error : JobError) (o : Outcome) →
+    Withholds asked.word asked.wishes findings m error → TellsWhy error o → MaterialLeads asked findings (Ok m) o
+withheld asked findings m Memory o h t = absurd t
+withheld asked findings m (Refused why) o h t = inr (record { why = why; holds = h; is = t })
+
+-- there is material
+answered : (r : Result MaterialView Refusal) (m : MaterialView) → Answers r (Ok m) → r ≡ Ok m
+unfolding Answers
+answered r m a = a
+
+pub with_material : (asked : AskedView) (count : ℕ) (findings : List FindingView) (m : MaterialView) (o : Outcome) →
+    Answers (material asked.wishes count findings) (Ok m) → MaterialLeads asked findings (Ok m) o → FindingsLead asked count findings o
+with_material asked count findings m o a l =
+    subst (λ (r : Result MaterialView Refusal). MaterialLeads asked findings r o) (sym (answered (material asked.wishes count findings) m a)) l
+
+-- there is none
+refused : (asked : AskedView) (findings : List FindingView) (r : Result MaterialView Refusal) (error : JobError) (o : Outcome) →
+    Answers r (Err error) → TellsWhy error o → MaterialLeads asked findings r o
+unfolding Answers Refuses
+refused asked findings r Memory o a t = absurd t
+refused asked findings r (Refused why) o a t = subst (λ (r : Result MaterialView Refusal). MaterialLeads asked findings r o) (sym a) t
+
+pub without_material : (asked : AskedView) (count : ℕ) (findings : List FindingView) (error : JobError) (o : Outcome) →
+    Answers (material asked.wishes count findings) (Err error) → TellsWhy error o → FindingsLead asked count findings o
+without_material asked count findings error o a t = refused asked findings (material asked.wishes count findings) error o a t
+
+-- 3. What was read leads to it
+
+leads_to : (asked : AskedView) (bytes : List ℕ) (size : ℕ) (findings : List FindingView) (demux : StreamState) (o : Outcome) → size ≡ length bytes → findings ≡ demux.found →
+    demux.found ≡ findings_of bytes → FindingsLead asked (size / 188) findings o → Leads asked bytes o
+leads_to asked bytes size findings demux o s f d l =
+    subst (λ (x : List FindingView). FindingsLead asked (length bytes / 188) x o) (f ∙ d)
+    (subst (λ (x : ℕ). FindingsLead asked (x / 188) findings o) s l)
+
+led : (asked : AskedView) (bytes : List ℕ) (o : Outcome) (input output faults : Device) (status : ℕ) → ReadsInput input (Ok bytes) → Leads asked bytes o →
+    IsWritten o output faults status → Performs (Leads asked) input output faults status
+led asked bytes o input output faults status r l (inl w) = performed (Leads asked) bytes o input output faults status r l w.0 w.1 w.2 w.3
+led asked bytes o input output faults status r l (inr w) = unwritten (Leads asked) bytes o input output faults status r l w.0 w.1 w.2 w.3
+
+pub answer_written : (asked : AskedView) (size : ℕ) (findings : List FindingView) (demux : StreamState) (o : Outcome) (input output faults : Device) (status : ℕ) →
+    TakesWhole input demux size → findings ≡ demux.found → FindingsLead asked (size / 188) findings o → IsWritten o output faults status →
+    Performs (Leads asked) input output faults status
+answer_written asked size findings demux o input output faults status t f l w =
+    led asked t.bytes o input output faults status t.read (leads_to asked t.bytes size findings demux o t.size_is f t.found l) w
+
+pub unanswered : (asked : AskedView) (size : ℕ) (demux : StreamState) (input output faults : Device) (status : ℕ) →
+    TakesWhole input demux size → IsUntouched output → Tells faults (halt_line halt.Memory) → status ≡ 3 → Performs (Leads asked) input output faults status
+unanswered asked size demux input output faults status t u m s = no_room (Leads asked) t.bytes input output faults status t.read u m s
+
 -- 4. What the words lead to
 
-pub runs_word : (word : Word) (make_dts : Bool) (input output faults : Device) (status : ℕ) → Performs (Leads word make_dts) input output faults status → Runs input output faults status
-runs_word word make_dts input output faults status p = inr (inr (word, make_dts, p))
+pub job_asked : (x : Option AskedView) (a b : AskedView) (input output faults : Device) (status : ℕ) → Some a ≡ x → x ≡ Some b →
+    Performs (Leads a) input output faults status → Performs (Leads b) input output faults status
+job_asked x a b input output faults status e f p =
+    let same : a ≡ b = (let both : Some a ≡ Some b = e ∙ f in cc) in subst (λ (y : AskedView). Performs (Leads y) input output faults status) same p
 
-pub runs_usage : (input output faults : Device) (status : ℕ) → IsUntouched input → IsUntouched output → status ≡ 2 → Runs input output faults status
-runs_usage input output faults status i o s = inl (record { unread = i; unwritten = o; status_is = s })
-
-pub runs_wanting : (input output faults : Device) (status : ℕ) → IsUntouched input → IsUntouched output → Tells faults (halt_line Memory) → status ≡ 3 → Runs input output faults status
-runs_wanting input output faults status i o t s = inr (inl (record { clean = ap (λ (p : Port). p.failed) i; unwritten = o; tells = t; status_is = s }))
+pub words_wanting : (Leads : List ℕ → Outcome → Type 0) (input output faults : Device) (status : ℕ) → IsUntouched input → IsUntouched output →
+    Tells faults (halt_line halt.Memory) → status ≡ 3 → Performs Leads input output faults status
+words_wanting Leads input output faults status i o t s =
+    inr (inr (inl (record { clean = ap (λ (p : Port). p.failed) i; unwritten = o; tells = t; status_is = s })))

@@ -54,6 +54,7 @@ front_whole old mid new demux next size n piece (Ok whole) f p s k e =
     let short : length bytes ≤ longest_input = subst (λ (x : ℕ). x ≤ longest_input) all k.1 in
     record {
       bytes = bytes;
+      size_is = k.0 ∙ all;
       read = (
         whole_if old.bytes new.bytes bytes ended,
         record { short = short_if old.bytes new.bytes bytes short ended; ends = λ xs known. (ended xs known).1; clean = p.clean ∙ f.clean },
@@ -82,6 +83,7 @@ front_stopped old mid new demux next size piece Memory f p = p ∙ f.clean
 pub end_taken : (input : Device) (demux ended : StreamState) (size : ℕ) → TakesAll input demux size → ended ≡ finished demux → TakesStream input ended (Ok size)
 end_taken input demux ended size t e = record {
   bytes = t.bytes;
+  size_is = t.size_is;
   read = t.read;
   found = ap (λ (s : StreamState). s.found) e ∙ ap (λ (s : StreamState). (finished s).found) t.state;
 }

@@ -11,6 +11,10 @@ use Rattle.devices.specs.declared.halt.Halt.TheVariants.{Read, Write, Memory}
 abbrev pub records_of : List (ℕ × AccessUnit) → List ℕ
 records_of units = flat_map (λ u. record_bytes u.0 u.1) units
 
+-- a text, another one after it, and the records of units
+abbrev pub written : List ℕ → List ℕ → List (ℕ × AccessUnit) → List ℕ
+written text plan units = (text ++ plan) ++ records_of units
+
 -- a front of a text is written, and this is left of it
 pub record Sends (output : Device) (text left : List ℕ) : Type 0 where
   pub sent : List ℕ

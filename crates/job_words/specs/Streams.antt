@@ -25,9 +25,10 @@ TakesPiece input piece before after (Err Read) = HasFailed input
 TakesPiece input piece before after (Err Write) = ⊥
 TakesPiece input piece before after (Err Memory) = IsClean input
 
--- the whole input was read and taken, but for its end
+-- the whole input, of so many bytes, was read and taken, but for its end
 pub record TakesAll (input : Device) (demux : StreamState) (size : ℕ) : Type 0 where
   pub bytes : List ℕ
+  pub size_is : size ≡ length bytes
   pub read : ReadsInput input (Ok bytes)
   pub state : demux ≡ pushed start bytes
 
@@ -35,12 +36,13 @@ abbrev pub TakesPieces : Device → StreamState → Result ℕ Halt → Type 0
 TakesPieces input demux (Ok size) = TakesAll input demux size
 TakesPieces input demux (Err halt) = ReadsInput input (Err halt)
 
--- the whole input was read, and what is found in it is kept
-pub record TakesWhole (input : Device) (demux : StreamState) : Type 0 where
+-- the whole input, of so many bytes, was read, and what is found in it is kept
+pub record TakesWhole (input : Device) (demux : StreamState) (size : ℕ) : Type 0 where
   pub bytes : List ℕ
+  pub size_is : size ≡ length bytes
   pub read : ReadsInput input (Ok bytes)
   pub found : demux.found ≡ findings_of bytes
 
 abbrev pub TakesStream : Device → StreamState → Result ℕ Halt → Type 0
-TakesStream input demux (Ok size) = TakesWhole input demux
+TakesStream input demux (Ok size) = TakesWhole input demux size
 TakesStream input demux (Err halt) = ReadsInput input (Err halt)

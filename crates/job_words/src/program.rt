@@ -1,13 +1,15 @@
 //! The program over any reader and two writers.
 
-ghost use Rattle.std.specs.Prelude.{◌≡◌, string_bytes};
+ghost use Rattle.std.specs.Prelude.{◌≡◌, ◌⊎◌, None, Some};
 ghost use Rattle.devices.specs.Devices.{reads, writes};
 ghost use Rattle.devices.specs.Lines.{Tells};
-ghost use Rattle.devices.specs.Performing.{Performs};
+ghost use Rattle.devices.specs.Performing.{LacksMemory, Performs};
+ghost use Rattle.devices.specs.Usage.{IsUsage};
+ghost use Rattle.job_words.specs.Asked.{AskedView, asked};
 ghost use Rattle.job_words.specs.Outcomes as spec;
 
 use crate::asked::{Asked, asked_for};
-use crate::outcome::{Answer, answer_for};
+use crate::outcome::{Answer, Parts, answer_for};
 use crate::reading::take_stream;
 use crate::records::write_job;
 use demux::Demux;
@@ -44,16 +46,10 @@ fn tell_text<E: Sink>(faults: &mut E, text: &str)
 
 // Writes an answer, and answers the status.
 fn write_answer<W: Sink, E: Sink>(answer: &Answer, output: &mut W, faults: &mut E) -> u8
-    ensures { spec.IsWritten
-        (spec.outcome (spec.written (string_bytes answer.now.text) (string_bytes answer.now.plan) answer.now.units.items) (string_bytes answer.now.told) answer.now.status)
-        (writes W.Sink output.old output.new) (writes E.Sink faults.old faults.new) result }
+    ensures { spec.IsWritten answer.now (writes W.Sink output.old output.new) (writes E.Sink faults.old faults.new) result }
 {
-    match write_job(
-        output,
-        answer.text.as_bytes(),
-        answer.plan.as_bytes(),
-        answer.units.as_slice(),
-    ) {
+    let Parts { text, plan, units } = &answer.parts;
+    match write_job(output, text.as_bytes(), plan.as_bytes(), units) {
         Ok(()) => {
             tell_text(faults, answer.told.as_str());
             answer.status
@@ -63,7 +59,7 @@ fn write_answer<W: Sink, E: Sink>(answer: &Answer, output: &mut W, faults: &mut 
 }
 
 // Writes what is asked for of the input, and answers the status.
-#[tactic(auto, using(crate::proofs::Answering::answered, crate::proofs::Answering::unanswered, devices::proofs::Performances::unread))]
+#[tactic(auto, using(crate::proofs::Answering::answer_written, crate::proofs::Answering::unanswered, devices::proofs::Performances::unread))]
 fn perform<R: Source, W: Sink, E: Sink>(
     alloc: Global,
     asked: &Asked<'_>,
@@ -71,7 +67,7 @@ fn perform<R: Source, W: Sink, E: Sink>(
     output: &mut W,
     faults: &mut E,
 ) -> u8
-    ensures { Performs (spec.Leads asked.now.word asked.now.make_dts) (reads R.Source input.old input.new)
+    ensures { Performs (spec.Leads asked.now) (reads R.Source input.old input.new)
         (writes W.Sink output.old output.new) (writes E.Sink faults.old faults.new) result }
 {
     let mut demux = Demux::new(alloc);
@@ -88,7 +84,7 @@ fn perform<R: Source, W: Sink, E: Sink>(
 /// The whole program: it reads the input, writes the output, tells on the second writer what is not taken as it stands or
 /// why nothing is, and answers the exit status: 0 good, 1 refused or damage told, 2 a usage error, 3 a device or want of
 /// memory.
-#[tactic(auto, using(crate::proofs::Answering::runs_word, crate::proofs::Answering::runs_usage, crate::proofs::Answering::runs_wanting))]
+#[tactic(auto, using(crate::proofs::Answering::job_asked, crate::proofs::Answering::words_wanting))]
 pub fn run<R: Source, W: Sink, E: Sink>(
     alloc: Global,
     words: &[&str],
@@ -96,7 +92,13 @@ pub fn run<R: Source, W: Sink, E: Sink>(
     output: &mut W,
     faults: &mut E,
 ) -> u8
-    ensures { spec.Runs (reads R.Source input.old input.new) (writes W.Sink output.old output.new) (writes E.Sink faults.old faults.new) result }
+    // What one of the words asks for of a transport stream.
+    ensures job { (a : AskedView) → asked words.now ≡ Some a →
+        Performs (spec.Leads a) (reads R.Source input.old input.new) (writes W.Sink output.old output.new) (writes E.Sink faults.old faults.new) result }
+    // All other words.
+    ensures usage { asked words.now ≡ None →
+        IsUsage (reads R.Source input.old input.new) (writes W.Sink output.old output.new) result
+        ⊎ LacksMemory (reads R.Source input.old input.new) (writes W.Sink output.old output.new) (writes E.Sink faults.old faults.new) result }
 {
     match asked_for(alloc, words) {
         Ok(Some(asked)) => perform(alloc, &asked, input, output, faults),

@@ -3,8 +3,8 @@ use Rattle.demux.specs.Shown.{finding_view}
 use Rattle.job_words.proofs.Answering.{given_job}
 use Rattle.job_words.proofs.outcome.whole_parts.Goals as goal
 
-pub returns : goal.returns
-returns c =
-    given_job c.args.wishes.now.make_dts (map (finding_view {A = Global}) c.args.findings.now) (string_bytes c.in_ok-text.field-0.text) (string_bytes c.in_ok-plan.plan)
+pub returns-clause-given : goal.returns-clause-given
+returns-clause-given c =
+    given_job c.args.wishes.now (map (finding_view {A = Global}) c.args.findings.now) c.args.material (string_bytes c.in_ok-text.field-0.text) (string_bytes c.in_ok-plan.plan)
     c.in_ok-text.field-0.plan.description c.in_ok-text.field-0.plan.plan c.plan-2.result.now c.in_ok-text.field-0.units.items
-    c.in_ok-text.ensures.text c.plan-2.ensures.serving c.in_ok-text.ensures.units c.in_ok-plan.ensures c.plan-2.ensures.plan
+    c.in_ok-text.ensures.job c.in_ok-text.ensures.units c.plan-2.ensures.serving c.in_ok-plan.ensures c.plan-2.ensures.plan
