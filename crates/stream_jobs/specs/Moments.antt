@@ -24,10 +24,11 @@ pub record Timed : Type 0 where
 
 -- 1. When the first unit of a program is due
 
--- the bytes of a program map section (ISO/IEC 13818-1, 2.4.4.8): 16, the program's descriptors, and of each stream 5 and its own
+-- the bytes of a stream in the program map section of its program (ISO/IEC 13818-1, 2.4.4.8): 5 and its descriptors
 unfoldable pub entry_size : ℕ → WireView → ℕ
 entry_size number s = if s.program == number then 5 + length s.descriptors else 0
 
+-- those of the section: 16, the program's descriptors, and its streams
 unfoldable pub map_size : List WireView → JobProgramView → ℕ
 map_size streams p = 16 + length p.descriptors + sum_by (entry_size p.number) streams
 
