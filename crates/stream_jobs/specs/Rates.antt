@@ -29,9 +29,10 @@ clock_recurs p = record { slots = 1; limit = p.pcr_limit }
 abbrev pub recurring_of : Described → List Recurring
 recurring_of d = map (table_recurs d) (range_with_len 0 (table_count d)) ++ map clock_recurs d.programs
 
--- 2. The first rate, at which the shares of all items together are the whole
+-- 2. The first rate: the least at which the shares of all streams and of all that recurs are together at most the whole. What
+-- recurs is known of the description at the greatest rate
 
--- of what is known at the greatest rate that a description may have
+-- the greatest that a description may have, in bits a second
 abbrev pub greatest_rate : ℕ
 greatest_rate = 100_000_000
 
