@@ -57,14 +57,14 @@ pub fn add_programs(
         length.min(255) as u8,
         0,
         1,
-        0xc1 | (version & 15) << 1,
+        0xc1 + version % 16 * 2,
         0,
         0,
     ];
     let mut bytes = Vec::from_slice(alloc, &front)?;
     for (number, pid) in programs {
         let ([one, two], [high, low]) = (number.to_be_bytes(), pid.to_be_bytes());
-        bytes.extend_from_slice(&[one, two, 0xe0 | high, low])?;
+        bytes.extend_from_slice(&[one, two, 0xe0 + high % 32, low])?;
     }
     add_section(0, bytes, found)
 }
@@ -78,10 +78,11 @@ pub fn add_map(
     found: &mut Found,
 ) -> Result<(), AllocError> {
     let length = streams.len().saturating_mul(5).saturating_add(13);
+    let [high, low] = (length.min(1_021) as u16).to_be_bytes();
     let front = [
         2,
-        0xb0,
-        length.min(255) as u8,
+        0xb0 + high % 16,
+        low,
         0,
         number,
         0xc1,
@@ -95,7 +96,7 @@ pub fn add_map(
     let mut bytes = Vec::from_slice(alloc, &front)?;
     for (stream_type, pid) in streams {
         let [high, low] = pid.to_be_bytes();
-        bytes.extend_from_slice(&[*stream_type, 0xe0 | high, low, 0xf0, 0])?;
+        bytes.extend_from_slice(&[*stream_type, 0xe0 + high % 32, low, 0xf0, 0])?;
     }
     add_section(pid, bytes, found)
 }
