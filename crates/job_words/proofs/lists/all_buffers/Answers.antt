@@ -1,4 +1,4 @@
-use Rattle.std.proofs.Common.{◌∙◌, ℕ, List, sym}
+use Rattle.std.proofs.Common.{◌∙◌, sym}
 use Rattle.job_words.specs.Lists.{buffers_of, colon_parts}
 use Rattle.job_words.proofs.AllOf.{all_taken, missing, more}
 use Rattle.job_words.proofs.lists.all_buffers.Goals as goal

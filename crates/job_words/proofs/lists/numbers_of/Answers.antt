@@ -1,5 +1,5 @@
-use Rattle.std.proofs.Common.{◌∙◌, ◌≡◌, ℕ, List, Bor, ap, sym, map, Option}
-use Rattle.job_words.specs.Lists.{number_in, numbers_of}
+use Rattle.std.proofs.Common.{◌∙◌, sym}
+use Rattle.job_words.specs.Lists.{number_in}
 use Rattle.job_words.proofs.AllOf.{all_taken, missing, more}
 use Rattle.job_words.proofs.lists.numbers_of.Goals as goal
 
