@@ -1,5 +1,5 @@
 -- What is written of an answer, and what the input that was read leads to.
-use Rattle.std.proofs.Common.{◌≡◌, ◌∙◌, ◌++◌, ◌/◌, ℕ, List, [], length, sym, ap, subst, append-nil, Option, Some, Result, Ok, Err, inl, inr}
+use Rattle.std.proofs.Common.{◌≡◌, ◌∙◌, ◌++◌, ◌/◌, ℕ, List, [], length, refl, sym, ap, subst, append-nil, Option, Some, None, Result, Ok, Err, inl, inr}
 use Rattle.pes_packet.specs.AccessUnits.{AccessUnit}
 use Rattle.description.specs.Described.{Described}
 use Rattle.slot_plan.specs.Conditions.{IsServing}
@@ -8,6 +8,7 @@ use Rattle.slot_plan.specs.Text.{plan_text}
 use Rattle.stream_jobs.specs.Answers.{Answers, Refuses}
 use Rattle.stream_jobs.specs.Jobs.{AreUnits, IsJob}
 use Rattle.stream_jobs.specs.Materials.{MaterialView, material}
+use Rattle.stream_jobs.specs.Unmade.{IsUndescribed}
 use Rattle.stream_jobs.specs.Wished.{WishesView}
 use Rattle.stream_jobs.specs.declared.refusal.JobError.{JobError}
 use Rattle.stream_jobs.specs.declared.refusal.JobError.TheVariants.{Memory, Refused}
@@ -51,10 +52,14 @@ given_job w findings m text plan d p q units j u s e f = record {
 
 -- 2. What material leads to
 
+undescribed : (rate : Option ℕ) (w : WishesView) (findings : List FindingView) (m : MaterialView) → IsUndescribed rate w findings m Memory
+undescribed (Some asked) w findings m = refl
+undescribed None w findings m = tt
+
 -- there is no memory for what a word gives
 pub wanting : (word : Word) (w : WishesView) (findings : List FindingView) (m : MaterialView) (error : JobError) → error ≡ Memory → Withholds word w findings m error
 wanting Whole w findings m error e = subst (λ (x : JobError). Withholds Whole w findings m x) (sym e) tt
-wanting Describe w findings m error e = subst (λ (x : JobError). Withholds Describe w findings m x) (sym e) tt
+wanting Describe w findings m error e = subst (λ (x : JobError). Withholds Describe w findings m x) (sym e) (undescribed w.rate w findings m)
 wanting Units w findings m error e = e
 wanting Why w findings m error e = subst (λ (x : JobError). Withholds Why w findings m x) (sym e) tt
 

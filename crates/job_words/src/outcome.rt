@@ -3,7 +3,7 @@
 ghost use Rattle.std.specs.Prelude.{◌≡◌, ◌≤◌, IfErr, IfOk, Ok, length, map, string_bytes};
 ghost use Rattle.demux.specs.Shown.{finding_view};
 ghost use Rattle.stream_jobs.specs.Jobs.{AreStreams, IsDescription};
-ghost use Rattle.stream_jobs.specs.Unmade.{IsUnmade, IsUnplanned, IsUnrated};
+ghost use Rattle.stream_jobs.specs.Unmade.{IsUndescribed, IsUnmade, IsUnrated};
 ghost use Rattle.stream_jobs.specs.declared.refusal.JobError.TheVariants.{Memory};
 ghost use Rattle.job_words.specs.Outcomes as spec;
 ghost use Rattle.job_words.specs.ToldLines.{told_lines};
@@ -90,7 +90,7 @@ fn description_parts(
     material: &Material,
 ) -> Result<Parts, JobError>
     ensures given { IfOk result (λ p. IsDescription wishes.now (map finding_view findings.now) material.now p) }
-    ensures withheld { IfErr result (IsUnplanned wishes.now.rate wishes.now (map finding_view findings.now) material.now) }
+    ensures withheld { IfErr result (IsUndescribed wishes.now.rate wishes.now (map finding_view findings.now) material.now) }
 {
     let text = describe(alloc, wishes, findings, material)?;
     Ok(text_parts(alloc, text))

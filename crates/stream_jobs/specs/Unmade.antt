@@ -1,5 +1,5 @@
 -- Why there is no job of this material.
-use Rattle.std.specs.Prelude.{◌≡◌, ⊤, ℕ, List, Option, Some, Err}
+use Rattle.std.specs.Prelude.{◌≡◌, ⊤, ℕ, List, Option, Some, None, Err}
 use Rattle.demux.specs.Views.{FindingView}
 use Rattle.description.specs.Described.{Described}
 use Rattle.description.specs.Reading.{description_of}
@@ -45,6 +45,11 @@ IsUnrated w findings m error = IsUnreadAt w findings m error
 abbrev pub IsUnplanned : Option ℕ → WishesView → List FindingView → MaterialView → JobError → Type 0
 IsUnplanned asked w findings m (Refused (Plan rate)) = HasNoPlan asked w findings m rate
 IsUnplanned asked w findings m error = IsUnreadAt w findings m error
+
+-- there is no description: where a rate is asked for, for want of memory alone
+abbrev pub IsUndescribed : Option ℕ → WishesView → List FindingView → MaterialView → JobError → Type 0
+IsUndescribed (Some asked) w findings m error = error ≡ Memory
+IsUndescribed None w findings m error = IsUnplanned None w findings m error
 
 -- at the rate of its plan the description does not declare what the units of a stream need
 pub record Disagrees (w : WishesView) (findings : List FindingView) (m : MaterialView) (pid : ℕ) : Type 0 where

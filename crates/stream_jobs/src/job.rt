@@ -5,7 +5,7 @@ ghost use Rattle.demux.specs.Shown.{finding_view};
 ghost use Rattle.unit_order.specs.Merging.{AreMerged};
 ghost use Rattle.stream_jobs.specs.Jobs.{AllAgree, AreReasons, AreStreams, AreUnits, IsDescription, IsJob, IsText};
 ghost use Rattle.stream_jobs.specs.Rates.{IsAskedOrFirst, IsPlanned, IsRate};
-ghost use Rattle.stream_jobs.specs.Unmade.{IsUnmade, IsUnplanned, IsUnrated};
+ghost use Rattle.stream_jobs.specs.Unmade.{IsUndescribed, IsUnmade, IsUnrated};
 ghost use Rattle.stream_jobs.specs.declared.refusal.JobError.TheVariants.{Memory};
 
 use crate::agreeing::disagreeing;
@@ -107,7 +107,7 @@ pub fn describe(
     material: &Material,
 ) -> Result<String, JobError>
     ensures description { IfOk result (λ text. IsDescription wishes.now (map finding_view findings.now) material.now (string_bytes text)) }
-    ensures refused { IfErr result (IsUnplanned wishes.now.rate wishes.now (map finding_view findings.now) material.now) }
+    ensures refused { IfErr result (IsUndescribed wishes.now.rate wishes.now (map finding_view findings.now) material.now) }
 {
     let draft = Draft {
         wishes,

@@ -44,14 +44,15 @@ type = 3
 fn one_stream(rt: HostRuntime) -> Result<(), Fail> {
     let alloc = rt.alloc();
     let found = audio(alloc, &UNITS)?;
-    let Ok(material) = material_of(alloc, &usual(), 5, &found) else {
+    let wishes = usual();
+    let Ok(material) = material_of(alloc, &wishes, 5, &found) else {
         panic!(rt; "no material");
     };
-    let Ok(text) = describe(alloc, &usual(), &found, &material) else {
+    let Ok(text) = describe(alloc, &wishes, &found, &material) else {
         panic!(rt; "no description");
     };
     assert_eq!(rt; text.as_str(), TEXT);
-    let Ok(job) = make_job(alloc, &usual(), &found, material) else {
+    let Ok(job) = make_job(alloc, &wishes, &found, material) else {
         panic!(rt; "no job");
     };
     assert_eq!(rt; job.text.as_str(), TEXT);

@@ -124,7 +124,7 @@ pub fn add_unit(
 
 /// One program with MPEG audio on PID 256.
 pub fn tables(alloc: Global) -> Result<Found, AllocError> {
-    let mut found = Vec::new(alloc);
+    let mut found: Found = Vec::new(alloc);
     add_programs(alloc, 0, &[(1, 4_096)], &mut found)?;
     add_map(alloc, 4_096, 1, &[(3, 256)], &mut found)?;
     Ok(found)

@@ -11,7 +11,7 @@ use ts_packet::PacketError;
 
 // Of three programs two have one PID of maps, and the stream of the last has no unit.
 fn worked(alloc: Global) -> Result<Found, AllocError> {
-    let mut found = Vec::new(alloc);
+    let mut found: Found = Vec::new(alloc);
     add(None, What::BadPacket(PacketError::Sync), &mut found)?;
     add(None, What::Errored, &mut found)?;
     let programs = [(1, 4_096), (2, 4_096), (3, 4_097)];
