@@ -3,7 +3,7 @@ use std::alloc::Allocator;
 use std::marker::Model;
 
 /// Which of the two.
-#[derive(Clone, Copy, Debug, PartialEq, Eq)]
+#[derive(Clone, Copy)]
 pub enum Form {
     OfSection,
     OfPes,

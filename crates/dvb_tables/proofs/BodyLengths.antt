@@ -1,5 +1,5 @@
 -- How long the bodies of tables are.
-use Rattle.std.proofs.Common.{◌≡◌, ℕ, ◌+◌, ◌/◌, ◌%◌, List, [], ◌∷◌, ◌++◌, length, arith, length-append}
+use Rattle.std.proofs.Common.{◌≡◌, ◌+◌, ◌/◌, ◌%◌, [], ◌∷◌, ◌++◌, length, arith, length-append}
 use Rattle.dvb_tables.specs.Services.{services_text}
 use Rattle.dvb_tables.specs.ServiceDescription.{SdtView, sdt_body}
 use Rattle.dvb_tables.specs.TransportStreams.{transport_streams_text}

@@ -1,10 +1,9 @@
 -- The event information table: what is read stands there, and what stands there is read.
-use Rattle.std.proofs.Common.{◌≡◌, ℕ, ◌+◌, ◌*◌, ◌/◌, ◌%◌, ◌^◌, ◌<◌, ◌≤◌, nat_lt, Bool, true, false, refl, sym, ap, ap₂, ◌∙◌, subst, arith, List, [], ◌∷◌, ◌++◌, length, take, drop, Result, Ok, Err, length-append}
+use Rattle.std.proofs.Common.{◌≡◌, ℕ, ◌+◌, ◌*◌, ◌^◌, ◌<◌, ◌≤◌, nat_lt, false, refl, sym, ap, ◌∙◌, subst, arith, List, [], ◌∷◌, ◌++◌, length, take, drop, Ok, length-append}
 use Rattle.std.proofs.lemmas.Bool.{ltb-false, le-ltb}
 use Rattle.std.proofs.lemmas.List.{length-take, take-append-drop}
 use Rattle.std.specs.Prelude.{slice_index}
 use Rattle.bit_fields.specs.Fields.{number, fields, IsBytes}
-use Rattle.bit_fields.specs.Reading.{◌>>=◌}
 use Rattle.bit_fields.proofs.Binding.{bind_ok, guard_ok, ok_is}
 use Rattle.bit_fields.proofs.ByteLists.{IsBytes-append_left, IsBytes-append_right, IsBytes-drop}
 use Rattle.psi_tables.specs.Views.{SectionView}

@@ -1,5 +1,5 @@
 -- The events of a loop: in its bytes, and back.
-use Rattle.std.proofs.Common.{◌≡◌, ℕ, ◌+◌, ◌/◌, ◌%◌, ◌<◌, Bool, true, Result, Ok, Err, List, [], ◌∷◌, ◌++◌, length, take, drop, map, ap, ◌∙◌, arith, append-nil, length-append}
+use Rattle.std.proofs.Common.{◌≡◌, ℕ, ◌+◌, ◌/◌, ◌%◌, true, Ok, List, [], ◌∷◌, ◌++◌, length, drop, map, ap, ◌∙◌, arith, append-nil, length-append}
 use Rattle.std.proofs.lemmas.List.{length-take, length-drop}
 use Rattle.std.proofs.lemmas.List.Concat.{flat_map-append}
 use Rattle.std.specs.Prelude.{flat_map, is_some, All, unwrap_or}
@@ -8,7 +8,7 @@ use Rattle.psi_tables.specs.declared.error.SectionError.TheVariants.{Body}
 use Rattle.dvb_tables.proofs.Seams.{accepted}
 use Rattle.bit_fields.specs.Fields.{IsBytes}
 use Rattle.psi_tables.specs.Loops.{EntryView, IsEntry, entry_text, loop_at, entries_in}
-use Rattle.psi_tables.proofs.LoopParts.{AreEntries-append, loop_at-end}
+use Rattle.psi_tables.proofs.LoopParts.{loop_at-end}
 use Rattle.dvb_tables.specs.Sequences.{IsSequence}
 use Rattle.dvb_tables.specs.EventEntries.{EventView, IsEvent, event_of, event_text, event_status, events_in, events_at, events_text}
 use Rattle.dvb_tables.specs.Fits.{EventFits}

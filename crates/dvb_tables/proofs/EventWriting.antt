@@ -1,7 +1,7 @@
 -- An event as it is written.
-use Rattle.std.proofs.Common.{◌≡◌, ℕ, ◌+◌, ◌*◌, ◌/◌, ◌%◌, ◌^◌, ◌<◌, refl, List, [], ◌∷◌, ◌++◌, length, ◌∙◌, arith}
+use Rattle.std.proofs.Common.{◌≡◌, ℕ, ◌+◌, ◌*◌, ◌/◌, ◌%◌, ◌^◌, ◌<◌, refl, [], ◌∷◌, length, ◌∙◌, arith}
 use Rattle.bit_fields.specs.Fields.{number, fields, bit}
-use Rattle.psi_tables.specs.Loops.{EntryView, IsEntry, entry_text}
+use Rattle.psi_tables.specs.Loops.{entry_text}
 use Rattle.dvb_tables.specs.RunningStates.{status_code}
 use Rattle.dvb_tables.specs.EventEntries.{EventView, IsEvent, event_of, event_text, event_status}
 use Rattle.dvb_tables.specs.Fits.{EventFits}

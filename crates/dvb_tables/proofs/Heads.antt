@@ -1,7 +1,7 @@
 -- Lists of few bytes, and numbers of single bits.
-use Rattle.std.proofs.Common.{◌≡◌, ℕ, zero, suc, ◌+◌, ◌/◌, ◌%◌, ◌<◌, ◌==◌, Bool, true, false, refl, List, [], ◌∷◌, length, arith}
+use Rattle.std.proofs.Common.{◌≡◌, ℕ, zero, suc, ◌/◌, ◌%◌, ◌<◌, Bool, true, false, refl, List, [], ◌∷◌, length, arith}
 use Rattle.std.specs.Prelude.{slice_index}
-use Rattle.bit_fields.specs.Fields.{bit, flag, IsBytes}
+use Rattle.bit_fields.specs.Fields.{bit, flag}
 use Rattle.bit_fields.proofs.Spellings.{bit_test}
 use Rattle.dvb_tables.specs.declared.running_status.RunningStatus.{RunningStatus}
 use Rattle.dvb_tables.specs.declared.running_status.RunningStatus.TheVariants.{Undefined, NotRunning, StartsSoon, Pausing, Running, OffAir, Reserved6, Reserved7}

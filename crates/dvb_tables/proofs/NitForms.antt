@@ -1,20 +1,17 @@
 -- The network information table: what is read stands there, and what stands there is read.
-use Rattle.std.proofs.Common.{◌≡◌, ℕ, ◌+◌, ◌*◌, ◌/◌, ◌%◌, ◌^◌, ◌<◌, ◌≤◌, ◌==◌, Bool, true, false, refl, sym, ap, ap₂, ◌∙◌, subst, arith, List, [], ◌∷◌, ◌++◌, length, Option, None, Some, Result, Ok, Err, append-nil, eqb-true}
+use Rattle.std.proofs.Common.{◌≡◌, ℕ, ◌+◌, ◌*◌, ◌/◌, ◌%◌, ◌^◌, ◌<◌, ◌==◌, refl, sym, ap, ◌∙◌, subst, arith, List, [], ◌∷◌, ◌++◌, length, Option, None, Some, Ok, append-nil, eqb-true}
 use Rattle.std.specs.Prelude.{slice_index}
 use Rattle.bit_fields.specs.Fields.{number, fields, IsBytes}
-use Rattle.bit_fields.specs.Reading.{◌>>=◌}
 use Rattle.bit_fields.proofs.Binding.{bind_ok, ok_is}
 use Rattle.bit_fields.proofs.ByteLists.{IsBytes-append_left, IsBytes-append_right}
 use Rattle.psi_tables.specs.Views.{SectionView}
 use Rattle.psi_tables.specs.Tables.{table_header_at}
 use Rattle.psi_tables.specs.Loops.{EntryView, IsEntry, entry_text, entry_at, descriptors_length}
-use Rattle.psi_tables.specs.declared.error.SectionError.{SectionError}
 use Rattle.psi_tables.specs.declared.error.SectionError.TheVariants.{Body}
 use Rattle.psi_tables.specs.declared.section.LongHeader.{LongHeader}
-use Rattle.psi_tables.proofs.LoopParts.{HasEntry, entry_at-is, entry_at-read}
+use Rattle.psi_tables.proofs.LoopParts.{entry_at-is, entry_at-read}
 use Rattle.psi_tables.proofs.TableForms.{HasHeader, table_header_at-is, table_header_at-read}
-use Rattle.dvb_tables.specs.Sequences.{IsSequence}
-use Rattle.dvb_tables.specs.TransportStreams.{TransportStreamView, IsTransportStream, transport_streams_at}
+use Rattle.dvb_tables.specs.TransportStreams.{TransportStreamView, transport_streams_at}
 use Rattle.dvb_tables.specs.NetworkInformation.{NitView, IsCount, IsNit, nit_at, nit_after, to_the_end}
 use Rattle.dvb_tables.proofs.Heads.{two}
 use Rattle.dvb_tables.proofs.Seams.{accepted}

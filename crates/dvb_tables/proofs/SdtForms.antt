@@ -1,16 +1,13 @@
 -- The service description table: what is read stands there, and what stands there is read.
-use Rattle.std.proofs.Common.{◌≡◌, ℕ, ◌+◌, ◌*◌, ◌/◌, ◌%◌, ◌^◌, ◌<◌, ◌≤◌, nat_lt, Bool, true, false, refl, sym, ap, ap₂, ◌∙◌, subst, arith, List, [], ◌∷◌, ◌++◌, length, take, drop, Result, Ok, Err, length-append}
+use Rattle.std.proofs.Common.{◌≡◌, ℕ, ◌+◌, ◌*◌, ◌^◌, ◌<◌, ◌≤◌, nat_lt, false, refl, sym, ap, ◌∙◌, subst, arith, List, [], ◌∷◌, ◌++◌, length, take, drop, Ok, length-append}
 use Rattle.std.proofs.lemmas.Bool.{ltb-false, le-ltb}
 use Rattle.std.proofs.lemmas.List.{length-take, take-append-drop}
 use Rattle.std.specs.Prelude.{slice_index}
 use Rattle.bit_fields.specs.Fields.{number, fields, IsBytes}
-use Rattle.bit_fields.specs.Reading.{◌>>=◌}
-use Rattle.bit_fields.proofs.Binding.{bind_ok, guard_ok, guarded, ok_is}
-use Rattle.bit_fields.proofs.ByteLists.{IsBytes-append_left, IsBytes-append_right, IsBytes-take, IsBytes-drop}
+use Rattle.bit_fields.proofs.Binding.{bind_ok, guard_ok, ok_is}
+use Rattle.bit_fields.proofs.ByteLists.{IsBytes-append_left, IsBytes-append_right, IsBytes-drop}
 use Rattle.psi_tables.specs.Views.{SectionView}
 use Rattle.psi_tables.specs.Tables.{table_header_at}
-use Rattle.psi_tables.specs.declared.error.SectionError.{SectionError}
-use Rattle.psi_tables.specs.declared.error.SectionError.TheVariants.{Body}
 use Rattle.psi_tables.specs.declared.section.LongHeader.{LongHeader}
 use Rattle.psi_tables.proofs.TableForms.{HasHeader, table_header_at-is, table_header_at-read}
 use Rattle.dvb_tables.specs.Sequences.{IsSequence}

@@ -1,5 +1,5 @@
 -- What tests of a reader tell, and parts of joined lists.
-use Rattle.std.proofs.Common.{◌≡◌, ℕ, ◌≤◌, Bool, true, false, cond, Option, None, Some, Result, Ok, Err, refl, List, ◌++◌, length, take, drop, sym}
+use Rattle.std.proofs.Common.{◌≡◌, ℕ, Bool, true, false, cond, Ok, Err, refl, List, ◌++◌, length, take, drop, sym}
 use Rattle.std.proofs.Math.Seq.{take-append_seam, drop-append_seam}
 
 -- an accepting test that let a value pass

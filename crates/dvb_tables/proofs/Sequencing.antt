@@ -1,6 +1,6 @@
 -- Values one after another, and the entries of a loop that say them.
-use Rattle.std.proofs.Common.{◌≡◌, ℕ, ◌+◌, ◌<◌, zero, suc, Bool, true, refl, List, [], ◌∷◌, ◌++◌, length, map, sym, ap, ap₂, ◌∙◌, subst, append_assoc, append-nil, arith, length-append}
-use Rattle.std.specs.Prelude.{flat_map, is_some, Option, Some, All, unwrap_or, Result, Ok, Err, cond, slice_index_or}
+use Rattle.std.proofs.Common.{◌≡◌, ℕ, ◌<◌, suc, true, refl, List, [], ◌∷◌, ◌++◌, length, map, sym, ap, ap₂, ◌∙◌, subst, append-nil, arith, length-append}
+use Rattle.std.specs.Prelude.{flat_map, is_some, Option, All, unwrap_or}
 use Rattle.bit_fields.specs.Fields.{IsBytes}
 use Rattle.bit_fields.proofs.ByteLists.{IsBytes-append_left, IsBytes-append_right}
 use Rattle.psi_tables.specs.Loops.{EntryView, IsEntry, AreEntries, entry_text, loop_at, entries_in}

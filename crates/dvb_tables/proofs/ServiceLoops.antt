@@ -1,5 +1,5 @@
 -- The services of a loop: in its bytes, and back.
-use Rattle.std.proofs.Common.{◌≡◌, ℕ, ◌<◌, Bool, true, cond, Result, Ok, Err, refl, List, [], ◌∷◌, ◌++◌, ◌+◌, ◌≤◌, append_assoc, length-append, length, map, sym, ap, ◌∙◌, subst, arith}
+use Rattle.std.proofs.Common.{◌≡◌, ℕ, true, Ok, List, [], ◌∷◌, ◌++◌, ◌+◌, ◌≤◌, append_assoc, length-append, length, map, ap, ◌∙◌, subst, arith}
 use Rattle.std.specs.Prelude.{flat_map, is_some, All}
 use Rattle.std.specs.Prelude.{unwrap_or}
 use Rattle.std.proofs.Common.{append-nil}
@@ -9,7 +9,6 @@ use Rattle.psi_tables.specs.declared.error.SectionError.TheVariants.{Body}
 use Rattle.dvb_tables.proofs.Seams.{accepted}
 use Rattle.bit_fields.specs.Fields.{IsBytes}
 use Rattle.psi_tables.specs.Loops.{loop_at, entries_in}
-use Rattle.psi_tables.specs.declared.error.SectionError.{SectionError}
 use Rattle.dvb_tables.specs.Sequences.{IsSequence}
 use Rattle.dvb_tables.specs.Services.{ServiceView, IsService, service_of, service_text, service_front, services_in, services_at, services_text}
 use Rattle.dvb_tables.specs.Fits.{ServiceFits}

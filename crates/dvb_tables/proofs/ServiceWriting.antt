@@ -1,7 +1,7 @@
 -- A service as it is written.
-use Rattle.std.proofs.Common.{◌≡◌, ℕ, ◌+◌, ◌*◌, ◌/◌, ◌%◌, ◌^◌, ◌<◌, refl, List, [], ◌∷◌, ◌++◌, length, sym, ap, ◌∙◌, arith}
+use Rattle.std.proofs.Common.{◌≡◌, ℕ, ◌+◌, ◌*◌, ◌/◌, ◌%◌, ◌^◌, ◌<◌, refl, [], ◌∷◌, length, arith}
 use Rattle.bit_fields.specs.Fields.{number, fields, bit}
-use Rattle.psi_tables.specs.Loops.{EntryView, IsEntry, entry_text, descriptors_length}
+use Rattle.psi_tables.specs.Loops.{EntryView, entry_text, descriptors_length}
 use Rattle.dvb_tables.specs.RunningStates.{status_code}
 use Rattle.dvb_tables.specs.Services.{ServiceView, IsService, service_of, service_front, service_text}
 use Rattle.dvb_tables.specs.Fits.{ServiceFits}

@@ -1,8 +1,7 @@
 -- The time and date table: what is read stands there, and what stands there is read.
-use Rattle.std.proofs.Common.{◌≡◌, ℕ, ◌==◌, Bool, true, false, refl, sym, ap, ◌∙◌, List, length, Option, None, Some, Result, Ok, Err, inl, inr, eq-eqb, eqb-true}
+use Rattle.std.proofs.Common.{◌≡◌, ℕ, ◌==◌, true, refl, ap, List, length, Option, None, Some, Ok, Err, inl, inr, eq-eqb, eqb-true}
 use Rattle.bit_fields.proofs.Binding.{chosen}
 use Rattle.psi_tables.specs.Views.{SectionView}
-use Rattle.psi_tables.specs.declared.error.SectionError.{SectionError}
 use Rattle.psi_tables.specs.declared.error.SectionError.TheVariants.{Syntax, Body}
 use Rattle.psi_tables.specs.declared.section.LongHeader.{LongHeader}
 use Rattle.dvb_tables.specs.TimeAndDate.{IsTdt, tdt_at, tdt_of_form}

@@ -1,5 +1,5 @@
 -- The transport streams of a loop: in its bytes, and back.
-use Rattle.std.proofs.Common.{◌≡◌, ℕ, ◌<◌, Bool, true, Result, Ok, Err, List, [], ◌∷◌, ◌++◌, ◌+◌, ◌≤◌, append_assoc, length-append, length, map, ap, ◌∙◌, arith}
+use Rattle.std.proofs.Common.{◌≡◌, ℕ, true, Ok, List, [], ◌∷◌, ◌++◌, ◌+◌, ◌≤◌, append_assoc, length-append, length, map, ap, ◌∙◌, arith}
 use Rattle.std.specs.Prelude.{flat_map, is_some, All}
 use Rattle.std.specs.Prelude.{unwrap_or}
 use Rattle.std.proofs.Common.{append-nil}

@@ -1,7 +1,7 @@
 -- A transport stream as it is written.
-use Rattle.std.proofs.Common.{◌≡◌, ℕ, ◌+◌, ◌*◌, ◌/◌, ◌%◌, ◌^◌, ◌<◌, refl, List, [], ◌∷◌, ◌++◌, length, arith}
+use Rattle.std.proofs.Common.{◌≡◌, ℕ, ◌+◌, ◌/◌, ◌%◌, ◌^◌, ◌<◌, refl, [], ◌∷◌, length, arith}
 use Rattle.bit_fields.specs.Fields.{number, fields}
-use Rattle.psi_tables.specs.Loops.{EntryView, IsEntry, entry_text, descriptors_length}
+use Rattle.psi_tables.specs.Loops.{entry_text, descriptors_length}
 use Rattle.dvb_tables.specs.TransportStreams.{TransportStreamView, IsTransportStream, transport_stream_of, transport_stream_front, transport_stream_text}
 use Rattle.dvb_tables.specs.Fits.{TransportStreamFits}
 use Rattle.dvb_tables.proofs.TransportStreamFields.{numbers, said}

@@ -1,6 +1,6 @@
 -- What stands after the bytes that a descriptor counts.
-use Rattle.std.proofs.Common.{◌≡◌, ℕ, zero, suc, ◌+◌, ◌<◌, ◌≤◌, Bool, true, false, cond, nat_lt, IsTrue, Option, None, Some, refl, List, [], ◌∷◌, ◌++◌, length, take, drop, sym, ap, ◌∙◌, subst, append_assoc, arith, ◌↔◌}
-use Rattle.std.proofs.lemmas.List.{take-append-drop, length-drop, length-append}
+use Rattle.std.proofs.Common.{◌≡◌, ℕ, zero, suc, ◌<◌, ◌≤◌, Bool, true, false, cond, nat_lt, Option, None, Some, refl, List, [], ◌∷◌, ◌++◌, length, drop, sym, ap, ◌∙◌, subst, arith}
+use Rattle.std.proofs.lemmas.List.{length-drop}
 use Rattle.dvb_tables.specs.Descriptors.{descriptor}
 use Rattle.dvb_tables.specs.DescriptorLoops.{AreDescriptors, ends_whole, are_whole_descriptors, after_first}
 use Rattle.dvb_tables.specs.Laws.{WholeDescriptors}

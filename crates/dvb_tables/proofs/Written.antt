@@ -1,18 +1,16 @@
 -- What is written of a table is the table, and is read again.
-use Rattle.std.proofs.Common.{◌≡◌, ℕ, ◌+◌, ◌*◌, ◌/◌, ◌%◌, ◌^◌, ◌<◌, ◌≤◌, ◌==◌, Bool, true, false, cond, refl, sym, ap, ◌∙◌, subst, eqb-true, arith, List, [], ◌∷◌, ◌++◌, length, Ok, lit<, lit≤, append_assoc}
-use Rattle.bit_fields.specs.Fields.{number, fields}
+use Rattle.std.proofs.Common.{◌≡◌, ℕ, ◌+◌, ◌*◌, ◌/◌, ◌%◌, ◌^◌, ◌<◌, ◌==◌, Bool, true, false, cond, refl, subst, eqb-true, arith, List, [], ◌∷◌, ◌++◌, length, lit<, append_assoc}
 use Rattle.psi_tables.specs.Loops.{IsEntry, descriptors_length}
 use Rattle.psi_tables.proofs.TableForms.{HasHeader, table_header_at-read}
 use Rattle.dvb_tables.specs.Laws.{TimesAreDigits, TextsAreDecoded, NitFits, NitIsRead, SdtFits, SdtIsRead, EitFits, EitIsRead, TdtIsRead}
-use Rattle.dvb_tables.specs.CodedTimes.{utc_time_bytes}
-use Rattle.dvb_tables.specs.CharacterCoding.{is_plain, is_plain_character, text_bytes, decoded}
+use Rattle.dvb_tables.specs.CharacterCoding.{is_plain, is_plain_character, decoded}
 use Rattle.dvb_tables.specs.Services.{services_text}
 use Rattle.dvb_tables.specs.TransportStreams.{transport_streams_text}
 use Rattle.dvb_tables.specs.EventEntries.{events_text}
 use Rattle.dvb_tables.specs.NetworkInformation.{NitView, IsCount, nit_at, nit_body, nit_section, count_text}
 use Rattle.dvb_tables.specs.ServiceDescription.{SdtView, sdt_at, sdt_body, sdt_section}
 use Rattle.dvb_tables.specs.EventInformation.{EitView, eit_at, eit_body, eit_section, two_numbers}
-use Rattle.dvb_tables.specs.TimeAndDate.{IsTdt, tdt_at, tdt_section}
+use Rattle.dvb_tables.specs.TimeAndDate.{IsTdt, tdt_section}
 use Rattle.dvb_tables.specs.declared.time_and_date.Tdt.{Tdt}
 use Rattle.dvb_tables.proofs.BodyLengths.{nit_body_length}
 use Rattle.dvb_tables.proofs.ServiceLoops.{services_written, services_again}

@@ -1,5 +1,5 @@
 -- Numbers that have room in their fields.
-use Rattle.std.specs.Prelude.{◌≡◌, ℕ, ◌^◌, ◌<◌, length}
+use Rattle.std.specs.Prelude.{◌≡◌, ◌^◌, ◌<◌, length}
 use Rattle.dvb_tables.specs.Services.{ServiceView}
 use Rattle.dvb_tables.specs.TransportStreams.{TransportStreamView}
 use Rattle.dvb_tables.specs.EventEntries.{EventView}

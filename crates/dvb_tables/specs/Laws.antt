@@ -1,5 +1,5 @@
 -- What the laws of this crate say.
-use Rattle.std.specs.Prelude.{◌≡◌, ◌↔◌, ℕ, ◌+◌, ◌^◌, ◌<◌, ◌≤◌, ◌*◌, ◌/◌, ◌%◌, List, [], ◌∷◌, length, All, Ok, IsTrue}
+use Rattle.std.specs.Prelude.{◌≡◌, ◌↔◌, ℕ, ◌+◌, ◌^◌, ◌<◌, ◌≤◌, ◌/◌, ◌%◌, List, [], ◌∷◌, length, All, Ok, IsTrue}
 use Rattle.bit_fields.specs.Fields.{number, fields}
 use Rattle.psi_tables.specs.Spelling.{LongFits, IsWritable}
 use Rattle.dvb_tables.specs.CodedTimes.{utc_time_bytes}

@@ -1,9 +1,8 @@
 -- What a monitor has taken: more packets, and the report of them all.
-use Rattle.std.proofs.Common.{◌≡◌, ℕ, ◌/◌, Bool, List, [], ◌∷◌, ◌++◌, length, Result, Ok, Err, refl, sym, ap, ap₂, ◌∙◌, arith}
+use Rattle.std.proofs.Common.{◌≡◌, ℕ, Bool, List, [], ◌∷◌, ◌++◌, Result, Ok, Err, refl, sym, ap, ap₂, ◌∙◌}
 use Rattle.std.specs.Prelude.{IfOk, OnOk}
-use Rattle.ts_packet.specs.PidList.{cut_packets}
-use Rattle.monitor.specs.Reports.{ReportView, is_cut, report_of}
-use Rattle.monitor.specs.Taken.{HasTaken, IsStream, ReportsTaken, Takes}
+use Rattle.monitor.specs.Reports.{ReportView, report_of}
+use Rattle.monitor.specs.Taken.{ReportsTaken, Takes}
 use Rattle.monitor.specs.Watching.{StreamMarks, none_taken, packet_taken, packets_taken, stream_ended}
 use Rattle.monitor.proofs.Reporting.{packet_by_packet}
 

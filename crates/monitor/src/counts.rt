@@ -7,14 +7,14 @@ use std::alloc::{AllocError, Allocator};
 use std::hash::{BuildHasherDefault, FoldHasher};
 
 /// The packets of a PID, and how many of them have payload_unit_start_indicator.
-#[derive(Clone, Copy, Debug, PartialEq, Eq)]
+#[derive(Clone, Copy)]
 pub(crate) struct Carried {
     pub packets: u64,
     pub starts: u64,
 }
 
 /// The packets of a PID that were found to be duplicates, and those found scrambled.
-#[derive(Clone, Copy, Debug, PartialEq, Eq)]
+#[derive(Clone, Copy)]
 pub(crate) struct Noted {
     pub duplicates: u64,
     pub scrambled: u64,

@@ -218,13 +218,6 @@ impl<A: Allocator + Copy> Monitor<A> {
     {
         self.end_report(cut)
     }
-
-    // The report of the stream, which ends after these bytes.
-    fn finish_after(mut self, bytes: &[u8]) -> Result<Report<A>, AllocError>
-        ensures { IfOk result (λ report. report ≡ report_of (ended_after self bytes.now)) }
-    {
-        self.report_rest(bytes)
-    }
 }
 
 // The report of a whole stream.
@@ -236,8 +229,8 @@ fn watch<A: Allocator + Copy>(
 ) -> Result<Report<A>, AllocError>
     ensures { IfOk result (λ report. report ≡ report_of (watched rate pcr_limit bytes.now)) }
 {
-    let monitor = Monitor::new(alloc, rate, pcr_limit)?;
-    monitor.finish_after(bytes)
+    let mut monitor = Monitor::new(alloc, rate, pcr_limit)?;
+    monitor.report_rest(bytes)
 }
 
 /// The report of a whole stream, which is cut by 188 from its first byte.

@@ -15,7 +15,7 @@ use std::hash::{BuildHasherDefault, FoldHasher};
 use std::marker::Model;
 
 /// A PID that was named: the packet at which it first was, and the last packet in which a section began.
-#[derive(Clone, Copy, Debug, PartialEq, Eq)]
+#[derive(Clone, Copy)]
 pub(crate) struct Named {
     pub since: u64,
     pub last: u64,

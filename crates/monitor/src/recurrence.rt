@@ -9,7 +9,7 @@ use std::hash::{BuildHasherDefault, FoldHasher};
 use std::marker::Model;
 
 /// A packet of a PID at which a gap ends that is too long.
-#[derive(Clone, Copy, Debug, PartialEq, Eq)]
+#[derive(Clone, Copy)]
 pub(crate) struct Late {
     pub pid: u16,
     pub packet: u64,

@@ -19,7 +19,7 @@ const PART: usize = 65_536;
 const LINE: usize = 377;
 
 /// The writer failed. It took exactly the first `sent` bytes of the output; the count stops at 2^64 - 1.
-#[derive(Clone, Copy, Debug, PartialEq, Eq)]
+#[derive(Clone, Copy)]
 pub(crate) struct OutputFault {
     pub sent: u64,
 }

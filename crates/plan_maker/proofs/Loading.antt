@@ -1,9 +1,8 @@
 -- Sums that grow by one element, and loads of faster outputs.
-use Rattle.std.proofs.Common.{◌≡◌, ℕ, zero, suc, ◌+◌, ◌-◌, ◌*◌, ◌/◌, ◌<◌, ◌≤◌, max, Bool, true, false, None, List, [], ◌∷◌, ◌++◌, length, take, get_or, nat_le, refl, ap, sym, ◌∙◌, inl, inr, arith, add-one}
+use Rattle.std.proofs.Common.{◌≡◌, ℕ, zero, suc, ◌+◌, ◌*◌, ◌/◌, ◌<◌, ◌≤◌, max, false, None, List, [], ◌∷◌, ◌++◌, length, take, get_or, nat_le, refl, ap, arith, add-one}
 use Rattle.std.specs.List.{sum_by}
 use Rattle.std.proofs.Math.Nat.{mul-le-mul_left, div-mul-le_self, zero-mul}
 use Rattle.std.proofs.lemmas.Nat.{le-div}
-use Rattle.std.proofs.lemmas.Bool.{cases_Bool}
 use Rattle.std.proofs.lemmas.Bool.Decides.{nat_tests}
 use Rattle.std.proofs.lemmas.List.Sums.{sum_by-append, sum_by-cons}
 use Rattle.clock27.specs.Release.{slot_units}
@@ -13,7 +12,7 @@ use Rattle.description.specs.Tables.{table_kinds, table_limit, round_places}
 use Rattle.slot_plan.specs.Numbered.{numbered}
 use Rattle.slot_plan.proofs.Numbering.{numbered-more}
 use Rattle.plan_maker.specs.Bounded.{first_of}
-use Rattle.plan_maker.specs.Loads.{all_slots, stream_load, recurring_load, total, streams_load, pcrs_load, tables_load, load, has_slots}
+use Rattle.plan_maker.specs.Loads.{all_slots, stream_load, recurring_load, total, load, has_slots}
 use Rattle.plan_maker.proofs.Bounded.{first_none, first_not_yet}
 use Rattle.plan_maker.proofs.Owning.{each_at_most}
 

@@ -25,13 +25,12 @@ use Rattle.slot_plan.specs.Numbered.{numbered}
 use Rattle.slot_plan.specs.Planned.{Planned}
 use Rattle.slot_plan.specs.Items.{marks}
 use Rattle.slot_plan.specs.Claims.{declaration}
-use Rattle.slot_plan.specs.Conditions.{IsServing}
 use Rattle.slot_plan.proofs.Serving.{Serves, serves}
 use Rattle.plan_timing.proofs.Single.{length_marks, claim_of, stream_holds, pcr_gap_holds, table_gap_holds}
 use Rattle.plan_maker.specs.declared.reasoning.Reason.{Reason}
 use Rattle.plan_maker.specs.Loads.{all_slots, stream_load, recurring_load, streams_load, pcrs_load, tables_load, load}
 use Rattle.plan_maker.specs.Reasons.{units_lead, least_lead, least_main, pcr_reason, table_reason, drain_reason, lead_reason, main_reason, stream_reason, load_reason, pcr_reasons, table_reasons, stream_reasons, ReasonLaw}
-use Rattle.plan_maker.proofs.Owning.{sum_from, owned, each_at_most, all_owned}
+use Rattle.plan_maker.proofs.Owning.{owned, each_at_most, all_owned}
 use Rattle.plan_maker.proofs.Sharing.{recurs, least_peak, recurring_kept, stream_kept, window_kept, ceil_at_most, lead_kept}
 
 -- ---- lists of reasons

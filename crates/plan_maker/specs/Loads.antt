@@ -1,6 +1,6 @@
 -- The load of a description: the share of an output's slots that its items ask for at the least.
 use Rattle.clock27.specs.Units.{slot_milliseconds}
-use Rattle.std.specs.Prelude.{ℕ, ◌+◌, ◌-◌, ◌*◌, ◌/◌, ◌^◌, max, Bool, List, [], ◌∷◌, Option, Some, None, option_map, nat_le}
+use Rattle.std.specs.Prelude.{ℕ, ◌+◌, ◌-◌, ◌*◌, ◌/◌, ◌^◌, max, Bool, List, [], ◌∷◌, Option, option_map, nat_le}
 use Rattle.std.specs.List.{sum_by}
 use Rattle.clock27.specs.Release.{slot_units}
 use Rattle.description.specs.Described.{Described, DescribedStream}

@@ -9,7 +9,7 @@ use slot_plan::{Description, Program, Slot, Stream};
 use std::alloc::{AllocError, Allocator};
 
 /// What the slots of an item carry, and how many slots they are apart; 0 where no spacing serves it.
-#[derive(Clone, Copy, Debug, PartialEq, Eq)]
+#[derive(Clone, Copy)]
 pub struct Spaced {
     pub slot: Slot,
     pub spacing: u64,

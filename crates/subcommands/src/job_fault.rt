@@ -12,7 +12,7 @@ use plan_checker::Refusal;
 use ts_packet::Sink;
 
 /// What is first wrong with a job.
-#[derive(Clone, Copy, Debug, PartialEq, Eq)]
+#[derive(Clone, Copy)]
 pub enum JobFault {
     /// no line begins a plan
     NoPlan,
@@ -29,7 +29,7 @@ pub enum JobFault {
 }
 
 /// Why no job is given.
-#[derive(Clone, Copy, Debug, PartialEq, Eq)]
+#[derive(Clone, Copy)]
 pub enum JobError {
     Fault(JobFault),
     Memory,

@@ -25,7 +25,7 @@ pub struct MuxJob {
 }
 
 /// What is first wrong with a job and its records.
-#[derive(Clone, Copy, Debug, PartialEq, Eq)]
+#[derive(Clone, Copy)]
 pub enum MuxFault {
     Job(JobFault),
     /// what stands in place of the record of this index is none
@@ -33,7 +33,7 @@ pub enum MuxFault {
 }
 
 /// Why no job with its units is given.
-#[derive(Clone, Copy, Debug, PartialEq, Eq)]
+#[derive(Clone, Copy)]
 pub enum MuxJobError {
     Fault(MuxFault),
     Memory,

@@ -12,7 +12,7 @@ use pes_packet::is_unit_id;
 use std::alloc::{AllocError, Global};
 
 /// What `carry` is to do: the packets of one PID as bytes, or as lines of hexadecimal digits.
-#[derive(Clone, Copy, Debug, PartialEq, Eq)]
+#[derive(Clone, Copy)]
 pub struct Carriage {
     /// lines of hexadecimal digits, and not bytes
     pub hex: bool,
@@ -23,7 +23,7 @@ pub struct Carriage {
 }
 
 /// What `mux` is to do: the packets of a job as bytes, or as lines of hexadecimal digits.
-#[derive(Clone, Copy, Debug, PartialEq, Eq)]
+#[derive(Clone, Copy)]
 pub struct MuxOptions {
     /// lines of hexadecimal digits, and not bytes
     pub hex: bool,
@@ -34,7 +34,7 @@ pub struct MuxOptions {
 }
 
 /// What `monitor` is to hold a stream to.
-#[derive(Clone, Copy, Debug, PartialEq, Eq)]
+#[derive(Clone, Copy)]
 pub struct MonitorOptions {
     /// the rate of the stream
     pub rate: Rate,
@@ -43,7 +43,7 @@ pub struct MonitorOptions {
 }
 
 /// A use of the program.
-#[derive(Clone, Copy, Debug, PartialEq, Eq)]
+#[derive(Clone, Copy)]
 pub enum Request {
     /// unit records to packets
     Carry(Carriage),

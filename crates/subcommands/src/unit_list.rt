@@ -9,7 +9,7 @@ use mux_core::{Unit, UnitFileError, read_unit};
 use std::alloc::Global;
 
 /// Why no units are given.
-#[derive(Clone, Copy, Debug, PartialEq, Eq)]
+#[derive(Clone, Copy)]
 pub enum ListError {
     /// what stands in place of the record of this index is none
     Record { index: u64, fault: UnitFileError },

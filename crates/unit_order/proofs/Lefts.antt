@@ -1,5 +1,5 @@
 -- Units that are merged, and what is left of their streams.
-use Rattle.std.proofs.Common.{◌≡◌, ◌<◌, ◌==◌, ℕ, ◌+◌, ◌++◌, drop, Option, Some, None, List, [], ◌∷◌, All, length, map, slice_get, slice_set, slice_index_or, get_or, sum_by, zero, suc, sym, ap, ◌∙◌, ◌⊎◌, inl, inr, arith}
+use Rattle.std.proofs.Common.{◌≡◌, ◌<◌, ◌==◌, ℕ, ◌+◌, ◌++◌, drop, Option, Some, None, List, [], ◌∷◌, All, length, map, slice_get, slice_set, slice_index_or, get_or, sum_by, zero, suc, sym, ap, ◌∙◌, inl, inr, arith}
 use Rattle.std.specs.List.{filter}
 use Rattle.std.specs.Option.{option_to_list}
 use Rattle.std.specs.Prelude.{IfSome, IfNone, option_map}

@@ -1,5 +1,5 @@
 -- The stream that is due next.
-use Rattle.std.proofs.Common.{◌≡◌, ℕ, ◌+◌, zero, suc, Option, Some, None, List, [], ◌∷◌, All, slice_get, slice_index_or, length, drop, map, ◌<◌, ◌≤◌, sym, ap, ◌∙◌, ◌⊎◌, inl, inr, Bool, true, false, nat_lt, if◌then◌else◌, arith}
+use Rattle.std.proofs.Common.{◌≡◌, ℕ, ◌+◌, suc, Option, Some, None, List, [], ◌∷◌, All, slice_get, slice_index_or, length, drop, map, ◌<◌, ◌≤◌, ap, ◌⊎◌, inl, inr, nat_lt, arith}
 use Rattle.std.proofs.lemmas.Bool.{cases_Bool}
 use Rattle.std.proofs.lemmas.Option.{none-some}
 use Rattle.std.proofs.lemmas.List.{at_drop_more, at_drop_all}

@@ -1,5 +1,5 @@
 -- The units of several streams in one list, by their decoding times.
-use Rattle.std.specs.Prelude.{◌≡◌, ◌<◌, ℕ, ◌+◌, ◌++◌, List, [], ◌∷◌, length, map, slice_get, slice_set, get_or, drop, Option, Some, None, option_map, All, nat_lt, if◌then◌else◌}
+use Rattle.std.specs.Prelude.{◌≡◌, ◌<◌, ℕ, ◌+◌, ◌++◌, List, [], ◌∷◌, length, slice_get, slice_set, get_or, drop, Option, Some, None, option_map, All, nat_lt, if◌then◌else◌}
 use Rattle.pes_packet.specs.AccessUnits.{AccessUnit}
 use Rattle.pes_packet.specs.Units.{units_of}
 

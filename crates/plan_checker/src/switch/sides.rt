@@ -6,7 +6,7 @@ ghost use Rattle.plan_checker.specs.Joint.{timed, IsSmallAcross};
 
 /// A stream's own slots in one plan: their number in a period, its slots, how far they stray and the work after one at
 /// most.
-#[derive(Clone, Copy, Debug, PartialEq, Eq)]
+#[derive(Clone, Copy)]
 pub struct Share {
     pub count: u64,
     pub period: u64,
@@ -15,7 +15,7 @@ pub struct Share {
 }
 
 /// What two plans in turn give a stream: its own slots in each, and by how many slots those of the second come later.
-#[derive(Clone, Copy, Debug, PartialEq, Eq)]
+#[derive(Clone, Copy)]
 pub struct Across {
     pub first: Share,
     pub second: Share,

@@ -4,7 +4,7 @@ use crate::search::numbers::{narrowed, product, rounded_up};
 use clock27::SLOT_MILLISECONDS;
 
 /// An item of which `places` own slots on end come within `gap` slots.
-#[derive(Clone, Copy, Debug, PartialEq, Eq)]
+#[derive(Clone, Copy)]
 pub struct Recurrence {
     pub gap: u128,
     pub places: u128,

@@ -1,6 +1,5 @@
-use Rattle.std.proofs.Common.{rules, ◌≡◌, ◌∙◌, sym, length, Some, None, ap, option_map, List, ℕ}
+use Rattle.std.proofs.Common.{rules, ◌∙◌, sym, ap, option_map, List, ℕ}
 use Rattle.std.specs.Borrow.{Bor}
-use Rattle.dvb_tables.specs.DescriptorLoops.{are_whole_descriptors, after_first}
 use Rattle.dvb_tables.proofs.WholeParts.{front_some, front_none, front_nil}
 use Rattle.dvb_tables.proofs.descriptor_loop.are_whole_descriptors.Goals as goal
 

@@ -1,4 +1,4 @@
-use Rattle.std.proofs.Common.{sum_by, arith, sym, ap, ◌∙◌, rules, ◌≡◌, ◌≤◌, ◌<◌, IfOk, IfSome, IfNone, [], None, Some, All, length, map, option_map, slice_get, ℕ, ◌+◌, ◌-◌, ◌*◌, ◌/◌, ◌%◌, Bool, true, false, nat_eq, nat_lt, List, ◌∷◌, ◌++◌, slice_index_or, slice_set, bit_and, bit_or, Fits, w8, w32, w64, Bor, MutBor}
+use Rattle.std.proofs.Common.{sum_by, arith, sym, ap, ◌∙◌, rules, ◌≡◌, ◌<◌, [], None, Some, length, map, option_map, slice_get, ◌+◌, ◌∷◌}
 use Rattle.std.proofs.lemmas.Option.{slice_get_within}
 use Rattle.std.proofs.lemmas.List.{length-map}
 use Rattle.unit_order.specs.Merging as spec

@@ -1,6 +1,4 @@
-use Rattle.std.proofs.Common.{◌≡◌, ◌≤◌, ◌<◌, IfOk, IfSome, IfNone, [], None, Some, All, List, length, map, option_map, slice_get, sum_by, ℕ, ◌+◌, ◌-◌, ◌*◌, ◌++◌}
-use Rattle.pes_packet.specs.AccessUnits.{AccessUnit}
-use Rattle.pes_packet.specs.Units.{units_of}
+use Rattle.std.proofs.Common.{length, map, sum_by}
 use Rattle.unit_order.specs.Merging as spec
 use Rattle.unit_order.proofs.merging.merged.Given as goal
 

@@ -1,4 +1,4 @@
-use Rattle.std.proofs.Common.{rules, ◌∙◌, sym, ap, arith, ◌≡◌, ◌≤◌, ◌<◌, None, Some, All, length, map, drop, ℕ, ◌+◌, slice_index_or}
+use Rattle.std.proofs.Common.{rules, ◌∙◌, sym, arith, ◌≡◌, slice_index_or}
 use Rattle.unit_order.specs.Merging as spec
 use Rattle.unit_order.proofs.Nexts.{next_step, next_end}
 use Rattle.unit_order.proofs.merging.next_stream.Goals as goal

@@ -1,4 +1,4 @@
-use Rattle.std.proofs.Common.{◌≡◌, ◌≤◌, ◌<◌, IfOk, IfSome, IfNone, [], None, Some, All, length, map, option_map, slice_get, drop, ℕ, ◌+◌, ◌-◌, ◌*◌}
+use Rattle.std.proofs.Common.{◌≡◌, None, map, drop}
 use Rattle.unit_order.specs.Merging as spec
 use Rattle.unit_order.proofs.merging.next_stream.Given as goal
 

@@ -1,5 +1,4 @@
-use Rattle.std.proofs.Common.{ap, ◌∙◌, rules, ◌≡◌, ◌≤◌, ◌<◌, IfOk, IfSome, IfNone, [], None, Some, All, length, map, option_map, slice_get, ℕ, ◌+◌, ◌-◌, ◌*◌, ◌/◌, ◌%◌, Bool, true, false, nat_eq, nat_lt, List, ◌∷◌, ◌++◌, slice_index_or, slice_set, bit_and, bit_or, Fits, w8, w32, w64, Bor, MutBor}
-use Rattle.unit_order.specs.Merging as spec
+use Rattle.std.proofs.Common.{ap, ◌∙◌, rules, ◌≡◌, IfNone, [], slice_index_or}
 use Rattle.unit_order.proofs.Lefts.{taken_if, none_if}
 use Rattle.unit_order.proofs.merging.take_next.Goals as goal
 

@@ -1,4 +1,4 @@
-use Rattle.std.proofs.Common.{◌≡◌, ◌∙◌, sym, arith, Ok}
+use Rattle.std.proofs.Common.{◌∙◌, sym, arith}
 use Rattle.psi_tables.proofs.TableForms.{table_header_at-is}
 use Rattle.dvb_tables.proofs.event_information.EitPf.of_parts.Goals as goal
 

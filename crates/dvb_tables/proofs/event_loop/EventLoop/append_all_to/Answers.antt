@@ -1,6 +1,5 @@
-use Rattle.std.proofs.Common.{rules, ◌≡◌, ℕ, ◌+◌, ◌≤◌, List, ◌++◌, length, sym, ap, ◌∙◌, subst, arith, lit<}
+use Rattle.std.proofs.Common.{rules, ℕ, ◌+◌, ◌≤◌, List, ◌++◌, length, sym, ap, ◌∙◌, subst, arith, lit<}
 use Rattle.bit_fields.specs.Fields.{IsBytes}
-use Rattle.dvb_tables.specs.EventEntries.{events_in, events_text}
 use Rattle.dvb_tables.specs.EventInformation.{events_held}
 use Rattle.dvb_tables.proofs.EventLoops.{events_same, events_length}
 use Rattle.dvb_tables.proofs.event_loop.EventLoop.append_all_to.Goals as goal

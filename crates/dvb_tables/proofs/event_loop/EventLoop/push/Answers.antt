@@ -1,7 +1,7 @@
-use Rattle.std.proofs.Common.{◌≡◌, refl, ℕ, ◌+◌, ◌≤◌, ◌<◌, ◌^◌, ◌∙◌, ap, sym, List, [], ◌∷◌, ◌++◌, length, arith}
+use Rattle.std.proofs.Common.{◌≡◌, refl, ℕ, ◌∙◌, ap, List, length, arith}
 use Rattle.std.specs.Prelude.{is_some}
 use Rattle.psi_tables.specs.Loops.{loop_at}
-use Rattle.dvb_tables.specs.EventEntries.{event_view, events_in, events_text}
+use Rattle.dvb_tables.specs.EventEntries.{event_view, events_in}
 use Rattle.dvb_tables.specs.EventInformation.{events_held}
 use Rattle.dvb_tables.specs.Fits.{EventFits}
 use Rattle.dvb_tables.proofs.EventLoops.{more_length, one_more}

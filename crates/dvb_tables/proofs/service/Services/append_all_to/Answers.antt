@@ -1,4 +1,4 @@
-use Rattle.std.proofs.Common.{◌≡◌, ℕ, ◌+◌, ◌≤◌, ◌<◌, List, [], ◌∷◌, ◌++◌, length, sym, ap, ◌∙◌, arith, lit<, length-append, append-nil}
+use Rattle.std.proofs.Common.{ℕ, ◌+◌, ◌≤◌, List, ◌++◌, length, sym, ap, ◌∙◌, arith, lit<, length-append, append-nil}
 use Rattle.dvb_tables.specs.Services.{service_view, services_of, services_text}
 use Rattle.dvb_tables.proofs.ServiceLoops.{service_step, service_room}
 use Rattle.dvb_tables.proofs.service.Services.append_all_to.Goals as goal

@@ -1,4 +1,4 @@
-use Rattle.std.proofs.Common.{◌≡◌, Result, Ok, Err, IfOk, subst}
+use Rattle.std.proofs.Common.{Result, Ok, Err, IfOk, subst}
 use Rattle.bit_fields.specs.Fields.{IsBytes}
 use Rattle.bit_fields.specs.Reading.{Gives}
 use Rattle.psi_tables.specs.Views.{SectionView, section_view}

@@ -1,7 +1,7 @@
-use Rattle.std.proofs.Common.{◌≡◌, refl, ℕ, ◌+◌, ◌≤◌, ◌<◌, ◌^◌, ◌∙◌, ap, sym, List, [], ◌∷◌, ◌++◌, length, arith}
+use Rattle.std.proofs.Common.{refl, ℕ, ◌∙◌, ap, List, arith}
 use Rattle.std.specs.Prelude.{is_some}
 use Rattle.psi_tables.specs.Loops.{loop_at}
-use Rattle.dvb_tables.specs.Services.{service_view, services_in, services_text, services_held}
+use Rattle.dvb_tables.specs.Services.{service_view, services_in, services_held}
 use Rattle.dvb_tables.specs.Fits.{ServiceFits}
 use Rattle.dvb_tables.proofs.ServiceLoops.{more_length, one_more}
 use Rattle.dvb_tables.proofs.service_loop.ServiceLoop.push.Goals as goal

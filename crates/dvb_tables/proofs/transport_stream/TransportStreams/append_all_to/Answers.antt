@@ -1,4 +1,4 @@
-use Rattle.std.proofs.Common.{◌≡◌, ℕ, ◌+◌, ◌≤◌, ◌<◌, List, [], ◌∷◌, ◌++◌, length, sym, ap, ◌∙◌, arith, lit<, length-append, append-nil}
+use Rattle.std.proofs.Common.{ℕ, ◌+◌, ◌≤◌, List, ◌++◌, length, sym, ap, ◌∙◌, arith, lit<, length-append, append-nil}
 use Rattle.dvb_tables.specs.TransportStreams.{transport_stream_view, transport_streams_of, transport_streams_text}
 use Rattle.dvb_tables.proofs.TransportStreamLoops.{transport_stream_step, transport_stream_room}
 use Rattle.dvb_tables.proofs.transport_stream.TransportStreams.append_all_to.Goals as goal

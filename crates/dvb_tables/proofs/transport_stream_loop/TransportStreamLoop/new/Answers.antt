@@ -1,4 +1,4 @@
-use Rattle.std.proofs.Common.{◌≡◌, ◌∙◌, ap, List, ℕ}
+use Rattle.std.proofs.Common.{◌∙◌, ap, List, ℕ}
 use Rattle.std.specs.Prelude.{is_some}
 use Rattle.psi_tables.specs.Loops.{loop_at}
 use Rattle.psi_tables.proofs.LoopParts.{loop_at-end}

@@ -1,7 +1,7 @@
-use Rattle.std.proofs.Common.{◌≡◌, refl, ℕ, ◌+◌, ◌≤◌, ◌<◌, ◌^◌, ◌∙◌, ap, sym, List, [], ◌∷◌, ◌++◌, length, arith}
+use Rattle.std.proofs.Common.{refl, ℕ, ◌∙◌, ap, List, arith}
 use Rattle.std.specs.Prelude.{is_some}
 use Rattle.psi_tables.specs.Loops.{loop_at}
-use Rattle.dvb_tables.specs.TransportStreams.{transport_stream_view, transport_streams_in, transport_streams_text, transport_streams_held}
+use Rattle.dvb_tables.specs.TransportStreams.{transport_stream_view, transport_streams_in, transport_streams_held}
 use Rattle.dvb_tables.specs.Fits.{TransportStreamFits}
 use Rattle.dvb_tables.proofs.TransportStreamLoops.{more_length, one_more}
 use Rattle.dvb_tables.proofs.transport_stream_loop.TransportStreamLoop.push.Goals as goal

@@ -1,4 +1,4 @@
-use Rattle.std.proofs.Common.{◌≡◌, ℕ, ◌+◌, ◌-◌, ◌<◌, ◌≤◌, true, None}
+use Rattle.std.proofs.Common.{◌≡◌, ◌+◌, ◌-◌, ◌≤◌, true, None}
 use Rattle.plan_maker.specs.Bounded.{first_of}
 use Rattle.plan_maker.specs.Loads.{has_slots, highest_rate}
 use Rattle.plan_maker.proofs.reasoning.load.least_rate.Given as goal

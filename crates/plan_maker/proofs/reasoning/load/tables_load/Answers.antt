@@ -1,4 +1,4 @@
-use Rattle.std.proofs.Common.{◌≡◌, ◌<◌, length, arith, rules, ap₂, ◌∙◌, ℕ}
+use Rattle.std.proofs.Common.{◌≡◌, ◌<◌, length, arith, rules, ap₂, ◌∙◌}
 use Rattle.description.specs.Tables.{table_kinds, table_limit, round_places}
 use Rattle.plan_checker.proofs.Counts.{few_tables}
 use Rattle.plan_checker.proofs.Rounds.{few_places}
