@@ -55,7 +55,7 @@ fn overwrites(packet: &mut [u8; 188]) -> [bool; 2] {
 
 #[test]
 fn overwrites_packets(rt: HostRuntime) {
-    assert_eq!(rt; overwrites(&mut null_packet()), [true; 2]);
+    assert!(rt; overwrites(&mut null_packet()) == [true; 2]);
 }
 
 #[test]
@@ -125,7 +125,7 @@ fn writes(header: Header, field: &Adaptation<'_>, payload: &[u8; 173]) -> Option
 #[test]
 fn writes_each_field(rt: HostRuntime) {
     let field = Adaptation::Flagged(parts(&[0xff; 2]));
-    assert_eq!(rt; writes(header(), &field, &[0x5a; 173]), Some([true; 2]));
+    assert!(rt; writes(header(), &field, &[0x5a; 173]) == Some([true; 2]));
 }
 
 /// Whether this header fits, with a payload of 184 bytes and no adaptation field.
@@ -190,6 +190,6 @@ fn values() -> [bool; 6] {
 
 #[test]
 fn tells_what_fits(rt: HostRuntime) {
-    assert_eq!(rt; sizes(&[0x5a; 184]), [true; 7]);
-    assert_eq!(rt; values(), [true; 6]);
+    assert!(rt; sizes(&[0x5a; 184]) == [true; 7]);
+    assert!(rt; values() == [true; 6]);
 }

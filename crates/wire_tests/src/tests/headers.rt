@@ -1,10 +1,9 @@
 //! Values from outside: worked headers, each refusal, beginnings of headers and changed bytes.
 
-use crate::{
+use pes_packet::{
     PesError, PesHeader, Stamps, Unit, fits_packet, greatest_size, has_flags, is_unit_id,
     read_header, write_header,
 };
-use std::process::Abort;
 
 // 90,000 as a PTS alone, and a header with a PTS and a DTS that passed 2^33 - 1.
 const PTS_HEADER: [u8; 14] = [
@@ -19,21 +18,17 @@ const PTS_DTS_HEADER: [u8; 19] = [
 #[test]
 fn headers_are_written(rt: HostRuntime) {
     let base: u64 = 8_589_934_500;
-    assert_eq!(rt;
-        write_header(192, 3, 90_000, 90_000).as_slice(),
-        &PTS_HEADER[..]
-    );
-    assert_eq!(rt;
-        write_header(192, 576, base + 3_400, base + 1_600).as_slice(),
-        &PTS_DTS_HEADER[..]
+    assert!(rt; write_header(192, 3, 90_000, 90_000).as_slice() == &PTS_HEADER[..]);
+    assert!(rt;
+        write_header(192, 576, base + 3_400, base + 1_600).as_slice() == &PTS_DTS_HEADER[..]
     );
     // Stamps that are one on the wire: no DTS. Zero: 21 00 01 00 01.
     let zero = write_header(224, 65_528, 1 << 33, 0);
-    assert_eq!(rt;
-        zero.as_slice(),
-        &[
-            0x00, 0x00, 0x01, 0xe0, 0x00, 0x00, 0x80, 0x80, 0x05, 0x21, 0x00, 0x01, 0x00, 0x01
-        ][..]
+    assert!(rt;
+        zero.as_slice()
+            == &[
+                0x00, 0x00, 0x01, 0xe0, 0x00, 0x00, 0x80, 0x80, 0x05, 0x21, 0x00, 0x01, 0x00, 0x01
+            ][..]
     );
 }
 
@@ -44,7 +39,7 @@ fn headers_are_read(rt: HostRuntime) {
         len: 11,
         stamps: Stamps::Pts(90_000),
     };
-    assert_eq!(rt; read_header(&PTS_HEADER), Ok((pts, 14)));
+    assert!(rt; read_header(&PTS_HEADER) == Ok((pts, 14)));
     let both = PesHeader {
         id: 192,
         len: 589,
@@ -53,16 +48,13 @@ fn headers_are_read(rt: HostRuntime) {
             dts: 1_508,
         },
     };
-    assert_eq!(rt; read_header(&PTS_DTS_HEADER), Ok((both, 19)));
+    assert!(rt; read_header(&PTS_DTS_HEADER) == Ok((both, 19)));
     let padding = PesHeader {
         id: 0xbe,
         len: 2,
         stamps: Stamps::Absent,
     };
-    assert_eq!(rt;
-        read_header(&[0x00, 0x00, 0x01, 0xbe, 0x00, 0x02, 0xff, 0xff]),
-        Ok((padding, 6))
-    );
+    assert!(rt; read_header(&[0x00, 0x00, 0x01, 0xbe, 0x00, 0x02, 0xff, 0xff]) == Ok((padding, 6)));
 }
 
 #[test]
@@ -100,8 +92,8 @@ fn refusals_are_numbered(rt: HostRuntime) {
         ),
     ];
     for (bytes, refusal, code) in cases.iter() {
-        assert_eq!(rt; read_header(bytes), Err(*refusal));
-        assert_eq!(rt; refusal.code(), *code);
+        assert!(rt; read_header(bytes) == Err(*refusal));
+        assert!(rt; refusal.code() == *code);
     }
 }
 
@@ -146,25 +138,35 @@ fn rule(bytes: &[u8]) -> Result<usize, PesError> {
     Ok(9 + data.len())
 }
 
-// Each change of one byte is answered as the rule says.
-fn changes_of<const N: usize>(rt: &impl Abort, header: [u8; N]) {
-    for at in 0..N {
-        for byte in [0x00, 0x7f, 0x80, 0xff] {
-            let mut bytes = header;
-            bytes[at] = byte;
-            let size = match read_header(&bytes) {
-                Ok((_, size)) => Ok(size),
-                Err(refusal) => Err(refusal),
-            };
-            assert_eq!(rt; size, rule(&bytes), "byte {at} as {byte}");
+// Whether each change of this byte is answered as the rule says.
+fn are_changes_judged(header: &[u8], at: usize) -> bool {
+    let mut bytes = [0; 19];
+    for (byte, known) in bytes.iter_mut().zip(header) {
+        *byte = *known;
+    }
+    for value in [0x00, 0x7f, 0x80, 0xff] {
+        if let Some(byte) = bytes.get_mut(at) {
+            *byte = value;
+        }
+        let changed = bytes.get(..header.len()).unwrap_or(&[]);
+        let size = match read_header(changed) {
+            Ok((_, size)) => Ok(size),
+            Err(refusal) => Err(refusal),
+        };
+        if size != rule(changed) {
+            return false;
         }
     }
+    true
 }
 
 #[test]
 fn changed_bytes_are_judged(rt: HostRuntime) {
-    changes_of(&rt, PTS_HEADER);
-    changes_of(&rt, PTS_DTS_HEADER);
+    for header in [PTS_HEADER.as_slice(), PTS_DTS_HEADER.as_slice()] {
+        for at in 0..header.len() {
+            assert!(rt; are_changes_judged(header, at), "byte {at}");
+        }
+    }
 }
 
 // Of two refusals at once the first in the order Prefix, Short, BadFlags, Length, Marker is given.
@@ -206,17 +208,17 @@ fn the_first_of_two_refusals_is_given(rt: HostRuntime) {
         ),
     ];
     for (bytes, refusal) in cases.iter() {
-        assert_eq!(rt; read_header(bytes), Err(*refusal));
+        assert!(rt; read_header(bytes) == Err(*refusal));
     }
 }
 
 #[test]
 fn beginnings_are_short(rt: HostRuntime) {
     for at in 0..19 {
-        assert_eq!(rt; read_header(&PTS_DTS_HEADER[..at]), Err(PesError::Short));
+        assert!(rt; read_header(&PTS_DTS_HEADER[..at]) == Err(PesError::Short));
     }
     for at in 0..14 {
-        assert_eq!(rt; read_header(&PTS_HEADER[..at]), Err(PesError::Short));
+        assert!(rt; read_header(&PTS_HEADER[..at]) == Err(PesError::Short));
     }
 }
 
@@ -230,8 +232,8 @@ fn stream_ids_are_known(rt: HostRuntime) {
             && !is_unit_id(240)
     );
     assert!(rt; has_flags(0xbd) && !has_flags(0xbf));
-    assert_eq!(rt; greatest_size(223), 65_522);
-    assert_eq!(rt; greatest_size(224), 4_000_000);
+    assert!(rt; greatest_size(223) == 65_522);
+    assert!(rt; greatest_size(224) == 4_000_000);
     assert!(rt; fits_packet(192, 65_522) && !fits_packet(192, 65_523) && !fits_packet(224, 0));
 }
 
@@ -242,6 +244,6 @@ fn units_hold_bytes(rt: HostRuntime) {
         pts: 2,
         bytes: Vec::new(rt.alloc()),
     };
-    assert_eq!(rt; unit.bytes.len(), 0);
-    assert_eq!(rt; unit.pts - unit.dts, 1);
+    assert!(rt; unit.bytes.len() == 0);
+    assert!(rt; unit.pts - unit.dts == 1);
 }

@@ -21,7 +21,7 @@ fn parts_read() -> [bool; 6] {
 
 #[test]
 fn reads_to_the_end(rt: HostRuntime) {
-    assert_eq!(rt; parts_read(), [true; 6]);
+    assert!(rt; parts_read() == [true; 6]);
 }
 
 /// A read that fails after so many bytes: what it answers, what it read, the count of faults, what is left.
@@ -40,7 +40,7 @@ fn read_after(bytes: u8) -> [bool; 4] {
 #[test]
 fn a_read_fails_after_each_byte(rt: HostRuntime) {
     for bytes in 0..6u8 {
-        assert_eq!(rt; read_after(bytes), [true; 4], "after {bytes}");
+        assert!(rt; read_after(bytes) == [true; 4], "after {bytes}");
     }
 }
 
@@ -85,7 +85,7 @@ fn written_after(bytes: u8) -> [bool; 3] {
 #[test]
 fn a_write_fails_after_each_byte(rt: HostRuntime) {
     for bytes in 0..6u8 {
-        assert_eq!(rt; written_after(bytes), [true; 3], "after {bytes}");
+        assert!(rt; written_after(bytes) == [true; 3], "after {bytes}");
     }
 }
 
@@ -128,5 +128,5 @@ fn written_to_the_end() -> [bool; 7] {
 
 #[test]
 fn a_writer_that_takes_nothing_is_at_fault(rt: HostRuntime) {
-    assert_eq!(rt; written_to_the_end(), [true; 7]);
+    assert!(rt; written_to_the_end() == [true; 7]);
 }
