@@ -1,7 +1,7 @@
 //! Values of a second reading of the rules, and values worked by hand.
 
-use crate::{Choice, Needs, Recurring, are_most, choose, least_rate, least_share, wait};
 use std::test::Fail;
+use stream_choice::{Choice, Needs, Recurring, are_most, choose, least_rate, least_share, wait};
 
 // What is known of a stream (interval, size, rx, main), its most packets, their least share, the wait and the greatest
 // lead; and the share, the lead and the group that are chosen.
@@ -146,9 +146,9 @@ fn chosen(rt: HostRuntime) -> Result<(), Fail> {
             main,
         };
         assert!(rt; needs.is_in_range() && are_most(most) && lead <= 90_000);
-        assert_eq!(rt; least_share(needs, most), share);
+        assert!(rt; least_share(needs, most) == share);
         let found = choose(needs, most, wait, lead);
-        assert_eq!(rt; found.map(numbers), wanted);
+        assert!(rt; found.map(numbers) == wanted);
     }
     Ok(())
 }
@@ -233,7 +233,7 @@ const RATES: [(&[u64], &[Recurring], Option<u32>); 10] = [
 #[test]
 fn least_rates(rt: HostRuntime) -> Result<(), Fail> {
     for (shares, recurring, wanted) in RATES {
-        assert_eq!(rt; least_rate(shares, recurring), wanted);
+        assert!(rt; least_rate(shares, recurring) == wanted);
     }
     Ok(())
 }
@@ -241,9 +241,9 @@ fn least_rates(rt: HostRuntime) -> Result<(), Fail> {
 // 512 bytes at a rate, rounded up, and three packets of a share.
 #[test]
 fn waits(rt: HostRuntime) -> Result<(), Fail> {
-    assert_eq!(rt; wait(2_000_000, 1 << 40), 188);
-    assert_eq!(rt; wait(64_000, 1 << 40), 5_763);
-    assert_eq!(rt; wait(200_000_000, 1 << 17), 25_165_826);
+    assert!(rt; wait(2_000_000, 1 << 40) == 188);
+    assert!(rt; wait(64_000, 1 << 40) == 5_763);
+    assert!(rt; wait(200_000_000, 1 << 17) == 25_165_826);
     Ok(())
 }
 

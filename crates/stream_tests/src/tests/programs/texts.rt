@@ -1,9 +1,9 @@
 //! Texts of services.
 
-use crate::readable;
 use linked_list_allocator::LocalHeap;
 use std::alloc::AllocError;
 use std::test::Fail;
+use stream_programs::readable;
 
 // Coded texts, the most bytes that they may take, and what is read of them.
 const ROWS: [(&[u8], usize, &str); 14] = [
@@ -32,7 +32,7 @@ const ROWS: [(&[u8], usize, &str); 14] = [
 fn texts_are_read(rt: HostRuntime) -> Result<(), Fail> {
     for (bytes, most, wanted) in ROWS {
         let text = readable(rt.alloc(), bytes, most)?;
-        assert_eq!(rt; text.as_str(), wanted);
+        assert!(rt; text.as_str() == wanted);
     }
     Ok(())
 }
@@ -47,7 +47,7 @@ fn memory_for_texts(rt: HostRuntime) -> Result<(), Fail> {
         match readable(&heap, b"\x15caf\xc3\xa9", 100) {
             Ok(text) => {
                 made = true;
-                assert_eq!(rt; text.as_str(), "café");
+                assert!(rt; text.as_str() == "café");
             }
             Err(AllocError) => refused = true,
         }

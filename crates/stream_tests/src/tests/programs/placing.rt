@@ -1,9 +1,9 @@
 //! PIDs of maps and clocks, worked by hand.
 
-use crate::{FoundProgram, FoundStream, Placed, Programs, placed_pids};
 use linked_list_allocator::LocalHeap;
 use std::alloc::{AllocError, Allocator};
 use std::test::Fail;
+use stream_programs::{FoundProgram, FoundStream, Placed, Programs, placed_pids};
 
 // Programs with maps on these PIDs, and streams on those.
 fn programs<A: Allocator + Copy>(
@@ -49,23 +49,24 @@ const ROWS: [(&[u16], &[u16], &[(u16, u16)]); 5] = [
     (&[], &[256], &[]),
 ];
 
+// Whether the places are these.
+fn are_places(places: &[Placed], wanted: &[(u16, u16)]) -> bool {
+    for (place, (map_pid, pcr_pid)) in places.iter().zip(wanted) {
+        if (place.map_pid, place.pcr_pid) != (*map_pid, *pcr_pid) {
+            return false;
+        }
+    }
+    places.len() == wanted.len()
+}
+
 #[test]
 fn maps_and_clocks_are_placed(rt: HostRuntime) -> Result<(), Fail> {
     let alloc = rt.alloc();
     for (maps, pids, wanted) in ROWS {
         let Some(places) = placed_pids(alloc, &programs(alloc, maps, pids)?)? else {
-            return Ok(assert!(rt; false, "no PID is left"));
+            panic!(rt; "no PID is left");
         };
-        assert_eq!(rt; places.len(), wanted.len());
-        for (place, (map_pid, pcr_pid)) in places.iter().zip(wanted) {
-            assert_eq!(rt;
-                *place,
-                Placed {
-                    map_pid: *map_pid,
-                    pcr_pid: *pcr_pid,
-                }
-            );
-        }
+        assert!(rt; are_places(&places, wanted), "{}", maps.len());
     }
     Ok(())
 }
@@ -99,7 +100,7 @@ fn memory_for_places(rt: HostRuntime) -> Result<(), Fail> {
         match count_of_places(&heap) {
             Ok(count) => {
                 made = true;
-                assert_eq!(rt; count, Some(2));
+                assert!(rt; count == Some(2));
             }
             Err(AllocError) => refused = true,
         }

@@ -63,7 +63,7 @@ fn places<A: Allocator + Copy>(alloc: A) -> Result<Vec<(u8, u64, u64), A>, Alloc
 #[test]
 fn by_dts_and_stream(rt: HostRuntime) -> Result<(), Fail> {
     let alloc = rt.alloc();
-    assert_eq!(rt; places(alloc)?.as_slice(), MERGED.as_slice());
+    assert!(rt; places(alloc)?.as_slice() == MERGED.as_slice());
     Ok(())
 }
 
@@ -77,7 +77,7 @@ fn refused_memory(rt: HostRuntime) -> Result<(), Fail> {
         let heap = LocalHeap::new(alloc, size * 64 + 64)?;
         match places(&heap) {
             Ok(places) => {
-                assert_eq!(rt; places.as_slice(), MERGED.as_slice());
+                assert!(rt; places.as_slice() == MERGED.as_slice());
                 whole = whole.saturating_add(1);
             }
             Err(_) => refused = refused.saturating_add(1),
