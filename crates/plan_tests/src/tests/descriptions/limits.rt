@@ -47,23 +47,25 @@ fn greatest(alloc: Global) -> Result<String, AllocError> {
     Ok(text)
 }
 
+// Whether all of it is read, 16 events a program.
+fn is_greatest(description: &Description) -> bool {
+    description.programs().len() == 16
+        && description.streams().len() == 32
+        && description.private_tables().len() == 16
+        && description.tables() == 37
+        && description
+            .programs()
+            .iter()
+            .all(|program| program.events().len() == 16)
+}
+
 #[test]
 fn greatest_description(rt: HostRuntime) -> Result<(), Fail> {
     let text = greatest(rt.alloc())?;
     assert!(rt; text.as_bytes().len() > 8_192);
-    let description = match Description::read(rt.alloc(), text.as_str()) {
-        Ok(description) => description,
-        Err(error) => panic!(rt; "{error}"),
+    let Ok(description) = Description::read(rt.alloc(), text.as_str()) else {
+        panic!(rt; "no description");
     };
-    assert_eq!(rt; description.programs().len(), 16);
-    assert_eq!(rt; description.streams().len(), 32);
-    assert_eq!(rt; description.private_tables().len(), 16);
-    let mut events = 0;
-    for program in description.programs() {
-        assert_eq!(rt; program.events().len(), 16);
-        events = program.events().len().max(events);
-    }
-    assert_eq!(rt; events, 16);
-    assert_eq!(rt; description.tables(), 37);
+    assert!(rt; is_greatest(&description));
     Ok(())
 }

@@ -5,7 +5,7 @@ use slot_plan::{
     Certificate, Condition, Item, Plan, PlanError, PlanTextError, ProgramEntry, Slot, StreamEntry,
     laws,
 };
-use std::alloc::Global;
+use std::alloc::{AllocError, Global};
 use std::test::Fail;
 
 const BASE: &str = "tsplan 1
@@ -41,26 +41,34 @@ fn edited(alloc: Global, from: &str, to: &str) -> Result<Vec<u8>, Fail> {
     Ok(text)
 }
 
+/// Four slots of the base.
+const SLOTS: [(usize, Slot); 4] = [
+    (0, Slot::Stream(0)),
+    (9, Slot::Table(5)),
+    (97, Slot::Pcr(0)),
+    (119, Slot::Null),
+];
+
+const STREAMS: [StreamEntry; 1] = [StreamEntry {
+    spread: 0,
+    start: 0,
+    peak: 282_752_000,
+}];
+
+/// Whether a plan has the base's slots and entries.
+fn is_base(plan: &Plan) -> bool {
+    let slots = plan.slots();
+    slots.len() == 120
+        && SLOTS.iter().all(|(at, slot)| slots.get(*at) == Some(slot))
+        && plan.certificate().streams.as_slice() == STREAMS.as_slice()
+        && plan.certificate().programs.len() == 1
+}
+
 #[test]
 fn base_is_read_and_written(rt: HostRuntime) -> Result<(), Fail> {
     let (plan, bytes) = Plan::read_text(rt.alloc(), BASE.as_bytes())?;
-    assert_eq!(rt; bytes, BASE.len());
-    assert_eq!(rt; plan.slots().len(), 120);
-    assert_eq!(rt; plan.slots().get(0).copied(), Some(Slot::Stream(0)));
-    assert_eq!(rt; plan.slots().get(9).copied(), Some(Slot::Table(5)));
-    assert_eq!(rt; plan.slots().get(97).copied(), Some(Slot::Pcr(0)));
-    assert_eq!(rt; plan.slots().get(119).copied(), Some(Slot::Null));
-    let certificate = plan.certificate();
-    assert_eq!(rt;
-        certificate.streams.as_slice(),
-        [StreamEntry {
-            spread: 0,
-            start: 0,
-            peak: 282_752_000
-        }]
-        .as_slice()
-    );
-    assert_eq!(rt; certificate.programs.len(), 1);
+    assert!(rt; bytes == BASE.len());
+    assert!(rt; is_base(&plan));
     let text = plan.write_text(rt.alloc())?;
     assert!(rt; text.as_str() == BASE);
     laws::plan_text();
@@ -72,44 +80,53 @@ fn base_is_read_and_written(rt: HostRuntime) -> Result<(), Fail> {
 fn what_stands_after_is_left(rt: HostRuntime) -> Result<(), Fail> {
     let text = edited(rt.alloc(), "end\n", "end\nbytes of units")?;
     let (_, bytes) = Plan::read_text(rt.alloc(), text.as_slice())?;
-    assert_eq!(rt; bytes, BASE.len());
+    assert!(rt; bytes == BASE.len());
     Ok(())
 }
 
+/// A part of the base, what stands in its place, and the line of the refusal.
+const EDITED: [(&str, &str, u32); 19] = [
+    ("tsplan 1", "tsplan 2", 1),
+    ("period 120", "period 0120", 2),
+    ("period 120", "period  120", 2),
+    ("period 120", "period 100000", 2),
+    ("period 120", "period 121", 8),
+    ("period 120", "period 119", 7),
+    ("T5 - -", "T256 - -", 3),
+    ("T5 - -", "T05 - -", 3),
+    ("T5 - -", "T5  - -", 3),
+    ("stream 0", "stream 1", 8),
+    ("spread 0", "spread 1000000000000000000", 8),
+    ("spread 0", "spread 00", 8),
+    ("282752000", "282752000 ", 8),
+    ("program 0", "program 1", 9),
+    ("bpeak", "speak", 9),
+    ("end", "END", 10),
+    ("end\n", "end", 10),
+    ("end\n", "end\r\n", 10),
+    ("end\n", "", 10),
+];
+
+/// Texts, and the line of the refusal.
+const OTHERS: [(&[u8], Option<u32>); 4] = [
+    (b"tsplan 1\nperiod 120\n", Some(3)),
+    (b"tsplan 1\nperiod 120", Some(2)),
+    (b"", Some(1)),
+    (b"tsplan 1\nperiod 0\nend\n", None),
+];
+
 #[test]
 fn first_bad_lines(rt: HostRuntime) -> Result<(), Fail> {
-    for (from, to, line) in [
-        ("tsplan 1", "tsplan 2", 1),
-        ("period 120", "period 0120", 2),
-        ("period 120", "period  120", 2),
-        ("period 120", "period 100000", 2),
-        ("period 120", "period 121", 8),
-        ("period 120", "period 119", 7),
-        ("T5 - -", "T256 - -", 3),
-        ("T5 - -", "T05 - -", 3),
-        ("T5 - -", "T5  - -", 3),
-        ("stream 0", "stream 1", 8),
-        ("spread 0", "spread 1000000000000000000", 8),
-        ("spread 0", "spread 00", 8),
-        ("282752000", "282752000 ", 8),
-        ("program 0", "program 1", 9),
-        ("bpeak", "speak", 9),
-        ("end", "END", 10),
-        ("end\n", "end", 10),
-        ("end\n", "end\r\n", 10),
-        ("end\n", "", 10),
-    ] {
+    for (from, to, line) in EDITED {
         let text = edited(rt.alloc(), from, to)?;
-        assert_eq!(rt;
-            refusal(rt.alloc(), text.as_slice()),
-            Some(line),
+        assert!(rt;
+            refusal(rt.alloc(), &text) == Some(line),
             "{from} made {to}"
         );
     }
-    assert_eq!(rt; refusal(rt.alloc(), b"tsplan 1\nperiod 120\n"), Some(3));
-    assert_eq!(rt; refusal(rt.alloc(), b"tsplan 1\nperiod 120"), Some(2));
-    assert_eq!(rt; refusal(rt.alloc(), b""), Some(1));
-    assert_eq!(rt; refusal(rt.alloc(), b"tsplan 1\nperiod 0\nend\n"), None);
+    for (text, line) in OTHERS {
+        assert!(rt; refusal(rt.alloc(), text) == line, "{}", text.len());
+    }
     Ok(())
 }
 
@@ -129,28 +146,36 @@ fn each_cut_is_refused(rt: HostRuntime) {
     let mut line = 1;
     for (length, byte) in BASE.as_bytes().iter().enumerate() {
         let (front, _) = BASE.as_bytes().split_at(length);
-        assert_eq!(rt; refusal(rt.alloc(), front), Some(line));
+        assert!(rt; refusal(rt.alloc(), front) == Some(line));
         if *byte == b'\n' {
             line = line.saturating_add(1);
         }
     }
 }
 
+/// What stands in place of a byte.
+const OTHER_BYTES: [u8; 11] = [
+    0, b'\n', b' ', b'-', b'0', b'1', b'9', b'S', 0x7f, 0x80, 0xff,
+];
+
+/// Whether each change of this byte of the base is told, or makes the text of another plan.
+fn are_changes_told(alloc: Global, place: usize) -> Result<bool, Fail> {
+    let mut text = Vec::from_slice(alloc, BASE.as_bytes())?;
+    for byte in OTHER_BYTES {
+        if let Some(at) = text.get_mut(place) {
+            *at = byte;
+        }
+        if !is_canonical(alloc, &text)? {
+            return Ok(false);
+        }
+    }
+    Ok(true)
+}
+
 #[test]
 fn each_change_is_told(rt: HostRuntime) -> Result<(), Fail> {
     for place in 0..BASE.len() {
-        for byte in [
-            0, b'\n', b' ', b'-', b'0', b'1', b'9', b'S', 0x7f, 0x80, 0xff,
-        ] {
-            let mut text = Vec::from_slice(rt.alloc(), BASE.as_bytes())?;
-            if let Some(at) = text.get_mut(place) {
-                *at = byte;
-            }
-            assert!(rt;
-                is_canonical(rt.alloc(), text.as_slice())?,
-                "{byte} at {place}"
-            );
-        }
+        assert!(rt; are_changes_told(rt.alloc(), place)?, "{place}");
     }
     Ok(())
 }
@@ -193,81 +218,98 @@ fn error_of(
     }
 }
 
+/// A number that no entry may reach.
+const END: u64 = 1_000_000_000_000_000_000;
+
+/// Slots, streams, programs and a number of their entries, and why there is no such plan.
+const LIMITS: [(usize, usize, usize, u64, Option<PlanError>); 6] = [
+    (99_999, 256, 256, END - 1, None),
+    (100_000, 257, 256, END, Some(PlanError::Slots)),
+    (1, 257, 0, END, Some(PlanError::Entries)),
+    (1, 0, 257, 0, Some(PlanError::Entries)),
+    (1, 1, 0, END, Some(PlanError::Number)),
+    (1, 0, 1, END, Some(PlanError::Number)),
+];
+
 #[test]
 fn limits_of_plans(rt: HostRuntime) -> Result<(), Fail> {
-    let end: u64 = 1_000_000_000_000_000_000;
-    assert_eq!(rt;
-        error_of(rt.alloc(), 99_999, 256, 256, end.saturating_sub(1))?,
-        None
-    );
-    assert_eq!(rt;
-        error_of(rt.alloc(), 100_000, 257, 256, end)?,
-        Some(PlanError::Slots)
-    );
-    assert_eq!(rt;
-        error_of(rt.alloc(), 1, 257, 0, end)?,
-        Some(PlanError::Entries)
-    );
-    assert_eq!(rt;
-        error_of(rt.alloc(), 1, 0, 257, 0)?,
-        Some(PlanError::Entries)
-    );
-    assert_eq!(rt;
-        error_of(rt.alloc(), 1, 1, 0, end)?,
-        Some(PlanError::Number)
-    );
-    assert_eq!(rt;
-        error_of(rt.alloc(), 1, 0, 1, end)?,
-        Some(PlanError::Number)
-    );
+    for (slots, streams, programs, number, wanted) in LIMITS {
+        let error = error_of(rt.alloc(), slots, streams, programs, number)?;
+        assert!(rt; error == wanted, "{slots} {streams} {programs}");
+    }
     Ok(())
 }
 
+/// Items and slots, and whether the slot is the item's own.
+const OWNERS: [(Item, Slot, bool); 8] = [
+    (Item::Stream(3), Slot::Stream(3), true),
+    (Item::Stream(3), Slot::Pcr(3), false),
+    (Item::Pcr(3), Slot::Pcr(3), true),
+    (Item::Table(3), Slot::Table(3), true),
+    (Item::System(2), Slot::Table(0), true),
+    (Item::System(2), Slot::Table(3), true),
+    (Item::System(2), Slot::Table(2), false),
+    (Item::System(2), Slot::Null, false),
+];
+
 #[test]
 fn owners(rt: HostRuntime) {
-    assert!(rt; Item::Stream(3).owns(Slot::Stream(3)));
-    assert!(rt; !Item::Stream(3).owns(Slot::Pcr(3)));
-    assert!(rt; Item::Pcr(3).owns(Slot::Pcr(3)));
-    assert!(rt; Item::Table(3).owns(Slot::Table(3)));
-    assert!(rt; Item::System(2).owns(Slot::Table(0)));
-    assert!(rt; Item::System(2).owns(Slot::Table(3)));
-    assert!(rt; !Item::System(2).owns(Slot::Table(2)));
-    assert!(rt; !Item::System(2).owns(Slot::Null));
+    for (item, slot, wanted) in OWNERS {
+        assert!(rt; item.owns(slot) == wanted);
+    }
 }
 
-/// The greatest text: 99,999 slots, of streams, tables and null packets in turn, and 256 entries of each kind.
-#[test]
-fn greatest_text_both_ways(rt: HostRuntime) -> Result<(), Fail> {
-    let mut slots = Vec::new(rt.alloc());
-    for s in 0..99_999_u32 {
+/// So many slots, of streams, tables and null packets in turn.
+fn slots_in_turn(alloc: Global, count: u32) -> Result<Vec<Slot>, AllocError> {
+    let mut slots = Vec::new(alloc);
+    for s in 0..count {
         slots.push(match s % 3 {
             0 => Slot::Stream(255),
             1 => Slot::Table(255),
             _ => Slot::Null,
         })?;
     }
-    let number = 999_999_999_999_999_999;
-    let certificate = certificate_of(rt.alloc(), 256, 256, number)?;
-    let Ok(plan) = Plan::new(slots, certificate) else {
-        return Err(Fail::from("no plan"));
-    };
+    Ok(slots)
+}
+
+/// The greatest plan: 99,999 slots and 256 entries of each kind.
+fn greatest(alloc: Global) -> Result<Plan, Fail> {
+    let certificate = certificate_of(alloc, 256, 256, END - 1)?;
+    match Plan::new(slots_in_turn(alloc, 99_999)?, certificate) {
+        Ok(plan) => Ok(plan),
+        Err(_) => Err(Fail::from("no plan")),
+    }
+}
+
+/// Whether it is this plan: its slots, and the entries of the greatest.
+fn is_greatest(read: &Plan, plan: &Plan) -> bool {
+    let certificate = read.certificate();
+    read.slots() == plan.slots()
+        && certificate.streams.len() == 256
+        && certificate.programs.len() == 256
+        && match certificate.programs.last() {
+            Some(entry) => entry.system_peak == END - 1,
+            None => false,
+        }
+}
+
+/// The greatest text, both ways.
+#[test]
+fn greatest_text_both_ways(rt: HostRuntime) -> Result<(), Fail> {
+    let plan = greatest(rt.alloc())?;
     let text = plan.write_text(rt.alloc())?;
     let (read, bytes) = Plan::read_text(rt.alloc(), text.as_bytes())?;
-    assert_eq!(rt; bytes, text.as_bytes().len());
-    assert!(rt; read.slots() == plan.slots());
-    assert_eq!(rt; read.certificate().streams.len(), 256);
-    assert_eq!(rt; read.certificate().programs.len(), 256);
-    let last = read.certificate().programs.last().copied();
-    assert_eq!(rt; last.map(|entry| entry.system_peak), Some(number));
+    assert!(rt; bytes == text.as_bytes().len());
+    assert!(rt; is_greatest(&read, &plan));
     Ok(())
 }
 
 #[test]
 fn numbers_of_conditions(rt: HostRuntime) {
-    assert_eq!(rt; Condition::Shape.code(), 1);
-    assert_eq!(rt; Condition::SystemBuffer.code(), 9);
-    assert_eq!(rt; Condition::PcrSwitch.code(), 12);
-    assert_eq!(rt; Condition::MainSwitch.code(), 16);
+    assert!(rt; Condition::Shape.code() == 1);
+    assert!(rt; Condition::SystemBuffer.code() == 9);
+    assert!(rt; Condition::PcrSwitch.code() == 12);
+    assert!(rt; Condition::MainSwitch.code() == 16);
 }
 
 /// Whether the base is read in so much room; where it is not, memory is wanting.

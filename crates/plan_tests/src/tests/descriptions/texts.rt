@@ -1,9 +1,9 @@
 //! The sections of the base description at moments.
 
-use crate::tests::base;
+use super::base;
 use arrayvec::ArrayVec;
 use description::Description;
-use std::process::Abort;
+use std::alloc::Global;
 
 const START: u64 = 750_516_300;
 
@@ -61,34 +61,30 @@ const IN_TIME: [Section; 4] = [
     (5, 0, START, b"\x70\x70\x05\xc0\x79\x12\x45\x00"),
 ];
 
-// The bytes of a section that the description has.
-fn text(
-    rt: &impl Abort,
-    description: &Description,
-    table: usize,
-    section: usize,
-    moment: u64,
-) -> ArrayVec<u8, 4096> {
-    assert!(rt; table < description.tables());
-    assert!(rt; section < description.sections(table));
+// Whether the description has this section, in these bytes.
+fn is_text(description: &Description, wanted: &Section) -> bool {
+    let (table, section, moment, bytes) = *wanted;
+    if table >= description.tables() || section >= description.sections(table) {
+        return false;
+    }
     let mut out = ArrayVec::new();
     description.text(table, section, moment, &mut out);
-    out
+    out.as_slice() == bytes
 }
 
-fn are_texts(rt: &impl Abort, description: &Description, sections: &[Section]) {
-    for (table, section, moment, bytes) in sections {
-        let found = text(rt, description, *table, *section, *moment);
-        assert_eq!(rt; found.as_slice(), *bytes);
+fn are_texts(alloc: Global, sections: &[Section]) -> bool {
+    match base(alloc) {
+        Some(description) => sections.iter().all(|wanted| is_text(&description, wanted)),
+        None => false,
     }
 }
 
 #[test]
 fn of_fixed_tables(rt: HostRuntime) {
-    are_texts(&rt, &base(&rt, rt.alloc()), &FIXED);
+    assert!(rt; are_texts(rt.alloc(), &FIXED));
 }
 
 #[test]
 fn of_tables_in_time(rt: HostRuntime) {
-    are_texts(&rt, &base(&rt, rt.alloc()), &IN_TIME);
+    assert!(rt; are_texts(rt.alloc(), &IN_TIME));
 }

@@ -5,7 +5,6 @@ use super::{Case, Row, described, edited, planned, row_of};
 use plan_checker::{CheckedPlan, CheckedSwitch, check, check_switch};
 use slot_plan::Slot;
 use std::alloc::Global;
-use std::process::Abort;
 use std::test::Fail;
 
 fn checked(alloc: Global, description: &str, plan: &str) -> Result<CheckedPlan, Fail> {
@@ -28,18 +27,10 @@ fn answer(
     }
 }
 
-fn services_answered(
-    rt: &impl Abort,
-    alloc: Global,
-    second: &str,
-    cases: &[Case],
-) -> Result<(), Fail> {
-    for case in cases {
-        let description = edited(alloc, DESCRIPTION, case.from, case.to)?;
-        let row = answer(alloc, description.as_str(), PLAN, second)?;
-        assert_eq!(rt; row, case.row, "{}", case.to);
-    }
-    Ok(())
+/// Whether the second plan is answered so where a part of the service is changed.
+fn is_answered(alloc: Global, second: &str, case: &Case) -> Result<bool, Fail> {
+    let description = edited(alloc, DESCRIPTION, case.from, case.to)?;
+    Ok(answer(alloc, description.as_str(), PLAN, second)? == case.row)
 }
 
 const BEFORE_TURNED: [Case; 4] = [
@@ -79,7 +70,10 @@ const BEFORE_TURNED: [Case; 4] = [
 
 #[test]
 fn turned_by_a_slot(rt: HostRuntime) -> Result<(), Fail> {
-    services_answered(&rt, rt.alloc(), TURNED, &BEFORE_TURNED)
+    for case in &BEFORE_TURNED {
+        assert!(rt; is_answered(rt.alloc(), TURNED, case)?, "{}", case.to);
+    }
+    Ok(())
 }
 
 const BEFORE_THE_SAME: [Case; 3] = [
@@ -102,14 +96,17 @@ const BEFORE_THE_SAME: [Case; 3] = [
 
 #[test]
 fn the_same_again(rt: HostRuntime) -> Result<(), Fail> {
-    services_answered(&rt, rt.alloc(), PLAN, &BEFORE_THE_SAME)
+    for case in &BEFORE_THE_SAME {
+        assert!(rt; is_answered(rt.alloc(), PLAN, case)?, "{}", case.to);
+    }
+    Ok(())
 }
 
 #[test]
 fn second_plans_by_themselves(rt: HostRuntime) -> Result<(), Fail> {
     let moved = edited(rt.alloc(), PLAN, "S0 - - -\nstream", "- S0 - -\nstream")?;
     let row = answer(rt.alloc(), DESCRIPTION, PLAN, moved.as_str())?;
-    assert_eq!(rt; row, Some([4, 0, 0, 30, 0]));
+    assert!(rt; row == Some([4, 0, 0, 30, 0]));
     Ok(())
 }
 
@@ -126,7 +123,7 @@ fn a_table_comes_late(rt: HostRuntime) -> Result<(), Fail> {
         first.as_str(),
         second.as_str(),
     )?;
-    assert_eq!(rt; row, Some([13, 0, 6, 181_984_000, 180_480_000]));
+    assert!(rt; row == Some([13, 0, 6, 181_984_000, 180_480_000]));
     Ok(())
 }
 
@@ -134,17 +131,17 @@ fn a_table_comes_late(rt: HostRuntime) -> Result<(), Fail> {
 #[test]
 fn work_of_a_stream_is_left(rt: HostRuntime) -> Result<(), Fail> {
     let row = answer(rt.alloc(), DESCRIPTION, LATE_STREAM, PLAN)?;
-    assert_eq!(rt; row, Some([14, 0, 0, 282_752_000, 0]));
+    assert!(rt; row == Some([14, 0, 0, 282_752_000, 0]));
     Ok(())
 }
 
 #[test]
 fn work_of_tables_is_left(rt: HostRuntime) -> Result<(), Fail> {
     let row = answer(rt.alloc(), DESCRIPTION, LATE_TABLE, PLAN)?;
-    assert_eq!(rt; row, Some([14, 0, 1, 282_752_000, 0]));
+    assert!(rt; row == Some([14, 0, 1, 282_752_000, 0]));
     let second = edited(rt.alloc(), PLAN, "tstart 0", "tstart 282752000")?;
     let row = answer(rt.alloc(), DESCRIPTION, LATE_TABLE, second.as_str())?;
-    assert_eq!(rt; row, Some([14, 0, 2, 282_752_000, 0]));
+    assert!(rt; row == Some([14, 0, 2, 282_752_000, 0]));
     Ok(())
 }
 
@@ -160,12 +157,16 @@ fn switched(
     }
 }
 
+fn are_lent(switch: &CheckedSwitch) -> bool {
+    switch.first().description().tables() == 6
+        && switch.first().plan().slots().first() == Some(&Slot::Null)
+        && switch.second().slots().first() == Some(&Slot::Stream(0))
+}
+
 // The first plan begins with a null slot, the second with a stream's slot.
 #[test]
 fn both_plans_are_lent(rt: HostRuntime) -> Result<(), Fail> {
     let switch = switched(rt.alloc(), DESCRIPTION, TURNED, PLAN)?;
-    assert_eq!(rt; switch.first().description().tables(), 6);
-    assert_eq!(rt; switch.first().plan().slots().first(), Some(&Slot::Null));
-    assert_eq!(rt; switch.second().slots().first(), Some(&Slot::Stream(0)));
+    assert!(rt; are_lent(&switch));
     Ok(())
 }

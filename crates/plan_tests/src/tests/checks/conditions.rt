@@ -3,25 +3,18 @@
 use super::texts::{BURST, CUT, DESCRIPTION, NULLS, PLAN, SLOTS};
 use super::{Case, answer, edited};
 use std::alloc::Global;
-use std::process::Abort;
 use std::test::Fail;
 
-fn plans_answered(rt: &impl Abort, alloc: Global, cases: &[Case]) -> Result<(), Fail> {
-    for case in cases {
-        let plan = edited(alloc, PLAN, case.from, case.to)?;
-        let row = answer(alloc, DESCRIPTION, plan.as_str())?;
-        assert_eq!(rt; row, case.row, "{}", case.to);
-    }
-    Ok(())
+/// Whether the checker answers so where a part of the plan is changed.
+fn is_plan_answered(alloc: Global, case: &Case) -> Result<bool, Fail> {
+    let plan = edited(alloc, PLAN, case.from, case.to)?;
+    Ok(answer(alloc, DESCRIPTION, plan.as_str())? == case.row)
 }
 
-fn services_answered(rt: &impl Abort, alloc: Global, cases: &[Case]) -> Result<(), Fail> {
-    for case in cases {
-        let description = edited(alloc, DESCRIPTION, case.from, case.to)?;
-        let row = answer(alloc, description.as_str(), PLAN)?;
-        assert_eq!(rt; row, case.row, "{}", case.to);
-    }
-    Ok(())
+/// The same where a part of the service is changed.
+fn is_service_answered(alloc: Global, case: &Case) -> Result<bool, Fail> {
+    let description = edited(alloc, DESCRIPTION, case.from, case.to)?;
+    Ok(answer(alloc, description.as_str(), PLAN)? == case.row)
 }
 
 const SHAPES: [Case; 5] = [
@@ -55,8 +48,11 @@ const SHAPES: [Case; 5] = [
 #[test]
 fn shapes(rt: HostRuntime) -> Result<(), Fail> {
     let empty = answer(rt.alloc(), DESCRIPTION, "tsplan 1\nperiod 0\nend\n")?;
-    assert_eq!(rt; empty, Some([1, 1, 0, 1, 0]));
-    plans_answered(&rt, rt.alloc(), &SHAPES)
+    assert!(rt; empty == Some([1, 1, 0, 1, 0]));
+    for case in &SHAPES {
+        assert!(rt; is_plan_answered(rt.alloc(), case)?, "{}", case.to);
+    }
+    Ok(())
 }
 
 const PLANS: [Case; 5] = [
@@ -89,7 +85,10 @@ const PLANS: [Case; 5] = [
 
 #[test]
 fn plans(rt: HostRuntime) -> Result<(), Fail> {
-    plans_answered(&rt, rt.alloc(), &PLANS)
+    for case in &PLANS {
+        assert!(rt; is_plan_answered(rt.alloc(), case)?, "{}", case.to);
+    }
+    Ok(())
 }
 
 const SERVICES: [Case; 10] = [
@@ -147,14 +146,17 @@ const SERVICES: [Case; 10] = [
 
 #[test]
 fn services(rt: HostRuntime) -> Result<(), Fail> {
-    services_answered(&rt, rt.alloc(), &SERVICES)
+    for case in &SERVICES {
+        assert!(rt; is_service_answered(rt.alloc(), case)?, "{}", case.to);
+    }
+    Ok(())
 }
 
 // The work that the system buffer begins with is less than what a period leaves.
 #[test]
 fn a_period_cut_short(rt: HostRuntime) -> Result<(), Fail> {
     let row = answer(rt.alloc(), DESCRIPTION, CUT)?;
-    assert_eq!(rt; row, Some([9, 3, 0, 249_664_000, 0]));
+    assert!(rt; row == Some([9, 3, 0, 249_664_000, 0]));
     Ok(())
 }
 
@@ -165,7 +167,7 @@ fn a_burst(rt: HostRuntime) -> Result<(), Fail> {
     let nulls = NULLS.repeat(rt.alloc(), 24)?;
     let plan = edited(rt.alloc(), BURST, NULLS, nulls.as_str())?;
     let row = answer(rt.alloc(), description.as_str(), plan.as_str())?;
-    assert_eq!(rt; row, Some([6, 1, 0, 34_592_000_000, 19_456_000_000]));
+    assert!(rt; row == Some([6, 1, 0, 34_592_000_000, 19_456_000_000]));
     Ok(())
 }
 
@@ -176,7 +178,7 @@ fn a_table_too_rare(rt: HostRuntime) -> Result<(), Fail> {
     let description = edited(rt.alloc(), DESCRIPTION, "[[event]]", table)?;
     let plan = edited(rt.alloc(), PLAN, "T5 - -", "T5 T6 -")?;
     let row = answer(rt.alloc(), description.as_str(), plan.as_str())?;
-    assert_eq!(rt; row, Some([3, 0, 6, 180_480_000, 178_976_000]));
+    assert!(rt; row == Some([3, 0, 6, 180_480_000, 178_976_000]));
     Ok(())
 }
 
@@ -190,7 +192,7 @@ fn long_plan(alloc: Global, times: usize, period: &str) -> Result<String, Fail> 
 #[test]
 fn the_longest_period(rt: HostRuntime) -> Result<(), Fail> {
     let plan = long_plan(rt.alloc(), 546, "period 65520")?;
-    assert_eq!(rt; answer(rt.alloc(), DESCRIPTION, plan.as_str())?, None);
+    assert!(rt; answer(rt.alloc(), DESCRIPTION, plan.as_str())? == None);
     Ok(())
 }
 
@@ -198,6 +200,6 @@ fn the_longest_period(rt: HostRuntime) -> Result<(), Fail> {
 fn a_period_too_long(rt: HostRuntime) -> Result<(), Fail> {
     let plan = long_plan(rt.alloc(), 547, "period 65640")?;
     let row = answer(rt.alloc(), DESCRIPTION, plan.as_str())?;
-    assert_eq!(rt; row, Some([1, 2, 0, 65_640, 65_536]));
+    assert!(rt; row == Some([1, 2, 0, 65_640, 65_536]));
     Ok(())
 }
