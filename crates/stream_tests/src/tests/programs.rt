@@ -9,7 +9,8 @@ use std::alloc::{AllocError, Global};
 use std::test::Fail;
 use stream_programs::{
     Association, FoundStream, LeftOut, Placed, Programs, StreamTables, association_change,
-    found_programs, free_pid, last_service, map_change, named_programs, stream_tables,
+    found_programs, free_pid, last_service, map_change, named_programs, original_network,
+    stream_tables,
 };
 use vectors::{EMPTY_MAP, FIRST_MAP, LAST_MAP, MORE, NEXT_PAT, OTHER_PAT, PAT, PMT, SDT};
 
@@ -210,6 +211,7 @@ fn has_service(findings: &[Finding<'_>]) -> bool {
 fn service_of_ffmpeg(rt: HostRuntime) -> Result<(), Fail> {
     let findings = found(rt.alloc(), &[(0x11, &PMT), (0x11, &SDT), (0x12, &SDT)])?;
     assert!(rt; has_service(&findings));
+    assert!(rt; original_network(&findings) == Some(0xff01));
     Ok(())
 }
 
