@@ -1,8 +1,11 @@
 //! Jobs from any transport stream: a description, a plan that serves it, and the units of its streams.
 //!
-//! `material_of` sorts what a demultiplexer finds into programs and streams with their units at moments of a run, and counts what
-//! these need; `describe` and `make_job` write the description, find a rate with a plan, and give the units in order. What is not
-//! taken as it stands is told (`Told`), and what can't be used is refused (`Refusal`).
+//! `material_of` says what is taken of what a demultiplexer finds, what is told and what is refused: `specs/Materials`, step by
+//! step the packets (`specs/Packets`), the programs and streams that are asked for (`specs/Wished`, `specs/JobPrograms`), their
+//! units as on the wire (`specs/Wire`) and at moments of a run (`specs/Moments`), and what is declared of them
+//! (`specs/Declaring`); `specs/Telling` has what is told. `describe` and `make_job` write the description (`specs/Texts`), find a
+//! rate with a plan (`specs/Rates`), and give the units in order (`specs/Jobs`), or the cause why there is no job
+//! (`specs/Unmade`).
 #![tactic(auto)]
 
 mod agreeing;
