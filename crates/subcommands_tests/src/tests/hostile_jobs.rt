@@ -349,7 +349,7 @@ fn hostile_jobs(rt: HostRuntime) -> Result<(), Fail> {
     for (number, answer) in ANSWERS.iter().enumerate() {
         let job = hostile_job(alloc, &mut seed)?;
         let word = answered(alloc, &job, &mut seed)?;
-        assert_eq!(rt; word, *answer, "job {number}");
+        assert!(rt; word == *answer, "job {number}");
     }
     Ok(())
 }
