@@ -190,13 +190,25 @@ fn writes_the_longest_body(rt: HostRuntime) -> Result<(), Fail> {
     Ok(())
 }
 
+/// The header of the PAT.
+const PAT_HEADER: SectionHeader = SectionHeader {
+    table_id: 0,
+    private_indicator: false,
+    long: Some(LongHeader {
+        table_id_extension: 1,
+        version_number: 0,
+        current_next: true,
+        section_number: 0,
+        last_section_number: 0,
+    }),
+};
+
 /// The PAT by its parts.
 fn by_parts() -> ArrayVec<u8, 4096> {
-    let header = long_form(0, false, 1);
     let mut out = ArrayVec::new();
-    begin_section(&mut out, header, 4);
+    begin_section(&mut out, PAT_HEADER, 4);
     append(&mut out, &[0x00, 0x01, 0xf0, 0x00]);
-    end_section(&mut out, header);
+    end_section(&mut out, PAT_HEADER);
     out
 }
 
