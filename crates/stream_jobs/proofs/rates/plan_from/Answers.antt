@@ -4,8 +4,8 @@ use Rattle.stream_jobs.specs.Rates.{IsUnserved}
 use Rattle.stream_jobs.proofs.Trying.{all_over, all_spent, none_passed, one_passed, tried_after}
 use Rattle.stream_jobs.proofs.rates.plan_from.Goals as goal
 
-pub loop-tried-initial : goal.loop-tried-initial
-loop-tried-initial c =
+pub loop-tried-init : goal.loop-tried-init
+loop-tried-init c =
     none_passed (IsUnserved c.args.draft.now.wishes.now (map finding_view c.args.draft.now.findings.now) c.args.draft.now.material.now) c.args.first
 
 -- src/rates.rt:150:13
@@ -34,3 +34,7 @@ pub returns-clause-none : goal.returns-clause-none
 returns-clause-none c =
     let unserved = IsUnserved c.args.draft.now.wishes.now (map finding_view c.args.draft.now.findings.now) c.args.draft.now.material.now in
     all_spent unserved c.loop-tried.tried c.args.first c.loop-tried.rate c.loop-tried.invariant (omega (arith, c.loop-tried-test.false))
+
+-- src/rates.rt:151:32
+pub returns-in_err-planned-clause-refused : goal.returns-in_err-planned-clause-refused
+returns-in_err-planned-clause-refused c = ?
