@@ -8,7 +8,7 @@ use Rattle.slot_plan.specs.Text.{plan_text}
 use Rattle.stream_jobs.specs.Answers.{Answers, Refuses}
 use Rattle.stream_jobs.specs.Jobs.{AreUnits, IsJob}
 use Rattle.stream_jobs.specs.Materials.{MaterialView, material}
-use Rattle.stream_jobs.specs.Unmade.{IsUndescribed}
+use Rattle.stream_jobs.specs.Unmade.{IsUndescribed, IsUnreasoned}
 use Rattle.stream_jobs.specs.Wished.{WishesView}
 use Rattle.stream_jobs.specs.declared.refusal.JobError.{JobError}
 use Rattle.stream_jobs.specs.declared.refusal.JobError.TheVariants.{Memory, Refused}
@@ -56,12 +56,16 @@ undescribed : (rate : Option ℕ) (w : WishesView) (findings : List FindingView)
 undescribed (Some asked) w findings m = refl
 undescribed None w findings m = tt
 
+unreasoned : (rate : Option ℕ) (w : WishesView) (findings : List FindingView) (m : MaterialView) → IsUnreasoned rate w findings m Memory
+unreasoned (Some asked) w findings m = tt
+unreasoned None w findings m = tt
+
 -- there is no memory for what a word gives
 pub wanting : (word : Word) (w : WishesView) (findings : List FindingView) (m : MaterialView) (error : JobError) → error ≡ Memory → Withholds word w findings m error
 wanting Whole w findings m error e = subst (λ (x : JobError). Withholds Whole w findings m x) (sym e) tt
 wanting Describe w findings m error e = subst (λ (x : JobError). Withholds Describe w findings m x) (sym e) (undescribed w.rate w findings m)
 wanting Units w findings m error e = e
-wanting Why w findings m error e = subst (λ (x : JobError). Withholds Why w findings m x) (sym e) tt
+wanting Why w findings m error e = subst (λ (x : JobError). Withholds Why w findings m x) (sym e) (unreasoned w.rate w findings m)
 
 pub withheld : (asked : AskedView) (findings : List FindingView) (m : MaterialView) (error : JobError) (o : Outcome) →
     Withholds asked.word asked.wishes findings m error → TellsWhy error o → MaterialLeads asked findings (Ok m) o

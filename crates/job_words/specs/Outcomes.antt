@@ -11,7 +11,7 @@ use Rattle.unit_order.specs.Merging.{AreMerged}
 use Rattle.stream_jobs.specs.Jobs.{AreReasons, AreUnits, IsDescription, IsJob}
 use Rattle.stream_jobs.specs.Materials.{MaterialView, material}
 use Rattle.stream_jobs.specs.Telling.{are_damaged}
-use Rattle.stream_jobs.specs.Unmade.{IsUndescribed, IsUnmade, IsUnrated}
+use Rattle.stream_jobs.specs.Unmade.{IsUndescribed, IsUnmade, IsUnreasoned}
 use Rattle.stream_jobs.specs.Wished.{WishesView}
 use Rattle.stream_jobs.specs.declared.refusal.JobError.{JobError}
 use Rattle.stream_jobs.specs.declared.refusal.JobError.TheVariants.{Memory, Refused}
@@ -69,7 +69,7 @@ abbrev pub Withholds : Word → WishesView → List FindingView → MaterialView
 Withholds Whole w findings m error = IsUnmade w findings m error
 Withholds Describe w findings m error = IsUndescribed w.rate w findings m error
 Withholds Units w findings m error = error ≡ Memory
-Withholds Why w findings m error = IsUnrated w findings m error
+Withholds Why w findings m error = IsUnreasoned w.rate w findings m error
 
 -- 2. What a stream leads to
 

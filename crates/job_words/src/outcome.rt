@@ -3,7 +3,7 @@
 ghost use Rattle.std.specs.Prelude.{◌≡◌, ◌≤◌, IfErr, IfOk, Ok, length, map, string_bytes};
 ghost use Rattle.demux.specs.Shown.{finding_view};
 ghost use Rattle.stream_jobs.specs.Jobs.{AreStreams, IsDescription};
-ghost use Rattle.stream_jobs.specs.Unmade.{IsUndescribed, IsUnmade, IsUnrated};
+ghost use Rattle.stream_jobs.specs.Unmade.{IsUndescribed, IsUnmade, IsUnreasoned};
 ghost use Rattle.stream_jobs.specs.declared.refusal.JobError.TheVariants.{Memory};
 ghost use Rattle.job_words.specs.Outcomes as spec;
 ghost use Rattle.job_words.specs.ToldLines.{told_lines};
@@ -118,7 +118,7 @@ fn reason_parts(
     material: &Material,
 ) -> Result<Parts, JobError>
     ensures given { IfOk result (λ p. spec.GivesReasons wishes.now (map finding_view findings.now) material.now p) }
-    ensures withheld { IfErr result (IsUnrated wishes.now (map finding_view findings.now) material.now) }
+    ensures withheld { IfErr result (IsUnreasoned wishes.now.rate wishes.now (map finding_view findings.now) material.now) }
 {
     let reasons = why(alloc, wishes, findings, material)?;
     let mut lines = String::new(alloc);

@@ -1,10 +1,15 @@
 -- Rates that are tried one after another.
-use Rattle.std.proofs.Common.{◌≡◌, ◌≤◌, ◌<◌, ℕ, zero, suc, ◌+◌, ◌-◌, true, false, nat_le, List, [], ◌∷◌, ◌++◌, length, map, All, Contains, slice_index_or, refl, sym, subst, ap, ◌∙◌, arith, append_assoc}
+use Rattle.std.proofs.Common.{◌≡◌, ◌≤◌, ◌<◌, ℕ, zero, suc, ◌+◌, ◌-◌, true, false, nat_le, List, [], ◌∷◌, ◌++◌, length, map, All, refl, sym, subst, ap, ◌∙◌, arith, append_assoc, append-nil, Option, Some, None}
 use Rattle.std.proofs.lemmas.Bool.Decides.{nat_tests}
-use Rattle.std.proofs.lemmas.List.Elements.{All-nil, All-cons}
+use Rattle.std.proofs.lemmas.List.Elements.{All-nil, All-cons, All-append}
 use Rattle.std.proofs.lemmas.List.FromFn.{map-range_with_len_more}
 use Rattle.std.specs.List.{range_with_len}
-use Rattle.stream_jobs.specs.Rates.{next_rate, rates_from, tried_rates}
+use Rattle.demux.specs.Views.{FindingView}
+use Rattle.stream_jobs.specs.Materials.{MaterialView}
+use Rattle.stream_jobs.specs.Rates.{IsTriedFrom, IsUnserved, next_rate, rates_from, tried_rates}
+use Rattle.stream_jobs.specs.Unmade.{IsUnreasoned}
+use Rattle.stream_jobs.specs.Wished.{WishesView}
+use Rattle.stream_jobs.specs.declared.refusal.JobError.TheVariants.{Memory}
 
 low : (rate : ℕ) → rate ≤ 100_000_000 → nat_le rate 100_000_000 ≡ true
 low rate h = grind (arith, nat_tests)
@@ -33,32 +38,46 @@ spent : (k rate : ℕ) → 96 ≤ k → rates_from (96 - k) k rate ≡ []
 unfolding rates_from
 spent k rate h = let e : 96 - k ≡ 0 = omega (arith, h) in rw e refl
 
-later : {X : Type 0} (x y : X) (ys : List X) → Contains ys x → Contains (y ∷ ys) x
-later x y ys c = (suc c.0, omega (arith, c.1), c.2)
+-- Those before a rate, none of which is served, and from it on those that are left
+pub record ArePassed (P : ℕ → Type 0) (first k rate : ℕ) : Type 0 where
+  pub before : List ℕ
+  pub split : tried_rates first ≡ before ++ rates_from (96 - k) k rate
+  pub none_before : All P before
 
--- what holds of all that are tried
-pub all_over : (P : ℕ → Type 0) (k first rate : ℕ) → (All P (rates_from (96 - k) k rate) → All P (tried_rates first)) → 100_000_000 < rate → All P (tried_rates first)
-all_over P k first rate whole h = whole (subst (All P) (sym (over (96 - k) k rate h)) (All-nil P))
+pub none_passed : (P : ℕ → Type 0) (first : ℕ) → ArePassed P first 0 first
+none_passed P first = record { before = []; split = refl; none_before = All-nil P }
 
-pub all_spent : (P : ℕ → Type 0) (k first rate : ℕ) → (All P (rates_from (96 - k) k rate) → All P (tried_rates first)) → 96 ≤ k → All P (tried_rates first)
-all_spent P k first rate whole h = whole (subst (All P) (sym (spent k rate h)) (All-nil P))
+-- nothing is left
+ended : (P : ℕ → Type 0) (k first rate : ℕ) → rates_from (96 - k) k rate ≡ [] → ArePassed P first k rate → All P (tried_rates first)
+ended P k first rate e passed =
+    let whole : tried_rates first ≡ passed.before = passed.split ∙ (ap (λ rs. passed.before ++ rs) e ∙ append-nil passed.before) in
+    subst (All P) (sym whole) passed.none_before
 
-pub all_passed : (P : ℕ → Type 0) (k first rate : ℕ) → (All P (rates_from (96 - k) k rate) → All P (tried_rates first)) → k < 96 → rate ≤ 100_000_000 → P rate
-    → All P (rates_from (96 - (k + 1)) (k + 1) (next_rate k rate)) → All P (tried_rates first)
-all_passed P k first rate whole within h one rest =
-    whole (subst (All P) (sym (tried_now k rate within h)) (All-cons P rate (rates_from (96 - (k + 1)) (k + 1) (next_rate k rate)) one rest))
+pub all_over : (P : ℕ → Type 0) (k first rate : ℕ) → ArePassed P first k rate → 100_000_000 < rate → All P (tried_rates first)
+all_over P k first rate passed h = ended P k first rate (over (96 - k) k rate h) passed
 
--- which are tried
-pub among_now : (k first rate : ℕ) → ((r : ℕ) → Contains (rates_from (96 - k) k rate) r → Contains (tried_rates first) r) → k < 96 → rate ≤ 100_000_000 → Contains (tried_rates first) rate
-among_now k first rate whole within h =
+pub all_spent : (P : ℕ → Type 0) (k first rate : ℕ) → ArePassed P first k rate → 96 ≤ k → All P (tried_rates first)
+all_spent P k first rate passed h = ended P k first rate (spent k rate h) passed
+
+-- this one is tried
+pub tried_after : (w : WishesView) (findings : List FindingView) (m : MaterialView) (k first rate : ℕ) → ArePassed (IsUnserved w findings m) first k rate → k < 96 → rate ≤ 100_000_000 →
+    IsTriedFrom w findings m first rate
+tried_after w findings m k first rate passed within h = record {
+  before = passed.before;
+  after = rates_from (96 - (k + 1)) (k + 1) (next_rate k rate);
+  among = passed.split ∙ ap (λ rs. passed.before ++ rs) (tried_now k rate within h);
+  none_before = passed.none_before;
+}
+
+-- it is passed too
+pub one_passed : (P : ℕ → Type 0) (k first rate : ℕ) → ArePassed P first k rate → k < 96 → rate ≤ 100_000_000 → P rate → ArePassed P first (k + 1) (next_rate k rate)
+one_passed P k first rate passed within h one =
     let rest = rates_from (96 - (k + 1)) (k + 1) (next_rate k rate) in
-    let here : Contains (rate ∷ rest) rate = (0, omega arith, refl) in
-    whole rate (subst (λ rs. Contains rs rate) (sym (tried_now k rate within h)) here)
-
-pub among_passed : (k first rate : ℕ) → ((r : ℕ) → Contains (rates_from (96 - k) k rate) r → Contains (tried_rates first) r) → k < 96 → rate ≤ 100_000_000
-    → (r : ℕ) → Contains (rates_from (96 - (k + 1)) (k + 1) (next_rate k rate)) r → Contains (tried_rates first) r
-among_passed k first rate whole within h r c =
-    whole r (subst (λ rs. Contains rs r) (sym (tried_now k rate within h)) (later r rate (rates_from (96 - (k + 1)) (k + 1) (next_rate k rate)) c))
+    record {
+      before = passed.before ++ rate ∷ [];
+      split = passed.split ∙ (ap (λ rs. passed.before ++ rs) (tried_now k rate within h) ∙ sym (append_assoc passed.before (rate ∷ []) rest));
+      none_before = All-append P passed.before (rate ∷ []) passed.none_before (All-cons P rate [] one (All-nil P));
+    }
 
 -- one more table
 pub tables_more : {X : Type 0} (f : ℕ → X) (n : ℕ) → map f (range_with_len 0 (n + 1)) ≡ map f (range_with_len 0 n) ++ f n ∷ []
@@ -69,3 +88,8 @@ pushed_table f old now n so_far = rw (so_far, tables_more f n) (append_assoc old
 
 pub all_tables : {X : Type 0} (f : ℕ → X) (old : List X) (now : List X) (n count : ℕ) → now ≡ old ++ map f (range_with_len 0 n) → n ≡ count → now ≡ old ++ map f (range_with_len 0 count)
 all_tables f old now n count so_far same = so_far ∙ ap (λ k. old ++ map f (range_with_len 0 k)) same
+
+-- there is no memory for reasons
+pub memory_unreasoned : (rate : Option ℕ) (w : WishesView) (findings : List FindingView) (m : MaterialView) → IsUnreasoned rate w findings m Memory
+memory_unreasoned (Some asked) w findings m = tt
+memory_unreasoned None w findings m = tt

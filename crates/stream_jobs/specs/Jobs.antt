@@ -11,7 +11,7 @@ use Rattle.unit_order.specs.Merging.{AreMerged}
 use Rattle.stream_jobs.specs.Materials.{MaterialView}
 use Rattle.stream_jobs.specs.Moments.{Timed}
 use Rattle.stream_jobs.specs.Moving.{AreFound, Declares, source_of}
-use Rattle.stream_jobs.specs.Rates.{IsAskedOrFirst, IsRate}
+use Rattle.stream_jobs.specs.Rates.{IsAskedOrFirst, IsRate, IsServed}
 pub use Rattle.stream_jobs.specs.Rates.{IsText}
 use Rattle.stream_jobs.specs.Texts.{description_text}
 use Rattle.stream_jobs.specs.Wire.{WireView}
@@ -88,10 +88,11 @@ pub record AreUnits (made : Bool) (findings : List FindingView) (d : Described) 
 
 -- 4. A job
 
--- the description of these streams: at the rate that is asked for, else at one of those that are tried
+-- the description of these streams: at the rate that is asked for, else at one of those that are tried, which a plan serves
 pub record IsDescription (w : WishesView) (findings : List FindingView) (m : MaterialView) (text : List ℕ) : Type 0 where
   pub rate : ℕ
   pub rate_is : IsRate w.rate w findings m rate
+  pub served : w.rate ≡ None → IsServed w findings m rate
   pub text_is : text ≡ description_text w findings m rate
 
 -- with what it is read as, and the units of all streams by their DTS

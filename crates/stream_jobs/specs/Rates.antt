@@ -1,11 +1,13 @@
 -- The rates at which a plan is looked for.
-use Rattle.std.specs.Prelude.{◌≡◌, ◌⊎◌, ℕ, zero, suc, ◌+◌, ◌/◌, ◌-◌, ◌^◌, min, nat_le, nat_lt, false, if◌then◌else◌, List, [], ◌∷◌, ◌++◌, map, Option, Some, None, Ok, All, Contains}
+use Rattle.std.specs.Prelude.{◌≡◌, ◌⊎◌, ℕ, zero, suc, ◌+◌, ◌/◌, ◌-◌, ◌^◌, min, nat_le, nat_lt, false, if◌then◌else◌, List, [], ◌∷◌, ◌++◌, map, Option, Some, None, Ok, All}
 use Rattle.std.specs.List.{range_with_len}
 use Rattle.demux.specs.Views.{FindingView}
 use Rattle.description.specs.Described.{Described, DescribedProgram}
 use Rattle.description.specs.Reading.{description_of}
 use Rattle.description.specs.Tables.{round_places, table_count, table_limit}
 use Rattle.plan_maker.specs.PlainPlan.{plain_plan, serves}
+use Rattle.slot_plan.specs.Conditions.{IsServing}
+use Rattle.slot_plan.specs.Planned.{Planned}
 use Rattle.stream_choice.specs.Rates.{IsLeastRate, IsTooMuch}
 use Rattle.stream_choice.specs.declared.choice.Choice.{Choice}
 use Rattle.stream_choice.specs.declared.recurring.Recurring.{Recurring}
@@ -75,21 +77,35 @@ pub record IsPlanned (w : WishesView) (findings : List FindingView) (m : Materia
   pub text_is : text ≡ description_text w findings m rate
   pub read : IsText d text
 
--- the rate that is asked for, else one of those that are tried
-pub record IsTried (w : WishesView) (findings : List FindingView) (m : MaterialView) (rate : ℕ) : Type 0 where
-  pub first : ℕ
-  pub is_first : IsFirstRate w findings m first
-  pub among : Contains (tried_rates first) rate
+-- a plan serves the description at a rate
+pub record IsServed (w : WishesView) (findings : List FindingView) (m : MaterialView) (rate : ℕ) : Type 0 where
+  pub description : Described
+  pub plan : Planned
+  pub read : IsText description (description_text w findings m rate)
+  pub serving : IsServing description plan
 
-abbrev pub IsRate : Option ℕ → WishesView → List FindingView → MaterialView → ℕ → Type 0
-IsRate (Some asked) w findings m rate = rate ≡ asked
-IsRate None w findings m rate = IsTried w findings m rate
-
--- at a rate not even the plain plan serves
+-- not even the plain plan does
 pub record IsUnserved (w : WishesView) (findings : List FindingView) (m : MaterialView) (rate : ℕ) : Type 0 where
   pub description : Described
   pub read : IsText description (description_text w findings m rate)
   pub fails : serves description (plain_plan description) ≡ false
+
+-- one of the rates from a first one on is tried only after those before it, none of which is served
+pub record IsTriedFrom (w : WishesView) (findings : List FindingView) (m : MaterialView) (first rate : ℕ) : Type 0 where
+  pub before : List ℕ
+  pub after : List ℕ
+  pub among : tried_rates first ≡ before ++ rate ∷ after
+  pub none_before : All (IsUnserved w findings m) before
+
+pub record IsTried (w : WishesView) (findings : List FindingView) (m : MaterialView) (rate : ℕ) : Type 0 where
+  pub first : ℕ
+  pub is_first : IsFirstRate w findings m first
+  pub tried : IsTriedFrom w findings m first rate
+
+-- the rate that is asked for, else one that is tried
+abbrev pub IsRate : Option ℕ → WishesView → List FindingView → MaterialView → ℕ → Type 0
+IsRate (Some asked) w findings m rate = rate ≡ asked
+IsRate None w findings m rate = IsTried w findings m rate
 
 -- nor at one of those that are tried, of which this is the first
 pub record AreUnserved (w : WishesView) (findings : List FindingView) (m : MaterialView) (first : ℕ) : Type 0 where

@@ -2,10 +2,11 @@
 
 ghost use Rattle.std.specs.Prelude.{◌≡◌, ◌≤◌, IfErr, IfOk, All, length, map, string_bytes};
 ghost use Rattle.demux.specs.Shown.{finding_view};
+ghost use Rattle.slot_plan.specs.Conditions.{IsServing};
 ghost use Rattle.unit_order.specs.Merging.{AreMerged};
 ghost use Rattle.stream_jobs.specs.Jobs.{AllAgree, AreReasons, AreStreams, AreUnits, IsDescription, IsJob, IsText};
 ghost use Rattle.stream_jobs.specs.Rates.{IsAskedOrFirst, IsPlanned, IsRate};
-ghost use Rattle.stream_jobs.specs.Unmade.{IsUndescribed, IsUnmade, IsUnrated};
+ghost use Rattle.stream_jobs.specs.Unmade.{IsUndescribed, IsUnmade, IsUnreasoned};
 ghost use Rattle.stream_jobs.specs.declared.refusal.JobError.TheVariants.{Memory};
 
 use crate::agreeing::disagreeing;
@@ -62,6 +63,7 @@ fn agreed_plan(
 ) -> Result<Planned, JobError>
     ensures planned { IfOk result (λ p. IsPlanned wishes.now (map finding_view findings.now) material.now p.rate p.plan.description (string_bytes p.text)) }
     ensures rate { IfOk result (λ p. IsRate wishes.now.rate wishes.now (map finding_view findings.now) material.now p.rate) }
+    ensures serving { IfOk result (λ p. IsServing p.plan.description p.plan.plan) }
     ensures agree { IfOk result (λ p. AllAgree p.plan.description material.now.streams) }
     ensures refused { IfErr result (IsUnmade wishes.now (map finding_view findings.now) material.now) }
 {
@@ -99,6 +101,15 @@ pub fn make_job(
     })
 }
 
+// The text of a description that a plan serves.
+fn served_text(planned: Planned) -> String
+    ensures text { result ≡ planned.text }
+    ensures serving { IsServing planned.plan.description planned.plan.plan }
+{
+    let _plan = planned.plan.plan();
+    planned.text
+}
+
 /// The text of the description of a job, at the rate that is wished, else at the least at which a plan is found.
 pub fn describe(
     alloc: Global,
@@ -116,7 +127,7 @@ pub fn describe(
     };
     match wishes.rate {
         Some(rate) => Ok(draft.text(alloc, rate)?),
-        None => Ok(plan_draft(alloc, &draft)?.text),
+        None => Ok(served_text(plan_draft(alloc, &draft)?)),
     }
 }
 
@@ -132,7 +143,7 @@ pub fn units(alloc: Global, material: Material) -> Result<Vec<(u8, Unit)>, JobEr
 // The rate that is wished, else the least at which all have slots.
 fn rate_of(alloc: Global, draft: &Draft<'_, '_>) -> Result<u64, JobError>
     ensures rate { IfOk result (IsAskedOrFirst draft.now.wishes.now.rate draft.now.wishes.now (map finding_view draft.now.findings.now) draft.now.material.now) }
-    ensures refused { IfErr result (IsUnrated draft.now.wishes.now (map finding_view draft.now.findings.now) draft.now.material.now) }
+    ensures refused { IfErr result (IsUnreasoned draft.now.wishes.now.rate draft.now.wishes.now (map finding_view draft.now.findings.now) draft.now.material.now) }
 {
     let wishes = draft.wishes;
     match wishes.rate {
@@ -149,7 +160,7 @@ pub fn why(
     material: &Material,
 ) -> Result<Vec<Reason>, JobError>
     ensures reasons { IfOk result (λ reasons. AreReasons wishes.now (map finding_view findings.now) material.now reasons.items) }
-    ensures refused { IfErr result (IsUnrated wishes.now (map finding_view findings.now) material.now) }
+    ensures refused { IfErr result (IsUnreasoned wishes.now.rate wishes.now (map finding_view findings.now) material.now) }
 {
     let draft = Draft {
         wishes,

@@ -5,7 +5,7 @@ ghost use Rattle.demux.specs.Shown.{finding_view};
 ghost use Rattle.stream_jobs.specs.Answers.{Answers};
 ghost use Rattle.stream_jobs.specs.Jobs.{AreStreams, IsCarried, IsFew};
 ghost use Rattle.stream_jobs.specs.Materials as spec;
-ghost use Rattle.stream_jobs.specs.Wished.{is_among, is_wished};
+ghost use Rattle.stream_jobs.specs.Wished.{is_wished};
 ghost use Rattle.stream_jobs.specs.declared.told.Told.TheVariants.{Table};
 
 use crate::declaring::{Counted, choices, count_units, too_long, too_many};
@@ -17,7 +17,7 @@ use crate::refusal::{JobError, Refusal};
 use crate::telling::{tell_changes, tell_map_changes, tell_packets, tell_streams};
 use crate::told::Told;
 use crate::wire_streams::{WireStream, wire_streams};
-use crate::wishes::Wishes;
+use crate::wishes::{Wishes, is_among};
 use demux::Finding;
 use psi_tables::Program;
 use std::alloc::{AllocError, Global};
@@ -55,14 +55,6 @@ impl Model for Material {
       choices = m.choices.items;
       told = m.told.items;
     } };
-}
-
-// Whether a number is among others.
-#[tactic(auto, unfolding(crate::specs::Wished::is_among))]
-fn is_among(number: u16, numbers: &[u16]) -> bool
-    ensures { result ≡ is_among number numbers.now }
-{
-    numbers.iter().any(|other| *other == number)
 }
 
 // Whether a program is taken.

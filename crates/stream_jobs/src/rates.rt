@@ -1,11 +1,11 @@
 //! A rate with a plan.
 
-ghost use Rattle.std.specs.Prelude.{◌≡◌, ◌≤◌, ◌<◌, ◌++◌, IfOk, IfErr, IfSome, IfNone, Some, None, All, Contains, OnOk, map, string_bytes};
+ghost use Rattle.std.specs.Prelude.{◌≡◌, ◌≤◌, ◌<◌, ◌++◌, IfOk, IfErr, IfSome, IfNone, Some, None, All, OnOk, map, string_bytes};
 ghost use Rattle.std.specs.List.{range_with_len};
 ghost use Rattle.demux.specs.Shown.{finding_view};
 ghost use Rattle.description.specs.Tables.{table_count};
 ghost use Rattle.stream_jobs.specs.Rates as spec;
-ghost use Rattle.stream_jobs.specs.Unmade.{IsUnplanned, IsUnrated, IsUnreadAt};
+ghost use Rattle.stream_jobs.specs.Unmade.{IsUnplanned, IsUnrated, IsUnreadAtOne, IsUnreadAt};
 
 use crate::draft::{Draft, described};
 use crate::refusal::{JobError, Refusal};
@@ -112,7 +112,7 @@ fn plan_at(alloc: Global, draft: &Draft<'_, '_>, rate: u64) -> Result<Option<Pla
     ensures planned { IfOk result (λ found. IfSome found (λ p. spec.IsPlanned draft.now.wishes.now (map finding_view draft.now.findings.now) draft.now.material.now p.rate p.plan.description (string_bytes p.text))) }
     ensures rate { IfOk result (λ found. IfSome found (λ p. p.rate ≡ rate)) }
     ensures none { IfOk result (λ found. IfNone found (spec.IsUnserved draft.now.wishes.now (map finding_view draft.now.findings.now) draft.now.material.now rate)) }
-    ensures refused { IfErr result (IsUnreadAt draft.now.wishes.now (map finding_view draft.now.findings.now) draft.now.material.now) }
+    ensures refused { IfErr result (IsUnreadAt draft.now.wishes.now (map finding_view draft.now.findings.now) draft.now.material.now rate) }
 {
     let text = draft.text(alloc, rate)?;
     let description = described(alloc, &text)?;
@@ -139,9 +139,9 @@ fn next_rate(tried: u32, rate: u64) -> u64
 // The first plan that is found of those from a rate on.
 fn plan_from(alloc: Global, draft: &Draft<'_, '_>, first: u64) -> Result<Option<Planned>, JobError>
     ensures planned { IfOk result (λ found. IfSome found (λ p. spec.IsPlanned draft.now.wishes.now (map finding_view draft.now.findings.now) draft.now.material.now p.rate p.plan.description (string_bytes p.text))) }
-    ensures tried { IfOk result (λ found. IfSome found (λ p. Contains (spec.tried_rates first) p.rate)) }
+    ensures tried { IfOk result (λ found. IfSome found (λ p. spec.IsTriedFrom draft.now.wishes.now (map finding_view draft.now.findings.now) draft.now.material.now first p.rate)) }
     ensures none { IfOk result (λ found. IfNone found (All (spec.IsUnserved draft.now.wishes.now (map finding_view draft.now.findings.now) draft.now.material.now) (spec.tried_rates first))) }
-    ensures refused { IfErr result (IsUnreadAt draft.now.wishes.now (map finding_view draft.now.findings.now) draft.now.material.now) }
+    ensures refused { IfErr result (IsUnreadAtOne (spec.IsTriedFrom draft.now.wishes.now (map finding_view draft.now.findings.now) draft.now.material.now first) draft.now.wishes.now (map finding_view draft.now.findings.now) draft.now.material.now) }
 {
     let mut rate = first;
     for tried in 0..TRIES {

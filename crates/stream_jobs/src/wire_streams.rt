@@ -6,12 +6,13 @@ ghost use Rattle.stream_jobs.specs.Answers.{Answers, Refuses, and_then};
 ghost use Rattle.stream_jobs.specs.Jobs.{IsCarried};
 ghost use Rattle.stream_jobs.specs.Telling.{pid_told};
 ghost use Rattle.stream_jobs.specs.Wire as spec;
-ghost use Rattle.stream_jobs.specs.Wished.{is_among, is_wanted};
+ghost use Rattle.stream_jobs.specs.Wished.{is_wanted};
 ghost use Rattle.stream_jobs.specs.declared.told.Told.TheVariants.{NoUnit};
 
 use crate::refusal::{JobError, Refusal};
 use crate::telling::tell_pid;
 use crate::told::Told;
+use crate::wishes::is_among;
 use demux::Finding;
 use std::alloc::{AllocError, Global};
 use std::marker::Model;
@@ -149,14 +150,6 @@ fn some_stream(
         return Ok(None);
     }
     Ok(Some(stream_of(alloc, make_dts, stream, units)?))
-}
-
-// Whether a number is one of these.
-#[tactic(auto, unfolding(crate::specs::Wished::is_among))]
-fn is_among(number: u16, numbers: &[u16]) -> bool
-    ensures { result ≡ is_among number numbers.now }
-{
-    numbers.iter().any(|other| *other == number)
 }
 
 // Whether a stream is not left out.

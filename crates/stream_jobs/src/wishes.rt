@@ -1,5 +1,8 @@
 //! What is asked of a job.
 
+ghost use Rattle.std.specs.Prelude.{◌≡◌};
+ghost use Rattle.stream_jobs.specs.Wished.{is_among};
+
 use std::marker::Model;
 use stream_coding::Buffers;
 
@@ -47,4 +50,12 @@ impl<'a> Model for Wishes<'a> {
       without = w.without.now;
       buffers = w.buffers.now;
     } };
+}
+
+/// Whether a number is one of these.
+#[tactic(auto, unfolding(crate::specs::Wished::is_among))]
+pub(crate) fn is_among(number: u16, numbers: &[u16]) -> bool
+    ensures { result ≡ is_among number numbers.now }
+{
+    numbers.iter().any(|other| *other == number)
 }

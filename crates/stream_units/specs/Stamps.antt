@@ -71,7 +71,7 @@ unfoldable pub least_after : ℕ → ℕ → List ℕ → ℕ
 least_after from least [] = least
 least_after from least (stamp ∷ stamps) = least_after from (min least (distance from stamp)) stamps
 
--- what the clock shows at moment 0, where the first DTS of the streams are at moment `earliest` or later, and one of them is
--- at `earliest`
+-- what the clock shows at moment 0, so that the earliest of the streams' first DTS is at moment `earliest`. Which one is the
+-- earliest can be told where all lie within half the range of each other
 abbrev pub constant_of : ℕ → ℕ → List ℕ → ℕ
 constant_of earliest first others = distance earliest (first + 2 ^ 32 + least_after (first + 2 ^ 32) (2 ^ 32) others)

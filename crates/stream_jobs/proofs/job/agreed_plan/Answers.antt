@@ -12,6 +12,8 @@ returns-in-Some-clause-refused c =
       rate = planned.rate;
       rate_is = c.in_ok-planned.ensures.rate;
       description = planned.plan.description;
+      plan = planned.plan.plan;
       read = subst (IsText planned.plan.description) c.in_ok-planned.ensures.planned.text_is c.in_ok-planned.ensures.planned.read;
+      serving = search rules;
       disagree = disagree;
     }
