@@ -3,6 +3,7 @@ pub mod RecordReading
 pub mod Cutting
 pub mod Accepting
 pub mod Runs
+pub mod Leaving
 pub mod RecordTexts
 pub mod RunLengths
 pub mod Promising

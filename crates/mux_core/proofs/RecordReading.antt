@@ -1,9 +1,9 @@
 -- The parts of a record, read one by one, are the record at the front of the input.
-use Rattle.std.proofs.Common.{◌≡◌, ℕ, ◌+◌, ◌<◌, ◌≤◌, List, [], length, take, drop, slice_index, Option, Some, None, Ok, Err, refl, ap, ◌∙◌, arith}
+use Rattle.std.proofs.Common.{◌≡◌, ℕ, ◌+◌, ◌<◌, ◌≤◌, List, [], length, take, drop, slice_index, Option, Some, None, Ok, Err, refl, ap, ◌∙◌, subst, arith}
 use Rattle.std.proofs.lemmas.Bool.{le-ltb, lt-ltb, ne_eqb}
 use Rattle.std.proofs.lemmas.List.{length-drop, drop-drop}
 use Rattle.byteorder.specs.Endian.{big_number}
-use Rattle.mux_core.specs.UnitRecords.{size_at, unit_at, record_at, greatest_record, ReadsRecord}
+use Rattle.mux_core.specs.UnitRecords.{size_at, unit_at, record_at, greatest_record, ReadsRecord, StopsWithin}
 use Rattle.mux_core.specs.RecordParts.{ReadsStart, ReadsStamps, ReadsBytes}
 use Rattle.mux_core.specs.declared.unit_records.UnitFileError.{UnitFileError}
 use Rattle.mux_core.specs.declared.unit_records.UnitFileError.TheVariants.{Cut, Size, Device, Memory}
@@ -31,15 +31,25 @@ unfolding record_at
 record_whole xs whole size =
     rw (ne_eqb (length xs) 0 (λ e. omega arith), le-ltb (length xs) 5 (omega arith), le-ltb greatest_record (size_at xs) size, le-ltb (length xs) (21 + size_at xs) whole) refl
 
+-- a call failed so many bytes further on
+later : (from size : ℕ) (xs : List ℕ) (left : Option (List ℕ)) → from ≤ length xs → from + size ≤ 21 + size_at xs → StopsWithin size (drop from xs) left →
+    StopsWithin (21 + size_at xs) xs left
+later from size xs left long fits s = record {
+  read = from + s.read;
+  within = omega (arith, s.within, fits);
+  some = omega (arith, s.some, long, length-drop from xs);
+  rest = s.rest ∙ ap Some (drop-drop s.read from xs);
+}
+
 -- no byte was left
 pub at_end : (xs : List ℕ) (left : Option (List ℕ)) → ReadsStart xs left (Ok None) → ReadsRecord xs left (Ok None)
 at_end xs left s = (record_none xs s.0, s.1)
 
 -- the start of a record was refused
 pub start_refused : (xs : List ℕ) (left : Option (List ℕ)) (e : UnitFileError) → ReadsStart xs left (Err e) → ReadsRecord xs left (Err e)
-start_refused xs left Cut s = record_short xs s.0 s.1
-start_refused xs left Size s = record_size xs s.0 s.1
-start_refused xs left Device s = tt
+start_refused xs left Cut s = (record_short xs s.0 s.1, s.2)
+start_refused xs left Size s = (record_size xs s.0 s.1, s.2)
+start_refused xs left Device s = record { read = s.read; within = omega (arith, s.within); some = s.some; rest = s.rest }
 start_refused xs left Memory s = absurd s
 
 -- its stamps were
@@ -48,9 +58,9 @@ pub stamps_refused : (xs : List ℕ) (first left : Option (List ℕ)) (start : �
 stamps_refused xs first left start e s k = by_cause e (k (drop 5 xs) s.4)
   where
     by_cause : (e : UnitFileError) → ReadsStamps (drop 5 xs) left (Err e) → ReadsRecord xs left (Err e)
-    by_cause Cut h = record_cut xs s.0 (omega (arith, s.2, s.3)) (omega (arith, h, length-drop 5 xs))
+    by_cause Cut h = (record_cut xs s.0 (omega (arith, s.2, s.3)) (omega (arith, h.0, length-drop 5 xs)), h.1)
     by_cause Size h = absurd h
-    by_cause Device h = tt
+    by_cause Device h = later 5 16 xs left s.0 (omega arith) h
     by_cause Memory h = absurd h
 
 -- its bytes were
@@ -60,13 +70,13 @@ pub bytes_refused : (xs : List ℕ) (first second left : Option (List ℕ)) (sta
     → ((ys : List ℕ) → second ≡ Some ys → ReadsBytes ys start.1 left (Err e)) → ReadsRecord xs left (Err e)
 bytes_refused xs first second left start stamps e s k b =
     let t = k (drop 5 xs) s.4 in
-    by_cause e (b (drop 16 (drop 5 xs)) t.3)
+    by_cause e (omega (arith, s.0, t.0, length-drop 5 xs)) (b (drop 16 (drop 5 xs)) t.3)
   where
-    by_cause : (e : UnitFileError) → ReadsBytes (drop 16 (drop 5 xs)) start.1 left (Err e) → ReadsRecord xs left (Err e)
-    by_cause Cut h = record_cut xs s.0 (omega (arith, s.2, s.3)) (omega (arith, h, s.2, length-drop 5 xs, length-drop 16 (drop 5 xs)))
-    by_cause Size h = absurd h
-    by_cause Device h = tt
-    by_cause Memory h = (s.0, omega (arith, s.2, s.3))
+    by_cause : (e : UnitFileError) → 21 ≤ length xs → ReadsBytes (drop 16 (drop 5 xs)) start.1 left (Err e) → ReadsRecord xs left (Err e)
+    by_cause Cut head h = (record_cut xs s.0 (omega (arith, s.2, s.3)) (omega (arith, h.0, s.2, length-drop 5 xs, length-drop 16 (drop 5 xs))), h.1)
+    by_cause Size head h = absurd h
+    by_cause Device head h = later 21 start.1 xs left head (omega (arith, s.2)) (subst (λ ys. StopsWithin start.1 ys left) (drop-drop 16 5 xs) h)
+    by_cause Memory head h = (head, omega (arith, s.2, s.3), h ∙ ap Some (drop-drop 16 5 xs))
 
 -- a whole record
 pub whole_record : (xs : List ℕ) (first second left : Option (List ℕ)) (start stamps : ℕ × ℕ) (bytes : List ℕ)

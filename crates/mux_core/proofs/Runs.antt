@@ -221,11 +221,11 @@ pub midway_stopped : (pid id : ℕ) (hex : Bool) (xs : List ℕ) (earliest index
     (w : Midway pid id hex xs earliest index counter left start now packets all)
     → ReadsNext id earliest w.rest later (Err stop) → EndsRun (run_of id xs) index (Some stop)
 midway_stopped pid id hex xs earliest index counter left later start now packets all (Refused cause) w r =
-    ends pid id hex xs earliest index counter left start now packets all (UnitRefused cause) w (run_refused w.spare id earliest w.rest r.0 cause r.1)
+    ends pid id hex xs earliest index counter left start now packets all (UnitRefused cause) w (run_refused w.spare id earliest w.rest r.unit cause r.stands)
 midway_stopped pid id hex xs earliest index counter left later start now packets all (Unread Cut) w r =
-    ends pid id hex xs earliest index counter left start now packets all (FileRefused Cut) w (run_unread w.spare id earliest w.rest Cut r)
+    ends pid id hex xs earliest index counter left start now packets all (FileRefused Cut) w (run_unread w.spare id earliest w.rest Cut r.0)
 midway_stopped pid id hex xs earliest index counter left later start now packets all (Unread Size) w r =
-    ends pid id hex xs earliest index counter left start now packets all (FileRefused Size) w (run_unread w.spare id earliest w.rest Size r)
+    ends pid id hex xs earliest index counter left start now packets all (FileRefused Size) w (run_unread w.spare id earliest w.rest Size r.0)
 midway_stopped pid id hex xs earliest index counter left later start now packets all (Unread Device) w r =
     (midway_holds pid id hex xs earliest index counter left start now packets all w).0
 midway_stopped pid id hex xs earliest index counter left later start now packets all (Unread Memory) w r = absurd r

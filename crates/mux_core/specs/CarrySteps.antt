@@ -1,11 +1,11 @@
 -- The steps of a run over records: the next accepted unit, and why there is none.
-use Rattle.std.specs.Prelude.{◌≡◌, ◌≤◌, ◌^◌, ℕ, List, length, Option, Some, None, Result, Ok, Err, ⊤}
+use Rattle.std.specs.Prelude.{◌≡◌, ◌≤◌, ◌^◌, ◌+◌, ℕ, List, [], length, Option, Some, None, Result, Ok, Err, ⊤}
 use Rattle.ts_packet.specs.Device.{Failed}
 use Rattle.pes_packet.specs.AccessUnits.{AccessUnit}
 use Rattle.pes_packet.specs.StreamIds.{greatest_size}
 use Rattle.mux_core.specs.Refusals.{refusal}
-use Rattle.mux_core.specs.UnitRecords.{record_at, after_record}
-use Rattle.mux_core.specs.Carrying.{Run, Finished, UnitRefused, FileRefused}
+use Rattle.mux_core.specs.UnitRecords.{ReadsRecord, after_record, record_at}
+use Rattle.mux_core.specs.Carrying.{FileRefused, Finished, Leaves, Run, UnitRefused, after_records}
 use Rattle.unit_queue.specs.declared.refusal.FeedError.{FeedError}
 use Rattle.mux_core.specs.declared.unit_records.UnitFileError.TheVariants.{Cut, Size, Device, Memory}
 use Rattle.mux_core.specs.declared.carrying.CarryError.{CarryError}
@@ -26,16 +26,22 @@ pub record HoldsUnit (id earliest : ℕ) (xs : List ℕ) (unit : AccessUnit) (ca
   pub record_is : record_at xs ≡ Ok (Some (stream, unit))
   pub judged_is : refusal id earliest stream unit ≡ cause
 
+-- one whose unit is refused
+pub record IsRefused (id earliest : ℕ) (xs : List ℕ) (left : Option (List ℕ)) (cause : FeedError) : Type 0 where
+  pub unit : AccessUnit
+  pub stands : HoldsUnit id earliest xs unit (Some cause)
+  pub rest : left ≡ Some (after_record xs)
+
 -- what the next record of these bytes gave
 abbrev pub ReadsNext : ℕ → ℕ → List ℕ → Option (List ℕ) → Result (Option AccessUnit) Stop → Type 0
-ReadsNext id earliest xs left (Ok None) = record_at xs ≡ Ok None
+ReadsNext id earliest xs left (Ok None) = (record_at xs ≡ Ok None) × (left ≡ Some [])
 ReadsNext id earliest xs left (Ok (Some unit)) = HoldsUnit id earliest xs unit None × (left ≡ Some (after_record xs))
-ReadsNext id earliest xs left (Err (Refused cause)) = (unit : AccessUnit) × HoldsUnit id earliest xs unit (Some cause)
-ReadsNext id earliest xs left (Err (Unread Cut)) = record_at xs ≡ Err Cut
-ReadsNext id earliest xs left (Err (Unread Size)) = record_at xs ≡ Err Size
-ReadsNext id earliest xs left (Err (Unread Device)) = ⊤
+ReadsNext id earliest xs left (Err (Refused cause)) = IsRefused id earliest xs left cause
+ReadsNext id earliest xs left (Err (Unread Cut)) = ReadsRecord xs left (Err Cut)
+ReadsNext id earliest xs left (Err (Unread Size)) = ReadsRecord xs left (Err Size)
+ReadsNext id earliest xs left (Err (Unread Device)) = ReadsRecord xs left (Err Device)
 ReadsNext id earliest xs left (Err (Unread Memory)) = ⊥
-ReadsNext id earliest xs left (Err OutOfMemory) = ⊤
+ReadsNext id earliest xs left (Err OutOfMemory) = ReadsRecord xs left (Err Memory)
 
 -- a run was ended so, after so many records
 abbrev pub EndsRun : Run → ℕ → Option Stop → Type 0
@@ -46,6 +52,13 @@ EndsRun run index (Some (Unread Size)) = (run.ending ≡ FileRefused Size) × (i
 EndsRun run index (Some (Unread Device)) = index ≤ length run.units
 EndsRun run index (Some (Unread Memory)) = ⊥
 EndsRun run index (Some OutOfMemory) = index ≤ length run.units
+
+-- what is then left of the input
+abbrev pub LeavesAt : List ℕ → Option (List ℕ) → ℕ → Option Stop → Type 0
+LeavesAt xs left index None = left ≡ Some []
+LeavesAt xs left index (Some (Refused cause)) = left ≡ Some (after_records (index + 1) xs)
+LeavesAt xs left index (Some (Unread fault)) = Leaves xs left (Err (AtRecord index fault))
+LeavesAt xs left index (Some OutOfMemory) = Leaves xs left (Err (NoMemory index))
 
 -- the reader failed exactly where that ended the run
 abbrev pub NamesStop : Option Stop → ℕ → ℕ → Type 0

@@ -1,12 +1,12 @@
 -- What a whole input of records becomes, where one stream has a PID for itself.
-use Rattle.std.specs.Prelude.{◌≡◌, ◌≤◌, ℕ, zero, suc, ◌+◌, Bool, List, [], ◌∷◌, length, take, Option, Some, None, Result, Ok, Err, ⊤}
+use Rattle.std.specs.Prelude.{◌≡◌, ◌≤◌, ℕ, zero, suc, ◌+◌, Bool, List, [], ◌∷◌, length, take, drop, Option, Some, None, Result, Ok, Err, ⊤}
 use Rattle.std.specs.Io.KnownBytes.{Appends}
 use Rattle.ts_packet.specs.Device.{Failed}
 use Rattle.pes_packet.specs.AccessUnits.{AccessUnit}
 use Rattle.mux_core.specs.Collecting.{byte_count, Took}
 use Rattle.mux_core.specs.PidPackets.{stream_packets, output}
 use Rattle.mux_core.specs.Refusals.{refusal}
-use Rattle.mux_core.specs.UnitRecords.{record_at, after_record}
+use Rattle.mux_core.specs.UnitRecords.{StopsWithin, after_record, head_size, record_at, size_at}
 use Rattle.unit_queue.specs.declared.refusal.FeedError.{FeedError}
 use Rattle.mux_core.specs.declared.unit_records.UnitFileError.{UnitFileError}
 use Rattle.mux_core.specs.declared.unit_records.UnitFileError.TheVariants.{Cut, Size, Device, Memory}
@@ -66,6 +66,23 @@ Writes out units old new (Err (AtUnit index cause)) = Appends old new (out (take
 Writes out units old new (Err (AtRecord index fault)) = Appends old new (out (take index units))
 Writes out units old new (Err (AtWriter sent)) = Took old new sent (out units)
 Writes out units old new (Err (NoMemory index)) = Appends old new (out (take index units))
+
+-- the bytes of an input after so many records
+unfoldable pub after_records : ℕ → List ℕ → List ℕ
+after_records zero xs = xs
+after_records (suc n) xs = after_record (after_records n xs)
+
+-- what is left of the input: nothing of one that was carried, or that ends in a record; what stands after a record that is
+-- refused; of one that was not read whole, the rest of it and what stands after it. Where the writer failed it is not said
+abbrev pub Leaves : List ℕ → Option (List ℕ) → Result ℕ CarryError → Type 0
+Leaves xs left (Ok sent) = left ≡ Some []
+Leaves xs left (Err (AtUnit index cause)) = left ≡ Some (after_records (index + 1) xs)
+Leaves xs left (Err (AtRecord index Cut)) = left ≡ Some []
+Leaves xs left (Err (AtRecord index Size)) = left ≡ Some (drop 5 (after_records index xs))
+Leaves xs left (Err (AtRecord index Device)) = StopsWithin (head_size + size_at (after_records index xs)) (after_records index xs) left
+Leaves xs left (Err (AtRecord index Memory)) = ⊥
+Leaves xs left (Err (AtWriter sent)) = ⊤
+Leaves xs left (Err (NoMemory index)) = StopsWithin (head_size + 1) (after_records index xs) left
 
 -- a device is named exactly where a call of it failed: the reader by File with Device, the writer by Device
 abbrev pub NamesDevice : {V : Type 0} → Result V CarryError → ℕ → ℕ → ℕ → ℕ → Type 0

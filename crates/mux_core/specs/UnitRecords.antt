@@ -1,5 +1,5 @@
 -- Records of access units: stream 1 byte, size 4, DTS 8, PTS 8, the highest byte first, then the unit's bytes.
-use Rattle.std.specs.Prelude.{◌≡◌, ◌≤◌, ℕ, ◌+◌, ◌==◌, nat_lt, if◌then◌else◌, List, [], ◌∷◌, ◌++◌, length, take, drop, slice_index, Option, Some, None, Result, Ok, Err, ⊤}
+use Rattle.std.specs.Prelude.{◌≡◌, ◌≤◌, ◌<◌, ℕ, ◌+◌, ◌==◌, nat_lt, if◌then◌else◌, List, [], ◌∷◌, ◌++◌, length, take, drop, slice_index, Option, Some, None, Result, Ok, Err, ⊤}
 use Rattle.byteorder.specs.Endian.{big_number, big_bytes}
 use Rattle.ts_packet.specs.Device.{Failed}
 use Rattle.pes_packet.specs.AccessUnits.{AccessUnit}
@@ -44,14 +44,23 @@ after_record xs = drop (head_size + size_at xs) xs
 abbrev pub record_text : ℕ → AccessUnit → List ℕ
 record_text stream unit = stream ∷ (big_bytes 4 (length unit.bytes) ++ (big_bytes 8 unit.dts ++ (big_bytes 8 unit.pts ++ unit.bytes)))
 
--- what a call answered of an input of these bytes, and what is left of them; memory is taken for no refused size
+-- fewer than so many bytes of an input were read, and the rest is left
+pub record StopsWithin (size : ℕ) (xs : List ℕ) (left : Option (List ℕ)) : Type 0 where
+  pub read : ℕ
+  pub within : read < size
+  pub some : read ≤ length xs
+  pub rest : left ≡ Some (drop read xs)
+
+-- what a call answered of an input of these bytes, and what is left of them: all is read of a record that is cut, the head as
+-- far as the size of one that is too large, and of one that is not read whole no more than itself; memory is asked for when
+-- the head of a record is read, and for no refused size
 abbrev pub ReadsRecord : List ℕ → Option (List ℕ) → Result (Option (ℕ × AccessUnit)) UnitFileError → Type 0
 ReadsRecord xs left (Ok None) = (record_at xs ≡ Ok None) × (left ≡ Some [])
 ReadsRecord xs left (Ok (Some entry)) = (record_at xs ≡ Ok (Some entry)) × (left ≡ Some (after_record xs))
-ReadsRecord xs left (Err Cut) = record_at xs ≡ Err Cut
-ReadsRecord xs left (Err Size) = record_at xs ≡ Err Size
-ReadsRecord xs left (Err Device) = ⊤
-ReadsRecord xs left (Err Memory) = (5 ≤ length xs) × (size_at xs ≤ greatest_record)
+ReadsRecord xs left (Err Cut) = (record_at xs ≡ Err Cut) × (left ≡ Some [])
+ReadsRecord xs left (Err Size) = (record_at xs ≡ Err Size) × (left ≡ Some (drop 5 xs))
+ReadsRecord xs left (Err Device) = StopsWithin (head_size + size_at xs) xs left
+ReadsRecord xs left (Err Memory) = (head_size ≤ length xs) × (size_at xs ≤ greatest_record) × (left ≡ Some (drop head_size xs))
 
 -- a fault of the reader is answered exactly where a call of it failed
 abbrev pub NamesReader : {V : Type 0} → Result V UnitFileError → ℕ → ℕ → Type 0

@@ -2,9 +2,9 @@
 
 ghost use Rattle.std.specs.Prelude.{◌≡◌, ◌≤◌, ◌<◌, ℕ, ◌+◌, ◌++◌, [], List, Option, Some, None, IsTrue, IfOk, IfErr, IfSome, OnOk, OnErr, length, take};
 ghost use Rattle.pes_packet.specs.StreamIds.{is_unit_id};
-ghost use Rattle.mux_core.specs.Carrying.{Answers, Writes, NamesDevice, run_of, carried};
+ghost use Rattle.mux_core.specs.Carrying.{Answers, Leaves, Writes, NamesDevice, run_of, carried};
 ghost use Rattle.mux_core.specs.Collecting.{Holds, Took};
-ghost use Rattle.mux_core.specs.CarrySteps.{IsAccepted, ReadsNext, EndsRun, NamesStop, NamesNext, answer_of};
+ghost use Rattle.mux_core.specs.CarrySteps.{IsAccepted, ReadsNext, EndsRun, LeavesAt, NamesStop, NamesNext, answer_of};
 ghost use Rattle.ts_packet.specs.Device.{Failed};
 
 use crate::packet_output::{OutputFault, PacketOutput};
@@ -51,10 +51,11 @@ pub fn carry<A: Allocator + Copy, R: Source, W: Sink>(
     requires pid { pid < 8192 }
     requires id { IsTrue (is_unit_id id) }
 
-    // Of an input whose bytes are known: which answer, and what the writer took.
+    // Of an input whose bytes are known: which answer, what the writer took, and what is left.
     ensures answer { (xs : List ℕ) → R.remaining input.old ≡ Some xs → Answers (run_of id xs) result }
     ensures written { (xs : List ℕ) → R.remaining input.old ≡ Some xs →
         Writes (carried hex pid id) (run_of id xs).units (W.contents output.old) (W.contents output.new) result }
+    ensures left { (xs : List ℕ) → R.remaining input.old ≡ Some xs → Leaves xs (R.remaining input.new) result }
 
     // Of any input and writer.
     ensures fault { NamesDevice result (R.fault_count input.old) (R.fault_count input.new)
@@ -133,6 +134,7 @@ fn carry_all<A: Allocator + Copy, R: Source, W: Sink>(
         × Holds start (W.contents output.new) packets.new (all ++ carried packets.old.hex pid id (take run.0 (run_of id xs).units))) }
     ensures err { (xs : List ℕ) (start : Option (List ℕ)) (all : List ℕ) → R.remaining input.old ≡ Some xs → Holds start (W.contents output.old) packets.old all →
         IfErr result (λ fault. Took start (W.contents output.new) fault.sent (all ++ carried packets.old.hex pid id (run_of id xs).units)) }
+    ensures left { (xs : List ℕ) → R.remaining input.old ≡ Some xs → IfOk result (λ run. LeavesAt xs (R.remaining input.new) run.0 run.1) }
     ensures reads { IfOk result (λ run. NamesStop run.1 (R.fault_count input.old) (R.fault_count input.new)) }
     ensures clean { OnOk result (W.fault_count output.new ≡ W.fault_count output.old) }
     ensures fault { OnErr result (Failed (W.fault_count output.old) (W.fault_count output.new)) }

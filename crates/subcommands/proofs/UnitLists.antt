@@ -92,7 +92,7 @@ next_left left after entry k =
 -- of bytes in memory no call fails
 pub none_read : (xs : List ℕ) (done : List (ℕ × AccessUnit)) (left : List ℕ) (now : Option (List ℕ)) (fault : UnitFileError) → ReadSoFar xs done left →
     ReadsRecord left now (Err fault) → NamesReader {V = Option (ℕ × AccessUnit)} (Err fault) 0 0 → IsList (units_in xs) (Err (unread_as (length done) fault))
-none_read xs done left now Cut r e f = read_stopped xs done left Cut r e
-none_read xs done left now Size r e f = read_stopped xs done left Size r e
+none_read xs done left now Cut r e f = read_stopped xs done left Cut r e.0
+none_read xs done left now Size r e f = read_stopped xs done left Size r e.0
 none_read xs done left now Device r e f = absurd (none_failed f)
 none_read xs done left now Memory r e f = tt

@@ -1,6 +1,6 @@
 -- `carry`: what it writes, what it says, and with which status it ends.
 use Rattle.std.specs.Prelude.{◌≡◌, ℕ, List, [], Some, Result, Ok, Err, codes}
-use Rattle.mux_core.specs.Carrying.{Answers, NamesDevice, Writes, carried, run_of}
+use Rattle.mux_core.specs.Carrying.{Answers, Leaves, NamesDevice, Writes, carried, run_of}
 use Rattle.mux_core.specs.declared.carrying.CarryError.{CarryError}
 use Rattle.mux_core.specs.declared.carrying.CarryError.TheVariants.{Unit as AtUnit, File as AtRecord, Device as AtWriter, Memory as NoMemory}
 use Rattle.subcommands.specs.declared.request.Carriage.{Carriage}
@@ -31,6 +31,7 @@ pub record Carries (c : Carriage) (input output faults : Device) (status : ℕ) 
   pub answer : Result ℕ CarryError
   pub answers : (xs : List ℕ) → input.before.bytes ≡ Some xs → Answers (run_of c.id xs) answer
   pub writes : (xs : List ℕ) → input.before.bytes ≡ Some xs → Writes (carried c.hex c.pid c.id) (run_of c.id xs).units output.before.bytes output.after.bytes answer
+  pub leaves : (xs : List ℕ) → input.before.bytes ≡ Some xs → Leaves xs input.after.bytes answer
   pub device : NamesDevice answer input.before.failed input.after.failed output.before.failed output.after.failed
   pub tells : Tells faults (carry_line answer)
   pub status_is : status ≡ carry_status answer

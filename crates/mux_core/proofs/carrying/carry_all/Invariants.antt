@@ -1,4 +1,5 @@
 use Rattle.std.proofs.Common.{◌≡◌, ◌<◌, ◌≤◌, ◌+◌, ◌-◌, ◌^◌, ℕ, List, Option, Some}
+use Rattle.mux_core.specs.Carrying.{after_records}
 use Rattle.mux_core.specs.Collecting.{Holds}
 use Rattle.mux_core.proofs.Runs.{Midway}
 use Rattle.mux_core.proofs.carrying.carry_all.Given as goal
@@ -11,6 +12,7 @@ invariant-records g l = record {
   hex : l.packets.hex ≡ l.fn.packets.hex;
   reads : g.R.Source.fault_count l.input ≡ g.R.Source.fault_count l.fn.input;
   writes : g.W.Sink.fault_count l.output ≡ g.W.Sink.fault_count l.fn.output;
+  rest : (xs : List ℕ) → g.R.Read.remaining l.fn.input ≡ Some xs → g.R.Read.remaining l.input ≡ Some (after_records l.index xs);
   known : (xs : List ℕ) (start : Option (List ℕ)) (all : List ℕ) → g.R.Read.remaining l.fn.input ≡ Some xs → Holds start (g.W.Write.contents l.fn.output) l.fn.packets all
       → Midway l.pid l.id l.fn.packets.hex xs l.earliest l.index l.counter (g.R.Read.remaining l.input) start (g.W.Write.contents l.output) l.packets all;
 }
