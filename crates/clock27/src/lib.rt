@@ -27,6 +27,3 @@ pub use rate::{Rate, RateError};
 pub use release::release_slot;
 pub use stamp::Stamp33;
 pub use units::{BYTE_UNITS, SLOT_MILLISECONDS, SLOT_UNITS};
-
-#[cfg(test)]
-mod tests;

@@ -7,7 +7,6 @@ mod reference_marks;
 
 use demux::{Demux, DemuxError, Finding, Kind, Part, What, whole};
 use std::alloc::{AllocError, Allocator, Global};
-use std::process::Abort;
 use std::test::Fail;
 
 // A packet of PID 256 with a PES packet of three bytes, 41 42 43, with PTS 90,000, after stuffing.
@@ -23,28 +22,35 @@ pub fn pes_packet() -> [u8; 188] {
     bytes
 }
 
+// A packet that begins so, and has this byte after that.
+pub fn packet_of(front: &[u8], rest: u8) -> [u8; 188] {
+    let mut bytes = [rest; 188];
+    for (byte, known) in bytes.iter_mut().zip(front) {
+        *byte = *known;
+    }
+    bytes
+}
+
 // A packet of PID 0 with a whole program association section.
 pub fn pat_packet() -> [u8; 188] {
-    let mut bytes = [0xFFu8; 188];
     let front = [
         0x47, 0x40, 0x00, 0x10, 0x00, 0x00, 0xB0, 0x0D, 0x00, 0x01, 0xC1, 0x00, 0x00, 0x00, 0x01,
         0xF0, 0x00, 0x2A, 0xB1, 0x04, 0xB2,
     ];
-    bytes[..21].copy_from_slice(&front);
-    bytes
+    packet_of(&front, 0xFF)
 }
 
 // A packet of PID 257 full of payload bytes A5: a PES packet without a length begins where `starts`.
 pub fn long_packet(starts: bool, counter: u8) -> [u8; 188] {
-    let mut bytes = [0xA5u8; 188];
-    bytes[0] = 0x47;
-    bytes[1] = if starts { 0x41 } else { 0x01 };
-    bytes[2] = 0x01;
-    bytes[3] = 0x10 + counter % 16;
+    let last = 0x10 + counter % 16;
     if starts {
-        bytes[4..13].copy_from_slice(&[0x00, 0x00, 0x01, 0xE0, 0x00, 0x00, 0x80, 0x00, 0x00]);
+        let pes = [
+            0x47, 0x41, 0x01, last, 0x00, 0x00, 0x01, 0xE0, 0x00, 0x00, 0x80, 0x00, 0x00,
+        ];
+        packet_of(&pes, 0xA5)
+    } else {
+        packet_of(&[0x47, 0x01, 0x01, last], 0xA5)
     }
-    bytes
 }
 
 fn size<A: Allocator>(part: &Part<'_, A>) -> usize {
@@ -137,46 +143,70 @@ fn pieces_of_any_size(rt: HostRuntime) -> Result<(), Fail> {
     let alloc = rt.alloc();
     let stream = worked_stream(alloc)?;
     for size in [1, 7, 187, 188, 189, 664] {
-        assert_eq!(rt;
-            in_pieces(alloc, &stream, size)?.as_str(),
-            WORKED,
+        assert!(rt;
+            in_pieces(alloc, &stream, size)?.as_str() == WORKED,
             "in pieces of {size}"
         );
     }
     let found = whole(alloc, &stream)?;
-    assert_eq!(rt; lines(alloc, &found)?.as_str(), WORKED);
+    assert!(rt; lines(alloc, &found)?.as_str() == WORKED);
     Ok(())
 }
 
-// The body of a PES packet is a slice of the packet that was taken.
-fn assert_slice(rt: &impl Abort, finding: &Finding<'_>) {
+// Pushes a piece.
+pub fn push(demux: &mut Demux, piece: &[u8]) -> Result<(), DemuxError> {
+    demux.push(piece)
+}
+
+// Takes a packet, where no part of one is left over; whether there was none.
+pub fn take<'a>(
+    demux: &mut Demux,
+    packet: &'a [u8; 188],
+    found: &mut Vec<Finding<'a>>,
+) -> Result<bool, DemuxError> {
+    if demux.aligned() {
+        demux.take(packet, found)?;
+        Ok(true)
+    } else {
+        Ok(false)
+    }
+}
+
+// Ends the stream.
+pub fn finish(demux: &mut Demux) -> Result<(), DemuxError> {
+    demux.finish()
+}
+
+// Whether a finding is the PES packet, its body a slice of the packet that was taken.
+fn is_slice(finding: &Finding<'_>) -> bool {
     match &finding.what {
         What::Pes {
             body: Part::Span(body),
             ..
-        } => assert_eq!(rt; *body, &pes_packet()[185..]),
-        _ => assert!(rt; false, "a slice"),
+        } => *body == &pes_packet()[185..],
+        _ => false,
     }
 }
 
-// Takes a packet, pushes it in two parts, ends the stream, and takes it once more.
+// Pushes a packet in two parts; whether a part is left over only between them.
+fn push_parts(demux: &mut Demux, packet: &[u8; 188]) -> Result<bool, DemuxError> {
+    push(demux, &packet[..100])?;
+    let between = demux.aligned();
+    push(demux, &packet[100..])?;
+    Ok(!between && demux.aligned())
+}
+
+// Takes a packet, pushes it in two parts, ends the stream, and takes it once more: the end refuses it.
 fn take_and_push<'a>(
-    rt: &impl Abort,
     demux: &mut Demux,
     packet: &'a [u8; 188],
     found: &mut Vec<Finding<'a>>,
-) -> Result<(), DemuxError> {
-    assert!(rt; demux.aligned());
-    demux.take(packet, found)?;
-    assert!(rt; demux.findings().is_empty());
-    demux.push(&packet[..100])?;
-    assert!(rt; !demux.aligned());
-    demux.push(&packet[100..])?;
-    assert!(rt; demux.aligned());
-    demux.finish()?;
-    assert!(rt; demux.aligned());
-    assert_eq!(rt; demux.take(packet, found), Err(DemuxError::Ended));
-    Ok(())
+) -> Result<bool, DemuxError> {
+    let taken = take(demux, packet, found)? && demux.findings().is_empty();
+    let pushed = push_parts(demux, packet)?;
+    finish(demux)?;
+    let ended = demux.aligned() && take(demux, packet, found) == Err(DemuxError::Ended);
+    Ok(taken && pushed && ended)
 }
 
 // A PES packet that lies in the packet that is taken is a slice of it; `take` wants whole packets, and the end refuses more.
@@ -186,15 +216,12 @@ fn packets_taken_and_pushed(rt: HostRuntime) -> Result<(), Fail> {
     let packet = pes_packet();
     let mut demux = Demux::new(alloc);
     let mut found = Vec::new(alloc);
-    let done = take_and_push(&rt, &mut demux, &packet, &mut found);
-    assert_eq!(rt; done, Ok(()));
-    for finding in &found {
-        assert_slice(&rt, finding);
-    }
+    assert!(rt; take_and_push(&mut demux, &packet, &mut found) == Ok(true));
+    assert!(rt; found.iter().all(|finding| is_slice(finding)));
     let taken = lines(alloc, &found)?;
-    assert_eq!(rt; taken.as_str(), "0 256 pes 192 false 3 from 0 pes true\n");
+    assert!(rt; taken.as_str() == "0 256 pes 192 false 3 from 0 pes true\n");
     let pushed = lines(alloc, demux.findings())?;
-    assert_eq!(rt; pushed.as_str(), "1 256 duplicate\n");
+    assert!(rt; pushed.as_str() == "1 256 duplicate\n");
     demux.forget_findings();
     assert!(rt; demux.findings().is_empty());
     Ok(())
@@ -212,78 +239,49 @@ pub fn section_in_two() -> ([u8; 188], [u8; 188]) {
     (first, second)
 }
 
-// The section, as a slice of its packet or joined from two.
-fn assert_section(rt: &impl Abort, finding: &Finding<'_>, slice: bool) {
+// Whether a finding is the section, as a slice of its packet or joined from two.
+fn is_section(finding: &Finding<'_>, slice: bool) -> bool {
     match &finding.what {
-        What::Section(Part::Span(bytes)) => {
-            assert!(rt;
-                slice && *bytes == &pat_packet()[5..21],
-                "lies in the packet"
-            );
-        }
-        What::Section(Part::Joined(bytes)) => {
-            assert!(rt;
-                !slice && bytes.as_slice() == &pat_packet()[5..21],
-                "joined"
-            );
-        }
-        _ => assert!(rt; false, "a section"),
+        What::Section(Part::Span(bytes)) => slice && *bytes == &pat_packet()[5..21],
+        What::Section(Part::Joined(bytes)) => !slice && bytes.as_slice() == &pat_packet()[5..21],
+        _ => false,
     }
 }
 
-// Takes packets one by one: whole packets leave nothing over.
+// Takes packets one by one; whether whole packets leave nothing over.
 fn take_each<'a>(
-    rt: &impl Abort,
     demux: &mut Demux,
     packets: &'a [[u8; 188]],
     found: &mut Vec<Finding<'a>>,
-) -> Result<(), DemuxError> {
+) -> Result<bool, DemuxError> {
     for packet in packets {
-        assert!(rt; demux.aligned());
-        demux.take(packet, found)?;
+        if !take(demux, packet, found)? {
+            return Ok(false);
+        }
     }
-    Ok(())
+    Ok(true)
 }
 
-// A section in these packets: what is found when they are taken.
-fn check_section(
-    rt: &impl Abort,
-    alloc: Global,
-    packets: &[[u8; 188]],
-    want: &str,
-    slice: bool,
-) -> Result<(), Fail> {
+// Whether a section in these packets is found so when they are taken.
+fn is_found(alloc: Global, packets: &[[u8; 188]], want: &str, slice: bool) -> Result<bool, Fail> {
     let mut demux = Demux::new(alloc);
     let mut found = Vec::new(alloc);
-    let taken = take_each(rt, &mut demux, packets, &mut found);
-    assert_eq!(rt; taken, Ok(()));
-    for finding in &found {
-        assert_section(rt, finding, slice);
+    if !take_each(&mut demux, packets, &mut found)? {
+        return Ok(false);
     }
-    assert_eq!(rt; lines(alloc, &found)?.as_str(), want);
-    Ok(())
+    let text = lines(alloc, &found)?;
+    Ok(text.as_str() == want && found.iter().all(|finding| is_section(finding, slice)))
 }
 
 // In one packet, and in two: then it is found at the second.
 #[test]
 fn a_section(rt: HostRuntime) -> Result<(), Fail> {
     let (first, second) = section_in_two();
-    let one = [pat_packet()];
-    check_section(
-        &rt,
-        rt.alloc(),
-        &one,
-        "0 0 section 16 from 0 table 0\n",
-        true,
-    )?;
-    let two = [first, second];
-    check_section(
-        &rt,
-        rt.alloc(),
-        &two,
-        "1 0 section 16 from 0 table 0\n",
-        false,
-    )
+    let alone = "0 0 section 16 from 0 table 0\n";
+    assert!(rt; is_found(rt.alloc(), &[pat_packet()], alone, true)?);
+    let joined = "1 0 section 16 from 0 table 0\n";
+    assert!(rt; is_found(rt.alloc(), &[first, second], joined, false)?);
+    Ok(())
 }
 
 // A wrong check word, a null packet, a packet with transport_error_indicator, no packet, a scrambled one, and one whose
@@ -327,38 +325,40 @@ const WITHOUT_LENGTH: &str =
     "1 256 pes 192 false 3 from 1 pes true\n3 257 pes 224 false 359 from 0 pes false\n4 257 pes 224 true 175 from 3 pes false\n";
 
 // What is found in packets that are pushed.
-fn check_pushed(
-    rt: &impl Abort,
-    alloc: Global,
-    packets: &[[u8; 188]],
-    want: &str,
-) -> Result<(), Fail> {
+fn pushed(alloc: Global, packets: &[[u8; 188]]) -> Result<String, Fail> {
     let mut stream = Vec::new(alloc);
     for packet in packets {
         stream.extend_from_slice(packet)?;
     }
-    assert_eq!(rt; in_pieces(alloc, &stream, 188)?.as_str(), want);
-    Ok(())
+    in_pieces(alloc, &stream, 188)
 }
 
 #[test]
 fn packets_pushed(rt: HostRuntime) -> Result<(), Fail> {
     let alloc = rt.alloc();
-    check_pushed(&rt, alloc, &[pes_packet(); 4], ALIKE)?;
-    check_pushed(&rt, alloc, &damaged_packets(), DAMAGED)?;
-    check_pushed(&rt, alloc, &packets_without_length(), WITHOUT_LENGTH)
+    assert!(rt; pushed(alloc, &[pes_packet(); 4])?.as_str() == ALIKE);
+    assert!(rt; pushed(alloc, &damaged_packets())?.as_str() == DAMAGED);
+    assert!(rt; pushed(alloc, &packets_without_length())?.as_str() == WITHOUT_LENGTH);
+    Ok(())
+}
+
+// How many findings there are after a PES packet, and after each of two ends.
+fn counts(demux: &mut Demux) -> Result<[usize; 3], DemuxError> {
+    push(demux, &long_packet(true, 0))?;
+    let before = demux.findings().len();
+    finish(demux)?;
+    let once = demux.findings().len();
+    finish(demux)?;
+    Ok([before, once, demux.findings().len()])
 }
 
 // A stream may be ended twice, of which the second end finds nothing, and takes nothing more.
 #[test]
 fn an_end(rt: HostRuntime) {
     let mut demux = Demux::new(rt.alloc());
-    assert_eq!(rt; demux.push(&long_packet(true, 0)), Ok(()));
-    assert_eq!(rt; demux.finish(), Ok(()));
-    assert_eq!(rt; demux.finish(), Ok(()));
-    assert_eq!(rt; demux.findings().len(), 1);
-    assert_eq!(rt; demux.push(&[0x47]), Err(DemuxError::Ended));
-    assert_eq!(rt; DemuxError::Ended.code(), 2);
+    assert!(rt; counts(&mut demux) == Ok([0, 1, 1]));
+    assert!(rt; push(&mut demux, &[0x47]) == Err(DemuxError::Ended));
+    assert!(rt; DemuxError::Ended.code() == 2);
 }
 
 // The first packet that brings it past 8,388,608 bytes cuts it short: 45,591 packets of 184 bytes.
@@ -372,6 +372,6 @@ fn a_pes_packet_that_is_too_long(rt: HostRuntime) -> Result<(), Fail> {
     stream.extend_from_slice(&long_packet(true, 0))?;
     let want =
         "45590 257 truncated 8388744 from 0 pes false\n45601 257 pes 224 true 175 from 45600 pes false\n";
-    assert_eq!(rt; in_pieces(alloc, &stream, 188)?.as_str(), want);
+    assert!(rt; in_pieces(alloc, &stream, 188)?.as_str() == want);
     Ok(())
 }

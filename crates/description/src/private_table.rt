@@ -22,6 +22,7 @@ impl Model for PrivateTable {
 }
 
 impl PrivateTable {
+    /// The PID of its sections.
     pub fn pid(&self) -> u16
         ensures { result ≡ self.now.pid }
     {

@@ -5,8 +5,6 @@
 mod descriptors;
 mod kept;
 mod tags;
-#[cfg(test)]
-mod tests;
 
 pub use descriptors::{Descriptor, Descriptors};
 pub use kept::kept_descriptors;

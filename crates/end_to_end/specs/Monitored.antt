@@ -49,7 +49,7 @@ IsWide d limit = All (λ p. p.pcr_limit ≤ limit) d.programs
 pub record IsInTime (d : Scheduled) (limit : ℕ) (bytes : List ℕ) : Type 0 where
   -- on each PID that has clock references they come within the limit
   pub clocks : (pid : ℕ) → pcr_late d.description.rate limit bytes pid ≡ []
-  -- sections of program association begin every 500 ms, from the begin of the run to its end
+  -- sections of program association begin every 500 ms, from the start of the run to its end
   pub associations : pat_late d.description.rate bytes ≡ []
   -- those of the program map on each PID that these name, from the packet in which they name it to the end
   pub maps : (pid : ℕ) → map_late d.description.rate bytes pid ≡ []

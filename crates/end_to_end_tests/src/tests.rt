@@ -68,15 +68,15 @@ fn are_found(rt: &impl Abort, alloc: Global, service: &Service, bytes: &[u8]) ->
     let found = whole(alloc, bytes)?;
     for source in service.sources {
         let units = units_found(found.as_slice(), source, service.base0);
-        assert_eq!(rt; units, source.count, "PID {}", source.pid);
+        assert!(rt; units == source.count, "PID {}", source.pid);
     }
     for pid in service.table_pids {
         let sections = sections_found(found.as_slice(), *pid);
-        assert_eq!(rt; sections, service.sections, "PID {pid}");
+        assert!(rt; sections == service.sections, "PID {pid}");
     }
     let pats = same_sections(found.as_slice(), 0, service.pat);
-    assert_eq!(rt; pats, service.sections);
-    assert_eq!(rt; found.len(), service.findings);
+    assert!(rt; pats == service.sections);
+    assert!(rt; found.len() == service.findings);
     Ok(())
 }
 
@@ -94,8 +94,8 @@ fn nothing_is_reported(rt: HostRuntime) -> Result<(), Fail> {
     for service in &SERVICES {
         let bytes = written(rt.alloc(), service)?;
         let report = report(rt.alloc(), Rate::new(1_504_000)?, 40, bytes.as_slice())?;
-        assert_eq!(rt; report.packets(), service.slots);
-        assert_eq!(rt; report.faults(), [].as_slice());
+        assert!(rt; report.packets() == service.slots);
+        assert!(rt; report.faults() == [].as_slice());
     }
     Ok(())
 }

@@ -145,7 +145,7 @@ fn written<A: Allocator + Clone>(alloc: A) -> Result<String<A>, AllocError> {
 #[test]
 fn text_of_two_programs(rt: HostRuntime) -> Result<(), Fail> {
     let text = written(rt.alloc())?;
-    assert_eq!(rt; text.as_str(), TEXT);
+    assert!(rt; text.as_str() == TEXT);
     texts_are_read();
     records_are_read();
     Ok(())
@@ -200,15 +200,15 @@ fn text_is_read(rt: HostRuntime) -> Result<(), Fail> {
     };
     let times = (read.rate().bits_per_second(), read.start(), read.base0());
     let ids = (read.transport_stream_id(), read.original_network_id());
-    assert_eq!(rt; times, (8_000_000, 1_774_745_990, 8_589_934_591));
-    assert_eq!(rt; ids, (65_535, 8_916));
-    assert_eq!(rt; (read.has_sdt(), read.has_tdt()), (true, false));
-    assert_eq!(rt; (read.programs().len(), read.streams().len()), (2, 2));
+    assert!(rt; times == (8_000_000, 1_774_745_990, 8_589_934_591));
+    assert!(rt; ids == (65_535, 8_916));
+    assert!(rt; (read.has_sdt(), read.has_tdt()) == (true, false));
+    assert!(rt; (read.programs().len(), read.streams().len()) == (2, 2));
     for (program, wanted) in read.programs().iter().zip(PROGRAMS) {
-        assert_eq!(rt; program_entry(program), wanted);
+        assert!(rt; program_entry(program) == wanted);
     }
     for (stream, wanted) in read.streams().iter().zip(STREAMS) {
-        assert_eq!(rt; stream_entry(stream), wanted);
+        assert!(rt; stream_entry(stream) == wanted);
     }
     Ok(())
 }
@@ -236,7 +236,7 @@ fn records(rt: HostRuntime) -> Result<(), Fail> {
     }
     let wanted =
         b"\x07\x00\x00\x00\x03\x01\x02\x03\x04\x05\x06\x07\x08\x11\x12\x13\x14\x15\x16\x17\x18\xa0\xa1\xa2\x00\x00\x00\x00\x00\x00\x00\x00\x00\x00\x00\x00\x00\x00\x00\x00\x00\x00\x00\x00\x01";
-    assert_eq!(rt; out.as_slice(), wanted.as_slice());
+    assert!(rt; out.as_slice() == wanted.as_slice());
     Ok(())
 }
 
@@ -250,7 +250,7 @@ fn refused_memory(rt: HostRuntime) -> Result<(), Fail> {
         let heap = LocalHeap::new(alloc, size * 32 + 64)?;
         match written(&heap) {
             Ok(text) => {
-                assert_eq!(rt; text.as_str(), TEXT);
+                assert!(rt; text.as_str() == TEXT);
                 whole = whole.saturating_add(1);
             }
             Err(_) => refused = refused.saturating_add(1),

@@ -108,10 +108,7 @@ fn a_record_is_read(rt: HostRuntime) -> Result<(), Fail> {
         fault(rt.alloc(), 1),
         fault(rt.alloc(), 23),
     ];
-    assert_eq!(rt;
-        faults,
-        [None, Some(UnitFileError::Cut), Some(UnitFileError::Cut)]
-    );
+    assert!(rt; faults == [None, Some(UnitFileError::Cut), Some(UnitFileError::Cut)]);
     Ok(())
 }
 
@@ -122,7 +119,7 @@ fn numbers_of_faults(rt: HostRuntime) {
         UnitFileError::Size.code(),
         UnitFileError::Device.code(),
     ];
-    assert_eq!(rt; codes, [1, 2, 3]);
+    assert!(rt; codes == [1, 2, 3]);
 }
 
 // Whether `carry` on these records answers and writes so.
@@ -282,7 +279,7 @@ fn numbers_of_causes(rt: HostRuntime) {
         FeedError::BadPts.code(),
         FeedError::TooFar.code(),
     ];
-    assert_eq!(rt; codes, [1, 2, 3, 4, 5, 7]);
+    assert!(rt; codes == [1, 2, 3, 4, 5, 7]);
 }
 
 // What a writer took that fails once, after so many bytes.

@@ -22,6 +22,3 @@ pub use refusal::PesError;
 pub use stream_ids::{fits_packet, greatest_size, has_flags, is_unit_id};
 pub use time_stamps::Stamps;
 pub use writing::write_header;
-
-#[cfg(test)]
-mod tests;

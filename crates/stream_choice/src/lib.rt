@@ -21,8 +21,6 @@ mod ranges;
 mod rates;
 mod recurring;
 mod shares;
-#[cfg(test)]
-mod tests;
 
 pub use choice::Choice;
 pub use choosing::choose;

@@ -8,8 +8,6 @@ mod ac3;
 mod buffers;
 mod coding;
 mod fields;
-#[cfg(test)]
-mod tests;
 
 pub use ac3::is_ac3;
 pub use buffers::{Buffers, buffers_of};

@@ -19,8 +19,6 @@ mod sections;
 mod services;
 mod streams;
 mod tables;
-#[cfg(test)]
-mod tests;
 mod texts;
 
 pub use association::{Association, association_change, named_programs};

@@ -47,8 +47,8 @@ fn ran_on(alloc: Global, words: &[&str], input: &[u8]) -> Outcome {
 }
 
 fn assert_told(rt: &impl Abort, outcome: &Outcome, status: u8, faults: &[u8]) {
-    assert_eq!(rt; outcome.status, status);
-    assert_eq!(rt; outcome.faults.as_slice(), faults);
+    assert!(rt; outcome.status == status);
+    assert!(rt; outcome.faults.as_slice() == faults);
 }
 
 /// A packet of the record's unit, as bytes: 165 bytes of stuffing, and the PES packet.
@@ -56,7 +56,7 @@ fn assert_told(rt: &impl Abort, outcome: &Outcome, status: u8, faults: &[u8]) {
 fn carries_a_record(rt: HostRuntime) -> Result<(), Fail> {
     let outcome = ran_on(rt.alloc(), ["carry"].as_slice(), RECORD.as_slice());
     assert_told(&rt, &outcome, 0, b"");
-    assert_eq!(rt; outcome.output.len(), 188);
+    assert!(rt; outcome.output.len() == 188);
     assert!(rt;
         outcome
             .output
@@ -76,7 +76,7 @@ fn carries_a_record(rt: HostRuntime) -> Result<(), Fail> {
 fn carries_as_digits(rt: HostRuntime) -> Result<(), Fail> {
     let outcome = ran_on(rt.alloc(), [].as_slice(), RECORD.as_slice());
     assert_told(&rt, &outcome, 0, b"");
-    assert_eq!(rt; outcome.output.len(), 377);
+    assert!(rt; outcome.output.len() == 377);
     assert!(rt; outcome.output.as_slice().starts_with(b"47410030a600ff"));
     assert!(rt;
         outcome
@@ -114,7 +114,7 @@ fn takes_all_options(rt: HostRuntime) -> Result<(), Fail> {
     let words = ["carry", "--hex", "--pid", "8190", "--id", "239"];
     let outcome = ran_on(alloc, words.as_slice(), RECORD.as_slice());
     assert_told(&rt, &outcome, 0, b"");
-    assert_eq!(rt; outcome.output.len(), 377);
+    assert!(rt; outcome.output.len() == 377);
     assert!(rt; outcome.output.as_slice().starts_with(b"475ffe30a600ff"));
     assert!(rt;
         outcome
@@ -125,7 +125,7 @@ fn takes_all_options(rt: HostRuntime) -> Result<(), Fail> {
     let turned = ["carry", "--id=000239", "--pid", "08190", "--hex"];
     let again = ran_on(alloc, turned.as_slice(), RECORD.as_slice());
     assert_told(&rt, &again, 0, b"");
-    assert_eq!(rt; again.output.as_slice(), outcome.output.as_slice());
+    assert!(rt; again.output.as_slice() == outcome.output.as_slice());
     Ok(())
 }
 
@@ -135,12 +135,12 @@ fn tells_of_a_refusal(rt: HostRuntime) -> Result<(), Fail> {
     let alloc = rt.alloc();
     let cut = ran_on(alloc, ["carry"].as_slice(), &RECORD[..23]);
     assert_told(&rt, &cut, 1, b"file 0 1\n");
-    assert_eq!(rt; cut.output.len(), 0);
+    assert!(rt; cut.output.len() == 0);
     let mut twice = Vec::from_slice(alloc, RECORD.as_slice())?;
     twice.extend_from_slice(RECORD.as_slice())?;
     let again = ran_on(alloc, ["carry", "--hex"].as_slice(), twice.as_slice());
     assert_told(&rt, &again, 1, b"unit 1 4\n");
-    assert_eq!(rt; again.output.len(), 377);
+    assert!(rt; again.output.len() == 377);
     let mut large = [0u8; 21];
     large[2] = 0x3D;
     large[3] = 0x09;
@@ -152,8 +152,8 @@ fn tells_of_a_refusal(rt: HostRuntime) -> Result<(), Fail> {
 
 fn assert_usage(rt: &impl Abort, alloc: Global, words: &[&str]) {
     let outcome = ran_on(alloc, words, RECORD.as_slice());
-    assert_eq!(rt; outcome.status, 2);
-    assert_eq!(rt; outcome.output.len(), 0);
+    assert!(rt; outcome.status == 2);
+    assert!(rt; outcome.output.len() == 0);
     assert!(rt; outcome.faults.as_slice().starts_with(b"usage: tsmux carry"));
 }
 
@@ -218,7 +218,7 @@ fn tells_of_a_reader(rt: HostRuntime) -> Result<(), Fail> {
         let failing = Failing::after_calls(RECORD.as_slice(), calls);
         let outcome = ran(alloc, ["carry"].as_slice(), &mut Counted::new(failing));
         assert_told(&rt, &outcome, 3, b"read\n");
-        assert_eq!(rt; outcome.output.len(), 0);
+        assert!(rt; outcome.output.len() == 0);
     }
     Ok(())
 }
@@ -239,10 +239,10 @@ fn tells_of_a_writer(rt: HostRuntime) -> Result<(), Fail> {
             &mut output,
             &mut faults,
         );
-        assert_eq!(rt; status, 3);
-        assert_eq!(rt; faults.into_inner().as_slice(), b"write\n".as_slice());
+        assert!(rt; status == 3);
+        assert!(rt; faults.into_inner().as_slice() == b"write\n".as_slice());
         let held: Vec<u8> = output.into_inner().into_inner();
-        assert_eq!(rt; held.len() as u64, taken);
+        assert!(rt; held.len() as u64 == taken);
         assert!(rt; whole.output.as_slice().starts_with(held.as_slice()));
     }
     Ok(())
@@ -262,8 +262,8 @@ fn keeps_its_status(rt: HostRuntime) -> Result<(), Fail> {
         &mut output,
         &mut faults,
     );
-    assert_eq!(rt; status, 1);
+    assert!(rt; status == 1);
     let told: Vec<u8> = faults.into_inner().into_inner();
-    assert_eq!(rt; told.as_slice(), b"file".as_slice());
+    assert!(rt; told.as_slice() == b"file".as_slice());
     Ok(())
 }

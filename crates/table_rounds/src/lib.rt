@@ -25,6 +25,3 @@ pub mod laws;
 
 pub use texts::SectionTexts;
 pub use turn::TableTurn;
-
-#[cfg(test)]
-mod tests;

@@ -117,7 +117,7 @@ fn a_unit_is_measured(rt: HostRuntime) -> Result<(), Fail> {
     let alloc = rt.alloc();
     let units = [unit(alloc, 0, 1_600, 576)?];
     let bytes = run(alloc, 1_600, 1, 18)?;
-    assert_eq!(rt; bytes.len(), 3_384);
+    assert!(rt; bytes.len() == 3_384);
     match measure(alloc, &base(&rt, alloc), &units, &bytes) {
         Ok(found) => assert!(rt; is_found(&found, (1, 590), (127, 346), None)),
         Err(error) => panic!(rt; "{error}"),
@@ -142,7 +142,7 @@ fn a_unit_is_late_by_one_unit_of_time(rt: HostRuntime) -> Result<(), Fail> {
         let units = [unit(alloc, 0, dts, 576)?];
         let bytes = run(alloc, dts, 1, 13)?;
         match measure(alloc, &base(&rt, alloc), &units, &bytes) {
-            Ok(found) => assert_eq!(rt; found.late, late),
+            Ok(found) => assert!(rt; found.late == late),
             Err(error) => panic!(rt; "{error}"),
         }
     }
@@ -178,7 +178,7 @@ fn a_hundred_thousand_packets_are_measured(rt: HostRuntime) -> Result<(), Fail> 
         }
         bytes.extend_from_slice(&run(alloc, first, 100, 2_400)?)?;
     }
-    assert_eq!(rt; bytes.len(), 18_950_400);
+    assert!(rt; bytes.len() == 18_950_400);
     match measure(alloc, &base(&rt, alloc), units.as_slice(), &bytes) {
         Ok(found) => assert!(rt; is_found(&found, (1, 590), (127, 346), None)),
         Err(error) => panic!(rt; "{error}"),
@@ -238,33 +238,21 @@ fn each_refusal_is_given(rt: HostRuntime) -> Result<(), Fail> {
     let alloc = rt.alloc();
     let units = [unit(alloc, 0, 1_600, 576)?];
     let mut bytes = run(alloc, 1_600, 1, 18)?;
-    assert_eq!(rt; refusal(&rt, alloc, &units, &bytes), None);
+    assert!(rt; refusal(&rt, alloc, &units, &bytes) == None);
     let _ = bytes.pop();
-    assert_eq!(rt;
-        refusal(&rt, alloc, &units, &bytes),
-        Some(MeasureError::Length)
-    );
+    assert!(rt; refusal(&rt, alloc, &units, &bytes) == Some(MeasureError::Length));
     let bytes = run(alloc, 1_600, 1, 18)?;
-    assert_eq!(rt;
-        refusal(&rt, alloc, &[], &bytes),
-        Some(MeasureError::Carried)
-    );
+    assert!(rt; refusal(&rt, alloc, &[], &bytes) == Some(MeasureError::Carried));
     let others = [unit(alloc, 1, 1_600, 576)?];
-    assert_eq!(rt;
-        refusal(&rt, alloc, &others, &bytes),
-        Some(MeasureError::Carried)
-    );
+    assert!(rt; refusal(&rt, alloc, &others, &bytes) == Some(MeasureError::Carried));
     let long = [unit(alloc, 0, 1_600, 577)?];
-    assert_eq!(rt;
-        refusal(&rt, alloc, &long, &bytes),
-        Some(MeasureError::Carried)
-    );
+    assert!(rt; refusal(&rt, alloc, &long, &bytes) == Some(MeasureError::Carried));
     let mut wrong = run(alloc, 1_600, 1, 18)?;
     if let Some(byte) = wrong.get_mut(376) {
         *byte = 0x46;
     }
     let expected = Some(MeasureError::Packet(2, PacketError::Sync));
-    assert_eq!(rt; refusal(&rt, alloc, &[], &wrong), expected);
+    assert!(rt; refusal(&rt, alloc, &[], &wrong) == expected);
     Ok(())
 }
 
@@ -302,7 +290,7 @@ fn memory_is_refused(rt: HostRuntime) -> Result<(), Fail> {
             }
             Err(error) => {
                 refused = true;
-                assert_eq!(rt; error, MeasureError::Memory);
+                assert!(rt; error == MeasureError::Memory);
             }
         }
     }

@@ -21,6 +21,3 @@ pub use causes::{own_cause, time_cause};
 pub use queue::UnitQueue;
 pub use refusal::FeedError;
 pub use rules::StreamRules;
-
-#[cfg(test)]
-mod tests;

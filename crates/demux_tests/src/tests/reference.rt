@@ -83,6 +83,19 @@ fn cut_short(
     note(alloc, &what, part, notes)
 }
 
+// The stream_id of a PES packet without a length, and how many bytes its body has so far.
+fn unbounded(part: &Part) -> Option<(u8, usize)> {
+    if !part.is_pes {
+        return None;
+    }
+    match read_header(&part.bytes) {
+        Ok((header, size)) if header.len == 0 => {
+            Some((header.id, part.bytes.len().saturating_sub(size)))
+        }
+        _ => None,
+    }
+}
+
 // Where nothing more comes.
 fn end(
     alloc: Global,
@@ -93,20 +106,13 @@ fn end(
     let Some(part) = held else {
         return Ok(());
     };
-    if part.is_pes {
-        if let Ok((header, size)) = read_header(&part.bytes) {
-            if header.len == 0 {
-                let what = format!(in alloc;
-                    "pes {} {} {}",
-                    header.id,
-                    unended,
-                    part.bytes.len().saturating_sub(size)
-                )?;
-                return note(alloc, &what, part, notes);
-            }
+    match unbounded(part) {
+        Some((id, size)) => {
+            let what = format!(in alloc; "pes {} {} {}", id, unended, size)?;
+            note(alloc, &what, part, notes)
         }
+        None => cut_short(alloc, held, notes),
     }
-    cut_short(alloc, held, notes)
 }
 
 // The sections in a payload; the last one, if it is not whole.

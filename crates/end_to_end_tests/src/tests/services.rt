@@ -53,7 +53,7 @@ const TWO_SOURCES: [Source; 2] = [
         sizes: [533, 165, 533, 165],
         first: 1_800,
         interval: 720,
-        held: 180,
+        delay: 180,
         count: 70,
     },
     Source {
@@ -63,7 +63,7 @@ const TWO_SOURCES: [Source; 2] = [
         sizes: [576, 170, 354, 170],
         first: 2_600,
         interval: 720,
-        held: 0,
+        delay: 0,
         count: 69,
     },
 ];
@@ -75,7 +75,7 @@ const ONE_SOURCE: [Source; 1] = [Source {
     sizes: [576; 4],
     first: 12_960,
     interval: 2_160,
-    held: 0,
+    delay: 0,
     count: 244,
 }];
 

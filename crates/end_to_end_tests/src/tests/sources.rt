@@ -5,7 +5,7 @@ use pes_packet::Stamps;
 use std::alloc::Global;
 use std::test::Fail;
 
-/// Units of a stream: their sizes in turn, how far apart they are and how long each is held after its decoding time.
+/// Units of a stream: their sizes in turn, how far apart they are and how long after its decoding time each is presented.
 pub struct Source {
     pub stream: u8,
     pub pid: u16,
@@ -13,7 +13,7 @@ pub struct Source {
     pub sizes: [u16; 4],
     pub first: u64,
     pub interval: u64,
-    pub held: u64,
+    pub delay: u64,
     pub count: u8,
 }
 
@@ -28,14 +28,14 @@ impl Source {
     }
 
     fn pts(&self, number: u8) -> u64 {
-        self.dts(number).saturating_add(self.held)
+        self.dts(number).saturating_add(self.delay)
     }
 
     /// The stamps of a unit as on the wire, where the clock begins with this value.
     pub fn stamps(&self, base: u64, number: u8) -> Stamps {
         let pts = base.saturating_add(self.pts(number)) % (1 << 33);
         let dts = base.saturating_add(self.dts(number)) % (1 << 33);
-        if self.held == 0 {
+        if self.delay == 0 {
             Stamps::Pts(pts)
         } else {
             Stamps::PtsDts { pts, dts }

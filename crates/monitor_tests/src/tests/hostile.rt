@@ -85,25 +85,29 @@ fn tally(rows: &[Row], counts: &mut [u32; 16]) {
     }
 }
 
+// The rows of a stream's faults by the plain reading, where the report has the same.
+fn rows_reported(alloc: Global, bytes: &[u8]) -> Result<Option<Vec<Row>>, Fail> {
+    let found = report(alloc, slow()?, 40, bytes)?;
+    let wanted = rows(alloc, bytes)?;
+    let is_same = numbered(alloc, found.faults())?.as_slice() == wanted.as_slice();
+    Ok(if is_same { Some(wanted) } else { None })
+}
+
 // 1,000 streams, in which each of the fifteen rules fails.
 #[test]
 fn hostile_streams(rt: HostRuntime) -> Result<(), Fail> {
-    let alloc = rt.alloc();
     let mut seed = 1;
     let mut counts = [0u32; 16];
     for n in 0..1_000u32 {
-        let bytes = hostile_stream(alloc, &mut seed)?;
-        let found = report(alloc, slow()?, 40, &bytes)?;
-        let wanted = rows(alloc, &bytes)?;
-        assert_eq!(rt;
-            numbered(alloc, found.faults())?.as_slice(),
-            wanted.as_slice(),
-            "stream {n}"
-        );
+        let bytes = hostile_stream(rt.alloc(), &mut seed)?;
+        let Some(wanted) = rows_reported(rt.alloc(), &bytes)? else {
+            panic!(rt; "stream {n}");
+        };
         tally(&wanted, &mut counts);
     }
-    for rule in 1..16usize {
-        assert!(rt; 0 < counts[rule], "rule {rule} never fails");
-    }
+    assert!(rt;
+        counts[1..].iter().all(|count| 0 < *count),
+        "a rule never fails"
+    );
     Ok(())
 }

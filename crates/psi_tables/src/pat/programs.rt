@@ -56,6 +56,7 @@ impl<'a> Programs<'a> {
         self.bytes.len() / 4
     }
 
+    /// Whether no entry is left.
     pub fn is_empty(&self) -> bool
         ensures { IsTrue result ↔ (programs_of self.now ≡ []) }
     {

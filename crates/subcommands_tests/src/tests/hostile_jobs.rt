@@ -202,7 +202,7 @@ fn changed_number(
     )
 }
 
-/// A line left out, doubled, or behind the next one.
+/// A line left out, doubled, or after the next one.
 fn changed_line(alloc: Global, bytes: &[u8], way: usize, at: usize) -> Result<Vec<u8>, AllocError> {
     let (begin, end) = (line_begin(bytes, at), line_end(bytes, at));
     let line = part(bytes, begin, end);
@@ -349,7 +349,7 @@ fn hostile_jobs(rt: HostRuntime) -> Result<(), Fail> {
     for (number, answer) in ANSWERS.iter().enumerate() {
         let job = hostile_job(alloc, &mut seed)?;
         let word = answered(alloc, &job, &mut seed)?;
-        assert_eq!(rt; word, *answer, "job {number}");
+        assert!(rt; word == *answer, "job {number}");
     }
     Ok(())
 }

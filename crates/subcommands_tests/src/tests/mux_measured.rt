@@ -135,8 +135,8 @@ fn measured(rt: &impl Abort, alloc: Global, text: &str, records: &[u8]) -> Resul
 /// No unit is late, and no buffer holds more than it has room for.
 fn assert_kept(rt: &impl Abort, found: &Fullness, streams: usize, programs: usize) {
     assert!(rt; found.late.is_none());
-    assert_eq!(rt; found.streams.len(), streams);
-    assert_eq!(rt; found.programs.len(), programs);
+    assert!(rt; found.streams.len() == streams);
+    assert!(rt; found.programs.len() == programs);
     for stream in found.streams.as_slice() {
         assert!(rt; stream.transport <= 512 && 0 < stream.main && stream.main <= 3_584);
     }

@@ -126,18 +126,18 @@ fn writes_packets(rt: HostRuntime) -> Result<(), Fail> {
     let worked = worked(alloc)?;
     let outcome = ran_on(alloc, ["mux"].as_slice(), bytes.as_slice());
     assert_told(&rt, &outcome, 0, b"");
-    assert_eq!(rt; outcome.output.as_slice(), worked.as_slice());
+    assert!(rt; outcome.output.as_slice() == worked.as_slice());
     let lines = ran_on(alloc, ["mux", "--hex"].as_slice(), bytes.as_slice());
     assert_told(&rt, &lines, 0, b"");
-    assert_eq!(rt; lines.output.as_slice(), digits(alloc, &worked)?.as_slice());
+    assert!(rt; lines.output.as_slice() == digits(alloc, &worked)?.as_slice());
     let words = ["mux", "--slots", "03"];
     let some = ran_on(alloc, words.as_slice(), bytes.as_slice());
     assert_told(&rt, &some, 0, b"");
-    assert_eq!(rt; Some(some.output.as_slice()), worked.get(..564));
+    assert!(rt; Some(some.output.as_slice()) == worked.get(..564));
     let without = job(alloc, [DESCRIPTION, PLAN].as_slice())?;
     let nothing = ran_on(alloc, ["mux"].as_slice(), without.as_slice());
     assert_told(&rt, &nothing, 0, b"");
-    assert_eq!(rt; nothing.output.len(), 0);
+    assert!(rt; nothing.output.len() == 0);
     Ok(())
 }
 
@@ -170,12 +170,12 @@ fn follows_a_second_plan(rt: HostRuntime) -> Result<(), Fail> {
     let one = patient(alloc, [PLAN].as_slice())?;
     let alone = ran_on(alloc, ["mux", "--slots", "120"].as_slice(), one.as_slice());
     assert_told(&rt, &alone, 0, b"");
-    assert_eq!(rt; alone.output.len(), 22_560);
+    assert!(rt; alone.output.len() == 22_560);
     let two = patient(alloc, [PLAN, TURNED].as_slice())?;
     let words = ["mux", "--switch=1", "--slots=240"];
     let outcome = ran_on(alloc, words.as_slice(), two.as_slice());
     assert_told(&rt, &outcome, 0, b"");
-    assert_eq!(rt; outcome.output.len(), 45_120);
+    assert!(rt; outcome.output.len() == 45_120);
     assert!(rt;
         outcome
             .output
@@ -188,6 +188,6 @@ fn follows_a_second_plan(rt: HostRuntime) -> Result<(), Fail> {
         &mut later,
         b"\x47\x01\x01\x2F\xB7\x10\x00\x00\x15\x74\x7E\xEC",
     )?;
-    assert_eq!(rt; outcome.output.get(22_748..23_124), Some(later.as_slice()));
+    assert!(rt; outcome.output.get(22_748..23_124) == Some(later.as_slice()));
     Ok(())
 }

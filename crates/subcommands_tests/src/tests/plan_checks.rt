@@ -72,11 +72,11 @@ fn accepts_a_plan(rt: HostRuntime) -> Result<(), Fail> {
     let one = job(alloc, [DESCRIPTION, PLAN, "more"].as_slice())?;
     let outcome = ran_on(alloc, ["check"].as_slice(), one.as_slice());
     assert_told(&rt, &outcome, 0, b"");
-    assert_eq!(rt; outcome.output.as_slice(), b"accepted\n".as_slice());
+    assert!(rt; outcome.output.as_slice() == b"accepted\n".as_slice());
     let two = job(alloc, [DESCRIPTION, PLAN, PLAN].as_slice())?;
     let outcome = ran_on(alloc, ["check", "--switch"].as_slice(), two.as_slice());
     assert_told(&rt, &outcome, 0, b"");
-    assert_eq!(rt; outcome.output.as_slice(), b"accepted\n".as_slice());
+    assert!(rt; outcome.output.as_slice() == b"accepted\n".as_slice());
     Ok(())
 }
 
@@ -88,17 +88,11 @@ fn refuses_a_plan(rt: HostRuntime) -> Result<(), Fail> {
     let one = job(alloc, [DESCRIPTION, empty].as_slice())?;
     let outcome = ran_on(alloc, ["check"].as_slice(), one.as_slice());
     assert_told(&rt, &outcome, 1, b"");
-    assert_eq!(rt;
-        outcome.output.as_slice(),
-        b"refused 1 1 0 1 0\n".as_slice()
-    );
+    assert!(rt; outcome.output.as_slice() == b"refused 1 1 0 1 0\n".as_slice());
     let two = job(alloc, [DESCRIPTION, PLAN, empty].as_slice())?;
     let outcome = ran_on(alloc, ["check", "--switch"].as_slice(), two.as_slice());
     assert_told(&rt, &outcome, 1, b"");
-    assert_eq!(rt;
-        outcome.output.as_slice(),
-        b"second refused 1 1 0 1 0\n".as_slice()
-    );
+    assert!(rt; outcome.output.as_slice() == b"second refused 1 1 0 1 0\n".as_slice());
     Ok(())
 }
 
@@ -133,7 +127,7 @@ fn tells_of_a_job(rt: HostRuntime) -> Result<(), Fail> {
     let second = job(alloc, [DESCRIPTION, PLAN].as_slice())?;
     let outcome = ran_on(alloc, ["check", "--switch"].as_slice(), second.as_slice());
     assert_told(&rt, &outcome, 1, b"second plan 1\n");
-    assert_eq!(rt; outcome.output.len(), 0);
+    assert!(rt; outcome.output.len() == 0);
     Ok(())
 }
 
@@ -145,7 +139,7 @@ fn tells_of_devices(rt: HostRuntime) -> Result<(), Fail> {
     let failing = Failing::after_calls(bytes.as_slice(), 0);
     let outcome = ran(alloc, ["check"].as_slice(), &mut Counted::new(failing));
     assert_told(&rt, &outcome, 3, b"read\n");
-    assert_eq!(rt; outcome.output.len(), 0);
+    assert!(rt; outcome.output.len() == 0);
     let line = b"accepted\n";
     for taken in 0..line.len() as u64 {
         let mut input = Counted::new(bytes.as_slice());
@@ -158,10 +152,10 @@ fn tells_of_devices(rt: HostRuntime) -> Result<(), Fail> {
             &mut output,
             &mut faults,
         );
-        assert_eq!(rt; status, 3);
-        assert_eq!(rt; faults.into_inner().as_slice(), b"write\n".as_slice());
+        assert!(rt; status == 3);
+        assert!(rt; faults.into_inner().as_slice() == b"write\n".as_slice());
         let held: Vec<u8> = output.into_inner().into_inner();
-        assert_eq!(rt; held.len() as u64, taken);
+        assert!(rt; held.len() as u64 == taken);
         assert!(rt; line.as_slice().starts_with(held.as_slice()));
     }
     Ok(())

@@ -24,7 +24,7 @@ fn gives_a_plan(rt: HostRuntime) -> Result<(), Fail> {
     bytes.extend_from_slice(plan.output.as_slice())?;
     let outcome = ran_on(alloc, ["check"].as_slice(), bytes.as_slice());
     assert_told(&rt, &outcome, 0, b"");
-    assert_eq!(rt; outcome.output.as_slice(), b"accepted\n".as_slice());
+    assert!(rt; outcome.output.as_slice() == b"accepted\n".as_slice());
     Ok(())
 }
 
@@ -34,10 +34,10 @@ fn gives_no_plan(rt: HostRuntime) -> Result<(), Fail> {
     let alloc = rt.alloc();
     let none = ran_on(alloc, ["plan"].as_slice(), hasty(alloc)?.as_slice());
     assert_told(&rt, &none, 1, b"no plan\n");
-    assert_eq!(rt; none.output.len(), 0);
+    assert!(rt; none.output.len() == 0);
     let refused = ran_on(alloc, ["plan"].as_slice(), b"rate = 99999\n");
     assert_told(&rt, &refused, 1, b"description 10 0\n");
-    assert_eq!(rt; refused.output.len(), 0);
+    assert!(rt; refused.output.len() == 0);
     let failing = Failing::after_calls(DESCRIPTION.as_bytes(), 0);
     let unread = ran(alloc, ["plan"].as_slice(), &mut Counted::new(failing));
     assert_told(&rt, &unread, 3, b"read\n");

@@ -35,7 +35,7 @@ fn assert_reports(
 ) {
     let outcome = ran_on(alloc, words, input);
     assert_told(rt, &outcome, status, b"");
-    assert_eq!(rt; outcome.output.as_slice(), report);
+    assert!(rt; outcome.output.as_slice() == report);
 }
 
 /// No bytes, three packets, and bytes of a fourth.
@@ -142,7 +142,7 @@ fn tells_of_a_reader_of_a_stream(rt: HostRuntime) -> Result<(), Fail> {
         let failing = Failing::after_calls(bytes.as_slice(), calls);
         let outcome = ran(alloc, WORDS, &mut Counted::new(failing));
         assert_told(&rt, &outcome, 3, b"read\n");
-        assert_eq!(rt; outcome.output.len(), 0);
+        assert!(rt; outcome.output.len() == 0);
     }
     Ok(())
 }
@@ -157,10 +157,10 @@ fn tells_of_a_writer_of_a_report(rt: HostRuntime) -> Result<(), Fail> {
         let mut output = Counted::new(Failing::after_bytes(Vec::new(alloc), taken));
         let mut faults = Counted::new(Vec::new(alloc));
         let status = run(alloc, WORDS, &mut input, &mut output, &mut faults);
-        assert_eq!(rt; status, 3);
-        assert_eq!(rt; faults.into_inner().as_slice(), b"write\n".as_slice());
+        assert!(rt; status == 3);
+        assert!(rt; faults.into_inner().as_slice() == b"write\n".as_slice());
         let held: Vec<u8> = output.into_inner().into_inner();
-        assert_eq!(rt; held.len() as u64, taken);
+        assert!(rt; held.len() as u64 == taken);
         assert!(rt; THREE.starts_with(held.as_slice()));
     }
     Ok(())

@@ -48,7 +48,7 @@ fn are_alike(alloc: Global) -> Result<[bool; 2], Fail> {
 
 #[test]
 fn a_unit_between_slots(rt: HostRuntime) -> Result<(), Fail> {
-    assert_eq!(rt; are_alike(rt.alloc())?, [true, false]);
+    assert!(rt; are_alike(rt.alloc())? == [true, false]);
     Ok(())
 }
 

@@ -1,0 +1,265 @@
+//! Values of a second reading of the rules, and values worked by hand.
+
+use std::test::Fail;
+use stream_choice::{Choice, Needs, Recurring, are_most, choose, least_rate, least_share, wait};
+
+// What is known of a stream (interval, size, rx, main), its most packets, their least share, the wait and the greatest
+// lead; and the share, the lead and the group that are chosen.
+type Row = (
+    [u32; 4],
+    &'static [u32],
+    u64,
+    u32,
+    u32,
+    Option<(u64, u32, u8)>,
+);
+
+// The first two are audio of 192 kbit/s, one and five frames to a unit.
+const ROWS: [Row; 14] = [
+    (
+        [2_160, 576, 2_000_000, 3_584],
+        &[4],
+        2_036_132_645,
+        1_805,
+        90_000,
+        Some((2_036_132_645, 4_505, 1)),
+    ),
+    (
+        [10_800, 2_880, 2_000_000, 3_584],
+        &[16],
+        1_628_906_116,
+        2_210,
+        90_000,
+        Some((2_184_550_608, 10_800, 1)),
+    ),
+    (
+        [1_500, 435_951, 24_000_000, 1_300_000],
+        &[2_370, 3_623],
+        1_327_843_542_478,
+        19,
+        20_000,
+        None,
+    ),
+    (
+        [3_600, 69_414, 18_000_000, 600_000],
+        &[378, 569, 742, 997],
+        75_540_521_094,
+        28,
+        45_000,
+        Some((75_540_521_094, 7_243, 3)),
+    ),
+    (
+        [3_600, 369_624, 72_000_000, 1_300_000],
+        &[2_009, 2_928],
+        447_134_728_629,
+        8,
+        90_000,
+        Some((447_134_728_629, 4_952, 2)),
+    ),
+    (
+        [8_658, 159_201, 930_094, 7_261_517],
+        &[866, 1_627],
+        103_309_391_222,
+        402,
+        20_000,
+        None,
+    ),
+    (
+        [7_500, 66_955, 18_000_000, 239_376],
+        &[364, 430, 519, 560, 619, 669],
+        16_346_072_867,
+        49,
+        45_000,
+        Some((16_346_072_867, 37_617, 6)),
+    ),
+    (
+        [1_800, 33_211, 18_000_000, 239_376],
+        &[181, 212],
+        64_749_018_081,
+        28,
+        23_991,
+        Some((64_749_018_081, 3_119, 2)),
+    ),
+    (
+        [40_162, 232_354, 148_483_118, 9_629_720],
+        &[1_263, 2_423, 3_318, 4_315],
+        29_532_846_185,
+        115,
+        45_000,
+        Some((32_669_901_919, 45_000, 3)),
+    ),
+    (
+        [76_309, 160_650, 59_927_077, 1_573_640],
+        &[874, 1_376, 1_878, 2_337, 2_678, 3_074],
+        7_382_044_809,
+        48,
+        63_844,
+        Some((15_080_475_852, 63_844, 1)),
+    ),
+    (
+        [3_003, 230_524, 72_000_000, 3_766_000],
+        &[1_253, 1_792, 2_109, 2_523, 2_949, 3_253],
+        198_507_677_054,
+        8,
+        90_000,
+        Some((198_507_677_054, 12_026, 6)),
+    ),
+    (
+        [1_920, 2_579, 2_000_000, 5_696],
+        &[15, 30, 41, 52],
+        7_444_609_980,
+        629,
+        90_000,
+        Some((7_444_609_980, 3_584, 4)),
+    ),
+    (
+        [2_160, 2_455, 2_000_000, 5_696],
+        &[14, 24],
+        6_108_397_933,
+        454,
+        44_535,
+        Some((6_108_397_933, 3_154, 2)),
+    ),
+    (
+        [70_346, 338_696, 75_086_256, 8_602_849],
+        &[1_841, 3_382, 4_736, 6_205, 7_685, 9_100],
+        23_705_578_647,
+        19,
+        45_000,
+        Some((45_026_268_057, 45_000, 1)),
+    ),
+];
+
+// The share, the lead and the group.
+fn numbers(choice: Choice) -> (u64, u32, u8) {
+    (choice.share, choice.lead, choice.group)
+}
+
+#[test]
+fn chosen(rt: HostRuntime) -> Result<(), Fail> {
+    for (known, most, share, wait, lead, wanted) in ROWS {
+        let [interval, size, rx, main] = known;
+        let needs = Needs {
+            interval,
+            size,
+            rx,
+            main,
+        };
+        assert!(rt; needs.is_in_range() && are_most(most) && lead <= 90_000);
+        assert!(rt; least_share(needs, most) == share);
+        let found = choose(needs, most, wait, lead);
+        assert!(rt; found.map(numbers) == wanted);
+    }
+    Ok(())
+}
+
+// Shares, what recurs, and the least rate.
+const RATES: [(&[u64], &[Recurring], Option<u32>); 10] = [
+    (
+        &[2_036_132_645],
+        &[Recurring {
+            slots: 1,
+            limit: 40,
+        }],
+        Some(292_445),
+    ),
+    (
+        &[],
+        &[Recurring {
+            slots: 1,
+            limit: 40,
+        }],
+        Some(100_000),
+    ),
+    (&[], &[Recurring { slots: 1, limit: 1 }], Some(1_504_000)),
+    (&[], &[], Some(100_000)),
+    (&[1_099_511_627_776], &[], None),
+    (
+        &[2_036_132_645],
+        &[
+            Recurring {
+                slots: 1,
+                limit: 40,
+            },
+            Recurring {
+                slots: 1,
+                limit: 500,
+            },
+            Recurring {
+                slots: 3,
+                limit: 500,
+            },
+        ],
+        Some(300_800),
+    ),
+    (
+        &[25_961_446_323, 2_036_132_645, 852_000_000],
+        &[
+            Recurring {
+                slots: 1,
+                limit: 40,
+            },
+            Recurring {
+                slots: 1,
+                limit: 100,
+            },
+            Recurring {
+                slots: 1,
+                limit: 500,
+            },
+            Recurring {
+                slots: 2,
+                limit: 2_000,
+            },
+        ],
+        Some(3_609_257),
+    ),
+    (&[812_000_000_000], &[], Some(99_964_673)),
+    (
+        &[812_000_000_000],
+        &[Recurring {
+            slots: 1,
+            limit: 40,
+        }],
+        None,
+    ),
+    (
+        &[9_223_372_036_854_775_808, 9_223_372_036_854_775_808],
+        &[],
+        None,
+    ),
+];
+
+#[test]
+fn least_rates(rt: HostRuntime) -> Result<(), Fail> {
+    for (shares, recurring, wanted) in RATES {
+        assert!(rt; least_rate(shares, recurring) == wanted);
+    }
+    Ok(())
+}
+
+// 512 bytes at a rate, rounded up, and three packets of a share.
+#[test]
+fn waits(rt: HostRuntime) -> Result<(), Fail> {
+    assert!(rt; wait(2_000_000, 1 << 40) == 188);
+    assert!(rt; wait(64_000, 1 << 40) == 5_763);
+    assert!(rt; wait(200_000_000, 1 << 17) == 25_165_826);
+    Ok(())
+}
+
+#[test]
+fn what_is_out_of_range(rt: HostRuntime) -> Result<(), Fail> {
+    let needs = Needs {
+        interval: 1,
+        size: 1,
+        rx: 64_000,
+        main: 1,
+    };
+    let slow = Needs {
+        rx: 63_999,
+        ..needs
+    };
+    assert!(rt; needs.is_in_range() && !slow.is_in_range());
+    assert!(rt; are_most(&[1]) && !are_most(&[]) && !are_most(&[1, 0]));
+    Ok(())
+}

@@ -1,0 +1,253 @@
+//! Tables of ffmpeg's streams, and tables made by hand.
+mod placing;
+mod texts;
+mod vectors;
+
+use demux::{Finding, Kind, Part, What};
+use psi_tables::Program;
+use std::alloc::{AllocError, Global};
+use std::test::Fail;
+use stream_programs::{
+    Association, FoundStream, LeftOut, Placed, Programs, StreamTables, association_change,
+    found_programs, free_pid, last_service, map_change, named_programs, original_network,
+    stream_tables,
+};
+use vectors::{EMPTY_MAP, FIRST_MAP, LAST_MAP, MORE, NEXT_PAT, OTHER_PAT, PAT, PMT, SDT};
+
+// Sections on PIDs, one in each packet.
+fn found(alloc: Global, sections: &[(u16, &[u8])]) -> Result<Vec<Finding<'static>>, AllocError> {
+    let mut findings = Vec::new(alloc);
+    for (at, (pid, bytes)) in sections.iter().enumerate() {
+        let what = What::Section(Part::Joined(Vec::from_slice(alloc, bytes)?));
+        findings.push(Finding {
+            packet: at as u64,
+            pid: Some(*pid),
+            begun: Some((at as u64, Kind::Table(0))),
+            what,
+        })?;
+    }
+    Ok(findings)
+}
+
+// The programs that are named, and what is found of them.
+fn programs(alloc: Global, findings: &[Finding<'_>]) -> Result<Option<Programs>, AllocError> {
+    let Some(association) = named_programs(alloc, findings)? else {
+        return Ok(None);
+    };
+    Ok(Some(found_programs(alloc, &association.programs, findings)?))
+}
+
+// Whether a stream is of program 1, with this stream_type, PID and descriptors.
+fn is_stream(stream: &FoundStream, stream_type: u8, pid: u16, descriptors: &[u8]) -> bool {
+    stream.program == 1
+        && stream.stream_type == stream_type
+        && stream.pid == pid
+        && stream.descriptors.as_slice() == descriptors
+}
+
+// Whether there is that one program, with video and audio.
+fn is_of_ffmpeg(programs: &Programs) -> bool {
+    match (programs.programs.as_slice(), programs.streams.as_slice()) {
+        ([program], [video, audio]) => {
+            (program.number, program.map_pid, program.pcr_pid) == (1, 0x1000, 0x100)
+                && is_stream(video, 2, 0x100, &[])
+                && is_stream(audio, 3, 0x101, &PMT[22..28])
+                && programs.left_out.is_empty()
+        }
+        _ => false,
+    }
+}
+
+// The tables of a stream of ffmpeg: one program, video and audio with its language.
+#[test]
+fn programs_of_ffmpeg(rt: HostRuntime) -> Result<(), Fail> {
+    let alloc = rt.alloc();
+    let findings = found(alloc, &[(17, &PMT), (0, &PAT), (0x1000, &PMT), (0, &PAT)])?;
+    let Some(programs) = programs(alloc, &findings)? else {
+        panic!(rt; "no program");
+    };
+    assert!(rt; is_of_ffmpeg(&programs));
+    Ok(())
+}
+
+// What of tables made by hand is left out.
+const LEFT_OUT: [LeftOut; 7] = [
+    LeftOut::ConditionalAccess { program: 2 },
+    LeftOut::NoPes {
+        program: 2,
+        pid: 0x202,
+        stream_type: 5,
+    },
+    LeftOut::Reserved {
+        program: 2,
+        pid: 0x1f,
+    },
+    LeftOut::Taken {
+        program: 2,
+        pid: 0x101,
+        holder: 1,
+    },
+    LeftOut::NoMap { program: 3 },
+    LeftOut::NoPes {
+        program: 4,
+        pid: 0x300,
+        stream_type: 0x86,
+    },
+    LeftOut::NoStream { program: 4 },
+];
+
+const TABLES: [(u16, &[u8]); 8] = [
+    (0, &NEXT_PAT),
+    (0, &PAT),
+    (0, &MORE),
+    (0x1001, &FIRST_MAP),
+    (0x1000, &PMT),
+    (0, &OTHER_PAT),
+    (0x1001, &LAST_MAP),
+    (0x1003, &EMPTY_MAP),
+];
+
+// What is kept of them: two programs, the second with descriptors, and three streams.
+fn is_kept(programs: &Programs) -> bool {
+    match (programs.programs.as_slice(), programs.streams.as_slice()) {
+        ([_, second], [_, _, third]) => {
+            second.descriptors.as_slice() == [0x80, 1, 7].as_slice()
+                && third.pid == 0x201
+                && third.descriptors.as_slice() == [0x52, 1, 7].as_slice()
+        }
+        _ => false,
+    }
+}
+
+// Programs, and the packet from which on their maps change.
+const CHANGES: [(u16, u16, Option<u64>); 3] = [
+    (1, 0x1000, None),
+    (2, 0x1001, Some(3)),
+    (3, 0x1002, None),
+];
+
+#[test]
+fn parts_of_tables_are_left_out(rt: HostRuntime) -> Result<(), Fail> {
+    let findings = found(rt.alloc(), &TABLES)?;
+    let Some(programs) = programs(rt.alloc(), &findings)? else {
+        panic!(rt; "no program");
+    };
+    assert!(rt; programs.left_out.as_slice() == LEFT_OUT.as_slice());
+    assert!(rt; is_kept(&programs));
+    assert!(rt; association_change(0, &findings) == Some(5));
+    assert!(rt; association_change(1, &findings) == Some(1));
+    for (program_number, pid, wanted) in CHANGES {
+        let program = Program {
+            program_number,
+            pid,
+        };
+        assert!(rt; map_change(program, &findings) == wanted, "{pid}");
+    }
+    Ok(())
+}
+
+const NAMED: [Program; 4] = [
+    Program {
+        program_number: 1,
+        pid: 0x1000,
+    },
+    Program {
+        program_number: 2,
+        pid: 0x1001,
+    },
+    Program {
+        program_number: 3,
+        pid: 0x1002,
+    },
+    Program {
+        program_number: 4,
+        pid: 0x1003,
+    },
+];
+
+// Whether each program is named once, in the first version of stream 1.
+fn is_named_once(association: &Association) -> bool {
+    association.transport_stream_id == 1
+        && association.version_number == 0
+        && association.programs.as_slice() == NAMED.as_slice()
+}
+
+#[test]
+fn named_once(rt: HostRuntime) -> Result<(), Fail> {
+    let alloc = rt.alloc();
+    let findings = found(alloc, &[(0, &PMT), (0, &PAT), (0, &MORE)])?;
+    let Some(association) = named_programs(alloc, &findings)? else {
+        panic!(rt; "no program");
+    };
+    assert!(rt; is_named_once(&association));
+    assert!(rt; association_change(0, &findings).is_none());
+    let none = found(alloc, &[(0, &PMT), (0, &NEXT_PAT), (1, &PAT)])?;
+    assert!(rt; named_programs(alloc, &none)?.is_none());
+    Ok(())
+}
+
+#[test]
+fn least_free_pids(rt: HostRuntime) {
+    assert!(rt; free_pid(256, &[257, 256, 259]) == Some(258));
+    assert!(rt; free_pid(8190, &[]) == Some(8190));
+    assert!(rt; free_pid(8190, &[8190]).is_none());
+    assert!(rt; free_pid(9000, &[]).is_none());
+}
+
+// Whether there is the service of ffmpeg's stream, and no other.
+fn has_service(findings: &[Finding<'_>]) -> bool {
+    match last_service(1, findings) {
+        Some(service) => {
+            service.service_type == 1
+                && service.provider == b"FFmpeg".as_slice()
+                && service.name == b"Service01".as_slice()
+                && last_service(2, findings).is_none()
+        }
+        None => false,
+    }
+}
+
+#[test]
+fn service_of_ffmpeg(rt: HostRuntime) -> Result<(), Fail> {
+    let findings = found(rt.alloc(), &[(0x11, &PMT), (0x11, &SDT), (0x12, &SDT)])?;
+    assert!(rt; has_service(&findings));
+    assert!(rt; original_network(&findings) == Some(0xff01));
+    Ok(())
+}
+
+// The program's map stays, and its clock gets a PID.
+const PLACE: Placed = Placed {
+    map_pid: 0x1000,
+    pcr_pid: 0x102,
+};
+
+fn is_placed(said: &StreamTables) -> bool {
+    match &said.places {
+        Some(places) => places.as_slice() == [PLACE].as_slice(),
+        None => false,
+    }
+}
+
+fn is_served(said: &StreamTables) -> bool {
+    match said.services.as_slice() {
+        [Some(service)] => {
+            service.service_type == 1
+                && service.provider.as_str() == "FFmpeg"
+                && service.name.as_str() == "Service01"
+        }
+        _ => false,
+    }
+}
+
+// All that the tables of ffmpeg's stream say.
+#[test]
+fn tables_of_ffmpeg(rt: HostRuntime) -> Result<(), Fail> {
+    let findings = found(rt.alloc(), &[(0x11, &SDT), (0x1000, &PMT), (0, &PAT)])?;
+    let Some(said) = stream_tables(rt.alloc(), &findings)? else {
+        panic!(rt; "no program");
+    };
+    assert!(rt; (said.transport_stream_id, said.version_number) == (1, 0));
+    assert!(rt; is_placed(&said));
+    assert!(rt; is_served(&said));
+    Ok(())
+}
