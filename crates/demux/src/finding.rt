@@ -1,4 +1,7 @@
 //! Findings.
+ghost use Rattle.std.specs.Prelude.{◌≡◌};
+ghost use Rattle.demux.specs.Shown.{part_bytes};
+
 use pes_packet::{PesError, PesHeader};
 use psi_tables::SectionError;
 use std::alloc::{Allocator, Global};
@@ -18,6 +21,18 @@ pub enum Kind {
 pub enum Part<'a, A: Allocator = Global> {
     Span(&'a [u8]),
     Joined(Vec<u8, A>),
+}
+
+impl<A: Allocator> Part<'_, A> {
+    /// The bytes, wherever they lie.
+    pub fn bytes(&self) -> &[u8]
+        ensures { result.now ≡ part_bytes self.now }
+    {
+        match self {
+            Part::Span(bytes) => bytes,
+            Part::Joined(bytes) => bytes.as_slice(),
+        }
+    }
 }
 
 /// What is found.

@@ -53,13 +53,6 @@ pub fn long_packet(starts: bool, counter: u8) -> [u8; 188] {
     }
 }
 
-fn size<A: Allocator>(part: &Part<'_, A>) -> usize {
-    match part {
-        Part::Span(bytes) => bytes.len(),
-        Part::Joined(bytes) => bytes.len(),
-    }
-}
-
 // What a finding says, in words.
 fn words<A: Allocator>(alloc: Global, what: &What<'_, A>) -> Result<String, AllocError> {
     match what {
@@ -69,14 +62,14 @@ fn words<A: Allocator>(alloc: Global, what: &What<'_, A>) -> Result<String, Allo
             *expected, *found
         ),
         What::Scrambled => format!(in alloc; "scrambled"),
-        What::Truncated(part) => format!(in alloc; "truncated {}", size(part)),
-        What::Section(part) => format!(in alloc; "section {}", size(part)),
+        What::Truncated(part) => format!(in alloc; "truncated {}", part.bytes().len()),
+        What::Section(part) => format!(in alloc; "section {}", part.bytes().len()),
         What::BadSection(error) => format!(in alloc; "bad section {}", error.code()),
         What::Pes {
             header,
             unended,
             body,
-        } => format!(in alloc; "pes {} {} {}", header.id, *unended, size(body)),
+        } => format!(in alloc; "pes {} {} {}", header.id, *unended, body.bytes().len()),
         What::BadPes(error) => format!(in alloc; "bad pes {}", error.code()),
         What::BadPacket(error) => format!(in alloc; "bad packet {}", error.code()),
         What::Errored => format!(in alloc; "errored"),

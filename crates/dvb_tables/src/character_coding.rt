@@ -68,9 +68,10 @@ impl<const N: usize> Text<N> {
     }
 }
 
-// Whether all bytes are ASCII letters, digits and spaces.
+/// Whether all bytes are ASCII letters, digits and spaces: such a text stands in the default character table as it is
+/// (EN 300 468, annex A).
 #[tactic(auto, unfolding(crate::specs::CharacterCoding::is_plain))]
-fn is_plain(bytes: &[u8]) -> bool
+pub fn is_plain(bytes: &[u8]) -> bool
     ensures { result ≡ is_plain bytes.now }
 {
     bytes.iter().all(|byte| is_plain_character(*byte))

@@ -33,7 +33,7 @@ mod time_and_date;
 mod transport_stream;
 mod transport_stream_loop;
 
-pub use character_coding::{Text, TextError};
+pub use character_coding::{Text, TextError, is_plain};
 pub use coded_times::{duration_digits, utc_time};
 pub use descriptor_loop::are_whole_descriptors;
 pub use descriptors::{

@@ -72,16 +72,13 @@ pub(crate) fn note_duplicate<A: Allocator + Clone>(
 ) -> Result<(), AllocError>
     ensures { OnOk result (noted.new.entries ≡ noted_duplicate pid noted.old.entries) }
 {
-    let Noted {
-        duplicates,
-        scrambled,
-    } = noted_so_far(noted, pid);
-    let duplicates = duplicates.saturating_add(1);
+    let before = noted_so_far(noted, pid);
+    let duplicates = before.duplicates.saturating_add(1);
     noted.insert(
         pid,
         Noted {
             duplicates,
-            scrambled,
+            ..before
         },
     )?;
     Ok(())
@@ -95,16 +92,13 @@ pub(crate) fn note_scrambled<A: Allocator + Clone>(
 ) -> Result<(), AllocError>
     ensures { OnOk result (noted.new.entries ≡ noted_scrambled pid noted.old.entries) }
 {
-    let Noted {
-        duplicates,
-        scrambled,
-    } = noted_so_far(noted, pid);
-    let scrambled = scrambled.saturating_add(1);
+    let before = noted_so_far(noted, pid);
+    let scrambled = before.scrambled.saturating_add(1);
     noted.insert(
         pid,
         Noted {
-            duplicates,
             scrambled,
+            ..before
         },
     )?;
     Ok(())

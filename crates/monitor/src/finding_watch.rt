@@ -1,6 +1,6 @@
 //! What is found in a stream's PIDs: counters, sections, and where tables and PES packets begin.
 ghost use Rattle.std.specs.Prelude.{◌≡◌, ◌≤◌, ◌++◌, ◌∷◌, [], IfOk, OnOk, Some, map};
-ghost use Rattle.demux.specs.Shown.{finding_view, part_bytes, what_view};
+ghost use Rattle.demux.specs.Shown.{finding_view, what_view};
 ghost use Rattle.monitor.specs.Reports.{noted_faults};
 ghost use Rattle.monitor.specs.Watching.{pat_marked};
 ghost use Rattle.monitor.specs.Noting.{all_noted, begun_noted, finding_noted, none_noted, section_noted, what_noted};
@@ -11,7 +11,7 @@ use crate::program_maps::ProgramMaps;
 use crate::recurrence::Recurrence;
 use crate::reports::append_late;
 use crate::table_watch::TableWatch;
-use demux::{Finding, Kind, Part, What};
+use demux::{Finding, Kind, What};
 use indexmap::IndexMap;
 use psi_tables::SectionError;
 use std::alloc::{AllocError, Allocator};
@@ -37,15 +37,6 @@ impl<A: Allocator> Model for FindingWatch<A> {
     ghost Value = { FindingMarks };
 
     ghost view = { λ w. record { faults = w.faults.items; noted = w.noted.entries; pat = w.pat; pmt = w.pmt; nit = w.nit; sdt = w.sdt; eit = w.eit; tdt = w.tdt; pts = w.pts } };
-}
-
-fn bytes_of<'p, A: Allocator>(part: &'p Part<'_, A>) -> &'p [u8]
-    ensures { result.now ≡ part_bytes part.now }
-{
-    match part {
-        Part::Span(bytes) => bytes,
-        Part::Joined(bytes) => bytes.as_slice(),
-    }
 }
 
 impl<A: Allocator + Copy> FindingWatch<A> {
@@ -125,7 +116,7 @@ impl<A: Allocator + Copy> FindingWatch<A> {
             What::Truncated(_) => Ok(()),
             What::Section(part) => {
                 if pid == 0 {
-                    self.pmt.read(bytes_of(part), packet)
+                    self.pmt.read(part.bytes(), packet)
                 } else {
                     Ok(())
                 }

@@ -2,7 +2,6 @@
 
 mod records;
 mod runs;
-mod services;
 
 use linked_list_allocator::LocalHeap;
 use mux_core::{CarryError, FeedError, UnitFileError, carry, read_unit};

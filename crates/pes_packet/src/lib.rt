@@ -21,4 +21,4 @@ pub use reading::{PesHeader, read_header};
 pub use refusal::PesError;
 pub use stream_ids::{fits_packet, greatest_size, has_flags, is_unit_id};
 pub use time_stamps::Stamps;
-pub use writing::write_header;
+pub use writing::{on_wire, packet_size, write_header};

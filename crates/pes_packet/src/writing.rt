@@ -1,15 +1,41 @@
 //! PES headers written (ISO/IEC 13818-1, 2.4.3.6, table 2-21).
 
-ghost use Rattle.std.specs.Prelude.{◌≡◌, ◌<◌, ◌≤◌, ◌^◌, IsTrue};
+ghost use Rattle.std.specs.Prelude.{◌≡◌, ◌<◌, ◌≤◌, ◌+◌, ◌^◌, ℕ, length, IsTrue};
 ghost use Rattle.pes_packet.specs.StreamIds.{fits_packet};
-ghost use Rattle.pes_packet.specs.Spelling.{start_text, packet_length, pts_header, pts_dts_header, header_text};
+ghost use Rattle.pes_packet.specs.Spelling.{on_wire, start_text, packet_length, pts_header, pts_dts_header, header_text, unit_text};
 
+use crate::access_unit::Unit;
+use crate::laws::header_sizes;
 use crate::time_stamps::stamp_text;
 use arrayvec::ArrayVec;
 use bit_fields::append;
+use std::alloc::Allocator;
 
 // Stamps are taken modulo this on the wire.
 const STAMPS: u64 = 1 << 33;
+
+/// A stamp on the wire, in units of 90 kHz: moved by the clock's first value, in 33 bits.
+pub fn on_wire(base0: u64, stamp: u64) -> u64
+    ensures { result ≡ on_wire (stamp + base0) }
+{
+    ((u128::from(stamp) + u128::from(base0)) % u128::from(STAMPS)) as u64
+}
+
+/// The size in bytes of the PES packet of a unit, header and all, which its stream_id does not change.
+#[tactic(auto, unfolding(crate::specs::Spelling::unit_text))]
+pub fn packet_size<A: Allocator>(base0: u64, unit: &Unit<A>) -> u64
+    ensures size { (id : ℕ) → result ≡ length (unit_text id base0 unit.now) }
+    ensures least { 14 ≤ result }
+    ensures most { result < 2 ^ 63 + 19 }
+{
+    header_sizes();
+    let size = unit.bytes.len() as u64;
+    if on_wire(base0, unit.pts) == on_wire(base0, unit.dts) {
+        14 + size
+    } else {
+        19 + size
+    }
+}
 
 /// Writes the header of a PES packet: stream_id `id`, a unit of `size` bytes, its stamps in units of
 /// 90 kHz, each modulo 2^33. A DTS is written exactly where the two stamps on the wire differ, so the

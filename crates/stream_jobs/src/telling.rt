@@ -1,27 +1,17 @@
 //! What is told of the packets and of the streams of a job.
 
 ghost use Rattle.std.specs.Prelude.{◌≡◌, ◌++◌, OnOk, map, flat_map, length, option_to_list};
-ghost use Rattle.demux.specs.Shown.{finding_view, part_bytes};
+ghost use Rattle.demux.specs.Shown.{finding_view};
 ghost use Rattle.stream_jobs.specs.Telling as spec;
 ghost use Rattle.stream_jobs.specs.declared.told.Told.TheVariants.{Units};
 
 use crate::told::Told;
 use crate::wire_streams::WireStream;
-use demux::{Finding, Part, What};
+use demux::{Finding, What};
 use psi_tables::Program;
 use std::alloc::{AllocError, Global};
 use stream_programs::{Association, association_change, map_change};
 use stream_units::{LeftOut, left_out};
-
-// How many bytes a finding has.
-fn size_of(part: &Part<'_>) -> usize
-    ensures { result ≡ length (part_bytes part.now) }
-{
-    match part {
-        Part::Span(bytes) => bytes.len(),
-        Part::Joined(bytes) => bytes.len(),
-    }
-}
 
 // What is told of what is found on no PID.
 #[tactic(auto, unfolding(crate::specs::Telling::lost, crate::specs::Telling::lost_by))]
@@ -36,7 +26,7 @@ fn lost(finding: &Finding<'_>) -> Option<Told>
         What::BadPacket(_) => Some(Told::BadPacket { packet }),
         What::Errored => Some(Told::Errored { packet }),
         What::Truncated(part) => Some(Told::Rest {
-            size: size_of(part),
+            size: part.bytes().len(),
         }),
         _ => None,
     }

@@ -1,21 +1,11 @@
 //! The sections of a PID in the findings of a stream.
 
 ghost use Rattle.std.specs.Prelude.{◌≡◌, option_map};
-ghost use Rattle.demux.specs.Shown.{finding_view, part_bytes};
+ghost use Rattle.demux.specs.Shown.{finding_view};
 ghost use Rattle.stream_programs.specs.Sections as spec;
 
-use demux::{Finding, Part, What};
+use demux::{Finding, What};
 use std::alloc::Allocator;
-
-// The bytes of a finding.
-fn bytes_of<'f, A: Allocator>(part: &'f Part<'_, A>) -> &'f [u8]
-    ensures { result.now ≡ part_bytes part.now }
-{
-    match part {
-        Part::Span(bytes) => bytes,
-        Part::Joined(bytes) => bytes.as_slice(),
-    }
-}
 
 /// The bytes of a section that is found on a PID.
 #[tactic(auto, unfolding(crate::specs::Sections::section_on, crate::specs::Sections::section_bytes))]
@@ -29,7 +19,7 @@ pub(crate) fn section_on<'f, A: Allocator>(
         return None;
     }
     match &finding.what {
-        What::Section(part) => Some(bytes_of(part)),
+        What::Section(part) => Some(part.bytes()),
         _ => None,
     }
 }

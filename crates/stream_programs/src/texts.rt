@@ -4,9 +4,10 @@ ghost use Rattle.std.specs.Prelude.{◌≡◌, ◌≤◌, ◌++◌, [], if◌the
 ghost use Rattle.std.specs.Char.{is_control, encode_utf8};
 ghost use Rattle.std.specs.Str.{NoCharPasses, chars, is_utf8};
 ghost use Rattle.std.specs.String.{string_bytes};
-ghost use Rattle.dvb_tables.specs.CharacterCoding.{is_plain_character, is_plain, text_bytes};
+ghost use Rattle.dvb_tables.specs.CharacterCoding.{text_bytes};
 ghost use Rattle.stream_programs.specs.Texts as spec;
 
+use dvb_tables::is_plain;
 use std::alloc::{AllocError, Allocator};
 
 // First bytes that name a character table (EN 300 468, table A.3): UTF-8, and a table by two more bytes. All are below 0x20.
@@ -105,22 +106,6 @@ fn characters<A: Allocator>(alloc: A, bytes: &[u8]) -> Result<Vec<char, A>, Allo
             }
         }
     }
-}
-
-// An ASCII letter, a digit or a space.
-#[tactic(auto, unfolding(dvb_tables::specs::CharacterCoding::is_plain_character))]
-fn is_plain_character(byte: u8) -> bool
-    ensures { result ≡ is_plain_character byte }
-{
-    byte == b' ' || byte.is_ascii_alphanumeric()
-}
-
-// Whether a text stands in the default table alone.
-#[tactic(auto, unfolding(dvb_tables::specs::CharacterCoding::is_plain))]
-fn is_plain(text: &[u8]) -> bool
-    ensures { result ≡ is_plain text.now }
-{
-    text.iter().all(|byte| is_plain_character(*byte))
 }
 
 // Whether a text takes at most so many bytes as it is written: one more than its own where it is marked as UTF-8.

@@ -1,11 +1,11 @@
 //! What a finding is for the units of a PID.
 
 ghost use Rattle.std.specs.Prelude.{◌≡◌};
-ghost use Rattle.demux.specs.Shown.{finding_view, part_bytes};
+ghost use Rattle.demux.specs.Shown.{finding_view};
 ghost use Rattle.stream_units.specs.Carried as spec;
 ghost use Rattle.stream_units.specs.Shown.{brought_view};
 
-use demux::{Finding, Kind, Part, What};
+use demux::{Finding, Kind, What};
 use pes_packet::Stamps;
 use std::alloc::Allocator;
 
@@ -30,16 +30,6 @@ pub(crate) enum Brought<'f> {
     Continues(&'f [u8]),
     /// Anything else.
     Breaks,
-}
-
-/// The bytes of a finding.
-pub(crate) fn bytes_of<'f, A: Allocator>(part: &'f Part<'_, A>) -> &'f [u8]
-    ensures { result.now ≡ part_bytes part.now }
-{
-    match part {
-        Part::Span(bytes) => bytes,
-        Part::Joined(bytes) => bytes.as_slice(),
-    }
 }
 
 // A PES packet with these stamps.
@@ -86,7 +76,7 @@ pub(crate) fn brought_by<'f, A: Allocator>(pid: u16, finding: &'f Finding<'_, A>
             begun_at(finding.packet, finding.begun),
             header.id,
             header.stamps,
-            bytes_of(body),
+            body.bytes(),
         ),
         _ => Brought::Breaks,
     }

@@ -1,12 +1,12 @@
 //! What a stream declares of its units, counted from them.
 
 ghost use Rattle.std.specs.Prelude.{◌≡◌, ◌≤◌, ◌<◌, ◌+◌, ◌/◌, ◌^◌, ℕ, min, length, take};
-ghost use Rattle.pes_packet.specs.Spelling.{on_wire, unit_text};
+ghost use Rattle.pes_packet.specs.Spelling.{unit_text};
 ghost use Rattle.unit_timing.specs.PesPacket.{packets_of};
 ghost use Rattle.stream_units.specs.Declaration as spec;
 
 use crate::unit::{dts_of, size_of};
-use pes_packet::Unit;
+use pes_packet::{Unit, packet_size};
 use std::alloc::Allocator;
 
 /// The least time from one DTS to the next, in units of 90 kHz: at most 90,000, and 90,000 for a single unit.
@@ -58,27 +58,12 @@ pub fn greatest_size<A: Allocator>(units: &[Unit<A>]) -> usize
     greatest
 }
 
-// A stamp on the wire: moved by the clock's first value, in 33 bits.
-fn on_wire(base0: u64, stamp: u64) -> u64
-    ensures { result ≡ on_wire (stamp + base0) }
-{
-    ((u128::from(stamp) + u128::from(base0)) % (1 << 33)) as u64
-}
-
 // The packets of a unit, whatever its stream_id.
-#[tactic(auto, unfolding(pes_packet::specs::Spelling::unit_text))]
 fn unit_packets<A: Allocator>(base0: u64, unit: &Unit<A>) -> u64
     ensures value { (id : ℕ) → result ≡ (length (unit_text id base0 unit.now) + 183) / 184 }
     ensures bound { result ≤ 2 ^ 56 }
 {
-    pes_packet::header_sizes();
-    let size = unit.bytes.len() as u64;
-    let header = if on_wire(base0, unit.pts) == on_wire(base0, unit.dts) {
-        14
-    } else {
-        19
-    };
-    (header + size + 183) / 184
+    (packet_size(base0, unit) + 183) / 184
 }
 
 // The packets of the units, of which there are few.

@@ -6,7 +6,7 @@ ghost use Rattle.stream_units.specs.Carried.{brings, begun_at, joined};
 ghost use Rattle.stream_units.specs.LeavingOut as spec;
 ghost use Rattle.stream_units.specs.Shown.{brought_view};
 
-use crate::beginning::{Brought, begun_at, brought_by, bytes_of};
+use crate::beginning::{Brought, begun_at, brought_by};
 use crate::reason::{LeftOut, Reason};
 use demux::{Finding, What};
 use pes_packet::Stamps;
@@ -110,14 +110,14 @@ fn reason<A: Allocator>(
             found: *found,
         }),
         What::Scrambled => Some(Reason::Scrambled),
-        What::Truncated(part) => Some(cut_reason(count, packet, bytes_of(part).len())),
+        What::Truncated(part) => Some(cut_reason(count, packet, part.bytes().len())),
         What::Section(_) => Some(Reason::Section),
         What::BadSection(error) => Some(Reason::BadSection(*error)),
         What::Pes {
             header,
             unended,
             body,
-        } => pes_reason(led, alone, *unended, header.stamps, bytes_of(body).len()),
+        } => pes_reason(led, alone, *unended, header.stamps, body.bytes().len()),
         What::BadPes(error) => Some(Reason::BadPes(*error)),
         What::BadPacket(_) => None,
         What::Errored => None,

@@ -1,9 +1,9 @@
 //! The lines of findings.
 ghost use Rattle.std.specs.Prelude.{◌≡◌, ◌++◌, ◌||◌, decimal, OnOk, Option, length, slice_index, map, string_bytes};
-ghost use Rattle.demux.specs.Shown.{finding_view, part_bytes, what_view};
+ghost use Rattle.demux.specs.Shown.{finding_view, what_view};
 ghost use Rattle.subcommands.specs.FindingLines.{dts_of, finding_line, finding_lines, has_fault, is_fault, pes_text, place_text, pts_of, section_text, stamp_text, what_text};
 
-use demux::{Finding, Part, What};
+use demux::{Finding, What};
 use pes_packet::{PesHeader, Stamps};
 use std::alloc::AllocError;
 use std::fmt::Write;
@@ -69,24 +69,11 @@ fn write_pes(
     Ok(())
 }
 
-/// The number of bytes of a finding.
-fn size_of(part: &Part<'_>) -> usize
-    ensures { result ≡ length (part_bytes part.now) }
-{
-    match part {
-        Part::Span(bytes) => bytes.len(),
-        Part::Joined(bytes) => bytes.len(),
-    }
-}
-
 /// The table_id of a section.
-fn table_id(section: &Part<'_>) -> u8
-    ensures { result ≡ slice_index (part_bytes section.now) 0 }
+fn table_id(section: &[u8]) -> u8
+    ensures { result ≡ slice_index section.now 0 }
 {
-    match section {
-        Part::Span(bytes) => bytes.first().copied().unwrap_or(0),
-        Part::Joined(bytes) => bytes.first().copied().unwrap_or(0),
-    }
+    section.first().copied().unwrap_or(0)
 }
 
 /// Appends a name and a number.
@@ -97,9 +84,11 @@ fn write_number(text: &mut String, name: &str, number: usize) -> Result<(), Allo
 }
 
 /// Appends a section.
-fn write_section(text: &mut String, table_id: u8, size: usize) -> Result<(), AllocError>
-    ensures { OnOk result (string_bytes text.new ≡ string_bytes text.old ++ section_text table_id size) }
+fn write_section(text: &mut String, section: &[u8]) -> Result<(), AllocError>
+    ensures { OnOk result (string_bytes text.new ≡ string_bytes text.old ++ section_text (slice_index section.now 0) (length section.now)) }
 {
+    let table_id = table_id(section);
+    let size = section.len();
     write!(text, " section {table_id} size {size}")
 }
 
@@ -112,14 +101,14 @@ fn write_what(text: &mut String, what: &What<'_>) -> Result<(), AllocError>
         What::Duplicate => text.push_str(" duplicate"),
         What::CounterBreak { expected, found } => write!(text, " counter {expected} {found}"),
         What::Scrambled => text.push_str(" scrambled"),
-        What::Truncated(part) => write_number(text, " truncated ", size_of(part)),
-        What::Section(part) => write_section(text, table_id(part), size_of(part)),
+        What::Truncated(part) => write_number(text, " truncated ", part.bytes().len()),
+        What::Section(part) => write_section(text, part.bytes()),
         What::BadSection(error) => write_number(text, " bad-section ", error.code() as usize),
         What::Pes {
             header,
             unended,
             body,
-        } => write_pes(text, header, *unended, size_of(body)),
+        } => write_pes(text, header, *unended, body.bytes().len()),
         What::BadPes(error) => write_number(text, " bad-pes ", error.code() as usize),
         What::BadPacket(error) => write_number(text, " bad-packet ", error.code() as usize),
         What::Errored => text.push_str(" errored"),

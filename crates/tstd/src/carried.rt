@@ -9,9 +9,9 @@ ghost use Rattle.tstd.specs.State.Fitting.{fits_of};
 ghost use Rattle.tstd.specs.State.Listing.{payloads_from};
 
 use crate::payloads::{Payloads, agrees};
-use crate::units::{is_of, on_wire};
+use crate::units::is_of;
 use arrayvec::ArrayVec;
-use pes_packet::{Unit, write_header};
+use pes_packet::{Unit, on_wire, write_header};
 use std::alloc::Allocator;
 
 // The header of a unit's PES packet.

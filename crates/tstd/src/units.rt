@@ -1,7 +1,7 @@
 //! The units of a stream, one after another.
 ghost use Rattle.std.specs.Prelude.{◌≡◌, ℕ, ◌==◌, ◌+◌, ◌<◌, ◌≤◌, ◌^◌, Some, None, [], List, length, sum_by, IfOk, OnOk, if◌then◌else◌};
 ghost use Rattle.std.specs.Option.{option_or};
-ghost use Rattle.pes_packet.specs.Spelling.{on_wire, unit_text};
+ghost use Rattle.pes_packet.specs.Spelling.{unit_text};
 ghost use Rattle.unit_timing.specs.Arrived.{first_late};
 ghost use Rattle.pes_packet.specs.Units.{units_of};
 ghost use Rattle.tstd.specs.Carried.{timed_texts};
@@ -12,30 +12,8 @@ ghost use Rattle.tstd.specs.State.Walking.{left_ahead, longest_of};
 use crate::departures::Departures;
 use crate::main_buffer::MainBuffer;
 use crate::texts::measure_text;
-use pes_packet::Unit;
+use pes_packet::{Unit, packet_size};
 use std::alloc::{AllocError, Allocator};
-
-/// A stamp on the wire: moved by the clock's first value, in 33 bits.
-pub fn on_wire(base0: u64, stamp: u64) -> u64
-    ensures { result ≡ on_wire (stamp + base0) }
-{
-    ((u128::from(stamp) + u128::from(base0)) % (1 << 33)) as u64
-}
-
-// The size in bytes of the PES packet of a unit, whatever its stream_id.
-#[tactic(auto, unfolding(pes_packet::specs::Spelling::unit_text))]
-fn text_size<B: Allocator>(base0: u64, unit: &Unit<B>) -> u64
-    ensures size { (id : ℕ) → result ≡ length (unit_text id base0 unit.now) }
-    ensures some { 0 < result }
-{
-    pes_packet::header_sizes();
-    let size = unit.bytes.len() as u64;
-    if on_wire(base0, unit.pts) == on_wire(base0, unit.dts) {
-        14 + size
-    } else {
-        19 + size
-    }
-}
 
 /// Whether a unit is one of this stream.
 pub fn is_of<B: Allocator>(entry: &(u8, Unit<B>), stream: u8) -> bool
@@ -56,7 +34,7 @@ fn size_of<B: Allocator>(entry: &(u8, Unit<B>), base0: u64) -> u64
     ensures size { (id : ℕ) → result ≡ length (unit_text id base0 entry.now.1) }
     ensures some { 0 < result }
 {
-    text_size(base0, &entry.1)
+    packet_size(base0, &entry.1)
 }
 
 // A late unit, where none was before.

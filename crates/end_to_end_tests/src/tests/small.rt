@@ -7,59 +7,12 @@ use mux_core::{Mux, Unit};
 use pes_packet::Stamps;
 use plan_checker::check;
 use slot_plan::{Description, Plan};
+use small_service::{DESCRIPTION, PLAN};
 use std::alloc::Global;
 use std::test::Fail;
 
 // The clock's first value is 92 units before it comes round.
-const DESCRIPTION: &str = "rate = 1504000
-start = \"1993-10-13T12:45:00\"
-ts_id = 1
-original_network_id = 1
-base0 = 8589934500
-sdt = true
-tdt = true
-
-[network]
-id = 1
-name = \"Net\"
-
-[[program]]
-number = 1
-pmt_pid = 4096
-pcr_pid = 257
-service_type = 2
-name = \"One\"
-
-[[stream]]
-program = 1
-pid = 256
-id = 192
-type = 3
-interval = 2160
-size = 576
-lead = 1600
-
-[[event]]
-program = 1
-id = 7
-start = \"1993-10-13T12:45:00\"
-duration = 5400
-language = \"eng\"
-name = \"News\"
-text = \"\"
-";
-
-const PLAN: &str = "tsplan 1
-period 120
-S0 P0 T0 T1 S0 T3 T2 T4 S0 T5 - - S0 - - - S0 - - - S0 - - -
-S0 P0 - - S0 - - - S0 - - - S0 - - - S0 - - - S0 - - -
-S0 P0 - - S0 - - - S0 - - - S0 - - - S0 - - - S0 - - -
-S0 P0 - - S0 - - - S0 - - - S0 - - - S0 - - - S0 - - -
-S0 P0 - - S0 - - - S0 - - - S0 - - - S0 - - - S0 - - -
-stream 0 spread 0 start 0 peak 282752000
-program 0 tstart 0 tpeak 377504000 bstart 0 bpeak 550464000
-end
-";
+const FIRST_CLOCK: &str = "base0 = 8589934500\n";
 
 // A finding: the packet by which it is decided, the one in which it began, its PID, and how many bytes it has.
 type Row = (u64, u64, u16, usize);
@@ -77,7 +30,10 @@ const FOUND: [Row; 8] = [
 ];
 
 fn mux(alloc: Global) -> Result<Mux, Fail> {
-    let Ok(description) = Description::read(alloc, DESCRIPTION) else {
+    let mut text = String::new(alloc);
+    text.push_str(FIRST_CLOCK)?;
+    text.push_str(DESCRIPTION)?;
+    let Ok(description) = Description::read(alloc, text.as_str()) else {
         return Err(Fail::from("no description"));
     };
     let (plan, _) = Plan::read_text(alloc, PLAN.as_bytes())?;
@@ -118,18 +74,11 @@ fn output(alloc: Global, packets: u32) -> Result<Vec<u8>, Fail> {
     Ok(bytes)
 }
 
-fn length(part: &Part<'_>) -> usize {
-    match part {
-        Part::Span(bytes) => bytes.len(),
-        Part::Joined(bytes) => bytes.len(),
-    }
-}
-
 fn size(what: &What<'_>) -> usize {
     match what {
-        What::Truncated(part) => length(part),
-        What::Section(part) => length(part),
-        What::Pes { body, .. } => length(body),
+        What::Truncated(part) => part.bytes().len(),
+        What::Section(part) => part.bytes().len(),
+        What::Pes { body, .. } => body.bytes().len(),
         _ => 0,
     }
 }

@@ -8,16 +8,16 @@ mod memory;
 mod slots;
 mod switches;
 
-use crate::tests::services::{BASE, BASE_PLAN};
 use mux_core::{Done, FeedError, Mux, Unit};
 use plan_checker::{CheckedPlan, check};
 use slot_plan::{Description, Plan};
+use small_service::{DESCRIPTION, PLAN};
 use std::alloc::{Allocator, Global};
 use std::test::Fail;
 
 // The description with one part of its text replaced.
 fn described(alloc: Global, from: &str, to: &str) -> Result<Description, Fail> {
-    let Some((before, after)) = BASE.split_once(from) else {
+    let Some((before, after)) = DESCRIPTION.split_once(from) else {
         return Err(Fail::from("no such part"));
     };
     let mut text = String::new(alloc);
@@ -42,7 +42,7 @@ fn checked<A: Allocator + Clone>(
     from: &str,
     to: &str,
 ) -> Result<CheckedPlan<A>, Fail> {
-    let (plan, _) = Plan::read_text(alloc, BASE_PLAN.as_bytes())?;
+    let (plan, _) = Plan::read_text(alloc, PLAN.as_bytes())?;
     match check(described(global, from, to)?, plan) {
         Ok(checked) => Ok(checked),
         Err(_) => Err(Fail::from("the plan is refused")),

@@ -4,49 +4,13 @@ use linked_list_allocator::LocalHeap;
 use plan_checker::CheckedPlan;
 use plan_maker::{MakeError, Reason, make, reasons};
 use slot_plan::{Description, Plan, Slot};
+use small_service::DESCRIPTION;
 use std::alloc::{AllocError, Allocator, Global};
 use std::test::Fail;
 
-const BASE: &str = "rate = 1504000
-start = \"1993-10-13T12:45:00\"
-ts_id = 1
-original_network_id = 1
-sdt = true
-tdt = true
-
-[network]
-id = 1
-name = \"Net\"
-
-[[program]]
-number = 1
-pmt_pid = 4096
-pcr_pid = 257
-service_type = 2
-name = \"One\"
-
-[[stream]]
-program = 1
-pid = 256
-id = 192
-type = 3
-interval = 2160
-size = 576
-lead = 1600
-
-[[event]]
-program = 1
-id = 7
-start = \"1993-10-13T12:45:00\"
-duration = 5400
-language = \"eng\"
-name = \"News\"
-text = \"\"
-";
-
 /// The base with one of its lines changed.
 fn changed(alloc: Global, old: &str, new: &str) -> Result<Description, Fail> {
-    let Some((before, after)) = BASE.split_once(old) else {
+    let Some((before, after)) = DESCRIPTION.split_once(old) else {
         return Err(Fail::from("no such line"));
     };
     let mut text = String::new(alloc);
@@ -111,7 +75,7 @@ fn found(alloc: Global, description: Description) -> Result<CheckedPlan, Fail> {
 
 #[test]
 fn base(rt: HostRuntime) -> Result<(), Fail> {
-    let checked = found(rt.alloc(), described(rt.alloc(), BASE)?)?;
+    let checked = found(rt.alloc(), described(rt.alloc(), DESCRIPTION)?)?;
     assert!(rt; checked.plan().slots().len() == 256);
     assert!(rt; checked.description().streams().len() == 1);
     Ok(())
@@ -176,7 +140,7 @@ fn longest_period(rt: HostRuntime) -> Result<(), Fail> {
 /// Each allocation refused in its turn, by heaps of rising sizes: the description comes back, until there is a plan.
 #[test]
 fn refused_memory(rt: HostRuntime) -> Result<(), Fail> {
-    let mut description = described(rt.alloc(), BASE)?;
+    let mut description = described(rt.alloc(), DESCRIPTION)?;
     let mut refused: usize = 0;
     for blocks in 1..512usize {
         let heap = LocalHeap::new(rt.alloc(), blocks * 64)?;

@@ -5,20 +5,9 @@ use slot_plan::{
     Certificate, Condition, Item, Plan, PlanError, PlanTextError, ProgramEntry, Slot, StreamEntry,
     laws,
 };
+use small_service::PLAN;
 use std::alloc::{AllocError, Global};
 use std::test::Fail;
-
-const BASE: &str = "tsplan 1
-period 120
-S0 P0 T0 T1 S0 T3 T2 T4 S0 T5 - - S0 - - - S0 - - - S0 - - -
-S0 P0 - - S0 - - - S0 - - - S0 - - - S0 - - - S0 - - -
-S0 P0 - - S0 - - - S0 - - - S0 - - - S0 - - - S0 - - -
-S0 P0 - - S0 - - - S0 - - - S0 - - - S0 - - - S0 - - -
-S0 P0 - - S0 - - - S0 - - - S0 - - - S0 - - - S0 - - -
-stream 0 spread 0 start 0 peak 282752000
-program 0 tstart 0 tpeak 377504000 bstart 0 bpeak 550464000
-end
-";
 
 /// The line of the refusal, 0 where memory ran out, None where there is a plan.
 fn refusal(alloc: Global, text: &[u8]) -> Option<u32> {
@@ -32,7 +21,7 @@ fn refusal(alloc: Global, text: &[u8]) -> Option<u32> {
 /// The base with one part of it replaced.
 fn edited(alloc: Global, from: &str, to: &str) -> Result<Vec<u8>, Fail> {
     let mut text = Vec::new(alloc);
-    let Some((before, after)) = BASE.split_once(from) else {
+    let Some((before, after)) = PLAN.split_once(from) else {
         return Err(Fail::from("no such part"));
     };
     text.extend_from_slice(before.as_bytes())?;
@@ -66,11 +55,11 @@ fn is_base(plan: &Plan) -> bool {
 
 #[test]
 fn base_is_read_and_written(rt: HostRuntime) -> Result<(), Fail> {
-    let (plan, bytes) = Plan::read_text(rt.alloc(), BASE.as_bytes())?;
-    assert!(rt; bytes == BASE.len());
+    let (plan, bytes) = Plan::read_text(rt.alloc(), PLAN.as_bytes())?;
+    assert!(rt; bytes == PLAN.len());
     assert!(rt; is_base(&plan));
     let text = plan.write_text(rt.alloc())?;
-    assert!(rt; text.as_str() == BASE);
+    assert!(rt; text.as_str() == PLAN);
     laws::plan_text();
     laws::own_slots();
     Ok(())
@@ -80,7 +69,7 @@ fn base_is_read_and_written(rt: HostRuntime) -> Result<(), Fail> {
 fn what_stands_after_is_left(rt: HostRuntime) -> Result<(), Fail> {
     let text = edited(rt.alloc(), "end\n", "end\nbytes of units")?;
     let (_, bytes) = Plan::read_text(rt.alloc(), text.as_slice())?;
-    assert!(rt; bytes == BASE.len());
+    assert!(rt; bytes == PLAN.len());
     Ok(())
 }
 
@@ -144,8 +133,8 @@ fn is_canonical(alloc: Global, text: &[u8]) -> Result<bool, Fail> {
 #[test]
 fn each_cut_is_refused(rt: HostRuntime) {
     let mut line = 1;
-    for (length, byte) in BASE.as_bytes().iter().enumerate() {
-        let (front, _) = BASE.as_bytes().split_at(length);
+    for (length, byte) in PLAN.as_bytes().iter().enumerate() {
+        let (front, _) = PLAN.as_bytes().split_at(length);
         assert!(rt; refusal(rt.alloc(), front) == Some(line));
         if *byte == b'\n' {
             line = line.saturating_add(1);
@@ -160,7 +149,7 @@ const OTHER_BYTES: [u8; 11] = [
 
 /// Whether each change of this byte of the base is told, or makes the text of another plan.
 fn are_changes_told(alloc: Global, place: usize) -> Result<bool, Fail> {
-    let mut text = Vec::from_slice(alloc, BASE.as_bytes())?;
+    let mut text = Vec::from_slice(alloc, PLAN.as_bytes())?;
     for byte in OTHER_BYTES {
         if let Some(at) = text.get_mut(place) {
             *at = byte;
@@ -174,7 +163,7 @@ fn are_changes_told(alloc: Global, place: usize) -> Result<bool, Fail> {
 
 #[test]
 fn each_change_is_told(rt: HostRuntime) -> Result<(), Fail> {
-    for place in 0..BASE.len() {
+    for place in 0..PLAN.len() {
         assert!(rt; are_changes_told(rt.alloc(), place)?, "{place}");
     }
     Ok(())
@@ -315,7 +304,7 @@ fn numbers_of_conditions(rt: HostRuntime) {
 /// Whether the base is read in so much room; where it is not, memory is wanting.
 fn is_read(global: Global, room: usize) -> Result<bool, Fail> {
     let heap = LocalHeap::new(global, room)?;
-    match Plan::read_text(&heap, BASE.as_bytes()) {
+    match Plan::read_text(&heap, PLAN.as_bytes()) {
         Ok((plan, bytes)) => {
             assert_base(bytes, plan.slots().len())?;
             Ok(true)
@@ -325,7 +314,7 @@ fn is_read(global: Global, room: usize) -> Result<bool, Fail> {
 }
 
 fn assert_base(bytes: usize, slots: usize) -> Result<(), Fail> {
-    if bytes == BASE.len() && slots == 120 {
+    if bytes == PLAN.len() && slots == 120 {
         Ok(())
     } else {
         Err(Fail::from("another plan"))
@@ -344,7 +333,7 @@ fn is_memory(error: PlanTextError) -> Result<bool, Fail> {
 fn is_written(global: Global, plan: &Plan, room: usize) -> Result<bool, Fail> {
     let heap = LocalHeap::new(global, room)?;
     match plan.write_text(&heap) {
-        Ok(text) if text.as_str() == BASE => Ok(true),
+        Ok(text) if text.as_str() == PLAN => Ok(true),
         Ok(_) => Err(Fail::from("another text")),
         Err(_) => Ok(false),
     }
@@ -353,7 +342,7 @@ fn is_written(global: Global, plan: &Plan, room: usize) -> Result<bool, Fail> {
 /// Heaps of rising sizes: the base is read and written, or memory is wanting, and no other answer.
 #[test]
 fn refused_memory(rt: HostRuntime) -> Result<(), Fail> {
-    let (plan, _) = Plan::read_text(rt.alloc(), BASE.as_bytes())?;
+    let (plan, _) = Plan::read_text(rt.alloc(), PLAN.as_bytes())?;
     let mut read = 0usize;
     let mut written = 0usize;
     for blocks in 1..256usize {

@@ -1,8 +1,9 @@
 //! For each word: a reader that fails at each of its calls, a writer that fails after each byte, a writer of faults that
 //! fails after each byte. What a writer took is a beginning of what an undisturbed run writes.
 use super::mux_runs::{push_record, with_unit, worked};
-use super::plan_checks::{DESCRIPTION, PLAN, job};
+use super::plan_checks::job;
 use super::{Outcome, RECORD, ran, ran_on};
+use small_service::{DESCRIPTION, PLAN};
 use std::alloc::{AllocError, Global};
 use std::process::Abort;
 use std::test::Fail;

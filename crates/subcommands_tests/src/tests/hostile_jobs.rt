@@ -2,10 +2,11 @@
 //! doubled, left out, swapped and cut, by chance. What is answered, the status, the fault line and each byte of the output, is
 //! that of a plain reading of the formats, which tools/hostile-table makes by the same numbers; it writes `hostile_answers`.
 use super::hostile_answers::ANSWERS;
-use super::mux_runs::{TURNED, patient, push_record};
-use super::plan_checks::{DESCRIPTION, PLAN, job};
+use super::mux_runs::{patient, push_record};
+use super::plan_checks::job;
 use super::varied::{VARIED, VARIED_PLAN};
 use super::{Outcome, ran_on};
+use small_service::{DESCRIPTION, PLAN, TURNED_PLAN};
 use std::alloc::{AllocError, Global};
 use std::test::Fail;
 
@@ -100,7 +101,7 @@ struct Job {
 fn worked(alloc: Global, number: usize) -> Result<Job, AllocError> {
     let mut bytes = match number {
         0 => job(alloc, [DESCRIPTION, PLAN].as_slice())?,
-        1 => patient(alloc, [PLAN, TURNED].as_slice())?,
+        1 => patient(alloc, [PLAN, TURNED_PLAN].as_slice())?,
         _ => job(alloc, [VARIED, VARIED_PLAN].as_slice())?,
     };
     let text = bytes.len();

@@ -1,7 +1,8 @@
 //! Each fault line of `mux`, which comes first, and readers and writers that fail.
 use super::mux_runs::{push_record, with_unit, worked};
-use super::plan_checks::{DESCRIPTION, PLAN, job};
+use super::plan_checks::job;
 use super::{assert_told, ran, ran_on};
+use small_service::{DESCRIPTION, PLAN};
 use std::alloc::{AllocError, Global};
 use std::process::Abort;
 use std::test::Fail;

@@ -1,9 +1,10 @@
 //! Packets of `mux` over plans of `plan`, measured in the decoder model.
-use super::mux_runs::{TURNED, patient, push_record};
-use super::plan_checks::{DESCRIPTION, PLAN, job};
+use super::mux_runs::{patient, push_record};
+use super::plan_checks::job;
 use super::{assert_told, ran_on};
 use description::Description;
 use mux_core::{Unit, UnitFileError, read_unit};
+use small_service::{DESCRIPTION, PLAN, TURNED_PLAN};
 use std::alloc::{AllocError, Global};
 use std::process::Abort;
 use std::test::Fail;
@@ -166,7 +167,7 @@ fn keeps_its_buffers_over_two_plans(rt: HostRuntime) -> Result<(), Fail> {
     let Ok(text) = str::from_utf8(description.as_slice()) else {
         return Err(Fail::from("no text"));
     };
-    let plans = job(alloc, [PLAN, TURNED].as_slice())?;
+    let plans = job(alloc, [PLAN, TURNED_PLAN].as_slice())?;
     let one = records(alloc, [(0, 576)].as_slice(), 100)?;
     let words = ["mux", "--switch=10"];
     let found = measured_over(&rt, alloc, words.as_slice(), text, plans.as_slice(), &one)?;

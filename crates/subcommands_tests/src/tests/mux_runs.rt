@@ -1,6 +1,7 @@
 //! `mux` over worked jobs: its packets in bytes.
-use super::plan_checks::{DESCRIPTION, PLAN, job};
+use super::plan_checks::job;
 use super::{assert_told, ran_on};
+use small_service::{DESCRIPTION, PLAN, TURNED_PLAN};
 use std::alloc::{AllocError, Global};
 use std::test::Fail;
 
@@ -141,19 +142,6 @@ fn writes_packets(rt: HostRuntime) -> Result<(), Fail> {
     Ok(())
 }
 
-/// The plan with each slot one place later.
-pub const TURNED: &str = "tsplan 1
-period 120
-- S0 P0 T0 T1 S0 T3 T2 T4 S0 T5 - - S0 - - - S0 - - - S0 - -
-- S0 P0 - - S0 - - - S0 - - - S0 - - - S0 - - - S0 - -
-- S0 P0 - - S0 - - - S0 - - - S0 - - - S0 - - - S0 - -
-- S0 P0 - - S0 - - - S0 - - - S0 - - - S0 - - - S0 - -
-- S0 P0 - - S0 - - - S0 - - - S0 - - - S0 - - - S0 - -
-stream 0 spread 0 start 0 peak 282752000
-program 0 tstart 0 tpeak 377504000 bstart 0 bpeak 550464000
-end
-";
-
 /// The service with a lead for which the turned plan may follow.
 pub fn patient(alloc: Global, plans: &[&str]) -> Result<Vec<u8>, AllocError> {
     let (before, after) = DESCRIPTION.split_once("lead = 1600").unwrap_or(("", ""));
@@ -171,7 +159,7 @@ fn follows_a_second_plan(rt: HostRuntime) -> Result<(), Fail> {
     let alone = ran_on(alloc, ["mux", "--slots", "120"].as_slice(), one.as_slice());
     assert_told(&rt, &alone, 0, b"");
     assert!(rt; alone.output.len() == 22_560);
-    let two = patient(alloc, [PLAN, TURNED].as_slice())?;
+    let two = patient(alloc, [PLAN, TURNED_PLAN].as_slice())?;
     let words = ["mux", "--switch=1", "--slots=240"];
     let outcome = ran_on(alloc, words.as_slice(), two.as_slice());
     assert_told(&rt, &outcome, 0, b"");

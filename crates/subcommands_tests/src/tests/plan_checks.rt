@@ -1,60 +1,10 @@
 //! `check` over a job of a description and a plan, and over readers and writers that fail.
 use super::{assert_told, ran, ran_on};
+use small_service::{DESCRIPTION, PLAN};
 use std::alloc::{AllocError, Global};
 use std::test::Fail;
 use subcommands::run;
 use ts_packet::{Counted, Failing};
-
-/// A service of one audio stream at 1,504,000 bits/s (1,000 slots a second).
-pub const DESCRIPTION: &str = "rate = 1504000
-start = \"1993-10-13T12:45:00\"
-ts_id = 1
-original_network_id = 1
-sdt = true
-tdt = true
-
-[network]
-id = 1
-name = \"Net\"
-
-[[program]]
-number = 1
-pmt_pid = 4096
-pcr_pid = 257
-service_type = 2
-name = \"One\"
-
-[[stream]]
-program = 1
-pid = 256
-id = 192
-type = 3
-interval = 2160
-size = 576
-lead = 1600
-
-[[event]]
-program = 1
-id = 7
-start = \"1993-10-13T12:45:00\"
-duration = 5400
-language = \"eng\"
-name = \"News\"
-text = \"\"
-";
-
-/// A plan for it: 120 slots, of which the stream has every fourth.
-pub const PLAN: &str = "tsplan 1
-period 120
-S0 P0 T0 T1 S0 T3 T2 T4 S0 T5 - - S0 - - - S0 - - - S0 - - -
-S0 P0 - - S0 - - - S0 - - - S0 - - - S0 - - - S0 - - -
-S0 P0 - - S0 - - - S0 - - - S0 - - - S0 - - - S0 - - -
-S0 P0 - - S0 - - - S0 - - - S0 - - - S0 - - - S0 - - -
-S0 P0 - - S0 - - - S0 - - - S0 - - - S0 - - - S0 - - -
-stream 0 spread 0 start 0 peak 282752000
-program 0 tstart 0 tpeak 377504000 bstart 0 bpeak 550464000
-end
-";
 
 /// The parts of a job, joined.
 pub fn job(alloc: Global, parts: &[&str]) -> Result<Vec<u8>, AllocError> {

@@ -1,6 +1,7 @@
 //! `plan` over a description, and `check` of the plan that it gives.
-use super::plan_checks::{DESCRIPTION, job};
+use super::plan_checks::job;
 use super::{assert_told, ran, ran_on};
+use small_service::DESCRIPTION;
 use std::alloc::{AllocError, Global};
 use std::test::Fail;
 use ts_packet::{Counted, Failing};

@@ -1,7 +1,8 @@
 //! `monitor` over bytes, over what `mux` writes, and over readers and writers that fail.
 use super::finding_list::stream;
-use super::plan_checks::{DESCRIPTION, PLAN, job};
+use super::plan_checks::job;
 use super::{assert_told, assert_usage, ran, ran_on};
+use small_service::{DESCRIPTION, PLAN};
 use std::alloc::{AllocError, Global};
 use std::process::Abort;
 use std::test::Fail;

@@ -1,11 +1,11 @@
 //! Each request for memory refused in turn: Memory, or a multiplexer.
 
 use super::checked;
-use crate::tests::services::BASE_PLAN;
 use linked_list_allocator::LocalHeap;
 use mux_core::{Mux, NewError};
 use plan_checker::{CheckedPlan, CheckedSwitch, check_switch};
 use slot_plan::Plan;
+use small_service::PLAN;
 use std::alloc::{Allocator, Global};
 use std::test::Fail;
 
@@ -57,7 +57,7 @@ pub(super) fn twice<A: Allocator + Copy>(
     global: Global,
     alloc: A,
 ) -> Result<CheckedSwitch<A>, Fail> {
-    let (second, _) = Plan::read_text(alloc, BASE_PLAN.as_bytes())?;
+    let (second, _) = Plan::read_text(alloc, PLAN.as_bytes())?;
     match check_switch(checked(global, alloc, "lead = 1600", GROUP)?, second) {
         Ok(switch) => Ok(switch),
         Err(_) => Err(Fail::from("the switch is refused")),

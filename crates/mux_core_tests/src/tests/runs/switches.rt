@@ -1,10 +1,10 @@
 //! The plan of the small service, then the same turned by one slot.
 
 use super::{base, carries, mux, packet};
-use crate::tests::services::TURNED_PLAN;
 use mux_core::{Mux, NewError};
 use plan_checker::{CheckedSwitch, check_switch};
 use slot_plan::Plan;
+use small_service::TURNED_PLAN;
 use std::alloc::Global;
 use std::test::Fail;
 

@@ -1,7 +1,8 @@
 //! Codes 1 to 9: the plan with one part changed, the service with one key changed, and other plans.
 
-use super::texts::{BURST, CUT, DESCRIPTION, NULLS, PLAN, SLOTS};
+use super::texts::{BURST, CUT, NULLS, SLOTS};
 use super::{Case, answer, edited};
+use small_service::{DESCRIPTION, PLAN};
 use std::alloc::Global;
 use std::test::Fail;
 

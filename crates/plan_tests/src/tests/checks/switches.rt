@@ -1,9 +1,10 @@
 //! Codes 12 to 16: one plan after another.
 
-use super::texts::{DESCRIPTION, LATE_STREAM, LATE_TABLE, PLAN, TURNED};
+use super::texts::{LATE_STREAM, LATE_TABLE};
 use super::{Case, Row, described, edited, planned, row_of};
 use plan_checker::{CheckedPlan, CheckedSwitch, check, check_switch};
 use slot_plan::Slot;
+use small_service::{DESCRIPTION, PLAN, TURNED_PLAN};
 use std::alloc::Global;
 use std::test::Fail;
 
@@ -71,7 +72,7 @@ const BEFORE_TURNED: [Case; 4] = [
 #[test]
 fn turned_by_a_slot(rt: HostRuntime) -> Result<(), Fail> {
     for case in &BEFORE_TURNED {
-        assert!(rt; is_answered(rt.alloc(), TURNED, case)?, "{}", case.to);
+        assert!(rt; is_answered(rt.alloc(), TURNED_PLAN, case)?, "{}", case.to);
     }
     Ok(())
 }
@@ -116,7 +117,7 @@ fn a_table_comes_late(rt: HostRuntime) -> Result<(), Fail> {
     let table = "[[table]]\npid = 300\nlimit = 120\nsections = [\"803000\"]\n\n[[event]]";
     let description = edited(rt.alloc(), DESCRIPTION, "[[event]]", table)?;
     let first = edited(rt.alloc(), PLAN, "T5 - -", "T5 T6 -")?;
-    let second = edited(rt.alloc(), TURNED, "T5 - -", "T5 T6 -")?;
+    let second = edited(rt.alloc(), TURNED_PLAN, "T5 - -", "T5 T6 -")?;
     let row = answer(
         rt.alloc(),
         description.as_str(),
@@ -166,7 +167,7 @@ fn are_lent(switch: &CheckedSwitch) -> bool {
 // The first plan begins with a null slot, the second with a stream's slot.
 #[test]
 fn both_plans_are_lent(rt: HostRuntime) -> Result<(), Fail> {
-    let switch = switched(rt.alloc(), DESCRIPTION, TURNED, PLAN)?;
+    let switch = switched(rt.alloc(), DESCRIPTION, TURNED_PLAN, PLAN)?;
     assert!(rt; are_lent(&switch));
     Ok(())
 }

@@ -1,8 +1,8 @@
-//! A small service, its plan, and the plan turned by one slot.
+//! A small service for tests: 1,000 slots a second, so 90 units of 90 kHz a slot, a period of 120, one program of one stream.
+#![tactic(auto)]
 
-/// The description of a radio service: one stream of units of 576 bytes at most, 1,000 slots a second, each slot 90 units
-/// of 90 kHz.
-pub const BASE: &str = "rate = 1504000
+/// The description of a radio service at 1,504,000 bits/s: one stream of units of 576 bytes at most.
+pub const DESCRIPTION: &str = "rate = 1504000
 start = \"1993-10-13T12:45:00\"
 ts_id = 1
 original_network_id = 1
@@ -39,8 +39,8 @@ name = \"News\"
 text = \"\"
 ";
 
-/// Its plan of 120 slots, of which the stream has every fourth.
-pub const BASE_PLAN: &str = "tsplan 1
+/// Its plan, in which the stream has every fourth slot.
+pub const PLAN: &str = "tsplan 1
 period 120
 S0 P0 T0 T1 S0 T3 T2 T4 S0 T5 - - S0 - - - S0 - - - S0 - - -
 S0 P0 - - S0 - - - S0 - - - S0 - - - S0 - - - S0 - - -
