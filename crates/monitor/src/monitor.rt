@@ -216,7 +216,10 @@ impl<A: Allocator + Copy> Monitor<A> {
     pub fn finish(mut self, cut: bool) -> Result<Report<A>, AllocError>
         ensures { IfOk result (λ report. ReportsTaken self cut report) }
     {
-        self.end_report(cut)
+        let report = self.end_report(cut);
+        // By a call: at the end of a function the drop of each part would be a step of its proof.
+        drop(self);
+        report
     }
 }
 
@@ -230,7 +233,10 @@ fn watch<A: Allocator + Copy>(
     ensures { IfOk result (λ report. report ≡ report_of (watched rate pcr_limit bytes.now)) }
 {
     let mut monitor = Monitor::new(alloc, rate, pcr_limit)?;
-    monitor.report_rest(bytes)
+    let report = monitor.report_rest(bytes);
+    // By a call: at the end of a function the drop of each part would be a step of its proof.
+    drop(monitor);
+    report
 }
 
 /// The report of a whole stream, which is cut by 188 from its first byte.

@@ -161,18 +161,24 @@ fn other_intervals(rt: HostRuntime) -> Result<(), Fail> {
     Ok(())
 }
 
-// Takes a packet.
-fn take(monitor: &mut Monitor, packet: &[u8; 188]) -> Result<(), AllocError> {
-    monitor.take(packet)
+// Takes packets one by one.
+fn take_each(monitor: &mut Monitor, bytes: &[u8]) -> Result<(), AllocError> {
+    for packet in bytes.as_chunks::<188>().0 {
+        monitor.take(packet)?;
+    }
+    Ok(())
 }
 
 // The report of a stream that is taken packet by packet.
 fn taken(alloc: Global, bytes: &[u8]) -> Result<Report, Fail> {
     let mut monitor = Monitor::new(alloc, slow()?, 40)?;
-    for packet in bytes.as_chunks::<188>().0 {
-        take(&mut monitor, packet)?;
+    match take_each(&mut monitor, bytes) {
+        Ok(()) => Ok(monitor.finish(false)?),
+        Err(error) => {
+            drop(monitor);
+            Err(Fail::from(error))
+        }
     }
-    Ok(monitor.finish(false)?)
 }
 
 #[test]

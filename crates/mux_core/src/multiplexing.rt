@@ -74,12 +74,16 @@ pub fn multiplex_as<A: Allocator + Copy, W: Sink>(
     ensures fault { NamesWriter result (W.fault_count to.old) (W.fault_count to.new) }
 {
     if slots > LAST_SLOTS {
+        // By a call: at the end of a function the drop of each part would be a step of its proof.
+        drop(plan);
         return Err(MuxError::TooManySlots);
     }
     let Ok(mut mux) = Mux::new(alloc, plan, capacity_for(&units)) else {
         return Err(MuxError::Memory);
     };
-    write_job(alloc, &mut mux, units, slots, hex, to)
+    let written = write_job(alloc, &mut mux, units, slots, hex, to);
+    drop(mux);
+    written
 }
 
 /// The same over two plans, the first for so many of its periods: 1 or more, and 2^40 slots at most.
@@ -117,15 +121,20 @@ pub fn multiplex_switch_as<A: Allocator + Copy, W: Sink>(
     ensures fault { NamesWriter result (W.fault_count to.old) (W.fault_count to.new) }
 {
     if slots > LAST_SLOTS {
+        // By a call: at the end of a function the drop of each part would be a step of its proof.
+        drop(switch);
         return Err(MuxError::TooManySlots);
     }
     if !is_periods(switch.first().plan().slots().len(), periods) {
+        drop(switch);
         return Err(MuxError::Periods);
     }
     let Ok(mut mux) = Mux::with_switch(alloc, switch, periods, capacity_for(&units)) else {
         return Err(MuxError::Memory);
     };
-    write_job(alloc, &mut mux, units, slots, hex, to)
+    let written = write_job(alloc, &mut mux, units, slots, hex, to);
+    drop(mux);
+    written
 }
 
 // How many units of a stream may wait.

@@ -70,11 +70,18 @@ fn with<'a>(command: Command<'a>, sub: Command<'a>) -> Result<Command<'a>, Alloc
 fn without_mux<'a>(alloc: Global) -> Result<Command<'a>, AllocError>
     ensures { IfOk result (λ c. app_of c ≡ without_mux) }
 {
-    let command = Command::new(alloc, "tsmux").no_binary_name(true);
-    let command = with(command, carry(alloc)?)?;
+    let carry = carry(alloc)?;
+    let command = with(Command::new(alloc, "tsmux").no_binary_name(true), carry)?;
     let command = with(command, plan(alloc))?;
     let command = with(command, demux(alloc))?;
-    with(command, check(alloc)?)
+    match check(alloc) {
+        Ok(check) => with(command, check),
+        Err(error) => {
+            // By a call: at the end of a function the drop of each part would be a step of its proof.
+            drop(command);
+            Err(error)
+        }
+    }
 }
 
 /// The program's command line.
@@ -82,9 +89,21 @@ fn without_mux<'a>(alloc: Global) -> Result<Command<'a>, AllocError>
 fn tsmux<'a>(alloc: Global) -> Result<Command<'a>, AllocError>
     ensures { IfOk result (λ c. app_of c ≡ tsmux_app) }
 {
-    let command = without_mux(alloc)?;
-    let command = with(command, mux(alloc)?)?;
-    with(command, monitor(alloc)?)
+    let mux = mux(alloc)?;
+    let command = match without_mux(alloc) {
+        Ok(command) => with(command, mux)?,
+        Err(error) => {
+            drop(mux);
+            return Err(error);
+        }
+    };
+    match monitor(alloc) {
+        Ok(monitor) => with(command, monitor),
+        Err(error) => {
+            drop(command);
+            Err(error)
+        }
+    }
 }
 
 /// The subcommand that the words name, with what they give its options.

@@ -71,7 +71,11 @@ fn conclude(monitor: Monitor, taken: Result<bool, Halt>) -> Result<Report, Halt>
             Ok(report) => Ok(report),
             Err(_) => Err(Halt::Memory),
         },
-        Err(halt) => Err(halt),
+        Err(halt) => {
+            // By a call: at the end of a function the drop of each part would be a step of its proof.
+            drop(monitor);
+            Err(halt)
+        }
     }
 }
 

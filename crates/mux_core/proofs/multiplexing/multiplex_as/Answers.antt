@@ -13,10 +13,10 @@ returns-then-slots-gt-LAST_SLOTS-clause-refused g c =
 
 pub returns-clause-refused : goal.returns-clause-refused
 returns-clause-refused g c =
-    refuses_as (slots_cause c.args.slots) c.in-Ok.mux.line (plan_line c.args.plan) c.args.units.items c.write_job.result
-    (few_slots c.args.slots (omega (arith, c.if-slots-gt-LAST_SLOTS.false))) c.in-Ok.ensures.line c.write_job.ensures.refused
+    refuses_as (slots_cause c.args.slots) c.in-Ok.mux.line (plan_line c.args.plan) c.args.units.items c.write_job-written.result
+    (few_slots c.args.slots (omega (arith, c.if-slots-gt-LAST_SLOTS.false))) c.in-Ok.ensures.line c.write_job-written.ensures.refused
 
 pub returns-clause-headline : goal.returns-clause-headline
 returns-clause-headline g c =
-    subst (λ (d : Scheduled). OnWriting c.write_job.result (Headline d (λ k. units_of k c.args.units.items) c.args.slots (bytes_of d (job_history c.args.units.items c.args.slots))))
-    c.in-Ok.ensures.line c.write_job.ensures.headline
+    subst (λ (d : Scheduled). OnWriting c.write_job-written.result (Headline d (λ k. units_of k c.args.units.items) c.args.slots (bytes_of d (job_history c.args.units.items c.args.slots))))
+    c.in-Ok.ensures.line c.write_job-written.ensures.headline

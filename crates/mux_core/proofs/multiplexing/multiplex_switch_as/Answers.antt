@@ -24,10 +24,10 @@ returns-in_default-clause-refused g c =
 pub returns-clause-refused : goal.returns-clause-refused
 returns-clause-refused g c =
     refuses_as (or_cause (slots_cause c.args.slots) (periods_cause (length c.args.switch.first.plan.slots) c.args.periods)) c.in-Ok.mux.line (switch_line c.args.switch c.args.periods) c.args.units.items
-    c.write_job.result (early_next c.args.slots _ (omega (arith, c.if-slots-gt-LAST_SLOTS.false)) ∙ right_periods (length c.args.switch.first.plan.slots) c.args.periods (search rules))
-    c.in-Ok.ensures.line c.write_job.ensures.refused
+    c.write_job-written.result (early_next c.args.slots _ (omega (arith, c.if-slots-gt-LAST_SLOTS.false)) ∙ right_periods (length c.args.switch.first.plan.slots) c.args.periods (search rules))
+    c.in-Ok.ensures.line c.write_job-written.ensures.refused
 
 pub returns-clause-headline : goal.returns-clause-headline
 returns-clause-headline g c =
-    subst (λ (d : Scheduled). OnWriting c.write_job.result (Headline d (λ k. units_of k c.args.units.items) c.args.slots (bytes_of d (job_history c.args.units.items c.args.slots))))
-    c.in-Ok.ensures.line c.write_job.ensures.headline
+    subst (λ (d : Scheduled). OnWriting c.write_job-written.result (Headline d (λ k. units_of k c.args.units.items) c.args.slots (bytes_of d (job_history c.args.units.items c.args.slots))))
+    c.in-Ok.ensures.line c.write_job-written.ensures.headline
