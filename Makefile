@@ -2,7 +2,7 @@
 
 BINARY = crates/tsmux/out/tsmux
 
-.PHONY: run try test bench binary tsjob any-stream clean
+.PHONY: run try test edits bench binary tsjob any-stream clean
 
 # The main job on an example: a plan is made for a radio service, and its 167 access units, four seconds of MPEG audio, become
 # a transport stream with all its tables; what is in that stream is listed, and the monitor reports on it.
@@ -32,9 +32,17 @@ tsjob:
 any-stream: binary tsjob
 	sh examples/any-stream/run.sh crates/tsjob/out/tsjob $(BINARY)
 
-# Every proof from nothing, the must-fail edits, each test, and each program as two compilers make it.
+# The merge gate: every proof from nothing, the must-fail edits, each test, and each program as two compilers make it; then, with the
+# programs that this has built, the cases of cases/ and the tools that put them beside plain readings and failing devices. There are as
+# many checks at once as processors: with no RT_JOBS one also waits for as much memory as it might take, which it does not (4.6 GB is the
+# most that any took).
 test:
-	rt ci
+	RT_JOBS=$${RT_JOBS:-$$(nproc)} rt ci
+	tools/run-tests crates/tsmux/out/tsmux crates/tsjob/out/tsjob
+
+# The wrong bodies that the gate does not try (docs/GATE.md), before a release.
+edits:
+	tools/try-edits
 
 # Speed, beside a copy of as many packets in memory in the same run (docs/SPEED.md), and how full a multiplex `plan` fills. Needs python3
 # and cc beside the kit.

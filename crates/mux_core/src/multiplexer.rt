@@ -4,10 +4,11 @@ ghost use Rattle.std.specs.Prelude.{◌≡◌, ◌≤◌, ◌<◌, ◌^◌, ℕ,
 ghost use Rattle.ts_packet.specs.Contents.{packet_of};
 ghost use Rattle.slot_plan.specs.Schedule.{slot_of};
 ghost use Rattle.unit_queue.specs.Causes.{refusal};
+ghost use Rattle.unit_queue.specs.Steps.{accepted, state_cause};
 ghost use Rattle.mux_core.specs.Histories.{History, bytes_of, slot_more};
 ghost use Rattle.mux_core.specs.Standing.{Stands, Gives, Takes, waiting_of};
 ghost use Rattle.mux_core.specs.Headline.{Headline};
-ghost use Rattle.mux_core.specs.Turns.{Turns, sends, after, queue_cause, fed};
+ghost use Rattle.mux_core.specs.Turns.{Turns, sends, after, queue_cause, queues_with, fed};
 ghost use Rattle.description.specs.Ranges.{IsInRange};
 ghost use Rattle.plan_timing.specs.Promised.{Promised};
 
@@ -41,6 +42,37 @@ impl<A: Allocator> Model for Mux<A> {
     ghost Value = { Mixer };
 
     ghost view = { λ m. record { line = m.line; queues = m.queues.items; turns = m.turns.items; capacity = m.capacity; slots = m.slots } };
+}
+
+// Gives a queue a unit, by its state alone.
+fn feed_queue<A: Allocator>(
+    queue: &mut UnitQueue<A>,
+    slots: u64,
+    unit: Unit<A>,
+) -> Result<(), (FeedError, Unit<A>)>
+    ensures cause { refusal result ≡ state_cause slots queue.old unit }
+    ensures state { OnOk result (queue.new ≡ accepted queue.old unit) }
+    ensures handed_back { IfErr result (λ e. (e.1 ≡ unit) × (queue.new ≡ queue.old)) }
+{
+    queue.feed(slots, unit)
+}
+
+// Gives a unit to the queue of its stream.
+#[tactic(auto, unfolding(crate::specs::Turns::queue_cause, crate::specs::Turns::queues_with))]
+fn feed_stream<A: Allocator>(
+    queues: &mut Vec<UnitQueue<A>, A>,
+    stream: u8,
+    slots: u64,
+    unit: Unit<A>,
+) -> Result<(), (FeedError, Unit<A>)>
+    ensures cause { refusal result ≡ queue_cause slots unit (slice_get queues.old.items stream) }
+    ensures state { OnOk result (queues.new.items ≡ queues_with queues.old.items stream unit (slice_get queues.old.items stream)) }
+    ensures handed_back { IfErr result (λ e. (e.1 ≡ unit) × (queues.new.items ≡ queues.old.items)) }
+{
+    let Some(queue) = queues.get_mut(stream as usize) else {
+        return Err((FeedError::UnknownStream, unit));
+    };
+    feed_queue(queue, slots, unit)
 }
 
 impl<A: Allocator> Mux<A> {
@@ -100,16 +132,12 @@ impl<A: Allocator> Mux<A> {
     }
 
     // Takes a unit, by the state.
-    #[tactic(auto, unfolding(crate::specs::Turns::queue_cause, crate::specs::Turns::queues_with))]
     fn take(&mut self, stream: u8, unit: Unit<A>) -> Result<(), (FeedError, Unit<A>)>
         ensures cause { refusal result ≡ queue_cause self.old.slots unit (slice_get self.old.queues stream) }
         ensures state { OnOk result (self.new ≡ fed self.old stream unit) }
         ensures handed_back { IfErr result (λ e. (e.1 ≡ unit) × (self.new ≡ self.old)) }
     {
-        let Some(queue) = self.queues.get_mut(stream as usize) else {
-            return Err((FeedError::UnknownStream, unit));
-        };
-        queue.feed(self.slots, unit)
+        feed_stream(&mut self.queues, stream, self.slots, unit)
     }
 
     /// How many slots are written.

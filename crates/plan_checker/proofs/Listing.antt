@@ -8,11 +8,7 @@ use Rattle.slot_plan.specs.Numbered.{numbered}
 use Rattle.description.specs.Described.{Described}
 use Rattle.slot_plan.specs.Planned.{Planned}
 use Rattle.slot_plan.specs.Conditions.{counting, shape_entries, timing_entries, entries}
-
--- the first that fails of two
-abbrev pub first_of : Option Entry → Option Entry → Option Entry
-first_of None next = next
-first_of (Some e) next = Some e
+use Rattle.plan_checker.specs.Refused.{first_of}
 
 first_cond : (b : Bool) (e : Entry) (rest next whole : Option Entry) → whole ≡ first_of rest next → cond b whole (Some e) ≡ first_of (cond b rest (Some e)) next
 first_cond true e rest next whole same = same
@@ -21,6 +17,18 @@ first_cond false e rest next whole same = refl
 pub first_of_both : (es fs : List Entry) → first_failing (es ++ fs) ≡ first_of (first_failing es) (first_failing fs)
 first_of_both [] fs = refl
 first_of_both (e ∷ es) fs = first_cond (entry_holds e) e (first_failing es) (first_failing fs) (first_failing (es ++ fs)) (first_of_both es fs)
+
+-- of three lists, the first two known
+of_three : (r : Option Entry) (es fs : List Entry) → first_of (first_of r (first_failing es)) (first_failing fs) ≡ first_of r (first_failing (es ++ fs))
+of_three None es fs = sym (first_of_both es fs)
+of_three (Some e) es fs = refl
+
+-- conditions on end, in each step the first that fails so far
+pub then_next : (r s t : Option Entry) (es fs : List Entry) → s ≡ first_of r (first_failing es) → t ≡ first_of s (first_failing fs) → t ≡ first_of r (first_failing (es ++ fs))
+then_next r s t es fs e f = f ∙ ap (λ (o : Option Entry). first_of o (first_failing fs)) e ∙ of_three r es fs
+
+pub then_all : (s t : Option Entry) (es fs : List Entry) → s ≡ first_failing es → t ≡ first_of s (first_failing fs) → t ≡ first_failing (es ++ fs)
+then_all s t es fs e f = f ∙ ap (λ (o : Option Entry). first_of o (first_failing fs)) e ∙ sym (first_of_both es fs)
 
 -- after conditions that hold, the first failing one is that of the rest
 pub failing_after : (es fs : List Entry) → first_failing es ≡ None → first_failing (es ++ fs) ≡ first_failing fs

@@ -2,7 +2,7 @@
 
 ghost use Rattle.std.specs.Prelude.{◌≡◌, ◌∷◌, []};
 ghost use Rattle.slot_plan.specs.Entries.{at_most, as_many, first_failing};
-ghost use Rattle.plan_checker.specs.Refused.{failed};
+ghost use Rattle.plan_checker.specs.Refused.{failed, first_of};
 
 use crate::refusal::Refusal;
 use slot_plan::{Condition, Relation};
@@ -52,5 +52,15 @@ pub fn as_many(
             left,
             right,
         })
+    }
+}
+
+/// The first of two refusals.
+pub fn first_of(one: Result<(), Refusal>, next: Result<(), Refusal>) -> Result<(), Refusal>
+    ensures { failed result ≡ first_of (failed one) (failed next) }
+{
+    match one {
+        Ok(()) => next,
+        Err(refusal) => Err(refusal),
     }
 }

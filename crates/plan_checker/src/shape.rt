@@ -7,11 +7,11 @@ ghost use Rattle.slot_plan.specs.Entries.{first_failing};
 ghost use Rattle.slot_plan.specs.Conditions.{named_entry, length_entries, claim_entries, shape_entries, owner_entry};
 ghost use Rattle.plan_checker.specs.Refused.{failed};
 
-use crate::comparing::{as_many, at_most};
+use crate::comparing::{as_many, at_most, first_of};
 use crate::counting::own_count;
 use crate::plans::AnyPlan;
 use crate::refusal::Refusal;
-use crate::turns::{OnEach, in_turn};
+use crate::turns::{OnEach, next_in_turn};
 use slot_plan::{Condition, Description, Item, Plan, Program, Slot, Stream, TableKind};
 use std::alloc::Allocator;
 
@@ -19,17 +19,16 @@ use std::alloc::Allocator;
 const LONGEST_PERIOD: u128 = 65_536;
 
 /// The conditions of code 1.
-#[tactic(auto, using(crate::proofs::Listing::first_of_both))]
 pub fn shape<A: Allocator>(description: &Description, plan: &Plan<A>) -> Result<(), Refusal>
     ensures { failed result ≡ first_failing (shape_entries description.now plan.now) }
 {
     let plans = &AnyPlan { description, plan };
-    period(plan)?;
-    in_turn::<Names, _>(plans)?;
-    in_turn::<StreamOwners, _>(plans)?;
-    in_turn::<ProgramOwners, _>(plans)?;
-    in_turn::<TableOwners, _>(plans)?;
-    claims(description, plan)
+    let length = period(plan);
+    let names = next_in_turn::<Names, _>(length, plans);
+    let streams = next_in_turn::<StreamOwners, _>(names, plans);
+    let programs = next_in_turn::<ProgramOwners, _>(streams, plans);
+    let tables = next_in_turn::<TableOwners, _>(programs, plans);
+    first_of(tables, claims(description, plan))
 }
 
 /// A period has slots, and at most 65,536.

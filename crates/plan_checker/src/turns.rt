@@ -3,7 +3,7 @@
 ghost use Rattle.std.specs.Prelude.{◌≡◌, ◌<◌, ℕ, List, Some, length, slice_get};
 ghost use Rattle.slot_plan.specs.Numbered.{numbered};
 ghost use Rattle.slot_plan.specs.Entries.{Entry, first_failing};
-ghost use Rattle.plan_checker.specs.Refused.{failed};
+ghost use Rattle.plan_checker.specs.Refused.{failed, first_of};
 
 use crate::refusal::Refusal;
 
@@ -33,4 +33,14 @@ pub fn in_turn<C: OnEach<P>, P>(plans: &P) -> Result<(), Refusal>
         C::judge(plans, i)?;
     }
     Ok(())
+}
+
+/// The conditions before, and where none of them failed those on all items.
+pub fn next_in_turn<C: OnEach<P>, P>(before: Result<(), Refusal>, plans: &P) -> Result<(), Refusal>
+    ensures { failed result ≡ first_of (failed before) (first_failing (numbered (C.entries plans.now) 0 (C.items plans.now))) }
+{
+    match before {
+        Ok(()) => in_turn::<C, P>(plans),
+        Err(refusal) => Err(refusal),
+    }
 }

@@ -7,7 +7,7 @@ ghost use Rattle.slot_plan.specs.Items.{marks};
 use slot_plan::{Item, Slot};
 
 /// The work of a buffer over one period, in units of 8 / (rate * drain) seconds: a byte is worth `rate`.
-#[derive(Clone, Copy, Debug, PartialEq, Eq)]
+#[derive(Clone, Copy, PartialEq, Eq)]
 pub struct Work {
     /// The greatest work before an own slot, with the slot's packet on top.
     pub most_before: u64,

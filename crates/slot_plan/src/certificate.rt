@@ -11,7 +11,7 @@ pub const NUMBER_END: u64 = 1_000_000_000_000_000_000;
 
 /// What a plan claims of one stream. `spread` is in slots times own slots a period; `start` and `peak`
 /// are work of its transport buffer, counted in units of 8 / (rate * leak rate) seconds.
-#[derive(Clone, Copy, Debug, PartialEq, Eq)]
+#[derive(Clone, Copy, PartialEq, Eq)]
 pub struct StreamEntry {
     /// How far the own slots stray from even spacing, at most.
     pub spread: u64,
@@ -23,7 +23,7 @@ pub struct StreamEntry {
 
 /// What a plan claims of the transport and the system buffer of one program (ISO/IEC 13818-1, 2.4.2),
 /// in work as for a stream.
-#[derive(Clone, Copy, Debug, PartialEq, Eq)]
+#[derive(Clone, Copy, PartialEq, Eq)]
 pub struct ProgramEntry {
     /// The transport buffer's work with which a period begins, at most.
     pub transport_start: u64,

@@ -8,7 +8,7 @@ pub const MOST_SLOTS: u32 = 99_999;
 
 /// What one packet slot (188 bytes) of a period carries: the next packet of a stream, a PCR of a
 /// program, a packet of a table, each by its number from 0, or a null packet.
-#[derive(Clone, Copy, Debug, PartialEq, Eq)]
+#[derive(Clone, Copy, PartialEq, Eq)]
 pub enum Slot {
     Stream(u8),
     Pcr(u8),
@@ -19,7 +19,7 @@ pub enum Slot {
 /// What owns slots: a stream, a program's PCR, a table, or a program's system buffers (ISO/IEC
 /// 13818-1, 2.4.2), which the packets of the PAT (table 0) and of the program's PMT (table 1 + its
 /// number) enter.
-#[derive(Clone, Copy, Debug, PartialEq, Eq)]
+#[derive(Clone, Copy, PartialEq, Eq)]
 pub enum Item {
     Stream(u8),
     Pcr(u8),

@@ -5,7 +5,7 @@ ghost use Rattle.stream_choice.specs.Ranges.{IsNeeds};
 ghost use Rattle.stream_choice.specs.Shares as spec;
 
 /// What is known of a stream's units and buffers.
-#[derive(Clone, Copy, Debug, PartialEq, Eq)]
+#[derive(Clone, Copy)]
 pub struct Needs {
     /// The least time from one DTS to the next, in units of 90 kHz: 1 to 90,000.
     pub interval: u32,

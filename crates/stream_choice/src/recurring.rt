@@ -1,7 +1,7 @@
 //! PCRs and tables.
 
 /// What recurs, as PCRs and the sections of a table do.
-#[derive(Clone, Copy, Debug, PartialEq, Eq)]
+#[derive(Clone, Copy)]
 pub struct Recurring {
     /// The slots of a round.
     pub slots: u32,

@@ -15,7 +15,7 @@ const TELETEXT: u8 = 0x56;
 /// How a stream is coded, as far as its buffers go. A level is the byte that stands in the coded stream: the low four bits of
 /// profile_and_level_indication, level_idc, or general_level_idc; for one that no table has, or 0, the one in most use is
 /// taken (main level, 4, 4).
-#[derive(Clone, Copy, Debug, PartialEq, Eq)]
+#[derive(Clone, Copy, PartialEq, Eq)]
 pub enum Coding {
     /// ISO/IEC 11172-2 and 13818-2 video, of a level.
     Mpeg(u8),

@@ -2,7 +2,12 @@
 
 mod choice;
 mod coding;
+mod demultiplexing;
 mod descriptors;
+mod job_texts;
+mod jobs;
+mod monitoring;
 mod order;
+mod packets;
 mod programs;
 mod units;

@@ -1,6 +1,6 @@
 //! What two plans in turn give a stream, and the slots that its packets take over the switch.
 
-ghost use Rattle.std.specs.Prelude.{◌≡◌, ◌^◌, ◌<◌, ◌≤◌};
+ghost use Rattle.std.specs.Prelude.{◌≡◌, ◌+◌, ◌*◌, ◌^◌, ◌<◌, ◌≤◌, max};
 ghost use Rattle.unit_timing.specs.Conditions.{slots_across};
 ghost use Rattle.plan_checker.specs.Joint.{timed, IsSmallAcross};
 
@@ -22,6 +22,41 @@ pub struct Across {
     pub shift: u64,
 }
 
+/// How far the own slots stray in the two plans, each times the own slots of the other.
+fn strayed(first: Share, second: Share) -> u64
+    requires count { first.count ≤ 65536 }
+    requires next_count { second.count ≤ 65536 }
+    requires spread { first.spread < 2 ^ 33 }
+    requires next_spread { second.spread < 2 ^ 33 }
+    ensures strayed { result ≡ first.spread * second.count + second.spread * first.count }
+    ensures bound { result ≤ 2 ^ 50 }
+{
+    first.spread * second.count + second.spread * first.count
+}
+
+/// The slower of the two paces.
+fn slower(first: Share, second: Share) -> u64
+    requires count { first.count ≤ 65536 }
+    requires next_count { second.count ≤ 65536 }
+    requires period { first.period ≤ 65536 }
+    requires next_period { second.period ≤ 65536 }
+    ensures slower { result ≡ max (first.period * second.count) (second.period * first.count) }
+    ensures bound { result ≤ 2 ^ 32 }
+{
+    u64::max(first.period * second.count, second.period * first.count)
+}
+
+/// The shift of the second plan's own slots.
+fn shifted(first: Share, second: Share, shift: u64) -> u64
+    requires count { first.count ≤ 65536 }
+    requires next_count { second.count ≤ 65536 }
+    requires shift { shift ≤ 65536 }
+    ensures shifted { result ≡ first.count * second.count * (shift + 1) }
+    ensures bound { result ≤ 2 ^ 49 }
+{
+    first.count * second.count * (shift + 1)
+}
+
 /// The slots that `packets` packets take over the switch, times the own slots of both periods: the spreads, the
 /// slower of the two paces, the shift of the second plan's own slots.
 pub fn slots_needed(across: Across, packets: u64) -> u128
@@ -37,7 +72,7 @@ pub fn slots_needed(across: Across, packets: u64) -> u128
         second,
         shift,
     } = across;
-    let pace = u64::max(first.period * second.count, second.period * first.count);
-    let strayed = first.spread * second.count + second.spread * first.count;
-    (strayed + packets * pace + first.count * second.count * (shift + 1)) as u128
+    let strayed = strayed(first, second);
+    let shifted = shifted(first, second, shift);
+    (strayed + packets * slower(first, second) + shifted) as u128
 }

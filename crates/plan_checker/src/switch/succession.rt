@@ -16,12 +16,11 @@ use crate::switch::gaps::{PcrSwitches, TableSwitches};
 use crate::switch::leads::LeadSwitches;
 use crate::switch::mains::MainSwitches;
 use crate::switch::works::{StreamWorks, SystemWorks, TransportWorks};
-use crate::turns::in_turn;
+use crate::turns::{in_turn, next_in_turn};
 use slot_plan::{Description, Plan};
 use std::alloc::Allocator;
 
 /// The conditions of two plans together, codes 12 to 16.
-#[tactic(auto, using(crate::proofs::Listing::first_of_both))]
 fn joint<A: Allocator>(
     description: &Description,
     first: &Plan<A>,
@@ -38,13 +37,13 @@ fn joint<A: Allocator>(
         first,
         second,
     };
-    in_turn::<PcrSwitches, _>(plans)?;
-    in_turn::<TableSwitches, _>(plans)?;
-    in_turn::<StreamWorks, _>(plans)?;
-    in_turn::<TransportWorks, _>(plans)?;
-    in_turn::<SystemWorks, _>(plans)?;
-    in_turn::<LeadSwitches, _>(plans)?;
-    in_turn::<MainSwitches, _>(plans)
+    let pcrs = in_turn::<PcrSwitches, _>(plans);
+    let tables = next_in_turn::<TableSwitches, _>(pcrs, plans);
+    let streams = next_in_turn::<StreamWorks, _>(tables, plans);
+    let transports = next_in_turn::<TransportWorks, _>(streams, plans);
+    let systems = next_in_turn::<SystemWorks, _>(transports, plans);
+    let leads = next_in_turn::<LeadSwitches, _>(systems, plans);
+    next_in_turn::<MainSwitches, _>(leads, plans)
 }
 
 /// The conditions of a second plan after a first one: its own, then those of the two together.

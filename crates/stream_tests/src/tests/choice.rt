@@ -1,7 +1,6 @@
 //! Values of a second reading of the rules, and values worked by hand.
 
-use std::test::Fail;
-use stream_choice::{Choice, Needs, Recurring, are_most, choose, least_rate, least_share, wait};
+use stream_choice::{Needs, Recurring, are_most, choose, least_rate, least_share, wait};
 
 // What is known of a stream (interval, size, rx, main), its most packets, their least share, the wait and the greatest
 // lead; and the share, the lead and the group that are chosen.
@@ -130,27 +129,33 @@ const ROWS: [Row; 14] = [
     ),
 ];
 
-// The share, the lead and the group.
-fn numbers(choice: Choice) -> (u64, u32, u8) {
-    (choice.share, choice.lead, choice.group)
+fn is_chosen(row: &Row) -> bool {
+    let (known, most, share, wait, lead, wanted) = *row;
+    let [interval, size, rx, main] = known;
+    let needs = Needs {
+        interval,
+        size,
+        rx,
+        main,
+    };
+    if !needs.is_in_range()
+        || !are_most(most)
+        || lead > 90_000
+        || least_share(needs, most) != share
+    {
+        return false;
+    }
+    match choose(needs, most, wait, lead) {
+        Some(choice) => Some((choice.share, choice.lead, choice.group)) == wanted,
+        None => wanted.is_none(),
+    }
 }
 
 #[test]
-fn chosen(rt: HostRuntime) -> Result<(), Fail> {
-    for (known, most, share, wait, lead, wanted) in ROWS {
-        let [interval, size, rx, main] = known;
-        let needs = Needs {
-            interval,
-            size,
-            rx,
-            main,
-        };
-        assert!(rt; needs.is_in_range() && are_most(most) && lead <= 90_000);
-        assert!(rt; least_share(needs, most) == share);
-        let found = choose(needs, most, wait, lead);
-        assert!(rt; found.map(numbers) == wanted);
+fn chosen(rt: HostRuntime) {
+    for row in &ROWS {
+        assert!(rt; is_chosen(row));
     }
-    Ok(())
 }
 
 // Shares, what recurs, and the least rate.
@@ -230,25 +235,14 @@ const RATES: [(&[u64], &[Recurring], Option<u32>); 10] = [
     ),
 ];
 
-#[test]
-fn least_rates(rt: HostRuntime) -> Result<(), Fail> {
-    for (shares, recurring, wanted) in RATES {
-        assert!(rt; least_rate(shares, recurring) == wanted);
-    }
-    Ok(())
-}
-
 // 512 bytes at a rate, rounded up, and three packets of a share.
-#[test]
-fn waits(rt: HostRuntime) -> Result<(), Fail> {
-    assert!(rt; wait(2_000_000, 1 << 40) == 188);
-    assert!(rt; wait(64_000, 1 << 40) == 5_763);
-    assert!(rt; wait(200_000_000, 1 << 17) == 25_165_826);
-    Ok(())
+fn are_waits() -> bool {
+    wait(2_000_000, 1 << 40) == 188
+        && wait(64_000, 1 << 40) == 5_763
+        && wait(200_000_000, 1 << 17) == 25_165_826
 }
 
-#[test]
-fn what_is_out_of_range(rt: HostRuntime) -> Result<(), Fail> {
+fn are_ranges() -> bool {
     let needs = Needs {
         interval: 1,
         size: 1,
@@ -259,7 +253,17 @@ fn what_is_out_of_range(rt: HostRuntime) -> Result<(), Fail> {
         rx: 63_999,
         ..needs
     };
-    assert!(rt; needs.is_in_range() && !slow.is_in_range());
-    assert!(rt; are_most(&[1]) && !are_most(&[]) && !are_most(&[1, 0]));
-    Ok(())
+    needs.is_in_range()
+        && !slow.is_in_range()
+        && are_most(&[1])
+        && !are_most(&[])
+        && !are_most(&[1, 0])
+}
+
+#[test]
+fn least_rates(rt: HostRuntime) {
+    for (shares, recurring, wanted) in &RATES {
+        assert!(rt; least_rate(shares, recurring) == *wanted);
+    }
+    assert!(rt; are_waits() && are_ranges());
 }

@@ -1,7 +1,7 @@
 //! Loops made by hand.
 
 use descriptor_loops::{Descriptors, has_ca, has_tag, kept_descriptors};
-use std::test::Fail;
+use std::alloc::Global;
 
 // A language, conditional access, one without bytes, and one whose bytes are not all there.
 const LOOP: [u8; 18] = [
@@ -18,35 +18,41 @@ fn comes(left: &mut Descriptors<'_>, tag: u8, body: &[u8]) -> bool {
     }
 }
 
-#[test]
-fn descriptors_of_a_loop(rt: HostRuntime) {
+fn are_descriptors() -> bool {
     let mut left = Descriptors::of(&LOOP);
-    assert!(rt; comes(&mut left, 0x0a, &LOOP[2..6]));
-    assert!(rt; comes(&mut left, 9, &LOOP[8..12]));
-    assert!(rt; comes(&mut left, 0x6a, &[]));
-    assert!(rt; left.next().is_none());
+    comes(&mut left, 0x0a, &LOOP[2..6])
+        && comes(&mut left, 9, &LOOP[8..12])
+        && comes(&mut left, 0x6a, &[])
+        && left.next().is_none()
 }
 
-#[test]
-fn tags_of_a_loop(rt: HostRuntime) -> Result<(), Fail> {
-    for (tag, wanted) in [
-        (0x0a, true),
-        (9, true),
-        (0x6a, true),
-        (0x48, false),
-        (4, false),
-    ] {
-        assert!(rt; has_tag(tag, &LOOP) == wanted);
+const TAGS: [(u8, bool); 5] = [
+    (0x0a, true),
+    (9, true),
+    (0x6a, true),
+    (0x48, false),
+    (4, false),
+];
+
+fn are_tags() -> bool {
+    for (tag, wanted) in &TAGS {
+        if has_tag(*tag, &LOOP) != *wanted {
+            return false;
+        }
     }
-    assert!(rt; has_ca(&LOOP));
-    assert!(rt; !has_ca(&LOOP[..6]));
-    Ok(())
+    has_ca(&LOOP) && !has_ca(&LOOP[..6])
+}
+
+const KEPT: [u8; 8] = [0x0a, 4, 0x65, 0x6e, 0x67, 0, 0x6a, 0];
+
+fn are_kept(alloc: Global) -> bool {
+    match kept_descriptors(alloc, &LOOP) {
+        Ok(kept) => kept.as_slice() == KEPT.as_slice(),
+        Err(_) => false,
+    }
 }
 
 #[test]
-fn a_loop_without_conditional_access(rt: HostRuntime) -> Result<(), Fail> {
-    let kept = kept_descriptors(rt.alloc(), &LOOP)?;
-    let wanted: &[u8] = &[0x0a, 4, 0x65, 0x6e, 0x67, 0, 0x6a, 0];
-    assert!(rt; kept.as_slice() == wanted);
-    Ok(())
+fn a_loop(rt: HostRuntime) {
+    assert!(rt; are_descriptors() && are_tags() && are_kept(rt.alloc()));
 }

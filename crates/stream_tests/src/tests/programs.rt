@@ -1,4 +1,5 @@
 //! Tables of ffmpeg's streams, and tables made by hand.
+
 mod placing;
 mod texts;
 mod vectors;
@@ -6,7 +7,6 @@ mod vectors;
 use demux::{Finding, Kind, Part, What};
 use psi_tables::Program;
 use std::alloc::{AllocError, Global};
-use std::test::Fail;
 use stream_programs::{
     Association, FoundStream, LeftOut, Placed, Programs, StreamTables, association_change,
     found_programs, free_pid, last_service, map_change, named_programs, original_network,
@@ -15,26 +15,28 @@ use stream_programs::{
 use vectors::{EMPTY_MAP, FIRST_MAP, LAST_MAP, MORE, NEXT_PAT, OTHER_PAT, PAT, PMT, SDT};
 
 // Sections on PIDs, one in each packet.
-fn found(alloc: Global, sections: &[(u16, &[u8])]) -> Result<Vec<Finding<'static>>, AllocError> {
+fn found(
+    alloc: Global,
+    sections: &[(u16, &'static [u8])],
+) -> Result<Vec<Finding<'static>>, AllocError> {
     let mut findings = Vec::new(alloc);
     for (at, (pid, bytes)) in sections.iter().enumerate() {
-        let what = What::Section(Part::Joined(Vec::from_slice(alloc, bytes)?));
         findings.push(Finding {
             packet: at as u64,
             pid: Some(*pid),
             begun: Some((at as u64, Kind::Table(0))),
-            what,
+            what: What::Section(Part::Span(bytes)),
         })?;
     }
     Ok(findings)
 }
 
 // The programs that are named, and what is found of them.
-fn programs(alloc: Global, findings: &[Finding<'_>]) -> Result<Option<Programs>, AllocError> {
-    let Some(association) = named_programs(alloc, findings)? else {
-        return Ok(None);
-    };
-    Ok(Some(found_programs(alloc, &association.programs, findings)?))
+fn programs(alloc: Global, findings: &[Finding<'_>]) -> Option<Programs> {
+    match named_programs(alloc, findings) {
+        Ok(Some(association)) => found_programs(alloc, &association.programs, findings).ok(),
+        _ => None,
+    }
 }
 
 // Whether a stream is of program 1, with this stream_type, PID and descriptors.
@@ -58,16 +60,13 @@ fn is_of_ffmpeg(programs: &Programs) -> bool {
     }
 }
 
+const FFMPEG: [(u16, &[u8]); 4] = [(17, &PMT), (0, &PAT), (0x1000, &PMT), (0, &PAT)];
+
 // The tables of a stream of ffmpeg: one program, video and audio with its language.
-#[test]
-fn programs_of_ffmpeg(rt: HostRuntime) -> Result<(), Fail> {
-    let alloc = rt.alloc();
-    let findings = found(alloc, &[(17, &PMT), (0, &PAT), (0x1000, &PMT), (0, &PAT)])?;
-    let Some(programs) = programs(alloc, &findings)? else {
-        panic!(rt; "no program");
-    };
-    assert!(rt; is_of_ffmpeg(&programs));
-    Ok(())
+fn are_of_ffmpeg(alloc: Global) -> Option<bool> {
+    let findings = found(alloc, &FFMPEG).ok()?;
+    let programs = programs(alloc, &findings)?;
+    Some(is_of_ffmpeg(&programs))
 }
 
 // What of tables made by hand is left out.
@@ -126,24 +125,27 @@ const CHANGES: [(u16, u16, Option<u64>); 3] = [
     (3, 0x1002, None),
 ];
 
-#[test]
-fn parts_of_tables_are_left_out(rt: HostRuntime) -> Result<(), Fail> {
-    let findings = found(rt.alloc(), &TABLES)?;
-    let Some(programs) = programs(rt.alloc(), &findings)? else {
-        panic!(rt; "no program");
-    };
-    assert!(rt; programs.left_out.as_slice() == LEFT_OUT.as_slice());
-    assert!(rt; is_kept(&programs));
-    assert!(rt; association_change(0, &findings) == Some(5));
-    assert!(rt; association_change(1, &findings) == Some(1));
+fn are_changes(findings: &[Finding<'_>]) -> bool {
     for (program_number, pid, wanted) in CHANGES {
         let program = Program {
             program_number,
             pid,
         };
-        assert!(rt; map_change(program, &findings) == wanted, "{pid}");
+        if map_change(program, findings) != wanted {
+            return false;
+        }
     }
-    Ok(())
+    association_change(0, findings) == Some(5) && association_change(1, findings) == Some(1)
+}
+
+fn are_left_out(alloc: Global) -> Option<bool> {
+    let findings = found(alloc, &TABLES).ok()?;
+    let programs = programs(alloc, &findings)?;
+    Some(
+        programs.left_out.as_slice() == LEFT_OUT.as_slice()
+            && is_kept(&programs)
+            && are_changes(&findings),
+    )
 }
 
 const NAMED: [Program; 4] = [
@@ -172,26 +174,33 @@ fn is_named_once(association: &Association) -> bool {
         && association.programs.as_slice() == NAMED.as_slice()
 }
 
-#[test]
-fn named_once(rt: HostRuntime) -> Result<(), Fail> {
-    let alloc = rt.alloc();
-    let findings = found(alloc, &[(0, &PMT), (0, &PAT), (0, &MORE)])?;
-    let Some(association) = named_programs(alloc, &findings)? else {
-        panic!(rt; "no program");
-    };
-    assert!(rt; is_named_once(&association));
-    assert!(rt; association_change(0, &findings).is_none());
-    let none = found(alloc, &[(0, &PMT), (0, &NEXT_PAT), (1, &PAT)])?;
-    assert!(rt; named_programs(alloc, &none)?.is_none());
-    Ok(())
+const ONCE: [(u16, &[u8]); 3] = [(0, &PMT), (0, &PAT), (0, &MORE)];
+
+fn are_named_once(alloc: Global) -> Option<bool> {
+    let findings = found(alloc, &ONCE).ok()?;
+    match named_programs(alloc, &findings) {
+        Ok(Some(association)) => {
+            Some(is_named_once(&association) && association_change(0, &findings).is_none())
+        }
+        _ => None,
+    }
+}
+
+const UNNAMED: [(u16, &[u8]); 3] = [(0, &PMT), (0, &NEXT_PAT), (1, &PAT)];
+
+fn are_unnamed(alloc: Global) -> Option<bool> {
+    let findings = found(alloc, &UNNAMED).ok()?;
+    match named_programs(alloc, &findings) {
+        Ok(found) => Some(found.is_none()),
+        Err(_) => None,
+    }
 }
 
 #[test]
-fn least_free_pids(rt: HostRuntime) {
-    assert!(rt; free_pid(256, &[257, 256, 259]) == Some(258));
-    assert!(rt; free_pid(8190, &[]) == Some(8190));
-    assert!(rt; free_pid(8190, &[8190]).is_none());
-    assert!(rt; free_pid(9000, &[]).is_none());
+fn programs_and_streams(rt: HostRuntime) {
+    let alloc = rt.alloc();
+    assert!(rt; are_of_ffmpeg(alloc) == Some(true) && are_left_out(alloc) == Some(true));
+    assert!(rt; are_named_once(alloc) == Some(true) && are_unnamed(alloc) == Some(true));
 }
 
 // Whether there is the service of ffmpeg's stream, and no other.
@@ -207,12 +216,13 @@ fn has_service(findings: &[Finding<'_>]) -> bool {
     }
 }
 
-#[test]
-fn service_of_ffmpeg(rt: HostRuntime) -> Result<(), Fail> {
-    let findings = found(rt.alloc(), &[(0x11, &PMT), (0x11, &SDT), (0x12, &SDT)])?;
-    assert!(rt; has_service(&findings));
-    assert!(rt; original_network(&findings) == Some(0xff01));
-    Ok(())
+const SERVICES: [(u16, &[u8]); 3] = [(0x11, &PMT), (0x11, &SDT), (0x12, &SDT)];
+
+fn are_services(alloc: Global) -> bool {
+    match found(alloc, &SERVICES) {
+        Ok(findings) => has_service(&findings) && original_network(&findings) == Some(0xff01),
+        Err(_) => false,
+    }
 }
 
 // The program's map stays, and its clock gets a PID.
@@ -239,15 +249,31 @@ fn is_served(said: &StreamTables) -> bool {
     }
 }
 
+fn is_said(said: &StreamTables) -> bool {
+    said.transport_stream_id == 1 && said.version_number == 0 && is_placed(said) && is_served(said)
+}
+
+const ALL: [(u16, &[u8]); 3] = [(0x11, &SDT), (0x1000, &PMT), (0, &PAT)];
+
 // All that the tables of ffmpeg's stream say.
+fn are_tables(alloc: Global) -> Option<bool> {
+    let findings = found(alloc, &ALL).ok()?;
+    match stream_tables(alloc, &findings) {
+        Ok(Some(said)) => Some(is_said(&said)),
+        _ => None,
+    }
+}
+
+fn are_free_pids() -> bool {
+    free_pid(256, &[257, 256, 259]) == Some(258)
+        && free_pid(8190, &[]) == Some(8190)
+        && free_pid(8190, &[8190]).is_none()
+        && free_pid(9000, &[]).is_none()
+}
+
 #[test]
-fn tables_of_ffmpeg(rt: HostRuntime) -> Result<(), Fail> {
-    let findings = found(rt.alloc(), &[(0x11, &SDT), (0x1000, &PMT), (0, &PAT)])?;
-    let Some(said) = stream_tables(rt.alloc(), &findings)? else {
-        panic!(rt; "no program");
-    };
-    assert!(rt; (said.transport_stream_id, said.version_number) == (1, 0));
-    assert!(rt; is_placed(&said));
-    assert!(rt; is_served(&said));
-    Ok(())
+fn services_and_tables(rt: HostRuntime) {
+    assert!(rt;
+        are_services(rt.alloc()) && are_tables(rt.alloc()) == Some(true) && are_free_pids()
+    );
 }

@@ -1,16 +1,13 @@
 //! Values worked by hand.
 
-ghost use Rattle.std.specs.Prelude.{◌<◌, ◌^◌};
-
 use clock27::Rate;
 use demux::{Finding, Kind, Part, What};
 use pes_packet::{PesHeader, Stamps, Unit};
 use std::alloc::{AllocError, Global};
-use std::test::Fail;
 use stream_units::{
-    MakeError, MakeFault, Reason, StampError, StampFault, WireUnit, carried_units, constant,
-    distance, first_other, greatest_size, group_packets, least_interval, left_out, made_dts,
-    made_stamps, moved_units, written_id,
+    LeftOut, MakeError, MakeFault, Reason, StampError, StampFault, WireUnit, carried_units,
+    constant, distance, first_other, greatest_size, group_packets, least_interval, left_out,
+    made_dts, made_stamps, moved_units, written_id,
 };
 use unit_queue::{FeedError, StreamRules, UnitQueue};
 
@@ -26,19 +23,20 @@ enum Row {
 }
 
 // A PES packet that begins in a packet, and ends in the next.
-fn pes(pid: u16, packet: u64, stamps: Stamps, body: Vec<u8>) -> Finding<'static> {
+fn pes(pid: u16, packet: u64, stamps: Stamps, body: &'static [u8]) -> Finding<'static> {
+    let header = PesHeader {
+        id: 224,
+        len: 0,
+        stamps,
+    };
     Finding {
         packet: packet.saturating_add(1),
         pid: Some(pid),
         begun: Some((packet, Kind::Pes(true))),
         what: What::Pes {
-            header: PesHeader {
-                id: 224,
-                len: 0,
-                stamps,
-            },
+            header,
             unended: false,
-            body: Part::Joined(body),
+            body: Part::Span(body),
         },
     }
 }
@@ -58,17 +56,12 @@ const BREAK: What<'static> = What::CounterBreak {
     found: 7,
 };
 
-fn finding(alloc: Global, row: &Row) -> Result<Finding<'static>, AllocError> {
+fn finding(row: &Row) -> Finding<'static> {
     match row {
-        Row::Pes(pid, packet, stamps, body) => {
-            Ok(pes(*pid, *packet, *stamps, Vec::from_slice(alloc, body)?))
-        }
-        Row::Again(packet) => Ok(other(*packet, What::Duplicate)),
-        Row::Break(packet) => Ok(other(*packet, BREAK)),
-        Row::Cut(packet, bytes) => {
-            let part = Part::Joined(Vec::from_slice(alloc, bytes)?);
-            Ok(other(*packet, What::Truncated(part)))
-        }
+        Row::Pes(pid, packet, stamps, body) => pes(*pid, *packet, *stamps, body),
+        Row::Again(packet) => other(*packet, What::Duplicate),
+        Row::Break(packet) => other(*packet, BREAK),
+        Row::Cut(packet, bytes) => other(*packet, What::Truncated(Part::Span(bytes))),
     }
 }
 
@@ -95,7 +88,7 @@ const WORKED: [Row; 11] = [
 fn worked_findings(alloc: Global) -> Result<Vec<Finding<'static>>, AllocError> {
     let mut found = Vec::new(alloc);
     for row in &WORKED {
-        found.push(finding(alloc, row)?)?;
+        found.push(finding(row))?;
     }
     Ok(found)
 }
@@ -108,21 +101,22 @@ fn is_unit(unit: &WireUnit, packet: u64, stamps: (u64, u64), bytes: &[u8]) -> bo
         && unit.unit.bytes.as_slice() == bytes
 }
 
-const UNITS: [(u64, (u64, u64), &[u8]); 2] = [
-    (1, (3_600, 3_600), &[1, 2, 3]),
-    (7, (7_200, 10_800), &[5, 6]),
-];
+fn are_units(units: &[WireUnit]) -> bool {
+    match units {
+        [first, second] => {
+            is_unit(first, 1, (3_600, 3_600), &[1, 2, 3])
+                && is_unit(second, 7, (7_200, 10_800), &[5, 6])
+        }
+        _ => false,
+    }
+}
 
 // PES packets without a stamp join the one before them, across duplicates and other PIDs but not across a break.
-#[test]
-fn units_of_a_pid(rt: HostRuntime) -> Result<(), Fail> {
-    let found = worked_findings(rt.alloc())?;
-    let units = carried_units(rt.alloc(), 256, &found)?;
-    assert!(rt; units.len() == 2);
-    for (unit, (packet, stamps, bytes)) in units.iter().zip(UNITS) {
-        assert!(rt; is_unit(unit, packet, stamps, bytes), "{packet}");
+fn are_carried(alloc: Global, found: &[Finding<'_>]) -> bool {
+    match carried_units(alloc, 256, found) {
+        Ok(units) => are_units(&units),
+        Err(_) => false,
     }
-    Ok(())
 }
 
 const COUNTER: Reason = Reason::Counter {
@@ -139,54 +133,85 @@ const LEFT_OUT: [(u64, Reason, bool); 5] = [
     (20, Reason::CutByEnd(3), false),
 ];
 
-#[test]
-fn what_is_left_out(rt: HostRuntime) -> Result<(), Fail> {
-    let found = worked_findings(rt.alloc())?;
-    let out = left_out(rt.alloc(), 256, 20, &found)?;
-    assert!(rt; out.len() == 5);
-    for (left, (packet, why, damage)) in out.iter().zip(LEFT_OUT) {
-        assert!(rt; left.packet == packet && left.why == why, "{packet}");
-        assert!(rt; left.why.is_damage() == damage, "{packet}");
+fn is_left_out(found: &[LeftOut]) -> bool {
+    let mut left = LEFT_OUT.as_slice();
+    for one in found {
+        let [row, rest @ ..] = left else {
+            return false;
+        };
+        if one.packet != row.0 || one.why != row.1 || one.why.is_damage() != row.2 {
+            return false;
+        }
+        left = rest;
     }
-    Ok(())
+    left.is_empty()
+}
+
+fn are_left_out(alloc: Global, found: &[Finding<'_>]) -> bool {
+    match left_out(alloc, 256, 20, found) {
+        Ok(left) => is_left_out(&left),
+        Err(_) => false,
+    }
+}
+
+fn are_found(alloc: Global) -> bool {
+    match worked_findings(alloc) {
+        Ok(found) => are_carried(alloc, &found) && are_left_out(alloc, &found),
+        Err(_) => false,
+    }
+}
+
+// A unit of these stamps and so many bytes, DTS first.
+fn wire_unit(alloc: Global, dts: u64, pts: u64, size: usize) -> Result<WireUnit, AllocError> {
+    let bytes = vec![in alloc; 0xa5u8; size]?;
+    Ok(WireUnit {
+        packet: 0,
+        stream_id: 224,
+        unit: Unit { dts, pts, bytes },
+    })
+}
+
+// Units of these stamps and sizes.
+fn wire(alloc: Global, stamps: &[(u64, u64, usize)]) -> Option<Vec<WireUnit>> {
+    let mut units = Vec::new(alloc);
+    for (dts, pts, size) in stamps {
+        let unit = wire_unit(alloc, *dts, *pts, *size).ok()?;
+        let Ok(()) = units.push(unit) else {
+            return None;
+        };
+    }
+    Some(units)
 }
 
 // Three units of stream_id 224, and one of 225.
-fn of_two_ids(alloc: Global) -> Result<Vec<WireUnit>, AllocError> {
+fn of_two_ids(alloc: Global) -> Option<Vec<WireUnit>> {
     let mut units = wire(alloc, &[(0, 0, 1), (1, 1, 1), (2, 2, 1), (3, 3, 1)])?;
     if let Some(last) = units.last_mut() {
         last.stream_id = 225;
     }
-    Ok(units)
+    Some(units)
+}
+
+fn are_ids(units: &[WireUnit]) -> bool {
+    first_other(224, units.get(..3).unwrap_or(&[])).is_none() && first_other(224, units) == Some(3)
+}
+
+fn are_stream_ids(alloc: Global) -> bool {
+    match of_two_ids(alloc) {
+        Some(units) => are_ids(&units),
+        None => false,
+    }
+}
+
+fn are_written_ids() -> bool {
+    written_id(253, true) == Some(189)
+        && written_id(253, false).is_none()
+        && written_id(224, true) == Some(224)
 }
 
 #[test]
-fn stream_ids(rt: HostRuntime) -> Result<(), Fail> {
-    let units = of_two_ids(rt.alloc())?;
-    assert!(rt; first_other(224, units.get(..3).unwrap_or(&[])).is_none());
-    assert!(rt; first_other(224, &units) == Some(3));
-    assert!(rt; written_id(253, true) == Some(189) && written_id(253, false).is_none());
-    assert!(rt; written_id(224, true) == Some(224));
-    Ok(())
-}
-
-// Units of these stamps and sizes, DTS first.
-fn wire(alloc: Global, stamps: &[(u64, u64, usize)]) -> Result<Vec<WireUnit>, AllocError> {
-    let mut units = Vec::new(alloc);
-    for (dts, pts, size) in stamps {
-        let bytes = vec![in alloc; 0xa5u8; *size]?;
-        let unit = Unit {
-            dts: *dts,
-            pts: *pts,
-            bytes,
-        };
-        units.push(WireUnit {
-            packet: 0,
-            stream_id: 224,
-            unit,
-        })?;
-    }
-    Ok(units)
+fn units_of_a_pid(rt: HostRuntime) {
+    assert!(rt; are_found(rt.alloc()) && are_stream_ids(rt.alloc()) && are_written_ids());
 }
 
 // The first DTS of a stream, those of two others, and the constant: the least first DTS comes at 180,000, whichever stream has
@@ -199,45 +224,50 @@ const CONSTANTS: [(u64, [u64; 2], u64); 5] = [
     (3_600, [0, RANGE - 1], RANGE - 180_001),
 ];
 
-#[test]
-fn constants(rt: HostRuntime) {
-    for (first, others, wanted) in CONSTANTS {
-        assert!(rt; constant(180_000, first, &others) == wanted, "{first}");
+fn are_constants() -> bool {
+    for (first, others, wanted) in &CONSTANTS {
+        if constant(180_000, *first % RANGE, others) != *wanted {
+            return false;
+        }
     }
-    assert!(rt; distance(RANGE - 1, 1) == 2);
-    assert!(rt; distance(1, RANGE - 1) == RANGE - 2);
+    distance(RANGE - 1, 1) == 2 && distance(1, RANGE - 1) == RANGE - 2
 }
 
-// Units of these stamps and sizes, at their moments.
+// Units of these stamps and sizes, at their moments. None where there is no memory for them.
 fn moved(
     alloc: Global,
     constant: u64,
     stamps: &[(u64, u64, usize)],
-) -> Result<Result<Vec<Unit>, StampError>, AllocError>
-    requires { constant < 2 ^ 33 }
-{
-    Ok(moved_units(alloc, constant, wire(alloc, stamps)?))
+) -> Option<Result<Vec<Unit>, StampError>> {
+    match wire(alloc, stamps) {
+        Some(units) => Some(moved_units(alloc, constant % RANGE, units)),
+        None => None,
+    }
 }
 
 const ACROSS: [(u64, u64, usize); 3] = [(RANGE - 3_600, 3_600, 10), (0, 0, 20), (3_600, 7_200, 30)];
 
-const MOMENTS: [(u64, u64, usize); 3] = [
-    (180_000, 187_200, 10),
-    (183_600, 183_600, 20),
-    (187_200, 190_800, 30),
-];
+fn is_moment(unit: &Unit, dts: u64, pts: u64, size: usize) -> bool {
+    unit.dts == dts && unit.pts == pts && unit.bytes.len() == size
+}
+
+fn are_moments(units: &[Unit]) -> bool {
+    match units {
+        [first, second, third] => {
+            is_moment(first, 180_000, 187_200, 10)
+                && is_moment(second, 183_600, 183_600, 20)
+                && is_moment(third, 187_200, 190_800, 30)
+        }
+        _ => false,
+    }
+}
 
 // Pictures of 25 a second across the end of the range, one shown later than it is decoded.
-#[test]
-fn units_across_the_range(rt: HostRuntime) -> Result<(), Fail> {
-    let Ok(units) = moved(rt.alloc(), RANGE - 183_600, &ACROSS)? else {
-        panic!(rt; "no moments");
-    };
-    assert!(rt; units.len() == 3);
-    for (unit, wanted) in units.iter().zip(MOMENTS) {
-        assert!(rt; (unit.dts, unit.pts, unit.bytes.len()) == wanted);
+fn are_across(alloc: Global) -> bool {
+    match moved(alloc, RANGE - 183_600, &ACROSS) {
+        Some(Ok(units)) => are_moments(&units),
+        _ => false,
     }
-    Ok(())
 }
 
 // Third stamps, DTS first, and why they can't be moments.
@@ -249,22 +279,27 @@ const REFUSED: [(u64, u64, StampFault); 5] = [
     (7_201, 7_200, StampFault::Presented(RANGE - 1)),
 ];
 
-// Why the third of three units is refused.
-fn refusal_of_third(alloc: Global, dts: u64, pts: u64) -> Result<Option<StampError>, AllocError> {
+// Whether the third of three units is refused so.
+fn is_refused(alloc: Global, dts: u64, pts: u64, fault: StampFault) -> bool {
     let stamps = [(3_600, 3_600, 1), (7_200, 97_200, 1), (dts, pts, 1)];
-    Ok(moved(alloc, 0, &stamps)?.err())
+    match moved(alloc, 0, &stamps) {
+        Some(Err(error)) => error == StampError::Unit { index: 2, fault },
+        _ => false,
+    }
+}
+
+fn are_refused(alloc: Global) -> bool {
+    for (dts, pts, fault) in &REFUSED {
+        if !is_refused(alloc, *dts, *pts, *fault) {
+            return false;
+        }
+    }
+    true
 }
 
 #[test]
-fn stamps_that_are_refused(rt: HostRuntime) -> Result<(), Fail> {
-    for (dts, pts, fault) in REFUSED {
-        let error = StampError::Unit { index: 2, fault };
-        assert!(rt;
-            refusal_of_third(rt.alloc(), dts, pts)? == Some(error),
-            "{dts} {pts}"
-        );
-    }
-    Ok(())
+fn stamps_and_moments(rt: HostRuntime) {
+    assert!(rt; are_constants() && are_across(rt.alloc()) && are_refused(rt.alloc()));
 }
 
 // Four units of 1, 2, 1 and 1 packets.
@@ -283,21 +318,11 @@ fn is_declared(units: &[Unit]) -> bool {
         && group_packets(0, units, 3) == 4
 }
 
-fn fed(queue: &mut UnitQueue<Global>, unit: Unit) -> Option<FeedError> {
-    match queue.feed(0, unit) {
-        Ok(()) => None,
-        Err((cause, _unit)) => Some(cause),
-    }
-}
-
-// Why a queue that declares so many packets in a group of three refuses one of the units.
-fn refusal_of_queue(
-    alloc: Global,
-    packets: u32,
-    units: Vec<Unit>,
-) -> Result<Option<FeedError>, Fail> {
+// A queue that declares so many packets in a group of three.
+fn queue_of(alloc: Global, packets: u32) -> Option<UnitQueue<Global>> {
+    let rate = Rate::new(1_504_000).ok()?;
     let rules = StreamRules {
-        rate: Rate::new(1_504_000)?,
+        rate,
         base0: 0,
         pid: 256,
         stream_id: 224,
@@ -307,41 +332,51 @@ fn refusal_of_queue(
         group: 3,
         group_packets: packets,
     };
-    let mut queue = UnitQueue::new(alloc, rules, 4)?;
+    UnitQueue::new(alloc, rules, 4).ok()
+}
+
+fn fed(queue: &mut UnitQueue<Global>, unit: Unit) -> Option<FeedError> {
+    match queue.feed(0, unit) {
+        Ok(()) => None,
+        Err((cause, _unit)) => Some(cause),
+    }
+}
+
+// Why the last of the units that the queue refuses is refused.
+fn refusal_of(queue: &mut UnitQueue<Global>, units: Vec<Unit>) -> Option<FeedError> {
     let mut refused = None;
     for unit in units {
-        if let Some(cause) = fed(&mut queue, unit) {
-            refused = Some(cause);
-        }
+        refused = fed(queue, unit).or(refused);
     }
-    Ok(refused)
+    refused
+}
+
+// Whether a queue that declares so many packets in a group of three refuses the units so.
+fn is_fed(alloc: Global, packets: u32, wanted: Option<FeedError>) -> bool {
+    let (Some(mut queue), Some(Ok(units))) = (queue_of(alloc, packets), moved(alloc, 0, &FOUR))
+    else {
+        return false;
+    };
+    let is_well = is_declared(&units) && refusal_of(&mut queue, units) == wanted;
+    drop(queue);
+    is_well
+}
+
+// One unit, and none.
+fn are_few(alloc: Global) -> bool {
+    let Some(Ok(units)) = moved(alloc, 0, &[(5, 5, 170)]) else {
+        return false;
+    };
+    least_interval(&units) == 90_000
+        && group_packets(0, &units, 64) == 2
+        && greatest_size::<Global>(&[]) == 0
 }
 
 // What a stream declares of units, so that a queue takes each; with one packet less in a group of three it refuses the third.
 #[test]
-fn a_declaration_that_units_keep(rt: HostRuntime) -> Result<(), Fail> {
-    for (packets, wanted) in [(4, None), (3, Some(FeedError::Group))] {
-        let Ok(units) = moved(rt.alloc(), 0, &FOUR)? else {
-            panic!(rt; "no moments");
-        };
-        assert!(rt; is_declared(&units));
-        assert!(rt;
-            refusal_of_queue(rt.alloc(), packets, units)? == wanted,
-            "{packets}"
-        );
-    }
-    Ok(())
-}
-
-// One unit, and none.
-#[test]
-fn few_units(rt: HostRuntime) -> Result<(), Fail> {
-    let Ok(units) = moved(rt.alloc(), 0, &[(5, 5, 170)])? else {
-        panic!(rt; "no moments");
-    };
-    assert!(rt; least_interval(&units) == 90_000 && group_packets(0, &units, 64) == 2);
-    assert!(rt; greatest_size::<Global>(&[]) == 0);
-    Ok(())
+fn a_declaration_that_units_keep(rt: HostRuntime) {
+    assert!(rt; is_fed(rt.alloc(), 4, None) && is_fed(rt.alloc(), 3, Some(FeedError::Group)));
+    assert!(rt; are_few(rt.alloc()));
 }
 
 // The first DTS of six pictures of 25 a second in the order in which they are decoded, across the end of the range.
@@ -357,26 +392,43 @@ const PICTURES: [(u64, u64); 6] = [
     ((FIRST + 18_000) % RANGE, 18_000),
 ];
 
-// The units of these PTS, each of one byte, with the DTS that are made.
-fn made(alloc: Global) -> Result<Option<Vec<WireUnit>>, AllocError> {
-    let mut stamps = Vec::new(alloc);
-    for (shown, _) in PICTURES {
-        stamps.push((0, shown, 1))?;
+// Units of these PTS, of one byte.
+fn shown(alloc: Global) -> Option<Vec<WireUnit>> {
+    let mut units = Vec::new(alloc);
+    for (shown, _) in &PICTURES {
+        let unit = wire_unit(alloc, 0, *shown, 1).ok()?;
+        let Ok(()) = units.push(unit) else {
+            return None;
+        };
     }
-    Ok(made_stamps(alloc, wire(alloc, &stamps)?).ok())
+    Some(units)
 }
 
-#[test]
-fn dts_of_pictures(rt: HostRuntime) -> Result<(), Fail> {
-    let Some(units) = made(rt.alloc())? else {
-        panic!(rt; "no stamps");
-    };
-    assert!(rt; units.len() == 6);
-    for (unit, (shown, after)) in units.iter().zip(PICTURES) {
-        let first = FIRST.saturating_add(after) % RANGE;
-        assert!(rt; is_unit(unit, 0, (first, shown), &[0xa5]), "{after}");
+fn are_made(units: &[WireUnit]) -> bool {
+    let mut left = PICTURES.as_slice();
+    for unit in units {
+        let [row, rest @ ..] = left else {
+            return false;
+        };
+        if !is_unit(
+            unit,
+            0,
+            (FIRST.saturating_add(row.1) % RANGE, row.0),
+            &[0xa5],
+        ) {
+            return false;
+        }
+        left = rest;
     }
-    Ok(())
+    left.is_empty()
+}
+
+// The DTS that are made of them.
+fn are_pictures(alloc: Global, units: Vec<WireUnit>) -> bool {
+    match made_stamps(alloc, units) {
+        Ok(made) => are_made(&made),
+        Err(_) => false,
+    }
 }
 
 // The PTS of which no DTS are made.
@@ -391,10 +443,27 @@ const UNMADE: [([u64; 3], MakeFault); 2] = [
     ),
 ];
 
-#[test]
-fn pts_without_dts(rt: HostRuntime) {
-    for (pts, wanted) in UNMADE {
-        let made = made_dts(rt.alloc(), &pts);
-        assert!(rt; made.err() == Some(MakeError::Fault(wanted)));
+fn is_unmade(alloc: Global, pts: &[u64], fault: MakeFault) -> bool {
+    match made_dts(alloc, pts) {
+        Err(error) => error == MakeError::Fault(fault),
+        Ok(_) => false,
     }
+}
+
+fn are_unmade(alloc: Global) -> bool {
+    for (pts, fault) in &UNMADE {
+        if !is_unmade(alloc, pts, *fault) {
+            return false;
+        }
+    }
+    true
+}
+
+#[test]
+fn dts_of_pictures(rt: HostRuntime) {
+    let is_well = match shown(rt.alloc()) {
+        Some(units) => are_pictures(rt.alloc(), units),
+        None => false,
+    };
+    assert!(rt; is_well && are_unmade(rt.alloc()));
 }

@@ -1,6 +1,5 @@
-//! Worked values, sections of another program's stream (ffmpeg 5.1), and damaged sections.
-
-mod damage;
+//! Tables of EN 300 468, written and read, and what stands in them.
+mod loops;
 mod tables;
+mod texts;
 mod times;
-mod vectors;

@@ -1,16 +1,14 @@
 //! PIDs of maps and clocks, worked by hand.
 
 use linked_list_allocator::LocalHeap;
-use std::alloc::{AllocError, Allocator};
-use std::test::Fail;
+use std::alloc::{AllocError, Allocator, Global};
 use stream_programs::{FoundProgram, FoundStream, Placed, Programs, placed_pids};
 
-// Programs with maps on these PIDs, and streams on those.
-fn programs<A: Allocator + Copy>(
+// Programs with maps on these PIDs.
+fn programs_of<A: Allocator + Copy>(
     alloc: A,
     maps: &[u16],
-    pids: &[u16],
-) -> Result<Programs<A>, AllocError> {
+) -> Result<Vec<FoundProgram<A>, A>, AllocError> {
     let mut programs = Vec::new(alloc);
     for map_pid in maps {
         programs.push(FoundProgram {
@@ -20,6 +18,14 @@ fn programs<A: Allocator + Copy>(
             descriptors: Vec::new(alloc),
         })?;
     }
+    Ok(programs)
+}
+
+// Streams on these PIDs.
+fn streams_of<A: Allocator + Copy>(
+    alloc: A,
+    pids: &[u16],
+) -> Result<Vec<FoundStream<A>, A>, AllocError> {
     let mut streams = Vec::new(alloc);
     for pid in pids {
         streams.push(FoundStream {
@@ -29,6 +35,16 @@ fn programs<A: Allocator + Copy>(
             descriptors: Vec::new(alloc),
         })?;
     }
+    Ok(streams)
+}
+
+fn programs<A: Allocator + Copy>(
+    alloc: A,
+    maps: &[u16],
+    pids: &[u16],
+) -> Result<Programs<A>, AllocError> {
+    let programs = programs_of(alloc, maps)?;
+    let streams = streams_of(alloc, pids)?;
     Ok(Programs {
         programs,
         streams,
@@ -51,60 +67,83 @@ const ROWS: [(&[u16], &[u16], &[(u16, u16)]); 5] = [
 
 // Whether the places are these.
 fn are_places(places: &[Placed], wanted: &[(u16, u16)]) -> bool {
-    for (place, (map_pid, pcr_pid)) in places.iter().zip(wanted) {
-        if (place.map_pid, place.pcr_pid) != (*map_pid, *pcr_pid) {
+    let mut left = wanted;
+    for place in places {
+        let [row, rest @ ..] = left else {
+            return false;
+        };
+        if place.map_pid != row.0 || place.pcr_pid != row.1 {
+            return false;
+        }
+        left = rest;
+    }
+    left.is_empty()
+}
+
+// Whether the programs are placed so; none where no PID is left.
+fn is_placed<A: Allocator + Copy>(
+    alloc: A,
+    found: &Programs<A>,
+    wanted: &[(u16, u16)],
+) -> Result<Option<bool>, AllocError> {
+    match placed_pids(alloc, found) {
+        Ok(Some(places)) => Ok(Some(are_places(&places, wanted))),
+        Ok(None) => Ok(None),
+        Err(AllocError) => Err(AllocError),
+    }
+}
+
+// The same of programs and streams on these PIDs.
+fn are_placed<A: Allocator + Copy>(
+    alloc: A,
+    maps: &[u16],
+    pids: &[u16],
+    wanted: &[(u16, u16)],
+) -> Result<Option<bool>, AllocError> {
+    let found = programs(alloc, maps, pids)?;
+    is_placed(alloc, &found, wanted)
+}
+
+fn are_rows(alloc: Global) -> bool {
+    for (maps, pids, wanted) in &ROWS {
+        if are_placed(alloc, maps, pids, wanted) != Ok(Some(true)) {
             return false;
         }
     }
-    places.len() == wanted.len()
+    true
 }
 
-#[test]
-fn maps_and_clocks_are_placed(rt: HostRuntime) -> Result<(), Fail> {
-    let alloc = rt.alloc();
-    for (maps, pids, wanted) in ROWS {
-        let Some(places) = placed_pids(alloc, &programs(alloc, maps, pids)?)? else {
-            panic!(rt; "no PID is left");
-        };
-        assert!(rt; are_places(&places, wanted), "{}", maps.len());
-    }
-    Ok(())
+// A stream on each PID from 256 on leaves none for a clock; one less leaves 256.
+fn is_last_pid(alloc: Global) -> bool {
+    let Ok(pids) = (256..8191u16).collect::<Vec<u16>>(alloc) else {
+        return false;
+    };
+    are_placed(alloc, &[32], &pids, &[]) == Ok(None)
+        && are_placed(alloc, &[32], &pids[1..], &[(32, 256)]) == Ok(Some(true))
 }
 
-// A stream on each PID from 256 on leaves none for a clock.
-#[test]
-fn no_pid_is_left(rt: HostRuntime) -> Result<(), Fail> {
-    let alloc = rt.alloc();
-    let pids: Vec<u16> = (256..8191u16).collect(alloc)?;
-    assert!(rt; placed_pids(alloc, &programs(alloc, &[32], &pids)?)?.is_none());
-    assert!(rt; placed_pids(alloc, &programs(alloc, &[32], &pids[1..])?)?.is_some());
-    Ok(())
-}
-
-// How many places there are, with the programs in the same memory.
-fn count_of_places(heap: &LocalHeap) -> Result<Option<usize>, AllocError> {
-    let found = programs(heap, &[0x100, 0x100], &[0x101])?;
-    match placed_pids(heap, &found)? {
-        None => Ok(None),
-        Some(places) => Ok(Some(places.len())),
-    }
-}
-
-// Each allocation is refused in turn.
-#[test]
-fn memory_for_places(rt: HostRuntime) -> Result<(), Fail> {
-    let mut refused = false;
-    let mut made = false;
-    for n in 0..48 {
-        let heap = LocalHeap::new(rt.alloc(), 32 + n * 16)?;
-        match count_of_places(&heap) {
-            Ok(count) => {
-                made = true;
-                assert!(rt; count == Some(2));
-            }
-            Err(AllocError) => refused = true,
+// In how many of 48 heaps of rising size memory is wanting. None where the programs are placed otherwise in one.
+fn refusals(alloc: Global) -> Option<u32> {
+    let mut refused = 0u32;
+    for n in 0..48usize {
+        let heap = LocalHeap::new(alloc, 32 + n * 16).ok()?;
+        match are_placed(
+            &heap,
+            &[0x100, 0x100],
+            &[0x101],
+            &[(0x100, 0x102), (32, 0x103)],
+        ) {
+            Ok(Some(true)) => {}
+            Ok(_) => return None,
+            Err(AllocError) => refused = refused.saturating_add(1),
         }
     }
-    assert!(rt; refused && made);
-    Ok(())
+    Some(refused)
+}
+
+#[test]
+fn maps_and_clocks_are_placed(rt: HostRuntime) {
+    let refused = refusals(rt.alloc()).unwrap_or(0);
+    assert!(rt; are_rows(rt.alloc()) && is_last_pid(rt.alloc()));
+    assert!(rt; 0 < refused && refused < 48);
 }

@@ -1,6 +1,0 @@
-//! Tests of `demux`, over its public contracts alone: a test here is proved against what the crate promises, and not
-//! against its bodies.
-#![tactic(auto)]
-
-#[cfg(test)]
-mod tests;

@@ -1,0 +1,93 @@
+//! Worked services and plans, each refusal, finished bytes, and refused memory. A helper that has no answer to give answers None.
+
+mod carrying;
+mod checks;
+mod descriptions;
+mod jobs;
+mod making;
+mod measuring;
+mod memory;
+mod plan_texts;
+mod records;
+mod runs;
+mod services;
+mod texts;
+mod whole_way;
+
+use plan_checker::{CheckedPlan, CheckedSwitch, check, check_switch};
+use slot_plan::{Description, Plan};
+use std::alloc::{Allocator, Global};
+
+/// The text with another part in place of each such part.
+fn edited(alloc: Global, text: &str, part: &str, other: &str) -> Option<String> {
+    text.replace(alloc, part, other).ok()
+}
+
+fn described(alloc: Global, text: &str) -> Option<Description> {
+    Description::read(alloc, text).ok()
+}
+
+fn planned<A: Allocator + Clone>(alloc: A, text: &str) -> Option<Plan<A>> {
+    match Plan::read_text(alloc, text.as_bytes()) {
+        Ok((plan, _)) => Some(plan),
+        Err(_) => None,
+    }
+}
+
+/// The plan for the description, where it is accepted.
+fn checked<A: Allocator + Clone>(
+    global: Global,
+    alloc: A,
+    description: &str,
+    plan: &str,
+) -> Option<CheckedPlan<A>> {
+    let description = described(global, description)?;
+    match planned(alloc, plan) {
+        Some(plan) => check(description, plan).ok(),
+        None => {
+            drop(description);
+            None
+        }
+    }
+}
+
+/// A second plan after the first, where it may follow.
+fn followed<A: Allocator + Clone>(
+    alloc: A,
+    first: CheckedPlan<A>,
+    second: &str,
+) -> Option<CheckedSwitch<A>> {
+    match planned(alloc, second) {
+        Some(second) => check_switch(first, second).ok(),
+        None => {
+            drop(first);
+            None
+        }
+    }
+}
+
+/// Appends these parts, one after the other.
+fn push_parts(whole: &mut Vec<u8>, parts: &[&[u8]]) -> bool {
+    for part in parts {
+        if whole.extend_from_slice(part).is_err() {
+            return false;
+        }
+    }
+    true
+}
+
+fn joined(alloc: Global, parts: &[&[u8]]) -> Option<Vec<u8>> {
+    let mut whole = Vec::new(alloc);
+    if push_parts(&mut whole, parts) {
+        Some(whole)
+    } else {
+        None
+    }
+}
+
+/// The bytes with one of them changed.
+fn changed(alloc: Global, bytes: &[u8], at: usize, value: u8) -> Option<Vec<u8>> {
+    let before = bytes.get(..at).unwrap_or(bytes);
+    let after = bytes.get(at.saturating_add(1)..).unwrap_or(&[]);
+    joined(alloc, &[before, &[value], after])
+}

@@ -1,0 +1,322 @@
+//! Finished bytes of the small service measured in the decoder model: worked runs, and each refusal.
+
+use super::carrying::{NEVER, carried, push_record};
+use super::services::{ONE, Series, units};
+use super::texts::DESCRIPTION;
+use super::{changed, described, push_parts};
+use linked_list_allocator::LocalHeap;
+use std::alloc::{Allocator, Global};
+use ts_packet::PacketError;
+use tstd::{Fullness, LateUnit, MeasureError, measure};
+
+/// Units that are sent, four packets in the first, fifth, ninth and thirteenth of 24 slots, or of 16; how many slots there are;
+/// the units that are told; a byte that is written over; and how many bytes are left at the end.
+#[derive(Drop)]
+struct Run {
+    sent: Series,
+    width: Width,
+    slots: u32,
+    told: &'static [Series],
+    change: (usize, u8),
+    cut: usize,
+}
+
+#[derive(Clone, Copy)]
+enum Width {
+    Wide,
+    Narrow,
+}
+
+/// The records of the units.
+fn records(alloc: Global, series: &Series) -> Option<Vec<u8>> {
+    let mut records = Vec::new(alloc);
+    for number in 0..series.count {
+        let (size, dts) = (series.size(number) as u32, series.dts(number));
+        if !push_record(&mut records, (0, size, dts, dts), series.byte(number)) {
+            return None;
+        }
+    }
+    Some(records)
+}
+
+/// What other slots of the small plan carry, before and after bytes FF: clock references, PAT and PMT in part, nothing.
+fn table(slot: u32) -> (&'static [u8], &'static [u8]) {
+    match slot % 120 {
+        1 | 25 | 49 | 73 | 97 => (
+            &[
+                0x47, 0x01, 0x01, 0x2f, 0xb7, 0x10, 0x00, 0x00, 0x00, 0x2f, 0x7e, 0xec,
+            ],
+            &[],
+        ),
+        2 => (
+            &[0x47, 0x40, 0x00, 0x30, 0xb3, 0x00],
+            &[0x00, 0x00, 0xb0, 0x0d],
+        ),
+        3 => (
+            &[0x47, 0x50, 0x00, 0x30, 0xb3, 0x00],
+            &[0x00, 0x02, 0xb0, 0x12],
+        ),
+        _ => (&[0x47, 0x1f, 0xff, 0x10], &[]),
+    }
+}
+
+/// The packet of a slot, of those of the units.
+fn packet(packets: &[[u8; 188]], width: Width, slot: u32) -> Option<&[u8; 188]> {
+    let width = match width {
+        Width::Wide => 24,
+        Width::Narrow => 16,
+    };
+    let (round, place) = (slot / width, slot % width);
+    if place % 4 == 0 && place < 16 {
+        packets.get((round * 4 + place / 4) as usize)
+    } else {
+        None
+    }
+}
+
+const FILLING: [u8; 188] = [0xff; 188];
+
+/// Appends the packet of a slot.
+fn push_slot(bytes: &mut Vec<u8>, packets: &[[u8; 188]], width: Width, slot: u32) -> bool {
+    match packet(packets, width, slot) {
+        Some(packet) => bytes.extend_from_slice(packet).is_ok(),
+        None => {
+            let (head, tail) = table(slot);
+            let filling = FILLING.get(head.len() + tail.len()..).unwrap_or(&[]);
+            push_parts(bytes, &[head, filling, tail])
+        }
+    }
+}
+
+/// The bytes of the run, before any is written over.
+fn sent(alloc: Global, run: &Run) -> Option<Vec<u8>> {
+    let records = records(alloc, &run.sent)?;
+    let (_, units, _, _) = carried(alloc, alloc, &records, false, NEVER, NEVER);
+    let (packets, _) = units.as_slice().as_chunks::<188>();
+    let mut bytes = Vec::new(alloc);
+    for slot in 0..run.slots {
+        if !push_slot(&mut bytes, packets, run.width, slot) {
+            return None;
+        }
+    }
+    Some(bytes)
+}
+
+/// The greatest fullness of the stream's and the program's buffers, and the first late unit.
+type Numbers = ([u64; 4], Option<LateUnit>);
+
+fn numbers<A: Allocator>(found: &Fullness<A>) -> Option<Numbers> {
+    match (found.streams.as_slice(), found.programs.as_slice()) {
+        ([stream], [program]) => Some((
+            [
+                stream.transport,
+                stream.main,
+                program.transport,
+                program.system,
+            ],
+            found.late,
+        )),
+        _ => None,
+    }
+}
+
+/// What is measured of bytes that carry these units.
+fn answer<A: Allocator + Clone>(
+    global: Global,
+    alloc: A,
+    told: &[Series],
+    bytes: &[u8],
+) -> Option<Result<Numbers, MeasureError>> {
+    let units = units(global, told)?;
+    let description = described(global, DESCRIPTION)?;
+    let found = measure(alloc, &description, &units, bytes);
+    drop(description);
+    match found {
+        Ok(found) => Some(Ok(numbers(&found)?)),
+        Err(error) => Some(Err(error)),
+    }
+}
+
+fn measured<A: Allocator + Clone>(
+    global: Global,
+    alloc: A,
+    run: &Run,
+) -> Option<Result<Numbers, MeasureError>> {
+    let (at, value) = run.change;
+    let bytes = changed(global, &sent(global, run)?, at, value)?;
+    let left = bytes.len().saturating_sub(run.cut);
+    answer(global, alloc, run.told, bytes.get(..left).unwrap_or(&[]))
+}
+
+/// One unit in 18 slots.
+const SHORT: Run = Run {
+    sent: ONE,
+    width: Width::Wide,
+    slots: 18,
+    told: &[ONE],
+    change: (0, 0x47),
+    cut: 0,
+};
+
+/// Its last byte leaves 1,170 units of 90 kHz after the start, less than one unit of time before it.
+const TIMELY: Series = Series {
+    first: 1_170,
+    ..ONE
+};
+
+const UNTIMELY: Series = Series {
+    first: 1_169,
+    ..ONE
+};
+
+const HUNDRED: Series = Series { count: 100, ..ONE };
+
+/// 42 times a hundred.
+const ALL: Series = Series {
+    count: 4_200,
+    ..ONE
+};
+
+/// Any two of them have four packets.
+const GROUPED: Series = Series {
+    sizes: [520, 150, 520, 150],
+    interval: 720,
+    count: 20,
+    ..ONE
+};
+
+const OTHER: Series = Series { stream: 1, ..ONE };
+
+const LONG: Series = Series {
+    sizes: [577; 4],
+    ..ONE
+};
+
+/// Runs, the fullness where it is known, and the first late unit or the refusal. A packet with the error indicator is left out.
+const RUNS: [(
+    Run,
+    Option<[u64; 4]>,
+    Result<Option<LateUnit>, MeasureError>,
+); 12] = [
+    (SHORT, Some([1, 590, 127, 346]), Ok(None)),
+    (
+        Run {
+            sent: TIMELY,
+            told: &[TIMELY],
+            slots: 13,
+            ..SHORT
+        },
+        None,
+        Ok(None),
+    ),
+    (
+        Run {
+            sent: UNTIMELY,
+            told: &[UNTIMELY],
+            slots: 13,
+            ..SHORT
+        },
+        None,
+        Ok(Some(LateUnit {
+            stream: 0,
+            number: 0,
+        })),
+    ),
+    (
+        Run {
+            sent: HUNDRED,
+            told: &[HUNDRED],
+            slots: 2_420,
+            ..SHORT
+        },
+        Some([1, 590, 127, 346]),
+        Ok(None),
+    ),
+    (
+        Run {
+            sent: ALL,
+            told: &[ALL],
+            slots: 100_800,
+            ..SHORT
+        },
+        Some([1, 590, 127, 346]),
+        Ok(None),
+    ),
+    (
+        Run {
+            sent: GROUPED,
+            told: &[GROUPED],
+            width: Width::Narrow,
+            slots: 200,
+            ..SHORT
+        },
+        Some([1, 882, 127, 346]),
+        Ok(None),
+    ),
+    (
+        Run {
+            told: &[],
+            slots: 1,
+            change: (1, 0xc1),
+            ..SHORT
+        },
+        Some([0; 4]),
+        Ok(None),
+    ),
+    (Run { cut: 1, ..SHORT }, None, Err(MeasureError::Length)),
+    (Run { told: &[], ..SHORT }, None, Err(MeasureError::Carried)),
+    (
+        Run {
+            told: &[OTHER],
+            ..SHORT
+        },
+        None,
+        Err(MeasureError::Carried),
+    ),
+    (
+        Run {
+            told: &[LONG],
+            ..SHORT
+        },
+        None,
+        Err(MeasureError::Carried),
+    ),
+    (
+        Run {
+            told: &[],
+            change: (376, 0x46),
+            ..SHORT
+        },
+        None,
+        Err(MeasureError::Packet(2, PacketError::Sync)),
+    ),
+];
+
+fn is_measured(
+    alloc: Global,
+    run: &Run,
+    full: Option<[u64; 4]>,
+    wanted: Result<Option<LateUnit>, MeasureError>,
+) -> Option<bool> {
+    match measured(alloc, alloc, run)? {
+        Ok((found, late)) => Some(Ok(late) == wanted && (full == None || full == Some(found))),
+        Err(error) => Some(Err(error) == wanted),
+    }
+}
+
+#[test]
+fn runs_are_measured(rt: HostRuntime) {
+    for (run, full, wanted) in &RUNS {
+        assert!(rt; is_measured(rt.alloc(), run, *full, *wanted) == Some(true));
+    }
+}
+
+/// Whether the run of one unit is measured in so much room; None where there is another answer than Memory.
+pub fn is_measured_in(global: Global, room: usize) -> Option<bool> {
+    let heap = LocalHeap::new(global, room).ok()?;
+    match measured(global, &heap, &SHORT)? {
+        Ok(([1, 590, 127, 346], None)) => Some(true),
+        Err(MeasureError::Memory) => Some(false),
+        _ => None,
+    }
+}

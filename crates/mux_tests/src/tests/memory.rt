@@ -1,0 +1,79 @@
+//! Heaps of rising sizes: each public call that takes memory gives its own answer or wants memory, and gives no other.
+
+use super::carrying::is_carried_in;
+use super::jobs::{DOUBLE, SINGLE, is_written_in};
+use super::making::{are_reasons_in, is_made_in};
+use super::measuring::is_measured_in;
+use super::plan_texts;
+use super::runs::{are_driven_in, is_begun_in};
+use std::alloc::Global;
+
+enum Call {
+    Carry,
+    ReadText,
+    WriteText,
+    Make,
+    Reasons,
+    Measure,
+    New,
+    WithSwitch,
+    Drive,
+    Multiplex,
+    MultiplexSwitch,
+}
+
+/// Whether the call gives its answer in so much room; None where it gives another.
+fn is_answered(alloc: Global, call: &Call, room: usize) -> Option<bool> {
+    match call {
+        Call::Carry => is_carried_in(alloc, room),
+        Call::ReadText => plan_texts::is_read_in(alloc, room),
+        Call::WriteText => plan_texts::is_written_in(alloc, room),
+        Call::Make => is_made_in(alloc, room),
+        Call::Reasons => are_reasons_in(alloc, room),
+        Call::Measure => is_measured_in(alloc, room),
+        Call::New => is_begun_in(alloc, None, room),
+        Call::WithSwitch => is_begun_in(alloc, Some(1), room),
+        Call::Drive => are_driven_in(alloc, room),
+        Call::Multiplex => is_written_in(alloc, &SINGLE, room),
+        Call::MultiplexSwitch => is_written_in(alloc, &DOUBLE, room),
+    }
+}
+
+/// A call, the least room, how much more each heap has, how many heaps there are, and the least and the most in which the call
+/// gives its answer.
+const ROOMS: [(Call, usize, usize, usize, usize, usize); 13] = [
+    (Call::Carry, 65_600, 16, 64, 1, 63),
+    (Call::ReadText, 16, 16, 255, 1, 249),
+    (Call::WriteText, 16, 16, 255, 1, 249),
+    (Call::Make, 64, 64, 511, 1, 506),
+    (Call::Reasons, 0, 16, 64, 1, 63),
+    (Call::Measure, 64, 16, 64, 1, 63),
+    (Call::New, 0, 256, 320, 1, 69),
+    (Call::WithSwitch, 0, 256, 320, 1, 69),
+    (Call::Drive, 256, 256, 63, 1, 62),
+    (Call::Multiplex, 0, 16, 64, 0, 0),
+    (Call::Multiplex, 0, 4_096, 64, 1, 62),
+    (Call::MultiplexSwitch, 0, 16, 64, 0, 0),
+    (Call::MultiplexSwitch, 0, 4_096, 64, 1, 62),
+];
+
+/// In how many of these heaps the call gives its answer; None where another is given.
+fn answers(alloc: Global, call: &Call, least: usize, more: usize, heaps: usize) -> Option<usize> {
+    let mut answers = 0usize;
+    let mut room = least;
+    for _ in 0..heaps {
+        if is_answered(alloc, call, room)? {
+            answers = answers.saturating_add(1);
+        }
+        room = room.saturating_add(more);
+    }
+    Some(answers)
+}
+
+#[test]
+fn memory_is_refused(rt: HostRuntime) {
+    for (call, room, more, heaps, least, most) in &ROOMS {
+        let answers = answers(rt.alloc(), call, *room, *more, *heaps).unwrap_or(usize::MAX);
+        assert!(rt; *least <= answers && answers <= *most);
+    }
+}

@@ -1,0 +1,291 @@
+//! The text of a small plan, both ways, the limits of plans, and the greatest plan.
+
+use super::texts::PLAN;
+use super::{changed, edited, planned};
+use linked_list_allocator::LocalHeap;
+use slot_plan::{
+    Certificate, Item, Plan, PlanError, PlanTextError, ProgramEntry, Slot, StreamEntry, laws,
+};
+use std::alloc::Global;
+
+/// How many bytes of the text are read, and the slots, streams and programs of the plan.
+type Shape = (usize, usize, usize, usize);
+
+/// Whether this is the plan's text.
+fn is_text(alloc: Global, plan: &Plan, text: &[u8]) -> bool {
+    match plan.write_text(alloc) {
+        Ok(written) => written.as_bytes() == text,
+        Err(_) => false,
+    }
+}
+
+fn shape_of(plan: &Plan, bytes: usize) -> Shape {
+    let certificate = plan.certificate();
+    let (streams, programs) = (&certificate.streams, &certificate.programs);
+    (bytes, plan.slots().len(), streams.len(), programs.len())
+}
+
+/// What the text gives, or the line that is refused; None where memory is wanting, or the plan has another text.
+fn reading(alloc: Global, text: &[u8]) -> Option<Result<Shape, u32>> {
+    match Plan::read_text(alloc, text) {
+        Ok((plan, bytes)) => {
+            let is_text = is_text(alloc, &plan, text.get(..bytes).unwrap_or(&[]));
+            let shape = shape_of(&plan, bytes);
+            drop(plan);
+            if is_text { Some(Ok(shape)) } else { None }
+        }
+        Err(PlanTextError::Line(line)) => Some(Err(line)),
+        Err(PlanTextError::Memory) => None,
+    }
+}
+
+/// The small plan's.
+const SHAPE: Shape = (PLAN.len(), 120, 1, 1);
+
+/// A part of the small plan, what stands in its place, and how it is read.
+const EDITED: [(&str, &str, Result<Shape, u32>); 25] = [
+    ("tsplan 1", "tsplan 1", Ok(SHAPE)),
+    ("end\n", "end\nbytes of units", Ok(SHAPE)),
+    ("tsplan 1", "tsplan 2", Err(1)),
+    ("period 120", "period 0120", Err(2)),
+    ("period 120", "period  120", Err(2)),
+    ("period 120", "period 100000", Err(2)),
+    ("period 120", "period 121", Err(8)),
+    ("period 120", "period 119", Err(7)),
+    ("T5 - -", "T256 - -", Err(3)),
+    ("T5 - -", "T05 - -", Err(3)),
+    ("T5 - -", "T5  - -", Err(3)),
+    ("stream 0", "stream 1", Err(8)),
+    ("spread 0", "spread 1000000000000000000", Err(8)),
+    ("spread 0", "spread 00", Err(8)),
+    ("282752000", "282752000 ", Err(8)),
+    ("program 0", "program 1", Err(9)),
+    ("bpeak", "speak", Err(9)),
+    ("end", "END", Err(10)),
+    ("end\n", "end", Err(10)),
+    ("end\n", "end\r\n", Err(10)),
+    ("end\n", "", Err(10)),
+    (PLAN, "tsplan 1\nperiod 120\n", Err(3)),
+    (PLAN, "tsplan 1\nperiod 120", Err(2)),
+    (PLAN, "", Err(1)),
+    (PLAN, "tsplan 1\nperiod 0\nend\n", Ok((22, 0, 0, 0))),
+];
+
+fn is_read(alloc: Global, row: &(&str, &str, Result<Shape, u32>)) -> Option<bool> {
+    let (part, other, wanted) = *row;
+    let text = edited(alloc, PLAN, part, other)?;
+    Some(reading(alloc, text.as_bytes()) == Some(wanted))
+}
+
+#[test]
+fn first_bad_lines(rt: HostRuntime) {
+    for row in &EDITED {
+        assert!(rt; is_read(rt.alloc(), row) == Some(true));
+    }
+}
+
+#[test]
+fn each_cut_is_refused(rt: HostRuntime) {
+    let mut line = 1;
+    for (length, byte) in PLAN.as_bytes().iter().enumerate() {
+        let front = PLAN.as_bytes().get(..length).unwrap_or(&[]);
+        assert!(rt; reading(rt.alloc(), front) == Some(Err(line)));
+        if *byte == b'\n' {
+            line = line.saturating_add(1);
+        }
+    }
+}
+
+/// What stands in place of a byte.
+const OTHER_BYTES: [u8; 11] = [
+    0, b'\n', b' ', b'-', b'0', b'1', b'9', b'S', 0x7f, 0x80, 0xff,
+];
+
+/// Whether each change of this byte of the plan is told, or makes the text of another plan.
+fn are_changes_told(alloc: Global, place: usize) -> Option<bool> {
+    for byte in &OTHER_BYTES {
+        let text = changed(alloc, PLAN.as_bytes(), place, *byte)?;
+        if reading(alloc, &text) == None {
+            return None;
+        }
+    }
+    Some(true)
+}
+
+#[test]
+fn each_change_is_told(rt: HostRuntime) {
+    for place in 0..PLAN.len() {
+        assert!(rt; are_changes_told(rt.alloc(), place) == Some(true));
+    }
+}
+
+/// Four slots of the small plan.
+const SLOTS: [(usize, Slot); 4] = [
+    (0, Slot::Stream(0)),
+    (9, Slot::Table(5)),
+    (97, Slot::Pcr(0)),
+    (119, Slot::Null),
+];
+
+/// The spread, start and peak of its stream.
+fn has_entry(plan: &Plan) -> bool {
+    match plan.certificate().streams.first() {
+        Some(entry) => entry.spread == 0 && entry.start == 0 && entry.peak == 282_752_000,
+        None => false,
+    }
+}
+
+fn has_slots(plan: &Plan) -> bool {
+    for (at, slot) in &SLOTS {
+        if plan.slots().get(*at) != Some(slot) {
+            return false;
+        }
+    }
+    true
+}
+
+fn is_small(alloc: Global) -> Option<bool> {
+    let plan = planned(alloc, PLAN)?;
+    let found = has_slots(&plan) && has_entry(&plan);
+    drop(plan);
+    Some(found)
+}
+
+#[test]
+fn small_plan(rt: HostRuntime) {
+    assert!(rt; is_small(rt.alloc()) == Some(true));
+    laws::plan_text();
+    laws::own_slots();
+}
+
+/// Entries of this number.
+fn certificate(alloc: Global, streams: usize, programs: usize, number: u64) -> Option<Certificate> {
+    let stream = StreamEntry {
+        spread: 0,
+        start: 0,
+        peak: number,
+    };
+    let program = ProgramEntry {
+        transport_start: 0,
+        transport_peak: 0,
+        system_start: 0,
+        system_peak: number,
+    };
+    let streams = vec![in alloc; stream; streams].ok()?;
+    let programs = vec![in alloc; program; programs].ok()?;
+    Some(Certificate { streams, programs })
+}
+
+/// A number that no entry may reach.
+const END: u64 = 1_000_000_000_000_000_000;
+
+/// A slot, how often it stands, streams, programs and a number of their entries, and why there is no such plan.
+type Limit = (Slot, usize, usize, usize, u64, Option<PlanError>);
+
+/// The first three are greatest plans.
+const LIMITS: [Limit; 8] = [
+    (Slot::Null, 99_999, 256, 256, END - 1, None),
+    (Slot::Stream(255), 99_999, 256, 256, END - 1, None),
+    (Slot::Table(255), 99_999, 256, 256, END - 1, None),
+    (Slot::Null, 100_000, 257, 256, END, Some(PlanError::Slots)),
+    (Slot::Null, 1, 257, 0, END, Some(PlanError::Entries)),
+    (Slot::Null, 1, 0, 257, 0, Some(PlanError::Entries)),
+    (Slot::Null, 1, 1, 0, END, Some(PlanError::Number)),
+    (Slot::Null, 1, 0, 1, END, Some(PlanError::Number)),
+];
+
+/// The text of such a plan, or why there is none.
+fn written(
+    alloc: Global,
+    made: Result<Plan, (PlanError, Vec<Slot>, Certificate)>,
+) -> Option<Result<String, PlanError>> {
+    match made {
+        Ok(plan) => {
+            let text = plan.write_text(alloc);
+            drop(plan);
+            match text {
+                Ok(text) => Some(Ok(text)),
+                Err(_) => None,
+            }
+        }
+        Err((error, slots, certificate)) => {
+            drop(slots);
+            drop(certificate);
+            Some(Err(error))
+        }
+    }
+}
+
+/// Whether there is such a plan, whose text is read again, or this error.
+fn is_limit(alloc: Global, row: &Limit) -> Option<bool> {
+    let (slot, count, streams, programs, number, wanted) = *row;
+    let slots = vec![in alloc; slot; count].ok()?;
+    let certificate = certificate(alloc, streams, programs, number)?;
+    match written(alloc, Plan::new(slots, certificate))? {
+        Ok(text) => {
+            let shape = (text.as_bytes().len(), count, streams, programs);
+            Some(wanted == None && reading(alloc, text.as_bytes()) == Some(Ok(shape)))
+        }
+        Err(error) => Some(wanted == Some(error)),
+    }
+}
+
+#[test]
+fn limits_of_plans(rt: HostRuntime) {
+    for row in &LIMITS {
+        assert!(rt; is_limit(rt.alloc(), row) == Some(true));
+    }
+}
+
+/// Items and slots, and whether the slot is the item's own.
+const OWNERS: [(Item, Slot, bool); 8] = [
+    (Item::Stream(3), Slot::Stream(3), true),
+    (Item::Stream(3), Slot::Pcr(3), false),
+    (Item::Pcr(3), Slot::Pcr(3), true),
+    (Item::Table(3), Slot::Table(3), true),
+    (Item::System(2), Slot::Table(0), true),
+    (Item::System(2), Slot::Table(3), true),
+    (Item::System(2), Slot::Table(2), false),
+    (Item::System(2), Slot::Null, false),
+];
+
+#[test]
+fn owners(rt: HostRuntime) {
+    for (item, slot, wanted) in &OWNERS {
+        assert!(rt; item.owns(*slot) == *wanted);
+    }
+}
+
+/// Whether the small plan is read in so much room; None where there is another answer than Memory.
+pub fn is_read_in(global: Global, room: usize) -> Option<bool> {
+    let heap = LocalHeap::new(global, room).ok()?;
+    match Plan::read_text(&heap, PLAN.as_bytes()) {
+        Ok((plan, bytes)) => {
+            let slots = plan.slots().len();
+            drop(plan);
+            if bytes == PLAN.len() && slots == 120 {
+                Some(true)
+            } else {
+                None
+            }
+        }
+        Err(PlanTextError::Memory) => Some(false),
+        Err(PlanTextError::Line(_)) => None,
+    }
+}
+
+/// Whether its text is written in so much room; None where it is another text.
+pub fn is_written_in(global: Global, room: usize) -> Option<bool> {
+    let heap = LocalHeap::new(global, room).ok()?;
+    let plan = planned(global, PLAN)?;
+    let text = plan.write_text(&heap);
+    drop(plan);
+    match text {
+        Ok(text) => if text.as_str() == PLAN {
+            Some(true)
+        } else {
+            None
+        },
+        Err(_) => Some(false),
+    }
+}

@@ -1,0 +1,182 @@
+//! Services of one plan or two, and the units of their streams.
+
+use super::texts::{DESCRIPTION, PLAN, RADIO, TURNED_PLAN, TURNED_TWO, TWO_PLAN, TWO_PROGRAMS};
+use super::{checked, edited, followed};
+use mux_core::Unit;
+use plan_checker::{CheckedPlan, CheckedSwitch};
+use std::alloc::{Allocator, Global};
+
+/// A description in which another part stands in place of one, its plan, and a plan that may follow it.
+#[derive(Drop)]
+pub struct Service {
+    pub description: &'static str,
+    pub part: &'static str,
+    pub other: &'static str,
+    pub plan: &'static str,
+    pub second: &'static str,
+}
+
+pub const SMALL: Service = Service {
+    description: DESCRIPTION,
+    part: "rate",
+    other: "rate",
+    plan: PLAN,
+    second: PLAN,
+};
+
+/// Its lead is long enough for the plan turned by a slot.
+pub const PATIENT: Service = Service {
+    description: DESCRIPTION,
+    part: "lead = 1600",
+    other: "lead = 1688",
+    plan: PLAN,
+    second: TURNED_PLAN,
+};
+
+/// Any two units in a row have at most six packets.
+pub const GROUPED: Service = Service {
+    description: DESCRIPTION,
+    part: "lead = 1600",
+    other: "lead = 1600\ngroup = 2\ngroup_packets = 6",
+    plan: PLAN,
+    second: PLAN,
+};
+
+/// The greatest group: its units take the most memory.
+pub const WIDE: Service = Service {
+    description: DESCRIPTION,
+    part: "lead = 1600",
+    other: "lead = 1600\ngroup = 64\ngroup_packets = 256",
+    plan: PLAN,
+    second: PLAN,
+};
+
+/// The clock begins 92 units of 90 kHz before the end of its base.
+pub const LATE_CLOCK: Service = Service {
+    description: DESCRIPTION,
+    part: "ts_id = 1",
+    other: "base0 = 8589934500\nts_id = 1",
+    plan: PLAN,
+    second: PLAN,
+};
+
+pub const TWO: Service = Service {
+    description: TWO_PROGRAMS,
+    part: "rate",
+    other: "rate",
+    plan: TWO_PLAN,
+    second: TURNED_TWO,
+};
+
+pub const EXAMPLE: Service = Service {
+    description: RADIO,
+    part: "rate",
+    other: "rate",
+    plan: PLAN,
+    second: PLAN,
+};
+
+impl Service {
+    /// The plan for the description.
+    pub fn checked<A: Allocator + Clone>(
+        &self,
+        global: Global,
+        alloc: A,
+    ) -> Option<CheckedPlan<A>> {
+        let text = edited(global, self.description, self.part, self.other)?;
+        checked(global, alloc, text.as_str(), self.plan)
+    }
+
+    /// The plan, and then the second.
+    pub fn switched<A: Allocator + Copy>(
+        &self,
+        global: Global,
+        alloc: A,
+    ) -> Option<CheckedSwitch<A>> {
+        let first = self.checked(global, alloc)?;
+        followed(alloc, first, self.second)
+    }
+}
+
+/// Units of a stream: their sizes in turn, the first DTS, how far apart they are, how long after its DTS each is presented,
+/// and the bytes of the first; those of each next one are one more.
+#[derive(Drop)]
+pub struct Series {
+    pub stream: u8,
+    pub sizes: [u16; 4],
+    pub first: u64,
+    pub interval: u64,
+    pub delay: u64,
+    pub count: u16,
+    pub byte: u8,
+}
+
+impl Series {
+    pub fn size(&self, number: u16) -> u16 {
+        self.sizes[number as usize % 4]
+    }
+
+    pub fn dts(&self, number: u16) -> u64 {
+        self.first
+            .saturating_add((number as u64).saturating_mul(self.interval))
+    }
+
+    pub fn pts(&self, number: u16) -> u64 {
+        self.dts(number).saturating_add(self.delay)
+    }
+
+    pub fn byte(&self, number: u16) -> u8 {
+        self.byte.wrapping_add((number % 256) as u8)
+    }
+
+    fn unit<A: Allocator>(&self, alloc: A, number: u16) -> Option<Unit<A>> {
+        unit(
+            alloc,
+            self.size(number) as usize,
+            self.dts(number),
+            self.pts(number),
+            self.byte(number),
+        )
+    }
+
+    // All its units.
+    fn append_to<A: Allocator + Copy>(
+        &self,
+        alloc: A,
+        units: &mut Vec<(u8, Unit<A>), A>,
+    ) -> Option<()> {
+        for number in 0..self.count {
+            let unit = self.unit(alloc, number)?;
+            if units.push((self.stream, unit)).is_err() {
+                return None;
+            }
+        }
+        Some(())
+    }
+}
+
+/// A unit of so many equal bytes.
+pub fn unit<A: Allocator>(alloc: A, size: usize, dts: u64, pts: u64, byte: u8) -> Option<Unit<A>> {
+    let bytes = vec![in alloc; byte; size].ok()?;
+    Some(Unit { dts, pts, bytes })
+}
+
+/// All units of these series.
+pub fn units<A: Allocator + Copy>(alloc: A, all: &[Series]) -> Option<Vec<(u8, Unit<A>), A>> {
+    let mut units = Vec::new(alloc);
+    for series in all {
+        series.append_to(alloc, &mut units)?;
+    }
+    Some(units)
+}
+
+/// A unit of stream 0, of 576 bytes A5.
+pub const ONE: Series = Series {
+    stream: 0,
+    sizes: [576; 4],
+    first: 1_600,
+    interval: 2_160,
+    delay: 0,
+    count: 1,
+    byte: 0xa5,
+};

@@ -1,0 +1,403 @@
+//! Worked streams. What is expected was worked out by hand from the rules of the standard.
+
+mod limits;
+mod memory;
+mod rows;
+
+use super::packets::{Packet, packet_of, stream_of};
+use demux::{Demux, DemuxError, Finding, Kind, Part, What, whole};
+use rows::{Row, are_rows};
+use std::alloc::{Allocator, Global};
+
+// A packet of PID 256 with a PES packet of three bytes, 41 42 43, with PTS 90,000, after stuffing; and with 44 for 43.
+const PES: Packet = (
+    &[0x47, 0x41, 0x00, 0x30, 0xA6, 0x00],
+    0xFF,
+    &[
+        0x00, 0x00, 0x01, 0xC0, 0x00, 0x0B, 0x80, 0x80, 0x05, 0x21, 0x00, 0x05, 0xBF, 0x21, 0x41,
+        0x42, 0x43,
+    ],
+);
+
+const OTHER: Packet = (
+    &[0x47, 0x41, 0x00, 0x30, 0xA6, 0x00],
+    0xFF,
+    &[
+        0x00, 0x00, 0x01, 0xC0, 0x00, 0x0B, 0x80, 0x80, 0x05, 0x21, 0x00, 0x05, 0xBF, 0x21, 0x41,
+        0x42, 0x44,
+    ],
+);
+
+// A packet of PID 0 with a whole program association section; the first ten bytes of it, after stuffing; and the others.
+const PAT: Packet = (
+    &[
+        0x47, 0x40, 0x00, 0x10, 0x00, 0x00, 0xB0, 0x0D, 0x00, 0x01, 0xC1, 0x00, 0x00, 0x00, 0x01,
+        0xF0, 0x00, 0x2A, 0xB1, 0x04, 0xB2,
+    ],
+    0xFF,
+    &[],
+);
+
+const FIRST: Packet = (
+    &[0x47, 0x40, 0x00, 0x31, 0xAC, 0x00],
+    0xFF,
+    &[
+        0x00, 0x00, 0xB0, 0x0D, 0x00, 0x01, 0xC1, 0x00, 0x00, 0x00, 0x01,
+    ],
+);
+
+const SECOND: Packet = (
+    &[0x47, 0x00, 0x00, 0x12, 0xF0, 0x00, 0x2A, 0xB1, 0x04, 0xB2],
+    0xFF,
+    &[],
+);
+
+// Packets of PID 257 full of payload bytes A5: PES packets without a length begin in the first and the third.
+const LONG: Packet = (
+    &[
+        0x47, 0x41, 0x01, 0x10, 0x00, 0x00, 0x01, 0xE0, 0x00, 0x00, 0x80, 0x00, 0x00,
+    ],
+    0xA5,
+    &[],
+);
+
+const MORE: Packet = (&[0x47, 0x01, 0x01, 0x11], 0xA5, &[]);
+
+const AGAIN: Packet = (
+    &[
+        0x47, 0x41, 0x01, 0x12, 0x00, 0x00, 0x01, 0xE0, 0x00, 0x00, 0x80, 0x00, 0x00,
+    ],
+    0xA5,
+    &[],
+);
+
+// A wrong check word, a null packet, a packet with transport_error_indicator, no packet, a scrambled one, and one whose
+// pointer_field points past the end.
+const DAMAGED: [Packet; 6] = [
+    (
+        &[
+            0x47, 0x40, 0x00, 0x10, 0x00, 0x00, 0xB0, 0x0D, 0x00, 0x01, 0xC1, 0x00, 0x00, 0x00,
+            0x01, 0xF0, 0x00, 0x2A, 0xB1, 0x04, 0xB3,
+        ],
+        0xFF,
+        &[],
+    ),
+    (&[0x47, 0x1F, 0xFF, 0x10, 0x00, 0x00, 0xB0, 0x0D], 0xFF, &[]),
+    (&[0x47, 0x9F, 0xFF, 0x10, 0x00, 0x00, 0xB0, 0x0D], 0xFF, &[]),
+    (&[0x46, 0x9F, 0xFF, 0x10, 0x00, 0x00, 0xB0, 0x0D], 0xFF, &[]),
+    (&[0x47, 0x40, 0x00, 0x51, 0x00, 0x00, 0xB0, 0x0D], 0xFF, &[]),
+    (&[0x47, 0x40, 0x00, 0x12, 184, 0x00, 0xB0, 0x0D], 0xFF, &[]),
+];
+
+// The PES packet of PID 256 where it begins in packet 0, in 1 and in 2.
+const PES_AT_0: Row = (
+    0,
+    Some(256),
+    ("pes", [192, 0, 3]),
+    Some((0, Kind::Pes(true))),
+);
+
+const PES_AT_1: Row = (
+    1,
+    Some(256),
+    ("pes", [192, 0, 3]),
+    Some((1, Kind::Pes(true))),
+);
+
+const PES_AT_2: Row = (
+    2,
+    Some(256),
+    ("pes", [192, 0, 3]),
+    Some((2, Kind::Pes(true))),
+);
+
+const DUPLICATE: Row = (1, Some(256), ("duplicate", [0; 3]), None);
+
+const BREAK: Row = (2, Some(256), ("counter", [1, 0, 0]), None);
+
+// A stream: its packets, the bytes cut off its end, and its findings.
+type Stream = (&'static [Packet], usize, &'static [Row]);
+
+const STREAMS: [Stream; 6] = [
+    // The worked packet, the same again, the same with another last byte, and 100 bytes of one more.
+    (
+        &[PES, PES, OTHER, PES],
+        88,
+        &[
+            PES_AT_0,
+            DUPLICATE,
+            BREAK,
+            PES_AT_2,
+            (3, None, ("truncated", [100, 0, 0]), None),
+        ],
+    ),
+    // A packet is repeated once. The third one alike breaks the counter, and the fourth repeats it.
+    (
+        &[PES, PES, PES, PES],
+        0,
+        &[
+            PES_AT_0,
+            DUPLICATE,
+            BREAK,
+            PES_AT_2,
+            (3, Some(256), ("duplicate", [0; 3]), None),
+        ],
+    ),
+    // A section in one packet, and in two: then it is found at the second.
+    (
+        &[PAT],
+        0,
+        &[(
+            0,
+            Some(0),
+            ("section", [16, 0, 0]),
+            Some((0, Kind::Table(0))),
+        )],
+    ),
+    (
+        &[FIRST, SECOND],
+        0,
+        &[(
+            1,
+            Some(0),
+            ("section", [16, 0, 0]),
+            Some((0, Kind::Table(0))),
+        )],
+    ),
+    (
+        &DAMAGED,
+        0,
+        &[
+            (
+                0,
+                Some(0),
+                ("bad section", [3, 0, 0]),
+                Some((0, Kind::Table(0))),
+            ),
+            (2, None, ("errored", [0; 3]), None),
+            (3, None, ("bad packet", [1, 0, 0]), None),
+            (4, Some(0), ("scrambled", [0; 3]), None),
+            (5, Some(0), ("bad section", [5, 0, 0]), None),
+        ],
+    ),
+    // A PES packet without a length ends where the next begins, or with the stream; a packet of another PID ends none.
+    (
+        &[LONG, PES, MORE, AGAIN],
+        0,
+        &[
+            PES_AT_1,
+            (
+                3,
+                Some(257),
+                ("pes", [224, 0, 359]),
+                Some((0, Kind::Pes(false))),
+            ),
+            (
+                4,
+                Some(257),
+                ("pes", [224, 1, 175]),
+                Some((3, Kind::Pes(false))),
+            ),
+        ],
+    ),
+];
+
+fn bytes_of(alloc: Global, stream: &Stream) -> Option<Vec<u8>> {
+    let (packets, cut, _) = *stream;
+    let mut bytes = stream_of(alloc, packets).ok()?;
+    bytes.truncate(bytes.len().saturating_sub(cut));
+    Some(bytes)
+}
+
+// Pushes a piece.
+fn push<A: Allocator + Copy>(demux: &mut Demux<A>, piece: &[u8]) -> Result<(), DemuxError> {
+    demux.push(piece)
+}
+
+// Ends the stream.
+fn finish<A: Allocator + Copy>(demux: &mut Demux<A>) -> bool {
+    demux.finish().is_ok()
+}
+
+// Takes a packet, where no part of one is held. None where one is.
+fn take<'a, A: Allocator + Copy>(
+    demux: &mut Demux<A>,
+    packet: &'a [u8; 188],
+    found: &mut Vec<Finding<'a, A>, A>,
+) -> Option<Result<(), DemuxError>> {
+    if demux.aligned() {
+        Some(demux.take(packet, found))
+    } else {
+        None
+    }
+}
+
+// Pushes a stream in pieces of this size, and ends it.
+fn push_pieces(demux: &mut Demux, bytes: &[u8], size: usize) -> bool {
+    for piece in bytes.chunks(size.max(1)) {
+        if push(demux, piece).is_err() {
+            return false;
+        }
+    }
+    finish(demux)
+}
+
+// Whether that is found in pieces of this size.
+fn is_found_in(alloc: Global, bytes: &[u8], size: usize, rows: &[Row]) -> bool {
+    let mut demux = Demux::new(alloc);
+    let is_found = push_pieces(&mut demux, bytes, size) && are_rows(demux.findings(), rows);
+    drop(demux);
+    is_found
+}
+
+fn is_found_whole(alloc: Global, bytes: &[u8], rows: &[Row]) -> bool {
+    match whole(alloc, bytes) {
+        Ok(found) => are_rows(&found, rows),
+        Err(_) => false,
+    }
+}
+
+// Takes the packets of a stream one by one, and pushes what is left of it.
+fn take_each<'a>(demux: &mut Demux, bytes: &'a [u8], found: &mut Vec<Finding<'a>>) -> bool {
+    let (packets, rest) = bytes.as_chunks::<188>();
+    for packet in packets {
+        if take(demux, packet, found) != Some(Ok(())) {
+            return false;
+        }
+    }
+    push_pieces(demux, rest, 188)
+}
+
+// Whether that is found packet by packet: what the end of the stream decides comes last.
+fn is_found_by_packet(alloc: Global, bytes: &[u8], rows: &[Row]) -> bool {
+    let mut demux = Demux::new(alloc);
+    let mut found = Vec::new(alloc);
+    let taken = take_each(&mut demux, bytes, &mut found);
+    let (first, last) = rows.split_at(found.len().min(rows.len()));
+    let is_found = taken && are_rows(&found, first) && are_rows(demux.findings(), last);
+    drop(demux);
+    is_found
+}
+
+const SIZES: [usize; 7] = [1, 7, 50, 187, 188, 189, 664];
+
+fn is_found(alloc: Global, stream: &Stream) -> bool {
+    let Some(bytes) = bytes_of(alloc, stream) else {
+        return false;
+    };
+    for size in SIZES {
+        if !is_found_in(alloc, &bytes, size, stream.2) {
+            return false;
+        }
+    }
+    is_found_whole(alloc, &bytes, stream.2) && is_found_by_packet(alloc, &bytes, stream.2)
+}
+
+#[test]
+fn streams_in_any_pieces(rt: HostRuntime) {
+    for stream in &STREAMS {
+        assert!(rt; is_found(rt.alloc(), stream));
+    }
+}
+
+// Whether a finding is the PES packet, or the section, a slice of its packet or joined from two.
+fn is_part(finding: &Finding<'_>, slice: bool, wanted: &[u8]) -> bool {
+    match &finding.what {
+        What::Pes {
+            body: Part::Span(bytes),
+            ..
+        } => slice && *bytes == wanted,
+        What::Section(Part::Span(bytes)) => slice && *bytes == wanted,
+        What::Section(Part::Joined(bytes)) => !slice && bytes.as_slice() == wanted,
+        _ => false,
+    }
+}
+
+const SECTION: [u8; 16] = [
+    0x00, 0xB0, 0x0D, 0x00, 0x01, 0xC1, 0x00, 0x00, 0x00, 0x01, 0xF0, 0x00, 0x2A, 0xB1, 0x04, 0xB2,
+];
+
+// Packets in which one thing is found, whether it is a slice of its packet, and its bytes.
+const PARTS: [(&[Packet], bool, &[u8]); 3] = [
+    (&[PES], true, &[0x41, 0x42, 0x43]),
+    (&[PAT], true, &SECTION),
+    (&[FIRST, SECOND], false, &SECTION),
+];
+
+fn is_one_part(alloc: Global, bytes: &[u8], slice: bool, wanted: &[u8]) -> bool {
+    let mut demux = Demux::new(alloc);
+    let mut found = Vec::new(alloc);
+    let taken = take_each(&mut demux, bytes, &mut found);
+    drop(demux);
+    match found.as_slice() {
+        [finding] => taken && is_part(finding, slice, wanted),
+        _ => false,
+    }
+}
+
+fn are_parts(alloc: Global) -> bool {
+    for (packets, slice, wanted) in &PARTS {
+        match stream_of(alloc, packets) {
+            Ok(bytes) if is_one_part(alloc, &bytes, *slice, wanted) => {}
+            _ => return false,
+        }
+    }
+    true
+}
+
+#[test]
+fn slices_of_packets(rt: HostRuntime) {
+    assert!(rt; are_parts(rt.alloc()));
+}
+
+// Pushes a packet in two parts; whether a part is held only between them.
+fn push_parts(demux: &mut Demux, packet: &[u8; 188]) -> bool {
+    let first = push(demux, &packet[..100]);
+    let between = demux.aligned();
+    let second = push(demux, &packet[100..]);
+    first.is_ok() && second.is_ok() && !between && demux.aligned()
+}
+
+// Takes a packet, and pushes it in two parts: what is taken goes to `found` alone. After the end nothing is taken.
+fn take_and_push(alloc: Global, demux: &mut Demux, packet: &[u8; 188]) -> bool {
+    let mut found = Vec::new(alloc);
+    let taken = take(demux, packet, &mut found) == Some(Ok(())) && demux.findings().is_empty();
+    let pushed = push_parts(demux, packet) && finish(demux);
+    let ended = take(demux, packet, &mut found) == Some(Err(DemuxError::Ended));
+    taken && pushed && ended && are_rows(&found, &[PES_AT_0])
+}
+
+// What is forgotten is gone.
+fn forget(demux: &mut Demux) -> bool {
+    let is_told = are_rows(demux.findings(), &[DUPLICATE]);
+    demux.forget_findings();
+    is_told && demux.findings().is_empty()
+}
+
+#[test]
+fn packets_taken_and_pushed(rt: HostRuntime) {
+    let mut demux = Demux::new(rt.alloc());
+    let taken = take_and_push(rt.alloc(), &mut demux, &packet_of(&PES));
+    let forgotten = forget(&mut demux);
+    drop(demux);
+    assert!(rt; taken && forgotten);
+}
+
+// How many findings there are once the stream has ended, and more is refused.
+fn end(demux: &mut Demux) -> usize {
+    if finish(demux) && push(demux, &[0x47]) == Err(DemuxError::Ended) {
+        demux.findings().len()
+    } else {
+        9
+    }
+}
+
+// A stream may be ended twice, of which the second end finds nothing.
+#[test]
+fn an_end(rt: HostRuntime) {
+    let mut demux = Demux::new(rt.alloc());
+    let pushed = push(&mut demux, &packet_of(&LONG)).is_ok() && demux.findings().is_empty();
+    let counts = (end(&mut demux), end(&mut demux));
+    drop(demux);
+    assert!(rt; pushed && counts == (1, 1) && DemuxError::Ended.code() == 2);
+}

@@ -1,0 +1,90 @@
+//! What the readers answer: refusals by hand, and each beginning and each changed byte of worked inputs, beside a plain reading.
+
+mod plain;
+mod readers;
+mod rows;
+
+use super::packet_of;
+use psi_tables::Section;
+use readers::{answer, section_over, table_code};
+use rows::{DAMAGED, LONG_TABLES, READERS, REFUSED, TABLES};
+
+#[test]
+fn bytes_are_refused(rt: HostRuntime) {
+    for (reader, bytes, wanted) in REFUSED {
+        assert!(rt; answer(reader, bytes) == wanted);
+    }
+}
+
+/// The number of a reader's refusal of a section's bytes, 99 where they are none.
+fn code_of_bytes(reader: u8, bytes: &[u8]) -> u8 {
+    match Section::read(bytes) {
+        Ok((section, _)) => table_code(reader, &section),
+        Err(_) => 99,
+    }
+}
+
+/// Each reader refuses the sections of other tables.
+#[test]
+fn tables_are_refused(rt: HostRuntime) {
+    for (bytes, code) in TABLES {
+        for reader in READERS {
+            let wanted = if bytes.first() == Some(&reader) {
+                code
+            } else {
+                4
+            };
+            assert!(rt; code_of_bytes(reader, bytes) == wanted);
+        }
+    }
+}
+
+/// Of two refusals at once a table is answered the first in the order Syntax, Length, Body.
+#[test]
+fn long_tables_are_refused(rt: HostRuntime) {
+    for (reader, size, code) in LONG_TABLES {
+        let mut section = section_over(reader, [0xff; 1013].get(..size).unwrap_or(&[]));
+        section.header.table_id = 0;
+        assert!(rt; table_code(reader, &section) == code);
+    }
+}
+
+/// Whether bytes are answered as the plain reading says.
+fn is_plain(reader: u8, bytes: &[u8]) -> bool {
+    answer(reader, bytes) == plain::answer(reader, bytes)
+}
+
+/// Whether bytes with one of them changed to each of four values are.
+fn are_changes_plain(reader: u8, bytes: &mut [u8], at: usize) -> bool {
+    for value in [0x00, 0x7f, 0x80, 0xff] {
+        if let Some(byte) = bytes.get_mut(at) {
+            *byte = value;
+        }
+        if !is_plain(reader, bytes) {
+            return false;
+        }
+    }
+    true
+}
+
+/// Whether the bytes before a place are, and the first so many with the one there changed.
+fn is_plain_at(reader: u8, bytes: &[u8], size: usize, at: usize) -> bool {
+    let mut changed = packet_of(bytes);
+    match changed.get_mut(..size) {
+        Some(changed) => {
+            is_plain(reader, bytes.get(..at).unwrap_or(bytes))
+                && are_changes_plain(reader, changed, at)
+        }
+        None => false,
+    }
+}
+
+#[test]
+fn damage_is_answered(rt: HostRuntime) {
+    for (reader, bytes, from, size) in DAMAGED {
+        let bytes = bytes.get(from..).unwrap_or(&[]);
+        for at in 0..size {
+            assert!(rt; is_plain_at(reader, bytes, size, at));
+        }
+    }
+}
