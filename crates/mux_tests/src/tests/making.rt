@@ -56,7 +56,7 @@ fn text_of(alloc: Global, wanted: &Wanted) -> Option<String> {
         Small(part, other) => edited(alloc, DESCRIPTION, part, other),
         Radio(programs, rate) => {
             let head = edited(alloc, HEAD, "rr", rate)?;
-            let numbers = NUMBERS.get(..*programs).unwrap_or(&[]);
+            let numbers = NUMBERS.get(..*programs)?;
             repeated(alloc, head.as_str(), PROGRAM, "nn", numbers)
         }
     }
@@ -109,7 +109,7 @@ fn made<A: Allocator + Clone>(alloc: A, description: Description) -> Option<Resu
 /// without a plan. The least full service has groups; one fills nine tenths of its rate, where evenly spaced slots find no
 /// place; two have as many programs and streams as there can be, one of them so near to its rate that only the longest period
 /// has a slot for each of their packets.
-const SERVICES: [(Wanted, Result<(usize, usize, usize, usize, usize), usize>); 7] = [
+static SERVICES: [(Wanted, Result<(usize, usize, usize, usize, usize), usize>); 7] = [
     (Small("rate", "rate"), Ok((256, 256, 0, 0, 1))),
     (
         Small(
@@ -154,7 +154,7 @@ fn plans_are_made(rt: HostRuntime) {
 
 /// Numbers that no plan can keep, with the least ones that stand in its way no more: of the drain, of the rate, of the lead,
 /// of the main buffer, of the PCRs; of a service whose leads are too short and whose rate is too low; of the greatest one.
-const REASONS: [(Wanted, &[Reason]); 11] = [
+static REASONS: [(Wanted, &[Reason]); 11] = [
     (Small("rate", "rate"), &[]),
     (
         Small("interval = 2160", "interval = 270"),

@@ -102,18 +102,21 @@ fn sent(alloc: Global, run: &Run) -> Option<Vec<u8>> {
     Some(bytes)
 }
 
-/// The greatest fullness of the stream's and the program's buffers, and the first late unit.
-type Numbers = ([u64; 4], Option<LateUnit>);
+/// The greatest fullness of the buffers, and the first late unit.
+type Numbers = (Sizes, Option<LateUnit>);
+
+/// Of the transport and the main buffer of a stream, of the transport and the system buffer of a program.
+type Sizes = (u64, u64, u64, u64);
 
 fn numbers<A: Allocator>(found: &Fullness<A>) -> Option<Numbers> {
     match (found.streams.as_slice(), found.programs.as_slice()) {
         ([stream], [program]) => Some((
-            [
+            (
                 stream.transport,
                 stream.main,
                 program.transport,
                 program.system,
-            ],
+            ),
             found.late,
         )),
         _ => None,
@@ -193,12 +196,8 @@ const LONG: Series = Series {
 };
 
 /// Runs, the fullness where it is known, and the first late unit or the refusal. A packet with the error indicator is left out.
-const RUNS: [(
-    Run,
-    Option<[u64; 4]>,
-    Result<Option<LateUnit>, MeasureError>,
-); 12] = [
-    (SHORT, Some([1, 590, 127, 346]), Ok(None)),
+const RUNS: [(Run, Option<Sizes>, Result<Option<LateUnit>, MeasureError>); 12] = [
+    (SHORT, Some((1, 590, 127, 346)), Ok(None)),
     (
         Run {
             sent: TIMELY,
@@ -229,7 +228,7 @@ const RUNS: [(
             slots: 2_420,
             ..SHORT
         },
-        Some([1, 590, 127, 346]),
+        Some((1, 590, 127, 346)),
         Ok(None),
     ),
     (
@@ -239,7 +238,7 @@ const RUNS: [(
             slots: 100_800,
             ..SHORT
         },
-        Some([1, 590, 127, 346]),
+        Some((1, 590, 127, 346)),
         Ok(None),
     ),
     (
@@ -250,7 +249,7 @@ const RUNS: [(
             slots: 200,
             ..SHORT
         },
-        Some([1, 882, 127, 346]),
+        Some((1, 882, 127, 346)),
         Ok(None),
     ),
     (
@@ -260,7 +259,7 @@ const RUNS: [(
             change: (1, 0xc1),
             ..SHORT
         },
-        Some([0; 4]),
+        Some((0, 0, 0, 0)),
         Ok(None),
     ),
     (Run { cut: 1, ..SHORT }, None, Err(MeasureError::Length)),
@@ -295,7 +294,7 @@ const RUNS: [(
 fn is_measured(
     alloc: Global,
     run: &Run,
-    full: Option<[u64; 4]>,
+    full: Option<Sizes>,
     wanted: Result<Option<LateUnit>, MeasureError>,
 ) -> Option<bool> {
     match measured(alloc, alloc, run)? {
@@ -315,7 +314,7 @@ fn runs_are_measured(rt: HostRuntime) {
 pub fn is_measured_in(global: Global, room: usize) -> Option<bool> {
     let heap = LocalHeap::new(global, room).ok()?;
     match measured(global, &heap, &SHORT)? {
-        Ok(([1, 590, 127, 346], None)) => Some(true),
+        Ok(((1, 590, 127, 346), None)) => Some(true),
         Err(MeasureError::Memory) => Some(false),
         _ => None,
     }

@@ -25,7 +25,7 @@ const WHOLE: Text = (PLAN, "end", "end", 1);
 
 const TURNED: Text = (TURNED_PLAN, "end", "end", 1);
 
-pub const CASES: [Case; 38] = [
+pub static CASES: [Case; 38] = [
     // The shape.
     (
         SMALL,
