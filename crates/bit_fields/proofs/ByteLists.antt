@@ -1,5 +1,5 @@
 -- Lists of bytes, and what a reader takes from their front.
-use Rattle.std.proofs.Common.{◌≡◌, ℕ, zero, suc, ◌+◌, ◌<◌, ◌≤◌, refl, List, [], ◌∷◌, ◌++◌, length, get_or, take, drop, sym, ap, ◌∙◌, append_assoc, arith, inl, inr}
+use Rattle.std.proofs.Common.{ℕ, zero, suc, ◌+◌, ◌<◌, refl, List, [], ◌∷◌, ◌++◌, length, get_or, take, drop, sym, arith, inl, inr}
 use Rattle.std.proofs.lemmas.Bool.{cases_lt}
 use Rattle.std.proofs.lemmas.List.{get_or-drop, get_or-take, get_or_past, length-take, take-append-drop}
 use Rattle.bit_fields.specs.Fields.{IsBytes}
@@ -43,10 +43,6 @@ IsBytes-append_right (b ∷ xs) ys h = IsBytes-append_right xs ys (IsBytes-tail 
 -- nothing is taken
 pub Takes-none : (bytes : List ℕ) → IsBytes bytes → Takes bytes [] bytes
 Takes-none bytes h = record { is = refl; rest_fits = h }
-
--- one text after another
-pub Takes-then : (a x b y c : List ℕ) → Takes a x b → Takes b y c → Takes a (x ++ y) c
-Takes-then a x b y c p q = record { is = p.is ∙ ap (λ (t : List ℕ). x ++ t) q.is ∙ sym (append_assoc x y c); rest_fits = q.rest_fits }
 
 -- the first n bytes are taken
 pub Takes-front : (n : ℕ) (bytes : List ℕ) → IsBytes bytes → Takes bytes (take n bytes) (drop n bytes)

@@ -1,3 +1,3 @@
-pub mod Binding
+pub mod Bind
 pub mod ByteLists
-pub mod Spellings
+pub mod Fields

@@ -29,7 +29,7 @@ abbrev pub bit : Bool → ℕ
 bit true = 1
 bit false = 0
 
--- the flag that stands at a value, a power of two, in a byte
+-- the flag at a value, a power of two, in a byte
 abbrev pub flag : ℕ → ℕ → Bool
 flag byte value = byte / value % 2 == 1
 

@@ -13,7 +13,7 @@ abbrev pub Gives : {X Y E : Type 0} → (X → Y) → Result X E → Result Y E 
 Gives view (Ok x) read = read ≡ Ok (view x)
 Gives view (Err e) read = read ≡ Err e
 
--- the bytes are this text and the rest, which is bytes again
-pub record Takes (bytes text rest : List ℕ) : Type 0 where
-  pub is : bytes ≡ text ++ rest
+-- the bytes are a front and the rest, which is bytes again
+pub record Takes (bytes front rest : List ℕ) : Type 0 where
+  pub is : bytes ≡ front ++ rest
   pub rest_fits : IsBytes rest

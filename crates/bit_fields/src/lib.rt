@@ -7,7 +7,7 @@
 //! `number bytes ≡ fields ((8, sync) ∷ (1, error) ∷ (13, pid) ∷ ..)`, and each reader of a format is
 //! proved against it. Definitions stand in `specs/`, the lemmas that readers cite in `proofs/`.
 //!
-//! Writers append their texts to a vector of fixed capacity: `append`.
+//! Writers append their bytes to a vector of fixed capacity: `append`.
 #![tactic(auto)]
 
 mod appending;

@@ -1,6 +1,7 @@
 pub mod Examples
-pub mod Holding
-pub mod Leaving
-pub mod Pairing
-pub mod Peaking
-pub mod Scaling
+pub mod MinMax
+pub mod Fullness
+pub mod Departures
+pub mod Tandem
+pub mod Peak
+pub mod Scale

@@ -2,7 +2,7 @@
 use Rattle.std.specs.Prelude.{ℕ, ◌+◌, max, List, [], ◌∷◌}
 
 -- the departures of bytes that arrive at these times: each leaves `step` after it arrived or after the byte before it
--- left, whichever is later; `prev` is when the byte before the first left, 0 where there is none
+-- left, whichever is later; `prev` is when the byte before the first left, 0 for the first
 unfoldable pub departures : ℕ → ℕ → List ℕ → List ℕ
 departures step prev [] = []
 departures step prev (t ∷ ts) = (max t prev + step) ∷ departures step (max t prev + step) ts

@@ -1,4 +1,4 @@
--- How many bytes a buffer holds (ISO/IEC 13818-1, 2.4.2.3).
+-- The fullness of a buffer: the number of bytes in it (ISO/IEC 13818-1, 2.4.2.3).
 use Rattle.std.specs.Prelude.{ℕ, ◌+◌, ◌≤◌, Bool, cond, nat_le, nat_lt, ◌&&◌, List, [], ◌∷◌}
 
 -- a byte that arrives at t and leaves at d is in the buffer at the moment x

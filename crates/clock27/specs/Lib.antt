@@ -2,6 +2,7 @@ pub mod Arrival
 pub mod Departure
 pub mod Fullness
 pub mod Laws
+pub mod LeastRate
 pub mod Peak
 pub mod Recurrence
 pub mod Reference

@@ -1,7 +1,10 @@
 //! Laws of the times of bytes. Each is a function that does nothing: its contract is the law, over
 //! the definitions of `specs/` alone, and a caller may cite it.
 ghost use Rattle.clock27.specs.Peak.{PeakLaw, ArrivalsClimb, DeparturesClimb};
-ghost use Rattle.clock27.specs.Laws.{DeparturesLaw, LastLaw, LengthLaw, PacketLaw, RisingLaw, EarliestLaw, RowLaw, RoomLaw, FullnessLaw, FullnessBound, FullnessBefore, FullnessAfter, TandemLaw, SecondLaw, ScaleLaw, ArrivalsScaleLaw, FullnessScaleLaw, LimitLaw, ReleaseLaw};
+ghost use Rattle.clock27.specs.Laws.{DeparturesLaw, LastLaw, LengthLaw, PacketLaw, RisingLaw, EarliestLaw, RowLaw};
+ghost use Rattle.clock27.specs.Laws.{FullnessLaw, FullnessBound, FullnessBefore, FullnessAfter, RoomLaw};
+ghost use Rattle.clock27.specs.Laws.{TandemLaw, SecondLaw, ScaleLaw, ArrivalsScaleLaw, FullnessScaleLaw};
+ghost use Rattle.clock27.specs.Laws.{LimitLaw, ReleaseLaw};
 
 /// Departures of bytes that arrive in two parts.
 pub fn departures()
@@ -18,7 +21,7 @@ pub fn packet()
     ensures row { RowLaw }
 {}
 
-/// The number of bytes that a buffer holds.
+/// The fullness of a buffer: the number of bytes in it.
 pub fn fullness()
     ensures appended { FullnessLaw }
     ensures bound { FullnessBound }
@@ -27,7 +30,7 @@ pub fn fullness()
     ensures room { RoomLaw }
 {}
 
-/// The greatest number of bytes that a buffer holds over all moments: one pass over the arrivals.
+/// The greatest fullness of a buffer over all moments: one pass over the arrivals.
 pub fn peak()
     ensures fullness { PeakLaw }
     ensures arrivals { ArrivalsClimb }

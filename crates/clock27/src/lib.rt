@@ -7,23 +7,25 @@
 //! 90 kHz.
 //!
 //! - [`rate`]: the rate of the output.
+//! - [`rate_search`]: the least rate at which an output has slots enough for what it carries.
 //! - [`pcr`]: the time of a byte, and program clock references.
 //! - [`stamp`]: stamps of 33 bits.
 //! - [`release`]: the slot in which a unit is released.
-//! - [`units`]: how long a byte and a slot take, in whole numbers.
+//! - [`units`]: how long a byte and a slot last at 1 bit a second, in whole numbers.
 //! - [`laws`]: laws of the times of bytes. The definitions in `specs/` say when bytes arrive at a
-//!   buffer, when they leave it, how many it holds, and how often something recurs.
+//!   buffer, when they leave it, its fullness, and how often something recurs.
 #![tactic(auto)]
 
 pub mod laws;
 pub mod pcr;
 pub mod rate;
+pub mod rate_search;
 pub mod release;
 pub mod stamp;
 pub mod units;
 
 pub use pcr::{Pcr, byte_ticks};
-pub use rate::{Rate, RateError};
+pub use rate::{GREATEST_RATE, LEAST_RATE, Rate, RateError};
 pub use release::release_slot;
-pub use stamp::Stamp33;
-pub use units::{BYTE_UNITS, SLOT_MILLISECONDS, SLOT_UNITS};
+pub use stamp::{STAMP_MODULUS, Stamp33};
+pub use units::{BYTE_UNITS_AT_1BPS, SLOT_MS_AT_1BPS, SLOT_SECONDS_AT_1BPS, SLOT_UNITS_AT_1BPS};

@@ -1,17 +1,18 @@
 //! Program clock references (ISO/IEC 13818-1, 2.4.3.5).
-ghost use Rattle.std.specs.Prelude.{◌≡◌, ℕ, ◌+◌, ◌*◌, ◌/◌, ◌^◌, ◌<◌};
+ghost use Rattle.std.specs.Prelude.{◌≡◌, ◌+◌, ◌*◌, ◌/◌, ◌^◌, ◌<◌};
 ghost use Rattle.clock27.specs.Reference.{Reference, ticks_of, pcr_ticks, pcr_at};
-ghost use Rattle.clock27.specs.Units.{tick_units};
+ghost use Rattle.clock27.specs.Units.{byte_ticks_at_1bps};
 
 use crate::rate::Rate;
-use crate::units::TICK_UNITS;
+use crate::stamp::STAMP_MODULUS;
+use crate::units::BYTE_TICKS_AT_1BPS;
 use std::marker::Model;
 
 /// The time of byte `i` of an output of this rate, in whole ticks of 27 MHz.
 pub fn byte_ticks(rate: Rate, i: u64) -> u128
-    ensures { result ≡ tick_units * i / rate }
+    ensures { result ≡ byte_ticks_at_1bps * i / rate }
 {
-    TICK_UNITS * u128::from(i) / u128::from(rate.bits_per_second())
+    BYTE_TICKS_AT_1BPS * u128::from(i) / u128::from(rate.bits_per_second())
 }
 
 /// A program clock reference: its base counts units of 90 kHz in 33 bits, its extension ticks of
@@ -48,7 +49,8 @@ impl Pcr {
         ensures exact { result ≡ pcr_at rate base0 i }
         ensures ticks { ticks_of result ≡ pcr_ticks rate base0 i }
     {
-        let ticks = (byte_ticks(rate, i) + 300 * u128::from(base0)) % (300 << 33);
+        let first = 300 * u128::from(base0);
+        let ticks = (byte_ticks(rate, i) + first) % (300 * u128::from(STAMP_MODULUS));
         Pcr {
             base: (ticks / 300) as u64,
             extension: (ticks % 300) as u16,

@@ -1,5 +1,6 @@
 //! The rate of the output.
-ghost use Rattle.std.specs.Prelude.{◌≡◌, ℕ, ◌≤◌, ◌<◌, ◌⊎◌, ◌↔◌, Ok, Err, IsOk, IfOk, IsErrOf};
+ghost use Rattle.std.specs.Prelude.{◌≡◌, ℕ, ◌≤◌, ◌<◌, ◌⊎◌, ◌↔◌, Ok, Err, IfOk, IsErrOf};
+ghost use Rattle.clock27.specs.declared.rate.TheConstants.{LEAST_RATE, GREATEST_RATE};
 
 use std::marker::Model;
 use thiserror::Error;
@@ -21,7 +22,7 @@ impl Model for Rate {
 
     ghost view = { λ r. r.bits };
 
-    ghost invariant = { λ r. (100000 ≤ r.bits) × (r.bits ≤ 100000000) };
+    ghost invariant = { λ r. (LEAST_RATE ≤ r.bits) × (r.bits ≤ GREATEST_RATE) };
 
     ghost inverse = { λ n. record { bits = n } };
 }
@@ -45,10 +46,11 @@ impl RateError {
 }
 
 impl Rate {
-    /// The rate of so many bits a second.
+    /// The rate of this number of bits a second.
     pub fn new(bits_per_second: u64) -> Result<Rate, RateError>
         ensures value { IfOk result (λ rate. rate ≡ bits_per_second) }
-        ensures range { IsErrOf result RateError.Range ↔ ((bits_per_second < 100000) ⊎ (100000000 < bits_per_second)) }
+        ensures range { IsErrOf result RateError.Range
+            ↔ ((bits_per_second < LEAST_RATE) ⊎ (GREATEST_RATE < bits_per_second)) }
     {
         if bits_per_second < LEAST_RATE || bits_per_second > GREATEST_RATE {
             return Err(RateError::Range);
@@ -61,8 +63,8 @@ impl Rate {
     /// The bits a second.
     pub fn bits_per_second(self) -> u64
         ensures value { result ≡ self }
-        ensures least { 100000 ≤ self }
-        ensures greatest { self ≤ 100000000 }
+        ensures least { LEAST_RATE ≤ self }
+        ensures greatest { self ≤ GREATEST_RATE }
     {
         self.bits
     }

@@ -3,7 +3,7 @@ ghost use Rattle.std.specs.Prelude.{◌≡◌, ◌-◌, ◌*◌, ◌<◌, ◌↔
 ghost use Rattle.clock27.specs.Release.{IsReleaseSlot, release};
 
 use crate::rate::Rate;
-use crate::units::SLOT_UNITS;
+use crate::units::SLOT_UNITS_AT_1BPS;
 
 /// The first slot that begins no earlier than `lead` before the decoding time `dts`, both in units
 /// of 90 kHz; none where the time lies before the lead.
@@ -14,5 +14,5 @@ pub fn release_slot(rate: Rate, dts: u64, lead: u64) -> Option<u64>
 {
     let moment = dts.checked_sub(lead)?;
     let needed = u128::from(moment) * u128::from(rate.bits_per_second());
-    Some(needed.div_ceil(SLOT_UNITS) as u64)
+    Some(needed.div_ceil(SLOT_UNITS_AT_1BPS) as u64)
 }

@@ -3,6 +3,9 @@ ghost use Rattle.std.specs.Prelude.{◌≡◌, ℕ, ◌%◌, ◌^◌, ◌<◌};
 
 use std::marker::Model;
 
+/// The number of stamps: a time in units of 90 kHz is counted modulo this.
+pub const STAMP_MODULUS: u64 = 1 << 33;
+
 /// A time in units of 90 kHz, counted in 33 bits.
 #[derive(Clone, Copy, Debug, PartialEq, Eq)]
 pub struct Stamp33 {
@@ -25,7 +28,7 @@ impl Stamp33 {
         ensures { result ≡ time % 2 ^ 33 }
     {
         Stamp33 {
-            units: time % (1 << 33),
+            units: time % STAMP_MODULUS,
         }
     }
 

@@ -1,5 +1,5 @@
 -- What is found of one PID, packet by packet of a stream.
-use Rattle.std.proofs.Common.{◌≡◌, ℕ, suc, ◌+◌, ◌^◌, ◌<◌, ◌==◌, Bool, true, false, cond, List, [], ◌∷◌, ◌++◌, length, map, filter, Result, Ok, Err, refl, sym, ap, ap₂, subst, ◌∙◌, arith, append_assoc}
+use Rattle.std.proofs.Common.{◌≡◌, ℕ, ◌+◌, ◌^◌, ◌<◌, ◌==◌, Bool, true, false, cond, List, [], ◌∷◌, ◌++◌, length, map, filter, Result, Ok, Err, refl, sym, ap, ap₂, subst, ◌∙◌, arith, append_assoc}
 use Rattle.std.specs.Prelude.{not, ◌&&◌}
 use Rattle.std.specs.List.{enumerate_from, filter_map, cons_option}
 use Rattle.std.proofs.lemmas.List.{append-nil, map-append}
@@ -13,17 +13,14 @@ use Rattle.ts_packet.specs.PidList as lists
 use Rattle.demux.specs.Views.{IsErrored, Found, FindingView}
 use Rattle.demux.specs.Findings.{at_packet}
 use Rattle.demux.specs.Machine.{PidState, step, found_by, run, run_to}
-use Rattle.demux.specs.Shown.{told}
-use Rattle.demux.specs.Stream.{States, StreamState, state_of, with_state, states_by, findings_by, entry_of, untold, next_packet, passed, taken, found_in}
-use Rattle.demux.specs.Laws.{found_of, told_at}
+use Rattle.demux.specs.Shown.{with_pid}
+use Rattle.demux.specs.Stream.{States, StreamState, state_of, with_state, states_by, findings_by, entry_of, without_pid, next_packet, packet_pushed, taken, found_in}
+use Rattle.demux.specs.Laws.{found_of, with_pid_at}
 
 -- 1. Findings of one PID
 
 pub same_number : (a b : ℕ) → (a == b) ≡ true → a ≡ b
 same_number a b e = grind (arith, nat_tests)
-
-other_number : (a b c : ℕ) → (a == b) ≡ true → (c == b) ≡ false → (a == c) ≡ false
-other_number a b c e f = grind (arith, nat_tests)
 
 pub turned_test : (a b : ℕ) → (a == b) ≡ (b == a)
 turned_test a b = by (a == b) (b == a) refl refl
@@ -38,15 +35,15 @@ pub of_append : (pid : ℕ) (xs ys : List FindingView) → found_of pid (xs ++ y
 of_append pid xs ys = filter-append _ xs ys
 
 -- those of a PID are all its own
-pub of_told : (pid packet : ℕ) (q : ℕ) (t : Bool) → (q == pid) ≡ t → (xs : List Found) → found_of pid (map (told q packet) xs) ≡ cond t (map (told q packet) xs) []
-of_told pid packet q true e [] = refl
-of_told pid packet q false e [] = refl
-of_told pid packet q true e (x ∷ xs) = rw e (ap (λ (ys : List FindingView). told q packet x ∷ ys) (of_told pid packet q true e xs))
-of_told pid packet q false e (x ∷ xs) = rw e (of_told pid packet q false e xs)
+pub of_with_pid : (pid packet : ℕ) (q : ℕ) (t : Bool) → (q == pid) ≡ t → (xs : List Found) → found_of pid (map (with_pid q packet) xs) ≡ cond t (map (with_pid q packet) xs) []
+of_with_pid pid packet q true e [] = refl
+of_with_pid pid packet q false e [] = refl
+of_with_pid pid packet q true e (x ∷ xs) = rw e (ap (λ (ys : List FindingView). with_pid q packet x ∷ ys) (of_with_pid pid packet q true e xs))
+of_with_pid pid packet q false e (x ∷ xs) = rw e (of_with_pid pid packet q false e xs)
 
-pub told_all : (pid packet : ℕ) (xs : List Found) → map (told_at pid) (map (at_packet packet) xs) ≡ map (told pid packet) xs
-told_all pid packet [] = refl
-told_all pid packet (x ∷ xs) = ap (λ (ys : List FindingView). told pid packet x ∷ ys) (told_all pid packet xs)
+pub with_pid_all : (pid packet : ℕ) (xs : List Found) → map (with_pid_at pid) (map (at_packet packet) xs) ≡ map (with_pid pid packet) xs
+with_pid_all pid packet [] = refl
+with_pid_all pid packet (x ∷ xs) = ap (λ (ys : List FindingView). with_pid pid packet x ∷ ys) (with_pid_all pid packet xs)
 
 -- 2. The states
 
@@ -91,7 +88,7 @@ listed_next pid index bytes packets = by (packet_at bytes)
 
 -- what a packet does to a PID, where it says this
 found_by_it : (pid index : ℕ) (states : States) (entry : Entry) (q : ℕ) (e z : Bool) → List FindingView
-found_by_it pid index states entry q e z = found_of pid (cond e (untold index IsErrored ∷ []) (cond z [] (map (told q index) (found_by (state_of q states) entry))))
+found_by_it pid index states entry q e z = found_of pid (cond e (without_pid index IsErrored ∷ []) (cond z [] (map (with_pid q index) (found_by (state_of q states) entry))))
 
 states_after : (states : States) (entry : Entry) (q : ℕ) (e z : Bool) → States
 states_after states entry q e z = cond e states (cond z states (with_state q (step (state_of q states) entry) states))
@@ -107,8 +104,8 @@ state_other : (pid q : ℕ) (states : States) (entry : Entry) → (q == pid) ≡
 state_other pid q states entry t = state_with pid q (step (state_of q states) entry) states false (turned_test pid q ∙ t)
 
 found_step : (pid : ℕ) (states : States) (entry : Entry) (q : ℕ) (rest : List Entry) (e z t : Bool) → (q == 8191) ≡ z → (q == pid) ≡ t → (pid == 8191) ≡ false →
-    found_by_it pid entry.index states entry q e z ++ map (told_at pid) (run (state_of pid (states_after states entry q e z)) rest)
-    ≡ map (told_at pid) (run (state_of pid states) (cond (t && not e) (entry ∷ rest) rest))
+    found_by_it pid entry.index states entry q e z ++ map (with_pid_at pid) (run (state_of pid (states_after states entry q e z)) rest)
+    ≡ map (with_pid_at pid) (run (state_of pid states) (cond (t && not e) (entry ∷ rest) rest))
 unfolding found_by_it states_after run
 found_step pid states entry q rest true z true hz ht n = refl
 found_step pid states entry q rest true z false hz ht n = refl
@@ -116,16 +113,16 @@ found_step pid states entry q rest false true true hz ht n = absurd (grind (arit
 found_step pid states entry q rest false true false hz ht n = refl
 found_step pid states entry q rest false false true hz ht n =
     let h : q ≡ pid = same_number q pid ht in
-    let own : found_of pid (map (told q entry.index) (found_by (state_of q states) entry)) ≡ map (told pid entry.index) (found_by (state_of pid states) entry) =
-    of_told pid entry.index q true ht (found_by (state_of q states) entry) ∙ ap (λ (m : ℕ). map (told m entry.index) (found_by (state_of m states) entry)) h in
-    let then : map (told_at pid) (run (state_of pid (with_state q (step (state_of q states) entry) states)) rest) ≡ map (told_at pid) (run (step (state_of pid states) entry) rest) =
-    ap (λ (s : PidState). map (told_at pid) (run s rest)) (state_own pid q states entry h ht) in
-    ap₂ (λ (xs ys : List FindingView). xs ++ ys) (own ∙ sym (told_all pid entry.index (found_by (state_of pid states) entry))) then
-    ∙ sym (map-append (told_at pid) (map (at_packet entry.index) (found_by (state_of pid states) entry)) (run (step (state_of pid states) entry) rest))
+    let own : found_of pid (map (with_pid q entry.index) (found_by (state_of q states) entry)) ≡ map (with_pid pid entry.index) (found_by (state_of pid states) entry) =
+    of_with_pid pid entry.index q true ht (found_by (state_of q states) entry) ∙ ap (λ (m : ℕ). map (with_pid m entry.index) (found_by (state_of m states) entry)) h in
+    let then : map (with_pid_at pid) (run (state_of pid (with_state q (step (state_of q states) entry) states)) rest) ≡ map (with_pid_at pid) (run (step (state_of pid states) entry) rest) =
+    ap (λ (s : PidState). map (with_pid_at pid) (run s rest)) (state_own pid q states entry h ht) in
+    ap₂ (λ (xs ys : List FindingView). xs ++ ys) (own ∙ sym (with_pid_all pid entry.index (found_by (state_of pid states) entry))) then
+    ∙ sym (map-append (with_pid_at pid) (map (at_packet entry.index) (found_by (state_of pid states) entry)) (run (step (state_of pid states) entry) rest))
 found_step pid states entry q rest false false false hz ht n =
     ap₂ (λ (xs ys : List FindingView). xs ++ ys)
-    (of_told pid entry.index q false ht (found_by (state_of q states) entry))
-    (ap (λ (s : PidState). map (told_at pid) (run s rest)) (state_other pid q states entry ht))
+    (of_with_pid pid entry.index q false ht (found_by (state_of q states) entry))
+    (ap (λ (s : PidState). map (with_pid_at pid) (run s rest)) (state_other pid q states entry ht))
 
 to_step : (pid : ℕ) (states : States) (entry : Entry) (q : ℕ) (rest : List Entry) (e z t : Bool) → (q == 8191) ≡ z → (q == pid) ≡ t → (pid == 8191) ≡ false →
     run_to (state_of pid (states_after states entry q e z)) rest ≡ run_to (state_of pid states) (cond (t && not e) (entry ∷ rest) rest)
@@ -139,38 +136,35 @@ to_step pid states entry q rest false false true hz ht n =
 to_step pid states entry q rest false false false hz ht n = ap (λ (s : PidState). run_to s rest) (state_other pid q states entry ht)
 
 found_next : (pid index : ℕ) (bytes : List ℕ) (states : States) (rest : List Entry) (r : Result PacketView PacketError) → (pid == 8191) ≡ false →
-    found_of pid (findings_by index bytes states r) ++ map (told_at pid) (run (state_of pid (states_by index bytes states r)) rest)
-    ≡ map (told_at pid) (run (state_of pid states) (listed_by pid index bytes r rest))
+    found_of pid (findings_by index bytes states r) ++ map (with_pid_at pid) (run (state_of pid (states_by index bytes states r)) rest)
+    ≡ map (with_pid_at pid) (run (state_of pid states) (listed_by pid index bytes r rest))
 unfolding findings_by states_by found_by_it states_after
 found_next pid index bytes states rest (Err error) n = refl
 found_next pid index bytes states rest (Ok packet) n =
-    found_step pid states (entry_of index bytes packet) packet.header.pid rest packet.header.error_indicator (packet.header.pid == 8191) (packet.header.pid == pid) refl refl n
+    found_step pid states (entry_of index bytes packet) packet.header.pid rest packet.header.transport_error_indicator (packet.header.pid == 8191) (packet.header.pid == pid) refl refl n
 
 to_next : (pid index : ℕ) (bytes : List ℕ) (states : States) (rest : List Entry) (r : Result PacketView PacketError) → (pid == 8191) ≡ false →
     run_to (state_of pid (states_by index bytes states r)) rest ≡ run_to (state_of pid states) (listed_by pid index bytes r rest)
 unfolding states_by states_after
 to_next pid index bytes states rest (Err error) n = refl
 to_next pid index bytes states rest (Ok packet) n =
-    to_step pid states (entry_of index bytes packet) packet.header.pid rest packet.header.error_indicator (packet.header.pid == 8191) (packet.header.pid == pid) refl refl n
+    to_step pid states (entry_of index bytes packet) packet.header.pid rest packet.header.transport_error_indicator (packet.header.pid == 8191) (packet.header.pid == pid) refl refl n
 
 -- 4. Packet by packet
 
-abbrev pub passed_all : StreamState → List (List ℕ) → StreamState
-passed_all s [] = s
-passed_all s (bytes ∷ packets) = passed_all (passed s bytes) packets
+abbrev pub packets_pushed : StreamState → List (List ℕ) → StreamState
+packets_pushed s [] = s
+packets_pushed s (bytes ∷ packets) = packets_pushed (packet_pushed s bytes) packets
 
-counted : (n k : ℕ) → n + suc k < 2 ^ 64 → next_packet n ≡ n + 1
-counted n k h = omega arith
-
-pub passed_count : (s : StreamState) (packets : List (List ℕ)) → s.packets + length packets < 2 ^ 64 → (passed_all s packets).packets ≡ s.packets + length packets
+pub passed_count : (s : StreamState) (packets : List (List ℕ)) → s.packets + length packets < 2 ^ 64 → (packets_pushed s packets).packets ≡ s.packets + length packets
 unfolding taken
 passed_count s [] h = omega arith
 passed_count s (bytes ∷ packets) h =
     let e : next_packet s.packets ≡ s.packets + 1 = omega arith in
-    passed_count (passed s bytes) packets (omega arith) ∙ omega arith
+    passed_count (packet_pushed s bytes) packets (omega arith) ∙ omega arith
 
 pub passed_found : (pid : ℕ) (s : StreamState) (packets : List (List ℕ)) → (pid == 8191) ≡ false → s.packets + length packets < 2 ^ 64 →
-    found_of pid (passed_all s packets).found ≡ found_of pid s.found ++ map (told_at pid) (run (state_of pid s.states) (listed pid s.packets packets))
+    found_of pid (packets_pushed s packets).found ≡ found_of pid s.found ++ map (with_pid_at pid) (run (state_of pid s.states) (listed pid s.packets packets))
 unfolding taken found_in run
 passed_found pid s [] n h = sym (append-nil (found_of pid s.found))
 passed_found pid s (bytes ∷ packets) n h =
@@ -179,22 +173,22 @@ passed_found pid s (bytes ∷ packets) n h =
     let new = findings_by s.packets bytes s.states r in
     let after = state_of pid (states_by s.packets bytes s.states r) in
     let rest = listed pid (s.packets + 1) packets in
-    passed_found pid (passed s bytes) packets n (omega arith)
-    ∙ ap₂ (λ (xs : List FindingView) (i : ℕ). xs ++ map (told_at pid) (run after (listed pid i packets))) (of_append pid s.found new) e
-    ∙ append_assoc (found_of pid s.found) (found_of pid new) (map (told_at pid) (run after rest))
+    passed_found pid (packet_pushed s bytes) packets n (omega arith)
+    ∙ ap₂ (λ (xs : List FindingView) (i : ℕ). xs ++ map (with_pid_at pid) (run after (listed pid i packets))) (of_append pid s.found new) e
+    ∙ append_assoc (found_of pid s.found) (found_of pid new) (map (with_pid_at pid) (run after rest))
     ∙ ap (λ (xs : List FindingView). found_of pid s.found ++ xs)
     (found_next pid s.packets bytes s.states rest r n
-    ∙ ap (λ (es : List Entry). map (told_at pid) (run (state_of pid s.states) es)) (sym (listed_next pid s.packets bytes packets)))
+    ∙ ap (λ (es : List Entry). map (with_pid_at pid) (run (state_of pid s.states) es)) (sym (listed_next pid s.packets bytes packets)))
 
 pub passed_to : (pid : ℕ) (s : StreamState) (packets : List (List ℕ)) → (pid == 8191) ≡ false → s.packets + length packets < 2 ^ 64 →
-    state_of pid (passed_all s packets).states ≡ run_to (state_of pid s.states) (listed pid s.packets packets)
+    state_of pid (packets_pushed s packets).states ≡ run_to (state_of pid s.states) (listed pid s.packets packets)
 unfolding taken run_to
 passed_to pid s [] n h = refl
 passed_to pid s (bytes ∷ packets) n h =
     let e : next_packet s.packets ≡ s.packets + 1 = omega arith in
     let r = packet_at bytes in
     let after = state_of pid (states_by s.packets bytes s.states r) in
-    passed_to pid (passed s bytes) packets n (omega arith)
+    passed_to pid (packet_pushed s bytes) packets n (omega arith)
     ∙ ap (λ (i : ℕ). run_to after (listed pid i packets)) e
     ∙ to_next pid s.packets bytes s.states (listed pid (s.packets + 1) packets) r n
     ∙ ap (λ (es : List Entry). run_to (state_of pid s.states) es) (sym (listed_next pid s.packets bytes packets))

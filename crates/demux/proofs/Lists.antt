@@ -1,7 +1,7 @@
 -- What is noted, and what is left to note.
 use Rattle.std.proofs.Common.{◌≡◌, Bool, cond, true, false, List, [], ◌∷◌, ◌++◌, map, Option, None, refl, sym, ap, ◌∙◌, append_assoc}
 use Rattle.demux.specs.Roles.{Role, role_divides}
-use Rattle.demux.specs.Parts.{Begun}
+use Rattle.demux.specs.OpenUnits.{OpenUnit}
 use Rattle.demux.specs.Shown.{GivenView, kept_by}
 use Rattle.std.proofs.lemmas.List.{append-nil, map-append}
 use Rattle.demux.specs.Views.{Found}
@@ -34,4 +34,4 @@ none_either true P t f = t
 none_either false P t f = f
 
 pub kept_none : (role : Role) → kept_by role None ≡ None
-kept_none role = none_either (role_divides role) (λ b. ◌≡◌ {A = Option Begun} (cond b None None) None) refl refl
+kept_none role = none_either (role_divides role) (λ b. ◌≡◌ {A = Option OpenUnit} (cond b None None) None) refl refl

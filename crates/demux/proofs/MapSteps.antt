@@ -7,10 +7,6 @@ use Rattle.indexmap.proofs.MapLemmas.{Found-position, some_index, insert_entry-f
 use Rattle.demux.specs.Machine.{PidState, fresh}
 use Rattle.demux.specs.Stream.{States, state_of, with_state}
 
-bool_cases : (b : Bool) (P : Bool → Type 0) → P true → P false → P b
-bool_cases true P t f = t
-bool_cases false P t f = f
-
 same_state : (y z : PidState) → ◌≡◌ {A = Option PidState} (Some y) (Some z) → y ≡ z
 same_state y z e = cc
 

@@ -1,9 +1,9 @@
 -- What the laws of this crate say.
 use Rattle.std.specs.Prelude.{◌≡◌, ℕ, ◌/◌, ◌-◌, ◌^◌, ◌<◌, ◌==◌, Bool, true, false, List, ◌++◌, length, map, filter, Option, Some, None}
 use Rattle.ts_packet.specs.PidList.{pid_list}
-use Rattle.demux.specs.Views.{At, FindingView}
+use Rattle.demux.specs.Views.{PidFinding, FindingView}
 use Rattle.demux.specs.Findings.{findings, findings_to_end}
-use Rattle.demux.specs.Shown.{told}
+use Rattle.demux.specs.Shown.{with_pid}
 use Rattle.demux.specs.Stream.{StreamState, start, is_aligned, pushed, taken, found_in, finished}
 
 -- pieces one after another are one piece
@@ -24,15 +24,15 @@ abbrev pub found_of : ℕ → List FindingView → List FindingView
 found_of pid found = filter (λ finding. has_pid pid finding.pid) found
 
 -- a finding of a PID at a packet
-abbrev pub told_at : ℕ → At → FindingView
-told_at pid at = told pid at.packet at.found
+abbrev pub with_pid_at : ℕ → PidFinding → FindingView
+with_pid_at pid at = with_pid pid at.packet at.found
 
 -- in a stream of fewer than 2^64 - 1 packets what is found of a PID, except that of null packets, are the findings of its
 -- packets alone
 abbrev pub EachPidAlone : Type 0
 EachPidAlone = (pid : ℕ) (bytes : List ℕ) → (pid == 8191) ≡ false → length bytes / 188 < 2 ^ 64 - 1 →
-    (found_of pid (pushed start bytes).found ≡ map (told_at pid) (findings (pid_list pid bytes)))
-    × (found_of pid (finished (pushed start bytes)).found ≡ map (told_at pid) (findings_to_end (length bytes / 188) (pid_list pid bytes)))
+    (found_of pid (pushed start bytes).found ≡ map (with_pid_at pid) (findings (pid_list pid bytes)))
+    × (found_of pid (finished (pushed start bytes)).found ≡ map (with_pid_at pid) (findings_to_end (length bytes / 188) (pid_list pid bytes)))
 
 -- streams that agree on a PID's packets and their places, and for the end on the number of packets, agree on its findings
 abbrev pub PacketsDecide : Type 0

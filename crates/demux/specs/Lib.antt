@@ -1,11 +1,11 @@
 pub mod Views
 pub mod Marks
 pub mod Roles
-pub mod Parts
+pub mod OpenUnits
 pub mod Findings
 pub mod Shown
 pub mod Machine
 pub mod Codes
 pub mod Stream
 pub mod Laws
-pub mod TakenAway
+pub mod FoundSoFar

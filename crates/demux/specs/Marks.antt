@@ -1,6 +1,6 @@
 -- What a packet of a PID is to the packet before it: the same once more, or one whose counter does not follow
 -- (ISO/IEC 13818-1, 2.4.3.3).
-use Rattle.std.specs.Prelude.{ℕ, ◌+◌, ◌%◌, ◌==◌, ◌&&◌, ◌||◌, not, Bool, true, false, if◌then◌else◌, List, [], ◌∷◌, Option, Some, None, is_some}
+use Rattle.std.specs.Prelude.{ℕ, ◌+◌, ◌%◌, ◌==◌, ◌&&◌, ◌||◌, not, Bool, false, if◌then◌else◌, List, [], ◌∷◌, Option, Some, None, is_some}
 use Rattle.std.specs.Str.{bytes_eq}
 use Rattle.ts_packet.specs.Views.{AdaptationView, WithFlags}
 use Rattle.ts_packet.specs.PidList.{Entry}
@@ -8,7 +8,7 @@ use Rattle.ts_packet.specs.PcrBytes.{has_pcr, without_pcr}
 
 -- discontinuity_indicator
 abbrev pub is_discontinuity : Option AdaptationView → Bool
-is_discontinuity (Some (WithFlags parts)) = parts.discontinuity
+is_discontinuity (Some (WithFlags parts)) = parts.discontinuity_indicator
 is_discontinuity _ = false
 
 -- its bytes but those of a program clock reference

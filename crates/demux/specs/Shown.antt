@@ -7,7 +7,7 @@ use Rattle.demux.specs.declared.finding.What.{What}
 use Rattle.demux.specs.declared.finding.What.TheVariants.{Duplicate, CounterBreak, Scrambled, Truncated, Section, BadSection, Pes, BadPes, BadPacket, Errored}
 use Rattle.demux.specs.declared.finding.Finding.{Finding}
 use Rattle.demux.specs.declared.payload_bytes.PayloadBytes.{PayloadBytes}
-use Rattle.demux.specs.declared.payload_bytes.PayloadBytes.TheVariants.{Lent, Passing}
+use Rattle.demux.specs.declared.payload_bytes.PayloadBytes.TheVariants.{Borrowed, Copied}
 use Rattle.demux.specs.declared.verdicts.Verdict.{Verdict}
 use Rattle.demux.specs.declared.verdicts.Verdict.TheVariants as verdicts
 use Rattle.demux.specs.declared.place.Place.{Place}
@@ -16,10 +16,10 @@ use Rattle.ts_packet.specs.Views.{packet_view, bytes_view}
 use Rattle.ts_packet.specs.PidList.{Entry}
 use Rattle.demux.specs.declared.marks.Mark.{Mark}
 use Rattle.demux.specs.declared.marks.Mark.TheVariants as marked_as
-use Rattle.demux.specs.declared.roles.Carried.{Carried}
-use Rattle.demux.specs.declared.roles.Carried.TheVariants as carried
-use Rattle.demux.specs.Roles.{Role, CarriesNothing, Scrambles, BeginsPes, Points, PointsPast, Continues}
-use Rattle.demux.specs.Parts.{Begun, plain}
+use Rattle.demux.specs.declared.roles.PayloadRole.{PayloadRole}
+use Rattle.demux.specs.declared.roles.PayloadRole.TheVariants as payload_roles
+use Rattle.demux.specs.Roles.{Role, NoPayload, ScrambledPayload, PesStart, SectionStart, PointerPastEnd, Continuation}
+use Rattle.demux.specs.OpenUnits.{OpenUnit, plain}
 use Rattle.demux.specs.Findings.{by_break}
 use Rattle.demux.specs.Roles.{role_divides}
 use Rattle.demux.specs.Views.{WhatView, IsDuplicate, BreaksCounter, IsScrambled, IsTruncated, IsSection, IsBadSection, IsPes, IsBadPes, IsBadPacket, IsErrored, Found, FindingView}
@@ -66,8 +66,8 @@ abbrev pub finding_view : {A : Type 0} → Finding A → FindingView
 finding_view finding = record { packet = finding.packet; pid = finding.pid; begun = finding.begun; what = what_view finding.what }
 
 -- a finding of a PID at a packet
-abbrev pub told : ℕ → ℕ → Found → FindingView
-told pid packet found = record { packet = packet; pid = Some pid; begun = found.begun; what = found.what }
+abbrev pub with_pid : ℕ → ℕ → Found → FindingView
+with_pid pid packet found = record { packet = packet; pid = Some pid; begun = found.begun; what = found.what }
 
 -- a finding as it is given: what it says, and whether its bytes are a slice of the packet
 pub record GivenView : Type 0 where
@@ -77,52 +77,52 @@ pub record GivenView : Type 0 where
 abbrev pub given_view : {A : Type 0} → Finding A → GivenView
 given_view finding = record { finding = finding_view finding; span = is_span finding }
 
--- a finding at a place: where the packet is lent, what lies in it whole is a slice of it
+-- a finding at a place: where findings borrow the packet's bytes, what lies in it whole is a slice of it
 abbrev pub given : Place → Found → GivenView
-given place found = record { finding = told place.pid place.packet found; span = found.within && place.lent }
+given place found = record { finding = with_pid place.pid place.packet found; span = found.within && place.borrowed }
 
 -- what was found is followed by these findings at a place
 abbrev pub Finds : {A : Type 0} → Place → List (Finding A) → List (Finding A) → List Found → Type 0
 Finds place old new found = map given_view new ≡ map given_view old ++ map (given place) found
 
 -- what was found is followed by findings that say this
-abbrev pub Tells : {A : Type 0} → List (Finding A) → List (Finding A) → List FindingView → Type 0
-Tells old new views = map finding_view new ≡ map finding_view old ++ views
+abbrev pub AddsFindings : {A : Type 0} → List (Finding A) → List (Finding A) → List FindingView → Type 0
+AddsFindings old new views = map finding_view new ≡ map finding_view old ++ views
 
--- and for each of them this tells whether its bytes are a slice of a packet
+-- and for each of them, whether its bytes are a slice of a packet
 abbrev pub Spans : {A : Type 0} → List (Finding A) → List (Finding A) → List Bool → Type 0
 Spans old new spans = map is_span new ≡ map is_span old ++ spans
 
--- what the findings at a place say
-abbrev pub Says : {A : Type 0} → Place → List (Finding A) → List (Finding A) → List Found → Type 0
-Says place old new found = Tells old new (map (told place.pid place.packet) found)
+-- what was found is followed by findings at a place that say this
+abbrev pub AddsFindingsAt : {A : Type 0} → Place → List (Finding A) → List (Finding A) → List Found → Type 0
+AddsFindingsAt place old new found = AddsFindings old new (map (with_pid place.pid place.packet) found)
 
 -- the findings say what they said
-abbrev pub SaysTheSame : {A : Type 0} → List (Finding A) → List (Finding A) → Type 0
-SaysTheSame old new = map given_view new ≡ map given_view old
+abbrev pub KeepsFindings : {A : Type 0} → List (Finding A) → List (Finding A) → Type 0
+KeepsFindings old new = map given_view new ≡ map given_view old
 
 -- if no finding's bytes were a slice of a packet, none are
 abbrev pub KeepsJoined : {A : Type 0} → List (Finding A) → List (Finding A) → Type 0
 KeepsJoined old new = list_any is_span old ≡ false → list_any is_span new ≡ false
 
--- the bytes are lent
-abbrev pub is_lent : PayloadBytes → Bool
-is_lent (Lent bytes) = true
-is_lent (Passing bytes) = false
+-- findings borrow the bytes
+abbrev pub is_borrowed : PayloadBytes → Bool
+is_borrowed (Borrowed bytes) = true
+is_borrowed (Copied bytes) = false
 
--- whether a payload is lent, if there is one
-abbrev pub payload_lent : Bool → Option PayloadBytes → Bool
-payload_lent otherwise None = otherwise
-payload_lent otherwise (Some payload) = is_lent payload
+-- whether findings borrow a payload, if there is one
+abbrev pub payload_borrowed : Bool → Option PayloadBytes → Bool
+payload_borrowed otherwise None = otherwise
+payload_borrowed otherwise (Some payload) = is_borrowed payload
 
 -- bytes of a payload
 abbrev pub payload_list : PayloadBytes → List ℕ
-payload_list (Lent bytes) = bytes.now
-payload_list (Passing bytes) = bytes.now
+payload_list (Borrowed bytes) = bytes.now
+payload_list (Copied bytes) = bytes.now
 
--- the payload of a packet as it is handed on: its bytes, lent where the packet is
+-- the payload of a packet as it is handed on: its bytes, and whether findings borrow them
 abbrev pub IsPayloadOf : Packet → Bool → Option PayloadBytes → Type 0
-IsPayloadOf packet lent payload = (option_map payload_list payload ≡ bytes_view packet.payload) × (payload_lent lent payload ≡ lent)
+IsPayloadOf packet borrowed payload = (option_map payload_list payload ≡ bytes_view packet.payload) × (payload_borrowed borrowed payload ≡ borrowed)
 
 -- what is decided of bytes
 abbrev pub what_of : List ℕ → Verdict → WhatView
@@ -133,22 +133,22 @@ what_of bytes (verdicts.Section size) = IsSection (take size bytes)
 what_of bytes (verdicts.BadSection error) = IsBadSection error
 
 -- what a packet does with its payload
-abbrev pub carried_role : Carried → Role
-carried_role carried.Nothing = CarriesNothing
-carried_role carried.Scrambled = Scrambles
-carried_role (carried.PesStart payload) = BeginsPes (payload_list payload)
-carried_role (carried.Pointed before payload) = Points before.now (payload_list payload)
-carried_role carried.PointedPast = PointsPast
-carried_role (carried.More payload) = Continues payload.now
+abbrev pub role_view : PayloadRole → Role
+role_view payload_roles.NoPayload = NoPayload
+role_view payload_roles.Scrambled = ScrambledPayload
+role_view (payload_roles.PesStart payload) = PesStart (payload_list payload)
+role_view (payload_roles.SectionStart before payload) = SectionStart before.now (payload_list payload)
+role_view payload_roles.PointerPastEnd = PointerPastEnd
+role_view (payload_roles.Continuation payload) = Continuation payload.now
 
--- whether the bytes that begin something are lent, if there are any
-abbrev pub carried_lent : Bool → Carried → Bool
-carried_lent otherwise (carried.PesStart payload) = is_lent payload
-carried_lent otherwise (carried.Pointed before payload) = is_lent payload
-carried_lent otherwise carried.Nothing = otherwise
-carried_lent otherwise carried.Scrambled = otherwise
-carried_lent otherwise carried.PointedPast = otherwise
-carried_lent otherwise (carried.More payload) = otherwise
+-- whether findings borrow the bytes that begin something, if there are any
+abbrev pub role_borrowed : Bool → PayloadRole → Bool
+role_borrowed otherwise (payload_roles.PesStart payload) = is_borrowed payload
+role_borrowed otherwise (payload_roles.SectionStart before payload) = is_borrowed payload
+role_borrowed otherwise payload_roles.NoPayload = otherwise
+role_borrowed otherwise payload_roles.Scrambled = otherwise
+role_borrowed otherwise payload_roles.PointerPastEnd = otherwise
+role_borrowed otherwise (payload_roles.Continuation payload) = otherwise
 
 -- a packet that was read, with its index and its bytes
 abbrev pub entry_with : ℕ → List ℕ → Packet → Entry
@@ -164,13 +164,13 @@ mark_broken marked_as.Duplicate = None
 mark_broken marked_as.Follows = None
 mark_broken (marked_as.Breaks expected found) = Some (expected, found)
 
--- what is open where a packet divides; nothing where a break comes before
-abbrev pub kept_by : Role → Option Begun → Option Begun
-kept_by role held = if role_divides role then held else None
+-- the open unit where a packet divides; none where a break comes before
+abbrev pub kept_by : Role → Option OpenUnit → Option OpenUnit
+kept_by role open_unit = if role_divides role then open_unit else None
 
 -- a duplicate is read no further
 abbrev pub marked_role : Mark → Role → Role
-marked_role mark role = if mark_duplicate mark then CarriesNothing else role
+marked_role mark role = if mark_duplicate mark then NoPayload else role
 
-abbrev pub marked_findings : ℕ → Mark → Role → Option Begun → List Found
-marked_findings packet mark role held = if mark_duplicate mark then plain IsDuplicate ∷ [] else by_break packet (mark_broken mark) role held
+abbrev pub marked_findings : ℕ → Mark → Role → Option OpenUnit → List Found
+marked_findings packet mark role open_unit = if mark_duplicate mark then plain IsDuplicate ∷ [] else by_break packet (mark_broken mark) role open_unit

@@ -8,7 +8,7 @@ use Rattle.ts_packet.specs.PidList.{Entry}
 use Rattle.demux.specs.Views.{WhatView, IsTruncated, IsBadPacket, IsErrored, FindingView}
 use Rattle.demux.specs.Findings.{ended}
 use Rattle.demux.specs.Machine.{PidState, fresh, step, found_by}
-use Rattle.demux.specs.Shown.{told}
+use Rattle.demux.specs.Shown.{with_pid}
 use Rattle.demux.specs.declared.error.DemuxError.{DemuxError}
 use Rattle.demux.specs.declared.error.DemuxError.TheVariants.{Memory, Ended}
 
@@ -27,8 +27,8 @@ with_state pid state [] = (pid, state) ∷ []
 with_state pid state (entry ∷ states) = if pid == entry.0 then (entry.0, state) ∷ states else entry ∷ with_state pid state states
 
 -- a finding of no PID
-abbrev pub untold : ℕ → WhatView → FindingView
-untold packet what = record { packet = packet; pid = None; begun = None; what = what }
+abbrev pub without_pid : ℕ → WhatView → FindingView
+without_pid packet what = record { packet = packet; pid = None; begun = None; what = what }
 
 abbrev pub entry_of : ℕ → List ℕ → PacketView → Entry
 entry_of index bytes packet = record { index = index; bytes = bytes; packet = packet }
@@ -37,19 +37,19 @@ entry_of index bytes packet = record { index = index; bytes = bytes; packet = pa
 -- none
 unfoldable pub states_by : ℕ → List ℕ → States → Result PacketView PacketError → States
 states_by index bytes states (Err error) = states
-states_by index bytes states (Ok packet) = if packet.header.error_indicator then states else (if packet.header.pid == 8191 then states
+states_by index bytes states (Ok packet) = if packet.header.transport_error_indicator then states else (if packet.header.pid == 8191 then states
     else with_state packet.header.pid (step (state_of packet.header.pid states) (entry_of index bytes packet)) states)
 
 -- what is found in them
 unfoldable pub findings_by : ℕ → List ℕ → States → Result PacketView PacketError → List FindingView
-findings_by index bytes states (Err error) = untold index (IsBadPacket error) ∷ []
-findings_by index bytes states (Ok packet) = if packet.header.error_indicator then untold index IsErrored ∷ [] else (if packet.header.pid == 8191 then []
-    else map (told packet.header.pid index) (found_by (state_of packet.header.pid states) (entry_of index bytes packet)))
+findings_by index bytes states (Err error) = without_pid index (IsBadPacket error) ∷ []
+findings_by index bytes states (Ok packet) = if packet.header.transport_error_indicator then without_pid index IsErrored ∷ [] else (if packet.header.pid == 8191 then []
+    else map (with_pid packet.header.pid index) (found_by (state_of packet.header.pid states) (entry_of index bytes packet)))
 
 -- of what is found in them, which are a section or a PES packet that lies whole in this packet
 unfoldable pub within_by : ℕ → List ℕ → States → Result PacketView PacketError → List Bool
 within_by index bytes states (Err error) = false ∷ []
-within_by index bytes states (Ok packet) = if packet.header.error_indicator then false ∷ [] else (if packet.header.pid == 8191 then []
+within_by index bytes states (Ok packet) = if packet.header.transport_error_indicator then false ∷ [] else (if packet.header.pid == 8191 then []
     else map (λ found. found.within) (found_by (state_of packet.header.pid states) (entry_of index bytes packet)))
 
 -- a demultiplexer: the whole packets so far, the states, the bytes held of a packet, what was found, and whether the
@@ -85,13 +85,13 @@ found_in s bytes = findings_by s.packets bytes s.states (packet_at bytes)
 unfoldable pub within_in : StreamState → List ℕ → List Bool
 within_in s bytes = within_by s.packets bytes s.states (packet_at bytes)
 
--- the same with what is found put to the findings
-abbrev pub passed : StreamState → List ℕ → StreamState
-passed s bytes = record (taken s bytes) { held = []; found = s.found ++ found_in s bytes }
+-- the same with what is found added to the findings
+abbrev pub packet_pushed : StreamState → List ℕ → StreamState
+packet_pushed s bytes = record (taken s bytes) { held = []; found = s.found ++ found_in s bytes }
 
 -- what is held, once it may be a packet
 unfoldable pub completed : StreamState → List ℕ → StreamState
-completed s held = if length held == 188 then passed s held else record s { held = held }
+completed s held = if length held == 188 then packet_pushed s held else record s { held = held }
 
 -- after bytes, one by one
 abbrev pub pushed : StreamState → List ℕ → StreamState
@@ -101,10 +101,10 @@ pushed s (byte ∷ bytes) = pushed (completed s (s.held ++ byte ∷ [])) bytes
 -- what the end of the stream decides: the held bytes of a packet, then what is open, in the order of the PIDs
 abbrev pub held_found : ℕ → List ℕ → List FindingView
 held_found packets [] = []
-held_found packets held = untold packets (IsTruncated held) ∷ []
+held_found packets held = without_pid packets (IsTruncated held) ∷ []
 
 unfoldable pub ended_found : ℕ → States → List FindingView
-ended_found packets states = flat_map (λ entry. map (told entry.0 packets) (ended true entry.1.part)) states
+ended_found packets states = flat_map (λ entry. map (with_pid entry.0 packets) (ended true entry.1.open_unit)) states
 
 -- after the end of the stream
 abbrev pub finished : StreamState → StreamState

@@ -40,7 +40,7 @@ pub record Found : Type 0 where
   pub within : Bool
 
 -- a finding of a PID, at a packet
-pub record At : Type 0 where
+pub record PidFinding : Type 0 where
   pub packet : ℕ
   pub found : Found
 

@@ -1,22 +1,24 @@
 //! The demultiplexer: a stream in pieces, or packet by packet.
-ghost use Rattle.std.specs.Prelude.{◌≡◌, ◌<◌, ◌≤◌, ◌+◌, ◌++◌, [], false, true, IfOk, IfErr, OnOk, OnErr, map, take, length};
+ghost use Rattle.std.specs.Prelude.{◌≡◌, ◌<◌, ◌≤◌, ◌+◌, ◌++◌, [], false, true, IfOk, IfErr, OnOk, OnErr, map, take};
+ghost use Rattle.std.specs.Prelude.{length};
 ghost use Rattle.demux.specs.Stream as stream;
 ghost use Rattle.std.specs.List.{list_any};
-ghost use Rattle.demux.specs.Shown.{SaysTheSame, Spans, Tells, finding_view, is_span};
+ghost use Rattle.demux.specs.Shown.{KeepsFindings, Spans, AddsFindings, finding_view, is_span};
 
 use crate::error::DemuxError;
 use crate::finding::Finding;
-use crate::packets::{note_held, take_lent, take_passing};
+use crate::packets::{note_held, take_borrowed, take_copied};
 use crate::states::{States, end_all};
 use arrayvec::ArrayVec;
 use indexmap::IndexMap;
 use std::alloc::{AllocError, Allocator, Global};
 use std::marker::Model;
 
-/// What is kept of a transport stream: a state for each PID, and the at most 187 bytes of a packet that is not whole yet.
+/// What is kept of a transport stream: a state for each PID, and the at most 187 bytes of a packet that is not whole
+/// yet.
 ///
-/// The state of a PID has its last packet and what is open: at most 8,388,608 bytes of a section or a PES packet. Packets
-/// are numbered from 0; the number stops at 2^64 - 1.
+/// The state of a PID has its last packet and its open unit: at most 8,388,608 bytes of a section or a PES packet.
+/// Packets are numbered from 0; the number stops at 2^64 - 1.
 #[derive(Drop)]
 pub struct Demux<A: Allocator = Global> {
     states: States<A>,
@@ -34,7 +36,13 @@ impl<A: Allocator> Model for Demux<A> {
 
     ghost Value = { StreamState };
 
-    ghost view = { λ d. record { packets = d.packets; states = d.states.entries; held = d.held.items; found = map finding_view d.found.items; ended = d.ended } };
+    ghost view = { λ d. record {
+      packets = d.packets;
+      states = d.states.entries;
+      held = d.held.items;
+      found = map finding_view d.found.items;
+      ended = d.ended;
+    } };
 
     ghost invariant = { λ d. list_any is_span d.found.items ≡ false };
 }
@@ -93,13 +101,13 @@ impl<A: Allocator + Copy> Demux<A> {
         self.found.clear();
     }
 
-    // Takes a packet whose bytes are not kept; none are held after it.
+    // Takes a packet whose bytes findings copy; none are held after it.
     #[tactic(auto, unfolding(crate::specs::Stream::taken, crate::specs::Stream::found_in))]
-    fn pass(&mut self, bytes: &[u8; 188]) -> Result<(), AllocError>
-        ensures ok { OnOk result (self.new ≡ stream.passed self.old bytes.now) }
+    fn push_packet(&mut self, bytes: &[u8; 188]) -> Result<(), AllocError>
+        ensures ok { OnOk result (self.new ≡ stream.packet_pushed self.old bytes.now) }
         ensures err { OnErr result (self.new ≡ self.old) }
     {
-        take_passing(&mut self.states, self.packets, bytes, &mut self.found)?;
+        take_copied(&mut self.states, self.packets, bytes, &mut self.found)?;
         self.packets = self.packets.saturating_add(1);
         self.held.clear();
         Ok(())
@@ -123,7 +131,7 @@ impl<A: Allocator + Copy> Demux<A> {
         }
         let (front, _) = piece.split_at(missing);
         let bytes = join(&self.held, front);
-        self.pass(&bytes)?;
+        self.push_packet(&bytes)?;
         Ok(missing)
     }
 
@@ -142,16 +150,15 @@ impl<A: Allocator + Copy> Demux<A> {
         match piece.first_chunk::<188>() {
             None => self.hold(piece),
             Some(bytes) => {
-                self.pass(bytes)?;
+                self.push_packet(bytes)?;
                 Ok(188)
             }
         }
     }
 
-    /// Takes a piece of the stream, of any size. What is found is put to the findings.
+    /// Takes a piece of the stream, of any size. What is found is added to the findings.
     ///
-    /// Where there is no memory, the bytes before the first packet that wanted some are taken, and the rest may be given
-    /// again.
+    /// Out of memory: the bytes before the packet that needed more are taken, and the rest may be given again.
     pub fn push(&mut self, piece: &[u8]) -> Result<(), DemuxError>
         ensures ok { OnOk result (self.new ≡ stream.pushed self.old piece.now) }
         ensures open { OnOk result (self.old.ended ≡ false) }
@@ -171,8 +178,8 @@ impl<A: Allocator + Copy> Demux<A> {
         Ok(())
     }
 
-    /// Takes a packet, where no part of one is held. What is found goes to `found`, and points into the packet where it lies
-    /// in it whole.
+    /// Takes a packet, where no part of one is held. What is found goes to `found`, and points into the packet where it
+    /// lies in it whole.
     #[tactic(auto, unfolding(crate::specs::Stream::taken, crate::specs::Stream::found_in, crate::specs::Stream::within_in))]
     pub fn take<'a>(
         &mut self,
@@ -181,17 +188,18 @@ impl<A: Allocator + Copy> Demux<A> {
     ) -> Result<(), DemuxError>
         requires { stream.is_aligned self.old ≡ true }
         ensures ok { OnOk result (self.new ≡ stream.taken self.old bytes.now) }
-        ensures found { OnOk result (Tells found.old.items found.new.items (stream.found_in self.old bytes.now)) }
+        ensures found { OnOk result (AddsFindings found.old.items found.new.items
+            (stream.found_in self.old bytes.now)) }
         ensures spans { OnOk result (Spans found.old.items found.new.items (stream.within_in self.old bytes.now)) }
         ensures open { OnOk result (self.old.ended ≡ false) }
         ensures aligned { stream.is_aligned self.new ≡ true }
         ensures refused { IfErr result (λ error. stream.TakeRefused self.old self.new error) }
-        ensures none { OnErr result (SaysTheSame found.old.items found.new.items) }
+        ensures none { OnErr result (KeepsFindings found.old.items found.new.items) }
     {
         if self.ended {
             return Err(DemuxError::Ended);
         }
-        match take_lent(&mut self.states, self.packets, bytes, found) {
+        match take_borrowed(&mut self.states, self.packets, bytes, found) {
             Ok(()) => {
                 self.packets = self.packets.saturating_add(1);
                 Ok(())
@@ -203,7 +211,8 @@ impl<A: Allocator + Copy> Demux<A> {
     // What the end of the stream decides.
     #[tactic(auto, unfolding(crate::specs::Stream::held_found))]
     fn ends(&self) -> Result<Vec<Finding<'static, A>, A>, AllocError>
-        ensures found { IfOk result (λ found. map finding_view found.items ≡ stream.held_found self.now.packets self.now.held ++ stream.ended_found self.now.packets self.now.states) }
+        ensures found { IfOk result (λ found. map finding_view found.items
+            ≡ stream.held_found self.now.packets self.now.held ++ stream.ended_found self.now.packets self.now.states) }
         ensures joined { IfOk result (λ found. list_any is_span found.items ≡ false) }
     {
         let alloc = *self.states.allocator();
@@ -213,7 +222,7 @@ impl<A: Allocator + Copy> Demux<A> {
         Ok(found)
     }
 
-    /// The stream ends: what it decides is put to the findings. A second end adds nothing.
+    /// The stream ends: what that decides is added to the findings. A second end adds nothing.
     pub fn finish(&mut self) -> Result<(), DemuxError>
         ensures ok { OnOk result (self.new ≡ stream.finished self.old) }
         ensures again { self.old.ended ≡ true → result ≡ Ok tt }
@@ -248,7 +257,8 @@ pub fn whole<A: Allocator + Copy>(
     alloc: A,
     bytes: &[u8],
 ) -> Result<Vec<Finding<'static, A>, A>, DemuxError>
-    ensures ok { IfOk result (λ found. map finding_view found.items ≡ (stream.finished (stream.pushed stream.start bytes.now)).found) }
+    ensures ok { IfOk result (λ found. map finding_view found.items ≡
+        (stream.finished (stream.pushed stream.start bytes.now)).found) }
     ensures joined { IfOk result (λ found. list_any is_span found.items ≡ false) }
     ensures err { IfErr result (λ error. error ≡ DemuxError.Memory 0) }
 {

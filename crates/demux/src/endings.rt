@@ -1,16 +1,16 @@
-//! How what is open ends, or goes on.
-ghost use Rattle.std.specs.Prelude.{◌≡◌, ◌≤◌, Some, None, [], ◌∷◌, IfOk, OnOk, OnErr, option_map, length, drop, false, is_some, ◌++◌};
+//! How an open unit ends, or goes on.
+ghost use Rattle.std.specs.Prelude.{◌≡◌, ◌≤◌, ◌++◌, IfOk, OnOk, OnErr, length, drop, false, is_some};
 ghost use Rattle.pes_packet.specs.Reading.{header_at};
-ghost use Rattle.demux.specs.Parts as parts;
-ghost use Rattle.demux.specs.Roles.{Continues};
+ghost use Rattle.demux.specs.OpenUnits as units;
+ghost use Rattle.demux.specs.Roles.{Continuation};
 ghost use Rattle.demux.specs.Findings as findings;
-ghost use Rattle.demux.specs.Machine.{next_part};
+ghost use Rattle.demux.specs.Machine.{next_open};
 ghost use Rattle.demux.specs.Views.{IsTruncated};
-ghost use Rattle.demux.specs.Shown.{Finds, SaysTheSame, has_span, what_view};
+ghost use Rattle.demux.specs.Shown.{Finds, KeepsFindings, has_span, what_view};
 
-use crate::beginnings::{kind_of, note_decided};
+use crate::beginnings::{begun_kind, note_decided};
 use crate::finding::{Finding, Part, What};
-use crate::open_part::{Begun, Form};
+use crate::open_unit::{OpenUnit, UnitKind};
 use crate::place::{Place, note};
 use crate::verdicts::decide;
 use pes_packet::read_header;
@@ -35,19 +35,19 @@ fn truncated<'a, A: Allocator + Clone>(alloc: &A, bytes: &[u8]) -> Result<What<'
     Ok(What::Truncated(Part::Joined(Vec::from_slice(alloc.clone()?, bytes)?)))
 }
 
-// What is open where nothing more comes.
+// An open unit where nothing more comes.
 fn end_of<'a, A: Allocator + Clone>(
     alloc: &A,
     unended: bool,
-    form: Form,
+    kind: UnitKind,
     bytes: &[u8],
 ) -> Result<What<'a, A>, AllocError>
-    ensures says { IfOk result (λ what. what_view what ≡ findings.end_of unended bytes.now form (header_at bytes.now)) }
+    ensures says { IfOk result (λ what. what_view what ≡ findings.end_of unended bytes.now kind (header_at bytes.now)) }
     ensures joined { IfOk result (λ what. has_span what ≡ false) }
 {
-    match form {
-        Form::OfSection => truncated(alloc, bytes),
-        Form::OfPes => match read_header(bytes) {
+    match kind {
+        UnitKind::Section => truncated(alloc, bytes),
+        UnitKind::Pes => match read_header(bytes) {
             Err(_) => truncated(alloc, bytes),
             Ok((header, size)) => {
                 if header.len != 0 {
@@ -64,40 +64,40 @@ fn end_of<'a, A: Allocator + Clone>(
     }
 }
 
-/// What is open is cut short.
+/// The open unit is cut short.
 pub(crate) fn cut_short<'a, A: Allocator + Clone>(
     alloc: &A,
     place: Place,
-    held: &Option<Begun<A>>,
+    open_unit: &Option<OpenUnit<A>>,
     found: &mut Vec<Finding<'a, A>, A>,
 ) -> Result<(), AllocError>
-    ensures { OnOk result (Finds place found.old.items found.new.items (findings.cut_short held.now)) }
+    ensures { OnOk result (Finds place found.old.items found.new.items (findings.cut_short open_unit.now)) }
 {
-    let Some(part) = held else {
+    let Some(unit) = open_unit else {
         return Ok(());
     };
-    let kind = kind_of(part.form, &part.bytes);
-    let what = truncated(alloc, &part.bytes)?;
-    note(place, Some((part.packet, kind)), what, found)
+    let begun = begun_kind(unit.kind, &unit.bytes);
+    let what = truncated(alloc, &unit.bytes)?;
+    note(place, Some((unit.packet, begun)), what, found)
 }
 
-/// What is open ends: a PES packet without a length is whole.
+/// The open unit ends: a PES packet without a length is whole.
 #[tactic(auto, unfolding(crate::specs::Findings::ended))]
-pub(crate) fn end<'a, A: Allocator + Clone>(
+pub(crate) fn end_unit<'a, A: Allocator + Clone>(
     alloc: &A,
     place: Place,
     unended: bool,
-    held: &Option<Begun<A>>,
+    open_unit: &Option<OpenUnit<A>>,
     found: &mut Vec<Finding<'a, A>, A>,
 ) -> Result<(), AllocError>
-    ensures { OnOk result (Finds place found.old.items found.new.items (findings.ended unended held.now)) }
+    ensures { OnOk result (Finds place found.old.items found.new.items (findings.ended unended open_unit.now)) }
 {
-    let Some(part) = held else {
+    let Some(unit) = open_unit else {
         return Ok(());
     };
-    let kind = kind_of(part.form, &part.bytes);
-    let what = end_of(alloc, unended, part.form, &part.bytes)?;
-    note(place, Some((part.packet, kind)), what, found)
+    let begun = begun_kind(unit.kind, &unit.bytes);
+    let what = end_of(alloc, unended, unit.kind, &unit.bytes)?;
+    note(place, Some((unit.packet, begun)), what, found)
 }
 
 // The last bytes of an open section: decided by them, or cut short.
@@ -106,22 +106,23 @@ fn end_section<'a, A: Allocator + Clone>(
     alloc: &A,
     place: Place,
     before: &[u8],
-    part: &Begun<A>,
+    unit: &OpenUnit<A>,
     found: &mut Vec<Finding<'a, A>, A>,
 ) -> Result<(), AllocError>
-    requires { part.now.form ≡ Form.OfSection }
+    requires { unit.now.kind ≡ UnitKind.Section }
     ensures { OnOk result (Finds place found.old.items found.new.items
-        (findings.found_or_cut (parts.grown part.now before.now) (parts.decided Form.OfSection (part.now.bytes ++ before.now)))) }
+        (findings.found_or_cut (units.appended unit.now before.now)
+        (units.decided UnitKind.Section (unit.now.bytes ++ before.now)))) }
 {
-    let mut joined = Vec::from_slice(alloc.clone()?, &part.bytes)?;
+    let mut joined = Vec::from_slice(alloc.clone()?, &unit.bytes)?;
     joined.extend_from_slice(before)?;
     let bytes = joined.as_slice();
-    match decide(Form::OfSection, bytes) {
+    match decide(UnitKind::Section, bytes) {
         None => {
             let what = truncated(alloc, bytes)?;
             note(
                 place,
-                Some((part.packet, kind_of(Form::OfSection, bytes))),
+                Some((unit.packet, begun_kind(UnitKind::Section, bytes))),
                 what,
                 found,
             )
@@ -130,8 +131,8 @@ fn end_section<'a, A: Allocator + Clone>(
             note_decided(
                 alloc,
                 place,
-                part.packet,
-                Form::OfSection,
+                unit.packet,
+                UnitKind::Section,
                 bytes,
                 verdict,
                 found,
@@ -142,49 +143,49 @@ fn end_section<'a, A: Allocator + Clone>(
 
 /// The bytes before the place to which pointer_field points.
 #[tactic(auto, unfolding(crate::specs::Findings::last_bytes, crate::specs::Findings::last_bytes_by))]
-pub(crate) fn end_before<'a, A: Allocator + Clone>(
+pub(crate) fn end_before_pointer<'a, A: Allocator + Clone>(
     alloc: &A,
     place: Place,
     before: &[u8],
-    held: &Option<Begun<A>>,
+    open_unit: &Option<OpenUnit<A>>,
     found: &mut Vec<Finding<'a, A>, A>,
 ) -> Result<(), AllocError>
-    ensures { OnOk result (Finds place found.old.items found.new.items (findings.last_bytes before.now held.now)) }
+    ensures { OnOk result (Finds place found.old.items found.new.items (findings.last_bytes before.now open_unit.now)) }
 {
-    let Some(part) = held else {
+    let Some(unit) = open_unit else {
         return Ok(());
     };
-    match part.form {
-        Form::OfPes => end(alloc, place, false, held, found),
-        Form::OfSection => end_section(alloc, place, before, part, found),
+    match unit.kind {
+        UnitKind::Pes => end_unit(alloc, place, false, open_unit, found),
+        UnitKind::Section => end_section(alloc, place, before, unit, found),
     }
 }
 
-// Joins a payload to the bytes of what is open; where that decides it, it is noted. Whether it does.
+// Appends a payload to the bytes of the open unit; where that decides the unit, it is noted. Whether it does.
 #[tactic(auto, unfolding(crate::specs::Findings::found_if))]
-fn join_payload<'a, A: Allocator + Clone>(
+fn append_bytes<'a, A: Allocator + Clone>(
     alloc: &A,
     place: Place,
     packet: u64,
-    form: Form,
+    kind: UnitKind,
     payload: &[u8],
     bytes: &mut Vec<u8, A>,
     found: &mut Vec<Finding<'a, A>, A>,
 ) -> Result<bool, AllocError>
     ensures joined { OnOk result (bytes.new.items ≡ bytes.old.items ++ payload.now) }
     ensures found { OnOk result (Finds place found.old.items found.new.items
-        (findings.decided_by (record { packet = packet; form = form; bytes = bytes.old.items ++ payload.now }))) }
-    ensures decided { IfOk result (λ decided. decided ≡ is_some (parts.decided form (bytes.old.items ++ payload.now))) }
-    ensures bounded { IfOk result (λ decided. decided ≡ false → length bytes.new.items ≤ parts.longest) }
+        (findings.decided_by (record { packet = packet; kind = kind; bytes = bytes.old.items ++ payload.now }))) }
+    ensures decided { IfOk result (λ decided. decided ≡ is_some (units.decided kind (bytes.old.items ++ payload.now))) }
+    ensures bounded { IfOk result (λ decided. decided ≡ false → length bytes.new.items ≤ units.max_unbounded_pes) }
     ensures err { OnErr result (bytes.new.items ≡ bytes.old.items) }
-    ensures none { OnErr result (SaysTheSame found.old.items found.new.items) }
+    ensures none { OnErr result (KeepsFindings found.old.items found.new.items) }
 {
     let len = bytes.len();
     bytes.extend_from_slice(payload)?;
-    let Some(verdict) = decide(form, bytes) else {
+    let Some(verdict) = decide(kind, bytes) else {
         return Ok(false);
     };
-    match note_decided(alloc, place, packet, form, bytes, verdict, found) {
+    match note_decided(alloc, place, packet, kind, bytes, verdict, found) {
         Ok(()) => Ok(true),
         Err(error) => {
             bytes.truncate(len);
@@ -193,66 +194,46 @@ fn join_payload<'a, A: Allocator + Clone>(
     }
 }
 
-// What is open takes a payload; where that decides it, it is open no more.
-#[tactic(auto, unfolding(crate::specs::Findings::undecided, crate::specs::Findings::unless_decided))]
-fn grow<'a, A: Allocator + Clone>(
+/// A payload that goes on with the open unit; where that decides the unit, it is open no more.
+#[tactic(auto, unfolding(crate::specs::Findings::found_appended, crate::specs::Findings::undecided, crate::specs::Findings::unless_decided, crate::specs::Machine::next_open))]
+pub(crate) fn append_payload<'a, A: Allocator + Clone>(
     alloc: &A,
     place: Place,
     payload: &[u8],
-    part: Begun<A>,
-    held: &mut Option<Begun<A>>,
+    open_unit: &mut Option<OpenUnit<A>>,
     found: &mut Vec<Finding<'a, A>, A>,
 ) -> Result<(), AllocError>
-    ensures part { OnOk result (held.new ≡ findings.undecided (parts.grown part payload.now)) }
-    ensures found { OnOk result (Finds place found.old.items found.new.items (findings.decided_by (parts.grown part payload.now))) }
-    ensures err { OnErr result (held.new ≡ Some part) }
-    ensures none { OnErr result (SaysTheSame found.old.items found.new.items) }
+    ensures next { OnOk result (open_unit.new ≡ next_open place.packet (Continuation payload.now) open_unit.old) }
+    ensures found { OnOk result (Finds place found.old.items found.new.items
+        (findings.found_appended payload.now open_unit.old)) }
+    ensures err { OnErr result (open_unit.new ≡ open_unit.old) }
+    ensures none { OnErr result (KeepsFindings found.old.items found.new.items) }
 {
-    let Begun {
+    let Some(unit) = open_unit.take() else {
+        return Ok(());
+    };
+    let OpenUnit {
         packet,
-        form,
+        kind,
         mut bytes,
-    } = part;
-    match join_payload(alloc, place, packet, form, payload, &mut bytes, found) {
-        Ok(true) => {
-            *held = None;
-            Ok(())
-        }
+    } = unit;
+    match append_bytes(alloc, place, packet, kind, payload, &mut bytes, found) {
+        Ok(true) => Ok(()),
         Ok(false) => {
-            *held = Some(Begun {
+            *open_unit = Some(OpenUnit {
                 packet,
-                form,
+                kind,
                 bytes,
             });
             Ok(())
         }
         Err(error) => {
-            *held = Some(Begun {
+            *open_unit = Some(OpenUnit {
                 packet,
-                form,
+                kind,
                 bytes,
             });
             Err(error)
         }
     }
-}
-
-/// A payload that goes on with what is open.
-#[tactic(auto, unfolding(crate::specs::Findings::goes_on, crate::specs::Machine::next_part))]
-pub(crate) fn go_on<'a, A: Allocator + Clone>(
-    alloc: &A,
-    place: Place,
-    payload: &[u8],
-    held: &mut Option<Begun<A>>,
-    found: &mut Vec<Finding<'a, A>, A>,
-) -> Result<(), AllocError>
-    ensures part { OnOk result (held.new ≡ next_part place.packet (Continues payload.now) held.old) }
-    ensures found { OnOk result (Finds place found.old.items found.new.items (findings.goes_on payload.now held.old)) }
-    ensures err { OnErr result (held.new ≡ held.old) }
-    ensures none { OnErr result (SaysTheSame found.old.items found.new.items) }
-{
-    let Some(part) = held.take() else {
-        return Ok(());
-    };
-    grow(alloc, place, payload, part, held, found)
 }

@@ -8,7 +8,7 @@ use std::alloc::{Allocator, Global};
 use ts_packet::PacketError;
 
 /// What begins at the first byte of a section or a PES packet.
-#[derive(Clone, Copy, Debug, PartialEq, Eq)]
+#[derive(Clone, Copy, PartialEq, Eq)]
 pub enum Kind {
     /// a section, of this table_id
     Table(u8),
@@ -51,8 +51,8 @@ pub enum What<'a, A: Allocator = Global> {
     Truncated(Part<'a, A>),
     /// a whole section: its bytes
     Section(Part<'a, A>),
-    /// bytes where a section should stand: `Length` or `CheckWord`, or `Body` for a pointer_field that points past the end
-    /// of its packet
+    /// bytes where a section should stand: `Length` or `CheckWord`, or `Body` for a pointer_field that points past the
+    /// end of its packet
     BadSection(SectionError),
     /// a PES packet: its header, whether the stream ended before its end was known, and the bytes after the header
     Pes {

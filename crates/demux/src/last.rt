@@ -22,7 +22,12 @@ impl Model for Last {
 
     ghost Value = { LastView };
 
-    ghost view = { λ l. record { duplicate = l.duplicate; has_payload = l.has_payload; counter = l.counter; content = without_pcr l.has_pcr l.bytes } };
+    ghost view = { λ l. record {
+      duplicate = l.duplicate;
+      has_payload = l.has_payload;
+      counter = l.counter;
+      content = without_pcr l.has_pcr l.bytes;
+    } };
 }
 
 impl Last {

@@ -2,10 +2,10 @@
 
 ghost use Rattle.demux.specs.Laws.{EachPidAlone, PacketsDecide, PiecesJoin, TakenAsPushed};
 ghost use Rattle.demux.specs.Machine.{RunFindsAll};
-ghost use Rattle.demux.specs.TakenAway.{AllAreFound, NothingAtFirst, PacketAdds, PacketsAdd, PidFoundSoFar, PieceAdds};
+ghost use Rattle.demux.specs.FoundSoFar.{AllAreFound, NothingAtFirst, PacketAdds, PacketsAdd, PidFoundSoFar, PieceAdds};
 
-/// Packet by packet, with a state that keeps the last packet and what is open, the findings are those that the packets of
-/// the PID have as a whole, with the end of the stream and without it.
+/// Packet by packet, with a state that keeps the last packet and the open unit, the findings are those that the packets
+/// of the PID have as a whole, with the end of the stream and without it.
 pub fn packet_by_packet()
     ensures { RunFindsAll }
 {}
@@ -15,7 +15,8 @@ pub fn pieces_join()
     ensures { PiecesJoin }
 {}
 
-/// Where no part of a packet is held, a packet that is taken leaves and finds what its 188 bytes would if they were pushed.
+/// Where no part of a packet is held, a packet that is taken leaves and finds what its 188 bytes would if they were
+/// pushed.
 pub fn taken_as_pushed()
     ensures { TakenAsPushed }
 {}
@@ -26,14 +27,14 @@ pub fn each_pid_alone()
     ensures { EachPidAlone }
 {}
 
-/// Streams that agree on a PID's packets and their places agree on its findings; with the end of the stream, if they also
-/// agree on the number of packets.
+/// Streams that agree on a PID's packets and their places agree on its findings; with the end of the stream, if they
+/// also agree on the number of packets.
 pub fn packets_decide()
     ensures { PacketsDecide }
 {}
 
-/// A caller who takes the findings away as they come, after a packet or several that were taken or a piece that was pushed,
-/// has all that are found, joined in their order; at the end the last ones follow.
+/// A caller who takes the findings away as they come, after a packet or several that were taken or a piece that was
+/// pushed, has all that are found, joined in their order; at the end the last ones follow.
 pub fn nothing_is_lost()
     ensures at_first { NothingAtFirst }
     ensures packet { PacketAdds }

@@ -1,7 +1,8 @@
 //! What is found in a transport stream: PES packets, sections, and what is wrong with the packets that carry them.
 //!
-//! The findings of a PID are a function of that PID's packets alone (`specs/Findings`). `Demux` takes a stream in pieces of
-//! any size or packet by packet and keeps a state a PID, which finds the same (`packet_by_packet`, `each_pid_alone`).
+//! The findings of a PID are a function of that PID's packets alone (`specs/Findings`). `Demux` takes a stream in
+//! pieces of any size or packet by packet and keeps a state for each PID, which finds the same (`packet_by_packet`,
+//! `each_pid_alone`).
 #![tactic(auto)]
 
 mod beginnings;
@@ -12,7 +13,7 @@ mod finding;
 mod last;
 mod laws;
 mod marks;
-mod open_part;
+mod open_unit;
 mod packets;
 mod payload_bytes;
 mod pid_state;

@@ -22,7 +22,7 @@ fn is_discontinuity(packet: &Packet<'_>) -> bool
     ensures { result ≡ marks.is_discontinuity (packet_view packet.now).adaptation }
 {
     match packet.adaptation {
-        Some(Adaptation::Flagged(parts)) => parts.discontinuity,
+        Some(Adaptation::Flagged(parts)) => parts.discontinuity_indicator,
         _ => false,
     }
 }
@@ -88,7 +88,11 @@ pub(crate) fn mark_of(
 // What is kept of a packet.
 #[tactic(auto, unfolding(crate::specs::Marks::seen))]
 fn seen(mark: Mark, index: u64, packet: &Packet<'_>, bytes: &[u8; 188]) -> Last
-    ensures { result ≡ marks.seen (record { entry = entry_with index bytes.now packet.now; duplicate = mark_duplicate mark; broken = mark_broken mark }) }
+    ensures { result ≡ marks.seen (record {
+      entry = entry_with index bytes.now packet.now;
+      duplicate = mark_duplicate mark;
+      broken = mark_broken mark;
+    }) }
 {
     Last {
         duplicate: matches!(mark, Mark::Duplicate),
@@ -108,7 +112,11 @@ pub(crate) fn keep(
     packet: &Packet<'_>,
     bytes: &[u8; 188],
 )
-    ensures { last.new ≡ Some (marks.seen (record { entry = entry_with index bytes.now packet.now; duplicate = mark_duplicate mark; broken = mark_broken mark })) }
+    ensures { last.new ≡ Some (marks.seen (record {
+      entry = entry_with index bytes.now packet.now;
+      duplicate = mark_duplicate mark;
+      broken = mark_broken mark;
+    })) }
 {
     match last {
         None => *last = Some(seen(mark, index, packet, bytes)),

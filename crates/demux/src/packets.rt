@@ -1,9 +1,11 @@
 //! A whole packet of a stream.
-ghost use Rattle.std.specs.Prelude.{◌≡◌, ◌&&◌, [], ◌∷◌, true, false, Some, None, OnOk, OnErr, option_map, map};
+ghost use Rattle.std.specs.Prelude.{◌≡◌, ◌&&◌, [], ◌∷◌, true, false, OnOk, OnErr, option_map, map};
 ghost use Rattle.ts_packet.specs.Reading.{packet_at};
 ghost use Rattle.ts_packet.specs.Views.{packet_view, bytes_view};
-ghost use Rattle.demux.specs.Stream.{findings_by, held_found, states_by, untold, within_by};
-ghost use Rattle.demux.specs.Shown.{IsPayloadOf, KeepsJoined, SaysTheSame, Spans, Tells, finding_view, has_span, payload_lent, payload_list, what_view};
+ghost use Rattle.demux.specs.Stream.{findings_by, held_found, states_by, without_pid, within_by};
+ghost use Rattle.demux.specs.Shown.{IsPayloadOf, KeepsJoined, KeepsFindings, Spans, AddsFindings, finding_view};
+ghost use Rattle.demux.specs.Shown.{has_span};
+ghost use Rattle.demux.specs.Shown.{payload_borrowed, payload_list, what_view};
 
 use crate::finding::{Finding, Part, What};
 use crate::payload_bytes::PayloadBytes;
@@ -13,14 +15,15 @@ use std::alloc::{AllocError, Allocator};
 use ts_packet::{NULL_PID, Packet, read_packet};
 
 // Notes what is found of no PID.
-pub(crate) fn note_untold<'a, A: Allocator>(
+pub(crate) fn note_without_pid<'a, A: Allocator>(
     packet: u64,
     what: What<'a, A>,
     found: &mut Vec<Finding<'a, A>, A>,
 ) -> Result<(), AllocError>
-    ensures ok { OnOk result (Tells found.old.items found.new.items (untold packet (what_view what.entry) ∷ [])) }
+    ensures ok { OnOk result (AddsFindings found.old.items found.new.items
+        (without_pid packet (what_view what.entry) ∷ [])) }
     ensures spans { OnOk result (Spans found.old.items found.new.items (has_span what.entry ∷ [])) }
-    ensures err { OnErr result (SaysTheSame found.old.items found.new.items) }
+    ensures err { OnErr result (KeepsFindings found.old.items found.new.items) }
 {
     found.push(Finding {
         packet,
@@ -32,21 +35,21 @@ pub(crate) fn note_untold<'a, A: Allocator>(
 }
 
 /// Notes the bytes of a packet that is not whole.
-#[tactic(auto, using(crate::proofs::Giving::joined_one))]
+#[tactic(auto, using(crate::proofs::FoundViews::joined_one))]
 pub(crate) fn note_held<'a, A: Allocator + Copy>(
     alloc: &A,
     packet: u64,
     held: &[u8],
     found: &mut Vec<Finding<'a, A>, A>,
 ) -> Result<(), AllocError>
-    ensures found { OnOk result (Tells found.old.items found.new.items (held_found packet held.now)) }
+    ensures found { OnOk result (AddsFindings found.old.items found.new.items (held_found packet held.now)) }
     ensures joined { OnOk result (KeepsJoined found.old.items found.new.items) }
 {
     if held.is_empty() {
         return Ok(());
     }
     let bytes = Vec::from_slice(*alloc, held)?;
-    note_untold(packet, What::Truncated(Part::Joined(bytes)), found)?;
+    note_without_pid(packet, What::Truncated(Part::Joined(bytes)), found)?;
     Ok(())
 }
 
@@ -57,19 +60,23 @@ fn take_read<'p, 'a: 'p, A: Allocator + Copy>(
     index: u64,
     bytes: &[u8; 188],
     packet: &Packet<'_>,
-    lent: bool,
+    borrowed: bool,
     payload: Option<PayloadBytes<'p, 'a>>,
     found: &mut Vec<Finding<'a, A>, A>,
 ) -> Result<(), AllocError>
-    requires payload { IsPayloadOf packet.now lent payload }
-    ensures states { OnOk result (states.new.entries ≡ states_by index bytes.now states.old.entries (Ok (packet_view packet.now))) }
-    ensures found { OnOk result (Tells found.old.items found.new.items (findings_by index bytes.now states.old.entries (Ok (packet_view packet.now)))) }
-    ensures spans { OnOk result (Spans found.old.items found.new.items (map (λ within. within && lent) (within_by index bytes.now states.old.entries (Ok (packet_view packet.now))))) }
+    requires payload { IsPayloadOf packet.now borrowed payload }
+    ensures states { OnOk result (states.new.entries ≡ states_by index bytes.now states.old.entries
+        (Ok (packet_view packet.now))) }
+    ensures found { OnOk result (AddsFindings found.old.items found.new.items
+        (findings_by index bytes.now states.old.entries (Ok (packet_view packet.now)))) }
+    ensures spans { OnOk result (Spans found.old.items found.new.items
+        (map (λ within. within && borrowed) (within_by index bytes.now states.old.entries
+        (Ok (packet_view packet.now))))) }
     ensures err { OnErr result (states.new.entries ≡ states.old.entries) }
-    ensures none { OnErr result (SaysTheSame found.old.items found.new.items) }
+    ensures none { OnErr result (KeepsFindings found.old.items found.new.items) }
 {
-    if packet.header.error_indicator {
-        note_untold(index, What::Errored, found)?;
+    if packet.header.transport_error_indicator {
+        note_without_pid(index, What::Errored, found)?;
         return Ok(());
     }
     if packet.header.pid == NULL_PID {
@@ -80,7 +87,7 @@ fn take_read<'p, 'a: 'p, A: Allocator + Copy>(
         Place {
             packet: index,
             pid: packet.header.pid,
-            lent,
+            borrowed,
         },
         bytes,
         packet,
@@ -90,49 +97,52 @@ fn take_read<'p, 'a: 'p, A: Allocator + Copy>(
     Ok(())
 }
 
-// The payload, lent for as long as the packet is.
-fn lent<'a>(payload: Option<&'a [u8]>) -> Option<PayloadBytes<'a, 'a>>
+// The payload, borrowed for as long as the packet is.
+fn borrowed<'a>(payload: Option<&'a [u8]>) -> Option<PayloadBytes<'a, 'a>>
     ensures bytes { option_map payload_list result ≡ bytes_view payload.entry }
-    ensures lent { payload_lent true result ≡ true }
+    ensures borrowed { payload_borrowed true result ≡ true }
 {
     match payload {
-        Some(bytes) => Some(PayloadBytes::Lent(bytes)),
+        Some(bytes) => Some(PayloadBytes::Borrowed(bytes)),
         None => None,
     }
 }
 
 // The payload, which is not kept.
-fn passing<'p>(payload: Option<&'p [u8]>) -> Option<PayloadBytes<'p, 'static>>
+fn copied<'p>(payload: Option<&'p [u8]>) -> Option<PayloadBytes<'p, 'static>>
     ensures bytes { option_map payload_list result ≡ bytes_view payload.entry }
-    ensures lent { payload_lent false result ≡ false }
+    ensures borrowed { payload_borrowed false result ≡ false }
 {
     match payload {
-        Some(bytes) => Some(PayloadBytes::Passing(bytes)),
+        Some(bytes) => Some(PayloadBytes::Copied(bytes)),
         None => None,
     }
 }
 
 /// Takes 188 bytes that findings may point into.
 #[tactic(auto, unfolding(crate::specs::Stream::states_by, crate::specs::Stream::findings_by, crate::specs::Stream::within_by))]
-pub(crate) fn take_lent<'a, A: Allocator + Copy>(
+pub(crate) fn take_borrowed<'a, A: Allocator + Copy>(
     states: &mut States<A>,
     index: u64,
     bytes: &'a [u8; 188],
     found: &mut Vec<Finding<'a, A>, A>,
 ) -> Result<(), AllocError>
-    ensures states { OnOk result (states.new.entries ≡ states_by index bytes.now states.old.entries (packet_at bytes.now)) }
-    ensures found { OnOk result (Tells found.old.items found.new.items (findings_by index bytes.now states.old.entries (packet_at bytes.now))) }
-    ensures spans { OnOk result (Spans found.old.items found.new.items (within_by index bytes.now states.old.entries (packet_at bytes.now))) }
+    ensures states { OnOk result (states.new.entries ≡ states_by index bytes.now states.old.entries
+        (packet_at bytes.now)) }
+    ensures found { OnOk result (AddsFindings found.old.items found.new.items
+        (findings_by index bytes.now states.old.entries (packet_at bytes.now))) }
+    ensures spans { OnOk result (Spans found.old.items found.new.items
+        (within_by index bytes.now states.old.entries (packet_at bytes.now))) }
     ensures err { OnErr result (states.new.entries ≡ states.old.entries) }
-    ensures none { OnErr result (SaysTheSame found.old.items found.new.items) }
+    ensures none { OnErr result (KeepsFindings found.old.items found.new.items) }
 {
     match read_packet(bytes) {
         Err(error) => {
-            note_untold(index, What::BadPacket(error), found)?;
+            note_without_pid(index, What::BadPacket(error), found)?;
             Ok(())
         }
         Ok(packet) => {
-            let payload = lent(packet.payload);
+            let payload = borrowed(packet.payload);
             take_read(states, index, bytes, &packet, true, payload, found)?;
             Ok(())
         }
@@ -140,26 +150,28 @@ pub(crate) fn take_lent<'a, A: Allocator + Copy>(
 }
 
 /// Takes 188 bytes that findings may not point into.
-#[tactic(auto, unfolding(crate::specs::Stream::states_by, crate::specs::Stream::findings_by, crate::specs::Stream::within_by), using(crate::proofs::Giving::joined_one, crate::proofs::Giving::same_joined, crate::proofs::Giving::same_says))]
-pub(crate) fn take_passing<A: Allocator + Copy>(
+#[tactic(auto, unfolding(crate::specs::Stream::states_by, crate::specs::Stream::findings_by, crate::specs::Stream::within_by), using(crate::proofs::FoundViews::joined_one, crate::proofs::FoundViews::same_joined, crate::proofs::FoundViews::same_says))]
+pub(crate) fn take_copied<A: Allocator + Copy>(
     states: &mut States<A>,
     index: u64,
     bytes: &[u8; 188],
     found: &mut Vec<Finding<'static, A>, A>,
 ) -> Result<(), AllocError>
-    ensures states { OnOk result (states.new.entries ≡ states_by index bytes.now states.old.entries (packet_at bytes.now)) }
-    ensures found { OnOk result (Tells found.old.items found.new.items (findings_by index bytes.now states.old.entries (packet_at bytes.now))) }
+    ensures states { OnOk result (states.new.entries ≡ states_by index bytes.now states.old.entries
+        (packet_at bytes.now)) }
+    ensures found { OnOk result (AddsFindings found.old.items found.new.items
+        (findings_by index bytes.now states.old.entries (packet_at bytes.now))) }
     ensures joined { KeepsJoined found.old.items found.new.items }
     ensures err { OnErr result (states.new.entries ≡ states.old.entries) }
     ensures none { OnErr result (map finding_view found.new.items ≡ map finding_view found.old.items) }
 {
     match read_packet(bytes) {
         Err(error) => {
-            note_untold(index, What::BadPacket(error), found)?;
+            note_without_pid(index, What::BadPacket(error), found)?;
             Ok(())
         }
         Ok(packet) => {
-            let payload = passing(packet.payload);
+            let payload = copied(packet.payload);
             take_read(states, index, bytes, &packet, false, payload, found)?;
             Ok(())
         }

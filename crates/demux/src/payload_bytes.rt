@@ -1,15 +1,15 @@
 //! Bytes of a payload, and the parts of findings that are made of them.
 ghost use Rattle.std.specs.Prelude.{◌≡◌, ◌-◌, ◌≤◌, IfOk, length, take, drop};
-ghost use Rattle.demux.specs.Shown.{is_lent, part_bytes, part_is_span, payload_list};
+ghost use Rattle.demux.specs.Shown.{is_borrowed, part_bytes, part_is_span, payload_list};
 
 use crate::finding::Part;
 use std::alloc::{AllocError, Allocator};
 
-/// Bytes of a payload: lent for as long as findings live, or only while they are looked at.
+/// Bytes of a payload: borrowed for as long as findings live, or only while they are looked at.
 #[derive(Clone, Copy)]
 pub enum PayloadBytes<'p, 'a> {
-    Lent(&'a [u8]),
-    Passing(&'p [u8]),
+    Borrowed(&'a [u8]),
+    Copied(&'p [u8]),
 }
 
 /// The bytes from one place to another, as far as they are there.
@@ -33,8 +33,8 @@ pub(crate) fn bytes_of<'p, 'a: 'p>(payload: PayloadBytes<'p, 'a>) -> &'p [u8]
     ensures { result.now ≡ payload_list payload.entry }
 {
     match payload {
-        PayloadBytes::Lent(bytes) => bytes,
-        PayloadBytes::Passing(bytes) => bytes,
+        PayloadBytes::Borrowed(bytes) => bytes,
+        PayloadBytes::Copied(bytes) => bytes,
     }
 }
 
@@ -42,33 +42,34 @@ pub(crate) fn bytes_of<'p, 'a: 'p>(payload: PayloadBytes<'p, 'a>) -> &'p [u8]
 pub(crate) fn after<'p, 'a>(payload: PayloadBytes<'p, 'a>, n: usize) -> PayloadBytes<'p, 'a>
     requires { n ≤ length (payload_list payload) }
     ensures list { payload_list result ≡ drop n (payload_list payload.entry) }
-    ensures lent { is_lent result ≡ is_lent payload.entry }
+    ensures borrowed { is_borrowed result ≡ is_borrowed payload.entry }
 {
     match payload {
-        PayloadBytes::Lent(bytes) => {
+        PayloadBytes::Borrowed(bytes) => {
             let (_, rest) = bytes.split_at(n);
-            PayloadBytes::Lent(rest)
+            PayloadBytes::Borrowed(rest)
         }
-        PayloadBytes::Passing(bytes) => {
+        PayloadBytes::Copied(bytes) => {
             let (_, rest) = bytes.split_at(n);
-            PayloadBytes::Passing(rest)
+            PayloadBytes::Copied(rest)
         }
     }
 }
 
-/// Those from one place to another as the part of a finding: lent ones as a slice, others copied.
+/// Those from one place to another as the part of a finding: borrowed ones as a slice, others copied.
 pub(crate) fn part_of<'p, 'a, A: Allocator + Clone>(
     alloc: &A,
     payload: PayloadBytes<'p, 'a>,
     start: usize,
     end: usize,
 ) -> Result<Part<'a, A>, AllocError>
-    ensures bytes { IfOk result (λ part. part_bytes part ≡ take (end - start) (drop start (payload_list payload.entry))) }
-    ensures span { IfOk result (λ part. part_is_span part ≡ is_lent payload.entry) }
+    ensures bytes { IfOk result (λ part. part_bytes part ≡ take (end - start)
+        (drop start (payload_list payload.entry))) }
+    ensures span { IfOk result (λ part. part_is_span part ≡ is_borrowed payload.entry) }
 {
     match payload {
-        PayloadBytes::Lent(bytes) => Ok(Part::Span(middle(bytes, start, end))),
-        PayloadBytes::Passing(bytes) => Ok(Part::Joined(Vec::from_slice(
+        PayloadBytes::Borrowed(bytes) => Ok(Part::Span(middle(bytes, start, end))),
+        PayloadBytes::Copied(bytes) => Ok(Part::Joined(Vec::from_slice(
             alloc.clone()?,
             middle(bytes, start, end),
         )?)),

@@ -3,28 +3,30 @@ ghost use Rattle.std.specs.Prelude.{◌≡◌, None, Some, IfOk, OnOk, OnErr, tr
 ghost use Rattle.demux.specs.Roles as roles;
 ghost use Rattle.demux.specs.Findings as findings;
 ghost use Rattle.demux.specs.Machine as machine;
-ghost use Rattle.demux.specs.Shown.{Finds, KeepsJoined, Says, SaysTheSame, carried_lent, carried_role, entry_with, kept_by, mark_broken, marked_findings, marked_role, IsPayloadOf};
+ghost use Rattle.demux.specs.Shown.{Finds, IsPayloadOf, KeepsJoined, AddsFindingsAt, KeepsFindings, entry_with};
+ghost use Rattle.demux.specs.Shown.{kept_by};
+ghost use Rattle.demux.specs.Shown.{mark_broken, marked_findings, marked_role, role_borrowed, role_view};
 
 use crate::beginnings::begin_pes;
-use crate::endings::{cut_short, end, end_before, go_on};
+use crate::endings::{append_payload, cut_short, end_before_pointer, end_unit};
 use crate::finding::{Finding, What};
 use crate::last::Last;
 use crate::marks::{Mark, keep, mark_of};
-use crate::open_part::Begun;
+use crate::open_unit::OpenUnit;
 use crate::payload_bytes::PayloadBytes;
 use crate::place::{Place, note};
-use crate::roles::{Carried, role_of};
+use crate::roles::{PayloadRole, role_of};
 use crate::sections::sections;
 use psi_tables::SectionError;
 use std::alloc::{AllocError, Allocator};
 use std::marker::Model;
 use ts_packet::Packet;
 
-/// What is kept of a PID: its last packet, and what is open.
+/// What is kept of a PID: its last packet, and its open unit.
 #[derive(Drop)]
 pub struct PidState<A: Allocator> {
     last: Option<Last>,
-    part: Option<Begun<A>>,
+    open_unit: Option<OpenUnit<A>>,
 }
 
 impl<A: Allocator> Model for PidState<A> {
@@ -32,84 +34,89 @@ impl<A: Allocator> Model for PidState<A> {
 
     ghost Value = { machine.PidState };
 
-    ghost view = { λ s. record { last = s.last; part = s.part } };
+    ghost view = { λ s. record { last = s.last; open_unit = s.open_unit } };
 }
 
-// What a start, a scrambled packet or a wrong pointer_field finds, and what is open after it.
-#[tactic(auto, unfolding(crate::specs::Findings::by_role, crate::specs::Machine::next_part, crate::specs::Findings::goes_on))]
-fn divide<'p, 'a: 'p, A: Allocator + Clone>(
+// What a start, a scrambled packet or a wrong pointer_field finds, and the unit that is open after it.
+#[tactic(auto, unfolding(crate::specs::Findings::by_role, crate::specs::Machine::next_open, crate::specs::Findings::found_appended))]
+fn start_unit<'p, 'a: 'p, A: Allocator + Clone>(
     alloc: &A,
     place: Place,
-    role: Carried<'p, 'a>,
-    held: &Option<Begun<A>>,
+    role: PayloadRole<'p, 'a>,
+    open_unit: &Option<OpenUnit<A>>,
     found: &mut Vec<Finding<'a, A>, A>,
-) -> Result<Option<Begun<A>>, AllocError>
-    requires { carried_lent place.lent role ≡ place.lent }
-    ensures found { let role = carried_role role.entry in OnOk result (Finds place found.old.items found.new.items (findings.by_role place.packet role (kept_by role held.now))) }
-    ensures part { let role = carried_role role.entry in IfOk result (λ part. part ≡ machine.next_part place.packet role (kept_by role held.now)) }
+) -> Result<Option<OpenUnit<A>>, AllocError>
+    requires { role_borrowed place.borrowed role ≡ place.borrowed }
+    ensures found { let role = role_view role.entry in
+        OnOk result (Finds place found.old.items found.new.items
+        (findings.by_role place.packet role (kept_by role open_unit.now))) }
+    ensures next { let role = role_view role.entry in
+        IfOk result (λ next. next ≡ machine.next_open place.packet role (kept_by role open_unit.now)) }
 {
     match role {
-        Carried::Nothing => Ok(None),
-        Carried::More(_) => Ok(None),
-        Carried::Scrambled => {
+        PayloadRole::NoPayload => Ok(None),
+        PayloadRole::Continuation(_) => Ok(None),
+        PayloadRole::Scrambled => {
             note(place, None, What::Scrambled, found)?;
-            cut_short(alloc, place, held, found)?;
+            cut_short(alloc, place, open_unit, found)?;
             Ok(None)
         }
-        Carried::PointedPast => {
+        PayloadRole::PointerPastEnd => {
             note(place, None, What::BadSection(SectionError::Body), found)?;
-            cut_short(alloc, place, held, found)?;
+            cut_short(alloc, place, open_unit, found)?;
             Ok(None)
         }
-        Carried::PesStart(payload) => {
-            end(alloc, place, false, held, found)?;
+        PayloadRole::PesStart(payload) => {
+            end_unit(alloc, place, false, open_unit, found)?;
             begin_pes(alloc, place, payload, found)
         }
-        Carried::Pointed(before, payload) => {
-            end_before(alloc, place, before, held, found)?;
+        PayloadRole::SectionStart(before, payload) => {
+            end_before_pointer(alloc, place, before, open_unit, found)?;
             sections(alloc, place, payload, found)
         }
     }
 }
 
-// A packet that divides, with what is open before it.
-fn divide_open<'p, 'a: 'p, A: Allocator + Clone>(
+// A start, a scrambled packet or a wrong pointer_field, with the unit that is open before it.
+fn start_with_open<'p, 'a: 'p, A: Allocator + Clone>(
     alloc: &A,
     place: Place,
-    role: Carried<'p, 'a>,
-    held: &mut Option<Begun<A>>,
+    role: PayloadRole<'p, 'a>,
+    open_unit: &mut Option<OpenUnit<A>>,
     found: &mut Vec<Finding<'a, A>, A>,
 ) -> Result<(), AllocError>
-    requires divides { roles.role_divides (carried_role role) ≡ true }
-    requires lent { carried_lent place.lent role ≡ place.lent }
-    ensures found { OnOk result (Finds place found.old.items found.new.items (findings.by_role place.packet (carried_role role.entry) held.old)) }
-    ensures part { OnOk result (held.new ≡ machine.next_part place.packet (carried_role role.entry) held.old) }
-    ensures err { OnErr result (held.new ≡ held.old) }
-    ensures none { OnErr result (SaysTheSame found.old.items found.new.items) }
+    requires divides { roles.role_divides (role_view role) ≡ true }
+    requires borrowed { role_borrowed place.borrowed role ≡ place.borrowed }
+    ensures found { OnOk result (Finds place found.old.items found.new.items
+        (findings.by_role place.packet (role_view role.entry) open_unit.old)) }
+    ensures next { OnOk result (open_unit.new ≡ machine.next_open place.packet (role_view role.entry) open_unit.old) }
+    ensures err { OnErr result (open_unit.new ≡ open_unit.old) }
+    ensures none { OnErr result (KeepsFindings found.old.items found.new.items) }
 {
     let mut new = Vec::new(alloc.clone()?);
-    let next = divide(alloc, place, role, held, &mut new)?;
+    let next = start_unit(alloc, place, role, open_unit, &mut new)?;
     found.append(&mut new)?;
-    *held = next;
+    *open_unit = next;
     Ok(())
 }
 
-// A packet whose counter does not follow: what is open is cut short, and the packet is read with nothing open.
+// A packet whose counter does not follow: the open unit is cut short, and the packet is read with none open.
 #[tactic(auto, unfolding(crate::specs::Findings::by_break, crate::specs::Machine::unbroken))]
-fn break_off<'p, 'a: 'p, A: Allocator + Clone>(
+fn on_counter_break<'p, 'a: 'p, A: Allocator + Clone>(
     alloc: &A,
     place: Place,
     expected: u8,
     counter: u8,
-    role: Carried<'p, 'a>,
-    held: &mut Option<Begun<A>>,
+    role: PayloadRole<'p, 'a>,
+    open_unit: &mut Option<OpenUnit<A>>,
     found: &mut Vec<Finding<'a, A>, A>,
 ) -> Result<(), AllocError>
-    requires { carried_lent place.lent role ≡ place.lent }
-    ensures found { OnOk result (Finds place found.old.items found.new.items (findings.by_break place.packet (Some (expected, counter)) (carried_role role.entry) held.old)) }
-    ensures part { OnOk result (held.new ≡ machine.next_part place.packet (carried_role role.entry) None) }
-    ensures err { OnErr result (held.new ≡ held.old) }
-    ensures none { OnErr result (SaysTheSame found.old.items found.new.items) }
+    requires { role_borrowed place.borrowed role ≡ place.borrowed }
+    ensures found { OnOk result (Finds place found.old.items found.new.items
+        (findings.by_break place.packet (Some (expected, counter)) (role_view role.entry) open_unit.old)) }
+    ensures next { OnOk result (open_unit.new ≡ machine.next_open place.packet (role_view role.entry) None) }
+    ensures err { OnErr result (open_unit.new ≡ open_unit.old) }
+    ensures none { OnErr result (KeepsFindings found.old.items found.new.items) }
 {
     let mut new = Vec::new(alloc.clone()?);
     note(
@@ -121,56 +128,61 @@ fn break_off<'p, 'a: 'p, A: Allocator + Clone>(
         },
         &mut new,
     )?;
-    cut_short(alloc, place, held, &mut new)?;
-    let next = divide(alloc, place, role, &None, &mut new)?;
+    cut_short(alloc, place, open_unit, &mut new)?;
+    let next = start_unit(alloc, place, role, &None, &mut new)?;
     found.append(&mut new)?;
-    *held = next;
+    *open_unit = next;
     Ok(())
 }
 
 // A packet whose counter follows.
-#[tactic(auto, unfolding(crate::specs::Findings::by_role, crate::specs::Machine::next_part))]
-fn follow<'p, 'a: 'p, A: Allocator + Clone>(
+#[tactic(auto, unfolding(crate::specs::Findings::by_role, crate::specs::Machine::next_open))]
+fn on_next_counter<'p, 'a: 'p, A: Allocator + Clone>(
     alloc: &A,
     place: Place,
-    role: Carried<'p, 'a>,
-    held: &mut Option<Begun<A>>,
+    role: PayloadRole<'p, 'a>,
+    open_unit: &mut Option<OpenUnit<A>>,
     found: &mut Vec<Finding<'a, A>, A>,
 ) -> Result<(), AllocError>
-    requires { carried_lent place.lent role ≡ place.lent }
-    ensures found { OnOk result (Finds place found.old.items found.new.items (findings.by_role place.packet (carried_role role.entry) held.old)) }
-    ensures part { OnOk result (held.new ≡ machine.next_part place.packet (carried_role role.entry) held.old) }
-    ensures err { OnErr result (held.new ≡ held.old) }
-    ensures none { OnErr result (SaysTheSame found.old.items found.new.items) }
+    requires { role_borrowed place.borrowed role ≡ place.borrowed }
+    ensures found { OnOk result (Finds place found.old.items found.new.items
+        (findings.by_role place.packet (role_view role.entry) open_unit.old)) }
+    ensures next { OnOk result (open_unit.new ≡ machine.next_open place.packet (role_view role.entry) open_unit.old) }
+    ensures err { OnErr result (open_unit.new ≡ open_unit.old) }
+    ensures none { OnErr result (KeepsFindings found.old.items found.new.items) }
 {
     match role {
-        Carried::More(payload) => go_on(alloc, place, payload, held, found),
-        Carried::Nothing => Ok(()),
-        _ => divide_open(alloc, place, role, held, found),
+        PayloadRole::Continuation(payload) => append_payload(
+            alloc, place, payload, open_unit, found,
+        ),
+        PayloadRole::NoPayload => Ok(()),
+        _ => start_with_open(alloc, place, role, open_unit, found),
     }
 }
 
 // A packet with its mark.
-#[tactic(auto, unfolding(crate::specs::Findings::by_break, crate::specs::Machine::unbroken, crate::specs::Machine::next_part))]
-fn read<'p, 'a: 'p, A: Allocator + Clone>(
+#[tactic(auto, unfolding(crate::specs::Findings::by_break, crate::specs::Machine::unbroken, crate::specs::Machine::next_open))]
+fn take_marked<'p, 'a: 'p, A: Allocator + Clone>(
     alloc: &A,
     place: Place,
     mark: Mark,
-    role: Carried<'p, 'a>,
-    held: &mut Option<Begun<A>>,
+    role: PayloadRole<'p, 'a>,
+    open_unit: &mut Option<OpenUnit<A>>,
     found: &mut Vec<Finding<'a, A>, A>,
 ) -> Result<(), AllocError>
-    requires { carried_lent place.lent role ≡ place.lent }
-    ensures found { OnOk result (Finds place found.old.items found.new.items (marked_findings place.packet mark (carried_role role.entry) held.old)) }
-    ensures part { OnOk result (held.new ≡ machine.next_part place.packet (marked_role mark (carried_role role.entry)) (machine.unbroken (mark_broken mark) held.old)) }
-    ensures err { OnErr result (held.new ≡ held.old) }
-    ensures none { OnErr result (SaysTheSame found.old.items found.new.items) }
+    requires { role_borrowed place.borrowed role ≡ place.borrowed }
+    ensures found { OnOk result (Finds place found.old.items found.new.items
+        (marked_findings place.packet mark (role_view role.entry) open_unit.old)) }
+    ensures next { OnOk result (open_unit.new ≡ machine.next_open place.packet (marked_role mark (role_view role.entry))
+        (machine.unbroken (mark_broken mark) open_unit.old)) }
+    ensures err { OnErr result (open_unit.new ≡ open_unit.old) }
+    ensures none { OnErr result (KeepsFindings found.old.items found.new.items) }
 {
     match mark {
         Mark::Duplicate => note(place, None, What::Duplicate, found),
-        Mark::Follows => follow(alloc, place, role, held, found),
-        Mark::Breaks(expected, counter) => break_off(
-            alloc, place, expected, counter, role, held, found,
+        Mark::Follows => on_next_counter(alloc, place, role, open_unit, found),
+        Mark::Breaks(expected, counter) => on_counter_break(
+            alloc, place, expected, counter, role, open_unit, found,
         ),
     }
 }
@@ -182,11 +194,11 @@ impl<A: Allocator + Clone> PidState<A> {
     {
         PidState {
             last: None,
-            part: None,
+            open_unit: None,
         }
     }
 
-    /// Takes a packet of the PID; its payload is lent, or only passes.
+    /// Takes a packet of the PID; findings borrow its payload, or copy from it.
     #[tactic(auto, unfolding(crate::specs::Marks::mark, crate::specs::Machine::step_marked, crate::specs::Findings::found_at, crate::specs::Roles::role, crate::specs::Roles::role_of))]
     pub fn step<'p, 'a: 'p>(
         &mut self,
@@ -197,32 +209,34 @@ impl<A: Allocator + Clone> PidState<A> {
         payload: Option<PayloadBytes<'p, 'a>>,
         found: &mut Vec<Finding<'a, A>, A>,
     ) -> Result<(), AllocError>
-        requires payload { IsPayloadOf packet.now place.lent payload }
+        requires payload { IsPayloadOf packet.now place.borrowed payload }
         ensures state { OnOk result (self.new ≡ machine.step self.old (entry_with place.packet bytes.now packet.now)) }
-        ensures found { OnOk result (Finds place found.old.items found.new.items (machine.found_by self.old (entry_with place.packet bytes.now packet.now))) }
+        ensures found { OnOk result (Finds place found.old.items found.new.items
+            (machine.found_by self.old (entry_with place.packet bytes.now packet.now))) }
         ensures err { OnErr result (self.new ≡ self.old) }
-        ensures none { OnErr result (SaysTheSame found.old.items found.new.items) }
+        ensures none { OnErr result (KeepsFindings found.old.items found.new.items) }
     {
         let mark = mark_of(&self.last, place.packet, packet, bytes);
         let role = role_of(&packet.header, payload);
-        read(alloc, place, mark, role, &mut self.part, found)?;
+        take_marked(alloc, place, mark, role, &mut self.open_unit, found)?;
         keep(&mut self.last, mark, place.packet, packet, bytes);
         Ok(())
     }
 
     /// Where the stream ends.
-    #[tactic(auto, using(crate::proofs::Giving::says, crate::proofs::Giving::joined))]
+    #[tactic(auto, using(crate::proofs::FoundViews::says, crate::proofs::FoundViews::joined))]
     pub fn finish<'a>(
         &self,
         alloc: &A,
         place: Place,
         found: &mut Vec<Finding<'a, A>, A>,
     ) -> Result<(), AllocError>
-        requires { place.lent ≡ false }
-        ensures found { OnOk result (Says place found.old.items found.new.items (findings.ended true self.now.part)) }
+        requires { place.borrowed ≡ false }
+        ensures found { OnOk result (AddsFindingsAt place found.old.items found.new.items
+            (findings.ended true self.now.open_unit)) }
         ensures joined { OnOk result (KeepsJoined found.old.items found.new.items) }
     {
-        end(alloc, place, true, &self.part, found)?;
+        end_unit(alloc, place, true, &self.open_unit, found)?;
         Ok(())
     }
 }

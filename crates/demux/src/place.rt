@@ -1,6 +1,6 @@
 //! Findings noted one by one.
 ghost use Rattle.std.specs.Prelude.{◌≡◌, ◌&&◌, false, [], ◌∷◌, IfOk, OnOk, OnErr};
-ghost use Rattle.demux.specs.Shown.{Finds, SaysTheSame, has_span, is_lent, payload_list, what_of, what_view};
+ghost use Rattle.demux.specs.Shown.{Finds, KeepsFindings, has_span, is_borrowed, payload_list, what_of, what_view};
 ghost use Rattle.demux.specs.Views.{is_whole};
 
 use crate::finding::{Finding, Kind, What};
@@ -8,12 +8,12 @@ use crate::payload_bytes::{PayloadBytes, bytes_of, part_of};
 use crate::verdicts::Verdict;
 use std::alloc::{AllocError, Allocator};
 
-/// A packet of a PID: its index in the stream, the PID, and whether the packet is lent for as long as findings live.
+/// A packet of a PID: its index in the stream, the PID, and whether findings borrow the packet's bytes or copy them.
 #[derive(Clone, Copy)]
 pub struct Place {
     pub packet: u64,
     pub pid: u16,
-    pub lent: bool,
+    pub borrowed: bool,
 }
 
 /// Notes what is found at a place, but for what lies in its packet whole.
@@ -24,8 +24,9 @@ pub(crate) fn note<'a, A: Allocator>(
     found: &mut Vec<Finding<'a, A>, A>,
 ) -> Result<(), AllocError>
     requires { has_span what ≡ false }
-    ensures ok { OnOk result (Finds place found.old.items found.new.items (record { begun = begun; what = what_view what.entry; within = false } ∷ [])) }
-    ensures err { OnErr result (SaysTheSame found.old.items found.new.items) }
+    ensures ok { OnOk result (Finds place found.old.items found.new.items
+        (record { begun = begun; what = what_view what.entry; within = false } ∷ [])) }
+    ensures err { OnErr result (KeepsFindings found.old.items found.new.items) }
 {
     found.push(Finding {
         packet: place.packet,
@@ -37,21 +38,27 @@ pub(crate) fn note<'a, A: Allocator>(
 }
 
 /// Notes what is found of a section or a PES packet in the packet where it begins.
-pub(crate) fn note_whole<'a, A: Allocator>(
+pub(crate) fn note_here<'a, A: Allocator>(
     place: Place,
-    kind: Kind,
+    begun: Kind,
     what: What<'a, A>,
     found: &mut Vec<Finding<'a, A>, A>,
 ) -> Result<(), AllocError>
-    requires { has_span what ≡ (is_whole (what_view what) && place.lent) }
+    requires { has_span what ≡ (is_whole (what_view what) && place.borrowed) }
     ensures ok { OnOk result (Finds place found.old.items found.new.items
-        (record { begun = Some (place.packet, kind); what = what_view what.entry; within = is_whole (what_view what.entry) } ∷ [])) }
-    ensures err { OnErr result (SaysTheSame found.old.items found.new.items) }
+        (record {
+          begun = Some (place.packet, begun);
+          what = what_view what.entry;
+          within = is_whole
+              (what_view what.entry);
+        }
+        ∷ [])) }
+    ensures err { OnErr result (KeepsFindings found.old.items found.new.items) }
 {
     found.push(Finding {
         packet: place.packet,
         pid: Some(place.pid),
-        begun: Some((place.packet, kind)),
+        begun: Some((place.packet, begun)),
         what,
     })?;
     Ok(())
@@ -64,12 +71,13 @@ pub(crate) fn what_by<'p, 'a: 'p, A: Allocator + Clone>(
     payload: PayloadBytes<'p, 'a>,
 ) -> Result<What<'a, A>, AllocError>
     ensures says { IfOk result (λ what. what_view what ≡ what_of (payload_list payload.entry) verdict) }
-    ensures span { IfOk result (λ what. has_span what ≡ (is_whole (what_of (payload_list payload.entry) verdict) && is_lent payload.entry)) }
+    ensures span { IfOk result (λ what. has_span what
+        ≡ (is_whole (what_of (payload_list payload.entry) verdict) && is_borrowed payload.entry)) }
 {
     match verdict {
         Verdict::TooLong => {
             let bytes = bytes_of(payload);
-            Ok(What::Truncated(part_of(alloc, PayloadBytes::Passing(bytes), 0, bytes.len())?))
+            Ok(What::Truncated(part_of(alloc, PayloadBytes::Copied(bytes), 0, bytes.len())?))
         }
         Verdict::Pes(header, start, end) => {
             let body = part_of(alloc, payload, start, end)?;

@@ -1,20 +1,20 @@
 //! Sections one after the other in a payload, up to a byte FF in a table_id's place (ISO/IEC 13818-1, 2.4.4).
 ghost use Rattle.std.specs.Prelude.{◌≡◌, ◌<◌, ◌≤◌, IfOk, OnOk, option_map, length, drop};
-ghost use Rattle.demux.specs.Parts as parts;
-ghost use Rattle.demux.specs.Shown.{Finds, is_lent, payload_list, what_of};
+ghost use Rattle.demux.specs.OpenUnits as units;
+ghost use Rattle.demux.specs.Shown.{Finds, is_borrowed, payload_list, what_of};
 
-use crate::beginnings::note_within;
+use crate::beginnings::note_decided_here;
 use crate::finding::Finding;
-use crate::open_part::{Begun, Form};
+use crate::open_unit::{OpenUnit, UnitKind};
 use crate::payload_bytes::{PayloadBytes, after, bytes_of};
 use crate::place::Place;
 use crate::verdicts::{Verdict, decide};
 use psi_tables::SectionError;
 use std::alloc::{AllocError, Allocator};
 
-// Whether no section stands at the front.
-fn is_fill(bytes: &[u8]) -> bool
-    ensures { result ≡ parts.is_fill bytes.now }
+// Whether stuffing, or nothing, is at the front.
+fn is_stuffing(bytes: &[u8]) -> bool
+    ensures { result ≡ units.is_stuffing bytes.now }
 {
     match bytes {
         [] => true,
@@ -22,12 +22,12 @@ fn is_fill(bytes: &[u8]) -> bool
     }
 }
 
-// The bytes that the section at the front says it has.
-fn said_size(bytes: &[u8]) -> usize
+// The number of bytes of the section at the front by its section_length, at most all.
+fn declared_size(bytes: &[u8]) -> usize
     requires { 0 < length bytes.now }
     ensures some { 0 < result }
     ensures within { result ≤ length bytes.now }
-    ensures rest { drop result bytes.now ≡ drop (parts.said_size bytes.now) bytes.now }
+    ensures rest { drop result bytes.now ≡ drop (units.declared_size bytes.now) bytes.now }
 {
     match bytes {
         [_, high, low, ..] => {
@@ -43,16 +43,16 @@ fn said_size(bytes: &[u8]) -> usize
 }
 
 // The bytes that it takes once it is decided.
-#[tactic(auto, unfolding(crate::specs::Parts::taken_by))]
+#[tactic(auto, unfolding(crate::specs::OpenUnits::taken_by))]
 fn taken_by(bytes: &[u8], verdict: Verdict) -> usize
     requires { 0 < length bytes.now }
     ensures some { 0 < result }
     ensures within { result ≤ length bytes.now }
-    ensures rest { drop result bytes.now ≡ drop (parts.taken_by bytes.now (what_of bytes.now verdict)) bytes.now }
+    ensures rest { drop result bytes.now ≡ drop (units.taken_by bytes.now (what_of bytes.now verdict)) bytes.now }
 {
     match verdict {
         Verdict::BadSection(SectionError::Length) => bytes.len(),
-        _ => said_size(bytes),
+        _ => declared_size(bytes),
     }
 }
 
@@ -62,28 +62,30 @@ pub(crate) fn sections<'p, 'a: 'p, A: Allocator + Clone>(
     place: Place,
     payload: PayloadBytes<'p, 'a>,
     found: &mut Vec<Finding<'a, A>, A>,
-) -> Result<Option<Begun<A>>, AllocError>
-    requires { is_lent payload ≡ place.lent }
-    ensures found { OnOk result (Finds place found.old.items found.new.items (parts.sections_in place.packet 0 (payload_list payload.entry))) }
-    ensures last { IfOk result (λ begun. begun ≡ option_map (parts.section place.packet) (parts.last_in 0 (payload_list payload.entry))) }
+) -> Result<Option<OpenUnit<A>>, AllocError>
+    requires { is_borrowed payload ≡ place.borrowed }
+    ensures found { OnOk result (Finds place found.old.items found.new.items
+        (units.sections_in place.packet 0 (payload_list payload.entry))) }
+    ensures last { IfOk result (λ begun. begun ≡ option_map (units.section place.packet)
+        (units.last_in 0 (payload_list payload.entry))) }
 {
     let mut rest = payload;
     loop {
         let bytes = bytes_of(rest);
-        if is_fill(bytes) {
+        if is_stuffing(bytes) {
             return Ok(None);
         }
-        match decide(Form::OfSection, bytes) {
+        match decide(UnitKind::Section, bytes) {
             None => {
                 let bytes = Vec::from_slice(alloc.clone()?, bytes)?;
-                return Ok(Some(Begun {
+                return Ok(Some(OpenUnit {
                     packet: place.packet,
-                    form: Form::OfSection,
+                    kind: UnitKind::Section,
                     bytes,
                 }));
             }
             Some(verdict) => {
-                note_within(alloc, place, Form::OfSection, rest, verdict, found)?;
+                note_decided_here(alloc, place, UnitKind::Section, rest, verdict, found)?;
                 rest = after(rest, taken_by(bytes, verdict));
             }
         }

@@ -3,7 +3,9 @@ ghost use Rattle.std.specs.Prelude.{◌≡◌, ◌<◌, ◌++◌, ℕ, Some, Non
 ghost use Rattle.indexmap.specs.IndexMap.{index_map_len, get, values, set_value_at};
 ghost use Rattle.demux.specs.Machine as machine;
 ghost use Rattle.demux.specs.Stream.{ended_found, state_of, with_state};
-ghost use Rattle.demux.specs.Shown.{Finds, SaysTheSame, entry_with, finding_view, KeepsJoined, IsPayloadOf, Tells, told};
+ghost use Rattle.demux.specs.Shown.{Finds, KeepsFindings, entry_with, finding_view, KeepsJoined, IsPayloadOf};
+ghost use Rattle.demux.specs.Shown.{AddsFindings};
+ghost use Rattle.demux.specs.Shown.{with_pid};
 ghost use Rattle.demux.specs.Findings as findings;
 
 use crate::finding::Finding;
@@ -28,14 +30,16 @@ fn step_at<'p, 'a: 'p, A: Allocator + Copy>(
     found: &mut Vec<Finding<'a, A>, A>,
 ) -> Result<(), AllocError>
     requires there { index < index_map_len states.old }
-    requires payload { IsPayloadOf packet.now place.lent payload }
+    requires payload { IsPayloadOf packet.now place.borrowed payload }
     ensures states { (state : machine.PidState) → slice_get (values states.old) index ≡ Some state →
-        OnOk result (states.new.entries ≡ set_value_at states.old.entries index (machine.step state (entry_with place.packet bytes.now packet.now))) }
+        OnOk result (states.new.entries ≡ set_value_at states.old.entries index
+        (machine.step state (entry_with place.packet bytes.now packet.now))) }
     ensures found { (state : machine.PidState) → slice_get (values states.old) index ≡ Some state →
-        OnOk result (Finds place found.old.items found.new.items (machine.found_by state (entry_with place.packet bytes.now packet.now))) }
+        OnOk result (Finds place found.old.items found.new.items
+        (machine.found_by state (entry_with place.packet bytes.now packet.now))) }
     ensures err { (state : machine.PidState) → slice_get (values states.old) index ≡ Some state →
         OnErr result (states.new.entries ≡ set_value_at states.old.entries index state) }
-    ensures none { OnErr result (SaysTheSame found.old.items found.new.items) }
+    ensures none { OnErr result (KeepsFindings found.old.items found.new.items) }
 {
     let alloc = *states.allocator();
     let state = &mut states[index];
@@ -53,11 +57,13 @@ fn step_first<'p, 'a: 'p, A: Allocator + Copy>(
     found: &mut Vec<Finding<'a, A>, A>,
 ) -> Result<(), AllocError>
     requires new { get nat_eq states.old place.pid ≡ None }
-    requires payload { IsPayloadOf packet.now place.lent payload }
-    ensures states { OnOk result (states.new.entries ≡ with_state place.pid (machine.step machine.fresh (entry_with place.packet bytes.now packet.now)) states.old.entries) }
-    ensures found { OnOk result (Finds place found.old.items found.new.items (machine.found_by machine.fresh (entry_with place.packet bytes.now packet.now))) }
+    requires payload { IsPayloadOf packet.now place.borrowed payload }
+    ensures states { OnOk result (states.new.entries ≡ with_state place.pid
+        (machine.step machine.fresh (entry_with place.packet bytes.now packet.now)) states.old.entries) }
+    ensures found { OnOk result (Finds place found.old.items found.new.items
+        (machine.found_by machine.fresh (entry_with place.packet bytes.now packet.now))) }
     ensures err { OnErr result (states.new.entries ≡ states.old.entries) }
-    ensures none { OnErr result (SaysTheSame found.old.items found.new.items) }
+    ensures none { OnErr result (KeepsFindings found.old.items found.new.items) }
 {
     states.reserve(1)?;
     let alloc = *states.allocator();
@@ -77,13 +83,15 @@ pub(crate) fn step_pid<'p, 'a: 'p, A: Allocator + Copy>(
     payload: Option<PayloadBytes<'p, 'a>>,
     found: &mut Vec<Finding<'a, A>, A>,
 ) -> Result<(), AllocError>
-    requires payload { IsPayloadOf packet.now place.lent payload }
+    requires payload { IsPayloadOf packet.now place.borrowed payload }
     ensures states { let state = state_of place.pid states.old.entries in
-        OnOk result (states.new.entries ≡ with_state place.pid (machine.step state (entry_with place.packet bytes.now packet.now)) states.old.entries) }
+        OnOk result (states.new.entries ≡ with_state place.pid
+        (machine.step state (entry_with place.packet bytes.now packet.now)) states.old.entries) }
     ensures found { let state = state_of place.pid states.old.entries in
-        OnOk result (Finds place found.old.items found.new.items (machine.found_by state (entry_with place.packet bytes.now packet.now))) }
+        OnOk result (Finds place found.old.items found.new.items
+        (machine.found_by state (entry_with place.packet bytes.now packet.now))) }
     ensures err { OnErr result (states.new.entries ≡ states.old.entries) }
-    ensures none { OnErr result (SaysTheSame found.old.items found.new.items) }
+    ensures none { OnErr result (KeepsFindings found.old.items found.new.items) }
 {
     match states.get_index_of(&place.pid) {
         Some(index) => step_at(states, index, place, bytes, packet, payload, found),
@@ -100,7 +108,8 @@ fn end_at<'a, A: Allocator + Copy>(
 ) -> Result<(), AllocError>
     requires { index < index_map_len states.now }
     ensures found { (entry : ℕ × machine.PidState) → slice_get states.now.entries index ≡ Some entry →
-        OnOk result (map finding_view found.new.items ≡ map finding_view found.old.items ++ map (told entry.0 packet) (findings.ended true entry.1.part)) }
+        OnOk result (map finding_view found.new.items ≡ map finding_view found.old.items ++ map
+        (with_pid entry.0 packet) (findings.ended true entry.1.open_unit)) }
     ensures joined { OnOk result (KeepsJoined found.old.items found.new.items) }
 {
     let alloc = *states.allocator();
@@ -110,7 +119,7 @@ fn end_at<'a, A: Allocator + Copy>(
             let place = Place {
                 packet,
                 pid: *pid,
-                lent: false,
+                borrowed: false,
             };
             state.finish(&alloc, place, found)?;
             Ok(())
@@ -124,7 +133,7 @@ pub(crate) fn end_all<'a, A: Allocator + Copy>(
     packet: u64,
     found: &mut Vec<Finding<'a, A>, A>,
 ) -> Result<(), AllocError>
-    ensures found { OnOk result (Tells found.old.items found.new.items (ended_found packet states.now.entries)) }
+    ensures found { OnOk result (AddsFindings found.old.items found.new.items (ended_found packet states.now.entries)) }
     ensures joined { OnOk result (KeepsJoined found.old.items found.new.items) }
 {
     for i in 0..states.len() {

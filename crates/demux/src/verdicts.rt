@@ -1,9 +1,9 @@
 //! What the bytes of a section or a PES packet decide.
-ghost use Rattle.std.specs.Prelude.{◌≡◌, ◌+◌, ◌≤◌, ◌<◌, Some, None, option_map, length, drop};
-ghost use Rattle.demux.specs.Parts.{decided, longest, of_header};
+ghost use Rattle.std.specs.Prelude.{◌≡◌, ◌≤◌, None, option_map, length};
+ghost use Rattle.demux.specs.OpenUnits.{decided, max_unbounded_pes, of_header};
 ghost use Rattle.demux.specs.Shown.{what_of};
 
-use crate::open_part::Form;
+use crate::open_unit::UnitKind;
 use pes_packet::{PesError, PesHeader, read_header};
 use psi_tables::{Section, SectionError};
 
@@ -18,27 +18,27 @@ pub(crate) enum Verdict {
     /// a PES packet: its header, where the body starts and where it ends
     Pes(PesHeader, usize, usize),
     BadPes(PesError),
-    /// a section of so many bytes
+    /// a section: its number of bytes
     Section(usize),
     BadSection(SectionError),
 }
 
 /// What the bytes at hand decide, none while they are too few; then they are not many.
-#[tactic(auto, unfolding(crate::specs::Parts::decided))]
-pub(crate) fn decide(form: Form, bytes: &[u8]) -> Option<Verdict>
-    ensures decides { option_map (what_of bytes.now) result ≡ decided form bytes.now }
-    ensures bounded { result ≡ None → length bytes.now ≤ longest }
+#[tactic(auto, unfolding(crate::specs::OpenUnits::decided))]
+pub(crate) fn decide(kind: UnitKind, bytes: &[u8]) -> Option<Verdict>
+    ensures decides { option_map (what_of bytes.now) result ≡ decided kind bytes.now }
+    ensures bounded { result ≡ None → length bytes.now ≤ max_unbounded_pes }
 {
-    match form {
-        Form::OfSection => decide_section(bytes),
-        Form::OfPes => decide_pes(bytes),
+    match kind {
+        UnitKind::Section => decide_section(bytes),
+        UnitKind::Pes => decide_pes(bytes),
     }
 }
 
-#[tactic(auto, unfolding(crate::specs::Parts::decided, crate::specs::Parts::of_section))]
+#[tactic(auto, unfolding(crate::specs::OpenUnits::decided, crate::specs::OpenUnits::of_section))]
 fn decide_section(bytes: &[u8]) -> Option<Verdict>
-    ensures decides { option_map (what_of bytes.now) result ≡ decided Form.OfSection bytes.now }
-    ensures bounded { result ≡ None → length bytes.now ≤ longest }
+    ensures decides { option_map (what_of bytes.now) result ≡ decided UnitKind.Section bytes.now }
+    ensures bounded { result ≡ None → length bytes.now ≤ max_unbounded_pes }
 {
     match Section::read(bytes) {
         Ok((_, size)) => Some(Verdict::Section(size)),
@@ -47,10 +47,10 @@ fn decide_section(bytes: &[u8]) -> Option<Verdict>
     }
 }
 
-#[tactic(auto, unfolding(crate::specs::Parts::decided, crate::specs::Parts::of_pes))]
+#[tactic(auto, unfolding(crate::specs::OpenUnits::decided, crate::specs::OpenUnits::of_pes))]
 fn decide_pes(bytes: &[u8]) -> Option<Verdict>
-    ensures decides { option_map (what_of bytes.now) result ≡ decided Form.OfPes bytes.now }
-    ensures bounded { result ≡ None → length bytes.now ≤ longest }
+    ensures decides { option_map (what_of bytes.now) result ≡ decided UnitKind.Pes bytes.now }
+    ensures bounded { result ≡ None → length bytes.now ≤ max_unbounded_pes }
 {
     match read_header(bytes) {
         Ok((header, size)) => by_header(header, size, bytes),
@@ -60,10 +60,10 @@ fn decide_pes(bytes: &[u8]) -> Option<Verdict>
 }
 
 // Of a PES packet whose header was read.
-#[tactic(auto, unfolding(crate::specs::Parts::of_header))]
+#[tactic(auto, unfolding(crate::specs::OpenUnits::of_header))]
 fn by_header(header: PesHeader, size: usize, bytes: &[u8]) -> Option<Verdict>
     ensures decides { option_map (what_of bytes.now) result ≡ of_header bytes.now (header, size) }
-    ensures bounded { result ≡ None → length bytes.now ≤ longest }
+    ensures bounded { result ≡ None → length bytes.now ≤ max_unbounded_pes }
 {
     if header.len == 0 {
         if bytes.len() > LONGEST {

@@ -14,8 +14,8 @@ use Rattle.description.specs.Described.{Described}
 use Rattle.description.specs.Ranges.{HasCounts}
 use Rattle.description.specs.Refusals.{unknown_key_fault, top_fault, network_fault, program_fault, stream_fault, event_fault, table_fault, key_fault, programs_of, streams_of, tables_of, first_refused, table_keys}
 use Rattle.description.specs.TableKeys.{refuses_table}
-use Rattle.description.specs.declared.fault.Fault.{Fault}
-use Rattle.description.specs.declared.fault.Fault.TheVariants.{Programs, Streams, Tables, Table}
+use Rattle.description.specs.declared.fault.DescFault.{DescFault}
+use Rattle.description.specs.declared.fault.DescFault.TheVariants.{Programs, Streams, Tables, Table}
 
 -- where the first of two is None and the second is, both are
 pub or_none : {X : Type 0} (a b : Option X) → option_or a b ≡ None → (a ≡ None) × (b ≡ None)
@@ -33,11 +33,11 @@ pub record NoFault (d : Data) : Type 0 where
 
 pub no_fault : (d : Data) → key_fault d ≡ None → NoFault d
 no_fault d h =
-    let before_network : Option Fault = option_or (unknown_key_fault d) (top_fault d) in
-    let before_programs : Option Fault = option_or before_network (network_fault d) in
-    let before_streams : Option Fault = option_or before_programs (program_fault d) in
-    let before_events : Option Fault = option_or before_streams (stream_fault d) in
-    let before_tables : Option Fault = option_or before_events (event_fault d) in
+    let before_network : Option DescFault = option_or (unknown_key_fault d) (top_fault d) in
+    let before_programs : Option DescFault = option_or before_network (network_fault d) in
+    let before_streams : Option DescFault = option_or before_programs (program_fault d) in
+    let before_events : Option DescFault = option_or before_streams (stream_fault d) in
+    let before_tables : Option DescFault = option_or before_events (event_fault d) in
     let seven = or_none before_tables (table_fault d) h in
     let six = or_none before_events (event_fault d) seven.0 in
     let five = or_none before_streams (stream_fault d) six.0 in

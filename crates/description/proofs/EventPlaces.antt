@@ -8,7 +8,7 @@ use Rattle.std.specs.List.{position_or_len}
 use Rattle.dvb_tables.specs.Schedule.{is_present, is_following}
 use Rattle.dvb_tables.specs.declared.schedule.Event.{Event}
 use Rattle.description.specs.Described.{event_view}
-use Rattle.description.specs.SectionTexts.{is_on, is_later}
+use Rattle.description.specs.SectionBytes.{is_present_event, is_following_event}
 
 either : {X Y : Type 0} (b : Bool) (y : Y) (later : Option Y) (x : X) (v : X → Y) (o : Option X) → y ≡ v x → later ≡ option_map v o
     → cond b (Some y) later ≡ option_map v (cond b (Some x) o)
@@ -31,22 +31,22 @@ missed p xs h = elim (cases_lt (position_or_len p xs) (length xs)) [
 ]
 
 pub present_at : (moment : ℕ) (es : List Event) (i : ℕ) → position (is_present moment) es ≡ Some i
-    → option_map event_view (slice_get es i) ≡ find (is_on moment) (map event_view es)
+    → option_map event_view (slice_get es i) ≡ find (is_present_event moment) (map event_view es)
 unfolding is_present
-present_at moment es i h = ap (option_map event_view) (found (is_present moment) es i h) ∙ sym (find-map (is_on moment) event_view es)
+present_at moment es i h = ap (option_map event_view) (found (is_present moment) es i h) ∙ sym (find-map (is_present_event moment) event_view es)
 
-pub no_present : (moment : ℕ) (es : List Event) → position (is_present moment) es ≡ None → None ≡ find (is_on moment) (map event_view es)
+pub no_present : (moment : ℕ) (es : List Event) → position (is_present moment) es ≡ None → None ≡ find (is_present_event moment) (map event_view es)
 unfolding is_present
-no_present moment es h = sym (find-map (is_on moment) event_view es ∙ ap (option_map event_view) (missed (is_present moment) es h))
+no_present moment es h = sym (find-map (is_present_event moment) event_view es ∙ ap (option_map event_view) (missed (is_present moment) es h))
 
 pub following_at : (moment : ℕ) (es : List Event) (i : ℕ) → position (is_following moment) es ≡ Some i
-    → option_map event_view (slice_get es i) ≡ find (is_later moment) (map event_view es)
+    → option_map event_view (slice_get es i) ≡ find (is_following_event moment) (map event_view es)
 unfolding is_following
-following_at moment es i h = ap (option_map event_view) (found (is_following moment) es i h) ∙ sym (find-map (is_later moment) event_view es)
+following_at moment es i h = ap (option_map event_view) (found (is_following moment) es i h) ∙ sym (find-map (is_following_event moment) event_view es)
 
-pub no_following : (moment : ℕ) (es : List Event) → position (is_following moment) es ≡ None → None ≡ find (is_later moment) (map event_view es)
+pub no_following : (moment : ℕ) (es : List Event) → position (is_following moment) es ≡ None → None ≡ find (is_following_event moment) (map event_view es)
 unfolding is_following
-no_following moment es h = sym (find-map (is_later moment) event_view es ∙ ap (option_map event_view) (missed (is_following moment) es h))
+no_following moment es h = sym (find-map (is_following_event moment) event_view es ∙ ap (option_map event_view) (missed (is_following moment) es h))
 
 -- what is after a reference
 pub after : (r : Option (Bor Event)) → option_map (λ e. event_view e.now) r ≡ option_map event_view (option_map (λ e. e.now) r)

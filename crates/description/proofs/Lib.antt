@@ -13,10 +13,10 @@ pub mod PartsInRange
 pub mod Distinct
 pub mod WholeInRange
 pub mod Read
-pub mod LoopTexts
+pub mod LoopLengths
 pub mod EventPlaces
-pub mod TableTexts
-pub mod TextLengths
+pub mod NetworkFacts
+pub mod SectionBounds
 pub mod Places
 pub mod PidCounts
 pub mod Pids

@@ -7,7 +7,7 @@ use Rattle.std.specs.List.{filter_map}
 use Rattle.toml.specs.Data.{Data, get}
 use Rattle.description.specs.Ranges.{IsPid, IsBytes, IsNetwork, IsEvent, IsProgram, IsStreamId, IsStream, IsTable}
 use Rattle.description.specs.Values.{integer_in, integer_at, elements, is_one_section, section_in}
-use Rattle.description.specs.StreamKeys.{is_stream_id, stream_id, is_video_id, id_or_private, most_size, leaves_out_buffers, stream_rx, stream_main, stream_tag, stream_group, unit_packets, most_group_packets, stream_group_packets}
+use Rattle.description.specs.StreamKeys.{is_stream_id, stream_id, is_video_id, id_or_private, greatest_size, leaves_out_buffers, stream_rx, stream_main, stream_tag, stream_group, unit_packets, greatest_group_packets, stream_group_packets}
 use Rattle.description.specs.Contents.{described_network, described_event, is_owned_by, described_number, described_program, described_stream, described_sections, described_table}
 use Rattle.description.specs.Refusals.{events_of}
 use Rattle.description.proofs.KeyRanges.{Within, holds_of, at_key-all, map_all, integer_in-within, integer_at-within, integer_or-within, moment_at-within}
@@ -89,11 +89,11 @@ if_some : {X : Type 0} (P : X → Type 0) (b : Bool) (x : X) → P x → IfSome 
 if_some P true x h = h
 if_some P false x h = tt
 
-packets_within : (d : Data) → Within (unit_packets d) (most_group_packets d) (unwrap_or (stream_group_packets d) (unit_packets d))
+packets_within : (d : Data) → Within (unit_packets d) (greatest_group_packets d) (unwrap_or (stream_group_packets d) (unit_packets d))
 packets_within d =
     let group = integer_or-within (codes "group") 1 64 1 1 d (omega arith) (omega arith) (omega arith) (omega arith) in
     let more = group_most (unwrap_or (stream_group d) 1) (unit_packets d) group.least in
-    integer_or-within (codes "group_packets") (unit_packets d) (most_group_packets d) (most_group_packets d) (unit_packets d) d more (omega arith) (omega arith) more
+    integer_or-within (codes "group_packets") (unit_packets d) (greatest_group_packets d) (greatest_group_packets d) (unit_packets d) d more (omega arith) (omega arith) more
 
 tag_is : (d : Data) → All (λ t. t ≤ 255) (option_to_list (unwrap_or (stream_tag d) None))
 tag_is d =
@@ -125,7 +125,7 @@ stream_is d =
     let interval = integer_at-within (codes "interval") 1 90000 1 d (omega arith) (omega arith) in
     let lead = integer_at-within (codes "lead") 1 90000 1 d (omega arith) (omega arith) in
     let bounds = size_bounds (id_or_private d) (is_video_id (id_or_private d)) refl in
-    let size = integer_at-within (codes "size") 1 (most_size d) 1 d (omega arith) bounds.some in
+    let size = integer_at-within (codes "size") 1 (greatest_size d) 1 d (omega arith) bounds.some in
     let rx = rx_within d in
     let main = main_within d in
     let group = integer_or-within (codes "group") 1 64 1 1 d (omega arith) (omega arith) (omega arith) (omega arith) in

@@ -9,7 +9,7 @@ use Rattle.description.specs.Ranges.{IsInRange, IsProgram, IsStream, IsTable, na
 use Rattle.description.specs.Tables.{numbers_from, only_if, has_event, service_tables, table_kinds, table_count, table_kind, kind_pid, table_pid}
 use Rattle.description.specs.declared.table_kind.TableKind.{TableKind}
 use Rattle.description.specs.declared.table_kind.TableKind.TheVariants.{Pat, Pmt, Nit, Sdt, Eit, Tdt, Private}
-use Rattle.description.specs.Pids.{all_pids, PidsApartLaw, PidsBelowLaw, PidPlacesLaw, StreamRangeLaw, ProgramRangeLaw}
+use Rattle.description.specs.Pids.{all_pids, PidsApartLaw, PidsBelowLaw, PidPositionsLaw, StreamRangeLaw, ProgramRangeLaw}
 use Rattle.description.proofs.Distinct.{IsDistinct-is}
 use Rattle.description.proofs.PidCounts.{times, times-append, some_times, two_times, at_most_once, none_low, none_outside}
 
@@ -199,8 +199,8 @@ table_place d t (Some kind) e lt =
     get_left (map (kind_pid d) (table_kinds d)) (map (λ p. p.pcr_pid) d.programs ++ map (λ s. s.pid) d.streams) t (kind_pid d kind) (get_map (kind_pid d) (table_kinds d) t kind e)
     ∙ ap Some pid
 
-pub pid_places : PidPlacesLaw
-pid_places d = record {
+pub pid_positions : PidPositionsLaw
+pid_positions d = record {
   table = λ t lt. table_place d t (table_kind d t) refl lt;
   clock = λ i p e. ap (λ (n : ℕ). slice_get (all_pids d) (n + i)) (sym (length_tables d))
       ∙ get_right (map (kind_pid d) (table_kinds d)) (clocks ++ streams) i

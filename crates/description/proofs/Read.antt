@@ -8,19 +8,19 @@ use Rattle.description.specs.Refusals.{key_fault}
 use Rattle.description.specs.Ranges.{IsInRange}
 use Rattle.description.specs.Consistency.{joint_fault}
 use Rattle.description.specs.Reading.{fault, read_document}
-use Rattle.description.specs.declared.fault.Fault.{Fault}
+use Rattle.description.specs.declared.fault.DescFault.{DescFault}
 use Rattle.description.specs.declared.fault.DescError.{DescError}
 use Rattle.description.specs.declared.fault.DescError.TheVariants.{Refused}
 use Rattle.description.proofs.WholeInRange.{described-in_range}
 
-second : (a b : Option Fault) → a ≡ None → option_or a b ≡ b
+second : (a b : Option DescFault) → a ≡ None → option_or a b ≡ b
 second None b h = refl
 second (Some x) b h = absurd (cc)
 
-decided : (d : Described) (o p : Option Fault) → o ≡ p
+decided : (d : Described) (o p : Option DescFault) → o ≡ p
     → (elim o as (λ _. Result Described DescError) [ None ↦ Ok d | Some f ↦ Err (Refused f) ])
     ≡ (elim p as (λ _. Result Described DescError) [ None ↦ Ok d | Some f ↦ Err (Refused f) ])
-decided d o p h = ap (λ (q : Option Fault). elim q as (λ _. Result Described DescError) [ None ↦ Ok d | Some f ↦ Err (Refused f) ]) h
+decided d o p h = ap (λ (q : Option DescFault). elim q as (λ _. Result Described DescError) [ None ↦ Ok d | Some f ↦ Err (Refused f) ]) h
 
 abbrev ok : Described → Result Described DescError
 ok d = Ok d
@@ -32,7 +32,7 @@ is_described document contents keys is joint =
     let joint_too : joint_fault (described document) document ≡ None = sym (ap (λ (d : Described). joint_fault d document) is) ∙ joint in
     ap ok is ∙ sym (decided (described document) (fault document) None (second (key_fault document) (joint_fault (described document) document) keys ∙ joint_too))
 
-pub is_refused : (document : Data) (contents : Described) (f : Fault) → key_fault document ≡ None → contents ≡ described document
+pub is_refused : (document : Data) (contents : Described) (f : DescFault) → key_fault document ≡ None → contents ≡ described document
     → joint_fault contents document ≡ Some f → Err (Refused f) ≡ read_document document
 is_refused document contents f keys is joint =
     let joint_too : joint_fault (described document) document ≡ Some f = sym (ap (λ (d : Described). joint_fault d document) is) ∙ joint in

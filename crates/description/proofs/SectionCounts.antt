@@ -6,7 +6,7 @@ use Rattle.std.proofs.lemmas.List.Elements.{All-nil, All-cons, All-append}
 use Rattle.std.specs.List.{list_any}
 use Rattle.description.specs.Described.{Described, DescribedProgram, DescribedTable}
 use Rattle.description.specs.Ranges.{IsInRange, IsTable}
-use Rattle.description.specs.Tables.{numbers_from, only_if, has_event, scheduled_programs, service_tables, table_kinds, table_count, table_kind, kind_lengths, eit_lengths, places_of, section_lengths, section_count}
+use Rattle.description.specs.Tables.{numbers_from, only_if, has_event, scheduled_programs, service_tables, table_kinds, table_count, table_kind, kind_lengths, eit_lengths, packets_of_section, section_lengths, section_count}
 use Rattle.description.specs.declared.table_kind.TableKind.{TableKind}
 use Rattle.description.specs.declared.table_kind.TableKind.TheVariants.{Pat, Pmt, Nit, Sdt, Eit, Tdt, Private}
 use Rattle.description.specs.Pids.{SectionsLaw}
@@ -31,7 +31,7 @@ one_if : (d : Described) (b : Bool) (k : TableKind) → (b ≡ true → Some32 d
 one_if d true k h = All-cons (Some32 d) k [] (h refl) (All-nil (Some32 d))
 one_if d false k h = All-nil (Some32 d)
 
-eit_count : (ps : List DescribedProgram) → length (eit_lengths ps) ≡ 2 * length ps
+pub eit_count : (ps : List DescribedProgram) → length (eit_lengths ps) ≡ 2 * length ps
 eit_count [] = refl
 eit_count (p ∷ ps) = omega (arith, eit_count ps)
 
@@ -87,9 +87,9 @@ kinds_good d r =
         let all : length (kind_lengths d (Private i)) ≡ length t.sections = rw (e, kind_lengths) (length-map t.sections (length {A = ℕ})) in
         record { some = omega (arith, all, is.some_sections); most = omega (arith, all, is.most_sections) }
 
-some_places : (ls : List ℕ) → 0 < length ls → 0 < sum_by places_of ls
+some_places : (ls : List ℕ) → 0 < length ls → 0 < sum_by packets_of_section ls
 some_places [] some = absurd (omega (arith, some))
-some_places (l ∷ ls) some = omega (arith, sum_by-cons places_of l ls)
+some_places (l ∷ ls) some = omega (arith, sum_by-cons packets_of_section l ls)
 
 by_kind : (d : Described) (t : ℕ) (o : Option TableKind) → IsInRange d → t < table_count d → table_kind d t ≡ o → (0 < section_count d t) × (section_count d t ≤ 32)
 by_kind d t None r lt e = absurd (none_there (table_kinds d) t lt e)

@@ -8,7 +8,7 @@ use Rattle.std.specs.List.{list_all, filter_map, cons_option}
 use Rattle.hex.specs.Hex.{decode_of}
 use Rattle.hex.specs.declared.error.FromHexError.{FromHexError}
 use Rattle.hex.proofs.HexLemmas.{decode_of-ok}
-use Rattle.psi_tables.specs.Reading.{section_at, start_at}
+use Rattle.psi_tables.specs.Reading.{section_at, section_start_at}
 use Rattle.dvb_tables.specs.CharacterCoding.{text_bytes}
 use Rattle.toml.specs.Data.{Data, as_str}
 use Rattle.dvb_tables.specs.DescriptorLoops.{are_whole_descriptors}
@@ -88,7 +88,7 @@ descriptors-is key d =
 
 -- a section has at least its first three bytes
 at_least_three : (bytes : List ℕ) → is_one_section bytes ≡ true → 3 ≤ length bytes
-unfolding section_at start_at
+unfolding section_at section_start_at
 at_least_three [] h = absurd (cc)
 at_least_three (a ∷ []) h = absurd (cc)
 at_least_three (a ∷ b ∷ []) h = absurd (cc)

@@ -16,8 +16,8 @@ use Rattle.description.specs.StreamKeys.{owner_number, has_number, declares, has
 use Rattle.description.specs.Contents.{described, described_network, described_program, described_stream, described_table}
 use Rattle.description.specs.Consistency.{is_distinct, is_too_long, first_place, equal_pids_fault, equal_numbers_fault, event_order_fault, too_long_fault, joint_fault}
 use Rattle.description.specs.Refusals.{key_fault, programs_of, streams_of, tables_of, network_of, first_refused, stream_keys}
-use Rattle.description.specs.declared.fault.Fault.{Fault}
-use Rattle.description.specs.declared.fault.Fault.TheVariants.{Streams, Stream, Events, EqualPids, EqualNumbers, TooLong}
+use Rattle.description.specs.declared.fault.DescFault.{DescFault}
+use Rattle.description.specs.declared.fault.DescFault.TheVariants.{Streams, Stream, Events, EqualPids, EqualNumbers, TooLong}
 use Rattle.description.specs.declared.table_kind.TableKind.{TableKind}
 use Rattle.description.specs.declared.table_kind.TableKind.TheVariants.{Pat, Pmt, Nit, Sdt, Eit, Tdt, Private}
 use Rattle.description.proofs.KeyRanges.{integer_at-within, integer_or-within, moment_at-within}
@@ -46,8 +46,8 @@ no_place p n (x ∷ xs) h = this_or_none (p x) (list_any p xs) n (first_place p 
 
 no_joint_fault : (d : Described) (document : Data) → joint_fault d document ≡ None → NoJointFault d
 no_joint_fault d document h =
-    let numbers : Option Fault = option_or (equal_pids_fault d) (equal_numbers_fault d) in
-    let order : Option Fault = option_or numbers (event_order_fault document) in
+    let numbers : Option DescFault = option_or (equal_pids_fault d) (equal_numbers_fault d) in
+    let order : Option DescFault = option_or numbers (event_order_fault document) in
     let three = or_none order (too_long_fault d) h in
     let two = or_none numbers (event_order_fault document) three.0 in
     let one = or_none (equal_pids_fault d) (equal_numbers_fault d) two.0 in

@@ -12,8 +12,8 @@ use Rattle.description.specs.declared.event_keys.EventKey.{EventKey}
 use Rattle.description.specs.declared.event_keys.EventKey.TheVariants as event
 use Rattle.description.specs.declared.table_keys.TableKey.{TableKey}
 use Rattle.description.specs.declared.table_keys.TableKey.TheVariants as table
-use Rattle.description.specs.declared.fault.Fault.{Fault}
-use Rattle.description.specs.declared.fault.Fault.TheVariants as fault
+use Rattle.description.specs.declared.fault.DescFault.{DescFault}
+use Rattle.description.specs.declared.fault.DescFault.TheVariants as fault
 
 abbrev pub top_code : TopKey → ℕ
 top_code top.Rate = 10
@@ -70,7 +70,7 @@ table_code table.Limit = 72
 table_code table.Sections = 73
 
 -- the number of a refusal
-abbrev pub fault_code : Fault → ℕ
+abbrev pub fault_code : DescFault → ℕ
 fault_code fault.Text = 1
 fault_code fault.UnknownKey = 2
 fault_code (fault.Top key) = top_code key
@@ -90,7 +90,7 @@ fault_code (fault.EventOrder item) = 82
 fault_code (fault.TooLong item) = 83
 
 -- the item of a refusal
-abbrev pub fault_item : Fault → ℕ
+abbrev pub fault_item : DescFault → ℕ
 fault_item (fault.Program key item) = item
 fault_item (fault.Stream key item) = item
 fault_item (fault.Event key item) = item

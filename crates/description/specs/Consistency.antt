@@ -12,30 +12,30 @@ use Rattle.description.specs.Tables.{kind_lengths, table_kinds}
 use Rattle.description.specs.Ranges.{named_pids, program_numbers, longest_section}
 use Rattle.description.specs.declared.table_kind.TableKind.{TableKind}
 use Rattle.description.specs.declared.table_kind.TableKind.TheVariants.{Pmt, Nit, Sdt}
-use Rattle.description.specs.declared.fault.Fault.{Fault}
-use Rattle.description.specs.declared.fault.Fault.TheVariants.{EqualPids, EqualNumbers, EventOrder, TooLong}
+use Rattle.description.specs.declared.fault.DescFault.{DescFault}
+use Rattle.description.specs.declared.fault.DescFault.TheVariants.{EqualPids, EqualNumbers, EventOrder, TooLong}
 
 -- no number stands in the list twice
 abbrev pub is_distinct : List ℕ → Bool
 is_distinct [] = true
 is_distinct (n ∷ ns) = not (list_any (λ m. m == n) ns) && is_distinct ns
 
-abbrev pub equal_pids_fault : Described → Option Fault
+abbrev pub equal_pids_fault : Described → Option DescFault
 equal_pids_fault d = if is_distinct (named_pids d) then None else Some EqualPids
 
-abbrev pub equal_numbers_fault : Described → Option Fault
+abbrev pub equal_numbers_fault : Described → Option DescFault
 equal_numbers_fault d = if is_distinct (program_numbers d) then None else Some EqualNumbers
 
 -- when an event begins and when it ends, in seconds since 1970
-abbrev pub begin_of : Data → ℕ
-begin_of event = unwrap_or (event_start event) 0
+abbrev pub event_begin : Data → ℕ
+event_begin event = unwrap_or (event_start event) 0
 
-abbrev pub end_of : Data → ℕ
-end_of event = begin_of event + unwrap_or (event_duration event) 1
+abbrev pub event_end : Data → ℕ
+event_end event = event_begin event + unwrap_or (event_duration event) 1
 
 -- an event begins before an earlier one of its program ends
 abbrev pub overlaps : Data → Data → Bool
-overlaps event earlier = unwrap_or (owner_number earlier) 1 == unwrap_or (owner_number event) 1 && nat_lt (begin_of event) (end_of earlier)
+overlaps event earlier = unwrap_or (owner_number earlier) 1 == unwrap_or (owner_number event) 1 && nat_lt (event_begin event) (event_end earlier)
 
 -- the place of the first of the events, numbered from n on after the earlier ones, that overlaps one before it
 abbrev pub first_overlap : ℕ → List Data → List Data → Option ℕ
@@ -43,7 +43,7 @@ first_overlap n earlier [] = None
 first_overlap n earlier (event ∷ events) =
     if list_any (overlaps event) earlier then Some n else first_overlap (n + 1) (earlier ++ event ∷ []) events
 
-abbrev pub event_order_fault : Data → Option Fault
+abbrev pub event_order_fault : Data → Option DescFault
 event_order_fault document = option_map EventOrder (first_overlap 0 [] (events_of document))
 
 -- a PMT, the NIT or the SDT whose section_length would pass 1,021 (ISO/IEC 13818-1, 2.4.4; EN 300 468, 5.2)
@@ -58,9 +58,9 @@ abbrev pub first_place : {X : Type 0} → (X → Bool) → ℕ → List X → Op
 first_place passes n [] = None
 first_place passes n (x ∷ xs) = if passes x then Some n else first_place passes (n + 1) xs
 
-abbrev pub too_long_fault : Described → Option Fault
+abbrev pub too_long_fault : Described → Option DescFault
 too_long_fault d = option_map TooLong (first_place (is_too_long d) 0 (table_kinds d))
 
 -- the first of these refusals
-abbrev pub joint_fault : Described → Data → Option Fault
+abbrev pub joint_fault : Described → Data → Option DescFault
 joint_fault d document = option_or (option_or (option_or (equal_pids_fault d) (equal_numbers_fault d)) (event_order_fault document)) (too_long_fault d)

@@ -1,9 +1,9 @@
 -- A service description as numbers and byte lists: what every contract of this crate, and of those above it, speaks of.
--- Texts are held as they are written in descriptors (ETSI EN 300 468, annex A), moments as seconds since 1970 (UTC).
+-- Texts are kept as they are written in descriptors (ETSI EN 300 468, annex A), moments as seconds since 1970 (UTC).
 use Rattle.std.specs.Prelude.{ℕ, Bool, List, Option}
 use Rattle.dvb_tables.specs.declared.schedule.Event.{Event}
 use Rattle.description.specs.declared.network.Network.{Network}
-use Rattle.description.specs.declared.stream.Stream.{Stream}
+use Rattle.description.specs.declared.stream.StreamDescription.{StreamDescription}
 
 -- the network that the stream belongs to (EN 300 468, 5.2.1)
 abbrev pub DescribedNetwork : Type 0
@@ -39,7 +39,7 @@ pub record DescribedProgram : Type 0 where
 -- decoding time at the latest (units of 90 kHz), of at most `size` bytes; any `group` successive units make at most
 -- `group_packets` packets. Its transport buffer leaks `rx` bits a second into a main buffer of `main` bytes
 abbrev pub DescribedStream : Type 0
-DescribedStream = Stream
+DescribedStream = StreamDescription
 
 -- ready-made sections on a PID of their own; limit is the greatest time between two starts of a section, in ms
 pub record DescribedTable : Type 0 where

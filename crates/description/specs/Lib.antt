@@ -16,5 +16,5 @@ pub mod Codes
 pub mod Contents
 pub mod Consistency
 pub mod Reading
-pub mod SectionTexts
+pub mod SectionBytes
 pub mod Pids

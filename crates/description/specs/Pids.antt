@@ -2,7 +2,7 @@
 use Rattle.std.specs.Prelude.{◌≡◌, ℕ, ◌+◌, ◌<◌, ◌≤◌, List, ◌++◌, Some, length, map, slice_get}
 use Rattle.description.specs.Described.{Described, DescribedProgram, DescribedStream}
 use Rattle.description.specs.Ranges.{IsInRange, IsProgram, IsStream}
-use Rattle.description.specs.Tables.{kind_pid, table_kinds, table_count, table_pid, section_count, round_places}
+use Rattle.description.specs.Tables.{kind_pid, table_kinds, table_count, table_pid, section_count, round_packets}
 
 -- those of the tables in the order of their numbers, of the programs' clocks, of the streams
 abbrev pub all_pids : Described → List ℕ
@@ -22,8 +22,8 @@ pub record PidPlaces (d : Described) : Type 0 where
   pub clock : (i : ℕ) (p : DescribedProgram) → slice_get d.programs i ≡ Some p → slice_get (all_pids d) (table_count d + i) ≡ Some p.pcr_pid
   pub stream : (k : ℕ) (s : DescribedStream) → slice_get d.streams k ≡ Some s → slice_get (all_pids d) (table_count d + length d.programs + k) ≡ Some s.pid
 
-abbrev pub PidPlacesLaw : Type 0
-PidPlacesLaw = (d : Described) → PidPlaces d
+abbrev pub PidPositionsLaw : Type 0
+PidPositionsLaw = (d : Described) → PidPlaces d
 
 -- a stream and a program by their numbers are in their ranges
 abbrev pub StreamRangeLaw : Type 0
@@ -34,4 +34,4 @@ ProgramRangeLaw = (d : Described) (i : ℕ) (p : DescribedProgram) → IsInRange
 
 -- each table has a section, and at most 32 of them; so its round has a place
 abbrev pub SectionsLaw : Type 0
-SectionsLaw = (d : Described) (t : ℕ) → IsInRange d → t < table_count d → (0 < section_count d t) × (section_count d t ≤ 32) × (0 < round_places d t)
+SectionsLaw = (d : Described) (t : ℕ) → IsInRange d → t < table_count d → (0 < section_count d t) × (section_count d t ≤ 32) × (0 < round_packets d t)

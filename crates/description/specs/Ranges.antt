@@ -4,7 +4,7 @@ use Rattle.std.specs.List.{IsDistinct}
 use Rattle.std.specs.Option.{option_to_list}
 use Rattle.description.specs.Described.{Described, DescribedNetwork, DescribedProgram, DescribedStream, DescribedEvent, DescribedTable}
 use Rattle.description.specs.Values.{is_one_section}
-use Rattle.description.specs.Tables.{pmt_length, nit_length, sdt_length, greatest_pieces}
+use Rattle.description.specs.Tables.{pmt_length, nit_length, sdt_length, greatest_unit_packets}
 
 -- a PID that a description may name (ISO/IEC 13818-1, table 2-3, less the PIDs of EN 300 468)
 pub record IsPid (pid : ℕ) : Type 0 where
@@ -76,8 +76,8 @@ pub record IsStream (s : DescribedStream) : Type 0 where
   pub descriptors : IsBytes 700 s.descriptors
   pub some_group : 1 ≤ s.group
   pub most_group : s.group ≤ 64
-  pub some_packets : greatest_pieces s ≤ s.group_packets
-  pub most_packets : s.group_packets ≤ s.group * greatest_pieces s
+  pub some_packets : greatest_unit_packets s ≤ s.group_packets
+  pub most_packets : s.group_packets ≤ s.group * greatest_unit_packets s
 
 pub record IsTable (t : DescribedTable) : Type 0 where
   pub pid : IsPid t.pid

@@ -6,13 +6,13 @@ use Rattle.description.specs.Described.{Described}
 use Rattle.description.specs.Contents.{described}
 use Rattle.description.specs.Refusals.{key_fault}
 use Rattle.description.specs.Consistency.{joint_fault}
-use Rattle.description.specs.declared.fault.Fault.{Fault}
-use Rattle.description.specs.declared.fault.Fault.TheVariants.{Text}
+use Rattle.description.specs.declared.fault.DescFault.{DescFault}
+use Rattle.description.specs.declared.fault.DescFault.TheVariants.{Text}
 use Rattle.description.specs.declared.fault.DescError.{DescError}
 use Rattle.description.specs.declared.fault.DescError.TheVariants.{Refused}
 
 -- the first refusal of a document
-abbrev pub fault : Data → Option Fault
+abbrev pub fault : Data → Option DescFault
 fault document = option_or (key_fault document) (joint_fault (described document) document)
 
 -- what a document is read as

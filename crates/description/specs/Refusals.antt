@@ -23,8 +23,8 @@ use Rattle.description.specs.declared.event_keys.EventKey.{EventKey}
 use Rattle.description.specs.declared.event_keys.EventKey.TheVariants as event
 use Rattle.description.specs.declared.table_keys.TableKey.{TableKey}
 use Rattle.description.specs.declared.table_keys.TableKey.TheVariants as table
-use Rattle.description.specs.declared.fault.Fault.{Fault}
-use Rattle.description.specs.declared.fault.Fault.TheVariants.{UnknownKey, Top, Network, NetworkKey as InNetwork, Programs, Program, Streams, Stream, Events, Event, Tables, Table}
+use Rattle.description.specs.declared.fault.DescFault.{DescFault}
+use Rattle.description.specs.declared.fault.DescFault.TheVariants.{UnknownKey, Top, Network, NetworkKey as InNetwork, Programs, Program, Streams, Stream, Events, Event, Tables, Table}
 
 -- the keys of each kind in the order of their codes
 abbrev pub top_keys : List TopKey
@@ -77,41 +77,41 @@ has_unknown_key d = not (knows_keys top_key_names d
     && (list_all (knows_keys program_key_names) (programs_of d) && list_all (knows_keys stream_key_names) (streams_of d))
     && (list_all (knows_keys event_key_names) (events_of d) && list_all (knows_keys table_key_names) (tables_of d)))
 
-abbrev pub unknown_key_fault : Data → Option Fault
+abbrev pub unknown_key_fault : Data → Option DescFault
 unknown_key_fault d = if has_unknown_key d then Some UnknownKey else None
 
 -- the keys of the document itself
-abbrev pub top_fault : Data → Option Fault
+abbrev pub top_fault : Data → Option DescFault
 top_fault d = option_map Top (find (λ key. refuses_top key d) top_keys)
 
 -- the network: no table, or a key of it
-abbrev pub network_fault : Data → Option Fault
+abbrev pub network_fault : Data → Option DescFault
 network_fault d = elim (network_of d) [
   | None ↦ None
   | Some network ↦ if is_table network then option_map InNetwork (find (λ key. refuses_network key d network) network_keys) else Some Network
 ]
 
--- each array: not so many tables, or a key of one
-abbrev pub program_fault : Data → Option Fault
+-- each array: a number of tables that is out of range, or a key of one
+abbrev pub program_fault : Data → Option DescFault
 program_fault d = if tables_at false (codes "program") 1 16 d
     then option_map (λ p. Program p.0 p.1) (first_refused (λ key. refuses_program key d) program_keys (programs_of d)) else Some Programs
 
 abbrev pub refused_stream_key : Data → Option (StreamKey × ℕ)
 refused_stream_key d = first_refused (λ key. refuses_stream key d) stream_keys (streams_of d)
 
-abbrev pub stream_fault : Data → Option Fault
+abbrev pub stream_fault : Data → Option DescFault
 stream_fault d = if tables_at true (codes "stream") 0 32 d
     then option_map (λ p. Stream p.0 p.1) (refused_stream_key d) else Some Streams
 
-abbrev pub event_fault : Data → Option Fault
+abbrev pub event_fault : Data → Option DescFault
 event_fault d = if tables_at true (codes "event") 0 256 d
     then option_map (λ p. Event p.0 p.1) (first_refused (λ key. refuses_event key d) event_keys (events_of d)) else Some Events
 
-abbrev pub table_fault : Data → Option Fault
+abbrev pub table_fault : Data → Option DescFault
 table_fault d = if tables_at true (codes "table") 0 16 d
     then option_map (λ p. Table p.0 p.1) (first_refused (λ key. refuses_table key d) table_keys (tables_of d)) else Some Tables
 
 -- the first refusal of a key
-abbrev pub key_fault : Data → Option Fault
+abbrev pub key_fault : Data → Option DescFault
 key_fault d = option_or (option_or (option_or (option_or (option_or (option_or (unknown_key_fault d) (top_fault d))
     (network_fault d)) (program_fault d)) (stream_fault d)) (event_fault d)) (table_fault d)

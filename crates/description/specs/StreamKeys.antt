@@ -50,11 +50,11 @@ abbrev pub stream_interval : Data → Option ℕ
 stream_interval = integer_at (codes "interval") (pos 1) (pos 90000)
 
 -- the greatest unit, in bytes: only video may pass what PES_packet_length counts (ISO/IEC 13818-1, 2.4.3.7)
-abbrev pub most_size : Data → ℕ
-most_size stream = if is_video_id (id_or_private stream) then 4000000 else 65522
+abbrev pub greatest_size : Data → ℕ
+greatest_size stream = if is_video_id (id_or_private stream) then 4000000 else 65522
 
 abbrev pub stream_size : Data → Option ℕ
-stream_size stream = integer_at (codes "size") (pos 1) (pos (most_size stream)) stream
+stream_size stream = integer_at (codes "size") (pos 1) (pos (greatest_size stream)) stream
 
 -- the greatest time from the arrival of a unit to its decoding, in units of 90 kHz
 abbrev pub stream_lead : Data → Option ℕ
@@ -89,12 +89,12 @@ stream_group = integer_or 1 (codes "group") (pos 1) (pos 64)
 abbrev pub unit_packets : Data → ℕ
 unit_packets stream = (19 + unwrap_or (stream_size stream) 1 + 183) / 184
 
--- the packets of so many units that are counted together
-abbrev pub most_group_packets : Data → ℕ
-most_group_packets stream = unwrap_or (stream_group stream) 1 * unit_packets stream
+-- the packets of a group of units of the greatest size
+abbrev pub greatest_group_packets : Data → ℕ
+greatest_group_packets stream = unwrap_or (stream_group stream) 1 * unit_packets stream
 
 abbrev pub stream_group_packets : Data → Option ℕ
-stream_group_packets stream = integer_or (most_group_packets stream) (codes "group_packets") (pos (unit_packets stream)) (pos (most_group_packets stream)) stream
+stream_group_packets stream = integer_or (greatest_group_packets stream) (codes "group_packets") (pos (unit_packets stream)) (pos (greatest_group_packets stream)) stream
 
 -- the names of the keys
 abbrev pub stream_key_names : List (List ℕ)

@@ -137,16 +137,16 @@ abbrev pub greatest_length : Described → ℕ → ℕ → ℕ
 greatest_length d t j = slice_index_or (section_lengths d t) j 0
 
 -- the packets that a section of that length takes after its pointer_field (ISO/IEC 13818-1, 2.4.4.1)
-abbrev pub places_of : ℕ → ℕ
-places_of l = (1 + l + 183) / 184
+abbrev pub packets_of_section : ℕ → ℕ
+packets_of_section l = (1 + l + 183) / 184
 
 -- the places of a section of the table, and of a round of all its sections
-abbrev pub section_places : Described → ℕ → ℕ → ℕ
-section_places d t j = places_of (greatest_length d t j)
+abbrev pub section_packets : Described → ℕ → ℕ → ℕ
+section_packets d t j = packets_of_section (greatest_length d t j)
 
-abbrev pub round_places : Described → ℕ → ℕ
-round_places d t = sum_by places_of (section_lengths d t)
+abbrev pub round_packets : Described → ℕ → ℕ
+round_packets d t = sum_by packets_of_section (section_lengths d t)
 
 -- the packets of a stream's greatest unit, with the longest PES header of 19 bytes (ISO/IEC 13818-1, 2.4.3.7)
-abbrev pub greatest_pieces : DescribedStream → ℕ
-greatest_pieces s = (19 + s.size + 183) / 184
+abbrev pub greatest_unit_packets : DescribedStream → ℕ
+greatest_unit_packets s = (19 + s.size + 183) / 184

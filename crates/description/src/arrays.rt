@@ -3,7 +3,8 @@
 ghost use Rattle.std.specs.Prelude.{◌≡◌, map, option_map};
 ghost use Rattle.std.specs.List.{list_all};
 ghost use Rattle.toml.specs.View.{view};
-ghost use Rattle.description.specs.Values.{array_in, elements_in, elements, has_length, is_table, are_tables, tables_at, is_section, are_sections, sections_at};
+ghost use Rattle.description.specs.Values.{array_in, elements_in, elements, has_length, is_table, are_tables};
+ghost use Rattle.description.specs.Values.{tables_at, is_section, are_sections, sections_at};
 
 use crate::private_section::section_of;
 use toml::Value;

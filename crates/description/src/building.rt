@@ -1,6 +1,6 @@
 //! The contents of a document, key by key.
 
-ghost use Rattle.std.specs.Prelude.{◌≡◌, ◌++◌, map, filter, option_map, unwrap_or, None, IfOk};
+ghost use Rattle.std.specs.Prelude.{◌≡◌, map, option_map, unwrap_or, None, IfOk};
 ghost use Rattle.std.specs.List.{filter_map};
 ghost use Rattle.toml.specs.View.{view};
 ghost use Rattle.description.specs.Values.{section_in};
@@ -11,13 +11,13 @@ ghost use Rattle.description.specs.Contents as spec;
 
 use crate::arrays::elements;
 use crate::contents::Contents;
-use crate::descriptors::Descriptors;
+use crate::descriptors::DescriptorLoop;
 use crate::network::Network;
 use crate::owner::owner_number;
 use crate::private_section::{PrivateSection, section_of};
 use crate::private_table::PrivateTable;
-use crate::program::Program;
-use crate::stream::Stream;
+use crate::program::ProgramDescription;
+use crate::stream::StreamDescription;
 use crate::texts::empty_text;
 use crate::{event_keys, network_keys, program_keys, stream_keys, table_keys, top_keys};
 use clock27::Rate;
@@ -31,7 +31,7 @@ fn network_of(network: &Value) -> Network
     Network {
         id: network_keys::id(network).unwrap_or(0),
         name: network_keys::name(network).unwrap_or(empty_text()),
-        descriptors: network_keys::descriptors(network).unwrap_or(Descriptors::none()),
+        descriptors: network_keys::descriptors(network).unwrap_or(DescriptorLoop::none()),
     }
 }
 
@@ -66,17 +66,21 @@ fn events_of(alloc: Global, number: u16, events: &[Value]) -> Result<Vec<Event>,
     Ok(owned)
 }
 
-fn program_of(alloc: Global, document: &Value, program: &Value) -> Result<Program, AllocError>
+fn program_of(
+    alloc: Global,
+    document: &Value,
+    program: &Value,
+) -> Result<ProgramDescription, AllocError>
     ensures { IfOk result (λ p. p ≡ spec.described_program (view document.now) (view program.now)) }
 {
     let number = program_keys::number(program).unwrap_or(1);
     let events = events_of(alloc, number, elements(document, "event"))?;
-    Ok(Program {
+    Ok(ProgramDescription {
         number,
         pmt_pid: program_keys::pmt_pid(program).unwrap_or(32),
         pcr_pid: program_keys::pcr_pid(program).unwrap_or(32),
         pcr_limit: program_keys::pcr_limit(program).unwrap_or(1),
-        descriptors: program_keys::descriptors(program).unwrap_or(Descriptors::none()),
+        descriptors: program_keys::descriptors(program).unwrap_or(DescriptorLoop::none()),
         service_type: program_keys::service_type(program).unwrap_or(0),
         provider: program_keys::provider(program).unwrap_or(empty_text()),
         name: program_keys::name(program).unwrap_or(empty_text()),
@@ -84,7 +88,11 @@ fn program_of(alloc: Global, document: &Value, program: &Value) -> Result<Progra
     })
 }
 
-fn programs_of(alloc: Global, document: &Value, parts: &[Value]) -> Result<Vec<Program>, AllocError>
+fn programs_of(
+    alloc: Global,
+    document: &Value,
+    parts: &[Value],
+) -> Result<Vec<ProgramDescription>, AllocError>
     ensures { IfOk result (λ v. v.items ≡ map (spec.described_program (view document.now)) (map view parts.now)) }
 {
     let mut programs = Vec::new(alloc);
@@ -94,10 +102,10 @@ fn programs_of(alloc: Global, document: &Value, parts: &[Value]) -> Result<Vec<P
     Ok(programs)
 }
 
-fn stream_of(stream: &Value) -> Stream
+fn stream_of(stream: &Value) -> StreamDescription
     ensures { result ≡ spec.described_stream (view stream.now) }
 {
-    Stream {
+    StreamDescription {
         program: owner_number(stream).unwrap_or(1),
         pid: stream_keys::pid(stream).unwrap_or(32),
         stream_id: stream_keys::id_or_private(stream),
@@ -109,7 +117,7 @@ fn stream_of(stream: &Value) -> Stream
         main: stream_keys::main_buffer(stream).unwrap_or(1),
         tag: stream_keys::tag(stream).unwrap_or(None),
         language: stream_keys::language(stream).unwrap_or(None),
-        descriptors: stream_keys::descriptors(stream).unwrap_or(Descriptors::none()),
+        descriptors: stream_keys::descriptors(stream).unwrap_or(DescriptorLoop::none()),
         group: stream_keys::group(stream).unwrap_or(1),
         group_packets: stream_keys::group_packets(stream).unwrap_or(stream_keys::unit_packets(
             stream,
@@ -117,7 +125,7 @@ fn stream_of(stream: &Value) -> Stream
     }
 }
 
-fn streams_of(alloc: Global, parts: &[Value]) -> Result<Vec<Stream>, AllocError>
+fn streams_of(alloc: Global, parts: &[Value]) -> Result<Vec<StreamDescription>, AllocError>
     ensures { IfOk result (λ v. v.items ≡ map spec.described_stream (map view parts.now)) }
 {
     let mut streams = Vec::new(alloc);

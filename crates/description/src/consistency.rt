@@ -1,4 +1,4 @@
-//! What the parts of a document are refused for together.
+//! Refusals of the parts of a document taken together.
 
 ghost use Rattle.std.specs.Prelude.{◌≡◌, ◌≤◌, ◌+◌, ◌++◌, [], length, map, nat_lt};
 ghost use Rattle.std.specs.List.{list_any};
@@ -11,16 +11,16 @@ ghost use Rattle.description.specs.Consistency as spec;
 use crate::arrays::elements;
 use crate::contents::Contents;
 use crate::event_keys;
-use crate::fault::Fault;
+use crate::fault::DescFault;
 use crate::owner::owner_number;
 use crate::private_table::PrivateTable;
-use crate::program::Program;
-use crate::stream::Stream;
+use crate::program::ProgramDescription;
+use crate::stream::StreamDescription;
 use crate::table_kind::TableKind;
 use arrayvec::ArrayVec;
 use toml::Value;
 
-// Whether no number stands twice in a list.
+// Whether no number is in a list twice.
 fn is_distinct(numbers: &[u16]) -> bool
     ensures { result ≡ spec.is_distinct numbers.now }
 {
@@ -34,7 +34,7 @@ fn is_distinct(numbers: &[u16]) -> bool
     true
 }
 
-fn push_pmt_pids(pids: &mut ArrayVec<u16, 80>, programs: &[Program])
+fn push_pmt_pids(pids: &mut ArrayVec<u16, 80>, programs: &[ProgramDescription])
     requires { array_vec_len pids.old + length programs.now ≤ 80 }
     ensures { pids.new.items ≡ pids.old.items ++ map (λ p. p.pmt_pid) programs.now }
 {
@@ -43,7 +43,7 @@ fn push_pmt_pids(pids: &mut ArrayVec<u16, 80>, programs: &[Program])
     }
 }
 
-fn push_pcr_pids(pids: &mut ArrayVec<u16, 80>, programs: &[Program])
+fn push_pcr_pids(pids: &mut ArrayVec<u16, 80>, programs: &[ProgramDescription])
     requires { array_vec_len pids.old + length programs.now ≤ 80 }
     ensures { pids.new.items ≡ pids.old.items ++ map (λ p. p.pcr_pid) programs.now }
 {
@@ -52,7 +52,7 @@ fn push_pcr_pids(pids: &mut ArrayVec<u16, 80>, programs: &[Program])
     }
 }
 
-fn push_stream_pids(pids: &mut ArrayVec<u16, 80>, streams: &[Stream])
+fn push_stream_pids(pids: &mut ArrayVec<u16, 80>, streams: &[StreamDescription])
     requires { array_vec_len pids.old + length streams.now ≤ 80 }
     ensures { pids.new.items ≡ pids.old.items ++ map (λ s. s.pid) streams.now }
 {
@@ -82,7 +82,7 @@ fn named_pids(contents: &Contents) -> ArrayVec<u16, 80>
     pids
 }
 
-fn program_numbers(programs: &[Program]) -> ArrayVec<u16, 16>
+fn program_numbers(programs: &[ProgramDescription]) -> ArrayVec<u16, 16>
     requires { length programs.now ≤ 16 }
     ensures { result.items ≡ map (λ p. p.number) programs.now }
 {
@@ -93,29 +93,29 @@ fn program_numbers(programs: &[Program]) -> ArrayVec<u16, 16>
     numbers
 }
 
-fn equal_pids_fault(contents: &Contents) -> Option<Fault>
+fn equal_pids_fault(contents: &Contents) -> Option<DescFault>
     ensures { result ≡ spec.equal_pids_fault contents.now }
 {
     if is_distinct(named_pids(contents).as_slice()) {
         None
     } else {
-        Some(Fault::EqualPids)
+        Some(DescFault::EqualPids)
     }
 }
 
-fn equal_numbers_fault(contents: &Contents) -> Option<Fault>
+fn equal_numbers_fault(contents: &Contents) -> Option<DescFault>
     ensures { result ≡ spec.equal_numbers_fault contents.now }
 {
     if is_distinct(program_numbers(contents.programs()).as_slice()) {
         None
     } else {
-        Some(Fault::EqualNumbers)
+        Some(DescFault::EqualNumbers)
     }
 }
 
 // When an event begins, in seconds since 1970.
-fn begin_of(event: &Value) -> u64
-    ensures value { result ≡ spec.begin_of (view event.now) }
+fn event_begin(event: &Value) -> u64
+    ensures value { result ≡ spec.event_begin (view event.now) }
     ensures bound { result ≤ last_moment }
 {
     event_keys::start(event).unwrap_or(0)
@@ -127,7 +127,7 @@ fn overlaps(event: &Value, earlier: &Value) -> bool
 {
     let duration = event_keys::duration(earlier).unwrap_or(1) as u64;
     let is_of_its_program = owner_number(earlier).unwrap_or(1) == owner_number(event).unwrap_or(1);
-    is_of_its_program && begin_of(event) < begin_of(earlier) + duration
+    is_of_its_program && event_begin(event) < event_begin(earlier) + duration
 }
 
 fn overlaps_one(event: &Value, earlier: &[Value]) -> bool
@@ -148,10 +148,10 @@ fn first_overlap(events: &[Value]) -> Option<usize>
     None
 }
 
-fn event_order_fault(document: &Value) -> Option<Fault>
+fn event_order_fault(document: &Value) -> Option<DescFault>
     ensures { result ≡ spec.event_order_fault (view document.now) }
 {
-    first_overlap(elements(document, "event")).map(Fault::EventOrder)
+    first_overlap(elements(document, "event")).map(DescFault::EventOrder)
 }
 
 // Whether a length passes that of a section with a section_length of 1,021.
@@ -187,15 +187,15 @@ impl Contents {
     }
 }
 
-fn too_long_fault(contents: &Contents) -> Option<Fault>
+fn too_long_fault(contents: &Contents) -> Option<DescFault>
     ensures { result ≡ spec.too_long_fault contents.now }
 {
-    contents.first_too_long().map(Fault::TooLong)
+    contents.first_too_long().map(DescFault::TooLong)
 }
 
 /// The first refusal of the parts together: equal PIDs, equal program numbers, events out of order, a
 /// table too long.
-pub fn joint_fault(contents: &Contents, document: &Value) -> Option<Fault>
+pub fn joint_fault(contents: &Contents, document: &Value) -> Option<DescFault>
     ensures { result ≡ spec.joint_fault contents.now (view document.now) }
 {
     equal_pids_fault(contents)

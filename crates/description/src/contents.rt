@@ -4,8 +4,8 @@ ghost use Rattle.std.specs.Prelude.{◌≡◌, option_map};
 
 use crate::network::Network;
 use crate::private_table::PrivateTable;
-use crate::program::Program;
-use crate::stream::Stream;
+use crate::program::ProgramDescription;
+use crate::stream::StreamDescription;
 use clock27::Rate;
 use std::marker::Model;
 
@@ -20,8 +20,8 @@ pub struct Contents {
     pub has_sdt: bool,
     pub has_tdt: bool,
     pub network: Option<Network>,
-    pub programs: Vec<Program>,
-    pub streams: Vec<Stream>,
+    pub programs: Vec<ProgramDescription>,
+    pub streams: Vec<StreamDescription>,
     pub tables: Vec<PrivateTable>,
 }
 
@@ -49,7 +49,7 @@ impl Contents {
     }
 
     /// The programs, in order.
-    pub fn programs(&self) -> &[Program]
+    pub fn programs(&self) -> &[ProgramDescription]
         ensures value { result.now ≡ self.now.programs }
         ensures counts { HasCounts self.now }
     {
@@ -57,7 +57,7 @@ impl Contents {
     }
 
     /// The streams, in order.
-    pub fn streams(&self) -> &[Stream]
+    pub fn streams(&self) -> &[StreamDescription]
         ensures value { result.now ≡ self.now.streams }
         ensures counts { HasCounts self.now }
     {

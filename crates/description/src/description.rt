@@ -1,13 +1,13 @@
 //! The description of a transport stream.
 
-ghost use Rattle.std.specs.Prelude.{◌≡◌, ◌^◌, ◌<◌, ◌≤◌, option_map};
+ghost use Rattle.std.specs.Prelude.{◌≡◌, ◌^◌, ◌<◌, option_map};
 
 use crate::contents::Contents;
 use crate::network::Network;
 use crate::private_table::PrivateTable;
-use crate::program::Program;
-use crate::section_lengths::places_of_all;
-use crate::stream::Stream;
+use crate::program::ProgramDescription;
+use crate::section_lengths::packets_of_sections;
+use crate::stream::StreamDescription;
 use crate::table_kind::TableKind;
 use clock27::Rate;
 use std::marker::Model;
@@ -33,7 +33,8 @@ impl Model for Description {
 
 impl Description {
     ghost use Rattle.description.specs.Ranges.{IsInRange};
-    ghost use Rattle.description.specs.Tables.{table_count, table_kind, table_pid, table_limit, section_count, greatest_length, round_places};
+    ghost use Rattle.description.specs.Tables.{table_count, table_kind, table_pid, table_limit, section_count};
+    ghost use Rattle.description.specs.Tables.{greatest_length, round_packets};
 
     /// The numbers of every description are in range, and its PIDs distinct.
     pub fn keeps_ranges(&self)
@@ -100,7 +101,7 @@ impl Description {
     }
 
     /// The programs, in order.
-    pub fn programs(&self) -> &[Program]
+    pub fn programs(&self) -> &[ProgramDescription]
         ensures value { result.now ≡ self.now.programs }
         ensures ranges { IsInRange self.now }
     {
@@ -108,7 +109,7 @@ impl Description {
     }
 
     /// The streams, in order.
-    pub fn streams(&self) -> &[Stream]
+    pub fn streams(&self) -> &[StreamDescription]
         ensures value { result.now ≡ self.now.streams }
         ensures ranges { IsInRange self.now }
     {
@@ -131,7 +132,7 @@ impl Description {
     }
 
     /// What the table of a number is: 0 the PAT, then the PMTs in the order of the programs, those of
-    /// NIT, SDT, EIT and TDT that there are, and the private tables.
+    /// NIT, SDT, EIT and TDT that the description has, and the private tables.
     pub fn kind(&self, table: usize) -> Option<TableKind>
         ensures { result ≡ table_kind self.now table }
     {
@@ -172,10 +173,10 @@ impl Description {
     }
 
     /// The packets of a round of all sections of a table.
-    pub fn round_places(&self, table: usize) -> usize
+    pub fn round_packets(&self, table: usize) -> usize
         requires { table < table_count self.now }
-        ensures { result ≡ round_places self.now table }
+        ensures { result ≡ round_packets self.now table }
     {
-        places_of_all(self.contents.section_lengths(table).as_slice())
+        packets_of_sections(self.contents.section_lengths(table).as_slice())
     }
 }

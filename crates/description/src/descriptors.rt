@@ -1,6 +1,6 @@
 //! Loops of descriptors as a description gives them (ISO/IEC 13818-1, 2.6.1).
 
-ghost use Rattle.std.specs.Prelude.{◌≡◌, ◌≤◌, List, ℕ, [], length, option_map, option_and_then};
+ghost use Rattle.std.specs.Prelude.{◌≡◌, ◌≤◌, List, ℕ, [], length};
 ghost use Rattle.toml.specs.View.{view};
 ghost use Rattle.description.specs.Values.{descriptors_in, descriptors_or_none};
 
@@ -12,22 +12,22 @@ use toml::Value;
 
 /// Whole descriptors, at most 700 bytes. A contract sees these bytes.
 #[derive(Drop)]
-pub struct Descriptors {
+pub struct DescriptorLoop {
     bytes: ArrayVec<u8, 700>,
 }
 
-impl Model for Descriptors {
+impl Model for DescriptorLoop {
     ghost Value = { List ℕ };
 
     ghost view = { λ d. d.bytes.items };
 }
 
-impl Descriptors {
+impl DescriptorLoop {
     /// No descriptors.
     pub fn none() -> Self
         ensures { result ≡ [] }
     {
-        Descriptors {
+        DescriptorLoop {
             bytes: ArrayVec::new(),
         }
     }
@@ -41,23 +41,23 @@ impl Descriptors {
     }
 }
 
-fn descriptors_of(value: &Value) -> Option<Descriptors>
+fn descriptors_of(value: &Value) -> Option<DescriptorLoop>
     ensures { result ≡ descriptors_in (view value.now) }
 {
     let bytes = hex_bytes::<700>(value.as_str()?)?;
     if are_whole_descriptors(bytes.as_slice()) {
-        Some(Descriptors { bytes })
+        Some(DescriptorLoop { bytes })
     } else {
         None
     }
 }
 
 /// The descriptors at a key, none where it is absent.
-pub fn descriptors_or_none(table: &Value, key: &str) -> Option<Descriptors>
+pub fn descriptors_or_none(table: &Value, key: &str) -> Option<DescriptorLoop>
     ensures { result ≡ descriptors_or_none key.now (view table.now) }
 {
     match table.get(key) {
-        None => Some(Descriptors::none()),
+        None => Some(DescriptorLoop::none()),
         Some(value) => descriptors_of(value),
     }
 }

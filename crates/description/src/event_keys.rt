@@ -2,7 +2,8 @@
 
 ghost use Rattle.std.specs.Prelude.{◌≡◌, ◌≤◌, IfSome};
 ghost use Rattle.toml.specs.View.{view};
-ghost use Rattle.description.specs.EventKeys.{event_id, event_start, event_duration, event_language, event_name, event_text};
+ghost use Rattle.description.specs.EventKeys.{event_id, event_start, event_duration, event_language, event_name};
+ghost use Rattle.description.specs.EventKeys.{event_text};
 
 use crate::key::Key;
 use crate::known_keys::knows_keys;

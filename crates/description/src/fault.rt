@@ -1,4 +1,4 @@
-//! What a description is refused for.
+//! Why a description is refused.
 
 ghost use Rattle.std.specs.Prelude.{◌≡◌};
 
@@ -13,7 +13,7 @@ use thiserror::Error;
 /// Why a description is refused. A number is the place of the program, stream, event or private table
 /// in its array, from 0.
 #[derive(Clone, Copy, Debug, PartialEq, Eq, Error)]
-pub enum Fault {
+pub enum DescFault {
     #[error("the text is not TOML")]
     Text,
     #[error("a key is not one of a description")]
@@ -50,7 +50,7 @@ pub enum Fault {
     TooLong(usize),
 }
 
-impl Fault {
+impl DescFault {
     ghost use Rattle.description.specs.Codes.{fault_code, fault_item};
 
     /// The number of the refusal.
@@ -58,38 +58,38 @@ impl Fault {
         ensures { result ≡ fault_code self }
     {
         match self {
-            Fault::Text => 1,
-            Fault::UnknownKey => 2,
-            Fault::Top(key) => key.code(),
-            Fault::Network => 20,
-            Fault::NetworkKey(key) => key.code(),
-            Fault::Programs => 30,
-            Fault::Program(key, _) => key.code(),
-            Fault::Streams => 40,
-            Fault::Stream(key, _) => key.code(),
-            Fault::Events => 60,
-            Fault::Event(key, _) => key.code(),
-            Fault::Tables => 70,
-            Fault::Table(key, _) => key.code(),
-            Fault::EqualPids => 80,
-            Fault::EqualNumbers => 81,
-            Fault::EventOrder(_) => 82,
-            Fault::TooLong(_) => 83,
+            DescFault::Text => 1,
+            DescFault::UnknownKey => 2,
+            DescFault::Top(key) => key.code(),
+            DescFault::Network => 20,
+            DescFault::NetworkKey(key) => key.code(),
+            DescFault::Programs => 30,
+            DescFault::Program(key, _) => key.code(),
+            DescFault::Streams => 40,
+            DescFault::Stream(key, _) => key.code(),
+            DescFault::Events => 60,
+            DescFault::Event(key, _) => key.code(),
+            DescFault::Tables => 70,
+            DescFault::Table(key, _) => key.code(),
+            DescFault::EqualPids => 80,
+            DescFault::EqualNumbers => 81,
+            DescFault::EventOrder(_) => 82,
+            DescFault::TooLong(_) => 83,
         }
     }
 
-    /// The place in its array of what is refused, and 0 where there is no array; of a table that would
-    /// be too long its number.
+    /// The place in its array of what is refused, and 0 where there is no array; for a table that would
+    /// be too long, its number.
     pub fn item(self) -> usize
         ensures { result ≡ fault_item self }
     {
         match self {
-            Fault::Program(_, item)
-            | Fault::Stream(_, item)
-            | Fault::Event(_, item)
-            | Fault::Table(_, item)
-            | Fault::EventOrder(item)
-            | Fault::TooLong(item) => item,
+            DescFault::Program(_, item)
+            | DescFault::Stream(_, item)
+            | DescFault::Event(_, item)
+            | DescFault::Table(_, item)
+            | DescFault::EventOrder(item)
+            | DescFault::TooLong(item) => item,
             _ => 0,
         }
     }
@@ -99,7 +99,7 @@ impl Fault {
 #[derive(Clone, Copy, Debug, PartialEq, Eq, Error)]
 pub enum DescError {
     #[error("the description is refused")]
-    Refused(Fault),
+    Refused(DescFault),
     #[error("no memory for the description")]
     Memory,
 }

@@ -21,7 +21,8 @@ fn is_among(key: &str, names: &[&str]) -> bool
 }
 
 fn has_listed_keys(table: &Table, names: &[&str]) -> bool
-    ensures { result ≡ list_all (λ key. is_among (map (λ name. name.now) names.now) (string_bytes key)) (keys table.now) }
+    ensures { result ≡ list_all (λ key. is_among (map
+        (λ name. name.now) names.now) (string_bytes key)) (keys table.now) }
 {
     table.keys().all(|key| is_among(key.as_str(), names))
 }

@@ -1,13 +1,15 @@
 //! Laws of descriptions, over the definitions alone. Each function does nothing: its contract is the law.
 
-ghost use Rattle.description.specs.Pids.{PidsApartLaw, PidsBelowLaw, PidPlacesLaw, StreamRangeLaw, ProgramRangeLaw, SectionsLaw};
+ghost use Rattle.description.specs.Pids.{PidsApartLaw, PidsBelowLaw, PidPositionsLaw, StreamRangeLaw, ProgramRangeLaw};
+ghost use Rattle.description.specs.Pids.{SectionsLaw};
 
-/// No two of a description's tables, clocks and streams share a PID, each is below that of null packets, and they stand in
+/// No two of a description's tables, clocks and streams share a PID, each is below that of null packets, and they stand
+/// in
 /// the list of PIDs in the order of their numbers.
 pub fn pids()
     ensures apart { PidsApartLaw }
     ensures below { PidsBelowLaw }
-    ensures places { PidPlacesLaw }
+    ensures places { PidPositionsLaw }
 {}
 
 /// A stream, a program by its number is in its ranges.

@@ -47,27 +47,27 @@ mod table_kind;
 mod table_lengths;
 
 // The bytes of their sections.
-mod association_text;
-mod events_text;
-mod map_text;
-mod network_text;
-mod section_text;
-mod services_text;
+mod event_information;
+mod network_information;
+mod program_association;
+mod program_map;
+mod section_bytes;
+mod service_description;
 
 // What holds of every description.
 pub mod laws;
 
 pub use description::Description;
-pub use descriptors::Descriptors;
+pub use descriptors::DescriptorLoop;
 pub use event_keys::EventKey;
-pub use fault::{DescError, Fault};
+pub use fault::{DescError, DescFault};
 pub use network::Network;
 pub use network_keys::NetworkKey;
 pub use private_section::PrivateSection;
 pub use private_table::PrivateTable;
-pub use program::Program;
+pub use program::ProgramDescription;
 pub use program_keys::ProgramKey;
-pub use stream::Stream;
+pub use stream::StreamDescription;
 pub use stream_keys::StreamKey;
 pub use table_keys::TableKey;
 pub use table_kind::TableKind;

@@ -1,9 +1,9 @@
 //! Times as a description writes them, and the moments that they name.
 
-ghost use Rattle.std.specs.Prelude.{◌≡◌, ◌<◌, ◌≤◌, ◌+◌, ◌*◌, pos, option_map, option_and_then, length, true};
+ghost use Rattle.std.specs.Prelude.{◌≡◌, ◌<◌, ◌≤◌, ◌+◌, length, true};
 ghost use Rattle.toml.specs.View.{view};
-ghost use Rattle.description.specs.Values.{in_range};
-ghost use Rattle.description.specs.Moments.{has_digit, two_digits, has_two_digits, has_time_shape, civil_seconds_of, text_seconds, moment_of, moment_in, moment_at};
+ghost use Rattle.description.specs.Moments.{has_digit, two_digits, has_two_digits, has_time_shape, civil_seconds_of};
+ghost use Rattle.description.specs.Moments.{text_seconds, moment_of, moment_in, moment_at};
 
 use crate::values::within;
 use jiff::civil::DateTime;

@@ -1,6 +1,6 @@
 //! The network that the transport stream belongs to.
 
-use crate::descriptors::Descriptors;
+use crate::descriptors::DescriptorLoop;
 use dvb_tables::Text;
 
 /// The network (EN 300 468, 5.2.1).
@@ -9,5 +9,5 @@ pub struct Network {
     pub id: u16,
     pub name: Text<200>,
     /// Of its one transport stream.
-    pub descriptors: Descriptors,
+    pub descriptors: DescriptorLoop,
 }

@@ -4,7 +4,7 @@ ghost use Rattle.std.specs.Prelude.{◌≡◌};
 ghost use Rattle.toml.specs.View.{view};
 ghost use Rattle.description.specs.NetworkKeys.{network_id, network_name, network_descriptors};
 
-use crate::descriptors::{Descriptors, descriptors_or_none};
+use crate::descriptors::{DescriptorLoop, descriptors_or_none};
 use crate::key::Key;
 use crate::known_keys::knows_keys;
 use crate::texts::text_at;
@@ -32,7 +32,7 @@ pub fn name(network: &Value) -> Option<Text<200>>
     text_at(network, "name")
 }
 
-pub fn descriptors(network: &Value) -> Option<Descriptors>
+pub fn descriptors(network: &Value) -> Option<DescriptorLoop>
     ensures { result ≡ network_descriptors (view network.now) }
 {
     descriptors_or_none(network, "descriptors")

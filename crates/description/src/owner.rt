@@ -1,9 +1,8 @@
 //! The program that a stream or an event belongs to.
 
-ghost use Rattle.std.specs.Prelude.{◌≡◌, ◌==◌, map, unwrap_or, codes};
+ghost use Rattle.std.specs.Prelude.{◌≡◌};
 ghost use Rattle.std.specs.List.{list_any};
 ghost use Rattle.toml.specs.View.{view};
-ghost use Rattle.description.specs.ProgramKeys.{program_number};
 ghost use Rattle.description.specs.StreamKeys.{owner_number, has_number, declares, has_owner};
 
 use crate::arrays::elements;

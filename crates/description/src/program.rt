@@ -3,25 +3,25 @@
 ghost use Rattle.std.specs.Prelude.{◌≡◌, map};
 ghost use Rattle.description.specs.Described.{event_view};
 
-use crate::descriptors::Descriptors;
+use crate::descriptors::DescriptorLoop;
 use dvb_tables::{Event, Text};
 use std::marker::Model;
 
 /// A program (ISO/IEC 13818-1, 2.4.4.8) with its service (EN 300 468, 5.2.3) and the service's events.
 #[derive(Drop)]
-pub struct Program {
+pub struct ProgramDescription {
     pub(crate) number: u16,
     pub(crate) pmt_pid: u16,
     pub(crate) pcr_pid: u16,
     pub(crate) pcr_limit: u8,
-    pub(crate) descriptors: Descriptors,
+    pub(crate) descriptors: DescriptorLoop,
     pub(crate) service_type: u8,
     pub(crate) provider: Text<100>,
     pub(crate) name: Text<100>,
     pub(crate) events: Vec<Event>,
 }
 
-impl Model for Program {
+impl Model for ProgramDescription {
     ghost use Rattle.std.specs.Prelude.{map};
     ghost use Rattle.description.specs.Described.{DescribedProgram, event_view};
 
@@ -40,7 +40,7 @@ impl Model for Program {
     } };
 }
 
-impl Program {
+impl ProgramDescription {
     /// program_number.
     pub fn number(&self) -> u16
         ensures { result ≡ self.now.number }
@@ -70,7 +70,7 @@ impl Program {
     }
 
     /// Its descriptors in its PMT.
-    pub fn descriptors(&self) -> &Descriptors
+    pub fn descriptors(&self) -> &DescriptorLoop
         ensures { result.now ≡ self.now.descriptors }
     {
         &self.descriptors

@@ -1,10 +1,12 @@
 //! The keys of a table of the array `program`.
 
-ghost use Rattle.std.specs.Prelude.{◌≡◌, ℕ, pos};
+ghost use Rattle.std.specs.Prelude.{◌≡◌};
 ghost use Rattle.toml.specs.View.{view};
-ghost use Rattle.description.specs.ProgramKeys.{program_number, program_pmt_pid, program_pcr_pid, program_pcr_limit, program_descriptors, program_service_type, program_provider, program_name};
+ghost use Rattle.description.specs.ProgramKeys.{program_number, program_pmt_pid, program_pcr_pid, program_pcr_limit};
+ghost use Rattle.description.specs.ProgramKeys.{program_descriptors, program_service_type, program_provider};
+ghost use Rattle.description.specs.ProgramKeys.{program_name};
 
-use crate::descriptors::{Descriptors, descriptors_or_none};
+use crate::descriptors::{DescriptorLoop, descriptors_or_none};
 use crate::key::Key;
 use crate::known_keys::knows_keys;
 use crate::texts::text_or_empty;
@@ -49,7 +51,7 @@ pub fn pcr_limit(program: &Value) -> Option<u8>
     Some(integer_or(40, program, "pcr_limit", 1, 100)? as u8)
 }
 
-pub fn descriptors(program: &Value) -> Option<Descriptors>
+pub fn descriptors(program: &Value) -> Option<DescriptorLoop>
     ensures { result ≡ program_descriptors (view program.now) }
 {
     descriptors_or_none(program, "descriptors")

@@ -8,7 +8,7 @@ ghost use Rattle.description.specs.Reading.{read_document, description_of};
 use crate::building::contents_of;
 use crate::consistency::joint_fault;
 use crate::description::Description;
-use crate::fault::{DescError, Fault};
+use crate::fault::{DescError, DescFault};
 use crate::refusals::key_fault;
 use std::alloc::{AllocError, Global};
 use toml::Value;
@@ -38,7 +38,7 @@ impl Description {
         match toml::table_from_str(alloc, text) {
             Ok(table) => read_document(alloc, &Value::Table(table)),
             Err(error) if error.is_memory() => Err(DescError::Memory),
-            Err(_) => Err(DescError::Refused(Fault::Text)),
+            Err(_) => Err(DescError::Refused(DescFault::Text)),
         }
     }
 }

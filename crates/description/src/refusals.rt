@@ -4,11 +4,13 @@ ghost use Rattle.std.specs.Prelude.{◌≡◌};
 ghost use Rattle.description.specs.KnownKeys.{knows_keys};
 ghost use Rattle.description.specs.TopKeys.{top_key_names};
 ghost use Rattle.toml.specs.View.{view};
-ghost use Rattle.description.specs.Refusals.{knows_network, has_unknown_key, unknown_key_fault, top_fault, network_fault, program_fault, refused_stream_key, stream_fault, event_fault, table_fault, key_fault};
+ghost use Rattle.description.specs.Refusals.{knows_network, has_unknown_key, unknown_key_fault, top_fault};
+ghost use Rattle.description.specs.Refusals.{network_fault, program_fault, refused_stream_key, stream_fault};
+ghost use Rattle.description.specs.Refusals.{event_fault, table_fault, key_fault};
 
 use crate::arrays::{elements, tables_at};
 use crate::event_keys::EventKey;
-use crate::fault::Fault;
+use crate::fault::DescFault;
 use crate::key::{Key, all_known, first_refused, refused_key};
 use crate::known_keys::knows_keys;
 use crate::network_keys::NetworkKey;
@@ -61,40 +63,42 @@ fn has_unknown_key(document: &Value) -> bool
             && all_known::<TableKey>(elements(document, "table"))))
 }
 
-fn unknown_key_fault(document: &Value) -> Option<Fault>
+fn unknown_key_fault(document: &Value) -> Option<DescFault>
     ensures { result ≡ unknown_key_fault (view document.now) }
 {
     if has_unknown_key(document) {
-        Some(Fault::UnknownKey)
+        Some(DescFault::UnknownKey)
     } else {
         None
     }
 }
 
-fn top_fault(document: &Value) -> Option<Fault>
+fn top_fault(document: &Value) -> Option<DescFault>
     ensures { result ≡ top_fault (view document.now) }
 {
-    TopKey::first_refused(document).map(Fault::Top)
+    TopKey::first_refused(document).map(DescFault::Top)
 }
 
-fn network_fault(document: &Value) -> Option<Fault>
+fn network_fault(document: &Value) -> Option<DescFault>
     ensures { result ≡ network_fault (view document.now) }
 {
     match document.get("network") {
         None => None,
-        Some(network) if !network.is_table() => Some(Fault::Network),
-        Some(network) => refused_key(&NetworkKey::ALL, document, network).map(Fault::NetworkKey),
+        Some(network) if !network.is_table() => Some(DescFault::Network),
+        Some(network) => refused_key(&NetworkKey::ALL, document, network).map(
+            DescFault::NetworkKey,
+        ),
     }
 }
 
-fn program_fault(document: &Value) -> Option<Fault>
+fn program_fault(document: &Value) -> Option<DescFault>
     ensures { result ≡ program_fault (view document.now) }
 {
     if !tables_at(false, document, "program", 1, 16) {
-        return Some(Fault::Programs);
+        return Some(DescFault::Programs);
     }
     let (key, item) = first_refused(&ProgramKey::ALL, document, elements(document, "program"))?;
-    Some(Fault::Program(key, item))
+    Some(DescFault::Program(key, item))
 }
 
 fn refused_stream_key(document: &Value) -> Option<(StreamKey, usize)>
@@ -103,38 +107,38 @@ fn refused_stream_key(document: &Value) -> Option<(StreamKey, usize)>
     first_refused(&StreamKey::ALL, document, elements(document, "stream"))
 }
 
-fn stream_fault(document: &Value) -> Option<Fault>
+fn stream_fault(document: &Value) -> Option<DescFault>
     ensures { result ≡ stream_fault (view document.now) }
 {
     if !tables_at(true, document, "stream", 0, 32) {
-        return Some(Fault::Streams);
+        return Some(DescFault::Streams);
     }
     let (key, item) = refused_stream_key(document)?;
-    Some(Fault::Stream(key, item))
+    Some(DescFault::Stream(key, item))
 }
 
-fn event_fault(document: &Value) -> Option<Fault>
+fn event_fault(document: &Value) -> Option<DescFault>
     ensures { result ≡ event_fault (view document.now) }
 {
     if !tables_at(true, document, "event", 0, 256) {
-        return Some(Fault::Events);
+        return Some(DescFault::Events);
     }
     let (key, item) = first_refused(&EventKey::ALL, document, elements(document, "event"))?;
-    Some(Fault::Event(key, item))
+    Some(DescFault::Event(key, item))
 }
 
-fn table_fault(document: &Value) -> Option<Fault>
+fn table_fault(document: &Value) -> Option<DescFault>
     ensures { result ≡ table_fault (view document.now) }
 {
     if !tables_at(true, document, "table", 0, 16) {
-        return Some(Fault::Tables);
+        return Some(DescFault::Tables);
     }
     let (key, item) = first_refused(&TableKey::ALL, document, elements(document, "table"))?;
-    Some(Fault::Table(key, item))
+    Some(DescFault::Table(key, item))
 }
 
 /// The first refusal of a key.
-pub fn key_fault(document: &Value) -> Option<Fault>
+pub fn key_fault(document: &Value) -> Option<DescFault>
     ensures { result ≡ key_fault (view document.now) }
 {
     unknown_key_fault(document)

@@ -1,21 +1,20 @@
 //! The greatest lengths of sections, over all moments.
 
-ghost use Rattle.std.specs.Prelude.{◌≡◌, ◌<◌, ◌≤◌, ◌+◌, ◌*◌, [], ◌∷◌, length, map, sum_by, filter};
-ghost use Rattle.std.specs.Option.{option_to_list};
+ghost use Rattle.std.specs.Prelude.{◌≡◌, ◌≤◌, [], ◌∷◌, length, map, sum_by, filter};
 ghost use Rattle.description.specs.Described.{event_view};
 ghost use Rattle.description.specs.Tables as spec;
 
 use crate::contents::Contents;
 use crate::network::Network;
 use crate::private_section::PrivateSection;
-use crate::program::Program;
-use crate::stream::Stream;
+use crate::program::ProgramDescription;
+use crate::stream::StreamDescription;
 use crate::table_kind::{TableKind, has_event};
 use arrayvec::ArrayVec;
 use dvb_tables::Event;
 
 // The bytes of a stream's descriptors in a PMT.
-fn es_info_length(stream: &Stream) -> usize
+fn es_info_length(stream: &StreamDescription) -> usize
     ensures value { result ≡ spec.es_info_length stream.now }
     ensures bound { result ≤ 709 }
 {
@@ -25,7 +24,7 @@ fn es_info_length(stream: &Stream) -> usize
 }
 
 // The bytes of a stream in the PMT of the program of a number.
-fn entry_length(number: u16, stream: &Stream) -> usize
+fn entry_length(number: u16, stream: &StreamDescription) -> usize
     ensures value { result ≡ spec.entry_length number stream.now }
     ensures bound { result ≤ 714 }
 {
@@ -36,7 +35,7 @@ fn entry_length(number: u16, stream: &Stream) -> usize
     }
 }
 
-fn entries_length(number: u16, streams: &[Stream]) -> usize
+fn entries_length(number: u16, streams: &[StreamDescription]) -> usize
     requires { length streams.now ≤ 32 }
     ensures value { result ≡ sum_by (spec.entry_length number) streams.now }
     ensures bound { result ≤ 22848 }
@@ -49,14 +48,14 @@ fn entries_length(number: u16, streams: &[Stream]) -> usize
 }
 
 // The bytes of a service in the SDT.
-fn service_length(program: &Program) -> usize
+fn service_length(program: &ProgramDescription) -> usize
     ensures value { result ≡ spec.service_length program.now }
     ensures bound { result ≤ 210 }
 {
     10 + program.provider().as_bytes().len() + program.name().as_bytes().len()
 }
 
-fn services_length(programs: &[Program]) -> usize
+fn services_length(programs: &[ProgramDescription]) -> usize
     requires { length programs.now ≤ 16 }
     ensures value { result ≡ sum_by spec.service_length programs.now }
     ensures bound { result ≤ 3360 }
@@ -94,7 +93,7 @@ fn nit_length(network: &Network) -> usize
     24 + network.name.as_bytes().len() + network.descriptors.as_bytes().len()
 }
 
-fn eit_length(program: &Program) -> usize
+fn eit_length(program: &ProgramDescription) -> usize
     ensures value { result ≡ spec.eit_length program.now }
     ensures bound { result ≤ 287 }
 {
@@ -110,7 +109,7 @@ fn one(length: u16) -> ArrayVec<u16, 32>
 }
 
 // Of each program's two sections.
-fn eit_lengths(programs: &[Program]) -> ArrayVec<u16, 32>
+fn eit_lengths(programs: &[ProgramDescription]) -> ArrayVec<u16, 32>
     requires { length programs.now ≤ 16 }
     ensures { result.items ≡ spec.eit_lengths (filter spec.has_event programs.now) }
 {
@@ -137,9 +136,9 @@ fn lengths_of(sections: &[PrivateSection]) -> ArrayVec<u16, 32>
 }
 
 /// The packets of sections of these lengths.
-pub fn places_of_all(lengths: &[u16]) -> usize
+pub fn packets_of_sections(lengths: &[u16]) -> usize
     requires { length lengths.now ≤ 32 }
-    ensures { result ≡ sum_by spec.places_of lengths.now }
+    ensures { result ≡ sum_by spec.packets_of_section lengths.now }
 {
     let mut places = 0;
     for length in lengths {
@@ -157,7 +156,7 @@ impl Contents {
         12 + 4 * (networks + self.programs().len())
     }
 
-    fn pmt_length(&self, program: &Program) -> usize
+    fn pmt_length(&self, program: &ProgramDescription) -> usize
         ensures value { result ≡ spec.pmt_length self.now program.now }
         ensures bound { result ≤ 23564 }
     {

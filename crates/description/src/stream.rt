@@ -1,10 +1,10 @@
 //! An elementary stream of the description.
 
-use crate::descriptors::Descriptors;
+use crate::descriptors::DescriptorLoop;
 
 /// An elementary stream and what it declares of its units (ISO/IEC 13818-1, 2.4.2 and 2.4.4.8).
 #[derive(Drop)]
-pub struct Stream {
+pub struct StreamDescription {
     /// The number of its program.
     pub program: u16,
     pub pid: u16,
@@ -23,9 +23,9 @@ pub struct Stream {
     pub main: u32,
     pub tag: Option<u8>,
     pub language: Option<[u8; 3]>,
-    pub descriptors: Descriptors,
+    pub descriptors: DescriptorLoop,
     /// How many successive units are counted together.
     pub group: u8,
-    /// The most packets that so many units make.
+    /// The most packets that this many units make together.
     pub group_packets: u32,
 }

@@ -1,10 +1,14 @@
 //! The keys of a table of the array `stream`.
 
-ghost use Rattle.std.specs.Prelude.{◌≡◌, ◌≤◌, ◌*◌, IfSome};
+ghost use Rattle.std.specs.Prelude.{◌≡◌, ◌≤◌, IfSome};
 ghost use Rattle.toml.specs.View.{view};
-ghost use Rattle.description.specs.StreamKeys.{stream_pid, is_stream_id, stream_id, is_audio_id, is_video_id, id_or_private, stream_type, stream_interval, most_size, stream_size, stream_lead, leaves_out_buffers, stream_rx, stream_main, stream_tag, stream_language, stream_descriptors, stream_group, unit_packets, most_group_packets, stream_group_packets};
+ghost use Rattle.description.specs.StreamKeys.{stream_pid, is_stream_id, stream_id, is_audio_id, is_video_id};
+ghost use Rattle.description.specs.StreamKeys.{id_or_private, stream_type, stream_interval, greatest_size, stream_size};
+ghost use Rattle.description.specs.StreamKeys.{stream_lead, leaves_out_buffers, stream_rx, stream_main, stream_tag};
+ghost use Rattle.description.specs.StreamKeys.{stream_language, stream_descriptors, stream_group, unit_packets};
+ghost use Rattle.description.specs.StreamKeys.{greatest_group_packets, stream_group_packets};
 
-use crate::descriptors::{Descriptors, descriptors_or_none};
+use crate::descriptors::{DescriptorLoop, descriptors_or_none};
 use crate::key::Key;
 use crate::known_keys::knows_keys;
 use crate::owner::has_owner;
@@ -82,8 +86,8 @@ pub fn interval(stream: &Value) -> Option<u32>
     Some(integer_at(stream, "interval", 1, 90_000)? as u32)
 }
 
-fn most_size(stream: &Value) -> u32
-    ensures value { result ≡ most_size (view stream.now) }
+fn greatest_size(stream: &Value) -> u32
+    ensures value { result ≡ greatest_size (view stream.now) }
     ensures bound { result ≤ 4000000 }
 {
     if is_video_id(id_or_private(stream)) {
@@ -97,7 +101,7 @@ pub fn size(stream: &Value) -> Option<u32>
     ensures value { result ≡ stream_size (view stream.now) }
     ensures bound { IfSome result (λ n. n ≤ 4000000) }
 {
-    Some(integer_at(stream, "size", 1, most_size(stream) as i64)? as u32)
+    Some(integer_at(stream, "size", 1, greatest_size(stream) as i64)? as u32)
 }
 
 pub fn lead(stream: &Value) -> Option<u32>
@@ -106,7 +110,7 @@ pub fn lead(stream: &Value) -> Option<u32>
     Some(integer_at(stream, "lead", 1, 90_000)? as u32)
 }
 
-// Whether both numbers of the buffers may be absent, as far as `main` tells.
+// Whether both numbers of the buffers may be absent, going by `main`.
 fn leaves_out_buffers(stream: &Value) -> bool
     ensures { result ≡ leaves_out_buffers (view stream.now) }
 {
@@ -148,7 +152,7 @@ pub fn language(stream: &Value) -> Option<Option<[u8; 3]>>
     optional_language(stream, "language")
 }
 
-pub fn descriptors(stream: &Value) -> Option<Descriptors>
+pub fn descriptors(stream: &Value) -> Option<DescriptorLoop>
     ensures { result ≡ stream_descriptors (view stream.now) }
 {
     descriptors_or_none(stream, "descriptors")
@@ -169,9 +173,9 @@ pub fn unit_packets(stream: &Value) -> u32
     (19 + size(stream).unwrap_or(1)).div_ceil(184)
 }
 
-// The packets of as many such units as are counted together.
-fn most_group_packets(stream: &Value) -> u32
-    ensures value { result ≡ most_group_packets (view stream.now) }
+// The packets of a group of units of the greatest size.
+fn greatest_group_packets(stream: &Value) -> u32
+    ensures value { result ≡ greatest_group_packets (view stream.now) }
     ensures bound { result ≤ 1391360 }
 {
     group(stream).unwrap_or(1) as u32 * unit_packets(stream)
@@ -180,7 +184,7 @@ fn most_group_packets(stream: &Value) -> u32
 pub fn group_packets(stream: &Value) -> Option<u32>
     ensures { result ≡ stream_group_packets (view stream.now) }
 {
-    let most = most_group_packets(stream);
+    let most = greatest_group_packets(stream);
     Some(integer_or(
         most as u64,
         stream,

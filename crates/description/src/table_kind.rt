@@ -6,7 +6,7 @@ ghost use Rattle.description.specs.Tables.{only_if, has_event};
 ghost use Rattle.arrayvec.specs.ArrayVec.{array_vec_len};
 
 use crate::contents::Contents;
-use crate::program::Program;
+use crate::program::ProgramDescription;
 use arrayvec::ArrayVec;
 
 /// A table of the description; the numbers are places in its programs and in its private tables.
@@ -39,22 +39,23 @@ fn push_if(kinds: &mut ArrayVec<TableKind, 4>, present: bool, kind: TableKind)
     }
 }
 
-pub fn has_event(program: &Program) -> bool
+pub fn has_event(program: &ProgramDescription) -> bool
     ensures { result ≡ has_event program.now }
 {
     !program.events().is_empty()
 }
 
-fn has_schedule(programs: &[Program]) -> bool
+fn has_schedule(programs: &[ProgramDescription]) -> bool
     ensures { result ≡ list_any has_event programs.now }
 {
     programs.iter().any(|program| has_event(program))
 }
 
 impl Contents {
-    ghost use Rattle.description.specs.Tables.{service_tables, table_count, table_kind, table_pid, kind_pid, table_limit, kind_limit};
+    ghost use Rattle.description.specs.Tables.{service_tables, table_count, table_kind, table_pid, kind_pid};
+    ghost use Rattle.description.specs.Tables.{table_limit, kind_limit};
 
-    // Those of NIT, SDT, EIT and TDT that there are.
+    // Those of NIT, SDT, EIT and TDT that the description has.
     fn service_tables(&self) -> ArrayVec<TableKind, 4>
         ensures { result.items ≡ service_tables self.now }
     {
@@ -74,7 +75,7 @@ impl Contents {
     }
 
     /// What the table of a number is: 0 the PAT, then the PMTs in the order of the programs, those of
-    /// NIT, SDT, EIT and TDT that there are, and the private tables.
+    /// NIT, SDT, EIT and TDT that the description has, and the private tables.
     pub fn kind(&self, table: usize) -> Option<TableKind>
         ensures { result ≡ table_kind self.now table }
     {

@@ -1,9 +1,10 @@
 //! Texts and languages as a description gives them.
 
-ghost use Rattle.std.specs.Prelude.{◌≡◌, ◌≤◌, length, [], true, option_map};
+ghost use Rattle.std.specs.Prelude.{◌≡◌, [], true};
 ghost use Rattle.std.specs.List.{list_all};
 ghost use Rattle.toml.specs.View.{view};
-ghost use Rattle.description.specs.Values.{is_octet, text_in, text_at, text_or, is_letter, language_of, language_in, language_at, optional_language};
+ghost use Rattle.description.specs.Values.{is_octet, text_in, text_at, text_or, is_letter, language_of, language_in};
+ghost use Rattle.description.specs.Values.{language_at, optional_language};
 
 use dvb_tables::Text;
 use toml::Value;

@@ -1,7 +1,6 @@
 //! Values of keys: numbers and booleans.
 
 ghost use Rattle.std.specs.Prelude.{◌≡◌, ◌≤ℤ◌, pos, IfSome};
-ghost use Rattle.toml.specs.Data.{get};
 ghost use Rattle.toml.specs.View.{view};
 ghost use Rattle.description.specs.Values.{in_range, integer_in, integer_at, integer_or, optional_integer, boolean_or};
 

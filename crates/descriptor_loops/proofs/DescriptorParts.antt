@@ -10,7 +10,7 @@ some_is : {A : Type 0} (b : Bool) (o : Option A) (x : A) → cond b None o ≡ S
 some_is true o x e = absurd cc
 some_is false o x e = e
 
--- what stands after a descriptor is shorter
+-- what follows a descriptor is shorter
 shorter : (bytes : List ℕ) (p : DescriptorView × List ℕ) → first_descriptor bytes ≡ Some p → length p.1 + 2 ≤ length bytes
 unfolding first_descriptor
 shorter [] p e = absurd cc

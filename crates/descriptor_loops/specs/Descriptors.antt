@@ -13,7 +13,7 @@ pub record DescriptorView : Type 0 where
 abbrev pub descriptor_view : Descriptor → DescriptorView
 descriptor_view d = record { tag = d.tag; size = d.size; body = d.body.now }
 
--- the descriptor at the front, and what stands after it; none where it is not whole
+-- the descriptor at the front, and what follows it; none where it is not whole
 unfoldable pub first_descriptor : List ℕ → Option (DescriptorView × List ℕ)
 first_descriptor [] = None
 first_descriptor (tag ∷ []) = None

@@ -4,7 +4,7 @@ ghost use Rattle.std.specs.Prelude.{◌≡◌, ◌∷◌, [], IfSome, IfNone, op
 ghost use Rattle.descriptor_loops.specs.Descriptors as spec;
 
 /// A descriptor.
-#[derive(Clone, Copy, Debug)]
+#[derive(Clone, Copy)]
 pub struct Descriptor<'a> {
     /// descriptor_tag: what the descriptor says.
     pub tag: u8,
@@ -15,7 +15,7 @@ pub struct Descriptor<'a> {
 }
 
 /// The descriptors of a loop, in order, up to the first one that is not whole: an iterator over its bytes.
-#[derive(Clone, Copy, Debug)]
+#[derive(Clone, Copy)]
 pub struct Descriptors<'a> {
     bytes: &'a [u8],
 }
@@ -52,17 +52,19 @@ impl<'a> Iterator for Descriptors<'a> {
     }
 }
 
-// The descriptor at the front, and what stands after it.
+// The descriptor at the front, and those after it.
 #[tactic(auto, using(crate::proofs::DescriptorParts::next_descriptor, crate::proofs::DescriptorParts::no_descriptor))]
 fn first(bytes: &[u8]) -> Option<(Descriptor<'_>, &[u8])>
-    ensures next { IfSome result (λ p. spec.descriptors_in bytes.now ≡ spec.descriptor_view p.0 ∷ spec.descriptors_in p.1.now) }
+    ensures next { IfSome result (λ p. spec.descriptors_in bytes.now
+        ≡ spec.descriptor_view p.0 ∷ spec.descriptors_in p.1.now) }
     ensures end { IfNone result (spec.descriptors_in bytes.now ≡ []) }
 {
     first_descriptor(bytes)
 }
 
+/// The descriptor at the front, and what follows it; `None` where it is not whole.
 #[tactic(auto, unfolding(crate::specs::Descriptors::first_descriptor))]
-fn first_descriptor(bytes: &[u8]) -> Option<(Descriptor<'_>, &[u8])>
+pub fn first_descriptor(bytes: &[u8]) -> Option<(Descriptor<'_>, &[u8])>
     ensures { option_map (λ p. (spec.descriptor_view p.0, p.1.now)) result ≡ spec.first_descriptor bytes.now }
 {
     match bytes {

@@ -1,4 +1,5 @@
-//! The descriptors of the loops that tables have (ISO/IEC 13818-1, 2.6; EN 300 468, 6): a tag, the number of the bytes after
+//! The descriptors of the loops that tables have (ISO/IEC 13818-1, 2.6; EN 300 468, 6): a tag, the number of the bytes
+//! after
 //! it, and these bytes (`specs/Descriptors`).
 #![tactic(auto)]
 
@@ -6,6 +7,6 @@ mod descriptors;
 mod kept;
 mod tags;
 
-pub use descriptors::{Descriptor, Descriptors};
+pub use descriptors::{Descriptor, Descriptors, first_descriptor};
 pub use kept::kept_descriptors;
 pub use tags::{has_ca, has_tag};

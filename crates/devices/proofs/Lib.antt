@@ -1,5 +1,3 @@
 pub mod Numerals
-pub mod Reading
-pub mod Pieces
-pub mod InputPieces
+pub mod TakenInput
 pub mod Performances

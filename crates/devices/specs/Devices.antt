@@ -1,7 +1,7 @@
 -- The reader and the writers that a call is given, before it and after it.
 use Rattle.std.specs.Prelude.{◌≡◌, ℕ, List, Option}
 use Rattle.std.specs.Io.KnownBytes.{Appends}
-use Rattle.ts_packet.specs.Device.{Failed}
+use Rattle.counted_io.specs.Device.{Failed}
 
 -- a reader or a writer at a moment: the bytes that it still gives, or has taken, where they are known, and the number of
 -- its calls that failed

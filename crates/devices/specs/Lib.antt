@@ -1,9 +1,8 @@
 pub mod Devices
 pub mod Lines
-pub mod Halts
-pub mod Passing
+pub mod Outcomes
 pub mod WholeInput
 pub mod InputPieces
-pub mod Performing
+pub mod Runs
 pub mod Usage
 pub mod Options

@@ -1,6 +1,8 @@
 -- Lines of text on an output: a name, numbers in decimal digits, and LF.
-use Rattle.std.specs.Prelude.{◌≡◌, ◌⊎◌, ℕ, List, [], ◌∷◌, ◌++◌, length, take, decimal}
-use Rattle.devices.specs.Devices.{Device, HasFailed, Takes}
+use Rattle.std.specs.Prelude.{◌≡◌, ◌⊎◌, ℕ, List, [], ◌∷◌, ◌++◌, length, take, decimal, Result, Ok, Err}
+use Rattle.devices.specs.Devices.{Device, HasFailed, IsClean, Takes}
+use Rattle.devices.specs.declared.halt.Halt.{Halt}
+use Rattle.devices.specs.declared.halt.Halt.TheVariants.{Read, Write, Memory}
 
 -- the numbers, each after a space
 unfoldable pub numbers_text : List ℕ → List ℕ
@@ -12,7 +14,19 @@ abbrev pub line_text : List ℕ → List ℕ → List ℕ
 line_text name numbers = (name ++ numbers_text numbers) ++ (10 ∷ [])
 
 -- a text was written, or the writer failed within it and took its front
-pub record Tells (faults : Device) (text : List ℕ) : Type 0 where
+pub record Reports (faults : Device) (text : List ℕ) : Type 0 where
   pub taken : ℕ
   pub written : Takes faults (take taken text)
   pub whole : (taken ≡ length text) ⊎ HasFailed faults
+
+-- a front of the text is written
+pub record Stopped (text : List ℕ) (output : Device) : Type 0 where
+  pub taken : ℕ
+  pub appends : Takes output (take taken text)
+
+-- the whole text is written, or the writer fails within it
+abbrev pub WritesLine : {V : Type 0} → List ℕ → Device → Result V Halt → Type 0
+WritesLine text output (Ok v) = Takes output text × IsClean output
+WritesLine text output (Err Read) = ⊥
+WritesLine text output (Err Write) = Stopped text output × HasFailed output
+WritesLine text output (Err Memory) = ⊥

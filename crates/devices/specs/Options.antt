@@ -7,7 +7,7 @@ use Rattle.std.specs.Str.Parse.{digits_value}
 use Rattle.clap.specs.Words.{Rule, Text, new_rule}
 use Rattle.clap.specs.declared.builder.action.ArgAction.TheVariants.{SetTrue}
 
--- 1. As the command line is told of them
+-- 1. As the command line declares them
 
 -- an option `--NAME VALUE`
 abbrev pub option_rule : Text → Rule
@@ -17,13 +17,13 @@ option_rule name = record (new_rule name) { long = Some name }
 abbrev pub flag_rule : Text → Rule
 flag_rule name = record (new_rule name) { long = Some name; action = Some SetTrue }
 
--- 2. What they say
+-- 2. Their values
 
 -- a number within a range
 abbrev pub within : ℕ → ℕ → ℕ → Option ℕ
 within low high n = if nat_le low n && nat_le n high then Some n else None
 
--- the number that decimal digits make: digits alone, one at least
+-- the value of decimal digits: one at least, and nothing else
 abbrev pub is_decimal : Text → Bool
 is_decimal text = nat_lt 0 (length text) && list_all is_ascii_digit text
 
@@ -32,8 +32,8 @@ decimal text = if is_decimal text then Some (digits_value 10 text) else None
 
 -- an option's number, its default where the option is not given
 unfoldable pub number_option : ℕ → ℕ → ℕ → Option Text → Option ℕ
-number_option low high usual None = Some usual
-number_option low high usual (Some text) = option_and_then (within low high) (decimal text)
+number_option low high default None = Some default
+number_option low high default (Some text) = option_and_then (within low high) (decimal text)
 
 -- the number of an option that must be given
 unfoldable pub number_given : ℕ → ℕ → Option Text → Option ℕ

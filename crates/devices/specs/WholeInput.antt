@@ -1,6 +1,6 @@
 -- An input that is read to its end.
-use Rattle.std.specs.Prelude.{◌≡◌, ◌⊎◌, ◌+◌, ◌++◌, ◌^◌, ◌<◌, ◌≤◌, ℕ, min, Bool, true, false, List, [], length, take, drop, Option, Some, None, Result, Ok, Err, ⊤}
-use Rattle.ts_packet.specs.Device.{IsFront}
+use Rattle.std.specs.Prelude.{◌≡◌, ◌⊎◌, ◌^◌, ◌<◌, ◌≤◌, ℕ, min, List, [], length, Option, Some, None, Result, Ok, Err, ⊤}
+use Rattle.counted_io.specs.Device.{IsFront}
 use Rattle.devices.specs.Devices.{Device, HasFailed, IsClean}
 use Rattle.devices.specs.declared.halt.Halt.{Halt}
 use Rattle.devices.specs.declared.halt.Halt.TheVariants.{Read, Write, Memory}
@@ -35,20 +35,6 @@ ReadsInput input (Err Read) = HasFailed input ⊎ IsLong input.before.bytes
 ReadsInput input (Err Write) = ⊥
 ReadsInput input (Err Memory) = IsClean input
 
--- one piece more: the bytes so far grow by the next n of the input, by some unless it ended there
-pub record ReadsPiece (input : Device) (before after : List ℕ) (ended : Bool) : Type 0 where
-  pub n : ℕ
-  pub clean : IsClean input
-  pub longer : length after ≡ length before + n
-  pub more : ended ≡ false → 0 < n
-  pub known : (xs : List ℕ) → input.before.bytes ≡ Some xs → (after ≡ before ++ take n xs) × (input.after.bytes ≡ Some (drop n xs)) × (ended ≡ true → drop n xs ≡ [])
-
-abbrev pub ReadsMore : Device → List ℕ → List ℕ → Result Bool Halt → Type 0
-ReadsMore input before after (Ok ended) = ReadsPiece input before after ended
-ReadsMore input before after (Err Read) = HasFailed input
-ReadsMore input before after (Err Write) = ⊥
-ReadsMore input before after (Err Memory) = IsClean input
-
 -- the next n bytes of the input stand at the front of a piece, fewer than it holds only where the input ended
 pub record ReadsFront (input : Device) (piece : List ℕ) (n : ℕ) : Type 0 where
   pub fits : n ≤ length piece
@@ -60,3 +46,15 @@ ReadsNext input piece (Ok n) = ReadsFront input piece n
 ReadsNext input piece (Err Read) = HasFailed input
 ReadsNext input piece (Err Write) = ⊥
 ReadsNext input piece (Err Memory) = ⊥
+
+-- the whole input, of `size` bytes, was read and taken
+pub record TakesAll (HasTaken : List ℕ → Type 0) (input : Device) (size : ℕ) : Type 0 where
+  pub bytes : List ℕ
+  pub size_is : size ≡ length bytes
+  pub short : length bytes ≤ longest_input
+  pub read : ReadsInput input (Ok bytes)
+  pub taken : HasTaken bytes
+
+abbrev pub TakesInput : (List ℕ → Type 0) → Device → Result ℕ Halt → Type 0
+TakesInput HasTaken input (Ok size) = TakesAll HasTaken input size
+TakesInput HasTaken input (Err halt) = ReadsInput input (Err halt)

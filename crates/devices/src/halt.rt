@@ -1,32 +1,32 @@
-//! Why a subcommand ends before its time.
+//! Why a subcommand ends early, with the line and the status.
 ghost use Rattle.std.specs.Prelude.{◌≡◌};
 ghost use Rattle.devices.specs.Devices.{writes};
-ghost use Rattle.devices.specs.Lines.{Tells};
-ghost use Rattle.devices.specs.Halts.{halt_line};
+ghost use Rattle.devices.specs.Lines.{Reports};
+ghost use Rattle.devices.specs.Outcomes.{halted};
 
-use crate::lines::tell;
-use ts_packet::Sink;
+use crate::lines::report_line;
+use counted_io::Sink;
 
-/// A device or want of memory.
+/// Why a subcommand ends early.
 #[derive(Clone, Copy, Debug, PartialEq, Eq)]
 pub enum Halt {
-    /// a call of the reader failed, or the input is too long
+    /// A call of the reader failed, or the input is too long.
     Read,
-    /// a call of the writer failed
+    /// A call of the writer failed.
     Write,
-    /// no memory was left
+    /// Out of memory.
     Memory,
 }
 
-/// Tells why a subcommand ended before its time, and answers the status.
-pub fn halted<E: Sink>(faults: &mut E, halt: Halt) -> u8
-    ensures status { result ≡ 3 }
-    ensures tells { Tells (writes E.Sink faults.old faults.new) (halt_line halt) }
+/// Reports why a subcommand ends early, and returns the status.
+pub fn report_halt<E: Sink>(faults: &mut E, halt: Halt) -> u8
+    ensures status { result ≡ (halted halt).status }
+    ensures reports { Reports (writes E.Sink faults.old faults.new) (halted halt).report }
 {
     match halt {
-        Halt::Read => tell(faults, "read", &[]),
-        Halt::Write => tell(faults, "write", &[]),
-        Halt::Memory => tell(faults, "memory", &[]),
+        Halt::Read => report_line(faults, "read", &[]),
+        Halt::Write => report_line(faults, "write", &[]),
+        Halt::Memory => report_line(faults, "memory", &[]),
     }
     3
 }

@@ -1,14 +1,13 @@
 //! Text on an output, and lines: a name, numbers in decimal digits, and LF.
-ghost use Rattle.std.specs.Prelude.{◌≡◌, ◌++◌, ◌∷◌, [], ◌+◌, ◌*◌, ◌≤◌, length, decimal};
+ghost use Rattle.std.specs.Prelude.{◌≡◌, ◌++◌, ◌∷◌, ◌+◌, ◌*◌, ◌≤◌, length, decimal};
 ghost use Rattle.arrayvec.specs.ArrayVec.{array_vec_len};
 ghost use Rattle.devices.specs.Devices.{writes};
-ghost use Rattle.devices.specs.Lines.{line_text, Tells};
-ghost use Rattle.devices.specs.Passing.{WritesLine};
+ghost use Rattle.devices.specs.Lines.{line_text, Reports, WritesLine};
 
 use crate::halt::Halt;
 use arrayvec::ArrayVec;
+use counted_io::{Sink, write_part};
 use itoa::Buffer;
-use ts_packet::{Sink, write_part};
 
 /// The room of a line: a name of up to 40 bytes, five numbers of up to 128 bits with a space before each, and LF.
 const ROOM: usize = 256;
@@ -74,10 +73,10 @@ pub fn write_text<W: Sink>(text: &str, to: &mut W) -> Result<(), Halt>
 }
 
 /// Writes a line, as far as the writer goes.
-pub fn tell<W: Sink>(to: &mut W, name: &str, numbers: &[u128])
+pub fn report_line<W: Sink>(to: &mut W, name: &str, numbers: &[u128])
     requires name { length name.now ≤ 40 }
     requires numbers { length numbers.now ≤ 5 }
-    ensures { Tells (writes W.Sink to.old to.new) (line_text name.now numbers.now) }
+    ensures { Reports (writes W.Sink to.old to.new) (line_text name.now numbers.now) }
 {
     let text = line(name, numbers);
     let _ = write_part(to, text.as_slice());

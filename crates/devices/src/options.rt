@@ -1,5 +1,5 @@
 //! Numbers and flags of the command line.
-ghost use Rattle.std.specs.Prelude.{◌≡◌, ℕ, ◌-◌, ◌<◌, ◌≤◌, ◌^◌, false, IfSome, option_map, option_and_then};
+ghost use Rattle.std.specs.Prelude.{◌≡◌, ◌≤◌, false, IfSome, option_map, option_and_then};
 ghost use Rattle.std.specs.List.{list_all};
 ghost use Rattle.std.specs.Char.{is_ascii_digit};
 ghost use Rattle.clap.specs.Words.{first_of, found_of, rows_of, rule_of};
@@ -31,18 +31,18 @@ fn is_digits(text: &str) -> bool
     text.bytes().all(|byte| byte.is_ascii_digit())
 }
 
-/// Whether a text is decimal digits alone, one at least.
+/// Whether a text is one decimal digit or more, and nothing else.
 fn is_decimal(text: &str) -> bool
     ensures { result ≡ stated.is_decimal text.now }
 {
     text.len() > 0 && is_digits(text)
 }
 
-/// A number that lies within these limits.
+/// The number, if it lies within these limits.
 fn within(low: u64, high: u64, number: u64) -> Option<u64>
     ensures value { result ≡ stated.within low high number }
-    ensures least { IfSome result (λ n. low ≤ n) }
-    ensures most { IfSome result (λ n. n ≤ high) }
+    ensures lower { IfSome result (λ n. low ≤ n) }
+    ensures upper { IfSome result (λ n. n ≤ high) }
 {
     if low <= number && number <= high {
         Some(number)
@@ -51,11 +51,11 @@ fn within(low: u64, high: u64, number: u64) -> Option<u64>
     }
 }
 
-/// The number that decimal digits alone make, where it lies within these limits.
+/// The value of a text of decimal digits alone, if it lies within these limits.
 pub fn number_in(text: &str, low: u64, high: u64) -> Option<u64>
     ensures value { result ≡ option_and_then (stated.within low high) (stated.decimal text.now) }
-    ensures least { IfSome result (λ n. low ≤ n) }
-    ensures most { IfSome result (λ n. n ≤ high) }
+    ensures lower { IfSome result (λ n. low ≤ n) }
+    ensures upper { IfSome result (λ n. n ≤ high) }
 {
     if !is_decimal(text) {
         return None;
@@ -73,15 +73,15 @@ pub fn text_of<'a>(matches: &ArgMatches<'a>, id: &str) -> Option<&'a str>
     matches.get_str(id)
 }
 
-/// The number of an option, `usual` where it is not given.
+/// The number of an option, `default` where it is not given.
 #[tactic(auto, unfolding(crate::specs::Options::number_option))]
-pub fn number_option(text: Option<&str>, low: u64, high: u64, usual: u64) -> Option<u64>
-    requires { usual ≤ high }
-    ensures value { result ≡ stated.number_option low high usual (option_map (λ s. s.now) text.entry) }
-    ensures most { IfSome result (λ n. n ≤ high) }
+pub fn number_option(text: Option<&str>, low: u64, high: u64, default: u64) -> Option<u64>
+    requires { default ≤ high }
+    ensures value { result ≡ stated.number_option low high default (option_map (λ s. s.now) text.entry) }
+    ensures upper { IfSome result (λ n. n ≤ high) }
 {
     match text {
-        None => Some(usual),
+        None => Some(default),
         Some(text) => number_in(text, low, high),
     }
 }
@@ -90,8 +90,8 @@ pub fn number_option(text: Option<&str>, low: u64, high: u64, usual: u64) -> Opt
 #[tactic(auto, unfolding(crate::specs::Options::number_given))]
 pub fn number_given(text: Option<&str>, low: u64, high: u64) -> Option<u64>
     ensures value { result ≡ stated.number_given low high (option_map (λ s. s.now) text.entry) }
-    ensures least { IfSome result (λ n. low ≤ n) }
-    ensures most { IfSome result (λ n. n ≤ high) }
+    ensures lower { IfSome result (λ n. low ≤ n) }
+    ensures upper { IfSome result (λ n. n ≤ high) }
 {
     match text {
         None => None,

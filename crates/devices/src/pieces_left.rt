@@ -2,22 +2,22 @@
 ghost use Rattle.std.specs.Prelude.{◌≡◌, ◌<◌, [], Some, true, false, length};
 ghost use Rattle.devices.specs.InputPieces.{left_of};
 
+use counted_io::Source;
 use std::collections::VecDeque;
 use std::io::{self, Read};
-use ts_packet::Source;
 
 /// Bytes in pieces, read from the front; a piece is dropped once it is read. No call of it fails.
 #[derive(Drop)]
 pub struct PiecesLeft {
-    /// the piece that is read
+    /// The piece that is read.
     pub front: Vec<u8>,
-    /// how many of its bytes are read
+    /// The number of its bytes that are read.
     pub at: usize,
     pub rest: VecDeque<Vec<u8>>,
 }
 
-/// Goes on to the next byte, and says whether there is one.
-fn goes_on(pieces: &mut PiecesLeft) -> bool
+/// Moves to the next byte, and returns whether there is one.
+fn advance(pieces: &mut PiecesLeft) -> bool
     ensures same { left_of pieces.new ≡ left_of pieces.old }
     ensures some { result ≡ true → pieces.new.at < length pieces.new.front.items }
     ensures none { result ≡ false → left_of pieces.new ≡ [] }
@@ -46,7 +46,7 @@ impl Source for PiecesLeft {
     ghost fault_count = { λ s. 0 };
 
     fn read_some(&mut self, part: &mut [u8]) -> io::Result<usize> {
-        if !goes_on(self) {
+        if !advance(self) {
             return Ok(0);
         }
         let (_, mut left) = self.front.split_at(self.at);

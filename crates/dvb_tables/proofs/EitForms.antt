@@ -4,7 +4,7 @@ use Rattle.std.proofs.lemmas.Bool.{ltb-false, le-ltb}
 use Rattle.std.proofs.lemmas.List.{length-take, take-append-drop}
 use Rattle.std.specs.Prelude.{slice_index}
 use Rattle.bit_fields.specs.Fields.{number, fields, IsBytes}
-use Rattle.bit_fields.proofs.Binding.{bind_ok, guard_ok, ok_is}
+use Rattle.bit_fields.proofs.Bind.{bind_ok, guard_ok, ok_is}
 use Rattle.bit_fields.proofs.ByteLists.{IsBytes-append_left, IsBytes-append_right, IsBytes-drop}
 use Rattle.psi_tables.specs.Views.{SectionView}
 use Rattle.psi_tables.specs.Tables.{table_header_at}

@@ -3,12 +3,12 @@ use Rattle.std.proofs.Common.{◌≡◌, ℕ, ◌+◌, ◌*◌, ◌/◌, ◌%◌
 use Rattle.std.specs.Prelude.{slice_index}
 use Rattle.bit_fields.specs.Fields.{number, fields, bit, flag, IsBytes}
 use Rattle.bit_fields.proofs.ByteLists.{IsBytes-append_left, IsBytes-append_right}
-use Rattle.bit_fields.proofs.Spellings.{test_bit}
-use Rattle.psi_tables.specs.Loops.{EntryView, IsEntry, entry_text, descriptors_length}
+use Rattle.bit_fields.proofs.Fields.{test_bit}
+use Rattle.psi_tables.specs.Loops.{EntryView, IsEntry, entry_bytes, descriptors_length}
 use Rattle.dvb_tables.specs.RunningStates.{status_code, status_of}
-use Rattle.dvb_tables.specs.EventEntries.{EventView, IsEvent, event_of, event_text, event_status}
+use Rattle.dvb_tables.specs.EventEntries.{EventView, IsEvent, event_of, event_bytes, event_status}
 use Rattle.dvb_tables.proofs.Heads.{two, three, five, twelve, flag_bit, bit_below, code_below, status_again, code_again}
-use Rattle.dvb_tables.proofs.Sequencing.{Says}
+use Rattle.dvb_tables.proofs.EntrySequences.{Says}
 
 status_spelled : (f g : ℕ) → f < 256 → g < 256
     → number (f ∷ g ∷ []) ≡ fields ((3, status_code (status_of (f / 32))) ∷ (1, bit (flag f 16)) ∷ (12, f % 16 * 256 + g) ∷ [])
@@ -36,8 +36,8 @@ here a b s1 s2 s3 s4 s5 d1 d2 d3 f g descriptors ha hb hf hg n = record {
 }
 
 -- an entry is an event
-pub event_found : (e : EntryView) → IsEntry 12 e → IsBytes (entry_text e) → IsEvent (entry_text e) (event_of e)
-unfolding entry_text descriptors_length
+pub event_found : (e : EntryView) → IsEntry 12 e → IsBytes (entry_bytes e) → IsEvent (entry_bytes e) (event_of e)
+unfolding entry_bytes descriptors_length
 event_found e entry fits =
     let h = twelve e.head entry.head_length in
     let head : IsBytes e.head = IsBytes-append_left e.head e.descriptors fits in
@@ -97,9 +97,9 @@ said a b f g e n h =
     whole
 
 -- an event is what an entry says
-pub event_only : (text : List ℕ) (e : EventView) → IsEvent text e → IsBytes text → Says 12 event_of text e
-unfolding entry_text head_of
-event_only text e h fits =
+pub event_only : (bytes : List ℕ) (e : EventView) → IsEvent bytes e → IsBytes bytes → Says 12 event_of bytes e
+unfolding entry_bytes head_of
+event_only bytes e h fits =
     let i = two h.id h.id_len in
     let s = two h.status h.status_len in
     let all : IsBytes (h.id ++ e.start_time ++ e.duration ++ h.status ++ e.descriptors) = subst IsBytes h.is fits in
@@ -118,9 +118,9 @@ event_only text e h fits =
     }
 
 same : (a b s1 s2 s3 s4 s5 d1 d2 d3 f g : ℕ) (descriptors : List ℕ) → a < 256 → b < 256 → f < 256 → g < 256 → f % 16 * 256 + g ≡ length descriptors
-    → event_text (event_of (record { head = a ∷ b ∷ s1 ∷ s2 ∷ s3 ∷ s4 ∷ s5 ∷ d1 ∷ d2 ∷ d3 ∷ f ∷ g ∷ []; descriptors = descriptors }))
+    → event_bytes (event_of (record { head = a ∷ b ∷ s1 ∷ s2 ∷ s3 ∷ s4 ∷ s5 ∷ d1 ∷ d2 ∷ d3 ∷ f ∷ g ∷ []; descriptors = descriptors }))
     ≡ (a ∷ b ∷ s1 ∷ s2 ∷ s3 ∷ s4 ∷ s5 ∷ d1 ∷ d2 ∷ d3 ∷ f ∷ g ∷ []) ++ descriptors
-unfolding event_of event_text event_status
+unfolding event_of event_bytes event_status
 same a b s1 s2 s3 s4 s5 d1 d2 d3 f g descriptors ha hb hf hg n =
     let r : bit (flag f 16) ≡ f / 16 % 2 = flag_bit f 16 in
     let s : status_code (status_of (f / 32)) ≡ f / 32 = code_again (f / 32) (omega arith) in
@@ -131,11 +131,11 @@ same a b s1 s2 s3 s4 s5 d1 d2 d3 f g descriptors ha hb hf hg n =
     cc
 
 -- what is written of an entry is the entry: no bit of it is reserved
-pub event_same : (e : EntryView) → IsEntry 12 e → IsBytes (entry_text e) → event_text (event_of e) ≡ entry_text e
-unfolding entry_text descriptors_length
+pub event_same : (e : EntryView) → IsEntry 12 e → IsBytes (entry_bytes e) → event_bytes (event_of e) ≡ entry_bytes e
+unfolding entry_bytes descriptors_length
 event_same e entry fits =
     let h = twelve e.head entry.head_length in
     let head : IsBytes e.head = IsBytes-append_left e.head e.descriptors fits in
     let n : slice_index e.head 10 % 16 * 256 + slice_index e.head 11 ≡ length e.descriptors = sym (ap descriptors_length h) ∙ entry.named in
-    subst (λ (h : List ℕ). event_text (event_of (record { head = h; descriptors = e.descriptors })) ≡ h ++ e.descriptors) (sym h)
+    subst (λ (h : List ℕ). event_bytes (event_of (record { head = h; descriptors = e.descriptors })) ≡ h ++ e.descriptors) (sym h)
     (same _ _ _ _ _ _ _ _ _ _ _ _ e.descriptors (head 0) (head 1) (head 10) (head 11) n)

@@ -7,14 +7,14 @@ use Rattle.std.proofs.Common.{subst}
 use Rattle.psi_tables.specs.declared.error.SectionError.TheVariants.{Body}
 use Rattle.dvb_tables.proofs.Seams.{accepted}
 use Rattle.bit_fields.specs.Fields.{IsBytes}
-use Rattle.psi_tables.specs.Loops.{EntryView, IsEntry, entry_text, loop_at, entries_in}
+use Rattle.psi_tables.specs.Loops.{EntryView, IsEntry, entry_bytes, loop_at, entries_in}
 use Rattle.psi_tables.proofs.LoopParts.{loop_at-end}
 use Rattle.dvb_tables.specs.Sequences.{IsSequence}
-use Rattle.dvb_tables.specs.EventEntries.{EventView, IsEvent, event_of, event_text, event_status, events_in, events_at, events_text}
+use Rattle.dvb_tables.specs.EventEntries.{EventView, IsEvent, event_of, event_bytes, event_status, events_in, events_at, events_bytes}
 use Rattle.dvb_tables.specs.Fits.{EventFits}
-use Rattle.dvb_tables.proofs.Sequencing.{SaysAll, whole_entries, sequence_of, entries_of, written_same, written_length, written_sequence, written_entries, entries_whole, values_read, values_after}
+use Rattle.dvb_tables.proofs.EntrySequences.{SaysAll, whole_entries, sequence_of, entries_of, written_same, written_length, written_sequence, written_entries, entries_whole, values_read, values_after}
 use Rattle.dvb_tables.proofs.EventFields.{event_found, event_only, event_same}
-use Rattle.dvb_tables.proofs.EventWriting.{event_written, event_said}
+use Rattle.dvb_tables.proofs.EventWritten.{event_written, event_said}
 
 -- a whole loop is events
 pub events_found : (bytes : List ℕ) → IsBytes bytes → is_some (loop_at 12 bytes) ≡ true → IsSequence IsEvent bytes (events_in bytes)
@@ -32,19 +32,19 @@ pub events_only : (bytes : List ℕ) (es : List EventView) → IsBytes bytes →
 events_only bytes es fits h = read bytes es (entries_of 12 IsEvent event_of event_only bytes es fits h)
 
 -- events that are written are read again
-pub events_again : (es : List EventView) → All EventFits es → events_at (events_text es) ≡ Ok es
-unfolding events_text
-events_again es h = read (flat_map event_text es) es (written_entries 12 event_of event_text EventFits event_said es h)
+pub events_again : (es : List EventView) → All EventFits es → events_at (events_bytes es) ≡ Ok es
+unfolding events_bytes
+events_again es h = read (flat_map event_bytes es) es (written_entries 12 event_of event_bytes EventFits event_said es h)
 
 -- what is written is events
-pub events_written : (es : List EventView) → All EventFits es → IsSequence IsEvent (events_text es) es
-unfolding events_text
-events_written es h = written_sequence IsEvent event_text EventFits event_written es h
+pub events_written : (es : List EventView) → All EventFits es → IsSequence IsEvent (events_bytes es) es
+unfolding events_bytes
+events_written es h = written_sequence IsEvent event_bytes EventFits event_written es h
 
 -- what is written of a whole loop is the loop: no bit of it is reserved
-pub events_same : (bytes : List ℕ) → IsBytes bytes → is_some (loop_at 12 bytes) ≡ true → events_text (events_in bytes) ≡ bytes
-unfolding events_in events_text
-events_same bytes fits whole = written_same 12 event_of event_text event_same bytes (entries_in 12 bytes) fits (whole_entries 12 bytes whole)
+pub events_same : (bytes : List ℕ) → IsBytes bytes → is_some (loop_at 12 bytes) ≡ true → events_bytes (events_in bytes) ≡ bytes
+unfolding events_in events_bytes
+events_same bytes fits whole = written_same 12 event_of event_bytes event_same bytes (entries_in 12 bytes) fits (whole_entries 12 bytes whole)
 
 -- no bytes are no events
 pub no_events : events_in [] ≡ []
@@ -53,22 +53,22 @@ no_events = ap (λ o. map event_of (unwrap_or o [])) (loop_at-end 12)
 
 -- a loop with one event more
 pub record OneMore (bytes : List ℕ) (e : EventView) : Type 0 where
-  pub whole : is_some (loop_at 12 (bytes ++ event_text e)) ≡ true
-  pub events : events_in (bytes ++ event_text e) ≡ events_in bytes ++ e ∷ []
+  pub whole : is_some (loop_at 12 (bytes ++ event_bytes e)) ≡ true
+  pub events : events_in (bytes ++ event_bytes e) ≡ events_in bytes ++ e ∷ []
 
 pub one_more : (bytes : List ℕ) (e : EventView) → EventFits e → is_some (loop_at 12 bytes) ≡ true → OneMore bytes e
 unfolding events_in
 one_more bytes e fits whole =
     let before = whole_entries 12 bytes whole in
     let one = event_said e fits in
-    let h = values_after 12 event_of bytes (event_text e) (entries_in 12 bytes) e before one in
+    let h = values_after 12 event_of bytes (event_bytes e) (entries_in 12 bytes) e before one in
     record {
-      whole = entries_whole 12 (bytes ++ event_text e) h.es (omega arith) h.entries;
-      events = values_read 12 event_of (bytes ++ event_text e) (map event_of (entries_in 12 bytes) ++ e ∷ []) (omega arith) h;
+      whole = entries_whole 12 (bytes ++ event_bytes e) h.es (omega arith) h.entries;
+      events = values_read 12 event_of (bytes ++ event_bytes e) (map event_of (entries_in 12 bytes) ++ e ∷ []) (omega arith) h;
     }
 
-event_size : (e : EventView) → length e.start_time ≡ 5 → length e.duration ≡ 3 → length (event_text e) ≡ 12 + length e.descriptors
-unfolding event_text event_status
+event_size : (e : EventView) → length e.start_time ≡ 5 → length e.duration ≡ 3 → length (event_bytes e) ≡ 12 + length e.descriptors
+unfolding event_bytes event_status
 event_size e five three =
     let id = (e.event_id / 256) ∷ (e.event_id % 256) ∷ [] in
     omega (
@@ -82,28 +82,28 @@ event_size e five three =
     )
 
 -- an event is written with twelve bytes before its descriptors
-event_length : (e : EntryView) → IsEntry 12 e → length (event_text (event_of e)) ≡ length (entry_text e)
-unfolding event_of entry_text
+event_length : (e : EntryView) → IsEntry 12 e → length (event_bytes (event_of e)) ≡ length (entry_bytes e)
+unfolding event_of entry_bytes
 event_length e entry =
     let h = entry.head_length in
     event_size (event_of e) (omega (arith, h, length-take 5 (drop 2 e.head), length-drop 2 e.head)) (omega (arith, h, length-take 3 (drop 7 e.head), length-drop 7 e.head))
     ∙ omega (arith, h, length-append e.head e.descriptors)
 
 -- what is written of a whole loop is as long as it is
-pub events_length : (bytes : List ℕ) → is_some (loop_at 12 bytes) ≡ true → length (events_text (events_in bytes)) ≡ length bytes
-unfolding events_in events_text
-events_length bytes whole = written_length 12 event_of event_text event_length bytes (entries_in 12 bytes) (whole_entries 12 bytes whole)
+pub events_length : (bytes : List ℕ) → is_some (loop_at 12 bytes) ≡ true → length (events_bytes (events_in bytes)) ≡ length bytes
+unfolding events_in events_bytes
+events_length bytes whole = written_length 12 event_of event_bytes event_length bytes (entries_in 12 bytes) (whole_entries 12 bytes whole)
 
-more_text : (es : List EventView) (e : EventView) → events_text (es ++ e ∷ []) ≡ events_text es ++ event_text e
-unfolding events_text
-more_text es e = flat_map-append event_text es (e ∷ []) ∙ ap (λ (t : List ℕ). flat_map event_text es ++ t) (append-nil (event_text e))
+more_bytes : (es : List EventView) (e : EventView) → events_bytes (es ++ e ∷ []) ≡ events_bytes es ++ event_bytes e
+unfolding events_bytes
+more_bytes es e = flat_map-append event_bytes es (e ∷ []) ∙ ap (λ (t : List ℕ). flat_map event_bytes es ++ t) (append-nil (event_bytes e))
 
 -- how many bytes a loop takes with one event more
 pub more_length : (bytes : List ℕ) (e : EventView) → is_some (loop_at 12 bytes) ≡ true → length e.start_time ≡ 5 → length e.duration ≡ 3
-    → length (events_text (events_in bytes ++ e ∷ [])) ≡ length bytes + (12 + length e.descriptors)
+    → length (events_bytes (events_in bytes ++ e ∷ [])) ≡ length bytes + (12 + length e.descriptors)
 more_length bytes e whole five three =
-    let all : length (events_text (events_in bytes ++ e ∷ [])) ≡ length (events_text (events_in bytes) ++ event_text e) = ap (length {A = ℕ}) (more_text (events_in bytes) e) in
-    omega (arith, all, event_size e five three, events_length bytes whole, length-append (events_text (events_in bytes)) (event_text e))
+    let all : length (events_bytes (events_in bytes ++ e ∷ [])) ≡ length (events_bytes (events_in bytes) ++ event_bytes e) = ap (length {A = ℕ}) (more_bytes (events_in bytes) e) in
+    omega (arith, all, event_size e five three, events_length bytes whole, length-append (events_bytes (events_in bytes)) (event_bytes e))
 
 -- what was read of a loop stands there
 pub events_is : (bytes : List ℕ) (xs : List EventView) → IsBytes bytes → events_at bytes ≡ Ok xs → IsSequence IsEvent bytes xs

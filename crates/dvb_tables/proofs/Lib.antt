@@ -1,14 +1,14 @@
 pub mod WholeParts
 pub mod Heads
-pub mod Sequencing
+pub mod EntrySequences
 pub mod ServiceFields
-pub mod ServiceWriting
+pub mod ServiceWritten
 pub mod ServiceLoops
 pub mod TransportStreamFields
-pub mod TransportStreamWriting
+pub mod TransportStreamWritten
 pub mod TransportStreamLoops
 pub mod EventFields
-pub mod EventWriting
+pub mod EventWritten
 pub mod EventLoops
 pub mod BodyLengths
 pub mod Seams
@@ -16,4 +16,4 @@ pub mod SdtForms
 pub mod EitForms
 pub mod NitForms
 pub mod TdtForms
-pub mod Written
+pub mod TablesWritten

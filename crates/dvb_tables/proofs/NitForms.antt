@@ -2,38 +2,38 @@
 use Rattle.std.proofs.Common.{◌≡◌, ℕ, ◌+◌, ◌*◌, ◌/◌, ◌%◌, ◌^◌, ◌<◌, ◌==◌, refl, sym, ap, ◌∙◌, subst, arith, List, [], ◌∷◌, ◌++◌, length, Option, None, Some, Ok, append-nil, eqb-true}
 use Rattle.std.specs.Prelude.{slice_index}
 use Rattle.bit_fields.specs.Fields.{number, fields, IsBytes}
-use Rattle.bit_fields.proofs.Binding.{bind_ok, ok_is}
+use Rattle.bit_fields.proofs.Bind.{bind_ok, ok_is}
 use Rattle.bit_fields.proofs.ByteLists.{IsBytes-append_left, IsBytes-append_right}
 use Rattle.psi_tables.specs.Views.{SectionView}
 use Rattle.psi_tables.specs.Tables.{table_header_at}
-use Rattle.psi_tables.specs.Loops.{EntryView, IsEntry, entry_text, entry_at, descriptors_length}
+use Rattle.psi_tables.specs.Loops.{EntryView, IsEntry, entry_bytes, entry_at, descriptors_length}
 use Rattle.psi_tables.specs.declared.error.SectionError.TheVariants.{Body}
 use Rattle.psi_tables.specs.declared.section.LongHeader.{LongHeader}
 use Rattle.psi_tables.proofs.LoopParts.{entry_at-is, entry_at-read}
 use Rattle.psi_tables.proofs.TableForms.{HasHeader, table_header_at-is, table_header_at-read}
 use Rattle.dvb_tables.specs.TransportStreams.{TransportStreamView, transport_streams_at}
-use Rattle.dvb_tables.specs.NetworkInformation.{NitView, IsCount, IsNit, nit_at, nit_after, to_the_end}
+use Rattle.dvb_tables.specs.NetworkInformation.{NitView, IsLoopLength, IsNit, nit_at, nit_after, to_the_end}
 use Rattle.dvb_tables.proofs.Heads.{two}
 use Rattle.dvb_tables.proofs.Seams.{accepted}
 use Rattle.dvb_tables.proofs.TransportStreamLoops.{transport_streams_is, transport_streams_only}
 
-counted : (a b : ℕ) → a < 256 → b < 256 → IsCount (a ∷ b ∷ []) (a % 16 * 256 + b)
-counted a b ha hb = record { len = refl; reserved = a / 16; spelled = omega arith; four_bits = omega arith; twelve_bits = omega arith }
+count_is : (a b : ℕ) → a < 256 → b < 256 → IsLoopLength (a ∷ b ∷ []) (a % 16 * 256 + b)
+count_is a b ha hb = record { len = refl; reserved = a / 16; spelled = omega arith; four_bits = omega arith; twelve_bits = omega arith }
 
--- the head of an entry of two bytes is a count of what stands after it
-count_found : (e : EntryView) → IsEntry 2 e → IsBytes e.head → IsCount e.head (length e.descriptors)
+-- the head of an entry of two bytes is a count of what follows it
+count_found : (e : EntryView) → IsEntry 2 e → IsBytes e.head → IsLoopLength e.head (length e.descriptors)
 unfolding descriptors_length
 count_found e entry fits =
     let h = two e.head entry.head_length in
     let n : slice_index e.head 0 % 16 * 256 + slice_index e.head 1 ≡ length e.descriptors = sym (ap descriptors_length h) ∙ entry.named in
-    subst (λ (head : List ℕ). IsCount head (length e.descriptors)) (sym h)
-    (subst (λ (n : ℕ). IsCount (slice_index e.head 0 ∷ slice_index e.head 1 ∷ []) n) n (counted (slice_index e.head 0) (slice_index e.head 1) (fits 0) (fits 1)))
+    subst (λ (head : List ℕ). IsLoopLength head (length e.descriptors)) (sym h)
+    (subst (λ (n : ℕ). IsLoopLength (slice_index e.head 0 ∷ slice_index e.head 1 ∷ []) n) n (count_is (slice_index e.head 0) (slice_index e.head 1) (fits 0) (fits 1)))
 
 count_said : (a b n reserved : ℕ) → a < 256 → b < 256 → reserved < 2 ^ 4 → n < 2 ^ 12 → number (a ∷ b ∷ []) ≡ fields ((4, reserved) ∷ (12, n) ∷ []) → a % 16 * 256 + b ≡ n
 count_said a b n reserved ha hb hr hn e = omega arith
 
 -- a count and what it counts are an entry
-pub count_entry : (head rest : List ℕ) → IsCount head (length rest) → IsBytes head → IsEntry 2 (record { head = head; descriptors = rest })
+pub count_entry : (head rest : List ℕ) → IsLoopLength head (length rest) → IsBytes head → IsEntry 2 (record { head = head; descriptors = rest })
 unfolding descriptors_length
 count_entry head rest h fits =
     let l = two head h.len in
@@ -90,8 +90,8 @@ two_entries s header e f streams fits h is first second read =
       table_id = h.table_id;
       long = h.long;
       section_length = h.section_length;
-      descriptors_count = e.head;
-      loop_count = f.head;
+      descriptors_head = e.head;
+      loop_head = f.head;
       loop = f.descriptors;
       is = is;
       network_descriptors_length = count_found e first (IsBytes-append_left e.head e.descriptors left);
@@ -101,7 +101,7 @@ two_entries s header e f streams fits h is first second read =
 
 -- what was read is a network information table
 pub nit_is : (s : SectionView) (t : NitView) → IsBytes s.body → nit_at s ≡ Ok t → IsNit s t
-unfolding nit_at entry_text
+unfolding nit_at entry_bytes
 nit_is s t fits e =
     let q = bind_ok (table_header_at 0x40 1021 s) _ t e in
     let b = after_is q.0 (entry_at 2 s.body) t q.2 in
@@ -120,7 +120,7 @@ nit_is s t fits e =
 pub body_read : (t : NitView) (body first second loop : List ℕ) → body ≡ (first ++ t.network_descriptors) ++ (second ++ loop)
     → IsEntry 2 (record { head = first; descriptors = t.network_descriptors }) → IsEntry 2 (record { head = second; descriptors = loop })
     → transport_streams_at loop ≡ Ok t.transport_streams → nit_after t.header (entry_at 2 body) ≡ Ok t
-unfolding nit_after to_the_end entry_text
+unfolding nit_after to_the_end entry_bytes
 body_read t body first second loop is one two streams =
     let front : entry_at 2 ((first ++ t.network_descriptors) ++ (second ++ loop)) ≡ Some (record { head = first; descriptors = t.network_descriptors }, second ++ loop)
     = entry_at-read 2 (record { head = first; descriptors = t.network_descriptors }) (second ++ loop) one in
@@ -133,10 +133,10 @@ pub nit_again : (s : SectionView) (t : NitView) → IsBytes s.body → IsNit s t
 unfolding nit_at
 nit_again s t fits h =
     let header = table_header_at-read 0x40 1021 s t.header (record { table_id = h.table_id; long = h.long; section_length = h.section_length }) in
-    let all : IsBytes ((h.descriptors_count ++ t.network_descriptors) ++ (h.loop_count ++ h.loop)) = subst IsBytes h.is fits in
-    let left : IsBytes (h.descriptors_count ++ t.network_descriptors) = IsBytes-append_left (h.descriptors_count ++ t.network_descriptors) (h.loop_count ++ h.loop) all in
-    let right : IsBytes (h.loop_count ++ h.loop) = IsBytes-append_right (h.descriptors_count ++ t.network_descriptors) (h.loop_count ++ h.loop) all in
-    let one = count_entry h.descriptors_count t.network_descriptors h.network_descriptors_length (IsBytes-append_left h.descriptors_count t.network_descriptors left) in
-    let two = count_entry h.loop_count h.loop h.transport_stream_loop_length (IsBytes-append_left h.loop_count h.loop right) in
-    let streams = transport_streams_only h.loop t.transport_streams (IsBytes-append_right h.loop_count h.loop right) h.transport_streams in
-    rw header (body_read t s.body h.descriptors_count h.loop_count h.loop h.is one two streams)
+    let all : IsBytes ((h.descriptors_head ++ t.network_descriptors) ++ (h.loop_head ++ h.loop)) = subst IsBytes h.is fits in
+    let left : IsBytes (h.descriptors_head ++ t.network_descriptors) = IsBytes-append_left (h.descriptors_head ++ t.network_descriptors) (h.loop_head ++ h.loop) all in
+    let right : IsBytes (h.loop_head ++ h.loop) = IsBytes-append_right (h.descriptors_head ++ t.network_descriptors) (h.loop_head ++ h.loop) all in
+    let one = count_entry h.descriptors_head t.network_descriptors h.network_descriptors_length (IsBytes-append_left h.descriptors_head t.network_descriptors left) in
+    let two = count_entry h.loop_head h.loop h.transport_stream_loop_length (IsBytes-append_left h.loop_head h.loop right) in
+    let streams = transport_streams_only h.loop t.transport_streams (IsBytes-append_right h.loop_head h.loop right) h.transport_streams in
+    rw header (body_read t s.body h.descriptors_head h.loop_head h.loop h.is one two streams)

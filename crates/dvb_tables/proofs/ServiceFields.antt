@@ -3,12 +3,12 @@ use Rattle.std.proofs.Common.{◌≡◌, ℕ, ◌+◌, ◌*◌, ◌/◌, ◌%◌
 use Rattle.std.specs.Prelude.{slice_index}
 use Rattle.bit_fields.specs.Fields.{number, fields, bit, flag, IsBytes}
 use Rattle.bit_fields.proofs.ByteLists.{IsBytes-append_left}
-use Rattle.bit_fields.proofs.Spellings.{test_bit}
-use Rattle.psi_tables.specs.Loops.{EntryView, IsEntry, entry_text, descriptors_length}
+use Rattle.bit_fields.proofs.Fields.{test_bit}
+use Rattle.psi_tables.specs.Loops.{EntryView, IsEntry, entry_bytes, descriptors_length}
 use Rattle.dvb_tables.specs.RunningStates.{status_code, status_of}
-use Rattle.dvb_tables.specs.Services.{ServiceView, IsService, service_of, service_front, service_text}
+use Rattle.dvb_tables.specs.Services.{ServiceView, IsService, service_of, service_front, service_bytes}
 use Rattle.dvb_tables.proofs.Heads.{five, flag_bit, bit_below, code_below, status_again, code_again}
-use Rattle.dvb_tables.proofs.Sequencing.{Says}
+use Rattle.dvb_tables.proofs.EntrySequences.{Says}
 
 spelled : (a b c d f : ℕ) → a < 256 → b < 256 → c < 256 → d < 256 → f < 256
     → number (a ∷ b ∷ c ∷ d ∷ f ∷ []) ≡ fields ((16, a * 256 + b) ∷ (6, c / 4) ∷ (1, bit (flag c 2)) ∷ (1, bit (flag c 1))
@@ -36,8 +36,8 @@ here a b c d f descriptors ha hb hc hd hf n = record {
 }
 
 -- an entry is a service
-pub service_found : (e : EntryView) → IsEntry 5 e → IsBytes (entry_text e) → IsService (entry_text e) (service_of e)
-unfolding entry_text descriptors_length
+pub service_found : (e : EntryView) → IsEntry 5 e → IsBytes (entry_bytes e) → IsService (entry_bytes e) (service_of e)
+unfolding entry_bytes descriptors_length
 service_found e entry fits =
     let h = five e.head entry.head_length in
     let head : IsBytes e.head = IsBytes-append_left e.head e.descriptors fits in
@@ -94,9 +94,9 @@ said a b c d f s n =
     whole
 
 -- a service is what an entry says
-pub service_only : (text : List ℕ) (s : ServiceView) → IsService text s → IsBytes text → Says 5 service_of text s
-unfolding entry_text descriptors_length
-service_only text s h fits =
+pub service_only : (bytes : List ℕ) (s : ServiceView) → IsService bytes s → IsBytes bytes → Says 5 service_of bytes s
+unfolding entry_bytes descriptors_length
+service_only bytes s h fits =
     let l = five h.head h.len in
     let head : IsBytes h.head = IsBytes-append_left h.head s.descriptors (subst IsBytes h.is fits) in
     let n = numbers (slice_index h.head 0) (slice_index h.head 1) (slice_index h.head 2) (slice_index h.head 3) (slice_index h.head 4) h.reserved s
@@ -110,6 +110,6 @@ service_only text s h fits =
     }
 
 -- a service is written with five bytes before its descriptors
-pub service_length : (e : EntryView) → IsEntry 5 e → length (service_text (service_of e)) ≡ length (entry_text e)
-unfolding service_text service_front entry_text service_of
+pub service_length : (e : EntryView) → IsEntry 5 e → length (service_bytes (service_of e)) ≡ length (entry_bytes e)
+unfolding service_bytes service_front entry_bytes service_of
 service_length e entry = omega (arith, entry.head_length, length-append e.head e.descriptors)

@@ -10,11 +10,11 @@ use Rattle.dvb_tables.proofs.Seams.{accepted}
 use Rattle.bit_fields.specs.Fields.{IsBytes}
 use Rattle.psi_tables.specs.Loops.{loop_at, entries_in}
 use Rattle.dvb_tables.specs.Sequences.{IsSequence}
-use Rattle.dvb_tables.specs.Services.{ServiceView, IsService, service_of, service_text, service_front, services_in, services_at, services_text}
+use Rattle.dvb_tables.specs.Services.{ServiceView, IsService, service_of, service_bytes, service_front, services_in, services_at, services_bytes}
 use Rattle.dvb_tables.specs.Fits.{ServiceFits}
-use Rattle.dvb_tables.proofs.Sequencing.{SaysAll, whole_entries, sequence_of, entries_of, written_length, written_sequence, written_entries, entries_whole, values_read, values_after}
+use Rattle.dvb_tables.proofs.EntrySequences.{SaysAll, whole_entries, sequence_of, entries_of, written_length, written_sequence, written_entries, entries_whole, values_read, values_after}
 use Rattle.dvb_tables.proofs.ServiceFields.{service_found, service_only, service_length}
-use Rattle.dvb_tables.proofs.ServiceWriting.{service_written, service_said}
+use Rattle.dvb_tables.proofs.ServiceWritten.{service_written, service_said}
 
 -- a whole loop is services
 pub services_found : (bytes : List ℕ) → IsBytes bytes → is_some (loop_at 5 bytes) ≡ true → IsSequence IsService bytes (services_in bytes)
@@ -32,30 +32,30 @@ pub services_only : (bytes : List ℕ) (ss : List ServiceView) → IsBytes bytes
 services_only bytes ss fits h = read bytes ss (entries_of 5 IsService service_of service_only bytes ss fits h)
 
 -- services that are written are read again
-pub services_again : (ss : List ServiceView) → All ServiceFits ss → services_at (services_text ss) ≡ Ok ss
-unfolding services_text
-services_again ss h = read (flat_map service_text ss) ss (written_entries 5 service_of service_text ServiceFits service_said ss h)
+pub services_again : (ss : List ServiceView) → All ServiceFits ss → services_at (services_bytes ss) ≡ Ok ss
+unfolding services_bytes
+services_again ss h = read (flat_map service_bytes ss) ss (written_entries 5 service_of service_bytes ServiceFits service_said ss h)
 
 -- what is written is services
-pub services_written : (ss : List ServiceView) → All ServiceFits ss → IsSequence IsService (services_text ss) ss
-unfolding services_text
-services_written ss h = written_sequence IsService service_text ServiceFits service_written ss h
+pub services_written : (ss : List ServiceView) → All ServiceFits ss → IsSequence IsService (services_bytes ss) ss
+unfolding services_bytes
+services_written ss h = written_sequence IsService service_bytes ServiceFits service_written ss h
 
 -- what is written of a whole loop is as long as it is
-pub services_length : (bytes : List ℕ) → is_some (loop_at 5 bytes) ≡ true → length (services_text (services_in bytes)) ≡ length bytes
-unfolding services_in services_text
-services_length bytes whole = written_length 5 service_of service_text service_length bytes (entries_in 5 bytes) (whole_entries 5 bytes whole)
+pub services_length : (bytes : List ℕ) → is_some (loop_at 5 bytes) ≡ true → length (services_bytes (services_in bytes)) ≡ length bytes
+unfolding services_in services_bytes
+services_length bytes whole = written_length 5 service_of service_bytes service_length bytes (entries_in 5 bytes) (whole_entries 5 bytes whole)
 
 -- one written, the others to be written
-pub service_step : (out : List ℕ) (x : ServiceView) (xs : List ServiceView) → (out ++ service_text x) ++ services_text xs ≡ out ++ services_text (x ∷ xs)
-unfolding services_text
-service_step out x xs = append_assoc out (service_text x) (services_text xs)
+pub service_step : (out : List ℕ) (x : ServiceView) (xs : List ServiceView) → (out ++ service_bytes x) ++ services_bytes xs ≡ out ++ services_bytes (x ∷ xs)
+unfolding services_bytes
+service_step out x xs = append_assoc out (service_bytes x) (services_bytes xs)
 
 -- room for one where there is room for all
-pub service_room : (out : List ℕ) (x : ServiceView) (xs : List ServiceView) (n : ℕ) → length (out ++ services_text (x ∷ xs)) ≤ n → length out + (5 + length x.descriptors) ≤ n
-unfolding services_text service_text service_front
+pub service_room : (out : List ℕ) (x : ServiceView) (xs : List ServiceView) (n : ℕ) → length (out ++ services_bytes (x ∷ xs)) ≤ n → length out + (5 + length x.descriptors) ≤ n
+unfolding services_bytes service_bytes service_front
 service_room out x xs n h =
-    omega (arith, h, length-append out (service_text x ++ services_text xs), length-append (service_text x) (services_text xs), length-append (service_front x) x.descriptors)
+    omega (arith, h, length-append out (service_bytes x ++ services_bytes xs), length-append (service_bytes x) (services_bytes xs), length-append (service_front x) x.descriptors)
 
 -- no bytes are no services
 pub no_services : services_in [] ≡ []
@@ -64,31 +64,31 @@ no_services = ap (λ o. map service_of (unwrap_or o [])) (loop_at-end 5)
 
 -- a loop with one more
 pub record OneMore (bytes : List ℕ) (x : ServiceView) : Type 0 where
-  pub whole : is_some (loop_at 5 (bytes ++ service_text x)) ≡ true
-  pub values : services_in (bytes ++ service_text x) ≡ services_in bytes ++ x ∷ []
+  pub whole : is_some (loop_at 5 (bytes ++ service_bytes x)) ≡ true
+  pub values : services_in (bytes ++ service_bytes x) ≡ services_in bytes ++ x ∷ []
 
 pub one_more : (bytes : List ℕ) (x : ServiceView) → ServiceFits x → is_some (loop_at 5 bytes) ≡ true → OneMore bytes x
 unfolding services_in
 one_more bytes x fits whole =
-    let h = values_after 5 service_of bytes (service_text x) (entries_in 5 bytes) x (whole_entries 5 bytes whole) (service_said x fits) in
+    let h = values_after 5 service_of bytes (service_bytes x) (entries_in 5 bytes) x (whole_entries 5 bytes whole) (service_said x fits) in
     record {
-      whole = entries_whole 5 (bytes ++ service_text x) h.es (omega arith) h.entries;
-      values = values_read 5 service_of (bytes ++ service_text x) (map service_of (entries_in 5 bytes) ++ x ∷ []) (omega arith) h;
+      whole = entries_whole 5 (bytes ++ service_bytes x) h.es (omega arith) h.entries;
+      values = values_read 5 service_of (bytes ++ service_bytes x) (map service_of (entries_in 5 bytes) ++ x ∷ []) (omega arith) h;
     }
 
-more_text : (xs : List ServiceView) (x : ServiceView) → services_text (xs ++ x ∷ []) ≡ services_text xs ++ service_text x
-unfolding services_text
-more_text xs x = flat_map-append service_text xs (x ∷ []) ∙ ap (λ (t : List ℕ). flat_map service_text xs ++ t) (append-nil (service_text x))
+more_bytes : (xs : List ServiceView) (x : ServiceView) → services_bytes (xs ++ x ∷ []) ≡ services_bytes xs ++ service_bytes x
+unfolding services_bytes
+more_bytes xs x = flat_map-append service_bytes xs (x ∷ []) ∙ ap (λ (t : List ℕ). flat_map service_bytes xs ++ t) (append-nil (service_bytes x))
 
-size : (x : ServiceView) → length (service_text x) ≡ 5 + length x.descriptors
-unfolding service_text service_front
+size : (x : ServiceView) → length (service_bytes x) ≡ 5 + length x.descriptors
+unfolding service_bytes service_front
 size x = omega arith
 
 -- how many bytes a loop takes with one more
-pub more_length : (bytes : List ℕ) (x : ServiceView) → is_some (loop_at 5 bytes) ≡ true → length (services_text (services_in bytes ++ x ∷ [])) ≡ length bytes + (5 + length x.descriptors)
+pub more_length : (bytes : List ℕ) (x : ServiceView) → is_some (loop_at 5 bytes) ≡ true → length (services_bytes (services_in bytes ++ x ∷ [])) ≡ length bytes + (5 + length x.descriptors)
 more_length bytes x whole =
-    let all : length (services_text (services_in bytes ++ x ∷ [])) ≡ length (services_text (services_in bytes) ++ service_text x) = ap (length {A = ℕ}) (more_text (services_in bytes) x) in
-    omega (arith, all, size x, services_length bytes whole, length-append (services_text (services_in bytes)) (service_text x))
+    let all : length (services_bytes (services_in bytes ++ x ∷ [])) ≡ length (services_bytes (services_in bytes) ++ service_bytes x) = ap (length {A = ℕ}) (more_bytes (services_in bytes) x) in
+    omega (arith, all, size x, services_length bytes whole, length-append (services_bytes (services_in bytes)) (service_bytes x))
 
 -- what was read of a loop stands there
 pub services_is : (bytes : List ℕ) (xs : List ServiceView) → IsBytes bytes → services_at bytes ≡ Ok xs → IsSequence IsService bytes xs

@@ -1,6 +1,6 @@
 -- The time and date table: what is read stands there, and what stands there is read.
 use Rattle.std.proofs.Common.{◌≡◌, ℕ, ◌==◌, true, refl, ap, List, length, Option, None, Some, Ok, Err, inl, inr, eq-eqb, eqb-true}
-use Rattle.bit_fields.proofs.Binding.{chosen}
+use Rattle.bit_fields.proofs.Bind.{chosen}
 use Rattle.psi_tables.specs.Views.{SectionView}
 use Rattle.psi_tables.specs.declared.error.SectionError.TheVariants.{Syntax, Body}
 use Rattle.psi_tables.specs.declared.section.LongHeader.{LongHeader}

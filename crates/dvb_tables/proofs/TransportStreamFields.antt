@@ -3,10 +3,10 @@ use Rattle.std.proofs.Common.{◌≡◌, ℕ, ◌+◌, ◌*◌, ◌/◌, ◌%◌
 use Rattle.std.specs.Prelude.{slice_index}
 use Rattle.bit_fields.specs.Fields.{number, fields, IsBytes}
 use Rattle.bit_fields.proofs.ByteLists.{IsBytes-append_left}
-use Rattle.psi_tables.specs.Loops.{EntryView, IsEntry, entry_text, descriptors_length}
-use Rattle.dvb_tables.specs.TransportStreams.{TransportStreamView, IsTransportStream, transport_stream_of, transport_stream_front, transport_stream_text}
+use Rattle.psi_tables.specs.Loops.{EntryView, IsEntry, entry_bytes, descriptors_length}
+use Rattle.dvb_tables.specs.TransportStreams.{TransportStreamView, IsTransportStream, transport_stream_of, transport_stream_front, transport_stream_bytes}
 use Rattle.dvb_tables.proofs.Heads.{six}
-use Rattle.dvb_tables.proofs.Sequencing.{Says}
+use Rattle.dvb_tables.proofs.EntrySequences.{Says}
 
 here : (a b c d f g : ℕ) (descriptors : List ℕ) → a < 256 → b < 256 → c < 256 → d < 256 → f < 256 → g < 256 → f % 16 * 256 + g ≡ length descriptors
     → IsTransportStream ((a ∷ b ∷ c ∷ d ∷ f ∷ g ∷ []) ++ descriptors)
@@ -25,8 +25,8 @@ here a b c d f g descriptors ha hb hc hd hf hg n = record {
 }
 
 -- an entry is a transport stream
-pub transport_stream_found : (e : EntryView) → IsEntry 6 e → IsBytes (entry_text e) → IsTransportStream (entry_text e) (transport_stream_of e)
-unfolding entry_text descriptors_length
+pub transport_stream_found : (e : EntryView) → IsEntry 6 e → IsBytes (entry_bytes e) → IsTransportStream (entry_bytes e) (transport_stream_of e)
+unfolding entry_bytes descriptors_length
 transport_stream_found e entry fits =
     let h = six e.head entry.head_length in
     let head : IsBytes e.head = IsBytes-append_left e.head e.descriptors fits in
@@ -59,9 +59,9 @@ said a b c d f g t n =
     whole
 
 -- a transport stream is what an entry says
-pub transport_stream_only : (text : List ℕ) (t : TransportStreamView) → IsTransportStream text t → IsBytes text → Says 6 transport_stream_of text t
-unfolding entry_text descriptors_length
-transport_stream_only text t h fits =
+pub transport_stream_only : (bytes : List ℕ) (t : TransportStreamView) → IsTransportStream bytes t → IsBytes bytes → Says 6 transport_stream_of bytes t
+unfolding entry_bytes descriptors_length
+transport_stream_only bytes t h fits =
     let l = six h.head h.len in
     let head : IsBytes h.head = IsBytes-append_left h.head t.descriptors (subst IsBytes h.is fits) in
     let n = numbers (slice_index h.head 0) (slice_index h.head 1) (slice_index h.head 2) (slice_index h.head 3) (slice_index h.head 4) (slice_index h.head 5) h.reserved t
@@ -76,6 +76,6 @@ transport_stream_only text t h fits =
     }
 
 -- a transport stream is written with six bytes before its descriptors
-pub transport_stream_length : (e : EntryView) → IsEntry 6 e → length (transport_stream_text (transport_stream_of e)) ≡ length (entry_text e)
-unfolding transport_stream_text transport_stream_front entry_text transport_stream_of
+pub transport_stream_length : (e : EntryView) → IsEntry 6 e → length (transport_stream_bytes (transport_stream_of e)) ≡ length (entry_bytes e)
+unfolding transport_stream_bytes transport_stream_front entry_bytes transport_stream_of
 transport_stream_length e entry = omega (arith, entry.head_length, length-append e.head e.descriptors)

@@ -1,12 +1,15 @@
--- What stands after the bytes that a descriptor counts.
+-- What follows the bytes that a descriptor counts.
 use Rattle.std.proofs.Common.{◌≡◌, ℕ, zero, suc, ◌<◌, ◌≤◌, Bool, true, false, cond, nat_lt, Option, None, Some, refl, List, [], ◌∷◌, ◌++◌, length, drop, sym, ap, ◌∙◌, subst, arith}
 use Rattle.std.proofs.lemmas.List.{length-drop}
 use Rattle.dvb_tables.specs.Descriptors.{descriptor}
-use Rattle.dvb_tables.specs.DescriptorLoops.{AreDescriptors, ends_whole, are_whole_descriptors, after_first}
+use Rattle.std.specs.Borrow.{Bor}
+use Rattle.descriptor_loops.specs.Descriptors.{DescriptorView, descriptor_view, first_descriptor}
+use Rattle.descriptor_loops.specs.declared.descriptors.Descriptor.{Descriptor}
+use Rattle.dvb_tables.specs.DescriptorLoops.{AreDescriptors, ends_whole, are_whole_descriptors}
 use Rattle.dvb_tables.specs.Laws.{WholeDescriptors}
 use Rattle.std.proofs.lemmas.Bool.{ltb-false, ltb-true}
 
--- where the bytes are there, what counts is what stands after them
+-- where the bytes are there, what counts is what follows them
 pub ends_after : (n : ℕ) (bytes : List ℕ) → n ≤ length bytes → ends_whole n bytes ≡ ends_whole 0 (drop n bytes)
 unfolding ends_whole
 ends_after zero bytes h = refl
@@ -71,24 +74,31 @@ whole_there bytes (d ∷ ds) h =
     ends_body [] rest = refl
     ends_body (b ∷ body) rest = ends_body body rest
 
--- what a descriptor at the front tells of the bytes
-pub front_some : (bytes rest : List ℕ) → after_first bytes ≡ Some rest → (length rest < length bytes) × (are_whole_descriptors bytes ≡ are_whole_descriptors rest)
-unfolding after_first are_whole_descriptors ends_whole
-front_some [] rest e = absurd cc
-front_some (tag ∷ []) rest e = absurd cc
-front_some (tag ∷ n ∷ bytes) rest e =
-    let g = guard_some (nat_lt (length bytes) n) _ rest e in
+front_is : (bytes : List ℕ) (p : DescriptorView × List ℕ) → first_descriptor bytes ≡ Some p
+    → (length p.1 < length bytes) × (are_whole_descriptors bytes ≡ are_whole_descriptors p.1)
+unfolding first_descriptor are_whole_descriptors ends_whole
+front_is [] p e = absurd cc
+front_is (tag ∷ []) p e = absurd cc
+front_is (tag ∷ n ∷ bytes) p e =
+    let g = guard_some (nat_lt (length bytes) n) _ p e in
     let room : n ≤ length bytes = ltb-false (length bytes) n g.0 in
-    let is : drop n bytes ≡ rest = some_is _ _ g.1 in
-    let size : length (drop n bytes) ≡ length rest = ap (length {A = ℕ}) is in
+    let is : drop n bytes ≡ p.1 = ap (λ (q : DescriptorView × List ℕ). q.1) (some_is _ _ g.1) in
+    let size : length (drop n bytes) ≡ length p.1 = ap (length {A = ℕ}) is in
     (omega (arith, length-drop n bytes), ends_after n bytes room ∙ ap (ends_whole 0) is)
 
+-- what a descriptor at the front says of the bytes
+pub front_shorter : (bytes : List ℕ) (d : Descriptor) (rest : Bor (List ℕ)) → first_descriptor bytes ≡ Some (descriptor_view d, rest.now) → length rest.now < length bytes
+front_shorter bytes d rest e = (front_is bytes (descriptor_view d, rest.now) e).0
+
+pub front_some : (bytes : List ℕ) (d : Descriptor) (rest : Bor (List ℕ)) → first_descriptor bytes ≡ Some (descriptor_view d, rest.now) → are_whole_descriptors bytes ≡ are_whole_descriptors rest.now
+front_some bytes d rest e = (front_is bytes (descriptor_view d, rest.now) e).1
+
 -- bytes without a whole descriptor at the front
-pub front_none : (bytes : List ℕ) → 0 < length bytes → after_first bytes ≡ None → are_whole_descriptors bytes ≡ false
-unfolding after_first are_whole_descriptors ends_whole
-front_none [] some e = absurd (omega arith)
-front_none (tag ∷ []) some e = refl
-front_none (tag ∷ n ∷ bytes) some e = ends_short n bytes (ltb-true (length bytes) n (guard_none (nat_lt (length bytes) n) (drop n bytes) e))
+pub front_none : (bytes : List ℕ) → first_descriptor bytes ≡ None → 0 < length bytes → are_whole_descriptors bytes ≡ false
+unfolding first_descriptor are_whole_descriptors ends_whole
+front_none [] e some = absurd (omega arith)
+front_none (tag ∷ []) e some = refl
+front_none (tag ∷ n ∷ bytes) e some = ends_short n bytes (ltb-true (length bytes) n (guard_none (nat_lt (length bytes) n) _ e))
 
 -- no bytes
 pub front_nil : (bytes : List ℕ) → length bytes ≡ 0 → are_whole_descriptors bytes ≡ true

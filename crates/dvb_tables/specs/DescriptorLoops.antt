@@ -1,5 +1,5 @@
 -- Loops of descriptors (ISO/IEC 13818-1, 2.6): descriptors one after another.
-use Rattle.std.specs.Prelude.{◌≡◌, ℕ, zero, suc, nat_lt, if◌then◌else◌, Bool, true, false, List, [], ◌∷◌, ◌++◌, length, drop, Option, None, Some}
+use Rattle.std.specs.Prelude.{◌≡◌, ℕ, zero, suc, Bool, true, false, List, [], ◌∷◌, ◌++◌}
 use Rattle.dvb_tables.specs.Descriptors.{descriptor}
 
 -- bytes are descriptors one after another, each a tag and the bytes after its length
@@ -18,9 +18,3 @@ ends_whole (suc n) (b ∷ bytes) = ends_whole n bytes
 -- whether bytes are whole descriptors
 unfoldable pub are_whole_descriptors : List ℕ → Bool
 are_whole_descriptors bytes = ends_whole 0 bytes
-
--- what stands after the first descriptor; nothing where it is not whole
-unfoldable pub after_first : List ℕ → Option (List ℕ)
-after_first [] = None
-after_first (tag ∷ []) = None
-after_first (tag ∷ n ∷ bytes) = if nat_lt (length bytes) n then None else Some (drop n bytes)

@@ -31,10 +31,10 @@ event_view e = record {
 
 -- twelve bytes and the descriptors: event_id, start_time (5 bytes), duration (3 bytes), then running_status, free_CA_mode
 -- and descriptors_loop_length
-pub record IsEvent (text : List ℕ) (e : EventView) : Type 0 where
+pub record IsEvent (bytes : List ℕ) (e : EventView) : Type 0 where
   pub id : List ℕ
   pub status : List ℕ
-  pub is : text ≡ id ++ e.start_time ++ e.duration ++ status ++ e.descriptors
+  pub is : bytes ≡ id ++ e.start_time ++ e.duration ++ status ++ e.descriptors
   pub id_len : length id ≡ 2
   pub start_time_len : length e.start_time ≡ 5
   pub duration_len : length e.duration ≡ 3
@@ -72,9 +72,9 @@ unfoldable pub event_status : EventView → List ℕ
 event_status e = ((status_code e.running_status * 2 + bit e.free_ca_mode) * 16 + length e.descriptors / 256) ∷ (length e.descriptors % 256) ∷ []
 
 -- an event as it is written
-unfoldable pub event_text : EventView → List ℕ
-event_text e = ((e.event_id / 256) ∷ (e.event_id % 256) ∷ []) ++ e.start_time ++ e.duration ++ event_status e ++ e.descriptors
+unfoldable pub event_bytes : EventView → List ℕ
+event_bytes e = ((e.event_id / 256) ∷ (e.event_id % 256) ∷ []) ++ e.start_time ++ e.duration ++ event_status e ++ e.descriptors
 
 -- events as they are written
-unfoldable pub events_text : List EventView → List ℕ
-events_text es = flat_map event_text es
+unfoldable pub events_bytes : List EventView → List ℕ
+events_bytes es = flat_map event_bytes es

@@ -8,7 +8,7 @@ use Rattle.psi_tables.specs.declared.error.SectionError.{SectionError}
 use Rattle.psi_tables.specs.declared.error.SectionError.TheVariants.{Body}
 use Rattle.psi_tables.specs.declared.section.LongHeader.{LongHeader}
 use Rattle.dvb_tables.specs.Sequences.{IsSequence}
-use Rattle.dvb_tables.specs.EventEntries.{EventView, IsEvent, events_at, events_in, events_text}
+use Rattle.dvb_tables.specs.EventEntries.{EventView, IsEvent, events_at, events_in, events_bytes}
 use Rattle.dvb_tables.specs.declared.event_loop.EventLoop.{EventLoop}
 use Rattle.dvb_tables.specs.declared.event_information.EitPf.{EitPf}
 
@@ -65,15 +65,15 @@ two_numbers m n = (m / 256) ∷ (m % 256) ∷ (n / 256) ∷ (n % 256) ∷ []
 -- the body as it is written
 unfoldable pub eit_body : EitView → List ℕ
 eit_body t = two_numbers t.transport_stream_id t.original_network_id
-    ++ (t.segment_last_section_number ∷ t.last_table_id ∷ []) ++ events_text t.events
+    ++ (t.segment_last_section_number ∷ t.last_table_id ∷ []) ++ events_bytes t.events
 
 -- the section that carries an event information table
 unfoldable pub eit_section : EitView → SectionView
 eit_section t = record { header = record { table_id = 0x4E; private_indicator = true; long = Some t.header }; body = eit_body t }
 
 -- the events that a loop holds
-unfoldable pub events_held : EventLoop → List EventView
-events_held e = events_in e.bytes.items
+unfoldable pub event_loop_of : EventLoop → List EventView
+event_loop_of e = events_in e.bytes.items
 
 -- what an event information table says
 abbrev pub eit_view : EitPf → EitView
@@ -83,5 +83,5 @@ eit_view t = record {
   original_network_id = t.original_network_id;
   segment_last_section_number = t.segment_last_section_number;
   last_table_id = t.last_table_id;
-  events = events_held t.events;
+  events = event_loop_of t.events;
 }

@@ -1,7 +1,7 @@
 -- What the laws of this crate say.
 use Rattle.std.specs.Prelude.{◌≡◌, ◌↔◌, ℕ, ◌+◌, ◌^◌, ◌<◌, ◌≤◌, ◌/◌, ◌%◌, List, [], ◌∷◌, length, All, Ok, IsTrue}
 use Rattle.bit_fields.specs.Fields.{number, fields}
-use Rattle.psi_tables.specs.Spelling.{LongFits, IsWritable}
+use Rattle.psi_tables.specs.Encoding.{LongFits, IsWritable}
 use Rattle.dvb_tables.specs.CodedTimes.{utc_time_bytes}
 use Rattle.dvb_tables.specs.CharacterCoding.{text_bytes, decoded}
 use Rattle.dvb_tables.specs.DescriptorLoops.{AreDescriptors, are_whole_descriptors}
@@ -18,7 +18,7 @@ TimesAreDigits = (moment : ℕ) → let time = moment % 86400 in number (utc_tim
     (16, (moment / 86400 + 40587) % 65536)
     ∷ (4, time / 36000) ∷ (4, time / 3600 % 10) ∷ (4, time / 600 % 6) ∷ (4, time / 60 % 10) ∷ (4, time / 10 % 6) ∷ (4, time % 10) ∷ [])
 
--- a text that was coded is told from its bytes
+-- a text can be recovered from the bytes that it is coded as
 abbrev pub TextsAreDecoded : Type 0
 TextsAreDecoded = (text : List ℕ) → decoded (text_bytes text) ≡ text
 

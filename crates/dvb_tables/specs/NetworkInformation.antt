@@ -9,7 +9,7 @@ use Rattle.psi_tables.specs.declared.error.SectionError.{SectionError}
 use Rattle.psi_tables.specs.declared.error.SectionError.TheVariants.{Body}
 use Rattle.psi_tables.specs.declared.section.LongHeader.{LongHeader}
 use Rattle.dvb_tables.specs.Sequences.{IsSequence}
-use Rattle.dvb_tables.specs.TransportStreams.{TransportStreamView, IsTransportStream, transport_streams_at, transport_streams_of, transport_streams_text}
+use Rattle.dvb_tables.specs.TransportStreams.{TransportStreamView, IsTransportStream, transport_streams_at, transport_streams_of, transport_streams_bytes}
 use Rattle.dvb_tables.specs.declared.network_information.Nit.{Nit}
 
 -- what a network information section says
@@ -19,10 +19,10 @@ pub record NitView : Type 0 where
   pub transport_streams : List TransportStreamView
 
 -- two bytes: four reserved bits and a number of bytes
-pub record IsCount (text : List ℕ) (n : ℕ) : Type 0 where
-  pub len : length text ≡ 2
+pub record IsLoopLength (bytes : List ℕ) (n : ℕ) : Type 0 where
+  pub len : length bytes ≡ 2
   pub reserved : ℕ
-  pub spelled : number text ≡ fields ((4, reserved) ∷ (12, n) ∷ [])
+  pub spelled : number bytes ≡ fields ((4, reserved) ∷ (12, n) ∷ [])
   pub four_bits : reserved < 2 ^ 4
   pub twelve_bits : n < 2 ^ 12
 
@@ -32,12 +32,12 @@ pub record IsNit (s : SectionView) (t : NitView) : Type 0 where
   pub table_id : s.header.table_id ≡ 0x40
   pub long : s.header.long ≡ Some t.header
   pub section_length : 9 + length s.body ≤ 1021
-  pub descriptors_count : List ℕ
-  pub loop_count : List ℕ
+  pub descriptors_head : List ℕ
+  pub loop_head : List ℕ
   pub loop : List ℕ
-  pub is : s.body ≡ (descriptors_count ++ t.network_descriptors) ++ (loop_count ++ loop)
-  pub network_descriptors_length : IsCount descriptors_count (length t.network_descriptors)
-  pub transport_stream_loop_length : IsCount loop_count (length loop)
+  pub is : s.body ≡ (descriptors_head ++ t.network_descriptors) ++ (loop_head ++ loop)
+  pub network_descriptors_length : IsLoopLength descriptors_head (length t.network_descriptors)
+  pub transport_stream_loop_length : IsLoopLength loop_head (length loop)
   pub transport_streams : IsSequence IsTransportStream loop t.transport_streams
 
 -- the bytes that two bytes count, up to the end
@@ -59,14 +59,14 @@ unfoldable pub nit_at : SectionView → Result NitView SectionError
 nit_at s = table_header_at 0x40 1021 s >>= λ header. nit_after header (entry_at 2 s.body)
 
 -- a number of bytes as it is written after four reserved bits
-unfoldable pub count_text : ℕ → List ℕ
-count_text n = (0xF0 + n / 256) ∷ (n % 256) ∷ []
+unfoldable pub loop_length_bytes : ℕ → List ℕ
+loop_length_bytes n = (0xF0 + n / 256) ∷ (n % 256) ∷ []
 
 -- the body as it is written, reserved bits 1
 unfoldable pub nit_body : NitView → List ℕ
 nit_body t =
-    let loop = transport_streams_text t.transport_streams in
-    count_text (length t.network_descriptors) ++ t.network_descriptors ++ count_text (length loop) ++ loop
+    let loop = transport_streams_bytes t.transport_streams in
+    loop_length_bytes (length t.network_descriptors) ++ t.network_descriptors ++ loop_length_bytes (length loop) ++ loop
 
 -- the section that carries a network information table
 unfoldable pub nit_section : NitView → SectionView

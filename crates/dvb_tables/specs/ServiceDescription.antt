@@ -8,7 +8,7 @@ use Rattle.psi_tables.specs.declared.error.SectionError.{SectionError}
 use Rattle.psi_tables.specs.declared.error.SectionError.TheVariants.{Body}
 use Rattle.psi_tables.specs.declared.section.LongHeader.{LongHeader}
 use Rattle.dvb_tables.specs.Sequences.{IsSequence}
-use Rattle.dvb_tables.specs.Services.{ServiceView, IsService, services_at, services_of, services_text}
+use Rattle.dvb_tables.specs.Services.{ServiceView, IsService, services_at, services_of, services_bytes}
 use Rattle.dvb_tables.specs.declared.service_description.Sdt.{Sdt}
 
 -- what a service description section says
@@ -50,7 +50,7 @@ sdt_at s = table_header_at 0x42 1021 s >>= λ header. sdt_body_at header s.body
 
 -- the body as it is written, reserved bits 1
 unfoldable pub sdt_body : SdtView → List ℕ
-sdt_body t = ((t.original_network_id / 256) ∷ (t.original_network_id % 256) ∷ 0xFF ∷ []) ++ services_text t.services
+sdt_body t = ((t.original_network_id / 256) ∷ (t.original_network_id % 256) ∷ 0xFF ∷ []) ++ services_bytes t.services
 
 -- the section that carries a service description table
 unfoldable pub sdt_section : SdtView → SectionView

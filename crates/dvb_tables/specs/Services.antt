@@ -32,9 +32,9 @@ service_view s = record {
 
 -- five bytes and the descriptors: service_id, six reserved bits, EIT_schedule_flag, EIT_present_following_flag,
 -- running_status, free_CA_mode, descriptors_loop_length
-pub record IsService (text : List ℕ) (s : ServiceView) : Type 0 where
+pub record IsService (bytes : List ℕ) (s : ServiceView) : Type 0 where
   pub head : List ℕ
-  pub is : text ≡ head ++ s.descriptors
+  pub is : bytes ≡ head ++ s.descriptors
   pub len : length head ≡ 5
   pub reserved : ℕ
   pub spelled : number head ≡ fields ((16, s.service_id) ∷ (6, reserved) ∷ (1, bit s.eit_schedule) ∷ (1, bit s.eit_present_following)
@@ -67,8 +67,8 @@ unfoldable pub services_of : Services → List ServiceView
 services_of s = services_in s.bytes.now
 
 -- the services that a loop holds
-unfoldable pub services_held : ServiceLoop → List ServiceView
-services_held l = services_in l.bytes.items
+unfoldable pub service_loop_of : ServiceLoop → List ServiceView
+service_loop_of l = services_in l.bytes.items
 
 -- the five bytes before the descriptors, as they are written: reserved bits 1
 unfoldable pub service_front : ServiceView → List ℕ
@@ -76,9 +76,9 @@ service_front s = (s.service_id / 256) ∷ (s.service_id % 256) ∷ (0xFC + (bit
     ∷ ((status_code s.running_status * 2 + bit s.free_ca_mode) * 16 + length s.descriptors / 256) ∷ (length s.descriptors % 256) ∷ []
 
 -- a service as it is written
-unfoldable pub service_text : ServiceView → List ℕ
-service_text s = service_front s ++ s.descriptors
+unfoldable pub service_bytes : ServiceView → List ℕ
+service_bytes s = service_front s ++ s.descriptors
 
 -- services as they are written
-unfoldable pub services_text : List ServiceView → List ℕ
-services_text ss = flat_map service_text ss
+unfoldable pub services_bytes : List ServiceView → List ℕ
+services_bytes ss = flat_map service_bytes ss

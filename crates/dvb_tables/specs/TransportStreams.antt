@@ -24,9 +24,9 @@ transport_stream_view t = record {
 
 -- six bytes and the descriptors: transport_stream_id, original_network_id, four reserved bits,
 -- transport_descriptors_length
-pub record IsTransportStream (text : List ℕ) (t : TransportStreamView) : Type 0 where
+pub record IsTransportStream (bytes : List ℕ) (t : TransportStreamView) : Type 0 where
   pub head : List ℕ
-  pub is : text ≡ head ++ t.descriptors
+  pub is : bytes ≡ head ++ t.descriptors
   pub len : length head ≡ 6
   pub reserved : ℕ
   pub spelled : number head ≡ fields ((16, t.transport_stream_id) ∷ (16, t.original_network_id) ∷ (4, reserved) ∷ (12, length t.descriptors) ∷ [])
@@ -56,8 +56,8 @@ unfoldable pub transport_streams_of : TransportStreams → List TransportStreamV
 transport_streams_of t = transport_streams_in t.bytes.now
 
 -- the transport streams that a loop holds
-unfoldable pub transport_streams_held : TransportStreamLoop → List TransportStreamView
-transport_streams_held l = transport_streams_in l.bytes.items
+unfoldable pub transport_stream_loop_of : TransportStreamLoop → List TransportStreamView
+transport_stream_loop_of l = transport_streams_in l.bytes.items
 
 -- the six bytes before the descriptors, as they are written: reserved bits 1
 unfoldable pub transport_stream_front : TransportStreamView → List ℕ
@@ -66,9 +66,9 @@ transport_stream_front t = (t.transport_stream_id / 256) ∷ (t.transport_stream
     ∷ (0xF0 + length t.descriptors / 256) ∷ (length t.descriptors % 256) ∷ []
 
 -- a transport stream as it is written
-unfoldable pub transport_stream_text : TransportStreamView → List ℕ
-transport_stream_text t = transport_stream_front t ++ t.descriptors
+unfoldable pub transport_stream_bytes : TransportStreamView → List ℕ
+transport_stream_bytes t = transport_stream_front t ++ t.descriptors
 
 -- transport streams as they are written
-unfoldable pub transport_streams_text : List TransportStreamView → List ℕ
-transport_streams_text ts = flat_map transport_stream_text ts
+unfoldable pub transport_streams_bytes : List TransportStreamView → List ℕ
+transport_streams_bytes ts = flat_map transport_stream_bytes ts

@@ -1,15 +1,14 @@
 //! Texts as service information carries them (EN 300 468, annex A).
 
-ghost use Rattle.std.specs.Prelude.{◌≡◌, ◌≤◌, ◌↔◌, ◌++◌, List, ℕ, [], ◌∷◌, length, IsOk, IfOk, IsTrue};
-ghost use Rattle.std.specs.List.{list_all};
+ghost use Rattle.std.specs.Prelude.{◌≡◌, ◌≤◌, ◌↔◌, List, ℕ, length, IsOk, IfOk};
 ghost use Rattle.dvb_tables.specs.CharacterCoding.{is_plain_character, is_plain, text_bytes, text_error_code};
 
 use arrayvec::ArrayVec;
 use std::marker::Model;
 use thiserror::Error;
 
-// Selects UTF-8 for the bytes after it (EN 300 468, annex A, table A.3).
-const UTF_8: u8 = 0x15;
+/// Selects UTF-8 for the bytes after it (EN 300 468, annex A, table A.3).
+pub const UTF_8: u8 = 0x15;
 
 /// Why a text is refused.
 #[derive(Clone, Copy, Debug, PartialEq, Eq, Error)]

@@ -3,7 +3,9 @@
 
 ghost use Rattle.std.specs.Prelude.{◌≡◌, ◌+◌, ◌<◌, ◌≤◌, ◌++◌, length};
 ghost use Rattle.arrayvec.specs.ArrayVec.{array_vec_len};
-ghost use Rattle.dvb_tables.specs.Descriptors.{iso_639_language_descriptor, network_name_descriptor, service_descriptor, short_event_descriptor, stream_identifier_descriptor};
+ghost use Rattle.dvb_tables.specs.Descriptors.{iso_639_language_descriptor, network_name_descriptor};
+ghost use Rattle.dvb_tables.specs.Descriptors.{service_descriptor, short_event_descriptor};
+ghost use Rattle.dvb_tables.specs.Descriptors.{stream_identifier_descriptor};
 
 use crate::character_coding::Text;
 use crate::schedule::Event;

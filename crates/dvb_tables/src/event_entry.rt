@@ -10,7 +10,7 @@ use psi_tables::{Entry, SectionError, entry_at, is_whole_loop};
 
 /// One event of an event information section. The times are the bytes that stand there, decimal digits or
 /// not, and the descriptors are kept as bytes, whole descriptors or not.
-#[derive(Clone, Copy, Debug)]
+#[derive(Clone, Copy)]
 pub struct EventEntry<'a> {
     pub event_id: u16,
     /// The Modified Julian Date and hhmmss, as `utc_time` writes them.
@@ -24,7 +24,7 @@ pub struct EventEntry<'a> {
 }
 
 /// The events of a section, in order: an iterator over the bytes of the loop.
-#[derive(Clone, Copy, Debug)]
+#[derive(Clone, Copy)]
 pub struct EventEntries<'a> {
     bytes: &'a [u8],
     ghost whole: { is_some (loop_at 12 bytes.now) ≡ true },
@@ -82,7 +82,7 @@ impl<'a> EventEntry<'a> {
     ghost use Rattle.std.specs.Prelude.{◌+◌, ◌<◌, ◌≤◌, ◌++◌};
     ghost use Rattle.arrayvec.specs.ArrayVec.{array_vec_len};
     ghost use Rattle.psi_tables.specs.Loops.{entry_view};
-    ghost use Rattle.dvb_tables.specs.EventEntries.{event_view, event_of, event_status, event_text};
+    ghost use Rattle.dvb_tables.specs.EventEntries.{event_view, event_of, event_status, event_bytes};
 
     // The event that an entry of the loop says.
     #[tactic(auto, unfolding(crate::specs::EventEntries::event_of))]
@@ -103,11 +103,11 @@ impl<'a> EventEntry<'a> {
     }
 
     /// Appends the event to the loop of an event information section.
-    #[tactic(auto, unfolding(crate::specs::EventEntries::event_text))]
+    #[tactic(auto, unfolding(crate::specs::EventEntries::event_bytes))]
     pub fn append_to<const N: usize>(&self, out: &mut ArrayVec<u8, N>)
         requires length { length self.now.descriptors.now < 4096 }
         requires room { array_vec_len out.old + 12 + length self.now.descriptors.now ≤ N }
-        ensures items { out.new.items ≡ out.old.items ++ event_text (event_view self.now) }
+        ensures items { out.new.items ≡ out.old.items ++ event_bytes (event_view self.now) }
         ensures len { array_vec_len out.new ≡ array_vec_len out.old + 12 + length self.now.descriptors.now }
     {
         append(out, &self.event_id.to_be_bytes());

@@ -5,9 +5,10 @@ ghost use Rattle.bit_fields.specs.Fields.{IsBytes};
 ghost use Rattle.bit_fields.specs.Reading.{Gives};
 ghost use Rattle.psi_tables.specs.Views.{section_view};
 ghost use Rattle.arrayvec.specs.ArrayVec.{array_vec_len};
-ghost use Rattle.psi_tables.specs.Spelling.{section_text};
-ghost use Rattle.dvb_tables.specs.EventEntries.{events_of, events_text};
-ghost use Rattle.dvb_tables.specs.EventInformation.{EitView, IsEit, eit_view, eit_at, eit_body_at, two_numbers, eit_body, eit_section, events_held};
+ghost use Rattle.psi_tables.specs.Encoding.{section_bytes};
+ghost use Rattle.dvb_tables.specs.EventEntries.{events_of, events_bytes};
+ghost use Rattle.dvb_tables.specs.EventInformation.{EitView, IsEit, eit_view, eit_at, eit_body_at, two_numbers};
+ghost use Rattle.dvb_tables.specs.EventInformation.{eit_body, eit_section, event_loop_of};
 
 use crate::event_entry::EventEntries;
 use crate::event_loop::EventLoop;
@@ -66,24 +67,24 @@ impl EitPf {
 
     /// The events, in order.
     pub fn events(&self) -> EventEntries<'_>
-        ensures { events_of result ≡ events_held self.now.events }
+        ensures { events_of result ≡ event_loop_of self.now.events }
     {
         self.events.events()
     }
 
     /// Leaves exactly the section in `out`: it is never too long. It takes no memory.
-    #[tactic(auto, unfolding(psi_tables::specs::Spelling::section_text, crate::specs::EventInformation::eit_section))]
+    #[tactic(auto, unfolding(psi_tables::specs::Encoding::section_bytes, crate::specs::EventInformation::eit_section))]
     pub fn write_to(&self, out: &mut ArrayVec<u8, 4096>) -> Result<(), SectionError>
         requires { self.now.header.version_number < 32 }
         ensures succeeds { IsOk result }
-        ensures ok { OnOk result (out.new.items ≡ section_text (eit_section (eit_view self.now))) }
+        ensures ok { OnOk result (out.new.items ≡ section_bytes (eit_section (eit_view self.now))) }
     {
         let header = SectionHeader {
             table_id: EIT_TABLE_ID,
             private_indicator: true,
             long: Some(self.header),
         };
-        begin_section(out, header, 6 + self.events.text_length());
+        begin_section(out, header, 6 + self.events.byte_length());
         self.append_body_to(out);
         end_section(out, header);
         Ok(())
@@ -92,20 +93,21 @@ impl EitPf {
     /// The bytes of the section in a vector of their own.
     pub fn write<A: Allocator>(&self, alloc: A) -> Result<Vec<u8, A>, WriteError>
         requires { self.now.header.version_number < 32 }
-        ensures ok { IfOk result (λ bytes. bytes.items ≡ section_text (eit_section (eit_view self.now))) }
+        ensures ok { IfOk result (λ bytes. bytes.items ≡ section_bytes (eit_section (eit_view self.now))) }
         ensures memory { IfErr result (λ e. e ≡ WriteError.Memory) }
     {
-        let mut text = ArrayVec::new();
-        self.write_to(&mut text)?;
-        to_vec(alloc, text.as_slice())
+        let mut bytes = ArrayVec::new();
+        self.write_to(&mut bytes)?;
+        to_vec(alloc, bytes.as_slice())
     }
 
     // Appends the body.
     #[tactic(auto, unfolding(crate::specs::EventInformation::eit_body))]
     fn append_body_to(&self, out: &mut ArrayVec<u8, 4096>)
-        requires { array_vec_len out.old + (6 + length (events_text (events_held self.now.events))) ≤ 4096 }
+        requires { array_vec_len out.old + (6 + length (events_bytes (event_loop_of self.now.events))) ≤ 4096 }
         ensures items { out.new.items ≡ out.old.items ++ eit_body (eit_view self.now) }
-        ensures len { array_vec_len out.new ≡ array_vec_len out.old + (6 + length (events_text (events_held self.now.events))) }
+        ensures len { array_vec_len out.new ≡ array_vec_len out.old
+            + (6 + length (events_bytes (event_loop_of self.now.events))) }
     {
         append(
             out,

@@ -1,13 +1,14 @@
 //! Laws of the definitions. Each function does nothing: its contract is the law.
 
-ghost use Rattle.dvb_tables.specs.Laws.{TimesAreDigits, TextsAreDecoded, WholeDescriptors, NitsAreReadAgain, SdtsAreReadAgain, EitsAreReadAgain, TdtsAreReadAgain};
+ghost use Rattle.dvb_tables.specs.Laws.{TimesAreDigits, TextsAreDecoded, WholeDescriptors, NitsAreReadAgain};
+ghost use Rattle.dvb_tables.specs.Laws.{SdtsAreReadAgain, EitsAreReadAgain, TdtsAreReadAgain};
 
 /// UTC_time of a moment is the Modified Julian Date and the digits hhmmss of the time of the day.
 pub fn times_are_digits()
     ensures { TimesAreDigits }
 {}
 
-/// A text is told from the bytes that it is coded as.
+/// A text can be recovered from the bytes that it is coded as.
 pub fn texts_are_decoded()
     ensures { TextsAreDecoded }
 {}

@@ -4,7 +4,7 @@
 //!
 //! Each table reads itself from a section of `psi_tables` (`read`), keeping loops of descriptors as bytes,
 //! and writes itself as a section, into a vector of fixed capacity (`write_to`) or one of its own
-//! (`write`). Loops are put together without memory by `TransportStreamLoop`, `ServiceLoop` and
+//! (`write`). Loops are built without memory by `TransportStreamLoop`, `ServiceLoop` and
 //! `EventLoop`. Reserved bits are written 1 and not looked at when they are read.
 #![tactic(auto)]
 
@@ -33,7 +33,7 @@ mod time_and_date;
 mod transport_stream;
 mod transport_stream_loop;
 
-pub use character_coding::{Text, TextError, is_plain};
+pub use character_coding::{Text, TextError, UTF_8, is_plain};
 pub use coded_times::{duration_digits, utc_time};
 pub use descriptor_loop::are_whole_descriptors;
 pub use descriptors::{

@@ -3,12 +3,14 @@
 ghost use Rattle.std.specs.Prelude.{◌≡◌, ◌+◌, ◌<◌, ◌≤◌, ◌↔◌, ◌++◌, IsTrue, length, IsOk, OnOk, IfOk, OnErr, IfErr, Ok};
 ghost use Rattle.bit_fields.specs.Fields.{IsBytes};
 ghost use Rattle.bit_fields.specs.Reading.{Gives};
+ghost use Rattle.psi_tables.specs.declared.writing.TheConstants.{GREATEST_TABLE_LENGTH};
 ghost use Rattle.psi_tables.specs.Views.{section_view};
 ghost use Rattle.psi_tables.specs.Loops.{entry_at};
 ghost use Rattle.arrayvec.specs.ArrayVec.{array_vec_len};
-ghost use Rattle.psi_tables.specs.Spelling.{section_text};
-ghost use Rattle.dvb_tables.specs.TransportStreams.{transport_streams_of, transport_streams_text};
-ghost use Rattle.dvb_tables.specs.NetworkInformation.{NitView, IsNit, nit_view, nit_at, nit_after, to_the_end, count_text, nit_body, nit_section};
+ghost use Rattle.psi_tables.specs.Encoding.{section_bytes};
+ghost use Rattle.dvb_tables.specs.TransportStreams.{transport_streams_of, transport_streams_bytes};
+ghost use Rattle.dvb_tables.specs.NetworkInformation.{NitView, IsNit, nit_view, nit_at, nit_after, to_the_end};
+ghost use Rattle.dvb_tables.specs.NetworkInformation.{loop_length_bytes, nit_body, nit_section};
 
 use crate::transport_stream::TransportStreams;
 use arrayvec::ArrayVec;
@@ -23,7 +25,7 @@ use std::alloc::Allocator;
 pub const NIT_TABLE_ID: u8 = 0x40;
 
 /// A network information section of the actual network.
-#[derive(Clone, Copy, Debug)]
+#[derive(Clone, Copy)]
 pub struct Nit<'a> {
     /// table_id_extension is network_id.
     pub header: LongHeader,
@@ -87,16 +89,16 @@ impl<'a> Nit<'a> {
 impl Nit<'_> {
     /// Leaves exactly the section in `out`, or, where section_length would be over 1,021 (`TooLong`),
     /// `out` as it was. Reserved bits are written 1. It takes no memory.
-    #[tactic(auto, using(crate::proofs::BodyLengths::nit_body_length), unfolding(psi_tables::specs::Spelling::section_text, crate::specs::NetworkInformation::nit_section))]
+    #[tactic(auto, using(crate::proofs::BodyLengths::nit_body_length), unfolding(psi_tables::specs::Encoding::section_bytes, crate::specs::NetworkInformation::nit_section))]
     pub fn write_to(&self, out: &mut ArrayVec<u8, 4096>) -> Result<(), SectionError>
         requires { self.now.header.version_number < 32 }
-        ensures variant { IsOk result ↔ (9 + length (nit_body (nit_view self.now)) ≤ 1021) }
-        ensures ok { OnOk result (out.new.items ≡ section_text (nit_section (nit_view self.now))) }
+        ensures variant { IsOk result ↔ (9 + length (nit_body (nit_view self.now)) ≤ GREATEST_TABLE_LENGTH) }
+        ensures ok { OnOk result (out.new.items ≡ section_bytes (nit_section (nit_view self.now))) }
         ensures too_long { IfErr result (λ e. e ≡ SectionError.TooLong) }
         ensures unchanged { OnErr result (out.new ≡ out.old) }
     {
         let network = self.network_descriptors.len();
-        let streams = self.transport_streams.text_length();
+        let streams = self.transport_streams.byte_length();
         if is_too_long(network, streams) {
             return Err(SectionError::TooLong);
         }
@@ -114,41 +116,49 @@ impl Nit<'_> {
     // Appends the body.
     #[tactic(auto, unfolding(crate::specs::NetworkInformation::nit_body))]
     fn append_body_to(&self, out: &mut ArrayVec<u8, 4096>)
-        requires { array_vec_len out.old + (4 + length self.now.network_descriptors.now + length (transport_streams_text (transport_streams_of self.now.transport_streams))) ≤ 4096 }
+        requires { array_vec_len out.old + (4 + length self.now.network_descriptors.now
+            + length (transport_streams_bytes (transport_streams_of self.now.transport_streams))) ≤ 4096 }
         ensures items { out.new.items ≡ out.old.items ++ nit_body (nit_view self.now) }
-        ensures len { array_vec_len out.new ≡ array_vec_len out.old + (4 + length self.now.network_descriptors.now + length (transport_streams_text (transport_streams_of self.now.transport_streams))) }
+        ensures len { array_vec_len out.new ≡ array_vec_len out.old
+            + (4 + length self.now.network_descriptors.now
+            + length (transport_streams_bytes (transport_streams_of self.now.transport_streams))) }
     {
-        append(out, &count_text(self.network_descriptors.len()));
+        append(out, &loop_length_bytes(self.network_descriptors.len()));
         append(out, self.network_descriptors);
-        append(out, &count_text(self.transport_streams.text_length()));
+        append(
+            out,
+            &loop_length_bytes(self.transport_streams.byte_length()),
+        );
         self.transport_streams.append_all_to(out);
     }
 
     /// The bytes of the section in a vector of their own.
     pub fn write<A: Allocator>(&self, alloc: A) -> Result<Vec<u8, A>, WriteError>
         requires { self.now.header.version_number < 32 }
-        ensures ok { IfOk result (λ bytes. bytes.items ≡ section_text (nit_section (nit_view self.now))) }
-        ensures too_long { 1021 < 9 + length (nit_body (nit_view self.now)) → result ≡ Err (WriteError.Refused SectionError.TooLong) }
-        ensures memory { 9 + length (nit_body (nit_view self.now)) ≤ 1021 → IfErr result (λ e. e ≡ WriteError.Memory) }
+        ensures ok { IfOk result (λ bytes. bytes.items ≡ section_bytes (nit_section (nit_view self.now))) }
+        ensures too_long { GREATEST_TABLE_LENGTH < 9 + length (nit_body (nit_view self.now))
+            → result ≡ Err (WriteError.Refused SectionError.TooLong) }
+        ensures memory { 9 + length (nit_body (nit_view self.now)) ≤ GREATEST_TABLE_LENGTH
+            → IfErr result (λ e. e ≡ WriteError.Memory) }
     {
-        let mut text = ArrayVec::new();
-        self.write_to(&mut text)?;
-        to_vec(alloc, text.as_slice())
+        let mut bytes = ArrayVec::new();
+        self.write_to(&mut bytes)?;
+        to_vec(alloc, bytes.as_slice())
     }
 }
 
 // Whether descriptors and transport streams of these lengths pass section_length's greatest.
 fn is_too_long(network: usize, streams: usize) -> bool
-    ensures { IsTrue result ↔ (1021 < 13 + network + streams) }
+    ensures { IsTrue result ↔ (GREATEST_TABLE_LENGTH < 13 + network + streams) }
 {
     network > GREATEST_TABLE_LENGTH - 13 || streams > GREATEST_TABLE_LENGTH - 13 - network
 }
 
 // A number of bytes after four reserved bits.
-#[tactic(auto, unfolding(crate::specs::NetworkInformation::count_text))]
-fn count_text(count: usize) -> [u8; 2]
+#[tactic(auto, unfolding(crate::specs::NetworkInformation::loop_length_bytes))]
+fn loop_length_bytes(count: usize) -> [u8; 2]
     requires { count < 4096 }
-    ensures { result ≡ count_text count }
+    ensures { result ≡ loop_length_bytes count }
 {
     let [high, low] = (count as u16).to_be_bytes();
     [0xf0 + high, low]

@@ -10,7 +10,7 @@ use psi_tables::{Entry, SectionError, entry_at, is_whole_loop};
 
 /// One service of a service description section. The descriptors are kept as bytes, whole descriptors or
 /// not.
-#[derive(Clone, Copy, Debug)]
+#[derive(Clone, Copy)]
 pub struct Service<'a> {
     pub service_id: u16,
     /// Whether event schedules for the service are in this transport stream.
@@ -24,7 +24,7 @@ pub struct Service<'a> {
 }
 
 /// The services of a section, in order: an iterator over the bytes of the loop.
-#[derive(Clone, Copy, Debug)]
+#[derive(Clone, Copy)]
 pub struct Services<'a> {
     bytes: &'a [u8],
     ghost whole: { is_some (loop_at 5 bytes.now) ≡ true },
@@ -59,20 +59,20 @@ impl<'a> Services<'a> {
 impl Services<'_> {
     ghost use Rattle.std.specs.Prelude.{◌+◌, ◌≤◌, ◌++◌};
     ghost use Rattle.arrayvec.specs.ArrayVec.{array_vec_len};
-    ghost use Rattle.dvb_tables.specs.Services.{services_of, services_text};
+    ghost use Rattle.dvb_tables.specs.Services.{services_of, services_bytes};
 
     /// How many bytes are written for them.
-    pub fn text_length(&self) -> usize
-        ensures { result ≡ length (services_text (services_of self.now)) }
+    pub fn byte_length(&self) -> usize
+        ensures { result ≡ length (services_bytes (services_of self.now)) }
     {
         self.bytes.len()
     }
 
     // Appends them as they are written.
     pub(crate) fn append_all_to(self, out: &mut ArrayVec<u8, 4096>)
-        requires { array_vec_len out.old + length (services_text (services_of self)) ≤ 4096 }
-        ensures items { out.new.items ≡ out.old.items ++ services_text (services_of self.entry) }
-        ensures len { array_vec_len out.new ≡ array_vec_len out.old + length (services_text (services_of self.entry)) }
+        requires { array_vec_len out.old + length (services_bytes (services_of self)) ≤ 4096 }
+        ensures items { out.new.items ≡ out.old.items ++ services_bytes (services_of self.entry) }
+        ensures len { array_vec_len out.new ≡ array_vec_len out.old + length (services_bytes (services_of self.entry)) }
     {
         for service in self {
             service.append_to(out);
@@ -106,7 +106,7 @@ impl<'a> Service<'a> {
     ghost use Rattle.std.specs.Prelude.{◌+◌, ◌<◌, ◌≤◌, ◌++◌};
     ghost use Rattle.arrayvec.specs.ArrayVec.{array_vec_len};
     ghost use Rattle.psi_tables.specs.Loops.{entry_view};
-    ghost use Rattle.dvb_tables.specs.Services.{service_view, service_of, service_front, service_text};
+    ghost use Rattle.dvb_tables.specs.Services.{service_view, service_of, service_front, service_bytes};
 
     // The service that an entry of the loop says.
     #[tactic(auto, unfolding(crate::specs::Services::service_of))]
@@ -128,11 +128,11 @@ impl<'a> Service<'a> {
     }
 
     /// Appends the service to the loop of a service description section.
-    #[tactic(auto, unfolding(crate::specs::Services::service_text))]
+    #[tactic(auto, unfolding(crate::specs::Services::service_bytes))]
     pub fn append_to<const N: usize>(&self, out: &mut ArrayVec<u8, N>)
         requires length { length self.now.descriptors.now < 4096 }
         requires room { array_vec_len out.old + 5 + length self.now.descriptors.now ≤ N }
-        ensures items { out.new.items ≡ out.old.items ++ service_text (service_view self.now) }
+        ensures items { out.new.items ≡ out.old.items ++ service_bytes (service_view self.now) }
         ensures len { array_vec_len out.new ≡ array_vec_len out.old + 5 + length self.now.descriptors.now }
     {
         append(out, &self.front());

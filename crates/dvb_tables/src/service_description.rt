@@ -3,11 +3,13 @@
 ghost use Rattle.std.specs.Prelude.{◌≡◌, ◌+◌, ◌<◌, ◌≤◌, ◌↔◌, ◌++◌, length, IsOk, OnOk, IfOk, OnErr, IfErr, Ok};
 ghost use Rattle.bit_fields.specs.Fields.{IsBytes};
 ghost use Rattle.bit_fields.specs.Reading.{Gives};
+ghost use Rattle.psi_tables.specs.declared.writing.TheConstants.{GREATEST_TABLE_LENGTH};
 ghost use Rattle.psi_tables.specs.Views.{section_view};
 ghost use Rattle.arrayvec.specs.ArrayVec.{array_vec_len};
-ghost use Rattle.psi_tables.specs.Spelling.{section_text};
-ghost use Rattle.dvb_tables.specs.Services.{services_of, services_text};
-ghost use Rattle.dvb_tables.specs.ServiceDescription.{SdtView, IsSdt, sdt_view, sdt_at, sdt_body_at, sdt_body, sdt_section};
+ghost use Rattle.psi_tables.specs.Encoding.{section_bytes};
+ghost use Rattle.dvb_tables.specs.Services.{services_of, services_bytes};
+ghost use Rattle.dvb_tables.specs.ServiceDescription.{SdtView, IsSdt, sdt_view, sdt_at, sdt_body_at, sdt_body};
+ghost use Rattle.dvb_tables.specs.ServiceDescription.{sdt_section};
 
 use crate::service::Services;
 use arrayvec::ArrayVec;
@@ -22,7 +24,7 @@ use std::alloc::Allocator;
 pub const SDT_TABLE_ID: u8 = 0x42;
 
 /// A service description section of the actual transport stream.
-#[derive(Clone, Copy, Debug)]
+#[derive(Clone, Copy)]
 pub struct Sdt<'a> {
     /// table_id_extension is transport_stream_id.
     pub header: LongHeader,
@@ -82,15 +84,15 @@ impl<'a> Sdt<'a> {
 impl Sdt<'_> {
     /// Leaves exactly the section in `out`, or, where section_length would be over 1,021 (`TooLong`),
     /// `out` as it was. Reserved bits are written 1. It takes no memory.
-    #[tactic(auto, using(crate::proofs::BodyLengths::sdt_body_length), unfolding(psi_tables::specs::Spelling::section_text, crate::specs::ServiceDescription::sdt_section))]
+    #[tactic(auto, using(crate::proofs::BodyLengths::sdt_body_length), unfolding(psi_tables::specs::Encoding::section_bytes, crate::specs::ServiceDescription::sdt_section))]
     pub fn write_to(&self, out: &mut ArrayVec<u8, 4096>) -> Result<(), SectionError>
         requires { self.now.header.version_number < 32 }
-        ensures variant { IsOk result ↔ (9 + length (sdt_body (sdt_view self.now)) ≤ 1021) }
-        ensures ok { OnOk result (out.new.items ≡ section_text (sdt_section (sdt_view self.now))) }
+        ensures variant { IsOk result ↔ (9 + length (sdt_body (sdt_view self.now)) ≤ GREATEST_TABLE_LENGTH) }
+        ensures ok { OnOk result (out.new.items ≡ section_bytes (sdt_section (sdt_view self.now))) }
         ensures too_long { IfErr result (λ e. e ≡ SectionError.TooLong) }
         ensures unchanged { OnErr result (out.new ≡ out.old) }
     {
-        let services = self.services.text_length();
+        let services = self.services.byte_length();
         if services > GREATEST_TABLE_LENGTH - 12 {
             return Err(SectionError::TooLong);
         }
@@ -108,9 +110,10 @@ impl Sdt<'_> {
     // Appends the body.
     #[tactic(auto, unfolding(crate::specs::ServiceDescription::sdt_body))]
     fn append_body_to(&self, out: &mut ArrayVec<u8, 4096>)
-        requires { array_vec_len out.old + (3 + length (services_text (services_of self.now.services))) ≤ 4096 }
+        requires { array_vec_len out.old + (3 + length (services_bytes (services_of self.now.services))) ≤ 4096 }
         ensures items { out.new.items ≡ out.old.items ++ sdt_body (sdt_view self.now) }
-        ensures len { array_vec_len out.new ≡ array_vec_len out.old + (3 + length (services_text (services_of self.now.services))) }
+        ensures len { array_vec_len out.new ≡ array_vec_len out.old
+            + (3 + length (services_bytes (services_of self.now.services))) }
     {
         let [high, low] = self.original_network_id.to_be_bytes();
         append(out, &[high, low, 0xff]);
@@ -120,12 +123,14 @@ impl Sdt<'_> {
     /// The bytes of the section in a vector of their own.
     pub fn write<A: Allocator>(&self, alloc: A) -> Result<Vec<u8, A>, WriteError>
         requires { self.now.header.version_number < 32 }
-        ensures ok { IfOk result (λ bytes. bytes.items ≡ section_text (sdt_section (sdt_view self.now))) }
-        ensures too_long { 1021 < 9 + length (sdt_body (sdt_view self.now)) → result ≡ Err (WriteError.Refused SectionError.TooLong) }
-        ensures memory { 9 + length (sdt_body (sdt_view self.now)) ≤ 1021 → IfErr result (λ e. e ≡ WriteError.Memory) }
+        ensures ok { IfOk result (λ bytes. bytes.items ≡ section_bytes (sdt_section (sdt_view self.now))) }
+        ensures too_long { GREATEST_TABLE_LENGTH < 9 + length (sdt_body (sdt_view self.now))
+            → result ≡ Err (WriteError.Refused SectionError.TooLong) }
+        ensures memory { 9 + length (sdt_body (sdt_view self.now)) ≤ GREATEST_TABLE_LENGTH
+            → IfErr result (λ e. e ≡ WriteError.Memory) }
     {
-        let mut text = ArrayVec::new();
-        self.write_to(&mut text)?;
-        to_vec(alloc, text.as_slice())
+        let mut bytes = ArrayVec::new();
+        self.write_to(&mut bytes)?;
+        to_vec(alloc, bytes.as_slice())
     }
 }

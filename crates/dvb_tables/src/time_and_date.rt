@@ -2,7 +2,7 @@
 
 ghost use Rattle.std.specs.Prelude.{◌≡◌, IsOk, OnOk, IfOk, IfErr, Ok};
 ghost use Rattle.psi_tables.specs.Views.{section_view};
-ghost use Rattle.psi_tables.specs.Spelling.{section_text};
+ghost use Rattle.psi_tables.specs.Encoding.{section_bytes};
 ghost use Rattle.dvb_tables.specs.declared.time_and_date.Tdt.{Tdt};
 ghost use Rattle.dvb_tables.specs.TimeAndDate.{IsTdt, tdt_at, tdt_of_form, tdt_section};
 
@@ -14,7 +14,7 @@ use std::alloc::Allocator;
 pub const TDT_TABLE_ID: u8 = 0x70;
 
 /// A time and date section.
-#[derive(Clone, Copy, Debug, PartialEq, Eq)]
+#[derive(Clone, Copy, PartialEq, Eq)]
 pub struct Tdt {
     /// The Modified Julian Date and hhmmss, as `utc_time` writes them; read as the bytes that they are.
     pub utc_time: [u8; 5],
@@ -53,7 +53,7 @@ impl Tdt {
     #[tactic(auto, unfolding(crate::specs::TimeAndDate::tdt_section))]
     pub fn write_to(&self, out: &mut ArrayVec<u8, 4096>) -> Result<(), SectionError>
         ensures succeeds { IsOk result }
-        ensures ok { OnOk result (out.new.items ≡ section_text (tdt_section self.now)) }
+        ensures ok { OnOk result (out.new.items ≡ section_bytes (tdt_section self.now)) }
     {
         let section = Section {
             header: SectionHeader {
@@ -68,12 +68,12 @@ impl Tdt {
 
     /// The bytes of the section in a vector of their own.
     pub fn write<A: Allocator>(&self, alloc: A) -> Result<Vec<u8, A>, WriteError>
-        ensures ok { IfOk result (λ bytes. bytes.items ≡ section_text (tdt_section self.now)) }
+        ensures ok { IfOk result (λ bytes. bytes.items ≡ section_bytes (tdt_section self.now)) }
         ensures memory { IfErr result (λ e. e ≡ WriteError.Memory) }
     {
-        let mut text = ArrayVec::new();
-        self.write_to(&mut text)?;
-        to_vec(alloc, text.as_slice())
+        let mut bytes = ArrayVec::new();
+        self.write_to(&mut bytes)?;
+        to_vec(alloc, bytes.as_slice())
     }
 
     #[tactic(auto, unfolding(crate::specs::TimeAndDate::tdt_of_form))]

@@ -8,7 +8,7 @@ use bit_fields::append;
 use psi_tables::{Entry, SectionError, entry_at, is_whole_loop};
 
 /// One transport stream of a network. The descriptors are kept as bytes, whole descriptors or not.
-#[derive(Clone, Copy, Debug)]
+#[derive(Clone, Copy)]
 pub struct TransportStream<'a> {
     pub transport_stream_id: u16,
     pub original_network_id: u16,
@@ -16,7 +16,7 @@ pub struct TransportStream<'a> {
 }
 
 /// The transport streams of a section, in order: an iterator over the bytes of the loop.
-#[derive(Clone, Copy, Debug)]
+#[derive(Clone, Copy)]
 pub struct TransportStreams<'a> {
     bytes: &'a [u8],
     ghost whole: { is_some (loop_at 6 bytes.now) ≡ true },
@@ -24,7 +24,8 @@ pub struct TransportStreams<'a> {
 
 impl<'a> TransportStreams<'a> {
     ghost use Rattle.bit_fields.specs.Reading.{Gives};
-    ghost use Rattle.dvb_tables.specs.TransportStreams.{transport_streams_at, transport_streams_in, transport_streams_of};
+    ghost use Rattle.dvb_tables.specs.TransportStreams.{transport_streams_at, transport_streams_in};
+    ghost use Rattle.dvb_tables.specs.TransportStreams.{transport_streams_of};
 
     // The transport streams of a whole loop.
     #[tactic(auto, unfolding(crate::specs::TransportStreams::transport_streams_of))]
@@ -51,20 +52,21 @@ impl<'a> TransportStreams<'a> {
 impl TransportStreams<'_> {
     ghost use Rattle.std.specs.Prelude.{◌+◌, ◌≤◌, ◌++◌};
     ghost use Rattle.arrayvec.specs.ArrayVec.{array_vec_len};
-    ghost use Rattle.dvb_tables.specs.TransportStreams.{transport_streams_of, transport_streams_text};
+    ghost use Rattle.dvb_tables.specs.TransportStreams.{transport_streams_of, transport_streams_bytes};
 
     /// How many bytes are written for them.
-    pub fn text_length(&self) -> usize
-        ensures { result ≡ length (transport_streams_text (transport_streams_of self.now)) }
+    pub fn byte_length(&self) -> usize
+        ensures { result ≡ length (transport_streams_bytes (transport_streams_of self.now)) }
     {
         self.bytes.len()
     }
 
     // Appends them as they are written.
     pub(crate) fn append_all_to(self, out: &mut ArrayVec<u8, 4096>)
-        requires { array_vec_len out.old + length (transport_streams_text (transport_streams_of self)) ≤ 4096 }
-        ensures items { out.new.items ≡ out.old.items ++ transport_streams_text (transport_streams_of self.entry) }
-        ensures len { array_vec_len out.new ≡ array_vec_len out.old + length (transport_streams_text (transport_streams_of self.entry)) }
+        requires { array_vec_len out.old + length (transport_streams_bytes (transport_streams_of self)) ≤ 4096 }
+        ensures items { out.new.items ≡ out.old.items ++ transport_streams_bytes (transport_streams_of self.entry) }
+        ensures len { array_vec_len out.new ≡ array_vec_len out.old
+            + length (transport_streams_bytes (transport_streams_of self.entry)) }
     {
         for stream in self {
             stream.append_to(out);
@@ -98,7 +100,8 @@ impl<'a> TransportStream<'a> {
     ghost use Rattle.std.specs.Prelude.{◌+◌, ◌<◌, ◌≤◌, ◌++◌};
     ghost use Rattle.arrayvec.specs.ArrayVec.{array_vec_len};
     ghost use Rattle.psi_tables.specs.Loops.{entry_view};
-    ghost use Rattle.dvb_tables.specs.TransportStreams.{transport_stream_view, transport_stream_of, transport_stream_front, transport_stream_text};
+    ghost use Rattle.dvb_tables.specs.TransportStreams.{transport_stream_view, transport_stream_of};
+    ghost use Rattle.dvb_tables.specs.TransportStreams.{transport_stream_front, transport_stream_bytes};
 
     // The transport stream that an entry of the loop says.
     #[tactic(auto, unfolding(crate::specs::TransportStreams::transport_stream_of))]
@@ -115,11 +118,11 @@ impl<'a> TransportStream<'a> {
     }
 
     /// Appends the transport stream to the loop of a network information section.
-    #[tactic(auto, unfolding(crate::specs::TransportStreams::transport_stream_text))]
+    #[tactic(auto, unfolding(crate::specs::TransportStreams::transport_stream_bytes))]
     pub fn append_to<const N: usize>(&self, out: &mut ArrayVec<u8, N>)
         requires length { length self.now.descriptors.now < 4096 }
         requires room { array_vec_len out.old + 6 + length self.now.descriptors.now ≤ N }
-        ensures items { out.new.items ≡ out.old.items ++ transport_stream_text (transport_stream_view self.now) }
+        ensures items { out.new.items ≡ out.old.items ++ transport_stream_bytes (transport_stream_view self.now) }
         ensures len { array_vec_len out.new ≡ array_vec_len out.old + 6 + length self.now.descriptors.now }
     {
         append(out, &self.front());

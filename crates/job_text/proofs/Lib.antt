@@ -1,4 +1,3 @@
 pub mod Scalars
-pub mod Tables
-pub mod Reading
-pub mod RecordReading
+pub mod TableArrays
+pub mod DocumentTexts

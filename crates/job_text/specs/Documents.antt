@@ -1,7 +1,7 @@
 -- What the texts say, as tables of TOML.
 use Rattle.std.specs.Prelude.{ℕ, pos, List, [], ◌∷◌, codes}
 use Rattle.toml.specs.Data.{string, integer, boolean, array, table, Items, no_items, item, Members, no_members, member}
-use Rattle.job_text.specs.Entries.{HeadingView, ProgramEntryView, StreamEntryView}
+use Rattle.job_text.specs.DescriptionParts.{HeadingView, ProgramPartView, StreamPartView}
 use Rattle.job_text.specs.KeyLines.{with_numbers, with_hex}
 use Rattle.job_text.specs.Fields.{first_numbers, program_numbers, stream_numbers}
 
@@ -10,12 +10,12 @@ abbrev pub elements_of : List Members → Items
 elements_of [] = no_items
 elements_of (t ∷ ts) = item (table t) (elements_of ts)
 
--- an array of tables at a key before the others; no key where there are none
+-- an array of tables at a key before the others; no key if there are none
 abbrev pub with_tables : List ℕ → List Members → Members → Members
 with_tables key [] more = more
 with_tables key (t ∷ ts) more = member key (array (elements_of (t ∷ ts))) more
 
-abbrev pub program_table : ProgramEntryView → Members
+abbrev pub program_table : ProgramPartView → Members
 program_table p =
     with_hex (codes "descriptors") p.descriptors
     (member (codes "name") (string p.name)
@@ -23,7 +23,7 @@ program_table p =
     (member (codes "provider") (string p.provider)
     (member (codes "service_type") (integer (pos p.service_type)) no_members))))
 
-abbrev pub stream_table : StreamEntryView → Members
+abbrev pub stream_table : StreamPartView → Members
 stream_table s = with_hex (codes "descriptors") s.descriptors (with_numbers (stream_numbers s) no_members)
 
 -- a description of this heading, with the tables of its programs and streams

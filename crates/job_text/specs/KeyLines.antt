@@ -35,7 +35,7 @@ abbrev pub with_numbers : List (List ℕ × ℕ) → Members → Members
 with_numbers [] more = more
 with_numbers (field ∷ fields) more = member field.0 (integer (pos field.1)) (with_numbers fields more)
 
--- bytes as pairs of hexadecimal digits; no line where there are no bytes
+-- bytes as pairs of hexadecimal digits; no line if there are no bytes
 unfoldable pub hex_line : List ℕ → List ℕ → List ℕ
 hex_line key bytes = if length bytes == 0 then [] else key_line key (string (encode_lower bytes))
 

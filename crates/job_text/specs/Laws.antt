@@ -1,12 +1,8 @@
 -- What the laws of this crate say.
-use Rattle.std.specs.Prelude.{◌≡◌, ◌<◌, ◌^◌, ℕ, List, ◌++◌, map, All, Some, Ok}
+use Rattle.std.specs.Prelude.{◌≡◌, ◌<◌, ◌^◌, ℕ, List, ◌++◌, map, All, Some}
 use Rattle.std.specs.List.{flat_map}
 use Rattle.toml.specs.Parse.{parse_document}
-use Rattle.pes_packet.specs.AccessUnits.{AccessUnit}
-use Rattle.mux_core.specs.UnitRecords.{record_at, after_record}
-use Rattle.mux_core.specs.Laws.{FitsRecord}
-use Rattle.job_text.specs.Records.{record_bytes}
-use Rattle.job_text.specs.Entries.{HeadingView, ProgramEntryView, StreamEntryView}
+use Rattle.job_text.specs.DescriptionParts.{HeadingView, ProgramPartView, StreamPartView}
 use Rattle.job_text.specs.Documents.{document, program_table, stream_table}
 use Rattle.job_text.specs.Texts.{heading_text, program_text, stream_text}
 
@@ -22,7 +18,7 @@ pub record FitsHeading (h : HeadingView) : Type 0 where
   pub transport_stream_id : Fits h.transport_stream_id
 
 -- those of a program
-pub record FitsProgram (p : ProgramEntryView) : Type 0 where
+pub record FitsProgram (p : ProgramPartView) : Type 0 where
   pub number : Fits p.number
   pub pcr_limit : Fits p.pcr_limit
   pub pcr_pid : Fits p.pcr_pid
@@ -30,7 +26,7 @@ pub record FitsProgram (p : ProgramEntryView) : Type 0 where
   pub service_type : Fits p.service_type
 
 -- those of a stream
-pub record FitsStream (s : StreamEntryView) : Type 0 where
+pub record FitsStream (s : StreamPartView) : Type 0 where
   pub group : Fits s.group
   pub group_packets : Fits s.group_packets
   pub stream_id : Fits s.stream_id
@@ -46,14 +42,5 @@ pub record FitsStream (s : StreamEntryView) : Type 0 where
 -- a heading's text, the programs' and the streams' are one document
 abbrev pub TextsAreRead : Type 0
 TextsAreRead =
-    (h : HeadingView) (ps : List ProgramEntryView) (ss : List StreamEntryView) → FitsHeading h → All FitsProgram ps → All FitsStream ss
+    (h : HeadingView) (ps : List ProgramPartView) (ss : List StreamPartView) → FitsHeading h → All FitsProgram ps → All FitsStream ss
     → parse_document (heading_text h ++ (flat_map program_text ps ++ flat_map stream_text ss)) ≡ Some (document h (map program_table ps) (map stream_table ss))
-
--- a record, whatever stands after it, is read as its stream and its unit, and what stands after it is left
-pub record RecordIsRead (stream : ℕ) (unit : AccessUnit) (rest : List ℕ) : Type 0 where
-  pub record_is : record_at (record_bytes stream unit ++ rest) ≡ Ok (Some (stream, unit))
-  pub rest_is : after_record (record_bytes stream unit ++ rest) ≡ rest
-
--- that is so of each unit of at most 4,000,000 bytes with stamps of 64 bits
-abbrev pub RecordsAreRead : Type 0
-RecordsAreRead = (stream : ℕ) (unit : AccessUnit) (rest : List ℕ) → FitsRecord unit → RecordIsRead stream unit rest

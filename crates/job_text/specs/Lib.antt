@@ -1,7 +1,6 @@
 pub mod KeyLines
-pub mod Entries
+pub mod DescriptionParts
 pub mod Fields
 pub mod Texts
 pub mod Documents
-pub mod Records
 pub mod Laws

@@ -1,7 +1,7 @@
 -- The texts of a service description's parts: every key on its line, in ascending order.
 use Rattle.std.specs.Prelude.{ℕ, List, ◌++◌, codes}
 use Rattle.toml.specs.Data.{string, boolean}
-use Rattle.job_text.specs.Entries.{HeadingView, ProgramEntryView, StreamEntryView}
+use Rattle.job_text.specs.DescriptionParts.{HeadingView, ProgramPartView, StreamPartView}
 use Rattle.job_text.specs.KeyLines.{key_line, number_line, number_lines, hex_line, header}
 use Rattle.job_text.specs.Fields.{first_numbers, program_numbers, stream_numbers}
 
@@ -16,17 +16,17 @@ heading_text h =
     ++ number_line (codes "ts_id", h.transport_stream_id)))))
 
 -- of a program: the lines up to its name, and those of its service after the numbers
-abbrev pub program_front : ProgramEntryView → List ℕ
+abbrev pub program_front : ProgramPartView → List ℕ
 program_front p = (header (codes "program") ++ hex_line (codes "descriptors") p.descriptors) ++ key_line (codes "name") (string p.name)
 
-abbrev pub program_service : ProgramEntryView → List ℕ
+abbrev pub program_service : ProgramPartView → List ℕ
 program_service p = key_line (codes "provider") (string p.provider) ++ number_line (codes "service_type", p.service_type)
 
 -- an element of the array `program`
-abbrev pub program_text : ProgramEntryView → List ℕ
+abbrev pub program_text : ProgramPartView → List ℕ
 program_text p = program_front p ++ (number_lines (program_numbers p) ++ program_service p)
 
 -- an element of the array `stream`
-abbrev pub stream_text : StreamEntryView → List ℕ
+abbrev pub stream_text : StreamPartView → List ℕ
 stream_text s =
     (header (codes "stream") ++ hex_line (codes "descriptors") s.descriptors) ++ number_lines (stream_numbers s)

@@ -1,7 +1,7 @@
 //! The head of a service description.
 
 ghost use Rattle.std.specs.Prelude.{◌≡◌, ◌++◌, OnOk, string_bytes};
-ghost use Rattle.job_text.specs.Entries.{heading_view};
+ghost use Rattle.job_text.specs.DescriptionParts.{heading_view};
 ghost use Rattle.job_text.specs.Texts.{heading_text};
 
 use crate::key_line::{write_flag, write_number, write_numbers, write_string};
@@ -9,7 +9,7 @@ use std::alloc::{AllocError, Allocator};
 
 /// What a description says of the whole transport stream. There is no network: a description with one has a table
 /// `[network]` besides.
-#[derive(Clone, Copy, Debug, PartialEq, Eq)]
+#[derive(Clone, Copy)]
 pub struct Heading<'a> {
     /// The rate, in bits a second.
     pub rate: u32,

@@ -81,7 +81,7 @@ pub(crate) fn write_string<A: Allocator>(
     write!(text, "{key} = {value}\n")
 }
 
-// Bytes as pairs of lower-case hexadecimal digits, and no line where there are none.
+// Bytes as pairs of lower-case hexadecimal digits, and no line if there are none.
 #[tactic(auto, unfolding(crate::specs::KeyLines::hex_line))]
 fn write_hex<A: Allocator + Clone>(
     text: &mut String<A>,
@@ -110,7 +110,8 @@ pub(crate) fn write_element<A: Allocator + Clone>(
     key: &str,
     descriptors: &[u8],
 ) -> Result<(), AllocError>
-    ensures { OnOk result (string_bytes text.new ≡ string_bytes text.old ++ (header key.now ++ hex_line (codes "descriptors") descriptors.now)) }
+    ensures { OnOk result (string_bytes text.new ≡ string_bytes text.old
+        ++ (header key.now ++ hex_line (codes "descriptors") descriptors.now)) }
 {
     write_header(text, key)?;
     write_hex(text, "descriptors", descriptors)

@@ -10,12 +10,12 @@ use Rattle.ts_packet.specs.declared.packet.PacketError.{PacketError}
 use Rattle.ts_packet.specs.Views.{PacketView}
 use Rattle.ts_packet.specs.Reading.{packet_at}
 use Rattle.ts_packet.specs.PidList.{Entry, entry_of}
-use Rattle.monitor.specs.declared.counts.Carried.{Carried}
-use Rattle.monitor.specs.Counting.{packet_counted}
-use Rattle.monitor.specs.PidCounting.{first_seen}
-use Rattle.monitor.proofs.Recurring.{same_number, turned_test}
-use Rattle.monitor.proofs.Keyed.{absent, unique, unique_insert}
-use Rattle.monitor.proofs.Seeing.{carried_all, start_of, starts_of}
+use Rattle.monitor.specs.declared.counts.PacketCounts.{PacketCounts}
+use Rattle.monitor.specs.Counts.{packet_counted}
+use Rattle.monitor.specs.CountsOfPids.{first_seen}
+use Rattle.monitor.proofs.LatePlaces.{same_number, turned_test}
+use Rattle.monitor.proofs.PidEntries.{absent, unique, unique_insert}
+use Rattle.monitor.proofs.PacketSteps.{carried_all, start_of, starts_of}
 
 -- 1. Keys
 
@@ -85,7 +85,7 @@ all_new : (xs : List ℕ) → filter (λ y. not (is_in y [])) xs ≡ xs
 all_new [] = refl
 all_new (x ∷ xs) = ap (λ (l : List ℕ). x ∷ l) (all_new xs)
 
-keys_all : (es : List (ℕ × Carried)) (xs : List (ℕ × Bool)) → keys (carried_all es xs) ≡ keys es ++ new_in (keys es) (map (λ x. x.0) xs)
+keys_all : (es : List (ℕ × PacketCounts)) (xs : List (ℕ × Bool)) → keys (carried_all es xs) ≡ keys es ++ new_in (keys es) (map (λ x. x.0) xs)
 unfolding carried_all
 keys_all es [] = sym (append-nil (keys es))
 keys_all es (x ∷ xs) = keys_all (packet_counted es x.0 x.1) xs ∙ by (is_in x.0 (keys es)) refl
@@ -112,7 +112,7 @@ keys_first_seen xs = keys_all [] xs ∙ all_new (first_seen (map (λ x. x.0) xs)
 
 -- 2. No PID stands twice, so entries are told by their keys
 
-pub carried_unique : (es : List (ℕ × Carried)) (xs : List (ℕ × Bool)) → unique es → unique (carried_all es xs)
+pub carried_unique : (es : List (ℕ × PacketCounts)) (xs : List (ℕ × Bool)) → unique es → unique (carried_all es xs)
 unfolding carried_all
 carried_unique es [] h = h
 carried_unique es (x ∷ xs) h = carried_unique (packet_counted es x.0 x.1) xs (unique_insert x.0 _ es h)
@@ -137,7 +137,7 @@ by_keys {V} {X} f (x ∷ es) h =
 -- 3. The PIDs of a stream's packets
 
 pub pids_are : (packets : List (ℕ × List ℕ)) → map (λ x. x.0) (starts_of packets)
-    ≡ map (λ entry. entry.packet.header.pid) (filter (λ entry. not entry.packet.header.error_indicator) (filter_map (λ p. entry_of p.0 p.1 (packet_at p.1)) packets))
+    ≡ map (λ entry. entry.packet.header.pid) (filter (λ entry. not entry.packet.header.transport_error_indicator) (filter_map (λ p. entry_of p.0 p.1 (packet_at p.1)) packets))
 unfolding start_of entry_of
 pids_are [] = refl
 pids_are (p ∷ packets) = by (packet_at p.1) (pids_are packets)
@@ -146,14 +146,14 @@ pids_are (p ∷ packets) = by (packet_at p.1) (pids_are packets)
     rest = filter_map (λ p. entry_of p.0 p.1 (packet_at p.1)) packets
 
     pids : List Entry → List ℕ
-    pids entries = map (λ entry. entry.packet.header.pid) (filter (λ entry. not entry.packet.header.error_indicator) entries)
+    pids entries = map (λ entry. entry.packet.header.pid) (filter (λ entry. not entry.packet.header.transport_error_indicator) entries)
 
     on : (packet : PacketView) (e : Bool) → map (λ x. x.0) (starts_of packets) ≡ pids rest →
-        map (λ x. x.0) (cond e [] ((packet.header.pid, packet.header.start_indicator) ∷ []) ++ starts_of packets)
-        ≡ map (λ entry. entry.packet.header.pid) (cond (not e) ((record { index = p.0; bytes = p.1; packet = packet }) ∷ filter (λ entry. not entry.packet.header.error_indicator) rest) (filter (λ entry. not entry.packet.header.error_indicator) rest))
+        map (λ x. x.0) (cond e [] ((packet.header.pid, packet.header.payload_unit_start_indicator) ∷ []) ++ starts_of packets)
+        ≡ map (λ entry. entry.packet.header.pid) (cond (not e) ((record { index = p.0; bytes = p.1; packet = packet }) ∷ filter (λ entry. not entry.packet.header.transport_error_indicator) rest) (filter (λ entry. not entry.packet.header.transport_error_indicator) rest))
     on packet true h = h
     on packet false h = ap (λ (xs : List ℕ). packet.header.pid ∷ xs) h
 
     by : (r : Result PacketView PacketError) → map (λ x. x.0) (starts_of packets) ≡ pids rest → map (λ x. x.0) (start_of r ++ starts_of packets) ≡ pids (cons_option (entry_of p.0 p.1 r) rest)
     by (Err error) h = h
-    by (Ok packet) h = on packet packet.header.error_indicator h
+    by (Ok packet) h = on packet packet.header.transport_error_indicator h

@@ -5,11 +5,11 @@ use Rattle.ts_packet.specs.PcrBytes.{has_pcr}
 use Rattle.ts_packet.specs.PidList.{Entry, pid_list}
 use Rattle.demux.specs.declared.finding.Kind.{Kind}
 use Rattle.demux.specs.declared.finding.Kind.TheVariants.{Table, Pes}
-use Rattle.demux.specs.Views.{At}
+use Rattle.demux.specs.Views.{PidFinding}
 use Rattle.demux.specs.Findings.{findings_to_end}
 
 -- what is found of a PID in a stream, to its end; null packets have no findings
-abbrev pub found_on : ℕ → List ℕ → List At
+abbrev pub found_on : ℕ → List ℕ → List PidFinding
 found_on pid bytes = if pid == 8191 then [] else findings_to_end (length bytes / 188) (pid_list pid bytes)
 
 -- the packet at which a section of a table_id begins
@@ -25,10 +25,10 @@ pts_begin (Some (packet, Table table_id)) = None
 pts_begin (Some (packet, Pes true)) = Some packet
 pts_begin (Some (packet, Pes false)) = None
 
-abbrev pub table_begins : ℕ → List At → List ℕ
+abbrev pub table_begins : ℕ → List PidFinding → List ℕ
 table_begins table_id found = filter_map (λ at. table_begin table_id at.found.begun) found
 
-abbrev pub pts_begins : List At → List ℕ
+abbrev pub pts_begins : List PidFinding → List ℕ
 pts_begins found = filter_map (λ at. pts_begin at.found.begun) found
 
 -- the packets with a program_clock_reference

@@ -1,6 +1,6 @@
 -- Faults in order: by packet, then by the number of the rule, then by PID; each once.
 use Rattle.std.specs.Prelude.{ℕ, ◌==◌, nat_lt, Bool, true, false, if◌then◌else◌, List, [], ◌∷◌, Option, Some, None}
-use Rattle.monitor.specs.declared.fault.Fault.{Fault}
+use Rattle.monitor.specs.declared.fault.StreamFault.{StreamFault}
 use Rattle.monitor.specs.declared.fault.Rule.{Rule}
 use Rattle.monitor.specs.declared.fault.Rule.TheVariants as rules
 
@@ -22,24 +22,24 @@ rule_number rules.Pcr = 13
 rule_number rules.Pts = 14
 rule_number rules.Cut = 15
 
--- no PID stands before each PID
+-- a fault without a PID comes before each with one
 unfoldable pub pid_before : Option ℕ → Option ℕ → Bool
 pid_before None None = false
 pid_before None (Some q) = true
 pid_before (Some p) None = false
 pid_before (Some p) (Some q) = nat_lt p q
 
-unfoldable pub is_before : Fault → Fault → Bool
+unfoldable pub is_before : StreamFault → StreamFault → Bool
 is_before f g =
     if f.packet == g.packet
     then (if rule_number f.rule == rule_number g.rule then pid_before f.pid g.pid else nat_lt (rule_number f.rule) (rule_number g.rule))
     else nat_lt f.packet g.packet
 
 -- a fault in its place, unless it is there
-unfoldable pub placed : Fault → List Fault → List Fault
+unfoldable pub placed : StreamFault → List StreamFault → List StreamFault
 placed f [] = f ∷ []
 placed f (g ∷ faults) = if is_before f g then f ∷ g ∷ faults else (if is_before g f then g ∷ placed f faults else g ∷ faults)
 
-unfoldable pub in_order : List Fault → List Fault
+unfoldable pub in_order : List StreamFault → List StreamFault
 in_order [] = []
 in_order (f ∷ faults) = placed f (in_order faults)

@@ -1,10 +1,10 @@
 -- What the laws of this crate say.
 use Rattle.std.specs.Prelude.{◌≡◌, ℕ, ◌*◌, ◌/◌, ◌-◌, ◌^◌, ◌<◌, ◌==◌, List, [], ◌∷◌, ◌++◌, length, map, filter}
-use Rattle.monitor.specs.declared.recurrence.Late.{Late}
+use Rattle.monitor.specs.declared.recurrence.LatePacket.{LatePacket}
 use Rattle.monitor.specs.Gaps.{late}
 use Rattle.monitor.specs.Recurrences.{marked_all, no_marks}
 use Rattle.monitor.specs.Reports.{is_cut, report_of, watched}
-use Rattle.monitor.specs.Watching.{none_taken, packet_taken, packets_taken, stream_ended}
+use Rattle.monitor.specs.MonitorStates.{none_taken, packet_taken, packets_taken, stream_ended}
 use Rattle.ts_packet.specs.PidList.{cut_packets}
 use Rattle.monitor.specs.ReportOf.{stream_report}
 
@@ -12,7 +12,7 @@ use Rattle.monitor.specs.ReportOf.{stream_report}
 abbrev pub places_of : ℕ → List (ℕ × ℕ) → List ℕ
 places_of pid places = map (λ p. p.1) (filter (λ p. p.0 == pid) places)
 
-abbrev pub late_of : ℕ → List Late → List ℕ
+abbrev pub late_of : ℕ → List LatePacket → List ℕ
 late_of pid found = map (λ l. l.packet) (filter (λ l. l.pid == pid) found)
 
 -- the places of a PID that are found late one by one, with a state that keeps the last place of each PID, are those that a

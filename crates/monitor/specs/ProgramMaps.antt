@@ -7,8 +7,8 @@ use Rattle.psi_tables.specs.Reading.{section_at}
 use Rattle.psi_tables.specs.ProgramAssociation.{PatView, pat_at}
 use Rattle.psi_tables.specs.declared.error.SectionError.{SectionError}
 use Rattle.psi_tables.specs.declared.pat.programs.Program.{Program}
-use Rattle.monitor.specs.declared.recurrence.Late.{Late}
-use Rattle.monitor.specs.declared.program_maps.Named.{Named}
+use Rattle.monitor.specs.declared.recurrence.LatePacket.{LatePacket}
+use Rattle.monitor.specs.declared.program_maps.NamedMap.{NamedMap}
 use Rattle.monitor.specs.Gaps.{is_long}
 
 -- the entries of programs in a program association section that is in force now; entry 0 names the network PID
@@ -20,38 +20,38 @@ unfoldable pub programs_in_section : Result (SectionView × ℕ) SectionError �
 programs_in_section (Err error) = []
 programs_in_section (Ok section) = programs_by (pat_at section.0)
 
-pub record MapMarks : Type 0 where
-  pub most : ℕ
-  pub named : List (ℕ × Named)
-  pub late : List Late
+pub record ProgramMapState : Type 0 where
+  pub limit_times_rate : ℕ
+  pub named : List (ℕ × NamedMap)
+  pub late : List LatePacket
 
-abbrev pub no_maps : ℕ → MapMarks
-no_maps most = record { most = most; named = []; late = [] }
+abbrev pub no_maps : ℕ → ProgramMapState
+no_maps limit_times_rate = record { limit_times_rate = limit_times_rate; named = []; late = [] }
 
-unfoldable pub named_from : MapMarks → ℕ → ℕ → Option Named → MapMarks
-named_from s pid packet None = record { most = s.most; named = insert_entry nat_eq s.named pid (record { since = packet; last = packet }); late = s.late }
+unfoldable pub named_from : ProgramMapState → ℕ → ℕ → Option NamedMap → ProgramMapState
+named_from s pid packet None = record { limit_times_rate = s.limit_times_rate; named = insert_entry nat_eq s.named pid (record { since = packet; last = packet }); late = s.late }
 named_from s pid packet (Some n) = s
 
-abbrev pub named : MapMarks → ℕ → ℕ → MapMarks
+abbrev pub named : ProgramMapState → ℕ → ℕ → ProgramMapState
 named s pid packet = named_from s pid packet (lookup (nat_eq pid) s.named)
 
-unfoldable pub named_all : MapMarks → List Program → ℕ → MapMarks
+unfoldable pub named_all : ProgramMapState → List Program → ℕ → ProgramMapState
 named_all s [] packet = s
 named_all s (program ∷ programs) packet = named_all (if program.program_number == 0 then s else named s program.pid packet) programs packet
 
-unfoldable pub named_by : MapMarks → List ℕ → ℕ → MapMarks
+unfoldable pub named_by : ProgramMapState → List ℕ → ℕ → ProgramMapState
 named_by s section packet = named_all s (programs_in_section (section_at section)) packet
 
-unfoldable pub late_map : ℕ → ℕ → ℕ → ℕ → List Late
-late_map most pid last packet = if is_long most (packet - last) then record { pid = pid; packet = packet } ∷ [] else []
+unfoldable pub late_map : ℕ → ℕ → ℕ → ℕ → List LatePacket
+late_map limit_times_rate pid last packet = if is_long limit_times_rate (packet - last) then record { pid = pid; packet = packet } ∷ [] else []
 
-unfoldable pub map_begins_at : MapMarks → ℕ → ℕ → ℕ → Option Named → MapMarks
+unfoldable pub map_begins_at : ProgramMapState → ℕ → ℕ → ℕ → Option NamedMap → ProgramMapState
 map_begins_at s pid found packet None = s
 map_begins_at s pid found packet (Some n) = if nat_le found n.since || nat_le packet n.since then s else record {
-  most = s.most;
+  limit_times_rate = s.limit_times_rate;
   named = insert_entry nat_eq s.named pid (record { since = n.since; last = packet });
-  late = s.late ++ late_map s.most pid n.last packet;
+  late = s.late ++ late_map s.limit_times_rate pid n.last packet;
 }
 
-abbrev pub map_begins : MapMarks → ℕ → ℕ → ℕ → MapMarks
+abbrev pub map_begins : ProgramMapState → ℕ → ℕ → ℕ → ProgramMapState
 map_begins s pid found packet = map_begins_at s pid found packet (lookup (nat_eq pid) s.named)

@@ -1,7 +1,7 @@
 -- The lines of a report: words and decimal numbers with one space between, and LF.
 use Rattle.std.specs.Prelude.{ℕ, List, ◌++◌, length, Option, Some, None, codes, decimal}
 use Rattle.std.specs.List.{flat_map}
-use Rattle.monitor.specs.declared.fault.Fault.{Fault}
+use Rattle.monitor.specs.declared.fault.StreamFault.{StreamFault}
 use Rattle.monitor.specs.declared.fault.Rule.{Rule}
 use Rattle.monitor.specs.declared.fault.Rule.TheVariants as rules
 use Rattle.monitor.specs.declared.reports.PidCounts.{PidCounts}
@@ -34,19 +34,19 @@ abbrev pub number_text : List ℕ → ℕ → List ℕ
 number_text name number = name ++ decimal number
 
 -- `pid P packets N starts N`
-abbrev pub carried_text : PidCounts → List ℕ
-carried_text counts = number_text (codes "pid ") counts.pid ++ number_text (codes " packets ") counts.packets ++ number_text (codes " starts ") counts.starts
+abbrev pub packet_counts_text : PidCounts → List ℕ
+packet_counts_text counts = number_text (codes "pid ") counts.pid ++ number_text (codes " packets ") counts.packets ++ number_text (codes " starts ") counts.starts
 
 -- ` duplicates N scrambled N`
-abbrev pub noted_text : PidCounts → List ℕ
-noted_text counts = number_text (codes " duplicates ") counts.duplicates ++ number_text (codes " scrambled ") counts.scrambled
+abbrev pub finding_counts_text : PidCounts → List ℕ
+finding_counts_text counts = number_text (codes " duplicates ") counts.duplicates ++ number_text (codes " scrambled ") counts.scrambled
 
 -- both
 abbrev pub pid_line : PidCounts → List ℕ
-pid_line counts = carried_text counts ++ noted_text counts ++ codes "\n"
+pid_line counts = packet_counts_text counts ++ finding_counts_text counts ++ codes "\n"
 
 -- `fault I P RULE`
-abbrev pub fault_line : Fault → List ℕ
+abbrev pub fault_line : StreamFault → List ℕ
 fault_line fault = codes "fault " ++ decimal fault.packet ++ codes " " ++ pid_text fault.pid ++ codes " " ++ rule_name fault.rule ++ codes "\n"
 
 -- `NAME N`
@@ -56,7 +56,7 @@ total_line name number = name ++ codes " " ++ decimal number ++ codes "\n"
 abbrev pub pid_lines : List PidCounts → List ℕ
 pid_lines pids = flat_map pid_line pids
 
-abbrev pub fault_lines : List Fault → List ℕ
+abbrev pub fault_lines : List StreamFault → List ℕ
 fault_lines faults = flat_map fault_line faults
 
 -- the number of packets, a line for each PID, one for each fault, and the number of faults

@@ -2,7 +2,7 @@
 use Rattle.std.specs.Prelude.{ℕ, ◌/◌, List, length}
 use Rattle.monitor.specs.InOrder.{in_order}
 use Rattle.monitor.specs.Faults.{faults_of}
-use Rattle.monitor.specs.PidCounting.{counts_of_all}
+use Rattle.monitor.specs.CountsOfPids.{counts_of_all}
 use Rattle.monitor.specs.Reports.{ReportView}
 
 -- at a rate in bits a second, with a greatest gap of clock references in milliseconds

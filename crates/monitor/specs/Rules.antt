@@ -5,7 +5,7 @@ use Rattle.ts_packet.specs.declared.packet.PacketError.{PacketError}
 use Rattle.ts_packet.specs.declared.packet.PacketError.TheVariants as refusals
 use Rattle.ts_packet.specs.Views.{PacketView}
 use Rattle.demux.specs.Views.{WhatView, BreaksCounter, IsBadSection}
-use Rattle.monitor.specs.declared.fault.Fault.{Fault}
+use Rattle.monitor.specs.declared.fault.StreamFault.{StreamFault}
 use Rattle.monitor.specs.declared.fault.Rule.{Rule}
 use Rattle.monitor.specs.declared.fault.Rule.TheVariants as rules
 
@@ -13,7 +13,7 @@ use Rattle.monitor.specs.declared.fault.Rule.TheVariants as rules
 unfoldable pub packet_rule : Result PacketView PacketError → Option Rule
 packet_rule (Err refusals.Sync) = Some rules.Sync
 packet_rule (Err error) = Some rules.Packet
-packet_rule (Ok packet) = if packet.header.error_indicator then Some rules.Error else None
+packet_rule (Ok packet) = if packet.header.transport_error_indicator then Some rules.Error else None
 
 -- a continuity_counter that does not follow, a section that is refused
 unfoldable pub finding_rule : WhatView → Option Rule
@@ -22,10 +22,10 @@ finding_rule (IsBadSection section_errors.CheckWord) = Some rules.Crc
 finding_rule (IsBadSection error) = Some rules.Section
 finding_rule what = None
 
-abbrev pub fault : Rule → Option ℕ → ℕ → Fault
+abbrev pub fault : Rule → Option ℕ → ℕ → StreamFault
 fault rule pid packet = record { packet = packet; rule = rule; pid = pid }
 
 -- the fault of a rule, if there is one
-unfoldable pub failing : Option ℕ → ℕ → Option Rule → List Fault
+unfoldable pub failing : Option ℕ → ℕ → Option Rule → List StreamFault
 failing pid packet None = []
 failing pid packet (Some rule) = fault rule pid packet ∷ []

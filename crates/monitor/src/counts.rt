@@ -1,41 +1,51 @@
 //! What is counted for each PID.
 ghost use Rattle.std.specs.Prelude.{◌≡◌, OnOk};
-ghost use Rattle.monitor.specs.Counting.{noted_duplicate, noted_of, noted_scrambled, packet_counted};
+ghost use Rattle.monitor.specs.Counts.{duplicate_counted, finding_counts_of, scrambled_counted, packet_counted};
 
 use indexmap::IndexMap;
 use std::alloc::{AllocError, Allocator};
 use std::hash::{BuildHasherDefault, FoldHasher};
 
-/// The packets of a PID, and how many of them have payload_unit_start_indicator.
+/// The number of packets of a PID, and of those with payload_unit_start_indicator.
 #[derive(Clone, Copy)]
-pub(crate) struct Carried {
+pub(crate) struct PacketCounts {
     pub packets: u64,
     pub starts: u64,
 }
 
-/// The packets of a PID that were found to be duplicates, and those found scrambled.
+/// The number of packets of a PID that are duplicates, and of those that are scrambled.
 #[derive(Clone, Copy)]
-pub(crate) struct Noted {
+pub(crate) struct FindingCounts {
     pub duplicates: u64,
     pub scrambled: u64,
 }
 
-pub(crate) type CarriedByPid<A> = IndexMap<u16, Carried, BuildHasherDefault<FoldHasher>, A>;
+pub(crate) type PacketCountsByPid<A> = IndexMap<
+    u16,
+    PacketCounts,
+    BuildHasherDefault<FoldHasher>,
+    A,
+>;
 
-pub(crate) type NotedByPid<A> = IndexMap<u16, Noted, BuildHasherDefault<FoldHasher>, A>;
+pub(crate) type FindingCountsByPid<A> = IndexMap<
+    u16,
+    FindingCounts,
+    BuildHasherDefault<FoldHasher>,
+    A,
+>;
 
 /// Counts a packet of a PID. The counts stop at 2^64 - 1.
-#[tactic(auto, unfolding(crate::specs::Counting::carried_or, crate::specs::Counting::one_more, crate::specs::Counting::carried_more))]
+#[tactic(auto, unfolding(crate::specs::Counts::packet_counts_or_zero, crate::specs::Counts::one_more, crate::specs::Counts::one_more_packet))]
 pub(crate) fn count_packet<A: Allocator + Clone>(
-    carried: &mut CarriedByPid<A>,
+    packet_counts: &mut PacketCountsByPid<A>,
     pid: u16,
     start: bool,
 ) -> Result<(), AllocError>
-    ensures { OnOk result (carried.new.entries ≡ packet_counted carried.old.entries pid start) }
+    ensures { OnOk result (packet_counts.new.entries ≡ packet_counted packet_counts.old.entries pid start) }
 {
-    let so_far = match carried.get(&pid) {
+    let so_far = match packet_counts.get(&pid) {
         Some(counts) => *counts,
-        None => Carried {
+        None => PacketCounts {
             packets: 0,
             starts: 0,
         },
@@ -46,18 +56,21 @@ pub(crate) fn count_packet<A: Allocator + Clone>(
     } else {
         so_far.starts
     };
-    carried.insert(pid, Carried { packets, starts })?;
+    packet_counts.insert(pid, PacketCounts { packets, starts })?;
     Ok(())
 }
 
-// What is noted of a PID so far.
-#[tactic(auto, unfolding(crate::specs::Counting::noted_or))]
-pub(crate) fn noted_so_far<A: Allocator>(noted: &NotedByPid<A>, pid: u16) -> Noted
-    ensures { result ≡ noted_of pid noted.now.entries }
+// The counts of a PID so far.
+#[tactic(auto, unfolding(crate::specs::Counts::finding_counts_or_zero))]
+pub(crate) fn finding_counts_so_far<A: Allocator>(
+    finding_counts: &FindingCountsByPid<A>,
+    pid: u16,
+) -> FindingCounts
+    ensures { result ≡ finding_counts_of pid finding_counts.now.entries }
 {
-    match noted.get(&pid) {
+    match finding_counts.get(&pid) {
         Some(counts) => *counts,
-        None => Noted {
+        None => FindingCounts {
             duplicates: 0,
             scrambled: 0,
         },
@@ -65,18 +78,18 @@ pub(crate) fn noted_so_far<A: Allocator>(noted: &NotedByPid<A>, pid: u16) -> Not
 }
 
 /// Counts a duplicate.
-#[tactic(auto, unfolding(crate::specs::Counting::one_more))]
-pub(crate) fn note_duplicate<A: Allocator + Clone>(
-    noted: &mut NotedByPid<A>,
+#[tactic(auto, unfolding(crate::specs::Counts::one_more))]
+pub(crate) fn count_duplicate<A: Allocator + Clone>(
+    finding_counts: &mut FindingCountsByPid<A>,
     pid: u16,
 ) -> Result<(), AllocError>
-    ensures { OnOk result (noted.new.entries ≡ noted_duplicate pid noted.old.entries) }
+    ensures { OnOk result (finding_counts.new.entries ≡ duplicate_counted pid finding_counts.old.entries) }
 {
-    let before = noted_so_far(noted, pid);
+    let before = finding_counts_so_far(finding_counts, pid);
     let duplicates = before.duplicates.saturating_add(1);
-    noted.insert(
+    finding_counts.insert(
         pid,
-        Noted {
+        FindingCounts {
             duplicates,
             ..before
         },
@@ -85,18 +98,18 @@ pub(crate) fn note_duplicate<A: Allocator + Clone>(
 }
 
 /// Counts a scrambled packet.
-#[tactic(auto, unfolding(crate::specs::Counting::one_more))]
-pub(crate) fn note_scrambled<A: Allocator + Clone>(
-    noted: &mut NotedByPid<A>,
+#[tactic(auto, unfolding(crate::specs::Counts::one_more))]
+pub(crate) fn count_scrambled<A: Allocator + Clone>(
+    finding_counts: &mut FindingCountsByPid<A>,
     pid: u16,
 ) -> Result<(), AllocError>
-    ensures { OnOk result (noted.new.entries ≡ noted_scrambled pid noted.old.entries) }
+    ensures { OnOk result (finding_counts.new.entries ≡ scrambled_counted pid finding_counts.old.entries) }
 {
-    let before = noted_so_far(noted, pid);
+    let before = finding_counts_so_far(finding_counts, pid);
     let scrambled = before.scrambled.saturating_add(1);
-    noted.insert(
+    finding_counts.insert(
         pid,
-        Noted {
+        FindingCounts {
             scrambled,
             ..before
         },

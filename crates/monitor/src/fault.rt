@@ -1,7 +1,7 @@
 //! Faults of a stream: which rule fails, at which packet, and for which PID.
 
 /// The rules, in the order of their numbers (ETSI TR 101 290, 5.2).
-#[derive(Clone, Copy, Debug, PartialEq, Eq, PartialOrd, Ord)]
+#[derive(Clone, Copy, PartialEq, Eq, PartialOrd, Ord)]
 pub enum Rule {
     /// 1: a packet does not begin with 0x47
     Sync,
@@ -36,8 +36,8 @@ pub enum Rule {
 }
 
 /// A rule that fails at a packet. The order is by packet, then by rule, then by PID.
-#[derive(Clone, Copy, Debug, PartialEq, Eq, PartialOrd, Ord)]
-pub struct Fault {
+#[derive(Clone, Copy, PartialEq, Eq, PartialOrd, Ord)]
+pub struct StreamFault {
     /// the packet's index; the number of whole packets at the end of the stream
     pub packet: u64,
     pub rule: Rule,

@@ -1,14 +1,15 @@
 //! What is found in a stream's PIDs: counters, sections, and where tables and PES packets begin.
 ghost use Rattle.std.specs.Prelude.{◌≡◌, ◌≤◌, ◌++◌, ◌∷◌, [], IfOk, OnOk, Some, map};
 ghost use Rattle.demux.specs.Shown.{finding_view, what_view};
-ghost use Rattle.monitor.specs.Reports.{noted_faults};
-ghost use Rattle.monitor.specs.Watching.{pat_marked};
-ghost use Rattle.monitor.specs.Noting.{all_noted, begun_noted, finding_noted, none_noted, section_noted, what_noted};
+ghost use Rattle.monitor.specs.Reports.{found_faults};
+ghost use Rattle.monitor.specs.MonitorStates.{pat_marked};
+ghost use Rattle.monitor.specs.FindingStates.{all_noted, begun_noted, finding_noted, none_noted, section_noted};
+ghost use Rattle.monitor.specs.FindingStates.{what_noted};
 
-use crate::counts::{NotedByPid, note_duplicate, note_scrambled};
-use crate::fault::{Fault, Rule};
-use crate::program_maps::ProgramMaps;
-use crate::recurrence::Recurrence;
+use crate::counts::{FindingCountsByPid, count_duplicate, count_scrambled};
+use crate::fault::{Rule, StreamFault};
+use crate::program_maps::ProgramMapWatch;
+use crate::recurrence::RecurrenceWatch;
 use crate::reports::append_late;
 use crate::table_watch::TableWatch;
 use demux::{Finding, Kind, What};
@@ -17,30 +18,40 @@ use psi_tables::SectionError;
 use std::alloc::{AllocError, Allocator};
 use std::marker::Model;
 
-/// The faults of single findings, what is counted, and where what is to come again has begun.
+/// The faults of single findings, the counts, and where what has to recur has begun.
 #[derive(Drop)]
 pub(crate) struct FindingWatch<A: Allocator> {
-    pub faults: Vec<Fault, A>,
-    pub noted: NotedByPid<A>,
+    pub faults: Vec<StreamFault, A>,
+    pub finding_counts: FindingCountsByPid<A>,
     pub pat: TableWatch<A>,
-    pub pmt: ProgramMaps<A>,
+    pub pmt: ProgramMapWatch<A>,
     pub nit: TableWatch<A>,
     pub sdt: TableWatch<A>,
     pub eit: TableWatch<A>,
     pub tdt: TableWatch<A>,
-    pub pts: Recurrence<A>,
+    pub pts: RecurrenceWatch<A>,
 }
 
 impl<A: Allocator> Model for FindingWatch<A> {
-    ghost use Rattle.monitor.specs.Noting.{FindingMarks};
+    ghost use Rattle.monitor.specs.FindingStates.{FindingState};
 
-    ghost Value = { FindingMarks };
+    ghost Value = { FindingState };
 
-    ghost view = { λ w. record { faults = w.faults.items; noted = w.noted.entries; pat = w.pat; pmt = w.pmt; nit = w.nit; sdt = w.sdt; eit = w.eit; tdt = w.tdt; pts = w.pts } };
+    ghost view = { λ w. record {
+      faults = w.faults.items;
+      finding_counts = w.finding_counts.entries;
+      pat = w.pat;
+      pmt = w.pmt;
+      nit = w.nit;
+      sdt = w.sdt;
+      eit = w.eit;
+      tdt = w.tdt;
+      pts = w.pts;
+    } };
 }
 
 impl<A: Allocator + Copy> FindingWatch<A> {
-    /// Before the first packet, at a rate of so many bits a second.
+    /// Before the first packet, at a rate in bits a second.
     pub fn new(alloc: A, rate: u64) -> Result<FindingWatch<A>, AllocError>
         requires { rate ≤ 100000000 }
         ensures { IfOk result (λ watch. watch ≡ none_noted rate) }
@@ -49,14 +60,14 @@ impl<A: Allocator + Copy> FindingWatch<A> {
         pat.mark(0)?;
         Ok(FindingWatch {
             faults: Vec::new(alloc),
-            noted: IndexMap::new(alloc),
+            finding_counts: IndexMap::new(alloc),
             pat,
-            pmt: ProgramMaps::new(alloc, 500 * rate),
+            pmt: ProgramMapWatch::new(alloc, 500 * rate),
             nit: TableWatch::new(alloc, 0x10, 0x40, 10_000 * rate),
             sdt: TableWatch::new(alloc, 0x11, 0x42, 2_000 * rate),
             eit: TableWatch::new(alloc, 0x12, 0x4E, 2_000 * rate),
             tdt: TableWatch::new(alloc, 0x14, 0x70, 30_000 * rate),
-            pts: Recurrence::new(alloc, 700 * rate),
+            pts: RecurrenceWatch::new(alloc, 700 * rate),
         })
     }
 
@@ -82,7 +93,7 @@ impl<A: Allocator + Copy> FindingWatch<A> {
     }
 
     // A section or a PES packet that was found at a packet began on a PID.
-    #[tactic(auto, unfolding(crate::specs::Noting::begun_noted))]
+    #[tactic(auto, unfolding(crate::specs::FindingStates::begun_noted))]
     fn begin(&mut self, pid: u16, found: u64, packet: u64, kind: Kind) -> Result<(), AllocError>
         ensures { OnOk result (self.new ≡ begun_noted self.old pid found packet kind) }
     {
@@ -94,9 +105,12 @@ impl<A: Allocator + Copy> FindingWatch<A> {
     }
 
     fn fail(&mut self, packet: u64, rule: Rule, pid: u16) -> Result<(), AllocError>
-        ensures { OnOk result (self.new ≡ record self.old { faults = self.old.faults ++ (record { packet = packet; rule = rule; pid = Some pid }) ∷ [] }) }
+        ensures { OnOk result (self.new ≡ record self.old {
+          faults = self.old.faults ++
+              (record { packet = packet; rule = rule; pid = Some pid }) ∷ [];
+        }) }
     {
-        self.faults.push(Fault {
+        self.faults.push(StreamFault {
             packet,
             rule,
             pid: Some(pid),
@@ -105,14 +119,14 @@ impl<A: Allocator + Copy> FindingWatch<A> {
     }
 
     // What is found of a PID at a packet.
-    #[tactic(auto, unfolding(crate::specs::Noting::what_noted))]
+    #[tactic(auto, unfolding(crate::specs::FindingStates::what_noted))]
     fn note_what(&mut self, pid: u16, packet: u64, what: &What<'_, A>) -> Result<(), AllocError>
         ensures { OnOk result (self.new ≡ what_noted self.old pid packet (what_view what.now)) }
     {
         match what {
-            What::Duplicate => note_duplicate(&mut self.noted, pid),
+            What::Duplicate => count_duplicate(&mut self.finding_counts, pid),
             What::CounterBreak { .. } => self.fail(packet, Rule::Counter, pid),
-            What::Scrambled => note_scrambled(&mut self.noted, pid),
+            What::Scrambled => count_scrambled(&mut self.finding_counts, pid),
             What::Truncated(_) => Ok(()),
             What::Section(part) => {
                 if pid == 0 {
@@ -131,7 +145,7 @@ impl<A: Allocator + Copy> FindingWatch<A> {
     }
 
     // What is found.
-    #[tactic(auto, unfolding(crate::specs::Noting::noted_from, crate::specs::Noting::begun_by))]
+    #[tactic(auto, unfolding(crate::specs::FindingStates::noted_from, crate::specs::FindingStates::begun_by))]
     fn note(&mut self, finding: &Finding<'_, A>) -> Result<(), AllocError>
         ensures { OnOk result (self.new ≡ finding_noted self.old (finding_view finding.now)) }
     {
@@ -146,8 +160,8 @@ impl<A: Allocator + Copy> FindingWatch<A> {
         }
     }
 
-    #[tactic(auto, unfolding(crate::specs::Noting::all_noted))]
     /// What is found, one after another.
+    #[tactic(auto, unfolding(crate::specs::FindingStates::all_noted))]
     pub fn note_all(&mut self, found: &[Finding<'_, A>]) -> Result<(), AllocError>
         ensures { OnOk result (self.new ≡ all_noted self.old (map finding_view found.now)) }
     {
@@ -157,17 +171,21 @@ impl<A: Allocator + Copy> FindingWatch<A> {
         Ok(())
     }
 
-    /// The last gap of the program association table ends with a stream of so many packets.
-    #[tactic(auto, unfolding(crate::specs::Watching::pat_marked))]
+    /// The last gap of the program association table ends with the stream, which has `packets` packets.
+    #[tactic(auto, unfolding(crate::specs::MonitorStates::pat_marked))]
     pub fn end_pat(&mut self, packets: u64) -> Result<(), AllocError>
         ensures { OnOk result (self.new ≡ pat_marked self.old packets) }
     {
         self.pat.mark(packets)
     }
 
-    /// Appends the faults, at the end of a stream of so many packets.
-    pub fn append_faults(&self, packets: u64, faults: &mut Vec<Fault, A>) -> Result<(), AllocError>
-        ensures { OnOk result (faults.new.items ≡ faults.old.items ++ noted_faults packets self.now) }
+    /// Appends the faults, at the end of a stream of `packets` packets.
+    pub fn append_faults(
+        &self,
+        packets: u64,
+        faults: &mut Vec<StreamFault, A>,
+    ) -> Result<(), AllocError>
+        ensures { OnOk result (faults.new.items ≡ faults.old.items ++ found_faults packets self.now) }
     {
         faults.extend_from_slice(self.faults.as_slice())?;
         append_late(faults, Rule::Pat, self.pat.late())?;

@@ -1,7 +1,7 @@
 //! A monitor of transport streams: fifteen rules of the kind of ETSI TR 101 290 over any stream, packet by packet.
 //!
-//! `report` gives the counts of each PID and the faults of a whole stream; `Monitor` takes a stream as it comes and keeps
-//! a state for each PID, and no packet.
+//! `report` gives the counts of each PID and the faults of a whole stream; `Monitor` takes a stream as it comes and
+//! keeps a state for each PID, and no packet.
 #![tactic(auto)]
 
 // What is reported.
@@ -26,8 +26,8 @@ mod monitor;
 // How the definitions hang together.
 mod laws;
 
-pub use fault::{Fault, Rule};
+pub use fault::{Rule, StreamFault};
 pub use laws::{gaps_of_each_pid, packet_by_packet, report_without_state};
 pub use monitor::{Monitor, report};
-pub use report_output::WriteError;
+pub use report_output::ReportWriteError;
 pub use reports::{PidCounts, Report, ReportError};

@@ -1,14 +1,14 @@
 //! A stream packet by packet.
-ghost use Rattle.std.specs.Prelude.{◌≡◌, ◌∷◌, [], true, IfOk, OnOk, map};
+ghost use Rattle.std.specs.Prelude.{◌≡◌, ◌<◌, ◌^◌, ◌∷◌, [], true, IfOk, OnOk, length, map};
 ghost use Rattle.demux.specs.Stream.{is_aligned};
 ghost use Rattle.monitor.specs.Taken.{HasTaken, ReportsTaken, Takes};
-ghost use Rattle.monitor.specs.Watching.{demux_ended, found_to_end, packet_taken, packets_taken, stream_ended};
+ghost use Rattle.monitor.specs.MonitorStates.{demux_ended, found_to_end, packet_taken, stream_ended};
 ghost use Rattle.monitor.specs.InOrder.{in_order};
 ghost use Rattle.monitor.specs.ReportOf.{stream_report};
-ghost use Rattle.monitor.specs.Reports.{ended_after, grouped_faults, pid_counts, report_of, watched};
+ghost use Rattle.monitor.specs.Reports.{grouped_faults, pid_counts, report_of};
 
-use crate::counts::{CarriedByPid, NotedByPid, noted_so_far};
-use crate::fault::{Fault, Rule};
+use crate::counts::{FindingCountsByPid, PacketCountsByPid, finding_counts_so_far};
+use crate::fault::{Rule, StreamFault};
 use crate::finding_watch::FindingWatch;
 use crate::packet_watch::PacketWatch;
 use crate::reports::{PidCounts, Report, ReportError, append_late, in_order};
@@ -17,9 +17,9 @@ use demux::Demux;
 use std::alloc::{AllocError, Allocator, Global};
 use std::marker::Model;
 
-/// What is kept of a stream that is watched packet by packet: a state for each PID, and the faults so far. No packet is kept.
+/// A monitor that takes a stream packet by packet: a state for each PID, and the faults so far. No packet is kept.
 ///
-/// After an `AllocError` it stands for no stream any more, and is to be dropped.
+/// After an `AllocError` its state is that of no stream: drop it.
 #[derive(Drop)]
 pub struct Monitor<A: Allocator = Global> {
     alloc: A,
@@ -32,23 +32,23 @@ pub struct Monitor<A: Allocator = Global> {
 impl<A: Allocator> Model for Monitor<A> {
     ghost use Rattle.std.specs.Prelude.{◌≡◌, true};
     ghost use Rattle.demux.specs.Stream.{is_aligned};
-    ghost use Rattle.monitor.specs.Watching.{StreamMarks};
+    ghost use Rattle.monitor.specs.MonitorStates.{MonitorState};
 
-    ghost Value = { StreamMarks };
+    ghost Value = { MonitorState };
 
     ghost view = { λ w. record { demux = w.demux; packets = w.packets; seen = w.seen; found = w.found } };
 
     ghost invariant = { λ w. is_aligned w.demux ≡ true };
 }
 
-#[tactic(auto, unfolding(crate::specs::Reports::grouped_faults))]
 // All faults, in the order of the rules' groups.
+#[tactic(auto, unfolding(crate::specs::Reports::grouped_faults))]
 fn faults_of<A: Allocator + Copy>(
     alloc: A,
     packets: u64,
     seen: &PacketWatch<A>,
     found: &FindingWatch<A>,
-) -> Result<Vec<Fault, A>, AllocError>
+) -> Result<Vec<StreamFault, A>, AllocError>
     ensures { IfOk result (λ faults. faults.items ≡ grouped_faults packets seen.now found.now) }
 {
     let mut faults = Vec::new(alloc);
@@ -64,7 +64,7 @@ fn ordered_faults<A: Allocator + Copy>(
     packets: u64,
     seen: &PacketWatch<A>,
     found: &FindingWatch<A>,
-) -> Result<Vec<Fault, A>, AllocError>
+) -> Result<Vec<StreamFault, A>, AllocError>
     ensures { IfOk result (λ faults. faults.items ≡ in_order (grouped_faults packets seen.now found.now)) }
 {
     let faults = faults_of(alloc, packets, seen, found)?;
@@ -72,7 +72,7 @@ fn ordered_faults<A: Allocator + Copy>(
 }
 
 // The stream ends for its demultiplexer.
-#[tactic(auto, unfolding(crate::specs::Watching::demux_ended))]
+#[tactic(auto, unfolding(crate::specs::MonitorStates::demux_ended))]
 fn end_demux<A: Allocator + Copy>(demux: &mut Demux<A>) -> Result<(), AllocError>
     requires { is_aligned demux.old ≡ true }
     ensures ended { OnOk result (demux.new ≡ demux_ended demux.old) }
@@ -87,28 +87,30 @@ fn end_demux<A: Allocator + Copy>(demux: &mut Demux<A>) -> Result<(), AllocError
 // The counts of the PIDs.
 fn counts_of<A: Allocator + Copy>(
     alloc: A,
-    carried: &CarriedByPid<A>,
-    noted: &NotedByPid<A>,
+    packet_counts: &PacketCountsByPid<A>,
+    finding_counts: &FindingCountsByPid<A>,
 ) -> Result<Vec<PidCounts, A>, AllocError>
-    ensures { IfOk result (λ counts. counts.items ≡ map (pid_counts noted.now.entries) carried.now.entries) }
+    ensures { IfOk result
+        (λ counts. counts.items ≡ map (pid_counts finding_counts.now.entries) packet_counts.now.entries) }
 {
     let mut counts = Vec::new(alloc);
-    for (pid, carried) in carried {
-        let noted = noted_so_far(noted, *pid);
+    for (pid, of_packets) in packet_counts {
+        let of_findings = finding_counts_so_far(finding_counts, *pid);
         counts.push(PidCounts {
             pid: *pid,
-            packets: carried.packets,
-            starts: carried.starts,
-            duplicates: noted.duplicates,
-            scrambled: noted.scrambled,
+            packets: of_packets.packets,
+            starts: of_packets.starts,
+            duplicates: of_findings.duplicates,
+            scrambled: of_findings.scrambled,
         })?;
     }
     Ok(counts)
 }
 
 impl<A: Allocator + Copy> Monitor<A> {
-    /// Before the first packet, at a rate in bits a second. The greatest gap of program clock references is in milliseconds.
-    #[tactic(auto, unfolding(crate::specs::Watching::packets_taken))]
+    /// Before the first packet, at a rate in bits a second. The greatest gap of program clock references is in
+    /// milliseconds.
+    #[tactic(auto, unfolding(crate::specs::MonitorStates::packets_taken))]
     pub fn new(alloc: A, rate: Rate, pcr_limit: u32) -> Result<Monitor<A>, AllocError>
         ensures { IfOk result (λ monitor. HasTaken rate pcr_limit [] monitor) }
     {
@@ -137,17 +139,6 @@ impl<A: Allocator + Copy> Monitor<A> {
         Ok(())
     }
 
-    // The next packets.
-    #[tactic(auto, unfolding(crate::specs::Watching::packets_taken))]
-    fn take_each(&mut self, packets: &[[u8; 188]]) -> Result<(), AllocError>
-        ensures { OnOk result (self.new ≡ packets_taken self.old packets.now) }
-    {
-        for packet in packets {
-            self.take_next(packet)?;
-        }
-        Ok(())
-    }
-
     /// The next packet.
     pub fn take(&mut self, bytes: &[u8; 188]) -> Result<(), AllocError>
         ensures { OnOk result (Takes (bytes.now ∷ []) self.old self.new) }
@@ -156,60 +147,53 @@ impl<A: Allocator + Copy> Monitor<A> {
     }
 
     /// The next packets.
+    #[tactic(auto, unfolding(crate::specs::MonitorStates::packets_taken))]
     pub fn take_all(&mut self, packets: &[[u8; 188]]) -> Result<(), AllocError>
         ensures { OnOk result (Takes packets.now self.old self.new) }
     {
-        self.take_each(packets)
+        for packet in packets {
+            self.take_next(packet)?;
+        }
+        Ok(())
     }
 
     // What the end of the stream decides, and the last gap of the program association table.
-    #[tactic(auto, unfolding(crate::specs::Watching::found_to_end))]
+    #[tactic(auto, unfolding(crate::specs::MonitorStates::found_to_end))]
     fn end_findings(&mut self) -> Result<(), AllocError>
-        ensures { OnOk result (self.new ≡ record self.old { demux = demux_ended self.old.demux; found = found_to_end self.old.found self.old.packets self.old.demux }) }
+        ensures { OnOk result (self.new ≡ record self.old {
+          demux = demux_ended self.old.demux;
+          found = found_to_end self.old.found self.old.packets self.old.demux;
+        }) }
     {
         end_demux(&mut self.demux)?;
         self.found.note_all(self.demux.findings())?;
         self.found.end_pat(self.packets)
     }
 
-    // The stream ends after a whole packet, or within one (`cut`).
-    #[tactic(auto, unfolding(crate::specs::Watching::stream_ended, crate::specs::Watching::seen_to_end))]
-    fn end(&mut self, cut: bool) -> Result<(), AllocError>
-        ensures { OnOk result (self.new ≡ stream_ended self.old cut) }
+    // The report of the stream so far.
+    #[tactic(auto, unfolding(crate::specs::Reports::report_of, crate::specs::Reports::all_counts, crate::specs::Reports::all_faults))]
+    fn report(&self) -> Result<Report<A>, AllocError>
+        ensures { IfOk result (λ report. report ≡ report_of self.now) }
+    {
+        let pids = counts_of(
+            self.alloc,
+            &self.seen.packet_counts,
+            &self.found.finding_counts,
+        )?;
+        let faults = ordered_faults(self.alloc, self.packets, &self.seen, &self.found)?;
+        Ok(Report::new(self.packets, pids, faults))
+    }
+
+    // The report of the stream, which ends here: after a whole packet, or within one (`cut`).
+    #[tactic(auto, unfolding(crate::specs::MonitorStates::stream_ended, crate::specs::MonitorStates::seen_to_end))]
+    fn end_report(&mut self, cut: bool) -> Result<Report<A>, AllocError>
+        ensures { IfOk result (λ report. report ≡ report_of (stream_ended self.old cut)) }
     {
         self.end_findings()?;
         if cut {
             self.seen.fail(self.packets, Rule::Cut)?;
         }
-        Ok(())
-    }
-
-    // What there is to say of the stream so far.
-    #[tactic(auto, unfolding(crate::specs::Reports::report_of, crate::specs::Reports::all_counts, crate::specs::Reports::all_faults))]
-    fn report(&self) -> Result<Report<A>, AllocError>
-        ensures { IfOk result (λ report. report ≡ report_of self.now) }
-    {
-        let pids = counts_of(self.alloc, &self.seen.carried, &self.found.noted)?;
-        let faults = ordered_faults(self.alloc, self.packets, &self.seen, &self.found)?;
-        Ok(Report::new(self.packets, pids, faults))
-    }
-
-    // The report of the stream, which ends here.
-    fn end_report(&mut self, cut: bool) -> Result<Report<A>, AllocError>
-        ensures { IfOk result (λ report. report ≡ report_of (stream_ended self.old cut)) }
-    {
-        self.end(cut)?;
         self.report()
-    }
-
-    // The report of the stream, which ends after these bytes.
-    #[tactic(auto, unfolding(crate::specs::Reports::ended_after))]
-    fn report_rest(&mut self, bytes: &[u8]) -> Result<Report<A>, AllocError>
-        ensures { IfOk result (λ report. report ≡ report_of (ended_after self.old bytes.now)) }
-    {
-        let (whole, _) = bytes.as_chunks::<188>();
-        self.take_each(whole)?;
-        self.end_report(bytes.len() % 188 != 0)
     }
 
     /// The report of the stream that was taken, which ends here: after a whole packet, or within one (`cut`).
@@ -230,19 +214,24 @@ fn watch<A: Allocator + Copy>(
     pcr_limit: u32,
     bytes: &[u8],
 ) -> Result<Report<A>, AllocError>
-    ensures { IfOk result (λ report. report ≡ report_of (watched rate pcr_limit bytes.now)) }
+    ensures { IfOk result (λ report. length bytes.now < 2 ^ 64 → report ≡ stream_report rate pcr_limit bytes.now) }
 {
     let mut monitor = Monitor::new(alloc, rate, pcr_limit)?;
-    let report = monitor.report_rest(bytes);
-    // By a call: at the end of a function the drop of each part would be a step of its proof.
-    drop(monitor);
-    report
+    let (packets, _) = bytes.as_chunks::<188>();
+    match monitor.take_all(packets) {
+        Ok(()) => monitor.finish(bytes.len() % 188 != 0),
+        Err(error) => {
+            // By a call: at the end of a function the drop of each part would be a step of its proof.
+            drop(monitor);
+            Err(error)
+        }
+    }
 }
 
 /// The report of a whole stream, which is cut by 188 from its first byte.
 ///
 /// `rate` is in bits a second; `pcr_limit`, the greatest gap between program clock references, in milliseconds.
-#[tactic(auto, using(crate::proofs::Reporting::as_stream_report))]
+#[tactic(auto, using(crate::proofs::TakenPackets::with_room))]
 pub fn report<A: Allocator + Copy>(
     alloc: A,
     rate: Rate,

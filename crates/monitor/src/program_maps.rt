@@ -1,13 +1,14 @@
-//! The PIDs on which program map sections are to come: those that a program association section names.
+//! The PIDs on which program map sections have to recur: those that a program association section names.
 ghost use Rattle.std.specs.Prelude.{◌≡◌, ◌++◌, [], OnOk, flat_map};
 ghost use Rattle.monitor.specs.Reports.{ended_map};
 ghost use Rattle.psi_tables.specs.ProgramAssociation.{pat_at, programs_of};
 ghost use Rattle.psi_tables.specs.Reading.{section_at};
 ghost use Rattle.psi_tables.specs.Views.{section_view};
-ghost use Rattle.monitor.specs.ProgramMaps.{named, named_all, named_by, map_begins, no_maps, programs_by, programs_in_section};
+ghost use Rattle.monitor.specs.ProgramMaps.{named, named_all, named_by, map_begins, no_maps, programs_by};
+ghost use Rattle.monitor.specs.ProgramMaps.{programs_in_section};
 
-use crate::fault::{Fault, Rule};
-use crate::recurrence::{Late, is_long};
+use crate::fault::{Rule, StreamFault};
+use crate::recurrence::{LatePacket, is_long};
 use indexmap::IndexMap;
 use psi_tables::{Pat, Programs, Section};
 use std::alloc::{AllocError, Allocator};
@@ -16,25 +17,29 @@ use std::marker::Model;
 
 /// A PID that was named: the packet at which it first was, and the last packet in which a section began.
 #[derive(Clone, Copy)]
-pub(crate) struct Named {
+pub(crate) struct NamedMap {
     pub since: u64,
     pub last: u64,
 }
 
 /// The PIDs that were named, and the packets at which a section came too late.
 #[derive(Drop)]
-pub(crate) struct ProgramMaps<A: Allocator> {
-    most: u64,
-    named: IndexMap<u16, Named, BuildHasherDefault<FoldHasher>, A>,
-    late: Vec<Late, A>,
+pub(crate) struct ProgramMapWatch<A: Allocator> {
+    limit_times_rate: u64,
+    named: IndexMap<u16, NamedMap, BuildHasherDefault<FoldHasher>, A>,
+    late: Vec<LatePacket, A>,
 }
 
-impl<A: Allocator> Model for ProgramMaps<A> {
-    ghost use Rattle.monitor.specs.ProgramMaps.{MapMarks};
+impl<A: Allocator> Model for ProgramMapWatch<A> {
+    ghost use Rattle.monitor.specs.ProgramMaps.{ProgramMapState};
 
-    ghost Value = { MapMarks };
+    ghost Value = { ProgramMapState };
 
-    ghost view = { λ m. record { most = m.most; named = m.named.entries; late = m.late.items } };
+    ghost view = { λ m. record {
+      limit_times_rate = m.limit_times_rate;
+      named = m.named.entries;
+      late = m.late.items;
+    } };
 }
 
 #[tactic(auto, unfolding(psi_tables::specs::ProgramAssociation::programs_in))]
@@ -71,13 +76,13 @@ fn programs_in_section<'a>(section: &'a [u8]) -> Programs<'a>
     }
 }
 
-impl<A: Allocator + Copy> ProgramMaps<A> {
+impl<A: Allocator + Copy> ProgramMapWatch<A> {
     /// No PID is named yet.
-    pub fn new(alloc: A, most: u64) -> ProgramMaps<A>
-        ensures { result ≡ no_maps most }
+    pub fn new(alloc: A, limit_times_rate: u64) -> ProgramMapWatch<A>
+        ensures { result ≡ no_maps limit_times_rate }
     {
-        ProgramMaps {
-            most,
+        ProgramMapWatch {
+            limit_times_rate,
             named: IndexMap::new(alloc),
             late: Vec::new(alloc),
         }
@@ -91,7 +96,7 @@ impl<A: Allocator + Copy> ProgramMaps<A> {
         if self.named.get(&pid).is_none() {
             self.named.insert(
                 pid,
-                Named {
+                NamedMap {
                     since: packet,
                     last: packet,
                 },
@@ -100,8 +105,8 @@ impl<A: Allocator + Copy> ProgramMaps<A> {
         Ok(())
     }
 
-    #[tactic(auto, unfolding(crate::specs::ProgramMaps::named_all))]
     /// The entries of a section are named at a packet, but those of program 0, which name the network PID.
+    #[tactic(auto, unfolding(crate::specs::ProgramMaps::named_all))]
     fn name_programs(&mut self, programs: Programs<'_>, packet: u64) -> Result<(), AllocError>
         ensures { OnOk result (self.new ≡ named_all self.old (programs_of programs.entry) packet) }
     {
@@ -132,13 +137,13 @@ impl<A: Allocator + Copy> ProgramMaps<A> {
         if found <= named.since || packet <= named.since {
             return Ok(());
         }
-        if is_long(self.most, packet.saturating_sub(named.last)) {
-            self.late.push(Late { pid, packet })?;
+        if is_long(self.limit_times_rate, packet.saturating_sub(named.last)) {
+            self.late.push(LatePacket { pid, packet })?;
         }
         let since = named.since;
         self.named.insert(
             pid,
-            Named {
+            NamedMap {
                 since,
                 last: packet,
             },
@@ -147,20 +152,25 @@ impl<A: Allocator + Copy> ProgramMaps<A> {
     }
 
     /// The packets at which a section began too late.
-    pub fn late(&self) -> &[Late]
+    pub fn late(&self) -> &[LatePacket]
         ensures { result.now ≡ self.now.late }
     {
         self.late.as_slice()
     }
 
-    /// Appends the faults of the PIDs on which none began for too long before the end of a stream of so many packets.
+    /// Appends the faults of the PIDs on which none began for too long before the end of a stream of `packets` packets.
     #[tactic(auto, unfolding(crate::specs::Reports::ended_map))]
-    pub fn append_ended(&self, packets: u64, faults: &mut Vec<Fault, A>) -> Result<(), AllocError>
-        ensures { OnOk result (faults.new.items ≡ faults.old.items ++ flat_map (ended_map self.now.most packets) self.now.named) }
+    pub fn append_ended(
+        &self,
+        packets: u64,
+        faults: &mut Vec<StreamFault, A>,
+    ) -> Result<(), AllocError>
+        ensures { OnOk result (faults.new.items ≡ faults.old.items ++ flat_map
+            (ended_map self.now.limit_times_rate packets) self.now.named) }
     {
         for (pid, named) in &self.named {
-            if is_long(self.most, packets.saturating_sub(named.last)) {
-                faults.push(Fault {
+            if is_long(self.limit_times_rate, packets.saturating_sub(named.last)) {
+                faults.push(StreamFault {
                     packet: packets,
                     rule: Rule::Pmt,
                     pid: Some(*pid),

@@ -1,8 +1,9 @@
-//! What is to come again within a time, for each PID.
-ghost use Rattle.std.specs.Prelude.{◌≡◌, ◌*◌, ◌-◌, OnOk, IfOk, nat_lt};
+//! What has to recur within a time, for each PID.
+ghost use Rattle.std.specs.Prelude.{◌≡◌, OnOk};
 ghost use Rattle.monitor.specs.Gaps.{is_long};
 ghost use Rattle.monitor.specs.Recurrences.{marked, no_marks};
 
+use clock27::SLOT_MS_AT_1BPS;
 use indexmap::IndexMap;
 use std::alloc::{AllocError, Allocator};
 use std::hash::{BuildHasherDefault, FoldHasher};
@@ -10,41 +11,41 @@ use std::marker::Model;
 
 /// A packet of a PID at which a gap ends that is too long.
 #[derive(Clone, Copy)]
-pub(crate) struct Late {
+pub(crate) struct LatePacket {
     pub pid: u16,
     pub packet: u64,
 }
 
 /// The last packet of each PID at which something came, and the packets at which it came too late.
 #[derive(Drop)]
-pub(crate) struct Recurrence<A: Allocator> {
-    most: u64,
+pub(crate) struct RecurrenceWatch<A: Allocator> {
+    limit_times_rate: u64,
     last: IndexMap<u16, u64, BuildHasherDefault<FoldHasher>, A>,
-    late: Vec<Late, A>,
+    late: Vec<LatePacket, A>,
 }
 
-impl<A: Allocator> Model for Recurrence<A> {
-    ghost use Rattle.monitor.specs.Recurrences.{Marks};
+impl<A: Allocator> Model for RecurrenceWatch<A> {
+    ghost use Rattle.monitor.specs.Recurrences.{RecurrenceState};
 
-    ghost Value = { Marks };
+    ghost Value = { RecurrenceState };
 
-    ghost view = { λ r. record { most = r.most; last = r.last.entries; late = r.late.items } };
+    ghost view = { λ r. record { limit_times_rate = r.limit_times_rate; last = r.last.entries; late = r.late.items } };
 }
 
-/// Whether a gap of so many packets lasts longer than a limit: the milliseconds multiplied by the bits a second.
-pub(crate) fn is_long(most: u64, gap: u64) -> bool
-    ensures { result ≡ is_long most gap }
+/// Whether a gap of `gap` packets lasts longer than a limit: its milliseconds multiplied by the rate in bits a second.
+pub(crate) fn is_long(limit_times_rate: u64, gap: u64) -> bool
+    ensures { result ≡ is_long limit_times_rate gap }
 {
-    gap as u128 * 1_504_000 > most as u128
+    gap as u128 * SLOT_MS_AT_1BPS > limit_times_rate as u128
 }
 
-impl<A: Allocator + Copy> Recurrence<A> {
+impl<A: Allocator + Copy> RecurrenceWatch<A> {
     /// Nothing has come yet.
-    pub fn new(alloc: A, most: u64) -> Recurrence<A>
-        ensures { result ≡ no_marks most }
+    pub fn new(alloc: A, limit_times_rate: u64) -> RecurrenceWatch<A>
+        ensures { result ≡ no_marks limit_times_rate }
     {
-        Recurrence {
-            most,
+        RecurrenceWatch {
+            limit_times_rate,
             last: IndexMap::new(alloc),
             late: Vec::new(alloc),
         }
@@ -58,8 +59,8 @@ impl<A: Allocator + Copy> Recurrence<A> {
         match self.last.insert(pid, packet)? {
             None => Ok(()),
             Some(before) => {
-                if is_long(self.most, packet.saturating_sub(before)) {
-                    self.late.push(Late { pid, packet })?;
+                if is_long(self.limit_times_rate, packet.saturating_sub(before)) {
+                    self.late.push(LatePacket { pid, packet })?;
                 }
                 Ok(())
             }
@@ -67,7 +68,7 @@ impl<A: Allocator + Copy> Recurrence<A> {
     }
 
     /// The packets at which it came too late.
-    pub fn late(&self) -> &[Late]
+    pub fn late(&self) -> &[LatePacket]
         ensures { result.now ≡ self.now.late }
     {
         self.late.as_slice()

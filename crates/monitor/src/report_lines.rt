@@ -1,8 +1,10 @@
 //! The lines of a report.
 ghost use Rattle.std.specs.Prelude.{◌≡◌, ◌++◌, IfOk, OnOk, string_bytes};
-ghost use Rattle.monitor.specs.ReportLines.{carried_text, fault_line, fault_lines, noted_text, number_text, pid_line, pid_lines, pid_text, report_text, rule_name, total_line};
+ghost use Rattle.monitor.specs.ReportLines.{packet_counts_text, fault_line, fault_lines, finding_counts_text};
+ghost use Rattle.monitor.specs.ReportLines.{number_text, pid_line, pid_lines, pid_text, report_text, rule_name};
+ghost use Rattle.monitor.specs.ReportLines.{total_line};
 
-use crate::fault::{Fault, Rule};
+use crate::fault::{Rule, StreamFault};
 use crate::reports::{PidCounts, Report};
 use std::alloc::{AllocError, Allocator};
 use std::fmt::Write;
@@ -53,16 +55,22 @@ fn write_number<B: Allocator>(
     write!(text, "{name}{number}")
 }
 
-fn write_carried<B: Allocator>(text: &mut String<B>, counts: &PidCounts) -> Result<(), AllocError>
-    ensures { OnOk result (string_bytes text.new ≡ string_bytes text.old ++ carried_text counts.now) }
+fn write_packet_counts<B: Allocator>(
+    text: &mut String<B>,
+    counts: &PidCounts,
+) -> Result<(), AllocError>
+    ensures { OnOk result (string_bytes text.new ≡ string_bytes text.old ++ packet_counts_text counts.now) }
 {
     write_number(text, "pid ", u64::from(counts.pid))?;
     write_number(text, " packets ", counts.packets)?;
     write_number(text, " starts ", counts.starts)
 }
 
-fn write_noted<B: Allocator>(text: &mut String<B>, counts: &PidCounts) -> Result<(), AllocError>
-    ensures { OnOk result (string_bytes text.new ≡ string_bytes text.old ++ noted_text counts.now) }
+fn write_finding_counts<B: Allocator>(
+    text: &mut String<B>,
+    counts: &PidCounts,
+) -> Result<(), AllocError>
+    ensures { OnOk result (string_bytes text.new ≡ string_bytes text.old ++ finding_counts_text counts.now) }
 {
     write_number(text, " duplicates ", counts.duplicates)?;
     write_number(text, " scrambled ", counts.scrambled)?;
@@ -72,8 +80,8 @@ fn write_noted<B: Allocator>(text: &mut String<B>, counts: &PidCounts) -> Result
 fn write_counts<B: Allocator>(text: &mut String<B>, counts: &PidCounts) -> Result<(), AllocError>
     ensures { OnOk result (string_bytes text.new ≡ string_bytes text.old ++ pid_line counts.now) }
 {
-    write_carried(text, counts)?;
-    write_noted(text, counts)?;
+    write_packet_counts(text, counts)?;
+    write_finding_counts(text, counts)?;
     text.push_str("\n")
 }
 
@@ -87,7 +95,7 @@ fn write_pid<B: Allocator>(text: &mut String<B>, pid: Option<u16>) -> Result<(),
     }
 }
 
-fn write_fault<B: Allocator>(text: &mut String<B>, fault: &Fault) -> Result<(), AllocError>
+fn write_fault<B: Allocator>(text: &mut String<B>, fault: &StreamFault) -> Result<(), AllocError>
     ensures { OnOk result (string_bytes text.new ≡ string_bytes text.old ++ fault_line fault.now) }
 {
     let packet = fault.packet;
@@ -109,7 +117,10 @@ fn write_all_counts<B: Allocator>(
     Ok(())
 }
 
-fn write_faults<B: Allocator>(text: &mut String<B>, faults: &[Fault]) -> Result<(), AllocError>
+fn write_faults<B: Allocator>(
+    text: &mut String<B>,
+    faults: &[StreamFault],
+) -> Result<(), AllocError>
     ensures { OnOk result (string_bytes text.new ≡ string_bytes text.old ++ fault_lines faults.now) }
 {
     for fault in faults {

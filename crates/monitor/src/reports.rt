@@ -1,13 +1,13 @@
-//! What a monitor has to say of a stream.
-ghost use Rattle.std.specs.Prelude.{◌≡◌, ◌++◌, ◌∷◌, [], OnOk, IfOk, Some, map};
+//! The report of a stream.
+ghost use Rattle.std.specs.Prelude.{◌≡◌, ◌++◌, OnOk, map};
 ghost use Rattle.std.specs.List.{Any, Contains};
 ghost use Rattle.std.specs.List.Sorted.{IsStrictlySortedBy};
 ghost use Rattle.std.specs.declared.cmp.Ordering.TheVariants.{Equal};
 ghost use Rattle.monitor.specs.InOrder.{in_order};
 ghost use Rattle.monitor.specs.Reports.{late_fault};
 
-use crate::fault::{Fault, Rule};
-use crate::recurrence::Late;
+use crate::fault::{Rule, StreamFault};
+use crate::recurrence::LatePacket;
 use std::alloc::{AllocError, Allocator, Global};
 use std::marker::Model;
 use thiserror::Error;
@@ -20,7 +20,7 @@ pub enum ReportError {
 }
 
 /// What is counted of a PID. Each count stops at 2^64 - 1.
-#[derive(Clone, Copy, Debug, PartialEq, Eq)]
+#[derive(Clone, Copy)]
 pub struct PidCounts {
     pub pid: u16,
     /// its packets, but those with transport_error_indicator
@@ -33,13 +33,13 @@ pub struct PidCounts {
     pub scrambled: u64,
 }
 
-/// What a monitor has to say of a stream: the number of its whole packets, the counts of each PID in the order in which
-/// these were first seen, and the faults.
+/// The report of a stream: the number of its whole packets, the counts of each PID in the order in which these were
+/// first seen, and the faults.
 #[derive(Drop)]
 pub struct Report<A: Allocator = Global> {
     packets: u64,
     pids: Vec<PidCounts, A>,
-    faults: Vec<Fault, A>,
+    faults: Vec<StreamFault, A>,
 }
 
 impl<A: Allocator> Model for Report<A> {
@@ -54,7 +54,11 @@ impl<A: Allocator> Model for Report<A> {
 
 impl<A: Allocator> Report<A> {
     /// A report of these.
-    pub(crate) fn new(packets: u64, pids: Vec<PidCounts, A>, faults: Vec<Fault, A>) -> Report<A>
+    pub(crate) fn new(
+        packets: u64,
+        pids: Vec<PidCounts, A>,
+        faults: Vec<StreamFault, A>,
+    ) -> Report<A>
         ensures { result ≡ record { packets = packets; pids = pids.items; faults = faults.items } }
     {
         Report {
@@ -79,7 +83,7 @@ impl<A: Allocator> Report<A> {
     }
 
     /// The faults.
-    pub fn faults(&self) -> &[Fault]
+    pub fn faults(&self) -> &[StreamFault]
         ensures { result.now ≡ self.now.faults }
     {
         self.faults.as_slice()
@@ -98,7 +102,7 @@ fn each_once<T: Ord + Drop, A: Allocator>(mut values: Vec<T, A>) -> Vec<T, A>
 }
 
 /// The faults by packet, then by the number of the rule, then by PID, each once.
-pub(crate) fn in_order<A: Allocator>(faults: Vec<Fault, A>) -> Vec<Fault, A>
+pub(crate) fn in_order<A: Allocator>(faults: Vec<StreamFault, A>) -> Vec<StreamFault, A>
     ensures { result.items ≡ in_order faults.items }
 {
     each_once(faults)
@@ -106,14 +110,14 @@ pub(crate) fn in_order<A: Allocator>(faults: Vec<Fault, A>) -> Vec<Fault, A>
 
 /// Appends the faults of packets at which something came too late.
 pub(crate) fn append_late<A: Allocator>(
-    faults: &mut Vec<Fault, A>,
+    faults: &mut Vec<StreamFault, A>,
     rule: Rule,
-    late: &[Late],
+    late: &[LatePacket],
 ) -> Result<(), AllocError>
     ensures { OnOk result (faults.new.items ≡ faults.old.items ++ map (late_fault rule) late.now) }
 {
     for one in late {
-        faults.push(Fault {
+        faults.push(StreamFault {
             packet: one.packet,
             rule,
             pid: Some(one.pid),

@@ -1,9 +1,8 @@
 //! The sections of one table_id on one PID.
 ghost use Rattle.std.specs.Prelude.{◌≡◌, OnOk};
-ghost use Rattle.monitor.specs.Tables.{new_watch, table_marked, watched};
-ghost use Rattle.monitor.specs.Recurrences.{marked};
+ghost use Rattle.monitor.specs.TableStates.{new_watch, table_marked, watched};
 
-use crate::recurrence::{Late, Recurrence};
+use crate::recurrence::{LatePacket, RecurrenceWatch};
 use std::alloc::{AllocError, Allocator};
 use std::marker::Model;
 
@@ -12,26 +11,26 @@ use std::marker::Model;
 pub(crate) struct TableWatch<A: Allocator> {
     pid: u16,
     table_id: u8,
-    marks: Recurrence<A>,
+    marks: RecurrenceWatch<A>,
 }
 
 impl<A: Allocator> Model for TableWatch<A> {
-    ghost use Rattle.monitor.specs.Tables.{TableMarks};
+    ghost use Rattle.monitor.specs.TableStates.{TableState};
 
-    ghost Value = { TableMarks };
+    ghost Value = { TableState };
 
     ghost view = { λ w. record { pid = w.pid; table_id = w.table_id; marks = w.marks } };
 }
 
 impl<A: Allocator + Copy> TableWatch<A> {
     /// Nothing has begun yet.
-    pub fn new(alloc: A, pid: u16, table_id: u8, most: u64) -> TableWatch<A>
-        ensures { result ≡ new_watch pid table_id most }
+    pub fn new(alloc: A, pid: u16, table_id: u8, limit_times_rate: u64) -> TableWatch<A>
+        ensures { result ≡ new_watch pid table_id limit_times_rate }
     {
         TableWatch {
             pid,
             table_id,
-            marks: Recurrence::new(alloc, most),
+            marks: RecurrenceWatch::new(alloc, limit_times_rate),
         }
     }
 
@@ -54,7 +53,7 @@ impl<A: Allocator + Copy> TableWatch<A> {
     }
 
     /// The packets at which one began too late.
-    pub fn late(&self) -> &[Late]
+    pub fn late(&self) -> &[LatePacket]
         ensures { result.now ≡ self.now.marks.late }
     {
         self.marks.late()

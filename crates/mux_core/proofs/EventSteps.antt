@@ -4,26 +4,26 @@ use Rattle.std.specs.Prelude.{slice_get, IfErr}
 use Rattle.std.proofs.Math.Path.{fun_ext}
 use Rattle.std.proofs.lemmas.Bool.{lt-ltb, le-ltb, cases_lt}
 use Rattle.pes_packet.specs.AccessUnits.{AccessUnit}
-use Rattle.ts_packet.specs.Contents.{packet_of, run_bytes}
+use Rattle.slot_contents.specs.Contents.{packet_of, run_bytes}
 use Rattle.description.specs.Ranges.{IsInRange}
 use Rattle.plan_timing.specs.Promised.{Promised}
 use Rattle.unit_queue.specs.Causes.{refusal}
 use Rattle.unit_queue.specs.declared.refusal.FeedError.{FeedError}
-use Rattle.mux_core.specs.PidPackets.{leaving}
+use Rattle.packet_output.specs.Formats.{formatted}
 use Rattle.mux_core.specs.Scheduled.{Scheduled}
-use Rattle.mux_core.specs.Histories.{History, content_at, bytes_of, empty_history, slot_more}
-use Rattle.mux_core.specs.Standing.{Mixer, Stands, Gives, Takes, feed_cause}
+use Rattle.mux_core.specs.Histories.{History, content_at, bytes_of, empty_history, next_slot}
+use Rattle.mux_core.specs.MuxStates.{MuxState, Stands, Gives, Takes, feed_cause}
 use Rattle.mux_core.specs.Headline.{Headline}
-use Rattle.mux_core.specs.Driving.{Step, FeedStep, SlotStep, fed_history, step_history, history_after, Adds, StandsOn, WrittenStays, OrderIsFree}
+use Rattle.mux_core.specs.Events.{Step, FeedStep, SlotStep, fed_history, step_history, history_after, Adds, StandsOn, WrittenStays, OrderIsFree}
 use Rattle.mux_core.specs.declared.done.Done.{Done}
-use Rattle.mux_core.proofs.Feeding.{bytes_kept}
-use Rattle.mux_core.proofs.Standing.{feed_laws}
+use Rattle.mux_core.proofs.FedUnits.{bytes_kept}
+use Rattle.mux_core.proofs.MuxStates.{feed_laws}
 use Rattle.mux_core.proofs.Accepted.{standing}
 use Rattle.mux_core.proofs.JobWriting.{output_bytes, output_more}
 
 -- the bytes of one slot more
-bytes_more : (d : Scheduled) (h : History) → bytes_of d (slot_more h) ≡ bytes_of d h ++ packet_of (content_at d h.units h.slots)
-unfolding leaving
+bytes_more : (d : Scheduled) (h : History) → bytes_of d (next_slot h) ≡ bytes_of d h ++ packet_of (content_at d h.units h.slots)
+unfolding formatted
 bytes_more d h =
     let next : suc h.slots ≡ h.slots + 1 = omega arith in
     ap (λ (n : ℕ). run_bytes (content_at d h.units) 0 n) next
@@ -42,44 +42,44 @@ adds_more d h g k old mid new a b = record {
 
 -- ---- one slot
 
-slot_there : (d : Scheduled) (capacity : ℕ) (h : History) → h.slots < 2 ^ 40 → step_history d capacity h SlotStep ≡ slot_more h
+slot_there : (d : Scheduled) (capacity : ℕ) (h : History) → h.slots < 2 ^ 40 → step_history d capacity h SlotStep ≡ next_slot h
 unfolding step_history
-slot_there d capacity h lt = ap (λ (b : Bool). cond b (slot_more h) h) (lt-ltb h.slots (2 ^ 40) lt)
+slot_there d capacity h lt = ap (λ (b : Bool). cond b (next_slot h) h) (lt-ltb h.slots (2 ^ 40) lt)
 
 slot_past : (d : Scheduled) (capacity : ℕ) (h : History) → 2 ^ 40 ≤ h.slots → step_history d capacity h SlotStep ≡ h
 unfolding step_history
-slot_past d capacity h le = ap (λ (b : Bool). cond b (slot_more h) h) (le-ltb h.slots (2 ^ 40) le)
+slot_past d capacity h le = ap (λ (b : Bool). cond b (next_slot h) h) (le-ltb h.slots (2 ^ 40) le)
 
-pub slot_given : (h : History) (old new : Mixer) (packet : List ℕ) → Gives h old (Ok packet) new → StandsOn (step_history old.line old.capacity h SlotStep) old new
+pub slot_given : (h : History) (old new : MuxState) (packet : List ℕ) → Gives h old (Ok packet) new → StandsOn (step_history old.schedule old.capacity h SlotStep) old new
 slot_given h old new packet g = record {
-  stands = subst (λ (x : History). Stands x new) (sym (slot_there old.line old.capacity h g.0)) g.3;
-  same_line = g.2;
+  stands = subst (λ (x : History). Stands x new) (sym (slot_there old.schedule old.capacity h g.0)) g.3;
+  same_schedule = g.2;
   same_capacity = g.4;
 }
 
-pub slot_added : (h : History) (old new : Mixer) (packet out : List ℕ) → Gives h old (Ok packet) new →
-    Adds old.line h (step_history old.line old.capacity h SlotStep) out (out ++ packet)
+pub slot_added : (h : History) (old new : MuxState) (packet out : List ℕ) → Gives h old (Ok packet) new →
+    Adds old.schedule h (step_history old.schedule old.capacity h SlotStep) out (out ++ packet)
 slot_added h old new packet out g =
-    subst (λ (x : History). Adds old.line h x out (out ++ packet)) (sym (slot_there old.line old.capacity h g.0))
-    (record { added = packet; bytes = bytes_more old.line h ∙ ap (λ (l : List ℕ). bytes_of old.line h ++ l) (sym g.1); output = refl })
+    subst (λ (x : History). Adds old.schedule h x out (out ++ packet)) (sym (slot_there old.schedule old.capacity h g.0))
+    (record { added = packet; bytes = bytes_more old.schedule h ∙ ap (λ (l : List ℕ). bytes_of old.schedule h ++ l) (sym g.1); output = refl })
 
-pub done_stands : (h : History) (old new : Mixer) (e : Done) → Stands h old → Gives h old (Err e) new → StandsOn (step_history old.line old.capacity h SlotStep) old new
-done_stands h old new e st g = subst (λ (x : History). StandsOn x old new) (sym (slot_past old.line old.capacity h g.0))
-    (record { stands = subst (λ (m : Mixer). Stands h m) (sym g.1) st; same_line = ap (λ (m : Mixer). m.line) g.1; same_capacity = ap (λ (m : Mixer). m.capacity) g.1 })
+pub done_stands : (h : History) (old new : MuxState) (e : Done) → Stands h old → Gives h old (Err e) new → StandsOn (step_history old.schedule old.capacity h SlotStep) old new
+done_stands h old new e st g = subst (λ (x : History). StandsOn x old new) (sym (slot_past old.schedule old.capacity h g.0))
+    (record { stands = subst (λ (m : MuxState). Stands h m) (sym g.1) st; same_schedule = ap (λ (m : MuxState). m.schedule) g.1; same_capacity = ap (λ (m : MuxState). m.capacity) g.1 })
 
-pub done_added : (h : History) (old new : Mixer) (e : Done) (out : List ℕ) → Gives h old (Err e) new →
-    Adds old.line h (step_history old.line old.capacity h SlotStep) out out
-done_added h old new e out g = subst (λ (x : History). Adds old.line h x out out) (sym (slot_past old.line old.capacity h g.0)) (adds_none old.line h out)
+pub done_added : (h : History) (old new : MuxState) (e : Done) (out : List ℕ) → Gives h old (Err e) new →
+    Adds old.schedule h (step_history old.schedule old.capacity h SlotStep) out out
+done_added h old new e out g = subst (λ (x : History). Adds old.schedule h x out out) (sym (slot_past old.schedule old.capacity h g.0)) (adds_none old.schedule h out)
 
 -- ---- one unit
 
-unit_stands : {V : Type 0} (h : History) (old new : Mixer) (k : ℕ) (u : AccessUnit) (result : Result V (FeedError × AccessUnit)) → Stands h old →
+unit_stands : {V : Type 0} (h : History) (old new : MuxState) (k : ℕ) (u : AccessUnit) (result : Result V (FeedError × AccessUnit)) → Stands h old →
     Takes h old k u (refusal result) new → IfErr result (λ e. (e.1 ≡ u) × (new ≡ old)) → StandsOn (fed_history h k u (refusal result)) old new
 unfolding fed_history
-unit_stands h old new k u (Ok x) st t same = record { stands = t.stands refl; same_line = t.same_line; same_capacity = t.same_capacity }
+unit_stands h old new k u (Ok x) st t same = record { stands = t.stands refl; same_schedule = t.same_schedule; same_capacity = t.same_capacity }
 unit_stands h old new k u (Err e) st t same = record {
-  stands = subst (λ (m : Mixer). Stands h m) (sym same.1) st;
-  same_line = t.same_line;
+  stands = subst (λ (m : MuxState). Stands h m) (sym same.1) st;
+  same_schedule = t.same_schedule;
   same_capacity = t.same_capacity;
 }
 
@@ -93,66 +93,66 @@ pub unit_kept : (d : Scheduled) (capacity : ℕ) (h : History) (k : ℕ) (u : Ac
 unfolding step_history
 unit_kept d capacity h k u = unit_kept_in d capacity h k u (feed_cause d capacity h k u (slice_get d.description.streams k)) refl
 
-pub unit_taken : {V : Type 0} (h : History) (old new : Mixer) (k : ℕ) (u : AccessUnit) (result : Result V (FeedError × AccessUnit)) → Stands h old →
-    Takes h old k u (refusal result) new → IfErr result (λ e. (e.1 ≡ u) × (new ≡ old)) → StandsOn (step_history old.line old.capacity h (FeedStep k u)) old new
+pub unit_taken : {V : Type 0} (h : History) (old new : MuxState) (k : ℕ) (u : AccessUnit) (result : Result V (FeedError × AccessUnit)) → Stands h old →
+    Takes h old k u (refusal result) new → IfErr result (λ e. (e.1 ≡ u) × (new ≡ old)) → StandsOn (step_history old.schedule old.capacity h (FeedStep k u)) old new
 unfolding step_history
 unit_taken h old new k u result st t same =
     subst (λ (x : Option FeedError). StandsOn (fed_history h k u x) old new) t.first (unit_stands h old new k u result st t same)
 
 -- ---- events in their order
 
-pub record Driven (h : History) (old new : Mixer) (steps left : List Step) (out now : List ℕ) : Type 0 where
+pub record Driven (h : History) (old new : MuxState) (steps left : List Step) (out now : List ℕ) : Type 0 where
   pub so_far : History
-  pub is : history_after old.line old.capacity h steps ≡ history_after old.line old.capacity so_far left
+  pub is : history_after old.schedule old.capacity h steps ≡ history_after old.schedule old.capacity so_far left
   pub stands : StandsOn so_far old new
-  pub adds : Adds old.line h so_far out now
+  pub adds : Adds old.schedule h so_far out now
 
-pub driven_none : (h : History) (m : Mixer) (steps : List Step) (out : List ℕ) → Stands h m → Driven h m m steps steps out out
-driven_none h m steps out st = record { so_far = h; is = refl; stands = record { stands = st; same_line = refl; same_capacity = refl }; adds = adds_none m.line h out }
+pub driven_none : (h : History) (m : MuxState) (steps : List Step) (out : List ℕ) → Stands h m → Driven h m m steps steps out out
+driven_none h m steps out st = record { so_far = h; is = refl; stands = record { stands = st; same_schedule = refl; same_capacity = refl }; adds = adds_none m.schedule h out }
 
-pub driven_more : (h : History) (old mid new : Mixer) (steps left : List Step) (step : Step) (out now later : List ℕ) (w : Driven h old mid steps (step ∷ left) out now) →
-    StandsOn (step_history mid.line mid.capacity w.so_far step) mid new →
-    Adds mid.line w.so_far (step_history mid.line mid.capacity w.so_far step) now later → Driven h old new steps left out later
+pub driven_more : (h : History) (old mid new : MuxState) (steps left : List Step) (step : Step) (out now later : List ℕ) (w : Driven h old mid steps (step ∷ left) out now) →
+    StandsOn (step_history mid.schedule mid.capacity w.so_far step) mid new →
+    Adds mid.schedule w.so_far (step_history mid.schedule mid.capacity w.so_far step) now later → Driven h old new steps left out later
 unfolding history_after
 driven_more h old mid new steps left step out now later w on adds =
-    let same : step_history mid.line mid.capacity w.so_far step ≡ step_history old.line old.capacity w.so_far step =
-    ap (λ (d : Scheduled). step_history d mid.capacity w.so_far step) w.stands.same_line ∙ ap (λ (n : ℕ). step_history old.line n w.so_far step) w.stands.same_capacity in
+    let same : step_history mid.schedule mid.capacity w.so_far step ≡ step_history old.schedule old.capacity w.so_far step =
+    ap (λ (d : Scheduled). step_history d mid.capacity w.so_far step) w.stands.same_schedule ∙ ap (λ (n : ℕ). step_history old.schedule n w.so_far step) w.stands.same_capacity in
     let there = subst (λ (x : History). StandsOn x mid new) same on in
     record {
-      so_far = step_history old.line old.capacity w.so_far step;
+      so_far = step_history old.schedule old.capacity w.so_far step;
       is = w.is;
-      stands = record { stands = there.stands; same_line = there.same_line ∙ w.stands.same_line; same_capacity = there.same_capacity ∙ w.stands.same_capacity };
-      adds = adds_more old.line h w.so_far (step_history old.line old.capacity w.so_far step) out now later w.adds
-          (subst (λ (x : History). Adds old.line w.so_far x now later) same
-          (subst (λ (d : Scheduled). Adds d w.so_far (step_history mid.line mid.capacity w.so_far step) now later) w.stands.same_line adds));
+      stands = record { stands = there.stands; same_schedule = there.same_schedule ∙ w.stands.same_schedule; same_capacity = there.same_capacity ∙ w.stands.same_capacity };
+      adds = adds_more old.schedule h w.so_far (step_history old.schedule old.capacity w.so_far step) out now later w.adds
+          (subst (λ (x : History). Adds old.schedule w.so_far x now later) same
+          (subst (λ (d : Scheduled). Adds d w.so_far (step_history mid.schedule mid.capacity w.so_far step) now later) w.stands.same_schedule adds));
     }
 
 pub driven_unit : (d : Scheduled) (h later : History) (out : List ℕ) → bytes_of d later ≡ bytes_of d h → Adds d h later out out
 driven_unit d h later out e = record { added = []; bytes = e ∙ sym (append-nil (bytes_of d h)); output = sym (append-nil out) }
 
 -- all are done
-driven_to : (h : History) (old new : Mixer) (steps left : List Step) (out now : List ℕ) (w : Driven h old new steps left out now) → left ≡ [] → w.so_far ≡ history_after old.line old.capacity h steps
+driven_to : (h : History) (old new : MuxState) (steps left : List Step) (out now : List ℕ) (w : Driven h old new steps left out now) → left ≡ [] → w.so_far ≡ history_after old.schedule old.capacity h steps
 unfolding history_after
-driven_to h old new steps left out now w none = sym (w.is ∙ ap (λ (l : List Step). history_after old.line old.capacity w.so_far l) none)
+driven_to h old new steps left out now w none = sym (w.is ∙ ap (λ (l : List Step). history_after old.schedule old.capacity w.so_far l) none)
 
-pub driven_stands : (h : History) (old new : Mixer) (steps left : List Step) (out now : List ℕ) → Driven h old new steps left out now → left ≡ [] →
-    StandsOn (history_after old.line old.capacity h steps) old new
+pub driven_stands : (h : History) (old new : MuxState) (steps left : List Step) (out now : List ℕ) → Driven h old new steps left out now → left ≡ [] →
+    StandsOn (history_after old.schedule old.capacity h steps) old new
 driven_stands h old new steps left out now w none = subst (λ (x : History). StandsOn x old new) (driven_to h old new steps left out now w none) w.stands
 
-pub driven_adds : (h : History) (old new : Mixer) (steps left : List Step) (out now : List ℕ) → Driven h old new steps left out now → left ≡ [] →
-    Adds old.line h (history_after old.line old.capacity h steps) out now
-driven_adds h old new steps left out now w none = subst (λ (x : History). Adds old.line h x out now) (driven_to h old new steps left out now w none) w.adds
+pub driven_adds : (h : History) (old new : MuxState) (steps left : List Step) (out now : List ℕ) → Driven h old new steps left out now → left ≡ [] →
+    Adds old.schedule h (history_after old.schedule old.capacity h steps) out now
+driven_adds h old new steps left out now w none = subst (λ (x : History). Adds old.schedule h x out now) (driven_to h old new steps left out now w none) w.adds
 
-pub driven_headline : (h : History) (old new : Mixer) (steps left : List Step) (out now : List ℕ) → IsInRange old.line.description →
-    Promised old.line.description old.line.schedule → Driven h old new steps left out now → left ≡ [] →
-    Headline old.line (history_after old.line old.capacity h steps).units (history_after old.line old.capacity h steps).slots
-    (bytes_of old.line (history_after old.line old.capacity h steps))
+pub driven_headline : (h : History) (old new : MuxState) (steps left : List Step) (out now : List ℕ) → IsInRange old.schedule.description →
+    Promised old.schedule.description old.schedule.schedule → Driven h old new steps left out now → left ≡ [] →
+    Headline old.schedule (history_after old.schedule old.capacity h steps).units (history_after old.schedule old.capacity h steps).slots
+    (bytes_of old.schedule (history_after old.schedule old.capacity h steps))
 driven_headline h old new steps left out now ranges promised w none =
     let on = driven_stands h old new steps left out now w none in
-    let after = history_after old.line old.capacity h steps in
-    subst (λ (d : Scheduled). Headline d after.units after.slots (run_bytes (content_at d after.units) 0 after.slots)) on.same_line
-    (standing after new after.slots (subst (λ (d : Scheduled). IsInRange d.description) (sym on.same_line) ranges)
-    (subst (λ (d : Scheduled). Promised d.description d.schedule) (sym on.same_line) promised) on.stands)
+    let after = history_after old.schedule old.capacity h steps in
+    subst (λ (d : Scheduled). Headline d after.units after.slots (run_bytes (content_at d after.units) 0 after.slots)) on.same_schedule
+    (standing after new after.slots (subst (λ (d : Scheduled). IsInRange d.description) (sym on.same_schedule) ranges)
+    (subst (λ (d : Scheduled). Promised d.description d.schedule) (sym on.same_schedule) promised) on.stands)
 
 -- ---- laws
 

@@ -9,19 +9,19 @@ use Rattle.hex.specs.Hex.{encode_lower, lower_digits}
 use Rattle.hex.proofs.HexLemmas.{length-encode_with}
 use Rattle.pes_packet.specs.AccessUnits.{AccessUnit}
 use Rattle.pes_packet.specs.Units.{units_of}
-use Rattle.ts_packet.specs.Contents.{Content, packet_of, run_bytes}
-use Rattle.ts_packet.specs.RunLaws.{Fits}
-use Rattle.ts_packet.proofs.Runs.{content_again}
+use Rattle.slot_contents.specs.Contents.{Content, packet_of, run_bytes}
+use Rattle.slot_contents.specs.RunLaws.{Fits}
+use Rattle.slot_contents.proofs.Runs.{content_again}
 use Rattle.description.specs.Ranges.{IsInRange}
 use Rattle.plan_timing.specs.Promised.{Promised}
 use Rattle.mux_core.specs.Scheduled.{Scheduled}
 use Rattle.mux_core.specs.Histories.{content_at, bytes_of}
-use Rattle.mux_core.specs.Standing.{Mixer}
+use Rattle.mux_core.specs.MuxStates.{MuxState}
 use Rattle.mux_core.specs.Headline.{Headline}
-use Rattle.mux_core.specs.PidPackets.{leaving}
-use Rattle.mux_core.specs.Collecting.{Collected, Holds}
-use Rattle.mux_core.specs.Making.{is_periods}
-use Rattle.mux_core.specs.Multiplexing.{job_history, capacity_for, or_cause, first_refused, job_cause, Refuses, run_output, output_of, slot_size, WritesAll, Writes, OnWriting, AllFed, slots_cause, periods_cause}
+use Rattle.packet_output.specs.Formats.{formatted}
+use Rattle.packet_output.specs.Buffer.{Buffered, IsOutput}
+use Rattle.mux_core.specs.NewMux.{is_periods}
+use Rattle.mux_core.specs.WholeJobs.{job_history, capacity_for, or_cause, first_refused, job_cause, Refuses, run_output, output_of, slot_size, WritesAll, Writes, OnWriting, AllFed, slots_cause, periods_cause}
 use Rattle.mux_core.specs.declared.multiplexing.MuxError.{MuxError}
 use Rattle.mux_core.specs.declared.multiplexing.MuxError.TheVariants.{TooManySlots, Periods, Feed, Device, Memory}
 use Rattle.mux_core.proofs.Whole.{contents_fit}
@@ -29,8 +29,8 @@ use Rattle.mux_core.proofs.Accepted.{units_kept, standing}
 
 -- ---- lengths
 
-leaving_size : (hex : Bool) (packet : List ℕ) → length packet ≡ 188 → length (leaving hex packet) ≡ slot_size hex
-unfolding leaving
+leaving_size : (hex : Bool) (packet : List ℕ) → length packet ≡ 188 → length (formatted hex packet) ≡ slot_size hex
+unfolding formatted
 leaving_size false packet e = e
 leaving_size true packet e = omega (arith, length-append (encode_lower packet) (10 ∷ []), length-encode_with lower_digits packet, e)
 
@@ -38,10 +38,10 @@ pub output_size : (hex : Bool) (content : ℕ → Content) (s n : ℕ) → Fits 
 unfolding run_output
 output_size hex content s zero fits = omega arith
 output_size hex content s (suc n) fits =
-    let one : length (leaving hex (packet_of (content s))) ≡ slot_size hex = leaving_size hex (packet_of (content s)) (content_again (content s) (fits s)).size in
+    let one : length (formatted hex (packet_of (content s))) ≡ slot_size hex = leaving_size hex (packet_of (content s)) (content_again (content s) (fits s)).size in
     let rest : length (run_output hex content (suc s) n) ≡ slot_size hex * n = output_size hex content (suc s) n fits in
     let step : slot_size hex * suc n ≡ slot_size hex + slot_size hex * n = omega arith in
-    length-append (leaving hex (packet_of (content s))) (run_output hex content (suc s) n)
+    length-append (formatted hex (packet_of (content s))) (run_output hex content (suc s) n)
     ∙ ap (λ (k : ℕ). k + length (run_output hex content (suc s) n)) one ∙ ap (λ (k : ℕ). slot_size hex + k) rest ∙ sym step
 
 pub output_short : (hex : Bool) (slots : ℕ) → slots ≤ 2 ^ 40 → slot_size hex * slots < 2 ^ 64
@@ -49,7 +49,7 @@ output_short false slots most = omega (arith, most)
 output_short true slots most = omega (arith, most)
 
 -- nothing is collected yet
-pub holds_empty : (packets : Collected) (start : Option (List ℕ)) → packets.waiting ≡ [] → packets.sent ≡ 0 → Holds start start packets []
+pub holds_empty : (packets : Buffered) (start : Option (List ℕ)) → packets.waiting ≡ [] → packets.sent ≡ 0 → IsOutput start start packets []
 holds_empty packets start none unsent = record { written = []; taken = Appends-nil start; is = sym none; sent = unsent }
 
 -- ---- what is answered
@@ -126,30 +126,30 @@ on_writing (Err Memory) p = tt
 -- ---- of units that are all fed
 
 -- the output has its length
-pub fed_size : (old new : Mixer) (units : List (ℕ × AccessUnit)) (hex : Bool) (slots : ℕ) → IsInRange old.line.description → AllFed old units new →
-    length (output_of hex old.line (job_history units slots)) ≡ slot_size hex * slots
+pub fed_size : (old new : MuxState) (units : List (ℕ × AccessUnit)) (hex : Bool) (slots : ℕ) → IsInRange old.schedule.description → AllFed old units new →
+    length (output_of hex old.schedule (job_history units slots)) ≡ slot_size hex * slots
 fed_size old new units hex slots ranges fed =
-    output_size hex (content_at old.line (λ k. units_of k units)) 0 slots
-    (subst (λ (d : Scheduled). Fits (content_at d (λ k. units_of k units))) fed.same_line
-    (contents_fit new.line (λ k. units_of k units) (subst (λ (d : Scheduled). IsInRange d.description) (sym fed.same_line) ranges)
-    (units_kept (job_history units 0) new (subst (λ (d : Scheduled). IsInRange d.description) (sym fed.same_line) ranges) fed.stands)))
+    output_size hex (content_at old.schedule (λ k. units_of k units)) 0 slots
+    (subst (λ (d : Scheduled). Fits (content_at d (λ k. units_of k units))) fed.same_schedule
+    (contents_fit new.schedule (λ k. units_of k units) (subst (λ (d : Scheduled). IsInRange d.description) (sym fed.same_schedule) ranges)
+    (units_kept (job_history units 0) new (subst (λ (d : Scheduled). IsInRange d.description) (sym fed.same_schedule) ranges) fed.stands)))
 
-pub fed_short : (old new : Mixer) (units : List (ℕ × AccessUnit)) (hex : Bool) (slots : ℕ) → IsInRange old.line.description → slots ≤ 2 ^ 40 → AllFed old units new →
-    length (output_of hex old.line (job_history units slots)) < 2 ^ 64
+pub fed_short : (old new : MuxState) (units : List (ℕ × AccessUnit)) (hex : Bool) (slots : ℕ) → IsInRange old.schedule.description → slots ≤ 2 ^ 40 → AllFed old units new →
+    length (output_of hex old.schedule (job_history units slots)) < 2 ^ 64
 fed_short old new units hex slots ranges most fed = subst (λ (n : ℕ). n < 2 ^ 64) (sym (fed_size old new units hex slots ranges fed)) (output_short hex slots most)
 
 -- and keeps every promise
-pub fed_headline : (old new : Mixer) (units : List (ℕ × AccessUnit)) (slots : ℕ) → IsInRange old.line.description → Promised old.line.description old.line.schedule →
-    AllFed old units new → Headline old.line (λ k. units_of k units) slots (bytes_of old.line (job_history units slots))
+pub fed_headline : (old new : MuxState) (units : List (ℕ × AccessUnit)) (slots : ℕ) → IsInRange old.schedule.description → Promised old.schedule.description old.schedule.schedule →
+    AllFed old units new → Headline old.schedule (λ k. units_of k units) slots (bytes_of old.schedule (job_history units slots))
 fed_headline old new units slots ranges promised fed =
-    subst (λ (d : Scheduled). Headline d (λ k. units_of k units) slots (run_bytes (content_at d (λ k. units_of k units)) 0 slots)) fed.same_line
-    (standing (job_history units 0) new slots (subst (λ (d : Scheduled). IsInRange d.description) (sym fed.same_line) ranges)
-    (subst (λ (d : Scheduled). Promised d.description d.schedule) (sym fed.same_line) promised) fed.stands)
+    subst (λ (d : Scheduled). Headline d (λ k. units_of k units) slots (run_bytes (content_at d (λ k. units_of k units)) 0 slots)) fed.same_schedule
+    (standing (job_history units 0) new slots (subst (λ (d : Scheduled). IsInRange d.description) (sym fed.same_schedule) ranges)
+    (subst (λ (d : Scheduled). Promised d.description d.schedule) (sym fed.same_schedule) promised) fed.stands)
 
 -- what was written of the multiplexer that was fed, as of the one before
-pub fed_writes : (old new : Mixer) (units : List (ℕ × AccessUnit)) (hex : Bool) (slots : ℕ) (before after : Option (List ℕ)) (result : Result ℕ MuxError) (kept : Bool) →
-    AllFed old units new → kept ≡ hex → WritesAll (run_output kept (content_at new.line (λ k. units_of k units)) 0 slots) before after result →
-    WritesAll (output_of hex old.line (job_history units slots)) before after result
+pub fed_writes : (old new : MuxState) (units : List (ℕ × AccessUnit)) (hex : Bool) (slots : ℕ) (before after : Option (List ℕ)) (result : Result ℕ MuxError) (kept : Bool) →
+    AllFed old units new → kept ≡ hex → WritesAll (run_output kept (content_at new.schedule (λ k. units_of k units)) 0 slots) before after result →
+    WritesAll (output_of hex old.schedule (job_history units slots)) before after result
 fed_writes old new units hex slots before after result kept fed same w =
-    subst (λ (b : Bool). WritesAll (run_output b (content_at old.line (λ k. units_of k units)) 0 slots) before after result) same
-    (subst (λ (d : Scheduled). WritesAll (run_output kept (content_at d (λ k. units_of k units)) 0 slots) before after result) fed.same_line w)
+    subst (λ (b : Bool). WritesAll (run_output b (content_at old.schedule (λ k. units_of k units)) 0 slots) before after result) same
+    (subst (λ (d : Scheduled). WritesAll (run_output kept (content_at d (λ k. units_of k units)) 0 slots) before after result) fed.same_schedule w)

@@ -1,18 +1,18 @@
 -- The slots of a job, written one by one.
 use Rattle.std.proofs.Common.{◌≡◌, ℕ, zero, suc, ◌+◌, ◌-◌, ◌<◌, ◌≤◌, ◌^◌, Bool, false, List, [], ◌++◌, Option, Ok, Err, refl, sym, ap, ◌∙◌, subst, arith, append_assoc, append-nil}
-use Rattle.ts_packet.specs.Contents.{Content, packet_of, run_bytes}
-use Rattle.mux_core.specs.Collecting.{Collected, Holds, Took}
-use Rattle.mux_core.specs.PidPackets.{leaving}
+use Rattle.slot_contents.specs.Contents.{Content, packet_of, run_bytes}
+use Rattle.packet_output.specs.Buffer.{Buffered, IsOutput, Took}
+use Rattle.packet_output.specs.Formats.{formatted}
 use Rattle.mux_core.specs.Scheduled.{Scheduled}
 use Rattle.mux_core.specs.Histories.{History, content_at}
-use Rattle.mux_core.specs.Standing.{Mixer, Stands, Gives}
-use Rattle.mux_core.specs.Multiplexing.{run_output}
+use Rattle.mux_core.specs.MuxStates.{MuxState, Stands, Gives}
+use Rattle.mux_core.specs.WholeJobs.{run_output}
 use Rattle.mux_core.specs.declared.done.Done.{Done}
-use Rattle.mux_core.proofs.Cutting.{took_longer}
+use Rattle.packet_output.proofs.Written.{took_longer}
 
 -- packets that leave as bytes are the bytes
 pub output_bytes : (content : ℕ → Content) (s n : ℕ) → run_output false content s n ≡ run_bytes content s n
-unfolding run_output run_bytes leaving
+unfolding run_output run_bytes formatted
 output_bytes content s zero = refl
 output_bytes content s (suc n) = ap (λ (l : List ℕ). packet_of (content s) ++ l) (output_bytes content (suc s) n)
 
@@ -24,71 +24,71 @@ output_parts hex content s zero m =
 output_parts hex content s (suc n) m =
     let e : suc n + m ≡ suc (n + m) = omega arith in
     let f : suc s + n ≡ s + suc n = omega arith in
-    rw (e, append_assoc (leaving hex (packet_of (content s))) (run_output hex content (suc s) n) (run_output hex content (s + suc n) m))
-    (ap (λ (l : List ℕ). leaving hex (packet_of (content s)) ++ l) (output_parts hex content (suc s) n m ∙ ap (λ (k : ℕ). run_output hex content (suc s) n ++ run_output hex content k m) f))
+    rw (e, append_assoc (formatted hex (packet_of (content s))) (run_output hex content (suc s) n) (run_output hex content (s + suc n) m))
+    (ap (λ (l : List ℕ). formatted hex (packet_of (content s)) ++ l) (output_parts hex content (suc s) n m ∙ ap (λ (k : ℕ). run_output hex content (suc s) n ++ run_output hex content k m) f))
 
-output_one : (hex : Bool) (content : ℕ → Content) (s : ℕ) → run_output hex content s 1 ≡ leaving hex (packet_of (content s))
+output_one : (hex : Bool) (content : ℕ → Content) (s : ℕ) → run_output hex content s 1 ≡ formatted hex (packet_of (content s))
 unfolding run_output
-output_one hex content s = append-nil (leaving hex (packet_of (content s)))
+output_one hex content s = append-nil (formatted hex (packet_of (content s)))
 
-pub output_more : (hex : Bool) (content : ℕ → Content) (n : ℕ) → run_output hex content 0 (n + 1) ≡ run_output hex content 0 n ++ leaving hex (packet_of (content n))
+pub output_more : (hex : Bool) (content : ℕ → Content) (n : ℕ) → run_output hex content 0 (n + 1) ≡ run_output hex content 0 n ++ formatted hex (packet_of (content n))
 output_more hex content n =
     let f : 0 + n ≡ n = omega arith in
     output_parts hex content 0 n 1 ∙ ap (λ (k : ℕ). run_output hex content 0 n ++ run_output hex content k 1) f
     ∙ ap (λ (l : List ℕ). run_output hex content 0 n ++ l) (output_one hex content n)
 
--- the history with so many slots
+-- the history with n slots
 abbrev pub at_slot : History → ℕ → History
 at_slot h n = record { units = h.units; slots = n }
 
--- so many slots are written
-pub record SlotsWritten (h : History) (old new : Mixer) (hex : Bool) (n : ℕ) (start now : Option (List ℕ)) (packets : Collected) : Type 0 where
+-- n slots are written
+pub record SlotsWritten (h : History) (old new : MuxState) (hex : Bool) (n : ℕ) (start now : Option (List ℕ)) (packets : Buffered) : Type 0 where
   pub stands : Stands (at_slot h n) new
-  pub same_line : new.line ≡ old.line
-  pub holds : Holds start now packets (run_output hex (content_at old.line h.units) 0 n)
+  pub same_schedule : new.schedule ≡ old.schedule
+  pub holds : IsOutput start now packets (run_output hex (content_at old.schedule h.units) 0 n)
 
-pub written_none : (h : History) (old : Mixer) (hex : Bool) (start now : Option (List ℕ)) (packets : Collected) → h.slots ≡ 0 →
-    Stands h old → Holds start now packets [] → SlotsWritten h old old hex 0 start now packets
+pub written_none : (h : History) (old : MuxState) (hex : Bool) (start now : Option (List ℕ)) (packets : Buffered) → h.slots ≡ 0 →
+    Stands h old → IsOutput start now packets [] → SlotsWritten h old old hex 0 start now packets
 unfolding run_output
 written_none h old hex start now packets none stands holds = record {
   stands = subst (λ (n : ℕ). Stands (record { units = h.units; slots = n }) old) none stands;
-  same_line = refl;
+  same_schedule = refl;
   holds = holds;
 }
 
 -- the output with one packet more
-next_output : (h : History) (old mid new : Mixer) (hex phex : Bool) (n : ℕ) (packet : List ℕ) → mid.line ≡ old.line → phex ≡ hex → Gives (at_slot h n) mid (Ok packet) new →
-    run_output hex (content_at old.line h.units) 0 n ++ leaving phex packet ≡ run_output hex (content_at old.line h.units) 0 (n + 1)
+next_output : (h : History) (old mid new : MuxState) (hex phex : Bool) (n : ℕ) (packet : List ℕ) → mid.schedule ≡ old.schedule → phex ≡ hex → Gives (at_slot h n) mid (Ok packet) new →
+    run_output hex (content_at old.schedule h.units) 0 n ++ formatted phex packet ≡ run_output hex (content_at old.schedule h.units) 0 (n + 1)
 next_output h old mid new hex phex n packet line same gives =
-    let content = content_at old.line h.units in
-    ap (λ (x : Bool). run_output hex content 0 n ++ leaving x packet) same
-    ∙ ap (λ (x : List ℕ). run_output hex content 0 n ++ leaving hex x) (gives.1 ∙ ap (λ (d : Scheduled). packet_of (content_at d h.units n)) line)
+    let content = content_at old.schedule h.units in
+    ap (λ (x : Bool). run_output hex content 0 n ++ formatted x packet) same
+    ∙ ap (λ (x : List ℕ). run_output hex content 0 n ++ formatted hex x) (gives.1 ∙ ap (λ (d : Scheduled). packet_of (content_at d h.units n)) line)
     ∙ sym (output_more hex content n)
 
-pub written_more : (h : History) (old mid new : Mixer) (hex phex : Bool) (n : ℕ) (start now later : Option (List ℕ)) (packets after : Collected) (packet : List ℕ) →
+pub written_more : (h : History) (old mid new : MuxState) (hex phex : Bool) (n : ℕ) (start now later : Option (List ℕ)) (packets after : Buffered) (packet : List ℕ) →
     SlotsWritten h old mid hex n start now packets → phex ≡ hex → Gives (at_slot h n) mid (Ok packet) new →
-    Holds start later after (run_output hex (content_at old.line h.units) 0 n ++ leaving phex packet) → SlotsWritten h old new hex (n + 1) start later after
+    IsOutput start later after (run_output hex (content_at old.schedule h.units) 0 n ++ formatted phex packet) → SlotsWritten h old new hex (n + 1) start later after
 written_more h old mid new hex phex n start now later packets after packet w same gives holds =
     let next : suc n ≡ n + 1 = omega arith in
     record {
       stands = subst (λ (k : ℕ). Stands (at_slot h k) new) next gives.3;
-      same_line = gives.2 ∙ w.same_line;
-      holds = subst (λ (l : List ℕ). Holds start later after l) (next_output h old mid new hex phex n packet w.same_line same gives) holds;
+      same_schedule = gives.2 ∙ w.same_schedule;
+      holds = subst (λ (l : List ℕ). IsOutput start later after l) (next_output h old mid new hex phex n packet w.same_schedule same gives) holds;
     }
 
-pub written_failed : (h : History) (old mid new : Mixer) (hex phex : Bool) (n slots sent : ℕ) (start now later : Option (List ℕ)) (packets : Collected) (packet : List ℕ) →
+pub written_failed : (h : History) (old mid new : MuxState) (hex phex : Bool) (n slots sent : ℕ) (start now later : Option (List ℕ)) (packets : Buffered) (packet : List ℕ) →
     SlotsWritten h old mid hex n start now packets → n < slots → phex ≡ hex → Gives (at_slot h n) mid (Ok packet) new →
-    Took start later sent (run_output hex (content_at old.line h.units) 0 n ++ leaving phex packet) →
-    Took start later sent (run_output hex (content_at old.line h.units) 0 slots)
+    Took start later sent (run_output hex (content_at old.schedule h.units) 0 n ++ formatted phex packet) →
+    Took start later sent (run_output hex (content_at old.schedule h.units) 0 slots)
 written_failed h old mid new hex phex n slots sent start now later packets packet w below same gives took =
-    let content = content_at old.line h.units in
+    let content = content_at old.schedule h.units in
     let count : slots ≡ (n + 1) + (slots - (n + 1)) = omega arith in
     let rest = run_output hex content (0 + (n + 1)) (slots - (n + 1)) in
     let whole : run_output hex content 0 slots ≡ run_output hex content 0 (n + 1) ++ rest =
     ap (λ (k : ℕ). run_output hex content 0 k) count ∙ output_parts hex content 0 (n + 1) (slots - (n + 1)) in
-    let here = subst (λ (l : List ℕ). Took start later sent l) (next_output h old mid new hex phex n packet w.same_line same gives) took in
+    let here = subst (λ (l : List ℕ). Took start later sent l) (next_output h old mid new hex phex n packet w.same_schedule same gives) took in
     subst (λ (l : List ℕ). Took start later sent l) (sym whole) (took_longer start later sent (run_output hex content 0 (n + 1)) rest here)
 
--- no run of so many slots is over
-pub not_done : {V : Type 0} (h : History) (mid new : Mixer) (n slots : ℕ) (e : Done) → n < slots → slots ≤ 2 ^ 40 → Gives (at_slot h n) mid (Err e) new → V
+-- no run of that many slots is over
+pub not_done : {V : Type 0} (h : History) (mid new : MuxState) (n slots : ℕ) (e : Done) → n < slots → slots ≤ 2 ^ 40 → Gives (at_slot h n) mid (Err e) new → V
 not_done h mid new n slots e below most gives = absurd (omega (arith, below, most, gives.0))

@@ -8,9 +8,9 @@ use Rattle.own_slots.specs.Slots.{own_slots, Rises}
 use Rattle.pes_packet.specs.AccessUnits.{AccessUnit}
 use Rattle.ts_packet.specs.Packets.{pcr_view}
 use Rattle.ts_packet.specs.PidList.{Entry, is_of_pid, pid_list}
-use Rattle.ts_packet.specs.Contents.{Content, Clocks, view_of, run_bytes, entries_in}
-use Rattle.ts_packet.specs.RunLaws.{Fits}
-use Rattle.ts_packet.proofs.Runs.{run_pid_list, run_indices, run_two}
+use Rattle.slot_contents.specs.Contents.{Content, PcrContent, view_of, run_bytes, entries_in}
+use Rattle.slot_contents.specs.RunLaws.{Fits}
+use Rattle.slot_contents.proofs.Runs.{run_pid_list, run_indices, run_two}
 use Rattle.description.specs.Described.{DescribedProgram}
 use Rattle.description.specs.Ranges.{IsInRange}
 use Rattle.description.specs.Tables.{table_kind, table_pid, kind_pid}
@@ -27,10 +27,10 @@ use Rattle.plan_timing.specs.Promised.{Promised}
 use Rattle.unit_timing.specs.SystemBuffer.{system_tb_fullness, bsys_fullness}
 use Rattle.tstd.specs.Carried.{table_packets}
 use Rattle.mux_core.specs.Scheduled.{Scheduled}
-use Rattle.mux_core.specs.Histories.{clock_in, content_in, content_at}
+use Rattle.mux_core.specs.Histories.{pcr_content, content_in, content_at}
 use Rattle.mux_core.specs.Headline.{ProgramKept}
-use Rattle.mux_core.proofs.Speaking.{names, silent, content_pid, is_content_pid}
-use Rattle.mux_core.proofs.PartRising.{part_rises}
+use Rattle.mux_core.proofs.ContentPids.{names, silent, content_pid, is_content_pid}
+use Rattle.mux_core.proofs.RisingSlots.{part_rises}
 
 -- ---- clock references
 
@@ -46,12 +46,12 @@ own_is i Null e = absurd (false≢true e)
 
 -- the clock in a slot, as it is written there
 abbrev clock_of : (d : Scheduled) (p : DescribedProgram) → ℕ → Content
-clock_of d p s = Clocks p.pcr_pid (pcr_at d.description.rate d.description.base0 (188 * s + 10))
+clock_of d p s = PcrContent p.pcr_pid (pcr_at d.description.rate d.description.base0 (188 * s + 10))
 
 clock_at : (d : Scheduled) (units : ℕ → List AccessUnit) (s i : ℕ) (p : DescribedProgram) → slice_get d.description.programs i ≡ Some p → slot_of d.schedule s ≡ Pcr i
     → content_at d units s ≡ clock_of d p s
-unfolding content_at content_in clock_in
-clock_at d units s i p is e = ap (content_in d units s) e ∙ ap (clock_in d.description s) is
+unfolding content_at content_in pcr_content
+clock_at d units s i p is e = ap (content_in d units s) e ∙ ap (pcr_content d.description s) is
 
 clock_pid : (d : Scheduled) (p : DescribedProgram) (s : ℕ) → is_of_pid p.pcr_pid (view_of (clock_of d p s)) ≡ true
 unfolding content_pid
@@ -80,7 +80,7 @@ clock_says d p content s (suc n) is =
       | inr k ↦ rw (k, rest) refl
     ]
 
-indices_at_ten : (es : List Entry) → map (λ e. 188 * e.index + 10) es ≡ map (λ s. 188 * s + 10) (map (λ e. e.index) es)
+pub indices_at_ten : (es : List Entry) → map (λ e. 188 * e.index + 10) es ≡ map (λ s. 188 * s + 10) (map (λ e. e.index) es)
 indices_at_ten [] = refl
 indices_at_ten (e ∷ es) = ap (λ (l : List ℕ). (188 * e.index + 10) ∷ l) (indices_at_ten es)
 

@@ -1,4 +1,4 @@
--- The room that a job takes for its units is enough: none is refused for want of room but a stream's unit number 1,048,577.
+-- The room that a job takes for its units is enough: none is refused as Full except a stream's unit number 1,048,577.
 use Rattle.std.proofs.Common.{◌≡◌, ℕ, suc, ◌+◌, ◌<◌, ◌≤◌, Bool, true, false, cond, nat_lt, List, [], ◌∷◌, ◌++◌, length, Option, Some, None, refl, sym, ap, ◌∙◌, subst, arith, inl, inr, append_assoc}
 use Rattle.std.specs.Prelude.{slice_get}
 use Rattle.std.proofs.lemmas.Bool.{lt-leb, cases_eq, cases_lt}
@@ -7,20 +7,20 @@ use Rattle.pes_packet.specs.AccessUnits.{AccessUnit}
 use Rattle.pes_packet.specs.Units.{units_of}
 use Rattle.description.specs.Described.{DescribedStream}
 use Rattle.own_slots.specs.Slots.{own_before}
-use Rattle.unit_queue.specs.Lanes.{Lane, end_slot, packet_count}
+use Rattle.unit_queue.specs.OwnedStreams.{OwnedStream, end_slot, packet_count}
 use Rattle.unit_queue.specs.Places.{Left, left_at, left_before}
-use Rattle.unit_queue.specs.Causes.{first_cause, is_late, is_full, exceeds_group, earliest_of}
+use Rattle.unit_queue.specs.Causes.{first_cause, is_late, is_full, exceeds_group, min_next_dts_of}
 use Rattle.unit_queue.specs.declared.refusal.FeedError.{FeedError}
 use Rattle.mux_core.specs.Scheduled.{Scheduled}
-use Rattle.mux_core.specs.Histories.{lane_of}
-use Rattle.mux_core.specs.Standing.{feed_cause}
-use Rattle.mux_core.specs.Multiplexing.{most_units, capacity_for, job_history, or_cause, unit_refused, cause_after, first_refused, RoomForAll}
+use Rattle.mux_core.specs.Histories.{owned_stream}
+use Rattle.mux_core.specs.MuxStates.{feed_cause}
+use Rattle.mux_core.specs.WholeJobs.{max_stream_units, capacity_for, job_history, or_cause, unit_refused, cause_after, first_refused, RoomForAll}
 use Rattle.mux_core.specs.declared.multiplexing.MuxError.{MuxError}
 use Rattle.mux_core.proofs.UnitCounts.{own_units, other_units, units_append}
 
 -- no stream has more units than the most
-most_bounds : (k : ℕ) (units : List (ℕ × AccessUnit)) → length (units_of k units) ≤ most_units units
-unfolding most_units
+most_bounds : (k : ℕ) (units : List (ℕ × AccessUnit)) → length (units_of k units) ≤ max_stream_units units
+unfolding max_stream_units
 most_bounds k [] = omega arith
 most_bounds k (entry ∷ rest) = elim (cases_eq entry.0 k) [
   | inl e ↦
@@ -37,7 +37,7 @@ left_in : (left : Left) (us : List AccessUnit) (first : Left) (b : Bool) → len
 left_in left us first true one two = one
 left_in left us first false one two = two
 
-left_few : (l : Lane) (p free number : ℕ) (us : List AccessUnit) → length (left_at l p free number us).units ≤ length us
+left_few : (l : OwnedStream) (p free number : ℕ) (us : List AccessUnit) → length (left_at l p free number us).units ≤ length us
 unfolding left_at
 left_few l p free number [] = omega arith
 left_few l p free number (u ∷ us) =
@@ -45,7 +45,7 @@ left_few l p free number (u ∷ us) =
     left_in (left_at l p (end_slot l free u) (number + packet_count l u) us) (u ∷ us) (record { free = free; number = number; units = u ∷ us }) (nat_lt p (end_slot l free u))
     (omega arith) (omega (arith, less))
 
-not_full : (l : Lane) (slots capacity : ℕ) (us : List AccessUnit) → length us < capacity → is_full l slots capacity us ≡ false
+not_full : (l : OwnedStream) (slots capacity : ℕ) (us : List AccessUnit) → length us < capacity → is_full l slots capacity us ≡ false
 not_full l slots capacity us lt =
     let few = left_few l (own_before l.own slots) 0 0 us in lt-leb capacity (length (left_before l slots us).units) (omega (arith, few, lt))
 
@@ -54,9 +54,9 @@ cause_same_in : (d : Scheduled) (capacity other : ℕ) (fed : List (ℕ × Acces
 unfolding feed_cause
 cause_same_in d capacity other fed entry None one two = refl
 cause_same_in d capacity other fed entry (Some s) one two =
-    let l = lane_of d entry.0 s in
+    let l = owned_stream d entry.0 s in
     let us = units_of entry.0 fed in
-    ap (λ (full : Bool). first_cause l.rules.size (earliest_of l us) (is_late l 0 entry.1) full (exceeds_group l us entry.1) entry.1)
+    ap (λ (full : Bool). first_cause l.parameters.size (min_next_dts_of l us) (is_late l 0 entry.1) full (exceeds_group l us entry.1) entry.1)
     (not_full l 0 capacity us one ∙ sym (not_full l 0 other us two))
 
 refused_same : (d : Scheduled) (capacity other : ℕ) (fed rest : List (ℕ × AccessUnit)) →
@@ -77,7 +77,7 @@ refused_same d capacity other fed (entry ∷ rest) one two =
     (λ k. subst (λ (all : List (ℕ × AccessUnit)). length (units_of k all) ≤ other) (sym again) (two k)))
 
 pub room_for_all : RoomForAll
-room_for_all d units = elim (cases_lt (most_units units) 1048576) [
+room_for_all d units = elim (cases_lt (max_stream_units units) 1048576) [
   | inl few ↦ refused_same d (capacity_for units) 1048576 [] units
       (λ k. let bound = most_bounds k units in omega (arith, bound, few)) (λ k. let bound = most_bounds k units in omega (arith, bound, few))
   | inr many ↦ (let same : capacity_for units ≡ 1048576 = omega (arith, many) in ap (λ (n : ℕ). first_refused d n [] units) same)

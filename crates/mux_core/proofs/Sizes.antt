@@ -3,15 +3,15 @@ use Rattle.std.proofs.Common.{◌≡◌, ◌⊎◌, ℕ, zero, suc, List, Some, 
 use Rattle.std.proofs.lemmas.List.Elements.{All-nil, All-cons}
 use Rattle.pes_packet.specs.AccessUnits.{AccessUnit}
 use Rattle.ts_packet.specs.PidList.{Entry, entries_of}
-use Rattle.ts_packet.specs.Contents.{run_bytes, entry_at}
-use Rattle.ts_packet.specs.RunLaws.{Fits}
-use Rattle.ts_packet.proofs.Runs.{all_entries, run_entries}
+use Rattle.slot_contents.specs.Contents.{run_bytes, entry_at}
+use Rattle.slot_contents.specs.RunLaws.{Fits}
+use Rattle.slot_contents.proofs.Runs.{all_entries, run_entries}
 use Rattle.slot_plan.specs.declared.slot.Slot.{Slot}
 use Rattle.slot_plan.specs.Schedule.{slot_of}
 use Rattle.slot_plan.specs.SlotPids.{slot_pid}
 use Rattle.mux_core.specs.Scheduled.{Scheduled}
 use Rattle.mux_core.specs.Histories.{content_at}
-use Rattle.mux_core.proofs.Speaking.{content_pid_view, speaks}
+use Rattle.mux_core.proofs.ContentPids.{content_pid_view, speaks}
 
 -- a packet of the null packets' PID, or of that of something that a slot names
 abbrev IsKnown : Scheduled → Entry → Type 0

@@ -2,7 +2,7 @@
 use Rattle.std.proofs.Common.{◌≡◌, ℕ, true, List, Some, slice_get, refl, ap, sym, ◌∙◌, eq-eqb}
 use Rattle.std.proofs.lemmas.Bool.{false≢true, eqb-true}
 use Rattle.pes_packet.specs.AccessUnits.{AccessUnit}
-use Rattle.ts_packet.specs.RunLaws.{Fits}
+use Rattle.slot_contents.specs.RunLaws.{Fits}
 use Rattle.description.specs.Described.{DescribedStream}
 use Rattle.description.specs.Ranges.{IsInRange}
 use Rattle.slot_plan.specs.declared.slot.Slot.{Slot}
@@ -12,10 +12,10 @@ use Rattle.slot_plan.specs.Items.{is_own}
 use Rattle.slot_plan.specs.Schedule.{slot_of}
 use Rattle.slot_plan.specs.SlotPids.{slot_pid}
 use Rattle.unit_queue.specs.Places.{stream_content}
-use Rattle.unit_queue.specs.Payloads.{IsAlone}
+use Rattle.unit_queue.specs.Payloads.{StreamIsAlone}
 use Rattle.mux_core.specs.Scheduled.{Scheduled}
-use Rattle.mux_core.specs.Histories.{lane_of, stream_in, content_in, content_at}
-use Rattle.mux_core.proofs.Speaking.{silent, not_null}
+use Rattle.mux_core.specs.Histories.{owned_stream, stream_in, content_in, content_at}
+use Rattle.mux_core.proofs.ContentPids.{silent, not_null}
 
 -- a stream's own slot is a slot of the stream
 own_is : (k : ℕ) (slot : Slot) → is_own (StreamItem k) slot ≡ true → slot ≡ Stream k
@@ -29,12 +29,12 @@ unfolding slot_pid
 stream_named d k s is = rw is refl
 
 stream_at : (d : Scheduled) (units : ℕ → List AccessUnit) (t k : ℕ) (s : DescribedStream) → slice_get d.description.streams k ≡ Some s → slot_of d.schedule t ≡ Stream k
-    → content_at d units t ≡ stream_content (lane_of d k s) (units k) t
+    → content_at d units t ≡ stream_content (owned_stream d k s) (units k) t
 unfolding content_at content_in stream_in
 stream_at d units t k s is e = ap (content_in d units t) e ∙ ap (stream_in d units t k) is
 
 pub stream_alone : (d : Scheduled) (units : ℕ → List AccessUnit) (k : ℕ) (s : DescribedStream) → IsInRange d.description → Fits (content_at d units)
-    → slice_get d.description.streams k ≡ Some s → IsAlone (lane_of d k s) (units k) (content_at d units)
+    → slice_get d.description.streams k ≡ Some s → StreamIsAlone (owned_stream d k s) (units k) (content_at d units)
 stream_alone d units k s r fits is = record {
   fits = fits;
   no_null = not_null d s.pid (Stream k) r (stream_named d k s is);

@@ -2,8 +2,8 @@
 use Rattle.std.proofs.Common.{◌≡◌, ℕ, ◌<◌, true, List, Some, slice_get, length, refl, ap, sym, ◌∙◌, arith, eq-eqb, zero, suc, [], ◌∷◌}
 use Rattle.std.proofs.lemmas.Bool.{false≢true, eqb-true}
 use Rattle.pes_packet.specs.AccessUnits.{AccessUnit}
-use Rattle.ts_packet.specs.Contents.{run_bytes}
-use Rattle.ts_packet.specs.RunLaws.{Fits}
+use Rattle.slot_contents.specs.Contents.{run_bytes}
+use Rattle.slot_contents.specs.RunLaws.{Fits}
 use Rattle.description.specs.Ranges.{IsInRange}
 use Rattle.description.specs.Tables.{table_kinds, table_kind, table_count, table_pid}
 use Rattle.description.specs.declared.table_kind.TableKind.{TableKind}
@@ -15,13 +15,13 @@ use Rattle.slot_plan.specs.Schedule.{slot_of}
 use Rattle.slot_plan.specs.SlotPids.{slot_pid}
 use Rattle.plan_timing.specs.Promised.{Promised}
 use Rattle.table_rounds.specs.Tables.{table_content}
-use Rattle.table_rounds.specs.Payloads.{IsAlone}
-use Rattle.table_rounds.proofs.Carrying.{table_carried}
-use Rattle.table_rounds.proofs.Beginning.{begins}
+use Rattle.table_rounds.specs.Payloads.{TableIsAlone}
+use Rattle.table_rounds.proofs.CarriedBytes.{table_carried}
+use Rattle.table_rounds.proofs.SectionStarts.{begins}
 use Rattle.mux_core.specs.Scheduled.{Scheduled}
 use Rattle.mux_core.specs.Histories.{table_of, table_in, content_in, content_at}
 use Rattle.mux_core.specs.Headline.{TableKept}
-use Rattle.mux_core.proofs.Speaking.{silent, not_null}
+use Rattle.mux_core.proofs.ContentPids.{silent, not_null}
 
 -- a table's own slot is a slot of the table
 own_is : (t : ℕ) (slot : Slot) → is_own (TableItem t) slot ≡ true → slot ≡ Table t
@@ -43,7 +43,7 @@ unfolding content_at content_in table_in
 table_at d units s t kind is e = ap (content_in d units s) e ∙ ap (table_in d s t) is
 
 pub table_alone : (d : Scheduled) (units : ℕ → List AccessUnit) (t : ℕ) (kind : TableKind) → IsInRange d.description → Fits (content_at d units) → table_kind d.description t ≡ Some kind
-    → IsAlone (table_of d t) (content_at d units)
+    → TableIsAlone (table_of d t) (content_at d units)
 table_alone d units t kind r fits is = record {
   fits = fits;
   no_null = not_null d (table_pid d.description t) (Table t) r (table_named d t kind is);
@@ -52,7 +52,7 @@ table_alone d units t kind r fits is = record {
 }
 
 -- a table that there is has a kind
-there : (ks : List TableKind) (t : ℕ) → t < length ks → (kind : TableKind) × (slice_get ks t ≡ Some kind)
+pub there : (ks : List TableKind) (t : ℕ) → t < length ks → (kind : TableKind) × (slice_get ks t ≡ Some kind)
 there [] t lt = absurd (omega (arith, lt))
 there (k ∷ ks) zero lt = (k, refl)
 there (k ∷ ks) (suc t) lt = there ks t (omega (arith, lt))

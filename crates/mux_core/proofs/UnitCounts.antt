@@ -7,7 +7,7 @@ use Rattle.std.proofs.lemmas.List.{drop_more, drop_all, map-append, get_or-set_s
 use Rattle.std.proofs.lemmas.List.Elements.{filter-append}
 use Rattle.pes_packet.specs.AccessUnits.{AccessUnit}
 use Rattle.pes_packet.specs.Units.{units_of}
-use Rattle.mux_core.specs.Multiplexing.{most_units}
+use Rattle.mux_core.specs.WholeJobs.{max_stream_units}
 
 -- a unit in front is its stream's, and no other's
 pub own_units : (j : ℕ) (entry : ℕ × AccessUnit) (rest : List (ℕ × AccessUnit)) → entry.0 ≡ j → units_of j (entry ∷ rest) ≡ entry.1 ∷ units_of j rest
@@ -21,7 +21,7 @@ pub units_append : (j : ℕ) (xs ys : List (ℕ × AccessUnit)) → units_of j (
 units_append j xs ys = ap (map (λ (u : ℕ × AccessUnit). u.1)) (filter-append (λ (u : ℕ × AccessUnit). u.0 == j) xs ys)
     ∙ map-append (λ (u : ℕ × AccessUnit). u.1) (filter (λ (u : ℕ × AccessUnit). u.0 == j) xs) (filter (λ (u : ℕ × AccessUnit). u.0 == j) ys)
 
--- so many units of each stream, of those from index i on
+-- the number of units of each stream, of those from index i on
 abbrev pub CountsFrom : List ℕ → ℕ → List (ℕ × AccessUnit) → Type 0
 CountsFrom counts i units = (k : ℕ) → k < 256 → (slice_index counts k ≡ length (units_of k (drop i units))) × (slice_index counts k + i ≤ length units)
 
@@ -58,13 +58,13 @@ count_own counts i j units d size within next inside counted k below =
           (here ∙ known.0 ∙ ap (length {A = AccessUnit}) (sym same), omega (arith, here, known.1, next))
     ]
 
-most_cons : (entry : ℕ × AccessUnit) (rest : List (ℕ × AccessUnit)) → max (most_units rest) (length (units_of entry.0 rest) + 1) ≡ most_units (entry ∷ rest)
-unfolding most_units
+most_cons : (entry : ℕ × AccessUnit) (rest : List (ℕ × AccessUnit)) → max (max_stream_units rest) (length (units_of entry.0 rest) + 1) ≡ max_stream_units (entry ∷ rest)
+unfolding max_stream_units
 most_cons entry rest = omega arith
 
 pub most_more : (counts : List ℕ) (i j : ℕ) (units : List (ℕ × AccessUnit)) (d : ℕ × AccessUnit) (most : ℕ) → length counts ≡ 256 → (slice_index_or units j d).0 < 256 →
-    i ≡ j + 1 → j < length units → CountsFrom counts i units → most ≡ most_units (drop i units) →
-    max most (slice_index (slice_set counts (slice_index_or units j d).0 (slice_index counts (slice_index_or units j d).0 + 1)) (slice_index_or units j d).0) ≡ most_units (drop j units)
+    i ≡ j + 1 → j < length units → CountsFrom counts i units → most ≡ max_stream_units (drop i units) →
+    max most (slice_index (slice_set counts (slice_index_or units j d).0 (slice_index counts (slice_index_or units j d).0 + 1)) (slice_index_or units j d).0) ≡ max_stream_units (drop j units)
 most_more counts i j units d most size within next inside counted is =
     let parts : drop j units ≡ slice_index_or units j d ∷ drop i units =
     drop_more units j d inside ∙ ap (λ (n : ℕ). slice_index_or units j d ∷ drop n units) (sym next) in
@@ -72,9 +72,9 @@ most_more counts i j units d most size within next inside counted is =
     get_or-set_same counts (slice_index_or units j d).0 (slice_index counts (slice_index_or units j d).0 + 1) 0 (omega (arith, size, within)) in
     let known = counted (slice_index_or units j d).0 within in
     ap (max most) here ∙ ap (λ (n : ℕ). max n (slice_index counts (slice_index_or units j d).0 + 1)) is
-    ∙ ap (λ (n : ℕ). max (most_units (drop i units)) (n + 1)) known.0 ∙ most_cons (slice_index_or units j d) (drop i units) ∙ ap most_units (sym parts)
+    ∙ ap (λ (n : ℕ). max (max_stream_units (drop i units)) (n + 1)) known.0 ∙ most_cons (slice_index_or units j d) (drop i units) ∙ ap max_stream_units (sym parts)
 
 -- before the first
-pub most_none : (i : ℕ) (units : List (ℕ × AccessUnit)) → i ≡ length units → 0 ≡ most_units (drop i units)
-unfolding most_units
-most_none i units e = ap most_units (sym (drop_all i units (omega (arith, e))))
+pub most_none : (i : ℕ) (units : List (ℕ × AccessUnit)) → i ≡ length units → 0 ≡ max_stream_units (drop i units)
+unfolding max_stream_units
+most_none i units e = ap max_stream_units (sym (drop_all i units (omega (arith, e))))

@@ -2,13 +2,13 @@
 use Rattle.std.specs.Prelude.{ℕ, List}
 use Rattle.pes_packet.specs.AccessUnits.{AccessUnit}
 use Rattle.description.specs.Ranges.{IsInRange}
-use Rattle.ts_packet.specs.RunLaws.{Fits}
-use Rattle.ts_packet.proofs.Runs.{run_length}
+use Rattle.slot_contents.specs.RunLaws.{Fits}
+use Rattle.slot_contents.proofs.Runs.{run_length}
 use Rattle.unit_queue.proofs.SentPlaces.{content_law}
 use Rattle.mux_core.specs.Scheduled.{Scheduled}
-use Rattle.mux_core.specs.Histories.{lane_of, content_at}
+use Rattle.mux_core.specs.Histories.{owned_stream, content_at}
 use Rattle.mux_core.specs.Headline.{HeadlineLaw, UnitsKept}
-use Rattle.mux_core.proofs.Speaking.{StreamsFit, content_fits}
+use Rattle.mux_core.proofs.ContentPids.{StreamsFit, content_fits}
 use Rattle.mux_core.proofs.TablesRead.{table_kept}
 use Rattle.mux_core.proofs.Programs.{program_kept}
 use Rattle.mux_core.proofs.Sizes.{pids_known}
@@ -20,7 +20,7 @@ pub contents_fit : (d : Scheduled) (units : ℕ → List AccessUnit) → IsInRan
 contents_fit d units r kept = content_fits d units r streams_fit
   where
     streams_fit : StreamsFit d units
-    streams_fit k s x is = content_law (lane_of d k x) (units k) s (kept.rules k x is)
+    streams_fit k s x is = content_law (owned_stream d k x) (units k) s (kept.parameters k x is)
 
 pub headline : HeadlineLaw
 headline d units slots r promised kept =

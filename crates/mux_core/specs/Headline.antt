@@ -6,7 +6,7 @@ use Rattle.clock27.specs.Reference.{pcr_at}
 use Rattle.pes_packet.specs.AccessUnits.{AccessUnit}
 use Rattle.ts_packet.specs.Packets.{pcr_view}
 use Rattle.ts_packet.specs.PidList.{Entry, entries_of, pid_list}
-use Rattle.ts_packet.specs.Contents.{run_bytes, payload_at}
+use Rattle.slot_contents.specs.Contents.{run_bytes, payload_at}
 use Rattle.description.specs.Described.{DescribedProgram, DescribedStream}
 use Rattle.description.specs.Tables.{table_count, table_limit, section_count}
 use Rattle.slot_plan.specs.declared.slot.Slot.{Slot}
@@ -18,33 +18,33 @@ use Rattle.unit_timing.specs.SystemBuffer.{system_tb_fullness, bsys_fullness}
 use Rattle.unit_timing.specs.Transport.{slots_of, tb_fullness, pes_left}
 use Rattle.unit_queue.specs.Payloads.{piece_in, all_pieces, all_senders, IsReleased}
 use Rattle.table_rounds.specs.Payloads.{TableCarried, Begins}
-use Rattle.tstd.specs.Carried.{carries, timed_texts, packets_on, table_packets}
+use Rattle.tstd.specs.Carried.{carries, timed_pes_packets, packets_on, table_packets}
 use Rattle.tstd.specs.Measured.{late_of}
 use Rattle.mux_core.specs.Scheduled.{Scheduled}
-use Rattle.mux_core.specs.Histories.{History, rules_of, lane_of, table_of, content_at}
-use Rattle.mux_core.specs.Standing.{Mixer, Stands}
+use Rattle.mux_core.specs.Histories.{History, parameters_of, owned_stream, table_of, content_at}
+use Rattle.mux_core.specs.MuxStates.{MuxState, Stands}
 use Rattle.description.specs.Ranges.{IsInRange}
 use Rattle.plan_timing.specs.Promised.{Promised}
-use Rattle.unit_queue.specs.Queues.{IsRules, Kept}
+use Rattle.unit_queue.specs.Queues.{ParametersInRange, Kept}
 
 -- of a stream, of which these units were accepted
 pub record StreamKept (d : Scheduled) (k : ℕ) (s : DescribedStream) (units : List AccessUnit) (slots : ℕ) (bytes : List ℕ) : Type 0 where
   -- the payloads on its PID, joined, are a beginning of its PES packets, joined
   pub carried : carries s.pid s.stream_id d.description.base0 units bytes ≡ true
   -- each is of one unit, and has the start indicator exactly where a unit begins
-  pub pieces : map (λ e. piece_in (payload_at e)) (pid_list s.pid bytes) ≡ take (length (pid_list s.pid bytes)) (all_pieces (lane_of d k s) units)
+  pub pieces : map (λ e. piece_in (payload_at e)) (pid_list s.pid bytes) ≡ take (length (pid_list s.pid bytes)) (all_pieces (owned_stream d k s) units)
   -- packet number j has the continuity_counter j modulo 16
   pub counters : (j : ℕ) (e : Entry) → slice_get (pid_list s.pid bytes) j ≡ Some e → e.packet.header.continuity_counter ≡ j % 16
-  -- no byte of a unit stands in a slot that begins earlier than the lead before its decoding time
-  pub not_early : (j : ℕ) (e : Entry) (u : AccessUnit) → slice_get (pid_list s.pid bytes) j ≡ Some e → slice_get (all_senders (lane_of d k s) units) j ≡ Some u →
-      IsReleased (lane_of d k s) u e.index
+  -- no byte of a unit is in a slot that begins earlier than the lead before its decoding time
+  pub not_early : (j : ℕ) (e : Entry) (u : AccessUnit) → slice_get (pid_list s.pid bytes) j ≡ Some e → slice_get (all_senders (owned_stream d k s) units) j ≡ Some u →
+      IsReleased (owned_stream d k s) u e.index
   -- the transport buffer never holds more than 512 bytes
   pub transport : (x : ℕ) → tb_fullness d.description.rate s.rx x (slots_of (packets_on s.pid bytes)) ≤ 512
   -- no unit that is due is late: each has left the transport buffer whole by its decoding time
   pub arrived : late_of d.description.rate d.description.base0 slots s units (packets_on s.pid bytes) ≡ None
   -- the main buffer never holds more than its size
   pub main_buffer : (x : ℕ) →
-      mb_fullness d.description.rate s.rx x (timed_texts s.stream_id d.description.base0 units) (pes_left d.description.rate s.rx 0 (packets_on s.pid bytes)) ≤ s.main
+      mb_fullness d.description.rate s.rx x (timed_pes_packets s.stream_id d.description.base0 units) (pes_left d.description.rate s.rx 0 (packets_on s.pid bytes)) ≤ s.main
 
 -- of a program
 pub record ProgramKept (d : Scheduled) (p : DescribedProgram) (slots : ℕ) (bytes : List ℕ) : Type 0 where
@@ -79,8 +79,8 @@ pub record Headline (d : Scheduled) (units : ℕ → List AccessUnit) (slots : �
 
 -- each stream's numbers are in their ranges, and its units are within what it declares
 pub record UnitsKept (d : Scheduled) (units : ℕ → List AccessUnit) : Type 0 where
-  pub rules : (k : ℕ) (s : DescribedStream) → slice_get d.description.streams k ≡ Some s → IsRules (rules_of d.description s)
-  pub kept : (k : ℕ) (s : DescribedStream) → slice_get d.description.streams k ≡ Some s → Kept (lane_of d k s) (units k)
+  pub parameters : (k : ℕ) (s : DescribedStream) → slice_get d.description.streams k ≡ Some s → ParametersInRange (parameters_of d.description s)
+  pub kept : (k : ℕ) (s : DescribedStream) → slice_get d.description.streams k ≡ Some s → Kept (owned_stream d k s) (units k)
 
 -- what a run is promised: a schedule that keeps the conditions, and units that were accepted
 abbrev pub HeadlineLaw : Type 0
@@ -89,5 +89,5 @@ HeadlineLaw = (d : Scheduled) (units : ℕ → List AccessUnit) (slots : ℕ) �
 
 -- so of what a multiplexer stands for, and as far as its bytes go
 abbrev pub StandingLaw : Type 0
-StandingLaw = (h : History) (m : Mixer) (n : ℕ) → IsInRange m.line.description → Promised m.line.description m.line.schedule → Stands h m →
-    Headline m.line h.units n (run_bytes (content_at m.line h.units) 0 n)
+StandingLaw = (h : History) (m : MuxState) (n : ℕ) → IsInRange m.schedule.description → Promised m.schedule.description m.schedule.schedule → Stands h m →
+    Headline m.schedule h.units n (run_bytes (content_at m.schedule h.units) 0 n)

@@ -2,17 +2,17 @@
 use Rattle.std.specs.Prelude.{ℕ, suc, ◌+◌, ◌*◌, nat_eq, cond, List, [], ◌∷◌, ◌++◌, Option, Some, None, slice_get}
 use Rattle.clock27.specs.Reference.{pcr_at}
 use Rattle.pes_packet.specs.AccessUnits.{AccessUnit}
-use Rattle.ts_packet.specs.Contents.{Content, Clocks, Stuffs, run_bytes}
+use Rattle.slot_contents.specs.Contents.{Content, PcrContent, NullContent, run_bytes}
 use Rattle.description.specs.Described.{Described, DescribedProgram, DescribedStream}
 use Rattle.description.specs.Tables.{table_kinds, table_pid, section_lengths}
-use Rattle.description.specs.SectionTexts.{table_text}
+use Rattle.description.specs.SectionBytes.{table_bytes}
 use Rattle.description.specs.declared.table_kind.TableKind.{TableKind}
 use Rattle.slot_plan.specs.declared.slot.Slot.{Slot}
 use Rattle.slot_plan.specs.declared.slot.Slot.TheVariants.{Stream, Pcr, Table, Null}
 use Rattle.slot_plan.specs.declared.slot.Item.TheVariants.{Stream as StreamItem, Table as TableItem}
 use Rattle.slot_plan.specs.Schedule.{slot_of, owned}
-use Rattle.unit_queue.specs.declared.rules.StreamRules.{StreamRules}
-use Rattle.unit_queue.specs.Lanes.{Lane}
+use Rattle.unit_queue.specs.declared.parameters.StreamParameters.{StreamParameters}
+use Rattle.unit_queue.specs.OwnedStreams.{OwnedStream}
 use Rattle.unit_queue.specs.Places.{stream_content}
 use Rattle.table_rounds.specs.Tables.{Table as TableSlots, table_content}
 use Rattle.mux_core.specs.Scheduled.{Scheduled}
@@ -23,8 +23,8 @@ pub record History : Type 0 where
   pub slots : ℕ
 
 -- what a stream declares of its units, in the output of this description
-abbrev pub rules_of : Described → DescribedStream → StreamRules
-rules_of d s = record {
+abbrev pub parameters_of : Described → DescribedStream → StreamParameters
+parameters_of d s = record {
   pid = s.pid;
   stream_id = s.stream_id;
   rate = d.rate;
@@ -37,41 +37,41 @@ rules_of d s = record {
 }
 
 -- the stream on its own slots
-abbrev pub lane_of : Scheduled → ℕ → DescribedStream → Lane
-lane_of d k s = record { own = owned d.schedule (StreamItem k); rules = rules_of d.description s }
+abbrev pub owned_stream : Scheduled → ℕ → DescribedStream → OwnedStream
+owned_stream d k s = record { own = owned d.schedule (StreamItem k); parameters = parameters_of d.description s }
 
 -- what a slot of stream number k carries
 unfoldable pub stream_in : Scheduled → (ℕ → List AccessUnit) → ℕ → ℕ → Option DescribedStream → Content
-stream_in d units slot k None = Stuffs
-stream_in d units slot k (Some s) = stream_content (lane_of d k s) (units k) slot
+stream_in d units slot k None = NullContent
+stream_in d units slot k (Some s) = stream_content (owned_stream d k s) (units k) slot
 
 -- what a clock reference slot of a program carries: the clock at byte 10 of its packet (ISO/IEC 13818-1, 2.4.3.5)
-unfoldable pub clock_in : Described → ℕ → Option DescribedProgram → Content
-clock_in d slot None = Stuffs
-clock_in d slot (Some p) = Clocks p.pcr_pid (pcr_at d.rate d.base0 (188 * slot + 10))
+unfoldable pub pcr_content : Described → ℕ → Option DescribedProgram → Content
+pcr_content d slot None = NullContent
+pcr_content d slot (Some p) = PcrContent p.pcr_pid (pcr_at d.rate d.base0 (188 * slot + 10))
 
--- a table on its own slots: its sections with their greatest lengths, and their texts by the moment
+-- a table on its own slots: its sections with their greatest lengths, and their bytes by the moment
 abbrev pub table_of : Scheduled → ℕ → TableSlots
 table_of d t = record {
   own = owned d.schedule (TableItem t);
   pid = table_pid d.description t;
   lengths = section_lengths d.description t;
-  text = table_text d.description t;
+  bytes = table_bytes d.description t;
   rate = d.description.rate;
   start = d.description.start;
 }
 
 -- what a slot of table number t carries
 unfoldable pub table_in : Scheduled → ℕ → ℕ → Option TableKind → Content
-table_in d slot t None = Stuffs
+table_in d slot t None = NullContent
 table_in d slot t (Some kind) = table_content (table_of d t) slot
 
 -- what a slot of this kind carries
 unfoldable pub content_in : Scheduled → (ℕ → List AccessUnit) → ℕ → Slot → Content
 content_in d units slot (Stream k) = stream_in d units slot k (slice_get d.description.streams k)
-content_in d units slot (Pcr p) = clock_in d.description slot (slice_get d.description.programs p)
+content_in d units slot (Pcr p) = pcr_content d.description slot (slice_get d.description.programs p)
 content_in d units slot (Table t) = table_in d slot t (slice_get (table_kinds d.description) t)
-content_in d units slot Null = Stuffs
+content_in d units slot Null = NullContent
 
 -- what each slot of the run carries
 unfoldable pub content_at : Scheduled → (ℕ → List AccessUnit) → ℕ → Content
@@ -86,8 +86,8 @@ abbrev pub empty_history : History
 empty_history = record { units = λ k. []; slots = 0 }
 
 -- one slot more, one unit more
-abbrev pub slot_more : History → History
-slot_more h = record { units = h.units; slots = suc h.slots }
+abbrev pub next_slot : History → History
+next_slot h = record { units = h.units; slots = suc h.slots }
 
 abbrev pub with_unit : History → ℕ → AccessUnit → History
 with_unit h k u = record { units = λ j. cond (nat_eq j k) (h.units j ++ (u ∷ [])) (h.units j); slots = h.slots }

@@ -3,7 +3,7 @@ use Rattle.std.specs.Prelude.{◌≡◌, ℕ, ◌*◌, ◌+◌, ◌<◌, ◌≤�
 use Rattle.clock27.specs.Recurrence.{Recur}
 use Rattle.own_slots.specs.Slots.{Rises, own_slots}
 use Rattle.unit_timing.specs.PesPacket.{PesPacket}
-use Rattle.unit_timing.specs.Plans.{Keeps, run_packets}
+use Rattle.unit_timing.specs.Plans.{KeepsDeclaration, run_packets}
 use Rattle.unit_timing.specs.Transport.{slots_of, tb_fullness, pes_left}
 use Rattle.unit_timing.specs.Arrived.{AllLeft}
 use Rattle.unit_timing.specs.MainBuffer.{mb_fullness}
@@ -22,18 +22,18 @@ use Rattle.plan_timing.specs.Promised.{declaration}
 -- units of a stream within its declaration that are due in a run of n slots have left its transport buffer whole by their
 -- decoding times
 abbrev pub UnitsArrive : Described → Schedule → Type 0
-UnitsArrive d schedule = (i n : ℕ) (s : DescribedStream) (texts : List PesPacket) → slice_get d.streams i ≡ Some s → Keeps (declaration s) texts →
-    AllLeft d.rate s.rx n texts (pes_left d.rate s.rx 0 (run_packets (owned schedule (Stream i)) d.rate (declaration s) texts n))
+UnitsArrive d schedule = (i n : ℕ) (s : DescribedStream) (pes : List PesPacket) → slice_get d.streams i ≡ Some s → KeepsDeclaration (declaration s) pes →
+    AllLeft d.rate s.rx n pes (pes_left d.rate s.rx 0 (run_packets (owned schedule (Stream i)) d.rate (declaration s) pes n))
 
 -- a stream's transport buffer never holds more than 512 bytes (ISO/IEC 13818-1, 2.4.2.3)
 abbrev pub TransportFits : Described → Schedule → Type 0
-TransportFits d schedule = (i n x : ℕ) (s : DescribedStream) (texts : List PesPacket) → slice_get d.streams i ≡ Some s → Keeps (declaration s) texts →
-    tb_fullness d.rate s.rx x (slots_of (run_packets (owned schedule (Stream i)) d.rate (declaration s) texts n)) ≤ 512
+TransportFits d schedule = (i n x : ℕ) (s : DescribedStream) (pes : List PesPacket) → slice_get d.streams i ≡ Some s → KeepsDeclaration (declaration s) pes →
+    tb_fullness d.rate s.rx x (slots_of (run_packets (owned schedule (Stream i)) d.rate (declaration s) pes n)) ≤ 512
 
 -- nor its main buffer more than its size
 abbrev pub MainFits : Described → Schedule → Type 0
-MainFits d schedule = (i n x : ℕ) (s : DescribedStream) (texts : List PesPacket) → slice_get d.streams i ≡ Some s → Keeps (declaration s) texts →
-    mb_fullness d.rate s.rx x texts (pes_left d.rate s.rx 0 (run_packets (owned schedule (Stream i)) d.rate (declaration s) texts n)) ≤ s.main
+MainFits d schedule = (i n x : ℕ) (s : DescribedStream) (pes : List PesPacket) → slice_get d.streams i ≡ Some s → KeepsDeclaration (declaration s) pes →
+    mb_fullness d.rate s.rx x pes (pes_left d.rate s.rx 0 (run_packets (owned schedule (Stream i)) d.rate (declaration s) pes n)) ≤ s.main
 
 -- of a program's tables the transport buffer never holds more than 512 bytes, nor the system buffer more than 1,536, whichever of the
 -- slots of the PAT and of the PMT are used

@@ -13,15 +13,16 @@ use std::marker::Model;
 
 /// One plan over and over, or one plan for a number of its periods and then a second.
 #[derive(Drop)]
-pub(crate) enum Plans<A: Allocator = Global> {
+pub(crate) enum CheckedPlans<A: Allocator = Global> {
     One(CheckedPlan<A>),
     Two(CheckedSwitch<A>, u64),
 }
 
-/// A description, and what each slot of a run carries.
+/// A description, and what each slot of a run carries. Its numbers are in their ranges, and the schedule keeps every
+/// promise of the description, in runs of any length: the calls that make one say so.
 #[derive(Drop)]
 pub(crate) struct CheckedSchedule<A: Allocator = Global> {
-    plans: Plans<A>,
+    plans: CheckedPlans<A>,
 }
 
 impl<A: Allocator> Model for CheckedSchedule<A> {
@@ -35,19 +36,33 @@ impl<A: Allocator> Model for CheckedSchedule<A> {
 impl<A: Allocator> CheckedSchedule<A> {
     /// One plan over and over.
     pub fn single(plan: CheckedPlan<A>) -> CheckedSchedule<A>
-        ensures { result ≡ record { description = plan.description; schedule = single plan.plan.slots } }
+        ensures value { result ≡ record { description = plan.description; schedule = single plan.plan.slots } }
+        ensures ranges { IsInRange result.description }
+        ensures promised { Promised result.description result.schedule }
     {
+        plan.description().keeps_ranges();
+        let _ = plan.plan();
+        plan_timing::laws::accepted_plan();
         CheckedSchedule {
-            plans: Plans::One(plan),
+            plans: CheckedPlans::One(plan),
         }
     }
 
-    /// The first plan of a switch for so many of its periods, then the second.
+    /// The first plan of a switch for a number of its periods, then the second.
     pub fn switched(switch: CheckedSwitch<A>, periods: u64) -> CheckedSchedule<A>
-        ensures { result ≡ record { description = switch.first.description; schedule = switched switch.first.plan.slots periods switch.second.slots } }
+        ensures value { result ≡ record {
+          description = switch.first.description;
+          schedule = switched switch.first.plan.slots periods switch.second.slots;
+        } }
+        ensures ranges { IsInRange result.description }
+        ensures promised { Promised result.description result.schedule }
     {
+        switch.first().description().keeps_ranges();
+        let _ = switch.first().plan();
+        let _ = switch.second();
+        plan_timing::laws::accepted_switch();
         CheckedSchedule {
-            plans: Plans::Two(switch, periods),
+            plans: CheckedPlans::Two(switch, periods),
         }
     }
 
@@ -56,8 +71,8 @@ impl<A: Allocator> CheckedSchedule<A> {
         ensures { result.now ≡ self.now.description }
     {
         match &self.plans {
-            Plans::One(plan) => plan.description(),
-            Plans::Two(switch, _) => switch.first().description(),
+            CheckedPlans::One(plan) => plan.description(),
+            CheckedPlans::Two(switch, _) => switch.first().description(),
         }
     }
 
@@ -66,8 +81,8 @@ impl<A: Allocator> CheckedSchedule<A> {
         ensures { result ≡ slot_of self.now.schedule s }
     {
         match &self.plans {
-            Plans::One(plan) => repeated(plan.plan().slots(), s),
-            Plans::Two(switch, periods) => {
+            CheckedPlans::One(plan) => repeated(plan.plan().slots(), s),
+            CheckedPlans::Two(switch, periods) => {
                 let first = switch.first().plan().slots();
                 let from = u128::from(*periods) * first.len() as u128;
                 if u128::from(s) < from {
@@ -75,31 +90,6 @@ impl<A: Allocator> CheckedSchedule<A> {
                 } else {
                     repeated(switch.second().slots(), s - from as u64)
                 }
-            }
-        }
-    }
-
-    /// The numbers of the description are in their ranges.
-    pub fn keeps_ranges(&self)
-        ensures { IsInRange self.now.description }
-    {
-        self.description().keeps_ranges();
-    }
-
-    /// The schedule keeps every promise of its description, in runs of any length.
-    pub fn promises(&self)
-        ensures { Promised self.now.description self.now.schedule }
-    {
-        self.description().keeps_ranges();
-        match &self.plans {
-            Plans::One(plan) => {
-                let _ = plan.plan();
-                plan_timing::laws::accepted_plan();
-            }
-            Plans::Two(switch, _) => {
-                let _ = switch.first().plan();
-                let _ = switch.second();
-                plan_timing::laws::accepted_switch();
             }
         }
     }

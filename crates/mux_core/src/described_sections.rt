@@ -1,11 +1,9 @@
 //! The sections of a table, as its description has them.
-
-ghost use Rattle.std.specs.Prelude.{◌≡◌};
-ghost use Rattle.mux_core.specs.Turns.{section_bytes};
+ghost use Rattle.mux_core.specs.SlotSteps.{section_bytes};
 
 use arrayvec::ArrayVec;
 use slot_plan::Description;
-use table_rounds::SectionTexts;
+use table_rounds::SectionSource;
 
 /// A table of a description, by its number.
 #[derive(Clone, Copy)]
@@ -14,8 +12,8 @@ pub(crate) struct DescribedSections<'a> {
     pub table: usize,
 }
 
-impl<'a> SectionTexts for DescribedSections<'a> {
-    ghost text = { λ s. section_bytes s.description.now s.table };
+impl<'a> SectionSource for DescribedSections<'a> {
+    ghost bytes = { λ s. section_bytes s.description.now s.table };
 
     fn write_section(&self, section: usize, moment: u64, out: &mut ArrayVec<u8, 4096>) {
         if self.table < self.description.tables()

@@ -1,14 +1,13 @@
 //! Units fed and slots written in any order.
 
-ghost use Rattle.std.specs.Prelude.{◌≡◌, ◌≤◌, ◌+◌, ◌*◌, ℕ, List, Option, None, IfErr, OnOk, length, map};
+ghost use Rattle.std.specs.Prelude.{◌≡◌, ◌≤◌, ◌+◌, IfErr, OnOk, map};
 ghost use Rattle.std.specs.Vec.{vec_len, vec_capacity};
 ghost use Rattle.mux_core.specs.Histories.{History, bytes_of};
-ghost use Rattle.mux_core.specs.Standing.{Stands};
+ghost use Rattle.mux_core.specs.MuxStates.{Stands};
 ghost use Rattle.mux_core.specs.Headline.{Headline};
-ghost use Rattle.mux_core.specs.Driving.{shown, Step, FeedStep, SlotStep, step_history, history_after, Adds, StandsOn};
+ghost use Rattle.mux_core.specs.Events.{shown, FeedStep, SlotStep, step_history, history_after, Adds, StandsOn};
 
 use crate::multiplexer::Mux;
-use crate::packet_output::append;
 use pes_packet::Unit;
 use std::alloc::{Allocator, Global};
 use std::collections::VecDeque;
@@ -28,14 +27,19 @@ pub fn drive<A: Allocator>(
     out: &mut Vec<u8, A>,
 ) -> Result<(), Vec<Event<A>, A>>
     ensures stands { (h : History) → Stands h mux.old →
-        OnOk result (StandsOn (history_after mux.old.line mux.old.capacity h (map shown events.items)) mux.old mux.new) }
+        OnOk result
+        (StandsOn (history_after mux.old.schedule mux.old.capacity h (map shown events.items)) mux.old mux.new) }
     ensures written { (h : History) → Stands h mux.old →
-        OnOk result (Adds mux.old.line h (history_after mux.old.line mux.old.capacity h (map shown events.items)) out.old.items out.new.items) }
+        OnOk result
+        (Adds mux.old.schedule h (history_after mux.old.schedule mux.old.capacity h (map shown events.items))
+        out.old.items out.new.items) }
     ensures headline { (h : History) → Stands h mux.old →
-        OnOk result (Headline mux.old.line (history_after mux.old.line mux.old.capacity h (map shown events.items)).units
-        (history_after mux.old.line mux.old.capacity h (map shown events.items)).slots
-        (bytes_of mux.old.line (history_after mux.old.line mux.old.capacity h (map shown events.items)))) }
-    ensures handed_back { IfErr result (λ e. (e.items ≡ events.items) × (mux.new ≡ mux.old) × (out.new.items ≡ out.old.items)) }
+        OnOk result (Headline mux.old.schedule
+        (history_after mux.old.schedule mux.old.capacity h (map shown events.items)).units
+        (history_after mux.old.schedule mux.old.capacity h (map shown events.items)).slots
+        (bytes_of mux.old.schedule (history_after mux.old.schedule mux.old.capacity h (map shown events.items)))) }
+    ensures handed_back { IfErr result (λ e. (e.items ≡ events.items) × (mux.new ≡ mux.old)
+        × (out.new.items ≡ out.old.items)) }
 {
     let Some(room) = events.len().checked_mul(188) else {
         return Err(events);
@@ -43,8 +47,7 @@ pub fn drive<A: Allocator>(
     if out.reserve(room).is_err() {
         return Err(events);
     }
-    mux.keeps_ranges();
-    mux.promises();
+    mux.keeps_promises();
     let mut left = VecDeque::from(events);
     'events: while let Some(event) = left.pop_front() {
         match event {
@@ -58,8 +61,9 @@ pub fn drive<A: Allocator>(
 // Feeds a unit; one that is refused is dropped.
 fn take_unit<A: Allocator>(mux: &mut Mux<A>, stream: u8, unit: Unit<A>)
     ensures { (h : History) → Stands h mux.old →
-        StandsOn (step_history mux.old.line mux.old.capacity h (FeedStep stream unit)) mux.old mux.new
-        × (bytes_of mux.old.line (step_history mux.old.line mux.old.capacity h (FeedStep stream unit)) ≡ bytes_of mux.old.line h) }
+        StandsOn (step_history mux.old.schedule mux.old.capacity h (FeedStep stream unit)) mux.old mux.new
+        × (bytes_of mux.old.schedule (step_history mux.old.schedule mux.old.capacity h (FeedStep stream unit))
+        ≡ bytes_of mux.old.schedule h) }
 {
     let _ = mux.feed(stream, unit);
 }
@@ -67,13 +71,15 @@ fn take_unit<A: Allocator>(mux: &mut Mux<A>, stream: u8, unit: Unit<A>)
 // Appends the packet of the next slot, for which there is room.
 fn write_slot<A: Allocator>(mux: &mut Mux<A>, out: &mut Vec<u8, A>)
     requires room { vec_len out.old + 188 ≤ vec_capacity out.old }
-    ensures stands { (h : History) → Stands h mux.old → StandsOn (step_history mux.old.line mux.old.capacity h SlotStep) mux.old mux.new }
+    ensures stands { (h : History) → Stands h mux.old →
+        StandsOn (step_history mux.old.schedule mux.old.capacity h SlotStep) mux.old mux.new }
     ensures written { (h : History) → Stands h mux.old →
-        Adds mux.old.line h (step_history mux.old.line mux.old.capacity h SlotStep) out.old.items out.new.items }
+        Adds mux.old.schedule h (step_history mux.old.schedule mux.old.capacity h SlotStep)
+        out.old.items out.new.items }
     ensures len { vec_len out.new ≤ vec_len out.old + 188 }
     ensures capacity { vec_capacity out.old ≤ vec_capacity out.new }
 {
     if let Ok(packet) = mux.next_packet() {
-        append(out, &packet);
+        let _ = out.extend_from_slice(&packet);
     }
 }

@@ -1,31 +1,14 @@
 //! Laws of the definitions. Each function does nothing: its contract is the law.
 
-ghost use Rattle.std.specs.Prelude.{ℕ, List};
-ghost use Rattle.pes_packet.specs.AccessUnits.{AccessUnit};
 ghost use Rattle.plan_timing.specs.Promised.{Promised};
-ghost use Rattle.mux_core.specs.Laws.{RecordsAreRead, FitsRecord, RunsAreWhole, PacketsJoin};
 ghost use Rattle.mux_core.specs.Headline.{HeadlineLaw, StandingLaw};
-ghost use Rattle.mux_core.specs.Measuring.{MeasuredLaw};
-ghost use Rattle.mux_core.specs.Driving.{WrittenStays, OrderIsFree};
-ghost use Rattle.mux_core.specs.Multiplexing.{RoomForAll};
-ghost use Rattle.mux_core.specs.TimingLaws.{UnitsArrive, TransportFits, MainFits, SystemFits, PcrsRecur, SectionsRecur, OfPlan, OfSwitch};
+ghost use Rattle.mux_core.specs.MeasuredRuns.{MeasuredLaw};
+ghost use Rattle.mux_core.specs.Events.{WrittenStays, OrderIsFree};
+ghost use Rattle.mux_core.specs.WholeJobs.{RoomForAll};
+ghost use Rattle.mux_core.specs.TimingLaws.{UnitsArrive, TransportFits, MainFits, SystemFits, PcrsRecur, SectionsRecur};
+ghost use Rattle.mux_core.specs.TimingLaws.{OfPlan, OfSwitch};
 
 pub use crate::driving::{Event, drive};
-
-/// A record that is written, whatever follows it, is read again, and what follows it is left.
-pub fn records_are_read()
-    ensures { (stream : ℕ) (unit : AccessUnit) (rest : List ℕ) → FitsRecord unit → RecordsAreRead stream unit rest }
-{}
-
-/// An input has no more records than bytes, so the run that is defined over so many is the whole run.
-pub fn runs_are_whole()
-    ensures { RunsAreWhole }
-{}
-
-/// The packets of payloads, listed one by one, are the packets that `ts_packet` defines.
-pub fn packets_join()
-    ensures { PacketsJoin }
-{}
 
 /// Over a plan whose conditions hold, each unit that is due has left its transport buffer whole by its decoding time.
 pub fn deadlines()
@@ -125,8 +108,8 @@ pub fn order_is_free()
     ensures { OrderIsFree }
 {}
 
-/// A whole job takes room for as many units of a stream as it has. That room is enough: its units are refused just where
-/// 1,048,576 of each stream may wait.
+/// A whole job takes room for as many units of a stream as it has. That room is enough: its units are refused just
+/// where 1,048,576 of each stream may wait.
 pub fn room_for_all()
     ensures { RoomForAll }
 {}

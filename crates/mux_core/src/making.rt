@@ -1,29 +1,30 @@
 //! Making a multiplexer: the one place where it takes memory.
 
-ghost use Rattle.std.specs.Prelude.{◌≡◌, ◌≤◌, ◌<◌, IfOk, IfErr, map, length};
+ghost use Rattle.std.specs.Prelude.{◌≡◌, ◌<◌, IfOk, IfErr, map, length};
 ghost use Rattle.description.specs.Tables.{table_count};
 ghost use Rattle.description.specs.Ranges.{IsInRange};
+ghost use Rattle.plan_timing.specs.Promised.{Promised};
 ghost use Rattle.slot_plan.specs.Schedule.{single, switched};
-ghost use Rattle.unit_queue.specs.Queues.{IsRules};
-ghost use Rattle.mux_core.specs.Histories.{rules_of, empty_history};
-ghost use Rattle.mux_core.specs.Standing.{Stands};
-ghost use Rattle.mux_core.specs.Making.{is_capacity, is_periods, plan_cause, switch_cause, new_refusal, Judges, first_queue, first_turn, first_turns};
+ghost use Rattle.mux_core.specs.Histories.{parameters_of, empty_history};
+ghost use Rattle.mux_core.specs.MuxStates.{Stands};
+ghost use Rattle.mux_core.specs.NewMux.{is_capacity, is_periods, plan_cause, switch_cause, new_refusal, Judges};
+ghost use Rattle.mux_core.specs.NewMux.{first_queue, first_carousel, first_carousels};
 
 use crate::checked_schedule::CheckedSchedule;
 use crate::done::NewError;
-use crate::multiplexer::{LAST_SLOTS, Mux};
+use crate::multiplexer::{MAX_SLOTS, Mux};
 use plan_checker::{CheckedPlan, CheckedSwitch};
-use slot_plan::{Description, Stream};
+use slot_plan::{Description, StreamDescription};
 use std::alloc::{AllocError, Allocator};
-use table_rounds::TableTurn;
-use unit_queue::{StreamRules, UnitQueue};
+use table_rounds::TableCarousel;
+use unit_queue::{StreamParameters, UnitQueue};
 
-/// The most units of a stream that may wait.
-pub(crate) const MOST_UNITS: usize = 1_048_576;
+/// The maximum number of units of a stream that may wait.
+pub(crate) const MAX_CAPACITY: usize = 1_048_576;
 
 impl<A: Allocator + Clone> Mux<A> {
-    /// A multiplexer over a plan, in which each stream may have `capacity` units that are not sent whole, 1 to 1,048,576.
-    /// Where none is made the plan comes back.
+    /// A multiplexer over a plan, in which each stream may have `capacity` units that are not sent whole, 1 to
+    /// 1,048,576. Where none is made the plan comes back.
     pub fn new(
         alloc: A,
         plan: CheckedPlan<A>,
@@ -31,7 +32,10 @@ impl<A: Allocator + Clone> Mux<A> {
     ) -> Result<Mux<A>, (NewError, CheckedPlan<A>)>
         ensures refused { Judges (plan_cause capacity) (new_refusal result) }
         ensures stands { IfOk result (Stands empty_history) }
-        ensures line { IfOk result (λ m. m.line ≡ record { description = plan.description; schedule = single plan.plan.slots }) }
+        ensures schedule { IfOk result (λ m. m.schedule ≡ record {
+          description = plan.description;
+          schedule = single plan.plan.slots;
+        }) }
         ensures capacity { IfOk result (λ m. m.capacity ≡ capacity) }
         ensures handed_back { IfErr result (λ e. e.1 ≡ plan) }
     {
@@ -41,14 +45,14 @@ impl<A: Allocator + Clone> Mux<A> {
         let Ok(queues) = first_queues(&alloc, plan.description(), capacity) else {
             return Err((NewError::Memory, plan));
         };
-        let Ok(turns) = first_turns(&alloc, plan.description()) else {
+        let Ok(carousels) = first_carousels(&alloc, plan.description()) else {
             return Err((NewError::Memory, plan));
         };
-        Ok(begun(CheckedSchedule::single(plan), queues, turns, capacity))
+        Ok(begun(CheckedSchedule::single(plan), queues, carousels, capacity))
     }
 
-    /// A multiplexer over two plans, the first for so many of its periods: 1 or more, and 2^40 slots at most. Where none is
-    /// made the switch comes back.
+    /// A multiplexer over two plans, the first for `periods` of its periods: 1 or more, and 2^40 slots at most. Where
+    /// none is made the switch comes back.
     pub fn with_switch(
         alloc: A,
         switch: CheckedSwitch<A>,
@@ -57,8 +61,11 @@ impl<A: Allocator + Clone> Mux<A> {
     ) -> Result<Mux<A>, (NewError, CheckedSwitch<A>)>
         ensures refused { Judges (switch_cause (length switch.first.plan.slots) periods capacity) (new_refusal result) }
         ensures stands { IfOk result (Stands empty_history) }
-        ensures line { IfOk result (λ m. m.line
-            ≡ record { description = switch.first.description; schedule = switched switch.first.plan.slots periods switch.second.slots }) }
+        ensures schedule { IfOk result (λ m. m.schedule
+            ≡ record {
+              description = switch.first.description;
+              schedule = switched switch.first.plan.slots periods switch.second.slots;
+            }) }
         ensures capacity { IfOk result (λ m. m.capacity ≡ capacity) }
         ensures handed_back { IfErr result (λ e. e.1 ≡ switch) }
     {
@@ -71,32 +78,33 @@ impl<A: Allocator + Clone> Mux<A> {
         let Ok(queues) = first_queues(&alloc, switch.first().description(), capacity) else {
             return Err((NewError::Memory, switch));
         };
-        let Ok(turns) = first_turns(&alloc, switch.first().description()) else {
+        let Ok(carousels) = first_carousels(&alloc, switch.first().description()) else {
             return Err((NewError::Memory, switch));
         };
-        let line = CheckedSchedule::switched(switch, periods);
-        Ok(begun(line, queues, turns, capacity))
+        let schedule = CheckedSchedule::switched(switch, periods);
+        Ok(begun(schedule, queues, carousels, capacity))
     }
 }
 
 // A multiplexer before slot 0.
 fn begun<A: Allocator>(
-    line: CheckedSchedule<A>,
+    schedule: CheckedSchedule<A>,
     queues: Vec<UnitQueue<A>, A>,
-    turns: Vec<TableTurn, A>,
+    carousels: Vec<TableCarousel, A>,
     capacity: usize,
 ) -> Mux<A>
-    requires queues { queues.items ≡ map (first_queue line.description capacity) line.description.streams }
-    requires turns { turns.items ≡ first_turns line.description 0 (table_count line.description) }
+    requires ranges { IsInRange schedule.description }
+    requires promised { Promised schedule.description schedule.schedule }
+    requires queues { queues.items ≡ map (first_queue schedule.description capacity) schedule.description.streams }
+    requires carousels { carousels.items ≡ first_carousels schedule.description 0 (table_count schedule.description) }
     ensures stands { Stands empty_history result }
-    ensures line { result.line ≡ line }
+    ensures schedule { result.schedule ≡ schedule }
     ensures capacity { result.capacity ≡ capacity }
 {
-    line.keeps_ranges();
     Mux {
-        line,
+        schedule,
         queues,
-        turns,
+        carousels,
         capacity,
         slots: 0,
     }
@@ -105,21 +113,21 @@ fn begun<A: Allocator>(
 fn is_capacity(capacity: usize) -> bool
     ensures { result ≡ is_capacity capacity }
 {
-    1 <= capacity && capacity <= MOST_UNITS
+    1 <= capacity && capacity <= MAX_CAPACITY
 }
 
-// The first plan, of this period, runs for so many periods.
+// Whether the first plan, of this period, may run for this number of periods.
 pub(crate) fn is_periods(period: usize, periods: u64) -> bool
     ensures { result ≡ is_periods period periods }
 {
-    1 <= periods && u128::from(periods) * period as u128 <= u128::from(LAST_SLOTS)
+    1 <= periods && u128::from(periods) * period as u128 <= u128::from(MAX_SLOTS)
 }
 
 // What a stream declares.
-fn rules_of(description: &Description, stream: &Stream) -> StreamRules
-    ensures { result ≡ rules_of description.now stream.now }
+fn parameters_of(description: &Description, stream: &StreamDescription) -> StreamParameters
+    ensures { result ≡ parameters_of description.now stream.now }
 {
-    StreamRules {
+    StreamParameters {
         rate: description.rate(),
         base0: description.base0(),
         pid: stream.pid,
@@ -138,39 +146,41 @@ fn first_queues<A: Allocator + Clone>(
     description: &Description,
     capacity: usize,
 ) -> Result<Vec<UnitQueue<A>, A>, AllocError>
-    ensures { IfOk result (λ queues. queues.items ≡ map (first_queue description.now capacity) description.now.streams) }
+    ensures { IfOk result (λ queues. queues.items
+        ≡ map (first_queue description.now capacity) description.now.streams) }
 {
     description.keeps_ranges();
     let mut queues = Vec::new(alloc.clone()?);
     for stream in description.streams() {
-        let rules = rules_of(description, stream);
-        queues.push(UnitQueue::new(alloc.clone()?, rules, capacity)?)?;
+        let parameters = parameters_of(description, stream);
+        queues.push(UnitQueue::new(alloc.clone()?, parameters, capacity)?)?;
     }
     Ok(queues)
 }
 
-// A turn for each table.
-fn first_turns<A: Allocator + Clone>(
+// A carousel for each table.
+fn first_carousels<A: Allocator + Clone>(
     alloc: &A,
     description: &Description,
-) -> Result<Vec<TableTurn, A>, AllocError>
-    ensures { IfOk result (λ turns. turns.items ≡ first_turns description.now 0 (table_count description.now)) }
+) -> Result<Vec<TableCarousel, A>, AllocError>
+    ensures { IfOk result (λ carousels. carousels.items ≡ first_carousels description.now 0
+        (table_count description.now)) }
 {
-    let mut turns = Vec::new(alloc.clone()?);
+    let mut carousels = Vec::new(alloc.clone()?);
     for table in 0..description.tables() {
-        turns.push(first_turn(description, table))?;
+        carousels.push(first_carousel(description, table))?;
     }
-    Ok(turns)
+    Ok(carousels)
 }
 
-// The turn of a table before slot 0.
-fn first_turn(description: &Description, table: usize) -> TableTurn
+// The carousel of a table before slot 0.
+fn first_carousel(description: &Description, table: usize) -> TableCarousel
     requires { table < table_count description.now }
-    ensures { result ≡ first_turn description.now table }
+    ensures { result ≡ first_carousel description.now table }
 {
     description.keeps_ranges();
     let lengths = description.section_lengths(table);
-    TableTurn::new(
+    TableCarousel::new(
         description.table_pid(table),
         description.rate(),
         description.start() as u32,

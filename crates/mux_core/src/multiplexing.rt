@@ -1,23 +1,26 @@
-//! A whole job at once: all units are fed before the first slot, and then so many slots are written.
+//! A whole job at once: all units are fed before the first slot, and then a number of slots is written.
 
-ghost use Rattle.std.specs.Prelude.{◌≡◌, ◌≤◌, ◌*◌, ◌^◌, ℕ, false, List, [], Option, None, IfOk, IfErr, OnOk, OnErr, length};
-ghost use Rattle.ts_packet.specs.Device.{Failed};
+ghost use Rattle.std.specs.Prelude.{◌≡◌, ◌≤◌, ◌*◌, ◌^◌, ℕ, false, List, [], Option, None, IfOk, IfErr, OnOk, OnErr};
+ghost use Rattle.counted_io.specs.Device.{Failed};
 ghost use Rattle.pes_packet.specs.Units.{units_of};
 ghost use Rattle.mux_core.specs.Headline.{Headline};
 ghost use Rattle.mux_core.specs.Histories.{History, content_at, bytes_of, empty_history};
-ghost use Rattle.mux_core.specs.Standing.{Stands};
-ghost use Rattle.mux_core.specs.Collecting.{Holds, Took};
-ghost use Rattle.mux_core.specs.Multiplexing.{plan_line, switch_line, job_history, slots_cause, switch_slots_cause, job_cause, capacity_for, most_units, run_output, output_of, slot_size, FeedsAll, WritesAll, Refuses, Writes, OnWriting, NamesWriter};
+ghost use Rattle.mux_core.specs.MuxStates.{Stands};
+ghost use Rattle.packet_output.specs.Buffer.{IsOutput, Took};
+ghost use Rattle.mux_core.specs.WholeJobs.{plan_schedule, switch_schedule, job_history, slots_cause};
+ghost use Rattle.mux_core.specs.WholeJobs.{switch_slots_cause, job_cause, capacity_for, max_stream_units};
+ghost use Rattle.mux_core.specs.WholeJobs.{run_output, output_of, slot_size, FeedsAll, WritesAll, Refuses, Writes};
+ghost use Rattle.mux_core.specs.WholeJobs.{OnWriting, NamesWriter};
 
-use crate::making::{MOST_UNITS, is_periods};
-use crate::multiplexer::{LAST_SLOTS, Mux};
-use crate::packet_output::{OutputFault, PacketOutput};
+use crate::making::{MAX_CAPACITY, is_periods};
+use crate::multiplexer::{MAX_SLOTS, Mux};
+use counted_io::Sink;
+use packet_output::{OutputFault, PacketOutput};
 use pes_packet::Unit;
 use plan_checker::{CheckedPlan, CheckedSwitch};
 use std::alloc::Allocator;
 use std::collections::VecDeque;
 use thiserror::Error;
-use ts_packet::Sink;
 use unit_queue::FeedError;
 
 /// Why a job was not written to its end. The first that holds is given.
@@ -40,8 +43,8 @@ pub enum MuxError {
     Memory,
 }
 
-/// Writes so many slots of a plan, 188 bytes each, after all units were fed, each to the stream of its number. It answers
-/// the number of bytes written. A stream may have 1,048,576 units; the next is refused as Full.
+/// Writes `slots` slots of a plan, 188 bytes each, after all units were fed, each to the stream of its number. It
+/// answers the number of bytes written. A stream may have 1,048,576 units; the next is refused as Full.
 pub fn multiplex<A: Allocator + Copy, W: Sink>(
     alloc: A,
     plan: CheckedPlan<A>,
@@ -49,10 +52,13 @@ pub fn multiplex<A: Allocator + Copy, W: Sink>(
     slots: u64,
     to: &mut W,
 ) -> Result<u64, MuxError>
-    ensures refused { Refuses (slots_cause slots) (job_cause (slots_cause slots) (plan_line plan) units.items) result }
-    ensures written { Writes (bytes_of (plan_line plan) (job_history units.items slots)) (W.contents to.old) (W.contents to.new) result }
+    ensures refused { Refuses (slots_cause slots)
+        (job_cause (slots_cause slots) (plan_schedule plan) units.items) result }
+    ensures written { Writes (bytes_of (plan_schedule plan) (job_history units.items slots))
+        (W.contents to.old) (W.contents to.new) result }
     ensures sent { IfOk result (λ sent. sent ≡ 188 * slots) }
-    ensures headline { OnWriting result (Headline (plan_line plan) (λ k. units_of k units.items) slots (bytes_of (plan_line plan) (job_history units.items slots))) }
+    ensures headline { OnWriting result (Headline (plan_schedule plan) (λ k. units_of k units.items) slots
+        (bytes_of (plan_schedule plan) (job_history units.items slots))) }
     ensures fault { NamesWriter result (W.fault_count to.old) (W.fault_count to.new) }
 {
     multiplex_as(alloc, plan, units, slots, false, to)
@@ -67,13 +73,16 @@ pub fn multiplex_as<A: Allocator + Copy, W: Sink>(
     hex: bool,
     to: &mut W,
 ) -> Result<u64, MuxError>
-    ensures refused { Refuses (slots_cause slots) (job_cause (slots_cause slots) (plan_line plan) units.items) result }
-    ensures written { Writes (output_of hex (plan_line plan) (job_history units.items slots)) (W.contents to.old) (W.contents to.new) result }
+    ensures refused { Refuses (slots_cause slots)
+        (job_cause (slots_cause slots) (plan_schedule plan) units.items) result }
+    ensures written { Writes (output_of hex (plan_schedule plan) (job_history units.items slots))
+        (W.contents to.old) (W.contents to.new) result }
     ensures sent { IfOk result (λ sent. sent ≡ slot_size hex * slots) }
-    ensures headline { OnWriting result (Headline (plan_line plan) (λ k. units_of k units.items) slots (bytes_of (plan_line plan) (job_history units.items slots))) }
+    ensures headline { OnWriting result (Headline (plan_schedule plan) (λ k. units_of k units.items) slots
+        (bytes_of (plan_schedule plan) (job_history units.items slots))) }
     ensures fault { NamesWriter result (W.fault_count to.old) (W.fault_count to.new) }
 {
-    if slots > LAST_SLOTS {
+    if slots > MAX_SLOTS {
         // By a call: at the end of a function the drop of each part would be a step of its proof.
         drop(plan);
         return Err(MuxError::TooManySlots);
@@ -86,7 +95,7 @@ pub fn multiplex_as<A: Allocator + Copy, W: Sink>(
     written
 }
 
-/// The same over two plans, the first for so many of its periods: 1 or more, and 2^40 slots at most.
+/// The same over two plans, the first for `periods` of its periods: 1 or more, and 2^40 slots at most.
 pub fn multiplex_switch<A: Allocator + Copy, W: Sink>(
     alloc: A,
     switch: CheckedSwitch<A>,
@@ -95,10 +104,13 @@ pub fn multiplex_switch<A: Allocator + Copy, W: Sink>(
     slots: u64,
     to: &mut W,
 ) -> Result<u64, MuxError>
-    ensures refused { Refuses (switch_slots_cause switch periods slots) (job_cause (switch_slots_cause switch periods slots) (switch_line switch periods) units.items) result }
-    ensures written { Writes (bytes_of (switch_line switch periods) (job_history units.items slots)) (W.contents to.old) (W.contents to.new) result }
+    ensures refused { Refuses (switch_slots_cause switch periods slots)
+        (job_cause (switch_slots_cause switch periods slots) (switch_schedule switch periods) units.items) result }
+    ensures written { Writes (bytes_of (switch_schedule switch periods) (job_history units.items slots))
+        (W.contents to.old) (W.contents to.new) result }
     ensures sent { IfOk result (λ sent. sent ≡ 188 * slots) }
-    ensures headline { OnWriting result (Headline (switch_line switch periods) (λ k. units_of k units.items) slots (bytes_of (switch_line switch periods) (job_history units.items slots))) }
+    ensures headline { OnWriting result (Headline (switch_schedule switch periods) (λ k. units_of k units.items) slots
+        (bytes_of (switch_schedule switch periods) (job_history units.items slots))) }
     ensures fault { NamesWriter result (W.fault_count to.old) (W.fault_count to.new) }
 {
     multiplex_switch_as(alloc, switch, periods, units, slots, false, to)
@@ -114,13 +126,16 @@ pub fn multiplex_switch_as<A: Allocator + Copy, W: Sink>(
     hex: bool,
     to: &mut W,
 ) -> Result<u64, MuxError>
-    ensures refused { Refuses (switch_slots_cause switch periods slots) (job_cause (switch_slots_cause switch periods slots) (switch_line switch periods) units.items) result }
-    ensures written { Writes (output_of hex (switch_line switch periods) (job_history units.items slots)) (W.contents to.old) (W.contents to.new) result }
+    ensures refused { Refuses (switch_slots_cause switch periods slots)
+        (job_cause (switch_slots_cause switch periods slots) (switch_schedule switch periods) units.items) result }
+    ensures written { Writes (output_of hex (switch_schedule switch periods) (job_history units.items slots))
+        (W.contents to.old) (W.contents to.new) result }
     ensures sent { IfOk result (λ sent. sent ≡ slot_size hex * slots) }
-    ensures headline { OnWriting result (Headline (switch_line switch periods) (λ k. units_of k units.items) slots (bytes_of (switch_line switch periods) (job_history units.items slots))) }
+    ensures headline { OnWriting result (Headline (switch_schedule switch periods) (λ k. units_of k units.items) slots
+        (bytes_of (switch_schedule switch periods) (job_history units.items slots))) }
     ensures fault { NamesWriter result (W.fault_count to.old) (W.fault_count to.new) }
 {
-    if slots > LAST_SLOTS {
+    if slots > MAX_SLOTS {
         // By a call: at the end of a function the drop of each part would be a step of its proof.
         drop(switch);
         return Err(MuxError::TooManySlots);
@@ -137,16 +152,16 @@ pub fn multiplex_switch_as<A: Allocator + Copy, W: Sink>(
     written
 }
 
-// How many units of a stream may wait.
+// The number of units of a stream that may wait.
 fn capacity_for<A: Allocator>(units: &[(u8, Unit<A>)]) -> usize
     ensures { result ≡ capacity_for units.now }
 {
-    most_units(units).max(1).min(MOST_UNITS)
+    max_stream_units(units).max(1).min(MAX_CAPACITY)
 }
 
-// The greatest number of units of one stream.
-fn most_units<A: Allocator>(units: &[(u8, Unit<A>)]) -> usize
-    ensures { result ≡ most_units units.now }
+// The maximum number of units of one stream.
+fn max_stream_units<A: Allocator>(units: &[(u8, Unit<A>)]) -> usize
+    ensures { result ≡ max_stream_units units.now }
 {
     let mut counts = [0usize; 256];
     let mut most = 0;
@@ -160,7 +175,7 @@ fn most_units<A: Allocator>(units: &[(u8, Unit<A>)]) -> usize
     most
 }
 
-// Feeds all units to a multiplexer before its first slot, and then writes so many slots.
+// Feeds all units to a multiplexer before its first slot, and then writes `slots` slots.
 fn write_job<A: Allocator + Copy, W: Sink>(
     alloc: A,
     mux: &mut Mux<A>,
@@ -172,14 +187,15 @@ fn write_job<A: Allocator + Copy, W: Sink>(
     requires slots { slots ≤ 2 ^ 40 }
     requires stands { Stands empty_history mux.old }
     requires capacity { mux.old.capacity ≡ capacity_for units.items }
-    ensures refused { Refuses None (job_cause None mux.old.line units.items) result }
-    ensures written { Writes (output_of hex mux.old.line (job_history units.items slots)) (W.contents to.old) (W.contents to.new) result }
+    ensures refused { Refuses None (job_cause None mux.old.schedule units.items) result }
+    ensures written { Writes (output_of hex mux.old.schedule (job_history units.items slots))
+        (W.contents to.old) (W.contents to.new) result }
     ensures sent { IfOk result (λ sent. sent ≡ slot_size hex * slots) }
-    ensures headline { OnWriting result (Headline mux.old.line (λ k. units_of k units.items) slots (bytes_of mux.old.line (job_history units.items slots))) }
+    ensures headline { OnWriting result (Headline mux.old.schedule (λ k. units_of k units.items) slots
+        (bytes_of mux.old.schedule (job_history units.items slots))) }
     ensures fault { NamesWriter result (W.fault_count to.old) (W.fault_count to.new) }
 {
-    mux.keeps_ranges();
-    mux.promises();
+    mux.keeps_promises();
     match feed_all(mux, units) {
         Ok(()) => {}
         Err((index, cause)) => return Err(MuxError::Feed { index, cause }),
@@ -190,7 +206,7 @@ fn write_job<A: Allocator + Copy, W: Sink>(
     write_all(mux, slots, packets, to)
 }
 
-// Writes so many slots, to the last byte.
+// Writes `slots` slots, to the last byte.
 fn write_all<A: Allocator, B: Allocator, W: Sink>(
     mux: &mut Mux<A>,
     slots: u64,
@@ -201,7 +217,8 @@ fn write_all<A: Allocator, B: Allocator, W: Sink>(
     requires empty { packets.waiting ≡ [] }
     requires none_sent { packets.sent ≡ 0 }
     ensures answers { (h : History) → Stands h mux.old → h.slots ≡ 0 →
-        WritesAll (run_output packets.hex (content_at mux.old.line h.units) 0 slots) (W.contents to.old) (W.contents to.new) result }
+        WritesAll (run_output packets.hex (content_at mux.old.schedule h.units) 0 slots)
+        (W.contents to.old) (W.contents to.new) result }
     ensures fault { NamesWriter result (W.fault_count to.old) (W.fault_count to.new) }
 {
     match write_slots(mux, slots, &mut packets, to) {
@@ -232,7 +249,7 @@ fn feed_all<A: Allocator>(
     Ok(())
 }
 
-// Writes the packets of so many slots.
+// Writes the packets of `slots` slots.
 fn write_slots<A: Allocator, B: Allocator, W: Sink>(
     mux: &mut Mux<A>,
     slots: u64,
@@ -240,10 +257,14 @@ fn write_slots<A: Allocator, B: Allocator, W: Sink>(
     to: &mut W,
 ) -> Result<(), OutputFault>
     requires slots { slots ≤ 2 ^ 40 }
-    ensures ok { (h : History) (start : Option (List ℕ)) → Stands h mux.old → h.slots ≡ 0 → Holds start (W.contents to.old) packets.old [] →
-        OnOk result (Holds start (W.contents to.new) packets.new (run_output packets.old.hex (content_at mux.old.line h.units) 0 slots)) }
-    ensures err { (h : History) (start : Option (List ℕ)) → Stands h mux.old → h.slots ≡ 0 → Holds start (W.contents to.old) packets.old [] →
-        IfErr result (λ fault. Took start (W.contents to.new) fault.sent (run_output packets.old.hex (content_at mux.old.line h.units) 0 slots)) }
+    ensures ok { (h : History) (start : Option (List ℕ)) → Stands h mux.old → h.slots ≡ 0 →
+        IsOutput start (W.contents to.old) packets.old [] →
+        OnOk result (IsOutput start (W.contents to.new) packets.new
+        (run_output packets.old.hex (content_at mux.old.schedule h.units) 0 slots)) }
+    ensures err { (h : History) (start : Option (List ℕ)) → Stands h mux.old → h.slots ≡ 0 →
+        IsOutput start (W.contents to.old) packets.old [] →
+        IfErr result (λ fault. Took start (W.contents to.new) fault.sent
+        (run_output packets.old.hex (content_at mux.old.schedule h.units) 0 slots)) }
     ensures clean { OnOk result (W.fault_count to.new ≡ W.fault_count to.old) }
     ensures fault { OnErr result (Failed (W.fault_count to.old) (W.fault_count to.new)) }
 {

@@ -1,4 +1,5 @@
-//! Worked services and plans, each refusal, finished bytes, and refused memory. A helper that has no answer to give answers None.
+//! Worked services and plans, finished bytes, and refused memory. A helper that has no answer to give
+//! answers None.
 
 mod carrying;
 mod checks;
@@ -12,15 +13,30 @@ mod records;
 mod runs;
 mod services;
 mod texts;
-mod whole_way;
 
 use plan_checker::{CheckedPlan, CheckedSwitch, check, check_switch};
 use slot_plan::{Description, Plan};
 use std::alloc::{Allocator, Global};
 
-/// The text with another part in place of each such part.
+/// The text with `other` in place of each `part`.
 fn edited(alloc: Global, text: &str, part: &str, other: &str) -> Option<String> {
     text.replace(alloc, part, other).ok()
+}
+
+/// The text after another, once for each of these numbers, which stand where the mark does.
+fn repeated(
+    alloc: Global,
+    before: &str,
+    text: &str,
+    mark: &str,
+    numbers: &[&str],
+) -> Option<String> {
+    let mut whole = String::from_str(alloc, before).ok()?;
+    for number in numbers {
+        let part = edited(alloc, text, mark, number)?;
+        whole.push_str(part.as_str()).ok()?;
+    }
+    Some(whole)
 }
 
 fn described(alloc: Global, text: &str) -> Option<Description> {
@@ -43,7 +59,14 @@ fn checked<A: Allocator + Clone>(
 ) -> Option<CheckedPlan<A>> {
     let description = described(global, description)?;
     match planned(alloc, plan) {
-        Some(plan) => check(description, plan).ok(),
+        Some(plan) => match check(description, plan) {
+            Ok(checked) => Some(checked),
+            Err((_, description, plan)) => {
+                drop(description);
+                drop(plan);
+                None
+            }
+        },
         None => {
             drop(description);
             None
@@ -58,7 +81,14 @@ fn followed<A: Allocator + Clone>(
     second: &str,
 ) -> Option<CheckedSwitch<A>> {
     match planned(alloc, second) {
-        Some(second) => check_switch(first, second).ok(),
+        Some(second) => match check_switch(first, second) {
+            Ok(switch) => Some(switch),
+            Err((_, first, second)) => {
+                drop(first);
+                drop(second);
+                None
+            }
+        },
         None => {
             drop(first);
             None

@@ -1,10 +1,10 @@
-pub mod Greatest
-pub mod Counting
-pub mod Placing
-pub mod Gapping
-pub mod Pacing
-pub mod Working
-pub mod Recurring
-pub mod Joining
-pub mod Parting
-mod Rows
+pub mod Extremes
+pub mod Counts
+pub mod PositionLemmas
+pub mod Gaps
+pub mod Spread
+pub mod WorkLemmas
+pub mod Recurrence
+pub mod SwitchLemmas
+pub mod PartLemmas
+mod Examples

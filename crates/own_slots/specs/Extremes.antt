@@ -1,7 +1,7 @@
--- The greatest of finitely many numbers, in the shape of a loop that keeps it.
+-- The greatest and the least of finitely many numbers, in the shape of a loop that keeps it.
 use Rattle.std.specs.Prelude.{ℕ, zero, suc, max, min}
 
--- the greatest of f 0 .. f (n - 1), 0 where there is none
+-- the greatest of f 0 .. f (n - 1), 0 if n is 0
 unfoldable pub greatest : ℕ → (ℕ → ℕ) → ℕ
 greatest zero f = 0
 greatest (suc n) f = max (greatest n f) (f n)

@@ -1,6 +1,6 @@
 -- Gaps of own slots, round the period's end.
 use Rattle.std.specs.Prelude.{◌≡◌, ℕ, ◌+◌, ◌-◌, ◌<◌, ◌≤◌, Bool, cond, List, length}
-use Rattle.own_slots.specs.Slots.{own_before, Serves}
+use Rattle.own_slots.specs.Slots.{own_before, AtLeastPerWindow}
 use Rattle.own_slots.specs.Period.{own, per_period, position}
 use Rattle.own_slots.specs.Extremes.{greatest}
 
@@ -14,7 +14,7 @@ ahead marks k s = cond (own marks s) (position marks (own_before (own marks) s +
 
 -- where k own slots in a row are never more than g slots apart, each window of g slots has k of them
 abbrev pub GapLaw : Type 0
-GapLaw = (marks : List Bool) (k g : ℕ) → 0 < per_period marks → gap marks k ≤ g → Serves (own marks) g k
+GapLaw = (marks : List Bool) (k g : ℕ) → 0 < per_period marks → gap marks k ≤ g → AtLeastPerWindow (own marks) g k
 
 -- the greatest gap is found by one walk over the slots of the period
 abbrev pub GapWalkLaw : Type 0

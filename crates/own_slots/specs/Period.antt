@@ -13,7 +13,7 @@ places b [] = []
 places b (true ∷ marks) = b ∷ places (suc b) marks
 places b (false ∷ marks) = places (suc b) marks
 
--- how many own slots a period has
+-- the number of own slots of a period
 abbrev pub per_period : List Bool → ℕ
 per_period marks = length (places 0 marks)
 
@@ -21,7 +21,7 @@ per_period marks = length (places 0 marks)
 abbrev pub position : List Bool → ℕ → ℕ
 position marks i = slice_index_or (places 0 marks) (i % per_period marks) 0 + i / per_period marks * length marks
 
--- how far before slot 0 the own slot number -x stands, where the period is continued below 0 (x from 1 on): x periods
+-- how far before slot 0 the own slot number -x is, where the period is continued below 0 (x from 1 on): x periods
 -- later it is own slot number x * per_period - x
 abbrev pub back : List Bool → ℕ → ℕ
 back marks x = x * length marks - position marks (x * per_period marks - x)
@@ -30,7 +30,7 @@ back marks x = x * length marks - position marks (x * per_period marks - x)
 abbrev pub PositionsLaw : Type 0
 PositionsLaw = (marks : List Bool) → 0 < per_period marks → Enumerates (own marks) (position marks)
 
--- where an own slot stands x own slots before the end of y periods, it stands `back marks x` slots before it
+-- where an own slot is x own slots before the end of y periods, it is `back marks x` slots before it
 abbrev pub BackLaw : Type 0
 BackLaw = (marks : List Bool) (x y s : ℕ) → 0 < per_period marks → 0 < x → own marks s ≡ true → own_before (own marks) s + x ≡ y * per_period marks →
     s + back marks x ≡ y * length marks

@@ -1,7 +1,7 @@
 -- Two plans: the first for a whole number of its periods, then the second. An item's own slots are counted on over the
 -- switch.
 use Rattle.std.specs.Prelude.{ℕ, ◌+◌, ◌-◌, ◌*◌, ◌<◌, ◌≤◌, max, Bool, cond, nat_lt, List, length}
-use Rattle.own_slots.specs.Slots.{Serves, Spares, ServesAt}
+use Rattle.own_slots.specs.Slots.{AtLeastPerWindow, AtMostPerWindow, HasPace}
 use Rattle.own_slots.specs.Period.{own, per_period, position, back}
 use Rattle.own_slots.specs.Gaps.{gap}
 use Rattle.own_slots.specs.Spread.{spread}
@@ -15,8 +15,8 @@ joined first second at s = cond (nat_lt s at) (first s) (second (s - at))
 abbrev pub joined_work : (ℕ → ℕ) → (ℕ → ℕ) → ℕ → ℕ → ℕ
 joined_work first second at s = cond (nat_lt s at) (first s) (second (s - at))
 
--- by how many slots the second plan's last own slot stands later, counted from its period's end, than the first plan's:
--- 0 where it stands earlier
+-- by how many slots the second plan's last own slot is later, counted from its period's end, than the first plan's:
+-- 0 if it is earlier
 abbrev pub shift : List Bool → List Bool → ℕ
 shift first second = back first 1 - back second 1
 
@@ -25,12 +25,12 @@ shift first second = back first 1 - back second 1
 abbrev pub SwitchGapLaw : Type 0
 SwitchGapLaw = (first second : List Bool) (periods k g : ℕ) → 0 < per_period first → 0 < per_period second →
     gap first k ≤ g → gap second k ≤ g → ((x : ℕ) → 1 ≤ x → x ≤ k → position second (k - x) + back first x ≤ g) →
-    Serves (joined (own first) (own second) (periods * length first)) g k
+    AtLeastPerWindow (joined (own first) (own second) (periods * length first)) g k
 
 -- the pace of two plans: the slower of the two, both spreads, and the shift
-abbrev pub SwitchRateLaw : Type 0
-SwitchRateLaw = (first second : List Bool) (periods a b : ℕ) → 0 < per_period first → 0 < per_period second → spread first ≤ a → spread second ≤ b →
-    ServesAt (joined (own first) (own second) (periods * length first))
+abbrev pub SwitchPaceLaw : Type 0
+SwitchPaceLaw = (first second : List Bool) (periods a b : ℕ) → 0 < per_period first → 0 < per_period second → spread first ≤ a → spread second ≤ b →
+    HasPace (joined (own first) (own second) (periods * length first))
     (per_period first * per_period second)
     (max (length first * per_period second) (length second * per_period first))
     (a * per_period second + b * per_period first + per_period first * per_period second * shift first second)
@@ -45,5 +45,5 @@ SwitchWorkLaw = (rate drain room : ℕ) (start peak : ℕ) (first : List Bool) (
     (joined_work (periodic_work rate drain start first) (periodic_work rate drain next_start second) (periods * length first))
 
 -- a window across the switch has at most what the two plans' windows have together; the switch may be at any slot
-abbrev pub SwitchSpareLaw : Type 0
-SwitchSpareLaw = (first second : ℕ → Bool) (at w m n : ℕ) → Spares first w m → Spares second w n → Spares (joined first second at) w (m + n)
+abbrev pub SwitchShareLaw : Type 0
+SwitchShareLaw = (first second : ℕ → Bool) (at w m n : ℕ) → AtMostPerWindow first w m → AtMostPerWindow second w n → AtMostPerWindow (joined first second at) w (m + n)

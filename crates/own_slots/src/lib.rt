@@ -5,7 +5,7 @@
 //! `own : ℕ → Bool` of the slot number. The definitions stand in `specs/`. Each function here is a law: it does
 //! nothing, and its contract says what holds of the definitions. A crate above calls it where it needs the fact.
 //!
-//! - [`positions`]: which own slot stands where.
+//! - [`positions`]: the slot of each own slot number.
 //! - [`parts`]: a part of an item's own slots.
 //! - [`windows`]: gaps and spread of one period, as windows of slots over all time.
 //! - [`work`]: work of a buffer that the own slots fill, from one period to all time.

@@ -1,6 +1,6 @@
 //! Two plans: the first for a whole number of its periods, then the second. Own slots are counted on over the switch.
 
-ghost use Rattle.own_slots.specs.Switch.{SwitchGapLaw, SwitchRateLaw, SwitchWorkLaw, SwitchSpareLaw};
+ghost use Rattle.own_slots.specs.Switch.{SwitchGapLaw, SwitchPaceLaw, SwitchWorkLaw, SwitchShareLaw};
 
 /// Where both plans have k own slots in each window of g slots, and the second plan's own slot number `k - x` comes
 /// within g slots of the first plan's own slot number `-x` for each x from 1 to k, so have the two plans together.
@@ -11,9 +11,9 @@ pub fn switch_gaps()
 /// The pace over the switch. With c1 of N1 and c2 of N2 slots own and spreads of at most a1 and a2, m own slots come
 /// within each window of w slots, where
 /// `a1 * c2 + a2 * c1 + c1 * c2 * E + m * max (N1 * c2) (N2 * c1) < c1 * c2 * (w + 1)`.
-/// E is the number of slots by which the second plan's last own slot stands later than the first's.
+/// E is the number of slots by which the second plan's last own slot is later than the first's.
 pub fn switch_pace()
-    ensures { SwitchRateLaw }
+    ensures { SwitchPaceLaw }
 {}
 
 /// Where the claims of both plans hold and the first plan's period leaves at most the work that the second begins with,
@@ -24,5 +24,5 @@ pub fn switch_work()
 
 /// A window over two plans has no more own slots than windows of the two plans together.
 pub fn switch_share()
-    ensures { SwitchSpareLaw }
+    ensures { SwitchShareLaw }
 {}

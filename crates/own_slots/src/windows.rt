@@ -1,7 +1,7 @@
 //! Gaps and spread of one period, as windows of slots over all time, wherever a window begins.
 
 ghost use Rattle.own_slots.specs.Gaps.{GapLaw, GapWalkLaw};
-ghost use Rattle.own_slots.specs.Spread.{RateLaw, ShareLaw, SpreadWalkLaw};
+ghost use Rattle.own_slots.specs.Spread.{PaceLaw, ShareLaw, SpreadWalkLaw};
 
 /// Where each own slot is at most g slots before the k-th own slot after it (round the period's end too), each
 /// window of g slots has at least k own slots.
@@ -17,7 +17,7 @@ pub fn gap_walk()
 /// A period of N slots with c own slots and a spread of at most a has a pace: m own slots come within each window of
 /// w slots, where `a + m * N < c * (w + 1)`.
 pub fn pace()
-    ensures { RateLaw }
+    ensures { PaceLaw }
 {}
 
 /// With a spread of at most a no window of w slots (w from 1 on) has more than `((w - 1) * c + a) / N + 1` own slots.

@@ -1,9 +1,9 @@
--- A header is read exactly where it stands by the table of its fields.
+-- A header is read exactly if the bytes are one by the table of its fields.
 use Rattle.std.proofs.Common.{◌≡◌, ℕ, ◌+◌, ◌*◌, ◌/◌, ◌%◌, ◌^◌, ◌<◌, ◌≤◌, ◌&&◌, not, Bool, true, false, cond, Result, Ok, Err, List, [], ◌∷◌, ◌++◌, length, take, drop, refl, sym, ap, ◌∙◌, subst, arith, ltb, eqb, suc, ◌⊎◌, inl, inr, IfOk}
 use Rattle.std.proofs.lemmas.Bool.{eqb-true, eq-eqb, or_parts, or_from, ltb-false, le-ltb, ne_eqb, cases_eq}
 use Rattle.std.proofs.lemmas.List.{length-append, length-take-le, take-append-drop, take_at}
 use Rattle.bit_fields.specs.Fields.{number, fields, IsBytes}
-use Rattle.bit_fields.proofs.Binding.{bind_ok, guard_ok, chosen, ok_not_err}
+use Rattle.bit_fields.proofs.Bind.{bind_ok, guard_ok, chosen, ok_not_err}
 use Rattle.bit_fields.proofs.ByteLists.{IsBytes-tail, IsBytes-take, IsBytes-append_left, IsBytes-append_right}
 use Rattle.pes_packet.specs.StreamIds.{has_flags}
 use Rattle.pes_packet.specs.Reading.{stamps_at, is_bad_flags, is_too_short, data_at, flags_at, start_at, misses_prefix, header_at}
@@ -75,28 +75,28 @@ flags_takes id len (first ∷ second ∷ count ∷ bytes) header size fits flagg
     let is : ◌≡◌ {A = PesHeader × ℕ} (record { id = id; len = len; stamps = b.0 }, 9 + count) (header, size) = cc (made) in
     let there : count ≤ length bytes = ltb-false _ _ g.0 in
     let took : length (take count bytes) ≡ count = length-take-le count bytes there in
-    let parts : length (take count bytes) ≡ length s.text + length s.others = ap (length {A = ℕ}) s.is ∙ length-append s.text s.others in
-    let whole : length s.text + length s.others ≡ count = sym parts ∙ took in
-    let flags : IsFlags (first ∷ second ∷ count ∷ []) b.0 (length s.text + length s.others) =
+    let parts : length (take count bytes) ≡ length s.front + length s.others = ap (length {A = ℕ}) s.is ∙ length-append s.front s.others in
+    let whole : length s.front + length s.others ≡ count = sym parts ∙ took in
+    let flags : IsFlags (first ∷ second ∷ count ∷ []) b.0 (length s.front + length s.others) =
     subst (λ (x : ℕ). IsFlags (first ∷ second ∷ count ∷ []) b.0 x) (sym whole)
     (flags_of first second count b.0 (fits 0) (fits 1) (fits 2) (good_flags first second f.0) s.flags_are) in
     subst (λ (x : PesHeader × ℕ). ReadsAfter id len (first ∷ second ∷ count ∷ bytes) x.0 x.1) is (record {
-      after = (first ∷ second ∷ count ∷ []) ++ (s.text ++ s.others);
+      after = (first ∷ second ∷ count ∷ []) ++ (s.front ++ s.others);
       rest = drop count bytes;
       is = ap (λ (t : List ℕ). first ∷ second ∷ count ∷ t) (sym (take-append-drop count bytes) ∙ ap (λ (t : List ℕ). t ++ drop count bytes) s.is);
       id_is = refl;
       len_is = refl;
-      size_is = omega (arith, length-append s.text s.others);
+      size_is = omega (arith, length-append s.front s.others);
       stands = rw flagged (record {
         flags = first ∷ second ∷ count ∷ [];
-        stamps = s.text;
+        stamps = s.front;
         others = s.others;
         is = refl;
         flags_stand = flags;
         stamps_stand = s.stand;
         counted = elim (counts len count n.0) [
           | inl none ↦ inl none
-          | inr some ↦ inr (omega (arith, length-append s.text s.others))
+          | inr some ↦ inr (omega (arith, length-append s.front s.others))
         ];
       });
     })
@@ -244,14 +244,11 @@ after_by false header after rest fits stands =
     let size : 6 ≡ 6 + length after = sym (ap (λ (t : List ℕ). 6 + length t) stands.0) in
     ap (λ (h : PesHeader). Ok (h, 6)) whole ∙ ap (λ (n : ℕ). Ok (header, n)) size
 
--- what stands after PES_packet_length is read
+-- what follows PES_packet_length is read
 after_again : (header : PesHeader) (after rest : List ℕ) → IsBytes after → IsAfter (has_flags header.id) after header
     → cond (has_flags header.id) (flags_at header.id header.len (after ++ rest)) (Ok (record { id = header.id; len = header.len; stamps = Absent }, 6))
     ≡ Ok (header, 6 + length after)
 after_again header after rest fits stands = after_by (has_flags header.id) header after rest fits stands
-
-prefix_again : (more : List ℕ) → misses_prefix (0 ∷ 0 ∷ 1 ∷ more) ≡ false
-prefix_again more = refl
 
 start_again : (header : PesHeader) (start after rest : List ℕ) → IsBytes start → IsBytes after → IsStart start header
     → IsAfter (has_flags header.id) after header → header_at (start ++ (after ++ rest)) ≡ Ok (header, length start + length after)
@@ -267,7 +264,7 @@ start_again header (p ∷ q ∷ r ∷ id ∷ []) after rest fits fits_after stan
 start_again header (p ∷ q ∷ r ∷ id ∷ high ∷ []) after rest fits fits_after stands after_stands = absurd (omega (arith, stands.len))
 start_again header (p ∷ q ∷ r ∷ id ∷ high ∷ low ∷ more ∷ start) after rest fits fits_after stands after_stands = absurd (omega (arith, stands.len))
 
--- a header that stands by the table of fields is read, whatever follows it
+-- a header by the table of fields is read, whatever follows it
 pub header_again : (bytes : List ℕ) (header : PesHeader) (size : ℕ) (h : IsPesHeader bytes header size) → IsBytes h.start → IsBytes h.after
     → header_at bytes ≡ Ok (header, size)
 header_again bytes header size h fits_start fits_after =
@@ -279,7 +276,7 @@ pub is_found : (bytes : List ℕ) (r : Result (PesHeader × ℕ) PesError) → I
 is_found bytes (Ok read) fits e = header_takes bytes read.0 read.1 fits (sym e)
 is_found bytes (Err refusal) fits e = tt
 
--- a header that stands in bytes is read
+-- a header at the front of bytes is read
 pub header_is_read : (bytes : List ℕ) (header : PesHeader) (size : ℕ) → IsBytes bytes → IsPesHeader bytes header size → header_at bytes ≡ Ok (header, size)
 header_is_read bytes header size fits h =
     let whole : IsBytes (h.start ++ (h.after ++ h.rest)) = subst IsBytes h.is fits in

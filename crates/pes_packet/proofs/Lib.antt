@@ -1,5 +1,5 @@
 pub mod StampFields
 pub mod HeaderFields
 pub mod Written
-pub mod Longer
-pub mod PieceLists
+pub mod LongerRead
+pub mod Payloads

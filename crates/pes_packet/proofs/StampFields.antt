@@ -1,9 +1,9 @@
--- A stamp is read exactly where it stands by the table of its fields.
+-- A stamp is read exactly if the bytes are one by the table of its fields.
 use Rattle.std.proofs.Common.{◌≡◌, ℕ, ◌+◌, ◌*◌, ◌/◌, ◌%◌, ◌^◌, ◌<◌, ◌≤◌, ◌==◌, Bool, true, false, cond, Result, Ok, Err, List, [], ◌∷◌, ◌++◌, length, take, drop, refl, sym, ap, ◌∙◌, subst, arith, ltb, append_assoc, ◌⊎◌, inl, inr}
 use Rattle.std.proofs.lemmas.Bool.{eqb-true, eq-eqb, and_parts, and_from, ltb-false, le-ltb}
 use Rattle.std.proofs.lemmas.List.{length-append, length-take-le, take-append-drop, take_at, drop_at}
 use Rattle.bit_fields.specs.Fields.{number, fields, IsBytes}
-use Rattle.bit_fields.proofs.Binding.{bind_ok, guard_ok, chosen, ok_is, ok_not_err}
+use Rattle.bit_fields.proofs.Bind.{bind_ok, guard_ok, chosen, ok_is, ok_not_err}
 use Rattle.bit_fields.proofs.ByteLists.{IsBytes-take, IsBytes-drop, IsBytes-append_left, IsBytes-append_right}
 use Rattle.pes_packet.specs.Reading.{stamp_at, five_at, pts_at, pts_dts_at, stamps_at}
 use Rattle.pes_packet.specs.Syntax.{IsStamp, IsPtsDts, IsStamps, stamp_flags}
@@ -29,7 +29,7 @@ stamp_of a b c d e v ha hb hc hd he ma mc me is = record {
 }
 
 -- what is read is a stamp
-pub stamp_takes : (text : List ℕ) (v : ℕ) → IsBytes text → length text ≡ 5 → stamp_at text ≡ Ok v → IsStamp text v
+pub stamp_takes : (front : List ℕ) (v : ℕ) → IsBytes front → length front ≡ 5 → stamp_at front ≡ Ok v → IsStamp front v
 unfolding stamp_at
 stamp_takes (a ∷ b ∷ c ∷ d ∷ e ∷ []) v fits len read =
     let p = passed _ _ _ _ read in
@@ -54,7 +54,7 @@ read_at : (b : Bool) (x y : ℕ) (d : PesError) → b ≡ true → x ≡ y → c
 read_at b x y d p e = rw (p, e) refl
 
 -- a stamp is read
-pub stamp_again : (text : List ℕ) (v : ℕ) → IsBytes text → IsStamp text v → stamp_at text ≡ Ok v
+pub stamp_again : (front : List ℕ) (v : ℕ) → IsBytes front → IsStamp front v → stamp_at front ≡ Ok v
 unfolding stamp_at
 stamp_again (a ∷ b ∷ c ∷ d ∷ e ∷ []) v fits s =
     let f = fields_of a b c d e s.mark v (fits 0) (fits 1) (fits 2) (fits 3) (fits 4) s.spelled s.below in
@@ -85,11 +85,11 @@ five_again bytes some = rw (le-ltb (length bytes) 5 some) refl
 
 -- stamps were read from the front of header data
 pub record ReadsStamps (flags : ℕ) (bytes : List ℕ) (stamps : Stamps) : Type 0 where
-  pub text : List ℕ
+  pub front : List ℕ
   pub others : List ℕ
-  pub is : bytes ≡ text ++ others
+  pub is : bytes ≡ front ++ others
   pub flags_are : flags ≡ stamp_flags stamps
-  pub stand : IsStamps text stamps
+  pub stand : IsStamps front stamps
 
 five_long : (bytes : List ℕ) → 5 ≤ length bytes → length (take 5 bytes) ≡ 5
 five_long bytes h = length-take-le 5 bytes h
@@ -105,7 +105,7 @@ pts_takes flags bytes stamps fits two read =
     let stands : IsStamp (take 5 bytes) s.0 =
     stamp_takes (take 5 bytes) s.0 (IsBytes-take 5 bytes fits) (five_long bytes five.some) (ap stamp_at (sym five.front) ∙ s.1) in
     subst (λ (x : Stamps). ReadsStamps flags bytes x) is (record {
-      text = take 5 bytes;
+      front = take 5 bytes;
       others = drop 5 bytes;
       is = sym (take-append-drop 5 bytes);
       flags_are = two;
@@ -136,7 +136,7 @@ pts_dts_takes flags bytes stamps fits three read =
     let dts_stands : IsStamp (take 5 (drop 5 bytes)) d.0 =
     stamp_takes (take 5 (drop 5 bytes)) d.0 (IsBytes-take 5 (drop 5 bytes) (IsBytes-drop 5 bytes fits)) (five_long (drop 5 bytes) more) (ap stamp_at (sym front) ∙ d.1) in
     subst (λ (x : Stamps). ReadsStamps flags bytes x) is (record {
-      text = take 5 bytes ++ take 5 (drop 5 bytes);
+      front = take 5 bytes ++ take 5 (drop 5 bytes);
       others = drop 5 (drop 5 bytes);
       is = split_ten bytes;
       flags_are = three;
@@ -167,27 +167,27 @@ stamps_takes flags bytes stamps fits read =
     elim (ways flags (Ok Absent) (pts_at bytes) (pts_dts_at bytes) stamps read) [
       | inl none ↦
           subst (λ (x : Stamps). ReadsStamps flags bytes x) (ok_is Absent stamps none.1)
-          (record { text = []; others = bytes; is = refl; flags_are = none.0; stand = refl })
+          (record { front = []; others = bytes; is = refl; flags_are = none.0; stand = refl })
       | inr (inl pts) ↦ pts_takes flags bytes stamps fits pts.0 pts.1
       | inr (inr both) ↦ pts_dts_takes flags bytes stamps fits both.0 both.1
     ]
 
-five_front : (text others : List ℕ) → length text ≡ 5 → five_at (text ++ others) ≡ Ok (text, others)
-five_front text others len =
-    let a : take 5 (text ++ others) ≡ text = take_at text others 5 len in
-    let b : drop 5 (text ++ others) ≡ others = drop_at text others 5 len in
-    five_again (text ++ others) (omega (arith, length-append text others)) ∙ rw (a, b) refl
+five_front : (front others : List ℕ) → length front ≡ 5 → five_at (front ++ others) ≡ Ok (front, others)
+five_front front others len =
+    let a : take 5 (front ++ others) ≡ front = take_at front others 5 len in
+    let b : drop 5 (front ++ others) ≡ others = drop_at front others 5 len in
+    five_again (front ++ others) (omega (arith, length-append front others)) ∙ rw (a, b) refl
 
-pub pts_again : (text others : List ℕ) (pts : ℕ) → IsBytes text → IsStamp text pts → pts_at (text ++ others) ≡ Ok (Pts pts)
+pub pts_again : (front others : List ℕ) (pts : ℕ) → IsBytes front → IsStamp front pts → pts_at (front ++ others) ≡ Ok (Pts pts)
 unfolding pts_at
-pts_again text others pts fits stands =
-    rw (five_front text others stands.len, stamp_again text pts fits stands) refl
+pts_again front others pts fits stands =
+    rw (five_front front others stands.len, stamp_again front pts fits stands) refl
 
-pub pts_dts_again : (text others : List ℕ) (pts dts : ℕ) → IsBytes text → IsPtsDts text pts dts → pts_dts_at (text ++ others) ≡ Ok (PtsDts pts dts)
+pub pts_dts_again : (front others : List ℕ) (pts dts : ℕ) → IsBytes front → IsPtsDts front pts dts → pts_dts_at (front ++ others) ≡ Ok (PtsDts pts dts)
 unfolding pts_dts_at
-pts_dts_again text others pts dts fits stands =
+pts_dts_again front others pts dts fits stands =
     let both : IsBytes (stands.first ++ stands.second) = subst IsBytes stands.is fits in
-    let is : text ++ others ≡ stands.first ++ (stands.second ++ others) =
+    let is : front ++ others ≡ stands.first ++ (stands.second ++ others) =
     ap (λ (t : List ℕ). t ++ others) stands.is ∙ append_assoc stands.first stands.second others in
     let p : stamp_at stands.first ≡ Ok pts = stamp_again stands.first pts (IsBytes-append_left stands.first stands.second both) stands.pts_stands in
     let d : stamp_at stands.second ≡ Ok dts = stamp_again stands.second dts (IsBytes-append_right stands.first stands.second both) stands.dts_stands in
@@ -196,8 +196,8 @@ pts_dts_again text others pts dts fits stands =
     rw (is, f, s, p, d) refl
 
 -- stamps are read from the front of header data
-pub stamps_again : (stamps : Stamps) (text others : List ℕ) → IsBytes text → IsStamps text stamps → stamps_at (stamp_flags stamps) (text ++ others) ≡ Ok stamps
+pub stamps_again : (stamps : Stamps) (front others : List ℕ) → IsBytes front → IsStamps front stamps → stamps_at (stamp_flags stamps) (front ++ others) ≡ Ok stamps
 unfolding stamps_at
-stamps_again Absent text others fits stands = refl
-stamps_again (Pts pts) text others fits stands = pts_again text others pts fits stands
-stamps_again (PtsDts pts dts) text others fits stands = pts_dts_again text others pts dts fits stands
+stamps_again Absent front others fits stands = refl
+stamps_again (Pts pts) front others fits stands = pts_again front others pts fits stands
+stamps_again (PtsDts pts dts) front others fits stands = pts_dts_again front others pts dts fits stands

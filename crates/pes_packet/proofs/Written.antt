@@ -1,10 +1,10 @@
--- A written header stands by the table of fields, and is read again.
+-- A written header is one by the table of fields, and is read again.
 use Rattle.std.proofs.Common.{◌≡◌, ℕ, ◌+◌, ◌*◌, ◌/◌, ◌%◌, ◌^◌, ◌<◌, ◌≤◌, ◌==◌, ◌&&◌, ◌||◌, not, nat_le, Bool, true, false, cond, List, [], ◌∷◌, ◌++◌, length, refl, ap, arith, ◌⊎◌, inl, inr, IsTrue}
 use Rattle.std.proofs.lemmas.Bool.{eqb-true, ne_eqb, and_parts, or_from, leb-true}
 use Rattle.bit_fields.specs.Fields.{IsBytes}
 use Rattle.bit_fields.proofs.ByteLists.{IsBytes-cons, IsBytes-nil, IsBytes-append}
 use Rattle.pes_packet.specs.StreamIds.{has_flags, is_unit_id, greatest_size, fits_packet}
-use Rattle.pes_packet.specs.Spelling.{start_text, packet_length, stamp_text, on_wire, pts_header, pts_dts_header, header_text}
+use Rattle.pes_packet.specs.Encoding.{pes_start_bytes, packet_length, stamp_bytes, on_wire, pts_header, pts_dts_header, pes_header_bytes}
 use Rattle.pes_packet.specs.Syntax.{IsStamp, IsStart, IsFlags, IsPesHeader, stamp_flags}
 use Rattle.pes_packet.specs.Laws.{written_header, WrittenIsRead, WrittenIsHeader, HeaderSizes}
 use Rattle.pes_packet.specs.declared.time_stamps.Stamps.{Stamps}
@@ -73,40 +73,32 @@ five_bytes : (a b c d e : ℕ) → a < 256 → b < 256 → c < 256 → d < 256 �
 five_bytes a b c d e ha hb hc hd he =
     IsBytes-cons a (b ∷ c ∷ d ∷ e ∷ []) ha (IsBytes-cons b (c ∷ d ∷ e ∷ []) hb (three_bytes c d e hc hd he))
 
--- a written stamp stands
-stamp_stands : (mark stamp : ℕ) → mark < 16 → stamp < 2 ^ 33 → IsStamp (stamp_text mark stamp) stamp
-unfolding stamp_text
+-- a written stamp is one by the table of fields
+stamp_stands : (mark stamp : ℕ) → mark < 16 → stamp < 2 ^ 33 → IsStamp (stamp_bytes mark stamp) stamp
+unfolding stamp_bytes
 stamp_stands mark stamp hm hs = record { len = refl; mark = mark; spelled = omega arith; below = hs }
 
-stamp_bytes : (mark stamp : ℕ) → mark < 16 → stamp < 2 ^ 33 → IsBytes (stamp_text mark stamp)
-unfolding stamp_text
-stamp_bytes mark stamp hm hs =
+stamp_is_bytes : (mark stamp : ℕ) → mark < 16 → stamp < 2 ^ 33 → IsBytes (stamp_bytes mark stamp)
+unfolding stamp_bytes
+stamp_is_bytes mark stamp hm hs =
     five_bytes (mark * 16 + (stamp / 2 ^ 30 * 2 + 1)) (stamp / 2 ^ 22 % 256) (stamp / 2 ^ 15 % 128 * 2 + 1) (stamp / 2 ^ 7 % 256) (stamp % 128 * 2 + 1)
     (omega arith) (omega arith) (omega arith) (omega arith) (omega arith)
 
-stamp_length : (mark stamp : ℕ) → length (stamp_text mark stamp) ≡ 5
-unfolding stamp_text
-stamp_length mark stamp = refl
-
-start_stands : (id len : ℕ) (header : PesHeader) → id < 256 → len < 2 ^ 16 → header.id ≡ id → header.len ≡ len → IsStart (start_text id len) header
-unfolding start_text
+start_stands : (id len : ℕ) (header : PesHeader) → id < 256 → len < 2 ^ 16 → header.id ≡ id → header.len ≡ len → IsStart (pes_start_bytes id len) header
+unfolding pes_start_bytes
 start_stands id len header hi hl ei el = record { len = refl; spelled = omega arith; id = omega arith; packet_length = omega arith }
 
-start_bytes : (id len : ℕ) → id < 256 → len < 2 ^ 16 → IsBytes (start_text id len)
-unfolding start_text
-start_bytes id len hi hl =
+start_is_bytes : (id len : ℕ) → id < 256 → len < 2 ^ 16 → IsBytes (pes_start_bytes id len)
+unfolding pes_start_bytes
+start_is_bytes id len hi hl =
     IsBytes-cons 0 (0 ∷ 1 ∷ id ∷ (len / 256) ∷ (len % 256) ∷ []) (omega arith)
     (five_bytes 0 1 id (len / 256) (len % 256) (omega arith) (omega arith) hi (omega arith) (omega arith))
 
-start_length : (id len : ℕ) → length (start_text id len) ≡ 6
-unfolding start_text
-start_length id len = refl
-
--- a header stands at the front of bytes, and its own bytes are bytes
+-- a header is at the front of bytes, and each of its elements is a byte
 pub record Stands (bytes : List ℕ) (header : PesHeader) (size : ℕ) : Type 0 where
   pub is : IsPesHeader bytes header size
-  pub start_bytes : IsBytes is.start
-  pub after_bytes : IsBytes is.after
+  pub start_is_bytes : IsBytes is.start
+  pub after_is_bytes : IsBytes is.after
 
 -- flag bytes
 flags_stand : (second n : ℕ) (stamps : Stamps) → second < 256 → n < 256 → stamp_flags stamps * 64 ≡ second → IsFlags (0x80 ∷ second ∷ n ∷ []) stamps n
@@ -123,18 +115,18 @@ flags_stand second n stamps hs hn e = record {
 -- a header with a PTS alone
 pts_stands : (id size pts : ℕ) (rest : List ℕ) → id < 256 → has_flags id ≡ true → pts < 2 ^ 33
     → Stands (pts_header id size pts ++ rest) (record { id = id; len = packet_length (8 + size); stamps = Pts pts }) (length (pts_header id size pts))
-unfolding pts_header start_text stamp_text
+unfolding pts_header pes_start_bytes stamp_bytes
 pts_stands id size pts rest hi flagged hp = record {
   is = record {
-    start = start_text id (packet_length (8 + size));
-    after = (0x80 ∷ 0x80 ∷ 5 ∷ []) ++ stamp_text 2 pts;
+    start = pes_start_bytes id (packet_length (8 + size));
+    after = (0x80 ∷ 0x80 ∷ 5 ∷ []) ++ stamp_bytes 2 pts;
     rest = rest;
     is = refl;
     size_is = refl;
     start_stands = start_stands id (packet_length (8 + size)) _ hi (packet_length_fits (8 + size)) refl refl;
     after_stands = rw flagged (record {
       flags = 0x80 ∷ 0x80 ∷ 5 ∷ [];
-      stamps = stamp_text 2 pts;
+      stamps = stamp_bytes 2 pts;
       others = [];
       is = refl;
       flags_stand = flags_stand 0x80 5 (Pts pts) (omega arith) (omega arith) refl;
@@ -142,31 +134,31 @@ pts_stands id size pts rest hi flagged hp = record {
       counted = packet_length_counts 8 (8 + size) (omega arith);
     });
   };
-  start_bytes = start_bytes id (packet_length (8 + size)) hi (packet_length_fits (8 + size));
-  after_bytes = IsBytes-append (0x80 ∷ 0x80 ∷ 5 ∷ []) (stamp_text 2 pts) (three_bytes 0x80 0x80 5 (omega arith) (omega arith) (omega arith)) (stamp_bytes 2 pts (omega arith) hp);
+  start_is_bytes = start_is_bytes id (packet_length (8 + size)) hi (packet_length_fits (8 + size));
+  after_is_bytes = IsBytes-append (0x80 ∷ 0x80 ∷ 5 ∷ []) (stamp_bytes 2 pts) (three_bytes 0x80 0x80 5 (omega arith) (omega arith) (omega arith)) (stamp_is_bytes 2 pts (omega arith) hp);
 }
 
 -- a header with a PTS and a DTS
 pts_dts_stands : (id size pts dts : ℕ) (rest : List ℕ) → id < 256 → has_flags id ≡ true → pts < 2 ^ 33 → dts < 2 ^ 33
     → Stands (pts_dts_header id size pts dts ++ rest) (record { id = id; len = packet_length (13 + size); stamps = PtsDts pts dts }) (length (pts_dts_header id size pts dts))
-unfolding pts_dts_header start_text stamp_text
+unfolding pts_dts_header pes_start_bytes stamp_bytes
 pts_dts_stands id size pts dts rest hi flagged hp hd = record {
   is = record {
-    start = start_text id (packet_length (13 + size));
-    after = (0x80 ∷ 0xC0 ∷ 10 ∷ []) ++ (stamp_text 3 pts ++ stamp_text 1 dts);
+    start = pes_start_bytes id (packet_length (13 + size));
+    after = (0x80 ∷ 0xC0 ∷ 10 ∷ []) ++ (stamp_bytes 3 pts ++ stamp_bytes 1 dts);
     rest = rest;
     is = refl;
     size_is = refl;
     start_stands = start_stands id (packet_length (13 + size)) _ hi (packet_length_fits (13 + size)) refl refl;
     after_stands = rw flagged (record {
       flags = 0x80 ∷ 0xC0 ∷ 10 ∷ [];
-      stamps = stamp_text 3 pts ++ stamp_text 1 dts;
+      stamps = stamp_bytes 3 pts ++ stamp_bytes 1 dts;
       others = [];
       is = refl;
       flags_stand = flags_stand 0xC0 10 (PtsDts pts dts) (omega arith) (omega arith) refl;
       stamps_stand = record {
-        first = stamp_text 3 pts;
-        second = stamp_text 1 dts;
+        first = stamp_bytes 3 pts;
+        second = stamp_bytes 1 dts;
         is = refl;
         pts_stands = stamp_stands 3 pts (omega arith) hp;
         dts_stands = stamp_stands 1 dts (omega arith) hd;
@@ -174,10 +166,10 @@ pts_dts_stands id size pts dts rest hi flagged hp hd = record {
       counted = packet_length_counts 13 (13 + size) (omega arith);
     });
   };
-  start_bytes = start_bytes id (packet_length (13 + size)) hi (packet_length_fits (13 + size));
-  after_bytes = IsBytes-append (0x80 ∷ 0xC0 ∷ 10 ∷ []) (stamp_text 3 pts ++ stamp_text 1 dts)
+  start_is_bytes = start_is_bytes id (packet_length (13 + size)) hi (packet_length_fits (13 + size));
+  after_is_bytes = IsBytes-append (0x80 ∷ 0xC0 ∷ 10 ∷ []) (stamp_bytes 3 pts ++ stamp_bytes 1 dts)
       (three_bytes 0x80 0xC0 10 (omega arith) (omega arith) (omega arith))
-      (IsBytes-append (stamp_text 3 pts) (stamp_text 1 dts) (stamp_bytes 3 pts (omega arith) hp) (stamp_bytes 1 dts (omega arith) hd));
+      (IsBytes-append (stamp_bytes 3 pts) (stamp_bytes 1 dts) (stamp_is_bytes 3 pts (omega arith) hp) (stamp_is_bytes 1 dts (omega arith) hd));
 }
 
 -- either header, by whether the stamps on the wire are one
@@ -188,10 +180,10 @@ header_stands : (b : Bool) (id size p d : ℕ) (rest : List ℕ) → id < 256 �
 header_stands true id size p d rest hi flagged hp hd = pts_stands id size p rest hi flagged hp
 header_stands false id size p d rest hi flagged hp hd = pts_dts_stands id size p d rest hi flagged hp hd
 
--- the header of a unit stands
+-- the header of a unit is one
 pub written_stands : (id size pts dts : ℕ) (rest : List ℕ) → IsTrue (fits_packet id size)
-    → Stands (header_text id size pts dts ++ rest) (written_header id size pts dts) (length (header_text id size pts dts))
-unfolding header_text written_header
+    → Stands (pes_header_bytes id size pts dts ++ rest) (written_header id size pts dts) (length (pes_header_bytes id size pts dts))
+unfolding pes_header_bytes written_header
 written_stands id size pts dts rest fits =
     let all = and_parts (is_unit_id id && nat_le 1 size) (nat_le size (greatest_size id)) fits in
     let parts = and_parts (is_unit_id id) (nat_le 1 size) all.0 in
@@ -206,13 +198,13 @@ written_is_header id size pts dts rest fits = (written_stands id size pts dts re
 pub written_is_read : WrittenIsRead
 written_is_read id size pts dts rest fits =
     let s = written_stands id size pts dts rest fits in
-    header_again (header_text id size pts dts ++ rest) (written_header id size pts dts) (length (header_text id size pts dts)) s.is s.start_bytes s.after_bytes
+    header_again (pes_header_bytes id size pts dts ++ rest) (written_header id size pts dts) (length (pes_header_bytes id size pts dts)) s.is s.start_is_bytes s.after_is_bytes
 
 sizes : (b : Bool) (id size p d : ℕ) → length (cond b (pts_header id size p) (pts_dts_header id size p d)) ≡ cond b 14 19
-unfolding pts_header pts_dts_header start_text stamp_text
+unfolding pts_header pts_dts_header pes_start_bytes stamp_bytes
 sizes true id size p d = refl
 sizes false id size p d = refl
 
 pub header_sizes : HeaderSizes
-unfolding header_text
+unfolding pes_header_bytes
 header_sizes id size pts dts = sizes (on_wire pts == on_wire dts) id size (on_wire pts) (on_wire dts)

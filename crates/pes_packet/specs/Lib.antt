@@ -3,7 +3,7 @@ pub mod AccessUnits
 pub mod Codes
 pub mod Syntax
 pub mod Reading
-pub mod Spelling
+pub mod Encoding
 pub mod Payloads
 pub mod Units
 pub mod Laws

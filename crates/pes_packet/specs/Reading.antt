@@ -11,17 +11,17 @@ use Rattle.pes_packet.specs.declared.reading.PesHeader.{PesHeader}
 
 -- the three marker bits of a stamp are 1
 abbrev pub marked : List ℕ → Bool
-marked text = slice_index text 0 % 2 == 1 && slice_index text 2 % 2 == 1 && slice_index text 4 % 2 == 1
+marked bytes = slice_index bytes 0 % 2 == 1 && slice_index bytes 2 % 2 == 1 && slice_index bytes 4 % 2 == 1
 
 -- the value of a stamp: 3, 15 and 15 bits, a marker bit after each
 abbrev pub stamp_value : List ℕ → ℕ
-stamp_value text =
-    (slice_index text 0 / 2 % 8 * 2 ^ 15 + (slice_index text 1 * 256 + slice_index text 2) / 2) * 2 ^ 15
-    + (slice_index text 3 * 256 + slice_index text 4) / 2
+stamp_value bytes =
+    (slice_index bytes 0 / 2 % 8 * 2 ^ 15 + (slice_index bytes 1 * 256 + slice_index bytes 2) / 2) * 2 ^ 15
+    + (slice_index bytes 3 * 256 + slice_index bytes 4) / 2
 
 -- a stamp of five bytes, whose first four bits are not looked at
 unfoldable pub stamp_at : List ℕ → Result ℕ PesError
-stamp_at text = if marked text then Ok (stamp_value text) else Err Marker
+stamp_at bytes = if marked bytes then Ok (stamp_value bytes) else Err Marker
 
 -- five bytes of header data and the rest
 unfoldable pub five_at : List ℕ → Result (List ℕ × List ℕ) PesError
@@ -30,8 +30,8 @@ five_at bytes = if nat_lt (length bytes) 5 then Err Length else Ok (take 5 bytes
 -- a PTS alone
 unfoldable pub pts_at : List ℕ → Result Stamps PesError
 pts_at bytes = do
-  text ← five_at bytes
-  pts ← stamp_at text.0
+  five ← five_at bytes
+  pts ← stamp_at five.0
   Ok (Pts pts)
 
 -- a PTS and a DTS

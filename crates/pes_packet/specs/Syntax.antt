@@ -7,25 +7,25 @@ use Rattle.pes_packet.specs.declared.time_stamps.Stamps.TheVariants.{Absent, Pts
 use Rattle.pes_packet.specs.declared.reading.PesHeader.{PesHeader}
 
 -- a stamp: four bits that are not looked at, then 3, 15 and 15 bits with a marker bit 1 after each
-pub record IsStamp (text : List ℕ) (stamp : ℕ) : Type 0 where
-  pub len : length text ≡ 5
+pub record IsStamp (bytes : List ℕ) (stamp : ℕ) : Type 0 where
+  pub len : length bytes ≡ 5
   pub mark : ℕ
-  pub spelled : number text ≡ fields ((4, mark) ∷ (3, stamp / 2 ^ 30) ∷ (1, 1) ∷ (15, stamp / 2 ^ 15 % 2 ^ 15) ∷ (1, 1) ∷ (15, stamp % 2 ^ 15) ∷ (1, 1) ∷ [])
+  pub spelled : number bytes ≡ fields ((4, mark) ∷ (3, stamp / 2 ^ 30) ∷ (1, 1) ∷ (15, stamp / 2 ^ 15 % 2 ^ 15) ∷ (1, 1) ∷ (15, stamp % 2 ^ 15) ∷ (1, 1) ∷ [])
   pub below : stamp < 2 ^ 33
 
 -- a PTS, and a DTS after it
-pub record IsPtsDts (text : List ℕ) (pts dts : ℕ) : Type 0 where
+pub record IsPtsDts (bytes : List ℕ) (pts dts : ℕ) : Type 0 where
   pub first : List ℕ
   pub second : List ℕ
-  pub is : text ≡ first ++ second
+  pub is : bytes ≡ first ++ second
   pub pts_stands : IsStamp first pts
   pub dts_stands : IsStamp second dts
 
 -- the stamps
 abbrev pub IsStamps : List ℕ → Stamps → Type 0
-IsStamps text Absent = text ≡ []
-IsStamps text (Pts pts) = IsStamp text pts
-IsStamps text (PtsDts pts dts) = IsPtsDts text pts dts
+IsStamps bytes Absent = bytes ≡ []
+IsStamps bytes (Pts pts) = IsStamp bytes pts
+IsStamps bytes (PtsDts pts dts) = IsPtsDts bytes pts dts
 
 -- PTS_DTS_flags
 abbrev pub stamp_flags : Stamps → ℕ
@@ -34,37 +34,37 @@ stamp_flags (Pts pts) = 2
 stamp_flags (PtsDts pts dts) = 3
 
 -- packet_start_code_prefix, stream_id, PES_packet_length
-pub record IsStart (text : List ℕ) (header : PesHeader) : Type 0 where
-  pub len : length text ≡ 6
-  pub spelled : number text ≡ fields ((24, 1) ∷ (8, header.id) ∷ (16, header.len) ∷ [])
+pub record IsStart (bytes : List ℕ) (header : PesHeader) : Type 0 where
+  pub len : length bytes ≡ 6
+  pub spelled : number bytes ≡ fields ((24, 1) ∷ (8, header.id) ∷ (16, header.len) ∷ [])
   pub id : header.id < 2 ^ 8
   pub packet_length : header.len < 2 ^ 16
 
 -- bits 10, six bits that are not looked at (scrambling, priority, alignment, copyright, original), PTS_DTS_flags, six
 -- flags of other parts, PES_header_data_length
-pub record IsFlags (text : List ℕ) (stamps : Stamps) (data_length : ℕ) : Type 0 where
-  pub len : length text ≡ 3
+pub record IsFlags (bytes : List ℕ) (stamps : Stamps) (data_length : ℕ) : Type 0 where
+  pub len : length bytes ≡ 3
   pub control : ℕ
   pub parts : ℕ
-  pub spelled : number text ≡ fields ((2, 2) ∷ (6, control) ∷ (2, stamp_flags stamps) ∷ (6, parts) ∷ (8, data_length) ∷ [])
+  pub spelled : number bytes ≡ fields ((2, 2) ∷ (6, control) ∷ (2, stamp_flags stamps) ∷ (6, parts) ∷ (8, data_length) ∷ [])
   pub control_fits : control < 2 ^ 6
   pub parts_fit : parts < 2 ^ 6
   pub length_fits : data_length < 2 ^ 8
 
 -- the flag bytes, the stamps, and header data that is stepped over; PES_packet_length is 0 or counts them
-pub record IsFlagged (text : List ℕ) (header : PesHeader) : Type 0 where
+pub record IsFlagged (bytes : List ℕ) (header : PesHeader) : Type 0 where
   pub flags : List ℕ
   pub stamps : List ℕ
   pub others : List ℕ
-  pub is : text ≡ flags ++ (stamps ++ others)
+  pub is : bytes ≡ flags ++ (stamps ++ others)
   pub flags_stand : IsFlags flags header.stamps (length stamps + length others)
   pub stamps_stand : IsStamps stamps header.stamps
-  pub counted : (header.len ≡ 0) ⊎ (length text ≤ header.len)
+  pub counted : (header.len ≡ 0) ⊎ (length bytes ≤ header.len)
 
--- what stands after PES_packet_length, by whether the stream_id has flag bytes
+-- what follows PES_packet_length, by whether the stream_id has flag bytes
 abbrev pub IsAfter : Bool → List ℕ → PesHeader → Type 0
-IsAfter true text header = IsFlagged text header
-IsAfter false text header = (text ≡ []) × (header.stamps ≡ Absent)
+IsAfter true bytes header = IsFlagged bytes header
+IsAfter false bytes header = (bytes ≡ []) × (header.stamps ≡ Absent)
 
 -- the bytes begin with this header, of this size in bytes
 pub record IsPesHeader (bytes : List ℕ) (header : PesHeader) (size : ℕ) : Type 0 where

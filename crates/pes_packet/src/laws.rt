@@ -25,5 +25,5 @@ pub fn longer_is_read()
 
 /// The payloads of a PES packet have 184 bytes each, the last 1 to 184, and joined they are the packet.
 pub fn payloads_join()
-    ensures { (text : List ℕ) → PayloadsJoin text }
+    ensures { (bytes : List ℕ) → PayloadsJoin bytes }
 {}

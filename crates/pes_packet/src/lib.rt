@@ -2,9 +2,8 @@
 //! PES packets, written and read, and the payloads that a PES packet is cut into.
 //!
 //! Definitions first: `specs/StreamIds` says what each stream_id may carry, `specs/Syntax` is the
-//! standard's table of the header's fields, `specs/Reading` reads them from left to right, `specs/Spelling`
-//! is what is written, `specs/Payloads` the pieces of a packet. The modules stand in reading order: a unit,
-//! what its stream_id allows, the refusals, stamps, headers read and written, the laws.
+//! standard's table of the header's fields, `specs/Reading` reads them from left to right, `specs/Encoding`
+//! is what is written, `specs/Payloads` the payloads of a packet.
 #![tactic(auto)]
 
 mod access_unit;

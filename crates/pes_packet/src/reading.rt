@@ -1,7 +1,8 @@
 //! PES headers read (ISO/IEC 13818-1, 2.4.3.6, table 2-21).
 
 ghost use Rattle.std.specs.Prelude.{◌≡◌, ◌≤◌, ℕ, IfOk, length};
-ghost use Rattle.pes_packet.specs.Reading.{is_bad_flags, is_too_short, misses_prefix, data_at, flags_at, start_at, header_at};
+ghost use Rattle.pes_packet.specs.Reading.{is_bad_flags, is_too_short, misses_prefix};
+ghost use Rattle.pes_packet.specs.Reading.{data_at, flags_at, start_at, header_at};
 ghost use Rattle.pes_packet.specs.Syntax.{IsPesHeader};
 
 use crate::refusal::PesError;
@@ -26,7 +27,7 @@ pub struct PesHeader {
 /// Reads the header of a PES packet at the front of `bytes`, and says how many bytes it has.
 ///
 /// The first refusal is given in the order `Prefix`, `Short`, `BadFlags`, `Length`, `Marker`, and
-/// `Prefix` as soon as one byte at hand differs from 00 00 01. PES_packet_length 0 is read for each
+/// `Prefix` as soon as one byte at hand differs from 00 00 01. PES_packet_length 0 is accepted for each
 /// stream_id, and the four bits before a stamp are not looked at.
 pub fn read_header(bytes: &[u8]) -> Result<(PesHeader, usize), PesError>
     // What is read is what the bytes say, by the standard's table of fields.

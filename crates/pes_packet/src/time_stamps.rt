@@ -3,7 +3,7 @@
 ghost use Rattle.std.specs.Prelude.{◌≡◌, ◌+◌, ◌*◌, ◌<◌, ◌^◌};
 ghost use Rattle.bit_fields.specs.Reading.{Gives};
 ghost use Rattle.pes_packet.specs.Reading.{marked, stamp_at, five_at, pts_at, pts_dts_at, stamps_at};
-ghost use Rattle.pes_packet.specs.Spelling.{stamp_text};
+ghost use Rattle.pes_packet.specs.Encoding.{stamp_bytes};
 
 use crate::refusal::PesError;
 
@@ -19,23 +19,23 @@ pub enum Stamps {
 }
 
 // Whether the three marker bits of a stamp are 1.
-fn marked(text: &[u8; 5]) -> bool
-    ensures { result ≡ marked text.now }
+fn marked(bytes: &[u8; 5]) -> bool
+    ensures { result ≡ marked bytes.now }
 {
-    text[0] % 2 == 1 && text[2] % 2 == 1 && text[4] % 2 == 1
+    bytes[0] % 2 == 1 && bytes[2] % 2 == 1 && bytes[4] % 2 == 1
 }
 
 // Reads a stamp. Its first four bits are not looked at.
 #[tactic(auto, unfolding(crate::specs::Reading::stamp_at))]
-fn stamp_at(text: &[u8; 5]) -> Result<u64, PesError>
-    ensures { result ≡ stamp_at text.now }
+fn stamp_at(bytes: &[u8; 5]) -> Result<u64, PesError>
+    ensures { result ≡ stamp_at bytes.now }
 {
-    if !marked(text) {
+    if !marked(bytes) {
         return Err(PesError::Marker);
     }
-    let high = u64::from(text[0] >> 1 & 7);
-    let middle = u64::from(u16::from_be_bytes([text[1], text[2]]) >> 1);
-    let low = u64::from(u16::from_be_bytes([text[3], text[4]]) >> 1);
+    let high = u64::from(bytes[0] >> 1 & 7);
+    let middle = u64::from(u16::from_be_bytes([bytes[1], bytes[2]]) >> 1);
+    let low = u64::from(u16::from_be_bytes([bytes[3], bytes[4]]) >> 1);
     let upper = high << 15 | middle;
     Ok(upper << 15 | low)
 }
@@ -55,8 +55,8 @@ fn five_at(bytes: &[u8]) -> Result<(&[u8; 5], &[u8]), PesError>
 fn pts_at(bytes: &[u8]) -> Result<Stamps, PesError>
     ensures { result ≡ pts_at bytes.now }
 {
-    let (text, _) = five_at(bytes)?;
-    let pts = stamp_at(text)?;
+    let (five, _) = five_at(bytes)?;
+    let pts = stamp_at(five)?;
     Ok(Stamps::Pts(pts))
 }
 
@@ -92,12 +92,12 @@ fn with_marker(bits: u16) -> u16
     bits << 1 | 1
 }
 
-/// Spells a stamp after its four bits.
-#[tactic(auto, unfolding(crate::specs::Spelling::stamp_text))]
-pub(crate) fn stamp_text(mark: u8, stamp: u64) -> [u8; 5]
+/// The five bytes of a stamp, after its four bits.
+#[tactic(auto, unfolding(crate::specs::Encoding::stamp_bytes))]
+pub(crate) fn stamp_bytes(mark: u8, stamp: u64) -> [u8; 5]
     requires mark { mark < 16 }
     requires stamp { stamp < 2 ^ 33 }
-    ensures { result ≡ stamp_text mark stamp }
+    ensures { result ≡ stamp_bytes mark stamp }
 {
     let high = (stamp >> 30) as u16;
     let first = mark << 4 | with_marker(high) as u8;

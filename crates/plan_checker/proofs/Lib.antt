@@ -1,8 +1,7 @@
-pub mod Claimed
+pub mod SpreadClaims
 pub mod Counts
-pub mod Extremes
-pub mod Following
-pub mod Listing
-pub mod Marking
+pub mod SwitchEntries
+pub mod FirstFailing
+pub mod OwnMarks
 pub mod Rounds
-pub mod Switching
+pub mod SwitchGaps

@@ -7,7 +7,7 @@ use Rattle.std.proofs.lemmas.List.Sums.{sum_by-cons}
 use Rattle.std.proofs.lemmas.Option.{slice_get_within, unwrap_or-slice_get}
 use Rattle.description.specs.Described.{Described, DescribedProgram, DescribedEvent, DescribedTable}
 use Rattle.description.specs.Ranges.{IsInRange, IsProgram, IsEvent, IsBytes, IsTable}
-use Rattle.description.specs.Tables.{places_of, pmt_length, nit_length, service_length, longest_event, eit_length, eit_lengths, has_event, kind_lengths, table_kind, round_places}
+use Rattle.description.specs.Tables.{packets_of_section, pmt_length, nit_length, service_length, longest_event, eit_length, eit_lengths, has_event, kind_lengths, table_kind, round_packets}
 use Rattle.description.specs.declared.table_kind.TableKind.{TableKind}
 use Rattle.description.specs.declared.table_kind.TableKind.TheVariants.{Pat, Pmt, Nit, Sdt, Eit, Tdt, Private}
 
@@ -19,7 +19,7 @@ found_at P xs i x e all = rw (there x xs e) at (All-get_or P xs i x (slice_get_w
     there {X = X} x xs e = sym (unwrap_or-slice_get xs i x) ∙ ap (λ (o : Option X). unwrap_or o x) e
 
 -- a section, if there is one
-few_of_option : {X : Type 0} (f : X → ℕ) (o : Option X) → ((x : X) → o ≡ Some x → f x ≤ 1024) → sum_by places_of (map f (option_to_list o)) ≤ 2000
+few_of_option : {X : Type 0} (f : X → ℕ) (o : Option X) → ((x : X) → o ≡ Some x → f x ≤ 1024) → sum_by packets_of_section (map f (option_to_list o)) ≤ 2000
 few_of_option f None small = omega arith
 few_of_option f (Some x) small = let h = small x refl in omega arith
 
@@ -36,27 +36,27 @@ longest [] all = omega arith
 longest (e ∷ es) all = let is = All-head IsEvent e es all in omega (arith, is.name.fits, is.text.fits, longest es (All-tail IsEvent e es all))
 
 few_of_program : (p : DescribedProgram) (ps : List DescribedProgram) → IsProgram p → (b : Bool) →
-    sum_by places_of (eit_lengths (filter has_event ps)) ≤ 1200 * length ps →
-    sum_by places_of (eit_lengths (cond b (p ∷ filter has_event ps) (filter has_event ps))) ≤ 1200 * suc (length ps)
+    sum_by packets_of_section (eit_lengths (filter has_event ps)) ≤ 1200 * length ps →
+    sum_by packets_of_section (eit_lengths (cond b (p ∷ filter has_event ps) (filter has_event ps))) ≤ 1200 * suc (length ps)
 few_of_program p ps is true rest =
     let more = eit_lengths (filter has_event ps) in
-    omega (arith, longest p.events is.events, rest, sum_by-cons places_of (eit_length p) (eit_length p ∷ more), sum_by-cons places_of (eit_length p) more)
+    omega (arith, longest p.events is.events, rest, sum_by-cons packets_of_section (eit_length p) (eit_length p ∷ more), sum_by-cons packets_of_section (eit_length p) more)
 few_of_program p ps is false rest = omega (arith, rest)
 
-few_events : (ps : List DescribedProgram) → All IsProgram ps → sum_by places_of (eit_lengths (filter has_event ps)) ≤ 1200 * length ps
+few_events : (ps : List DescribedProgram) → All IsProgram ps → sum_by packets_of_section (eit_lengths (filter has_event ps)) ≤ 1200 * length ps
 few_events [] all = omega arith
 few_events (p ∷ ps) all = few_of_program p ps (All-head IsProgram p ps all) (has_event p) (few_events ps (All-tail IsProgram p ps all))
 
-few_privates : (ss : List (List ℕ)) → All (IsBytes 4096) ss → sum_by places_of (map length ss) ≤ 24 * length ss
+few_privates : (ss : List (List ℕ)) → All (IsBytes 4096) ss → sum_by packets_of_section (map length ss) ≤ 24 * length ss
 few_privates [] all = omega arith
-few_privates (s ∷ ss) all = let is = All-head (IsBytes 4096) s ss all in omega (arith, is.fits, few_privates ss (All-tail (IsBytes 4096) s ss all), sum_by-cons places_of (length s) (map length ss))
+few_privates (s ∷ ss) all = let is = All-head (IsBytes 4096) s ss all in omega (arith, is.fits, few_privates ss (All-tail (IsBytes 4096) s ss all), sum_by-cons packets_of_section (length s) (map length ss))
 
 few_of_table : (o : Option DescribedTable) → ((t : DescribedTable) → o ≡ Some t → IsTable t) →
-    sum_by places_of (elim o [ None ↦ [] | Some private ↦ map length private.sections ]) ≤ 20000
+    sum_by packets_of_section (elim o [ None ↦ [] | Some private ↦ map length private.sections ]) ≤ 20000
 few_of_table None is = omega arith
 few_of_table (Some t) is = let table = is t refl in omega (arith, few_privates t.sections table.sections, table.most_sections)
 
-few_of_kind : (d : Described) → IsInRange d → (kind : TableKind) → sum_by places_of (kind_lengths d kind) ≤ 20000
+few_of_kind : (d : Described) → IsInRange d → (kind : TableKind) → sum_by packets_of_section (kind_lengths d kind) ≤ 20000
 few_of_kind d r Pat = omega (arith, at_most_one d.network, r.most_programs)
 few_of_kind d r (Pmt p) =
     omega (arith, few_of_option (pmt_length d) (slice_get d.programs p) (λ x e. found_at (λ q. pmt_length d q ≤ 1024) d.programs p x e r.pmt_lengths))
@@ -67,9 +67,9 @@ few_of_kind d r Tdt = omega arith
 few_of_kind d r (Private i) = few_of_table (slice_get d.tables i) (λ t e. found_at IsTable d.tables i t e r.tables)
 
 -- the packets of a round
-pub few_places : (d : Described) → IsInRange d → (t : ℕ) → round_places d t ≤ 20000
+pub few_places : (d : Described) → IsInRange d → (t : ℕ) → round_packets d t ≤ 20000
 few_places d r t = of_kind (table_kind d t)
   where
-    of_kind : (o : Option TableKind) → sum_by places_of (elim o [ None ↦ [] | Some kind ↦ kind_lengths d kind ]) ≤ 20000
+    of_kind : (o : Option TableKind) → sum_by packets_of_section (elim o [ None ↦ [] | Some kind ↦ kind_lengths d kind ]) ≤ 20000
     of_kind None = omega arith
     of_kind (Some kind) = few_of_kind d r kind

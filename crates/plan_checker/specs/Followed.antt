@@ -2,7 +2,7 @@
 use Rattle.slot_plan.specs.Planned.{Planned}
 use Rattle.plan_checker.specs.Served.{Served}
 
--- what a checked switch stands for
+-- a checked switch as contracts see it
 pub record Followed : Type 0 where
   pub first : Served
   pub second : Planned

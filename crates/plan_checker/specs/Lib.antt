@@ -1,4 +1,4 @@
-pub mod Refused
+pub mod Refusals
 pub mod Served
-pub mod Joint
+pub mod SwitchShares
 pub mod Followed

@@ -2,7 +2,7 @@
 use Rattle.description.specs.Described.{Described}
 use Rattle.slot_plan.specs.Planned.{Planned}
 
--- what a checked plan stands for
+-- a checked plan as contracts see it
 pub record Served : Type 0 where
   pub description : Described
   pub plan : Planned

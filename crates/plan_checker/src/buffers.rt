@@ -3,15 +3,15 @@
 ghost use Rattle.std.specs.Prelude.{◌≡◌, ◌∷◌, []};
 ghost use Rattle.slot_plan.specs.Entries.{at_most, first_failing};
 ghost use Rattle.slot_plan.specs.Conditions.{stream_buffer_entries, transport_buffer_entries, system_buffer_entries};
-ghost use Rattle.plan_checker.specs.Refused.{failed};
+ghost use Rattle.plan_checker.specs.Refusals.{failed};
 
 use crate::claims::{claim_of_program, claim_of_stream};
-use crate::comparing::at_most;
+use crate::comparison::at_most;
+use crate::conditions::ItemCondition;
 use crate::plans::ShapedPlan;
 use crate::refusal::Refusal;
-use crate::turns::OnEach;
 use crate::work::{Work, work_of};
-use slot_plan::{Condition, Item, Program, Stream};
+use slot_plan::{Condition, Item, ProgramDescription, StreamDescription};
 use std::alloc::Allocator;
 use unit_timing::buffers::{BSYS_DRAIN, BSYS_SIZE, SYSTEM_TB_DRAIN, TB_SIZE};
 
@@ -38,8 +38,8 @@ fn buffer(
 /// The transport buffer of each stream.
 pub struct StreamBuffers;
 
-impl<A: Allocator> OnEach<ShapedPlan<'_, A>> for StreamBuffers {
-    type Item = Stream;
+impl<A: Allocator> ItemCondition<ShapedPlan<'_, A>> for StreamBuffers {
+    type Item = StreamDescription;
 
     ghost items = { λ s. s.description.now.streams };
 
@@ -49,7 +49,7 @@ impl<A: Allocator> OnEach<ShapedPlan<'_, A>> for StreamBuffers {
         plans.description.streams().len()
     }
 
-    fn judge(plans: &ShapedPlan<'_, A>, i: usize) -> Result<(), Refusal> {
+    fn check_item(plans: &ShapedPlan<'_, A>, i: usize) -> Result<(), Refusal> {
         let claim = claim_of_stream(plans.plan, i);
         let rate = plans.description.rate().bits_per_second();
         let drain = plans.description.streams()[i].rx as u64;
@@ -69,8 +69,8 @@ impl<A: Allocator> OnEach<ShapedPlan<'_, A>> for StreamBuffers {
 /// The transport buffer of each program's system packets; programs are counted on after the streams.
 pub struct TransportBuffers;
 
-impl<A: Allocator> OnEach<ShapedPlan<'_, A>> for TransportBuffers {
-    type Item = Program;
+impl<A: Allocator> ItemCondition<ShapedPlan<'_, A>> for TransportBuffers {
+    type Item = ProgramDescription;
 
     ghost items = { λ s. s.description.now.programs };
 
@@ -80,7 +80,7 @@ impl<A: Allocator> OnEach<ShapedPlan<'_, A>> for TransportBuffers {
         plans.description.programs().len()
     }
 
-    fn judge(plans: &ShapedPlan<'_, A>, i: usize) -> Result<(), Refusal> {
+    fn check_item(plans: &ShapedPlan<'_, A>, i: usize) -> Result<(), Refusal> {
         let number = plans.description.streams().len() + i;
         let claim = claim_of_program(plans.plan, i);
         let start = claim.transport_start;
@@ -101,8 +101,8 @@ impl<A: Allocator> OnEach<ShapedPlan<'_, A>> for TransportBuffers {
 /// The system buffer of each program.
 pub struct SystemBuffers;
 
-impl<A: Allocator> OnEach<ShapedPlan<'_, A>> for SystemBuffers {
-    type Item = Program;
+impl<A: Allocator> ItemCondition<ShapedPlan<'_, A>> for SystemBuffers {
+    type Item = ProgramDescription;
 
     ghost items = { λ s. s.description.now.programs };
 
@@ -112,7 +112,7 @@ impl<A: Allocator> OnEach<ShapedPlan<'_, A>> for SystemBuffers {
         plans.description.programs().len()
     }
 
-    fn judge(plans: &ShapedPlan<'_, A>, i: usize) -> Result<(), Refusal> {
+    fn check_item(plans: &ShapedPlan<'_, A>, i: usize) -> Result<(), Refusal> {
         plans.description.keeps_ranges();
         let claim = claim_of_program(plans.plan, i);
         let start = claim.system_start;

@@ -3,7 +3,7 @@
 ghost use Rattle.std.specs.Prelude.{◌≡◌, IfOk, IfErr};
 ghost use Rattle.slot_plan.specs.Entries.{first_failing};
 ghost use Rattle.slot_plan.specs.Conditions.{entries};
-ghost use Rattle.plan_checker.specs.Refused.{failed, refusal_of};
+ghost use Rattle.plan_checker.specs.Refusals.{failed, refusal_of};
 
 use crate::checked_plan::CheckedPlan;
 use crate::refusal::Refusal;
@@ -12,8 +12,11 @@ use crate::timing::timing;
 use slot_plan::{Description, Plan};
 use std::alloc::Allocator;
 
-/// The conditions of a plan for a description, in their order.
-pub fn conditions<A: Allocator>(description: &Description, plan: &Plan<A>) -> Result<(), Refusal>
+/// Checks the conditions of a plan for a description, in their order.
+pub fn check_conditions<A: Allocator>(
+    description: &Description,
+    plan: &Plan<A>,
+) -> Result<(), Refusal>
     ensures { failed result ≡ first_failing (entries description.now plan.now) }
 {
     shape(description, plan)?;
@@ -31,7 +34,7 @@ pub fn check<A: Allocator>(
     ensures checked { IfOk result (λ c. c ≡ record { description = description; plan = plan }) }
     ensures handed_back { IfErr result (λ e. (e.1 ≡ description) × (e.2 ≡ plan)) }
 {
-    match conditions(&description, &plan) {
+    match check_conditions(&description, &plan) {
         Ok(()) => Ok(CheckedPlan { description, plan }),
         Err(refusal) => Err((refusal, description, plan)),
     }

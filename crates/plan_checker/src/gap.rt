@@ -5,12 +5,12 @@ ghost use Rattle.own_slots.specs.Period.{per_period};
 ghost use Rattle.own_slots.specs.Gaps.{gap};
 ghost use Rattle.slot_plan.specs.Items.{marks};
 
-use crate::positions::{next_own_slot, position};
+use crate::own_positions::{next_own_slot, position};
 use slot_plan::{Item, Slot};
 
 /// The greatest distance in slots from an own slot to the `row`-th own slot after it, round the period's end too.
 pub fn greatest_gap(slots: &[Slot], item: Item, row: u64) -> u64
-    requires some { 0 < per_period (marks item slots.now) }
+    requires owned { 0 < per_period (marks item slots.now) }
     requires short { length slots.now ≤ 65536 }
     requires near { row < 2 ^ 31 }
     ensures { result ≡ gap (marks item slots.now) row }

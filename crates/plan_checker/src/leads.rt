@@ -3,44 +3,44 @@
 ghost use Rattle.std.specs.Prelude.{◌≡◌, ◌<◌, ◌≤◌, ◌∷◌, [], length};
 ghost use Rattle.own_slots.specs.Period.{per_period};
 ghost use Rattle.description.specs.Ranges.{IsStream};
-ghost use Rattle.description.specs.Tables.{greatest_pieces};
+ghost use Rattle.description.specs.Tables.{greatest_unit_packets};
 ghost use Rattle.unit_timing.specs.Conditions.{packets_in_row};
 ghost use Rattle.slot_plan.specs.Claims.{declaration};
 ghost use Rattle.slot_plan.specs.Items.{marks};
 ghost use Rattle.slot_plan.specs.Entries.{first_failing};
-ghost use Rattle.slot_plan.specs.Conditions.{counting, group_part, stream_lead_entry};
-ghost use Rattle.plan_checker.specs.Refused.{failed};
+ghost use Rattle.slot_plan.specs.Conditions.{entries_from, group_part, stream_lead_entry};
+ghost use Rattle.plan_checker.specs.Refusals.{failed};
 
 use crate::claims::claim_of_stream;
-use crate::comparing::at_most;
-use crate::counting::own_count;
+use crate::comparison::at_most;
+use crate::condition_terms::{time_given, time_needed};
+use crate::conditions::ItemCondition;
+use crate::own_counts::own_count;
 use crate::plans::ShapedPlan;
 use crate::refusal::Refusal;
-use crate::sides::{time_given, time_needed};
-use crate::turns::OnEach;
-use slot_plan::{Condition, Item, Stream};
+use slot_plan::{Condition, Item, StreamDescription};
 use std::alloc::Allocator;
 
 /// The packets of a stream's greatest unit, with the longest PES header of 19 bytes (ISO/IEC 13818-1, 2.4.3.7).
-pub fn pieces_of_unit(stream: &Stream) -> u64
+pub fn packets_of_unit(stream: &StreamDescription) -> u64
     requires { IsStream stream.now }
-    ensures pieces { result ≡ greatest_pieces stream.now }
-    ensures few { result ≤ 21741 }
+    ensures packets { result ≡ greatest_unit_packets stream.now }
+    ensures bound { result ≤ 21741 }
 {
     (19 + stream.size as u64).div_ceil(184)
 }
 
-/// The most packets of so many units in a row, at most a group.
-pub fn packets_of_units(stream: &Stream, units: u8) -> u64
+/// The most packets of `units` units in a row, at most those of a group.
+pub fn packets_in_row(stream: &StreamDescription, units: u8) -> u64
     requires ranges { IsStream stream.now }
     ensures packets { result ≡ packets_in_row (declaration stream.now) units }
-    ensures few { result ≤ stream.now.group_packets }
+    ensures bound { result ≤ stream.now.group_packets }
 {
-    (units as u64 * pieces_of_unit(stream)).min(stream.group_packets as u64)
+    (units as u64 * packets_of_unit(stream)).min(stream.group_packets as u64)
 }
 
-/// The part of a condition on so many units in a row: 0 where the stream has no groups.
-pub fn group_part(stream: &Stream, units: u8) -> u8
+/// The part of a condition on `units` units in a row: 0 where the stream has no groups.
+pub fn group_part(stream: &StreamDescription, units: u8) -> u8
     ensures { result ≡ group_part stream.now units }
 {
     if stream.group == 1 { 0 } else { units }
@@ -49,31 +49,34 @@ pub fn group_part(stream: &Stream, units: u8) -> u8
 /// The units of each stream, one and up to a group in a row.
 pub struct StreamLeads;
 
-impl<A: Allocator> OnEach<ShapedPlan<'_, A>> for StreamLeads {
-    type Item = Stream;
+impl<A: Allocator> ItemCondition<ShapedPlan<'_, A>> for StreamLeads {
+    type Item = StreamDescription;
 
     ghost items = { λ s. s.description.now.streams };
 
-    ghost entries = { λ s i stream. counting (stream_lead_entry s.description.now s.plan.now i stream) 1 stream.group };
+    ghost entries = { λ s i stream.
+        entries_from (stream_lead_entry s.description.now s.plan.now i stream) 1 stream.group };
 
     fn count(plans: &ShapedPlan<'_, A>) -> usize {
         plans.description.streams().len()
     }
 
-    fn judge(plans: &ShapedPlan<'_, A>, i: usize) -> Result<(), Refusal> {
+    fn check_item(plans: &ShapedPlan<'_, A>, i: usize) -> Result<(), Refusal> {
         stream_lead(plans, i, &plans.description.streams()[i])
     }
 }
 
+/// The units of one stream.
 fn stream_lead<A: Allocator>(
     plans: &ShapedPlan<'_, A>,
     i: usize,
-    stream: &Stream,
+    stream: &StreamDescription,
 ) -> Result<(), Refusal>
     requires stream { i < length plans.now.description.now.streams }
     requires small { i < 256 }
     requires ranges { IsStream stream.now }
-    ensures { failed result ≡ first_failing (counting (stream_lead_entry plans.now.description.now plans.now.plan.now i stream.now) 1 stream.now.group) }
+    ensures { failed result ≡ first_failing (entries_from
+        (stream_lead_entry plans.now.description.now plans.now.plan.now i stream.now) 1 stream.now.group) }
 {
     let count = own_count(plans.plan.slots(), Item::Stream(i as u8));
     for before in 0..stream.group {
@@ -86,7 +89,7 @@ fn stream_lead<A: Allocator>(
 fn units_lead<A: Allocator>(
     plans: &ShapedPlan<'_, A>,
     i: usize,
-    stream: &Stream,
+    stream: &StreamDescription,
     count: u64,
     units: u8,
 ) -> Result<(), Refusal>
@@ -94,14 +97,15 @@ fn units_lead<A: Allocator>(
     requires small { i < 256 }
     requires ranges { IsStream stream.now }
     requires counted { count ≡ per_period (marks (Item.Stream i) plans.now.plan.now.slots) }
-    requires few { count ≤ 65536 }
-    requires some { 0 < units }
+    requires bound { count ≤ 65536 }
+    requires positive { 0 < units }
     requires group { units ≤ stream.now.group }
-    ensures { failed result ≡ first_failing (stream_lead_entry plans.now.description.now plans.now.plan.now i stream.now units ∷ []) }
+    ensures { failed result ≡ first_failing
+        (stream_lead_entry plans.now.description.now plans.now.plan.now i stream.now units ∷ []) }
 {
     let claim = claim_of_stream(plans.plan, i);
     let period = plans.plan.slots().len() as u64;
-    let packets = packets_of_units(stream, units);
+    let packets = packets_in_row(stream, units);
     let rate = plans.description.rate().bits_per_second();
     let rx = stream.rx as u64;
     let slots = claim.spread as u128 + packets as u128 * period as u128 + count as u128;

@@ -5,7 +5,7 @@
 //! - [`check_switch`]: a second plan after a checked one, to a [`CheckedSwitch`] or a [`Refusal`].
 //! - [`own_count`], [`spread_of`], [`work_of`]: the numbers of an item's own slots that the conditions compare, each in
 //!   one walk over a period.
-//! - [`packets_of_units`], [`waiting_slots`], [`bytes_by_units`]: those of what a stream declares.
+//! - [`packets_in_row`], [`waiting_slots`], [`bytes_by_units`]: those of what a stream declares.
 #![tactic(auto)]
 
 mod buffers;
@@ -13,32 +13,32 @@ mod checked_plan;
 mod checked_switch;
 mod checking;
 mod claims;
-mod comparing;
-mod counting;
+mod comparison;
+mod condition_terms;
+mod conditions;
 mod gap;
-mod gaps;
 mod leads;
-mod pace;
+mod main_buffers;
+mod own_counts;
+mod own_positions;
 mod plans;
-mod positions;
+mod recurrence;
 mod refusal;
 mod shape;
-mod sides;
 mod spread;
+mod stream_slots;
 mod switch;
 mod timing;
-mod turns;
-mod waiting;
 mod work;
 
 pub use checked_plan::CheckedPlan;
 pub use checked_switch::CheckedSwitch;
 pub use checking::check;
-pub use counting::own_count;
-pub use leads::packets_of_units;
+pub use leads::packets_in_row;
+pub use main_buffers::{bytes_by_units, waiting_slots};
+pub use own_counts::own_count;
 pub use refusal::Refusal;
 pub use slot_plan::{Condition, Relation};
 pub use spread::spread_of;
 pub use switch::succession::check_switch;
-pub use waiting::{bytes_by_units, waiting_slots};
 pub use work::{Work, work_of};

@@ -1,22 +1,26 @@
-//! The shape of a plan: its period, the items that its slots name and that have slots, the entries of its certificate.
+//! The shape of a plan: its period, the items that its slots name, the items that have slots, the entries of its
+//! certificate.
 
 ghost use Rattle.std.specs.Prelude.{◌≡◌, ◌+◌, ◌<◌, ◌∷◌, [], length};
 ghost use Rattle.description.specs.Tables.{table_kinds};
-ghost use Rattle.slot_plan.specs.declared.slot.Item.TheVariants.{Stream as StreamItem, Pcr as PcrItem, Table as TableItem};
+ghost use Rattle.slot_plan.specs.declared.slot.Item.TheVariants.{Stream as StreamItem, Pcr as PcrItem};
+ghost use Rattle.slot_plan.specs.declared.slot.Item.TheVariants.{Table as TableItem};
 ghost use Rattle.slot_plan.specs.Entries.{first_failing};
 ghost use Rattle.slot_plan.specs.Conditions.{named_entry, length_entries, claim_entries, shape_entries, owner_entry};
-ghost use Rattle.plan_checker.specs.Refused.{failed};
+ghost use Rattle.plan_checker.specs.Refusals.{failed};
 
-use crate::comparing::{as_many, at_most, first_of};
-use crate::counting::own_count;
+use crate::comparison::{at_most, equal_counts, first_of};
+use crate::conditions::{ItemCondition, then_check_each};
+use crate::own_counts::own_count;
 use crate::plans::AnyPlan;
 use crate::refusal::Refusal;
-use crate::turns::{OnEach, next_in_turn};
-use slot_plan::{Condition, Description, Item, Plan, Program, Slot, Stream, TableKind};
+use slot_plan::{
+    Condition, Description, Item, Plan, ProgramDescription, Slot, StreamDescription, TableKind,
+};
 use std::alloc::Allocator;
 
-/// The slots of a period, at most.
-const LONGEST_PERIOD: u128 = 65_536;
+/// The most slots of a period.
+const MAX_PERIOD: u128 = 65_536;
 
 /// The conditions of code 1.
 pub fn shape<A: Allocator>(description: &Description, plan: &Plan<A>) -> Result<(), Refusal>
@@ -24,10 +28,10 @@ pub fn shape<A: Allocator>(description: &Description, plan: &Plan<A>) -> Result<
 {
     let plans = &AnyPlan { description, plan };
     let length = period(plan);
-    let names = next_in_turn::<Names, _>(length, plans);
-    let streams = next_in_turn::<StreamOwners, _>(names, plans);
-    let programs = next_in_turn::<ProgramOwners, _>(streams, plans);
-    let tables = next_in_turn::<TableOwners, _>(programs, plans);
+    let names = then_check_each::<Names, _>(length, plans);
+    let streams = then_check_each::<StreamOwners, _>(names, plans);
+    let programs = then_check_each::<ProgramOwners, _>(streams, plans);
+    let tables = then_check_each::<TableOwners, _>(programs, plans);
     first_of(tables, claims(description, plan))
 }
 
@@ -37,13 +41,13 @@ fn period<A: Allocator>(plan: &Plan<A>) -> Result<(), Refusal>
 {
     let slots = plan.slots().len() as u128;
     at_most(Condition::Shape, 1, 0, 1, slots)?;
-    at_most(Condition::Shape, 2, 0, slots, LONGEST_PERIOD)
+    at_most(Condition::Shape, 2, 0, slots, MAX_PERIOD)
 }
 
 /// Each slot names an item of the description.
 struct Names;
 
-impl<A: Allocator> OnEach<AnyPlan<'_, A>> for Names {
+impl<A: Allocator> ItemCondition<AnyPlan<'_, A>> for Names {
     type Item = Slot;
 
     ghost items = { λ s. s.plan.now.slots };
@@ -54,7 +58,7 @@ impl<A: Allocator> OnEach<AnyPlan<'_, A>> for Names {
         plans.plan.slots().len()
     }
 
-    fn judge(plans: &AnyPlan<'_, A>, i: usize) -> Result<(), Refusal> {
+    fn check_item(plans: &AnyPlan<'_, A>, i: usize) -> Result<(), Refusal> {
         let (number, count) = match plans.plan.slots()[i] {
             Slot::Stream(number) => (number as u128 + 1, plans.description.streams().len()),
             Slot::Pcr(number) => (number as u128 + 1, plans.description.programs().len()),
@@ -65,6 +69,7 @@ impl<A: Allocator> OnEach<AnyPlan<'_, A>> for Names {
     }
 }
 
+/// An item has a slot.
 fn owner<A: Allocator>(plan: &Plan<A>, number: usize, item: Item) -> Result<(), Refusal>
     requires { number < 100000 }
     ensures { failed result ≡ first_failing (owner_entry plan.now number item ∷ []) }
@@ -81,8 +86,8 @@ fn owner<A: Allocator>(plan: &Plan<A>, number: usize, item: Item) -> Result<(), 
 /// Each stream has a slot.
 struct StreamOwners;
 
-impl<A: Allocator> OnEach<AnyPlan<'_, A>> for StreamOwners {
-    type Item = Stream;
+impl<A: Allocator> ItemCondition<AnyPlan<'_, A>> for StreamOwners {
+    type Item = StreamDescription;
 
     ghost items = { λ s. s.description.now.streams };
 
@@ -92,7 +97,7 @@ impl<A: Allocator> OnEach<AnyPlan<'_, A>> for StreamOwners {
         plans.description.streams().len()
     }
 
-    fn judge(plans: &AnyPlan<'_, A>, i: usize) -> Result<(), Refusal> {
+    fn check_item(plans: &AnyPlan<'_, A>, i: usize) -> Result<(), Refusal> {
         plans.description.keeps_ranges();
         owner(plans.plan, i, Item::Stream(i as u8))
     }
@@ -101,8 +106,8 @@ impl<A: Allocator> OnEach<AnyPlan<'_, A>> for StreamOwners {
 /// Each program has a slot for its PCR.
 struct ProgramOwners;
 
-impl<A: Allocator> OnEach<AnyPlan<'_, A>> for ProgramOwners {
-    type Item = Program;
+impl<A: Allocator> ItemCondition<AnyPlan<'_, A>> for ProgramOwners {
+    type Item = ProgramDescription;
 
     ghost items = { λ s. s.description.now.programs };
 
@@ -112,7 +117,7 @@ impl<A: Allocator> OnEach<AnyPlan<'_, A>> for ProgramOwners {
         plans.description.programs().len()
     }
 
-    fn judge(plans: &AnyPlan<'_, A>, i: usize) -> Result<(), Refusal> {
+    fn check_item(plans: &AnyPlan<'_, A>, i: usize) -> Result<(), Refusal> {
         let before = plans.description.streams().len();
         owner(plans.plan, before + i, Item::Pcr(i as u8))
     }
@@ -121,18 +126,19 @@ impl<A: Allocator> OnEach<AnyPlan<'_, A>> for ProgramOwners {
 /// Each table has a slot.
 struct TableOwners;
 
-impl<A: Allocator> OnEach<AnyPlan<'_, A>> for TableOwners {
+impl<A: Allocator> ItemCondition<AnyPlan<'_, A>> for TableOwners {
     type Item = TableKind;
 
     ghost items = { λ s. table_kinds s.description.now };
 
-    ghost entries = { λ s t _. owner_entry s.plan.now (length s.description.now.streams + length s.description.now.programs + t) (TableItem t) ∷ [] };
+    ghost entries = { λ s t _. owner_entry s.plan.now
+        (length s.description.now.streams + length s.description.now.programs + t) (TableItem t) ∷ [] };
 
     fn count(plans: &AnyPlan<'_, A>) -> usize {
         plans.description.tables()
     }
 
-    fn judge(plans: &AnyPlan<'_, A>, i: usize) -> Result<(), Refusal> {
+    fn check_item(plans: &AnyPlan<'_, A>, i: usize) -> Result<(), Refusal> {
         let before = plans.description.streams().len() + plans.description.programs().len();
         owner(plans.plan, before + i, Item::Table(i as u8))
     }
@@ -143,14 +149,14 @@ fn claims<A: Allocator>(description: &Description, plan: &Plan<A>) -> Result<(),
     ensures { failed result ≡ first_failing (claim_entries description.now plan.now) }
 {
     let certificate = plan.certificate();
-    as_many(
+    equal_counts(
         Condition::Shape,
         5,
         0,
         certificate.streams.len() as u128,
         description.streams().len() as u128,
     )?;
-    as_many(
+    equal_counts(
         Condition::Shape,
         6,
         0,

@@ -4,7 +4,7 @@ ghost use Rattle.std.specs.Prelude.{◌≡◌, ◌+◌, ◌*◌, ◌≤◌, leng
 ghost use Rattle.own_slots.specs.Spread.{spread};
 ghost use Rattle.slot_plan.specs.Items.{marks};
 
-use crate::counting::own_count;
+use crate::own_counts::own_count;
 use slot_plan::{Item, Slot};
 
 /// How far the own slots stray from even spacing, in slots times own slots a period: the greatest difference of two
@@ -12,7 +12,7 @@ use slot_plan::{Item, Slot};
 pub fn spread_of(slots: &[Slot], item: Item) -> u64
     requires short { length slots.now ≤ 65536 }
     ensures spread { result ≡ spread (marks item slots.now) }
-    ensures few { result ≤ 2 * 65536 * 65536 }
+    ensures bound { result ≤ 2 * 65536 * 65536 }
 {
     let count = own_count(slots, item);
     if count == 0 {

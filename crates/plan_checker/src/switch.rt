@@ -1,9 +1,9 @@
 //! A second plan after a first one: the conditions of the two together.
 
 pub mod across;
-pub mod gaps;
 pub mod leads;
-pub mod mains;
-pub mod sides;
+pub mod main_buffers;
+pub mod recurrence;
+pub mod shares;
 pub mod succession;
-pub mod works;
+pub mod work;

@@ -26,8 +26,8 @@ pub fn work_of(slots: &[Slot], item: Item, rate: u64, drain: u64, start: u64) ->
     requires start { start < 10 ^ 18 }
     ensures before { result.most_before ≡ most_before rate drain start (marks item slots.now) }
     ensures after { result.most_after ≡ most_after rate drain start (marks item slots.now) }
-    ensures few_after { result.most_after ≤ start + length slots.now * (188 * rate) }
-    ensures few_left { result.left ≤ start + length slots.now * (188 * rate) }
+    ensures after_bound { result.most_after ≤ start + length slots.now * (188 * rate) }
+    ensures left_bound { result.left ≤ start + length slots.now * (188 * rate) }
     ensures left { result.left ≡ work_left rate drain start (marks item slots.now) }
 {
     let packet = 188 * rate;

@@ -1,12 +1,12 @@
 //! A plan that serves a description.
 
 ghost use Rattle.std.specs.Prelude.{◌≡◌, IfOk, IfErr, false};
-ghost use Rattle.plan_maker.specs.PlainPlan.{plain_plan, serves, Fails};
+ghost use Rattle.plan_search.specs.PlainPlan.{plain_plan, serves};
+ghost use Rattle.plan_maker.specs.Failures.{Fails};
 ghost use Rattle.plan_maker.specs.declared.making.MakeError.TheVariants.{NotFound};
 
-use crate::plain::plain_plan;
-use crate::search::period_plan;
 use plan_checker::{CheckedPlan, check};
+use plan_search::{period_plan, plain_plan};
 use slot_plan::{Description, Plan};
 use std::alloc::{AllocError, Allocator};
 use thiserror::Error;
@@ -23,7 +23,7 @@ pub enum MakeError {
 impl MakeError {
     ghost use Rattle.plan_maker.specs.Codes.{code_of};
 
-    /// The number of the error: 1 where no plan is found; want of memory has none.
+    /// The number of the error: 1 where no plan is found; out of memory has none.
     pub fn code(self) -> Option<u8>
         ensures { result ≡ code_of self }
     {
@@ -56,7 +56,7 @@ fn served<A: Allocator>(
     }
 }
 
-/// A plan that serves the description, by the checker's word. It is looked for with the earliest deadline first in
+/// A plan that serves the description, as the plan checker says. It is looked for with the earliest deadline first in
 /// periods of 256 to 65,536 slots; the last that is tried is the plain plan, so that none is found only where that is
 /// missing or refused. The description is handed back with each error.
 pub fn make<A: Allocator + Clone>(

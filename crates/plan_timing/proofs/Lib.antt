@@ -1,2 +1,2 @@
-pub mod Single
-pub mod Paired
+pub mod OnePlan
+pub mod TwoPlans

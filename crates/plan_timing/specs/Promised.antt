@@ -3,7 +3,7 @@ use Rattle.std.specs.Prelude.{◌≡◌, ℕ, ◌+◌, ◌*◌, ◌<◌, List, S
 use Rattle.clock27.specs.Recurrence.{Recur}
 use Rattle.own_slots.specs.Slots.{own_slots}
 use Rattle.unit_timing.specs.PesPacket.{PesPacket}
-use Rattle.unit_timing.specs.Plans.{Keeps, StreamServed, ProgramServed}
+use Rattle.unit_timing.specs.Plans.{KeepsDeclaration, StreamServed, ProgramServed}
 use Rattle.description.specs.Described.{Described, DescribedProgram, DescribedStream}
 use Rattle.description.specs.Ranges.{IsInRange}
 use Rattle.description.specs.Tables.{table_count, table_limit, section_count}
@@ -20,7 +20,7 @@ use Rattle.slot_plan.specs.TableRounds.{section_starts}
 -- program's tables never overflow; the PCRs of a program recur within its limit; each section of a table recurs within
 -- the table's limit, from the run's begin to its end
 pub record Promised (d : Described) (schedule : Schedule) : Type 0 where
-  pub streams : (i : ℕ) (s : DescribedStream) (units : List PesPacket) → slice_get d.streams i ≡ Some s → Keeps (declaration s) units →
+  pub streams : (i : ℕ) (s : DescribedStream) (units : List PesPacket) → slice_get d.streams i ≡ Some s → KeepsDeclaration (declaration s) units →
       StreamServed (owned schedule (Stream i)) d.rate (declaration s) units
   pub programs : (i : ℕ) → i < length d.programs → ProgramServed (owned schedule (System i)) d.rate
   pub pcrs : (i : ℕ) (p : DescribedProgram) (slots : ℕ) → slice_get d.programs i ≡ Some p →
@@ -32,7 +32,7 @@ pub record Promised (d : Described) (schedule : Schedule) : Type 0 where
 abbrev pub PlanLaw : Type 0
 PlanLaw = (d : Described) (p : Planned) → IsInRange d → IsServing d p → Promised d (single p.slots)
 
--- two plans, the first for so many of its periods
+-- two plans, the first for a number of its periods
 abbrev pub SwitchLaw : Type 0
 SwitchLaw = (d : Described) (first second : Planned) (periods : ℕ) → IsInRange d → IsServing d first → IsSwitchable d first second →
     Promised d (switched first.slots periods second.slots)

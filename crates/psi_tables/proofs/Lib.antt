@@ -1,12 +1,12 @@
 pub mod Registers
 pub mod Linear
-pub mod Words
+pub mod CrcTable
 pub mod LoopParts
 pub mod ProgramLoops
 pub mod SectionForms
 pub mod SectionFound
 pub mod SectionWritten
-pub mod StreamTexts
+pub mod StreamEncodings
 pub mod TableForms
 pub mod PatForms
 pub mod StreamForms

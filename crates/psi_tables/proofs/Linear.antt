@@ -5,11 +5,7 @@ use Rattle.std.specs.Int.Bits.{xor_assoc, xor_self, xor_zero_r}
 use Rattle.psi_tables.specs.CheckWord.{after_bit, after_bits, bits_of, after_byte, after_bytes, check_word}
 use Rattle.psi_tables.proofs.Registers.{after_bit-xor, after_bit-bound, after_own_bit}
 
--- pairs of bits
-pub record AreBits (b c : ℕ) : Type 0 where
-  pub left : b < 2
-  pub right : c < 2
-
+-- the left parts of pairs, the right parts, and the exclusive or of the two
 pub lefts : List (ℕ × ℕ) → List ℕ
 lefts [] = []
 lefts (p ∷ ps) = p.0 ∷ lefts ps

@@ -4,20 +4,20 @@ use Rattle.std.specs.Prelude.{unwrap_or}
 use Rattle.std.proofs.lemmas.Bool.{ltb-false, le-ltb}
 use Rattle.std.proofs.lemmas.List.{length-take-le, take-append-drop}
 use Rattle.std.proofs.Math.Seq.{take-append_seam, drop-append_seam}
-use Rattle.psi_tables.specs.Loops.{EntryView, descriptors_length, IsEntry, entry_text, AreEntries, entry_after, entry_at, loop_from, loop_at, entries_in}
+use Rattle.psi_tables.specs.Loops.{EntryView, descriptors_length, IsEntry, entry_bytes, AreEntries, entry_after, entry_at, loop_from, loop_at, entries_in}
 
 -- a test that refuses, and let something pass
 some_is : {A : Type 0} (b : Bool) (o : Option A) (x : A) → cond b None o ≡ Some x → (b ≡ false) × (o ≡ Some x)
 some_is true o x e = absurd cc
 some_is false o x e = (refl, e)
 
--- an entry at the front of bytes, and what stands after it
+-- an entry at the front of bytes, and what follows it
 pub record HasEntry (k : ℕ) (bytes : List ℕ) (e : EntryView) (rest : List ℕ) : Type 0 where
-  pub is : bytes ≡ entry_text e ++ rest
+  pub is : bytes ≡ entry_bytes e ++ rest
   pub entry : IsEntry k e
 
 after_is : (k : ℕ) (head rest : List ℕ) (p : EntryView × List ℕ) → length head ≡ k → entry_after head rest ≡ Some p → HasEntry k (head ++ rest) p.0 p.1
-unfolding entry_after entry_text
+unfolding entry_after entry_bytes
 after_is k head rest p h e =
     let n : ℕ = descriptors_length head in
     let q = some_is (nat_lt (length rest) n) _ p e in
@@ -43,15 +43,15 @@ after_read e rest h =
     rw (h, fits, take-append_seam e.descriptors rest, drop-append_seam e.descriptors rest) refl
 
 -- an entry that stands there is read
-pub entry_at-read : (k : ℕ) (e : EntryView) (rest : List ℕ) → IsEntry k e → entry_at k (entry_text e ++ rest) ≡ Some (e, rest)
-unfolding entry_at entry_text
+pub entry_at-read : (k : ℕ) (e : EntryView) (rest : List ℕ) → IsEntry k e → entry_at k (entry_bytes e ++ rest) ≡ Some (e, rest)
+unfolding entry_at entry_bytes
 entry_at-read k e rest h =
     let l : length e.head ≡ k = h.head_length in
     let fits : nat_lt (length (e.head ++ (e.descriptors ++ rest))) (length e.head) ≡ false = le-ltb _ _ (omega (arith, length-append e.head (e.descriptors ++ rest))) in
     rw (append_assoc e.head e.descriptors rest, ← l, fits, take-append_seam e.head (e.descriptors ++ rest), drop-append_seam e.head (e.descriptors ++ rest)) (after_read e rest h.named)
 
 pub HasEntry-shorter : (k : ℕ) (bytes : List ℕ) (e : EntryView) (rest : List ℕ) → HasEntry k bytes e rest → length rest + k ≤ length bytes
-unfolding entry_text
+unfolding entry_bytes
 HasEntry-shorter k bytes e rest h =
     omega (arith, ap (length {A = ℕ}) h.is, length-append (e.head ++ e.descriptors) rest, length-append e.head e.descriptors, h.entry.head_length)
 
@@ -127,7 +127,7 @@ loop_at-is k bytes es e = loop_from-is k bytes (length bytes) es e
 pub AreEntries-append : (k : ℕ) (a b : List ℕ) (es fs : List EntryView) → AreEntries k a es → AreEntries k b fs → AreEntries k (a ++ b) (es ++ fs)
 AreEntries-append k a b [] fs h g = subst (λ (x : List ℕ). AreEntries k (x ++ b) fs) (sym h) g
 AreEntries-append k a b (e ∷ es) fs h g =
-    (h.0 ++ b, ap (λ (x : List ℕ). x ++ b) h.1 ∙ append_assoc (entry_text e) h.0 b, h.2, AreEntries-append k h.0 b es fs h.3 g)
+    (h.0 ++ b, ap (λ (x : List ℕ). x ++ b) h.1 ∙ append_assoc (entry_bytes e) h.0 b, h.2, AreEntries-append k h.0 b es fs h.3 g)
 
 -- a whole loop has entries
 pub whole_is : (k : ℕ) (bytes : List ℕ) → is_some (loop_at k bytes) ≡ true → loop_at k bytes ≡ Some (entries_in k bytes)

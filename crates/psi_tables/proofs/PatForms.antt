@@ -2,11 +2,11 @@
 use Rattle.std.proofs.Common.{◌≡◌, ℕ, suc, ◌+◌, ◌*◌, ◌/◌, ◌%◌, ◌^◌, ◌<◌, ◌≤◌, ◌==◌, Bool, true, false, cond, refl, sym, ap, ap₂, ◌∙◌, subst, arith, List, [], ◌∷◌, ◌++◌, length, Result, Ok, Err, flat_map, eq-eqb, eqb-true, lit<}
 use Rattle.bit_fields.specs.Fields.{number, fields, IsBytes}
 use Rattle.bit_fields.specs.Reading.{◌>>=◌}
-use Rattle.bit_fields.proofs.Binding.{bind_ok, ok_is}
+use Rattle.bit_fields.proofs.Bind.{bind_ok, ok_is}
 use Rattle.psi_tables.specs.Views.{SectionView}
-use Rattle.psi_tables.specs.Spelling.{IsWritable}
+use Rattle.psi_tables.specs.Encoding.{IsWritable}
 use Rattle.psi_tables.specs.Tables.{table_header_at}
-use Rattle.psi_tables.specs.ProgramAssociation.{PatView, IsProgram, ArePrograms, IsPat, program_of, programs_in, pat_at, program_text, programs_text, pat_header, pat_section, ProgramFits, ProgramsFit, PatFits}
+use Rattle.psi_tables.specs.ProgramAssociation.{PatView, IsProgram, ArePrograms, IsPat, program_of, programs_in, pat_at, program_bytes, programs_bytes, pat_header, pat_section, ProgramFits, ProgramsFit, PatFits}
 use Rattle.psi_tables.specs.declared.error.SectionError.{SectionError}
 use Rattle.psi_tables.specs.declared.error.SectionError.TheVariants.{Body}
 use Rattle.psi_tables.specs.declared.section.LongHeader.{LongHeader}
@@ -46,9 +46,9 @@ program_again a b c d p reserved ha hb hc hd e hn hr hp =
     let whole : program_of a b c d ≡ record { program_number = p.program_number; pid = p.pid } = cc in
     whole
 
-pub record ProgramsRead (text : List ℕ) (ps : List Program) : Type 0 where
-  pub whole : length text % 4 ≡ 0
-  pub programs : programs_in text ≡ ps
+pub record ProgramsRead (bytes : List ℕ) (ps : List Program) : Type 0 where
+  pub whole : length bytes % 4 ≡ 0
+  pub programs : programs_in bytes ≡ ps
 
 read_more : (a b c d : ℕ) (rest : List ℕ) (p : Program) (ps : List Program) → program_of a b c d ≡ p → ProgramsRead rest ps → ProgramsRead (a ∷ b ∷ c ∷ d ∷ rest) (p ∷ ps)
 unfolding programs_in
@@ -56,14 +56,14 @@ read_more a b c d rest p ps e h =
     let less : length rest % 4 ≡ 0 = h.whole in
     record { whole = omega arith; programs = ap₂ (λ (x : Program) (xs : List Program). x ∷ xs) e h.programs }
 
-programs_again : (ps : List Program) (text : List ℕ) → IsBytes text → ArePrograms text ps → ProgramsRead text ps
+programs_again : (ps : List Program) (loop : List ℕ) → IsBytes loop → ArePrograms loop ps → ProgramsRead loop ps
 unfolding programs_in
-programs_again [] text h e = subst (λ (t : List ℕ). ProgramsRead t []) (sym e) (record { whole = refl; programs = refl })
-programs_again (p ∷ ps) text h e =
+programs_again [] loop h e = subst (λ (t : List ℕ). ProgramsRead t []) (sym e) (record { whole = refl; programs = refl })
+programs_again (p ∷ ps) loop h e =
     let one : List ℕ = e.0 in
     let rest : List ℕ = e.1 in
     let v = four one e.3.len in
-    let is : text ≡ v.0 ∷ v.1 ∷ v.2 ∷ v.3 ∷ rest = e.2 ∙ ap (λ (x : List ℕ). x ++ rest) v.4 in
+    let is : loop ≡ v.0 ∷ v.1 ∷ v.2 ∷ v.3 ∷ rest = e.2 ∙ ap (λ (x : List ℕ). x ++ rest) v.4 in
     let bytes : IsBytes (v.0 ∷ v.1 ∷ v.2 ∷ v.3 ∷ rest) = subst IsBytes is h in
     let spelled = subst (λ (x : List ℕ). number x ≡ fields ((16, p.program_number) ∷ (3, e.3.reserved) ∷ (13, p.pid) ∷ [])) v.4 e.3.spelled in
     let first : program_of v.0 v.1 v.2 v.3 ≡ p =
@@ -106,28 +106,28 @@ read_by s p header programs =
 pub pat_again : (s : SectionView) (p : PatView) → IsBytes s.body → IsPat s p → pat_at s ≡ Ok p
 pat_again s p h k = read_by s p (record { table_id = k.table_id; long = k.long; section_length = k.section_length }) (programs_again p.programs s.body h k.programs)
 
-program_written : (p : Program) → ProgramFits p → IsProgram (program_text p) p
-unfolding program_text
+program_written : (p : Program) → ProgramFits p → IsProgram (program_bytes p) p
+unfolding program_bytes
 program_written p h =
     record { len = refl; reserved = 7; spelled = omega (arith, h.pid, h.program_number); program_number = h.program_number; three_bits = lit< tt; pid = h.pid }
 
-programs_written : (ps : List Program) → ProgramsFit ps → ArePrograms (programs_text ps) ps
-unfolding programs_text
+programs_written : (ps : List Program) → ProgramsFit ps → ArePrograms (programs_bytes ps) ps
+unfolding programs_bytes
 programs_written [] h = refl
-programs_written (p ∷ ps) h = (program_text p, flat_map program_text ps, refl, program_written p h.0, programs_written ps h.1)
+programs_written (p ∷ ps) h = (program_bytes p, flat_map program_bytes ps, refl, program_written p h.0, programs_written ps h.1)
 
-texts_read : (ps : List Program) → ProgramsFit ps → ProgramsRead (programs_text ps) ps
-unfolding programs_text program_text programs_in
-texts_read [] h = record { whole = refl; programs = refl }
-texts_read (p ∷ ps) h =
-    read_more (p.program_number / 256) (p.program_number % 256) (0xE0 + p.pid / 256 % 32) (p.pid % 256) (flat_map program_text ps) p ps (program_same p h.0) (texts_read ps h.1) where
+written_read : (ps : List Program) → ProgramsFit ps → ProgramsRead (programs_bytes ps) ps
+unfolding programs_bytes program_bytes programs_in
+written_read [] h = record { whole = refl; programs = refl }
+written_read (p ∷ ps) h =
+    read_more (p.program_number / 256) (p.program_number % 256) (0xE0 + p.pid / 256 % 32) (p.pid % 256) (flat_map program_bytes ps) p ps (program_same p h.0) (written_read ps h.1) where
       program_same : (p : Program) → ProgramFits p → program_of (p.program_number / 256) (p.program_number % 256) (0xE0 + p.pid / 256 % 32) (p.pid % 256) ≡ p
       program_same p h = program_again _ _ _ _ p 7 (omega (arith, h.program_number)) (omega arith) (omega arith) (omega arith) (omega (arith, h.pid, h.program_number)) h.program_number (lit< tt) h.pid
 
-pub length_programs_text : (ps : List Program) → length (programs_text ps) ≡ 4 * length ps
-unfolding programs_text program_text
-length_programs_text [] = refl
-length_programs_text (p ∷ ps) = let more : length (flat_map program_text ps) ≡ 4 * length ps = length_programs_text ps in omega arith
+pub length_programs_bytes : (ps : List Program) → length (programs_bytes ps) ≡ 4 * length ps
+unfolding programs_bytes program_bytes
+length_programs_bytes [] = refl
+length_programs_bytes (p ∷ ps) = let more : length (flat_map program_bytes ps) ≡ 4 * length ps = length_programs_bytes ps in omega arith
 
 -- what is written of a PAT is a PAT that says the same, can be written as a section, and is read again
 pub record Again (p : PatView) : Type 0 where
@@ -138,9 +138,9 @@ pub record Again (p : PatView) : Type 0 where
 pub written : (p : PatView) → PatFits p → Again p
 unfolding pat_section pat_header
 written p h =
-    let room : 9 + length (programs_text p.programs) ≤ 1021 = omega (arith, length_programs_text p.programs, h.room) in
+    let room : 9 + length (programs_bytes p.programs) ≤ 1021 = omega (arith, length_programs_bytes p.programs, h.room) in
     record {
       table = record { table_id = refl; long = refl; section_length = room; programs = programs_written p.programs h.programs };
       writable = record { table_id = lit< tt; numbers = h.header; room = omega arith };
-      read = read_by (pat_section p) p (record { table_id = refl; long = refl; section_length = room }) (texts_read p.programs h.programs);
+      read = read_by (pat_section p) p (record { table_id = refl; long = refl; section_length = room }) (written_read p.programs h.programs);
     }

@@ -2,18 +2,18 @@
 use Rattle.std.proofs.Common.{◌≡◌, ℕ, ◌+◌, ◌*◌, ◌/◌, ◌%◌, ◌^◌, ◌<◌, ◌≤◌, refl, sym, ap, ◌∙◌, subst, arith, List, [], ◌∷◌, ◌++◌, length, Option, None, Some, Result, Ok, flat_map, slice_index, length-append, lit<}
 use Rattle.bit_fields.specs.Fields.{number, fields, IsBytes}
 use Rattle.bit_fields.specs.Reading.{◌>>=◌}
-use Rattle.bit_fields.proofs.Binding.{bind_ok, ok_is}
+use Rattle.bit_fields.proofs.Bind.{bind_ok, ok_is}
 use Rattle.bit_fields.proofs.ByteLists.{IsBytes-append_right}
 use Rattle.psi_tables.specs.Views.{SectionView}
-use Rattle.psi_tables.specs.Spelling.{IsWritable}
+use Rattle.psi_tables.specs.Encoding.{IsWritable}
 use Rattle.psi_tables.specs.Tables.{table_header_at}
-use Rattle.psi_tables.specs.Loops.{EntryView, descriptors_length, IsEntry, entry_text, entry_at, entries_in}
-use Rattle.psi_tables.specs.ProgramMap.{StreamView, PmtView, IsStream, AreStreams, IsPmt, streams_in, streams_at, pmt_after, pmt_at, info_length_text, pid_text, stream_entry, stream_text, streams_text, pmt_body, pmt_header, pmt_section, StreamFits, StreamsFit, PmtFits}
+use Rattle.psi_tables.specs.Loops.{EntryView, descriptors_length, IsEntry, entry_bytes, entry_at, entries_in}
+use Rattle.psi_tables.specs.ProgramMap.{StreamView, PmtView, IsStream, AreStreams, IsPmt, streams_in, streams_at, pmt_after, pmt_at, info_length_bytes, pid_bytes, stream_entry, stream_bytes, streams_bytes, pmt_body, pmt_header, pmt_section, StreamFits, StreamsFit, PmtFits}
 use Rattle.psi_tables.specs.declared.error.SectionError.{SectionError}
 use Rattle.psi_tables.specs.declared.section.LongHeader.{LongHeader}
 use Rattle.psi_tables.proofs.TableForms.{HasHeader, table_header_at-is, table_header_at-read}
 use Rattle.psi_tables.proofs.LoopParts.{HasEntry, entry_at-is, entry_at-read, loop_at-is, whole_is}
-use Rattle.psi_tables.proofs.StreamTexts.{texts_read}
+use Rattle.psi_tables.proofs.StreamEncodings.{written_read}
 use Rattle.psi_tables.proofs.StreamForms.{four, streams_found, StreamsRead, streams_read, streams_at-read, streams_at-is}
 
 -- the front of a body: four bytes and the program's descriptors
@@ -47,7 +47,7 @@ table_found s header a b c d descriptors rest ss k is ha hb hc hd named streams 
       streams = streams;
     }
 
--- what stands after a table's header
+-- what follows a table's header
 pub record After (header : LongHeader) (o : Option (EntryView × List ℕ)) (p : PmtView) : Type 0 where
   pub front : EntryView × List ℕ
   pub there : o ≡ Some front
@@ -64,7 +64,7 @@ after_is header (Some x) p e =
 
 front_is : (s : SectionView) (header : LongHeader) (e : EntryView) (rest : List ℕ) (ss : List StreamView) → IsBytes s.body → HasHeader 0x02 1021 s header → HasEntry 4 s.body e rest → AreStreams rest ss
     → IsPmt s (record { header = header; pcr_pid = slice_index e.head 0 % 32 * 256 + slice_index e.head 1; program_info = e.descriptors; streams = ss })
-unfolding entry_text
+unfolding entry_bytes
 front_is s header e rest ss h k there streams =
     let v = four e.head there.entry.head_length in
     let is : s.body ≡ (v.0 ∷ v.1 ∷ v.2 ∷ v.3 ∷ e.descriptors) ++ rest = there.is ∙ ap (λ (x : List ℕ). (x ++ e.descriptors) ++ rest) v.4 in
@@ -86,7 +86,7 @@ pmt_is s p h e =
     let header : HasHeader 0x02 1021 s q.0 = table_header_at-is 0x02 1021 s q.0 q.1 in
     let b = after_is q.0 (entry_at 4 s.body) p q.2 in
     let there : HasEntry 4 s.body b.front.0 b.front.1 = entry_at-is 4 s.body b.front b.there in
-    let rest : IsBytes b.front.1 = IsBytes-append_right (entry_text b.front.0) b.front.1 (subst IsBytes there.is h) in
+    let rest : IsBytes b.front.1 = IsBytes-append_right (entry_bytes b.front.0) b.front.1 (subst IsBytes there.is h) in
     subst (λ (v : PmtView). IsPmt s v) b.is
     (front_is s q.0 b.front.0 b.front.1 b.streams h header there (streams_there b.front.1 b.streams rest (streams_at-is b.front.1 b.streams b.read)))
 
@@ -108,7 +108,7 @@ after_read p head rest pid streams =
     })) (streams_at-read rest p.streams streams)
     ∙ ap ok whole
 
-read_by : (s : SectionView) (p : PmtView) (head rest : List ℕ) → HasHeader 0x02 1021 s p.header → s.body ≡ entry_text (record { head = head; descriptors = p.program_info }) ++ rest
+read_by : (s : SectionView) (p : PmtView) (head rest : List ℕ) → HasHeader 0x02 1021 s p.header → s.body ≡ entry_bytes (record { head = head; descriptors = p.program_info }) ++ rest
     → IsEntry 4 (record { head = head; descriptors = p.program_info }) → slice_index head 0 % 32 * 256 + slice_index head 1 ≡ p.pcr_pid → StreamsRead rest p.streams → pmt_at s ≡ Ok p
 unfolding pmt_at
 read_by s p head rest header is entry pid streams =
@@ -118,9 +118,9 @@ read_by s p head rest header is entry pid streams =
     ∙ ap (λ (o : Option (EntryView × List ℕ)). pmt_after p.header o) front
     ∙ after_read p head rest pid streams
 
-front_text : (body rest descriptors : List ℕ) (a b c d : ℕ) → body ≡ (a ∷ b ∷ c ∷ d ∷ descriptors) ++ rest → body ≡ entry_text (record { head = a ∷ b ∷ c ∷ d ∷ []; descriptors = descriptors }) ++ rest
-unfolding entry_text
-front_text body rest descriptors a b c d is = is
+front_bytes : (body rest descriptors : List ℕ) (a b c d : ℕ) → body ≡ (a ∷ b ∷ c ∷ d ∷ descriptors) ++ rest → body ≡ entry_bytes (record { head = a ∷ b ∷ c ∷ d ∷ []; descriptors = descriptors }) ++ rest
+unfolding entry_bytes
+front_bytes body rest descriptors a b c d is = is
 
 front_entry : (a b c d : ℕ) (descriptors : List ℕ) → c % 16 * 256 + d ≡ length descriptors → IsEntry 4 (record { head = a ∷ b ∷ c ∷ d ∷ []; descriptors = descriptors })
 unfolding descriptors_length
@@ -131,7 +131,7 @@ again_by : (s : SectionView) (p : PmtView) (a b c d : ℕ) (rest : List ℕ) (re
     → number (a ∷ b ∷ c ∷ d ∷ []) ≡ fields ((3, reserved) ∷ (13, p.pcr_pid) ∷ (4, reserved') ∷ (12, length p.program_info) ∷ [])
     → reserved < 2 ^ 3 → p.pcr_pid < 2 ^ 13 → reserved' < 2 ^ 4 → length p.program_info < 2 ^ 12 → StreamsRead rest p.streams → pmt_at s ≡ Ok p
 again_by s p a b c d rest reserved reserved' header is ha hb hc hd spelled hr hp hr' hl streams =
-    read_by s p (a ∷ b ∷ c ∷ d ∷ []) rest header (front_text s.body rest p.program_info a b c d is) (front_entry a b c d p.program_info (omega arith)) (omega arith) streams
+    read_by s p (a ∷ b ∷ c ∷ d ∷ []) rest header (front_bytes s.body rest p.program_info a b c d is) (front_entry a b c d p.program_info (omega arith)) (omega arith) streams
 
 -- a PMT that stands there is read
 pub pmt_again : (s : SectionView) (p : PmtView) → IsBytes s.body → IsPmt s p → pmt_at s ≡ Ok p
@@ -144,8 +144,8 @@ pmt_again s p h k =
     spelled k.three_bits k.pcr_pid k.four_bits k.info_length
     (streams_read k.loop p.streams (IsBytes-append_right (v.0 ∷ v.1 ∷ v.2 ∷ v.3 ∷ p.program_info) k.loop bytes) k.streams)
 
-stream_written : (s : StreamView) → StreamFits s → IsStream (stream_text s) s
-unfolding stream_text stream_entry entry_text pid_text info_length_text
+stream_written : (s : StreamView) → StreamFits s → IsStream (stream_bytes s) s
+unfolding stream_bytes stream_entry entry_bytes pid_bytes info_length_bytes
 stream_written s h =
     record {
       head = s.stream_type ∷ (0xE0 + s.elementary_pid / 256 % 32) ∷ (s.elementary_pid % 256) ∷ (0xF0 + length s.descriptors / 256 % 16) ∷ (length s.descriptors % 256) ∷ [];
@@ -161,10 +161,10 @@ stream_written s h =
       info_length = h.info_length;
     }
 
-streams_written : (ss : List StreamView) → StreamsFit ss → AreStreams (streams_text ss) ss
-unfolding streams_text
+streams_written : (ss : List StreamView) → StreamsFit ss → AreStreams (streams_bytes ss) ss
+unfolding streams_bytes
 streams_written [] h = refl
-streams_written (s ∷ ss) h = (stream_text s, flat_map stream_text ss, refl, stream_written s h.0, streams_written ss h.1)
+streams_written (s ∷ ss) h = (stream_bytes s, flat_map stream_bytes ss, refl, stream_written s h.0, streams_written ss h.1)
 
 -- what is written of a PMT is a PMT that says the same, can be written as a section, and is read again
 pub record Again (p : PmtView) : Type 0 where
@@ -173,25 +173,25 @@ pub record Again (p : PmtView) : Type 0 where
   pub read : pmt_at (pmt_section p) ≡ Ok p
 
 pub written : (p : PmtView) → PmtFits p → Again p
-unfolding pmt_section pmt_header pmt_body pid_text info_length_text
+unfolding pmt_section pmt_header pmt_body pid_bytes info_length_bytes
 written p h =
     let n : ℕ = length p.program_info in
     let a : ℕ = 0xE0 + p.pcr_pid / 256 % 32 in
     let b : ℕ = p.pcr_pid % 256 in
     let c : ℕ = 0xF0 + n / 256 % 16 in
     let d : ℕ = n % 256 in
-    let room : 9 + length (a ∷ b ∷ c ∷ d ∷ (p.program_info ++ streams_text p.streams)) ≤ 1021 = h.room in
-    let few : n < 2 ^ 12 = omega (arith, room, length-append p.program_info (streams_text p.streams)) in
+    let room : 9 + length (a ∷ b ∷ c ∷ d ∷ (p.program_info ++ streams_bytes p.streams)) ≤ 1021 = h.room in
+    let few : n < 2 ^ 12 = omega (arith, room, length-append p.program_info (streams_bytes p.streams)) in
     let spelled : number (a ∷ b ∷ c ∷ d ∷ []) ≡ fields ((3, 7) ∷ (13, p.pcr_pid) ∷ (4, 15) ∷ (12, n) ∷ []) = omega (arith, h.pcr_pid) in
     let header : HasHeader 0x02 1021 (pmt_section p) p.header = record { table_id = refl; long = refl; section_length = room } in
-    let streams = texts_read p.streams h.streams in
+    let streams = written_read p.streams h.streams in
     record {
       table = record {
         table_id = refl;
         long = refl;
         section_length = room;
         head = a ∷ b ∷ c ∷ d ∷ [];
-        loop = streams_text p.streams;
+        loop = streams_bytes p.streams;
         is = refl;
         reserved = 7;
         reserved_after = 15;
@@ -204,6 +204,6 @@ written p h =
         streams = streams_written p.streams h.streams;
       };
       writable = record { table_id = lit< tt; numbers = h.header; room = omega arith };
-      read = again_by (pmt_section p) p a b c d (streams_text p.streams) 7 15 header refl (omega (arith, h.pcr_pid)) (omega arith) (omega arith) (omega arith) spelled (lit< tt) h.pcr_pid (lit< tt) few
+      read = again_by (pmt_section p) p a b c d (streams_bytes p.streams) 7 15 header refl (omega (arith, h.pcr_pid)) (omega arith) (omega arith) (omega arith) spelled (lit< tt) h.pcr_pid (lit< tt) few
           (record { whole = streams.whole; streams = streams.streams });
     }

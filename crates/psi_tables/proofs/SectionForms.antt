@@ -5,15 +5,15 @@ use Rattle.std.proofs.lemmas.List.{take-append-le}
 use Rattle.std.proofs.Math.Seq.{take-append_seam}
 use Rattle.bit_fields.specs.Fields.{number, fields, bit, flag}
 use Rattle.bit_fields.specs.Reading.{◌>>=◌}
-use Rattle.bit_fields.proofs.Binding.{guarded}
-use Rattle.bit_fields.proofs.Spellings.{test_bit}
+use Rattle.bit_fields.proofs.Bind.{guarded}
+use Rattle.bit_fields.proofs.Fields.{test_bit}
 use Rattle.psi_tables.specs.CheckWord.{check_word}
 use Rattle.psi_tables.specs.Views.{SectionView}
-use Rattle.psi_tables.specs.Reading.{start_at, is_bad_length, long_header_of, short_section, long_section, whole_at, sized_at, section_at}
+use Rattle.psi_tables.specs.Reading.{section_start_at, is_bad_length, long_header_of, short_section, long_section, whole_at, sized_at, section_at}
 use Rattle.psi_tables.specs.declared.error.SectionError.{SectionError}
 use Rattle.psi_tables.specs.declared.error.SectionError.TheVariants.{Short, Length}
 use Rattle.psi_tables.specs.declared.section.LongHeader.{LongHeader}
-use Rattle.psi_tables.specs.declared.section.Start.{Start}
+use Rattle.psi_tables.specs.declared.section.SectionStart.{SectionStart}
 
 -- two tests that refuse, of which the second may pass where more is at hand
 sized_form : {A : Type 0} (bad short short' : Bool) (d e : SectionError) (r r' : Result A SectionError)
@@ -24,7 +24,7 @@ sized_form false true short' d e r r' h k = absurd (h refl)
 sized_form false false short' d e r r' h k = let q = k refl in guarded short' e r' q.0 ∙ q.1
 
 -- longer bytes after the first three
-sized_longer : (start : Start) (bytes more : List ℕ) → (sized_at start bytes ≡ Err Short → ⊥) → sized_at start (bytes ++ more) ≡ sized_at start bytes
+sized_longer : (start : SectionStart) (bytes more : List ℕ) → (sized_at start bytes ≡ Err Short → ⊥) → sized_at start (bytes ++ more) ≡ sized_at start bytes
 unfolding sized_at
 sized_longer start bytes more h =
     let n : ℕ = 3 + start.section_length in
@@ -37,22 +37,22 @@ sized_longer start bytes more h =
 
 -- longer bytes read the same section, unless it was Short
 pub section_longer : (bytes more : List ℕ) → (section_at bytes ≡ Err Short → ⊥) → section_at (bytes ++ more) ≡ section_at bytes
-unfolding section_at start_at
+unfolding section_at section_start_at
 section_longer [] more h = absurd (h refl)
 section_longer (a ∷ []) more h = absurd (h refl)
 section_longer (a ∷ b ∷ []) more h = absurd (h refl)
 section_longer (a ∷ b ∷ c ∷ bytes) more h = sized_longer _ (a ∷ b ∷ c ∷ bytes) more h
 
 -- a whole section after its first three bytes
-sized_again : (start : Start) (text rest : List ℕ) (s : SectionView) → is_bad_length start.is_long start.section_length ≡ false → length text ≡ 3 + start.section_length
-    → whole_at start text ≡ Ok s → sized_at start (text ++ rest) ≡ Ok (s, length text)
+sized_again : (start : SectionStart) (section rest : List ℕ) (s : SectionView) → is_bad_length start.is_long start.section_length ≡ false → length section ≡ 3 + start.section_length
+    → whole_at start section ≡ Ok s → sized_at start (section ++ rest) ≡ Ok (s, length section)
 unfolding sized_at
-sized_again start text rest s good len e =
+sized_again start section rest s good len e =
     let n : ℕ = 3 + start.section_length in
-    let fits : nat_lt (length (text ++ rest)) n ≡ false = le-ltb (length (text ++ rest)) n (omega (arith, length-append text rest)) in
-    let front : take n (text ++ rest) ≡ text = ap (λ (m : ℕ). take m (text ++ rest)) (sym len) ∙ take-append_seam text rest in
+    let fits : nat_lt (length (section ++ rest)) n ≡ false = le-ltb (length (section ++ rest)) n (omega (arith, length-append section rest)) in
+    let front : take n (section ++ rest) ≡ section = ap (λ (m : ℕ). take m (section ++ rest)) (sym len) ∙ take-append_seam section rest in
     guarded (is_bad_length start.is_long start.section_length) Length _ good
-    ∙ guarded (nat_lt (length (text ++ rest)) n) Short _ fits
+    ∙ guarded (nat_lt (length (section ++ rest)) n) Short _ fits
     ∙ ap (λ (t : List ℕ). whole_at start t >>= λ section. Ok (section, n)) front
     ∙ ap (λ (r : Result SectionView SectionError). r >>= λ section. Ok (section, n)) e
     ∙ ap (λ (m : ℕ). Ok (s, m)) (sym len)
@@ -80,7 +80,7 @@ unfolding is_bad_length
 good_long n k h = rw (le-ltb 4093 n h) (le-ltb n 9 k)
 
 -- a whole section of the short form
-pub whole_short : (start : Start) (a b c : ℕ) (body : List ℕ) → start.is_long ≡ false
+pub whole_short : (start : SectionStart) (a b c : ℕ) (body : List ℕ) → start.is_long ≡ false
     → whole_at start (a ∷ b ∷ c ∷ body) ≡ Ok (record { header = record { table_id = start.table_id; private_indicator = start.private_indicator; long = None }; body = body })
 unfolding whole_at short_section
 whole_short start a b c body e = rw e refl
@@ -90,14 +90,14 @@ pub short_again : (a b c : ℕ) (s : SectionView) (reserved : ℕ) (rest : List 
     → number (a ∷ b ∷ c ∷ []) ≡ fields ((8, s.header.table_id) ∷ (1, 0) ∷ (1, bit s.header.private_indicator) ∷ (2, reserved) ∷ (12, length s.body) ∷ [])
     → s.header.table_id < 2 ^ 8 → reserved < 2 ^ 2 → length s.body ≤ 4093
     → section_at ((a ∷ b ∷ c ∷ s.body) ++ rest) ≡ Ok (s, length (a ∷ b ∷ c ∷ s.body))
-unfolding section_at start_at
+unfolding section_at section_start_at
 short_again a b c s reserved rest ha hb hc none spelled htid hres hlen =
     let one : bit s.header.private_indicator < 2 = bit-bound s.header.private_indicator in
     let tid : a ≡ s.header.table_id = omega arith in
     let form : flag b 128 ≡ false = test_bit false (b / 128 % 2) (omega arith) in
     let private_is : flag b 64 ≡ s.header.private_indicator = test_bit s.header.private_indicator (b / 64 % 2) (omega arith) in
     let len : b % 16 * 256 + c ≡ length s.body = omega arith in
-    let start : Start = record { table_id = a; is_long = flag b 128; private_indicator = flag b 64; section_length = b % 16 * 256 + c } in
+    let start : SectionStart = record { table_id = a; is_long = flag b 128; private_indicator = flag b 64; section_length = b % 16 * 256 + c } in
     let good : is_bad_length (flag b 128) (b % 16 * 256 + c) ≡ false = rw (form, len) (good_short (length s.body) hlen) in
     let whole : ◌≡◌ {A = SectionView} (record { header = record { table_id = a; private_indicator = flag b 64; long = None }; body = s.body })
     (record { header = record { table_id = s.header.table_id; private_indicator = s.header.private_indicator; long = s.header.long }; body = s.body }) = cc in
@@ -130,7 +130,7 @@ header_again d e f g h l reserved hd he hf hg hh spelled hx hr hv hs hl =
     whole
 
 -- a whole section of the long form
-pub whole_long : (start : Start) (a b c d e f g h : ℕ) (body crc : List ℕ) → start.is_long ≡ true → length crc ≡ 4
+pub whole_long : (start : SectionStart) (a b c d e f g h : ℕ) (body crc : List ℕ) → start.is_long ≡ true → length crc ≡ 4
     → check_word (a ∷ b ∷ c ∷ d ∷ e ∷ f ∷ g ∷ h ∷ (body ++ crc)) ≡ 0
     → whole_at start (a ∷ b ∷ c ∷ d ∷ e ∷ f ∷ g ∷ h ∷ (body ++ crc))
     ≡ Ok (record { header = record { table_id = start.table_id; private_indicator = start.private_indicator; long = Some (long_header_of (d ∷ e ∷ f ∷ g ∷ h ∷ [])) }; body = body })
@@ -150,7 +150,7 @@ pub long_again : (a b c d e f g h : ℕ) (s : SectionView) (l : LongHeader) (crc
     → s.header.table_id < 2 ^ 8 → reserved < 2 ^ 2 → 9 + length s.body ≤ 4093
     → l.table_id_extension < 2 ^ 16 → reserved' < 2 ^ 2 → l.version_number < 2 ^ 5 → l.section_number < 2 ^ 8 → l.last_section_number < 2 ^ 8
     → section_at ((a ∷ b ∷ c ∷ d ∷ e ∷ f ∷ g ∷ h ∷ (s.body ++ crc)) ++ rest) ≡ Ok (s, length (a ∷ b ∷ c ∷ d ∷ e ∷ f ∷ g ∷ h ∷ (s.body ++ crc)))
-unfolding section_at start_at
+unfolding section_at section_start_at
 long_again a b c d e f g h s l crc reserved reserved' rest ha hb hc hd he hf hg hh some hcrc spelled checked htid hres hlen hx hres' hv hs hl =
     let one : bit s.header.private_indicator < 2 = bit-bound s.header.private_indicator in
     let one' : bit l.current_next < 2 = bit-bound l.current_next in
@@ -163,7 +163,7 @@ long_again a b c d e f g h s l crc reserved reserved' rest ha hb hc hd he hf hg 
     let private_is : flag b 64 ≡ s.header.private_indicator = test_bit s.header.private_indicator (b / 64 % 2) (omega arith) in
     let len : b % 16 * 256 + c ≡ 9 + length s.body = omega arith in
     let header_is : long_header_of (d ∷ e ∷ f ∷ g ∷ h ∷ []) ≡ l = header_again d e f g h l reserved' hd he hf hg hh parts.1 hx hres' hv hs hl in
-    let start : Start = record { table_id = a; is_long = flag b 128; private_indicator = flag b 64; section_length = b % 16 * 256 + c } in
+    let start : SectionStart = record { table_id = a; is_long = flag b 128; private_indicator = flag b 64; section_length = b % 16 * 256 + c } in
     let good : is_bad_length (flag b 128) (b % 16 * 256 + c) ≡ false = rw (form, len) (good_long (9 + length s.body) (omega arith) hlen) in
     let whole : ◌≡◌ {A = SectionView} (record { header = record { table_id = a; private_indicator = flag b 64; long = Some (long_header_of (d ∷ e ∷ f ∷ g ∷ h ∷ [])) }; body = s.body })
     (record { header = record { table_id = s.header.table_id; private_indicator = s.header.private_indicator; long = s.header.long }; body = s.body }) = cc in

@@ -3,18 +3,18 @@ use Rattle.std.proofs.Common.{◌≡◌, ℕ, suc, ◌+◌, ◌-◌, ◌*◌, �
 use Rattle.std.proofs.lemmas.Bool.{ltb-false, le-ltb, lt-ltb, cases_lt, false≢true}
 use Rattle.std.proofs.lemmas.List.{length-take-le, length-drop, take-append-drop}
 use Rattle.bit_fields.specs.Fields.{number, fields, bit, flag, IsBytes}
-use Rattle.bit_fields.proofs.Binding.{bind_ok, guard_ok, ok_is}
+use Rattle.bit_fields.proofs.Bind.{bind_ok, guard_ok, ok_is}
 use Rattle.bit_fields.proofs.ByteLists.{IsBytes-take}
-use Rattle.bit_fields.proofs.Spellings.{bit_test}
+use Rattle.bit_fields.proofs.Fields.{bit_test}
 use Rattle.psi_tables.specs.CheckWord.{check_word}
 use Rattle.psi_tables.specs.Views.{SectionView}
 use Rattle.psi_tables.specs.Syntax.{IsShortSection, IsLongSection, HasForm, IsSection}
-use Rattle.psi_tables.specs.Reading.{start_at, is_bad_length, long_header_of, long_section, whole_at, sized_at, section_at}
-use Rattle.psi_tables.specs.Spelling.{HeaderFits, FormFits}
+use Rattle.psi_tables.specs.Reading.{section_start_at, is_bad_length, long_header_of, long_section, whole_at, sized_at, section_at}
+use Rattle.psi_tables.specs.Encoding.{HeaderFits, FormFits}
 use Rattle.psi_tables.specs.declared.error.SectionError.{SectionError}
 use Rattle.psi_tables.specs.declared.error.SectionError.TheVariants.{Short, Length, CheckWord}
 use Rattle.psi_tables.specs.declared.section.LongHeader.{LongHeader}
-use Rattle.psi_tables.specs.declared.section.Start.{Start}
+use Rattle.psi_tables.specs.declared.section.SectionStart.{SectionStart}
 use Rattle.psi_tables.proofs.SectionForms.{five, whole_short, whole_long, short_again, long_again}
 
 -- bytes of a length are cut into a front and a rest
@@ -69,13 +69,13 @@ long_found a b c d e f g h body crc ha hb hc hd he hf hg hh form len most hcrc c
     }
 
 -- what a section that was read is
-pub record Found (start : Start) (bytes : List ℕ) (p : SectionView × ℕ) : Type 0 where
+pub record Found (start : SectionStart) (bytes : List ℕ) (p : SectionView × ℕ) : Type 0 where
   pub good : is_bad_length start.is_long start.section_length ≡ false
   pub fits : 3 + start.section_length ≤ length bytes
   pub size : p.1 ≡ 3 + start.section_length
   pub whole : whole_at start (take (3 + start.section_length) bytes) ≡ Ok p.0
 
-sized_found : (start : Start) (bytes : List ℕ) (p : SectionView × ℕ) → sized_at start bytes ≡ Ok p → Found start bytes p
+sized_found : (start : SectionStart) (bytes : List ℕ) (p : SectionView × ℕ) → sized_at start bytes ≡ Ok p → Found start bytes p
 unfolding sized_at
 sized_found start bytes p e =
     let n : ℕ = 3 + start.section_length in
@@ -112,10 +112,10 @@ checked_is true x y e = refl
 checked_is false x y e = absurd cc
 
 -- a section of the long form that was read has a right check word
-long_checked : (start : Start) (text : List ℕ) (s : SectionView) → start.is_long ≡ true → whole_at start text ≡ Ok s → check_word text ≡ 0
+long_checked : (start : SectionStart) (bytes : List ℕ) (s : SectionView) → start.is_long ≡ true → whole_at start bytes ≡ Ok s → check_word bytes ≡ 0
 unfolding whole_at
-long_checked start text s form e =
-    eqb-true (check_word text) 0 (checked_is (check_word text == 0) (long_section start (drop 3 text)) s (sym (cond_true start.is_long _ _ form) ∙ e))
+long_checked start bytes s form e =
+    eqb-true (check_word bytes) 0 (checked_is (check_word bytes == 0) (long_section start (drop 3 bytes)) s (sym (cond_true start.is_long _ _ form) ∙ e))
 
 -- a section of the long form that was read is one
 long_is_of : (a b c d e f g h : ℕ) (body crc : List ℕ) (s : SectionView) → IsBytes (a ∷ b ∷ c ∷ d ∷ e ∷ f ∷ g ∷ h ∷ (body ++ crc)) → flag b 128 ≡ true
@@ -123,12 +123,12 @@ long_is_of : (a b c d e f g h : ℕ) (body crc : List ℕ) (s : SectionView) →
     → whole_at (record { table_id = a; is_long = flag b 128; private_indicator = flag b 64; section_length = b % 16 * 256 + c }) (a ∷ b ∷ c ∷ d ∷ e ∷ f ∷ g ∷ h ∷ (body ++ crc)) ≡ Ok s
     → IsSection (a ∷ b ∷ c ∷ d ∷ e ∷ f ∷ g ∷ h ∷ (body ++ crc)) s
 long_is_of a b c d e f g h body crc s bytes form len most hcrc r =
-    let start : Start = record { table_id = a; is_long = flag b 128; private_indicator = flag b 64; section_length = b % 16 * 256 + c } in
-    let text : List ℕ = a ∷ b ∷ c ∷ d ∷ e ∷ f ∷ g ∷ h ∷ (body ++ crc) in
-    let checked : check_word text ≡ 0 = long_checked start text s form r in
+    let start : SectionStart = record { table_id = a; is_long = flag b 128; private_indicator = flag b 64; section_length = b % 16 * 256 + c } in
+    let section : List ℕ = a ∷ b ∷ c ∷ d ∷ e ∷ f ∷ g ∷ h ∷ (body ++ crc) in
+    let checked : check_word section ≡ 0 = long_checked start section s form r in
     let read = whole_long start a b c d e f g h body crc form hcrc checked in
     let says : ◌≡◌ {A = SectionView} (record { header = record { table_id = a; private_indicator = flag b 64; long = Some (long_header_of (d ∷ e ∷ f ∷ g ∷ h ∷ [])) }; body = body }) s = ok_is _ _ (sym read ∙ r) in
-    subst (λ (v : SectionView). IsSection text v) says
+    subst (λ (v : SectionView). IsSection section v) says
     (long_found a b c d e f g h body crc (bytes 0) (bytes 1) (bytes 2) (bytes 3) (bytes 4) (bytes 5) (bytes 6) (bytes 7) form len (omega arith) hcrc checked)
 
 long_is : (a b c : ℕ) (t : List ℕ) (s : SectionView) → IsBytes (a ∷ b ∷ c ∷ t) → flag b 128 ≡ true → is_bad_length true (b % 16 * 256 + c) ≡ false → length t ≡ b % 16 * 256 + c
@@ -138,7 +138,7 @@ long_is a b c t s h form good len r =
     let enough : 9 ≤ b % 16 * 256 + c = enough_is (b % 16 * 256 + c) good in
     let v = five t (omega arith) in
     let size : length t ≡ 5 + length v.5 = ap (length {A = ℕ}) v.6 ∙ five_more (length v.5) in
-    let start : Start = record { table_id = a; is_long = flag b 128; private_indicator = flag b 64; section_length = b % 16 * 256 + c } in
+    let start : SectionStart = record { table_id = a; is_long = flag b 128; private_indicator = flag b 64; section_length = b % 16 * 256 + c } in
     after v.0 v.1 v.2 v.3 v.4 (take (length v.5 - 4) v.5) (drop (length v.5 - 4) v.5)
     (v.6 ∙ ap (λ (x : List ℕ). v.0 ∷ v.1 ∷ v.2 ∷ v.3 ∷ v.4 ∷ x) (sym (take-append-drop (length v.5 - 4) v.5)))
     (length_of (length v.5) (length t) (b % 16 * 256 + c) _ size len enough (length-take-le (length v.5 - 4) v.5 (omega arith)))
@@ -163,7 +163,7 @@ short_is : (a b c : ℕ) (t : List ℕ) (s : SectionView) → IsBytes (a ∷ b �
     → whole_at (record { table_id = a; is_long = flag b 128; private_indicator = flag b 64; section_length = b % 16 * 256 + c }) (a ∷ b ∷ c ∷ t) ≡ Ok s
     → IsSection (a ∷ b ∷ c ∷ t) s
 short_is a b c t s h form most len r =
-    let start : Start = record { table_id = a; is_long = flag b 128; private_indicator = flag b 64; section_length = b % 16 * 256 + c } in
+    let start : SectionStart = record { table_id = a; is_long = flag b 128; private_indicator = flag b 64; section_length = b % 16 * 256 + c } in
     let says : ◌≡◌ {A = SectionView} (record { header = record { table_id = a; private_indicator = flag b 64; long = None }; body = t }) s = ok_is _ _ (sym (whole_short start a b c t form) ∙ r) in
     subst (λ (v : SectionView). IsSection (a ∷ b ∷ c ∷ t) v) says (short_found a b c t (h 0) (h 1) (h 2) form len (omega arith))
 
@@ -180,23 +180,23 @@ pub record IsRead (bytes : List ℕ) (p : SectionView × ℕ) : Type 0 where
   pub section : IsSection (take p.1 bytes) p.0
 
 pub section_is : (bytes : List ℕ) (p : SectionView × ℕ) → IsBytes bytes → section_at bytes ≡ Ok p → IsRead bytes p
-unfolding section_at start_at
+unfolding section_at section_start_at
 section_is [] p h e = absurd cc
 section_is (a ∷ []) p h e = absurd cc
 section_is (a ∷ b ∷ []) p h e = absurd cc
 section_is (a ∷ b ∷ c ∷ bytes) p h e =
     let n : ℕ = b % 16 * 256 + c in
-    let start : Start = record { table_id = a; is_long = flag b 128; private_indicator = flag b 64; section_length = n } in
+    let start : SectionStart = record { table_id = a; is_long = flag b 128; private_indicator = flag b 64; section_length = n } in
     let q = sized_found start (a ∷ b ∷ c ∷ bytes) p e in
     let cut : take (3 + n) (a ∷ b ∷ c ∷ bytes) ≡ a ∷ b ∷ c ∷ take n bytes = take-three a b c bytes n in
     let room : n ≤ length bytes = fewer n (length bytes) q.fits in
-    let text : take p.1 (a ∷ b ∷ c ∷ bytes) ≡ a ∷ b ∷ c ∷ take n bytes = ap (λ (m : ℕ). take m (a ∷ b ∷ c ∷ bytes)) q.size ∙ cut in
+    let section : take p.1 (a ∷ b ∷ c ∷ bytes) ≡ a ∷ b ∷ c ∷ take n bytes = ap (λ (m : ℕ). take m (a ∷ b ∷ c ∷ bytes)) q.size ∙ cut in
     let whole : whole_at start (a ∷ b ∷ c ∷ take n bytes) ≡ Ok p.0 = ap (λ (x : List ℕ). whole_at start x) (sym cut) ∙ q.whole in
-    let few : IsBytes (a ∷ b ∷ c ∷ take n bytes) = subst IsBytes text (IsBytes-take p.1 (a ∷ b ∷ c ∷ bytes) h) in
+    let few : IsBytes (a ∷ b ∷ c ∷ take n bytes) = subst IsBytes section (IsBytes-take p.1 (a ∷ b ∷ c ∷ bytes) h) in
     let len : length (take n bytes) ≡ n = length-take-le n bytes room in
     record {
       fits = omega (arith, q.size, q.fits);
-      section = subst (λ (x : List ℕ). IsSection x p.0) (sym text) (form_is (flag b 128) a b c (take n bytes) p.0 few refl q.good len whole);
+      section = subst (λ (x : List ℕ). IsSection x p.0) (sym section) (form_is (flag b 128) a b c (take n bytes) p.0 few refl q.good len whole);
     } where
       fewer : (n m : ℕ) → 3 + n ≤ suc (suc (suc m)) → n ≤ m
       fewer n m h = omega arith
@@ -227,20 +227,20 @@ eight [] len = absurd (omega arith)
 eight (a ∷ []) len = absurd (omega arith)
 eight (a ∷ b ∷ []) len = absurd (omega arith)
 
-again_by : (l : Option LongHeader) (text rest : List ℕ) (s : SectionView) → IsBytes text → s.header.long ≡ l → HasForm l text s → section_at (text ++ rest) ≡ Ok (s, length text)
-again_by None text rest s bytes e h =
+again_by : (l : Option LongHeader) (section rest : List ℕ) (s : SectionView) → IsBytes section → s.header.long ≡ l → HasForm l section s → section_at (section ++ rest) ≡ Ok (s, length section)
+again_by None section rest s bytes e h =
     let v = three h.front h.front_length in
     let a : ℕ = v.0 in
     let b : ℕ = v.1 in
     let c : ℕ = v.2 in
-    let is : text ≡ a ∷ b ∷ c ∷ s.body = h.is ∙ ap (λ (x : List ℕ). x ++ s.body) v.3 in
+    let is : section ≡ a ∷ b ∷ c ∷ s.body = h.is ∙ ap (λ (x : List ℕ). x ++ s.body) v.3 in
     let fit : IsBytes (a ∷ b ∷ c ∷ s.body) = subst IsBytes is bytes in
     let spelled = subst (λ (x : List ℕ). number x ≡ fields ((8, s.header.table_id) ∷ (1, 0) ∷ (1, bit s.header.private_indicator) ∷ (2, h.reserved) ∷ (12, length s.body) ∷ [])) v.3 h.spelled in
     subst (λ (x : List ℕ). section_at (x ++ rest) ≡ Ok (s, length x)) (sym is)
     (short_again a b c s h.reserved rest (fit 0) (fit 1) (fit 2) e spelled h.table_id h.two_bits h.section_length)
-again_by (Some l) text rest s bytes e h =
+again_by (Some l) section rest s bytes e h =
     let v = eight h.front h.front_length in
-    let is : text ≡ v.0 ∷ v.1 ∷ v.2 ∷ v.3 ∷ v.4 ∷ v.5 ∷ v.6 ∷ v.7 ∷ (s.body ++ h.crc) = h.is ∙ ap (λ (x : List ℕ). x ++ (s.body ++ h.crc)) v.8 in
+    let is : section ≡ v.0 ∷ v.1 ∷ v.2 ∷ v.3 ∷ v.4 ∷ v.5 ∷ v.6 ∷ v.7 ∷ (s.body ++ h.crc) = h.is ∙ ap (λ (x : List ℕ). x ++ (s.body ++ h.crc)) v.8 in
     let fit : IsBytes (v.0 ∷ v.1 ∷ v.2 ∷ v.3 ∷ v.4 ∷ v.5 ∷ v.6 ∷ v.7 ∷ (s.body ++ h.crc)) = subst IsBytes is bytes in
     let spelled = subst (λ (x : List ℕ). number x ≡ fields ((8, s.header.table_id) ∷ (1, 1) ∷ (1, bit s.header.private_indicator) ∷ (2, h.reserved) ∷ (12, 9 + length s.body)
     ∷ (16, l.table_id_extension) ∷ (2, h.reserved_after) ∷ (5, l.version_number) ∷ (1, bit l.current_next) ∷ (8, l.section_number) ∷ (8, l.last_section_number) ∷ [])) v.8 h.spelled in
@@ -249,13 +249,13 @@ again_by (Some l) text rest s bytes e h =
     (ap check_word (sym is) ∙ h.checked) h.table_id h.two_bits h.section_length h.table_id_extension h.two_bits_after h.version_number h.section_number h.last_section_number)
 
 -- a section that stands at the front is read
-pub section_again : (text rest : List ℕ) (s : SectionView) → IsBytes text → IsSection text s → section_at (text ++ rest) ≡ Ok (s, length text)
-section_again text rest s bytes h = again_by s.header.long text rest s bytes refl h
+pub section_again : (section rest : List ℕ) (s : SectionView) → IsBytes section → IsSection section s → section_at (section ++ rest) ≡ Ok (s, length section)
+section_again section rest s bytes h = again_by s.header.long section rest s bytes refl h
 
-form_fits : (l : Option LongHeader) (text : List ℕ) (s : SectionView) → HasForm l text s → FormFits l
-form_fits None text s h = tt
-form_fits (Some l) text s h = h.version_number
+form_fits : (l : Option LongHeader) (section : List ℕ) (s : SectionView) → HasForm l section s → FormFits l
+form_fits None section s h = tt
+form_fits (Some l) section s h = h.version_number
 
 -- what a section says can be written
-pub section_fits : (text : List ℕ) (s : SectionView) → IsSection text s → HeaderFits s.header
-section_fits text s h = form_fits s.header.long text s h
+pub section_fits : (section : List ℕ) (s : SectionView) → IsSection section s → HeaderFits s.header
+section_fits section s h = form_fits s.header.long section s h

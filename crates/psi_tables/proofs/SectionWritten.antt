@@ -5,20 +5,20 @@ use Rattle.psi_tables.specs.CheckWord.{check_word}
 use Rattle.psi_tables.specs.Views.{SectionView}
 use Rattle.psi_tables.specs.Syntax.{IsSection}
 use Rattle.psi_tables.specs.Reading.{section_at}
-use Rattle.psi_tables.specs.Spelling.{word_text, start_text, long_header_text, section_length, front_text, header_text, ended_text, section_text}
+use Rattle.psi_tables.specs.Encoding.{check_word_bytes, start_bytes, long_header_bytes, section_length, front_bytes, header_bytes, with_crc, section_bytes}
 use Rattle.psi_tables.specs.declared.section.LongHeader.{LongHeader}
-use Rattle.psi_tables.specs.Spelling.{LongFits, NumbersFit, IsWritable}
+use Rattle.psi_tables.specs.Encoding.{LongFits, NumbersFit, IsWritable}
 use Rattle.psi_tables.proofs.Linear.{check_word-own}
 use Rattle.psi_tables.proofs.SectionForms.{bit-bound, short_again, long_again}
 
 -- what a writable section is written as, by its form
-pub record Again (text : List ℕ) (s : SectionView) : Type 0 where
-  pub section : IsSection text s
-  pub read : (rest : List ℕ) → section_at (text ++ rest) ≡ Ok (s, length text)
+pub record Again (bytes : List ℕ) (s : SectionView) : Type 0 where
+  pub section : IsSection bytes s
+  pub read : (rest : List ℕ) → section_at (bytes ++ rest) ≡ Ok (s, length bytes)
 
 written_short : (tid : ℕ) (p : Bool) (body : List ℕ) → tid < 2 ^ 8 → length body ≤ 4093
-    → Again (start_text tid false p (length body) ++ body) (record { header = record { table_id = tid; private_indicator = p; long = None }; body = body })
-unfolding start_text
+    → Again (start_bytes tid false p (length body) ++ body) (record { header = record { table_id = tid; private_indicator = p; long = None }; body = body })
+unfolding start_bytes
 written_short tid p body htid len =
     let s : SectionView = record { header = record { table_id = tid; private_indicator = p; long = None }; body = body } in
     let one : bit p < 2 = bit-bound p in
@@ -30,8 +30,8 @@ written_short tid p body htid len =
     }
 
 written_long : (tid : ℕ) (p : Bool) (h : LongHeader) (body : List ℕ) → tid < 2 ^ 8 → LongFits h → 9 + length body ≤ 4093
-    → Again (ended_text (Some h) ((start_text tid true p (9 + length body) ++ long_header_text h) ++ body)) (record { header = record { table_id = tid; private_indicator = p; long = Some h }; body = body })
-unfolding start_text long_header_text ended_text word_text
+    → Again (with_crc (Some h) ((start_bytes tid true p (9 + length body) ++ long_header_bytes h) ++ body)) (record { header = record { table_id = tid; private_indicator = p; long = Some h }; body = body })
+unfolding start_bytes long_header_bytes with_crc check_word_bytes
 written_long tid p h body htid fits len =
     let s : SectionView = record { header = record { table_id = tid; private_indicator = p; long = Some h }; body = body } in
     let one : bit p < 2 = bit-bound p in
@@ -73,12 +73,12 @@ written_long tid p h body htid fits len =
     }
 
 written_by : (l : Option LongHeader) (tid : ℕ) (p : Bool) (body : List ℕ) → tid < 2 ^ 8 → NumbersFit l → section_length l (length body) ≤ 4093
-    → Again (ended_text l (front_text tid p l (length body) ++ body)) (record { header = record { table_id = tid; private_indicator = p; long = l }; body = body })
-unfolding front_text ended_text
+    → Again (with_crc l (front_bytes tid p l (length body) ++ body)) (record { header = record { table_id = tid; private_indicator = p; long = l }; body = body })
+unfolding front_bytes with_crc
 written_by None tid p body htid fits len = written_short tid p body htid len
 written_by (Some h) tid p body htid fits len = written_long tid p h body htid fits len
 
 -- a section that can be written is written as a section that says the same, and is read again as it
-pub written : (s : SectionView) → IsWritable s → Again (section_text s) s
-unfolding section_text header_text
+pub written : (s : SectionView) → IsWritable s → Again (section_bytes s) s
+unfolding section_bytes header_bytes
 written s w = written_by s.header.long s.header.table_id s.header.private_indicator s.body w.table_id w.numbers w.room

@@ -2,9 +2,9 @@
 use Rattle.std.proofs.Common.{◌≡◌, ℕ, ◌+◌, ◌*◌, ◌/◌, ◌%◌, ◌^◌, ◌<◌, Bool, true, false, cond, refl, sym, ap, ap₂, ◌∙◌, subst, arith, List, [], ◌∷◌, ◌++◌, length, Option, Some, Ok, Err, is_some, map}
 use Rattle.std.specs.Prelude.{unwrap_or}
 use Rattle.bit_fields.specs.Fields.{number, fields, IsBytes}
-use Rattle.bit_fields.proofs.Binding.{ok_is}
+use Rattle.bit_fields.proofs.Bind.{ok_is}
 use Rattle.bit_fields.proofs.ByteLists.{IsBytes-append_left, IsBytes-append_right}
-use Rattle.psi_tables.specs.Loops.{EntryView, descriptors_length, IsEntry, entry_text, AreEntries, loop_at}
+use Rattle.psi_tables.specs.Loops.{EntryView, descriptors_length, IsEntry, entry_bytes, AreEntries, loop_at}
 use Rattle.psi_tables.specs.ProgramMap.{StreamView, IsStream, AreStreams, stream_of, streams_in, streams_at}
 use Rattle.psi_tables.specs.declared.error.SectionError.TheVariants.{Body}
 use Rattle.psi_tables.proofs.LoopParts.{loop_at-read}
@@ -42,8 +42,8 @@ stream_found a b c d e descriptors ha hb hc hd he named =
       info_length = omega arith;
     }
 
-entry_found : (e : EntryView) → IsBytes (entry_text e) → IsEntry 5 e → IsStream (entry_text e) (stream_of e)
-unfolding entry_text
+entry_found : (e : EntryView) → IsBytes (entry_bytes e) → IsEntry 5 e → IsStream (entry_bytes e) (stream_of e)
+unfolding entry_bytes
 entry_found e h k =
     let v = five e.head k.head_length in
     let is : ◌≡◌ {A = EntryView} (record { head = v.0 ∷ v.1 ∷ v.2 ∷ v.3 ∷ v.4 ∷ []; descriptors = e.descriptors }) (record { head = e.head; descriptors = e.descriptors }) =
@@ -56,12 +56,12 @@ entry_found e h k =
 pub streams_found : (bytes : List ℕ) (es : List EntryView) → IsBytes bytes → AreEntries 5 bytes es → AreStreams bytes (map stream_of es)
 streams_found bytes [] h k = k
 streams_found bytes (e ∷ es) h k =
-    let parts : IsBytes (entry_text e ++ k.0) = subst IsBytes k.1 h in
-    (entry_text e, k.0, k.1, entry_found e (IsBytes-append_left (entry_text e) k.0 parts) k.2, streams_found k.0 es (IsBytes-append_right (entry_text e) k.0 parts) k.3)
+    let parts : IsBytes (entry_bytes e ++ k.0) = subst IsBytes k.1 h in
+    (entry_bytes e, k.0, k.1, entry_found e (IsBytes-append_left (entry_bytes e) k.0 parts) k.2, streams_found k.0 es (IsBytes-append_right (entry_bytes e) k.0 parts) k.3)
 
 -- what a stream that stands there is as an entry
-pub record IsEntryOf (text : List ℕ) (s : StreamView) (e : EntryView) : Type 0 where
-  pub is : text ≡ entry_text e
+pub record IsEntryOf (bytes : List ℕ) (s : StreamView) (e : EntryView) : Type 0 where
+  pub is : bytes ≡ entry_bytes e
   pub entry : IsEntry 5 e
   pub stream : stream_of e ≡ s
 
@@ -69,7 +69,7 @@ stream_again : (a b c d e : ℕ) (s : StreamView) (reserved reserved' : ℕ) →
     → number (a ∷ b ∷ c ∷ d ∷ e ∷ []) ≡ fields ((8, s.stream_type) ∷ (3, reserved) ∷ (13, s.elementary_pid) ∷ (4, reserved') ∷ (12, length s.descriptors) ∷ [])
     → s.stream_type < 2 ^ 8 → reserved < 2 ^ 3 → s.elementary_pid < 2 ^ 13 → reserved' < 2 ^ 4 → length s.descriptors < 2 ^ 12
     → IsEntryOf (a ∷ b ∷ c ∷ d ∷ e ∷ s.descriptors) s (record { head = a ∷ b ∷ c ∷ d ∷ e ∷ []; descriptors = s.descriptors })
-unfolding stream_of descriptors_length entry_text
+unfolding stream_of descriptors_length entry_bytes
 stream_again a b c d e s reserved reserved' ha hb hc hd he spelled ht hr hp hr' hl =
     let type_is : a ≡ s.stream_type = omega arith in
     let pid_is : b % 32 * 256 + c ≡ s.elementary_pid = omega arith in
@@ -78,10 +78,10 @@ stream_again a b c d e s reserved reserved' ha hb hc hd he spelled ht hr hp hr' 
     (record { stream_type = s.stream_type; elementary_pid = s.elementary_pid; descriptors = s.descriptors }) = cc in
     record { is = refl; entry = record { head_length = refl; named = len }; stream = whole }
 
-entry_again : (text : List ℕ) (s : StreamView) → IsBytes text → IsStream text s → (e : EntryView) × IsEntryOf text s e
-entry_again text s h k =
+entry_again : (entry : List ℕ) (s : StreamView) → IsBytes entry → IsStream entry s → (e : EntryView) × IsEntryOf entry s e
+entry_again entry s h k =
     let v = five k.head k.head_length in
-    let is : text ≡ v.0 ∷ v.1 ∷ v.2 ∷ v.3 ∷ v.4 ∷ s.descriptors = k.is ∙ ap (λ (x : List ℕ). x ++ s.descriptors) v.5 in
+    let is : entry ≡ v.0 ∷ v.1 ∷ v.2 ∷ v.3 ∷ v.4 ∷ s.descriptors = k.is ∙ ap (λ (x : List ℕ). x ++ s.descriptors) v.5 in
     let bytes : IsBytes (v.0 ∷ v.1 ∷ v.2 ∷ v.3 ∷ v.4 ∷ s.descriptors) = subst IsBytes is h in
     let spelled = subst (λ (x : List ℕ). number x ≡ fields ((8, s.stream_type) ∷ (3, k.reserved) ∷ (13, s.elementary_pid) ∷ (4, k.reserved_after) ∷ (12, length s.descriptors) ∷ [])) v.5 k.spelled in (
       record { head = v.0 ∷ v.1 ∷ v.2 ∷ v.3 ∷ v.4 ∷ []; descriptors = s.descriptors },

@@ -1,7 +1,7 @@
 -- The header of a table of the long form.
 use Rattle.std.proofs.Common.{◌≡◌, ℕ, ◌+◌, ◌≤◌, ◌==◌, nat_lt, Bool, true, false, cond, refl, ap, ◌∙◌, length, Option, None, Some, Result, Ok, Err, eq-eqb, eqb-true}
 use Rattle.std.proofs.lemmas.Bool.{ltb-false, le-ltb}
-use Rattle.bit_fields.proofs.Binding.{ok_is}
+use Rattle.bit_fields.proofs.Bind.{ok_is}
 use Rattle.psi_tables.specs.Views.{SectionView}
 use Rattle.psi_tables.specs.Tables.{form_at, table_header_at}
 use Rattle.psi_tables.specs.declared.error.SectionError.{SectionError}

@@ -4,14 +4,14 @@ use Rattle.psi_tables.specs.CheckWord.{check_word}
 use Rattle.psi_tables.specs.Views.{SectionView}
 use Rattle.psi_tables.specs.Syntax.{IsSection}
 use Rattle.psi_tables.specs.Reading.{section_at}
-use Rattle.psi_tables.specs.Spelling.{IsWritable, word_text, section_text}
+use Rattle.psi_tables.specs.Encoding.{IsWritable, check_word_bytes, section_bytes}
 use Rattle.psi_tables.specs.ProgramAssociation.{PatView, IsPat, PatFits, pat_at, pat_section}
 use Rattle.psi_tables.specs.ProgramMap.{PmtView, IsPmt, PmtFits, pmt_at, pmt_section}
 use Rattle.psi_tables.specs.declared.error.SectionError.TheVariants.{Short}
 
 -- over a message with its check word after it the register ends 0
 abbrev pub CheckWordEnds : Type 0
-CheckWordEnds = (message : List ℕ) → check_word (message ++ word_text (check_word message)) ≡ 0
+CheckWordEnds = (message : List ℕ) → check_word (message ++ check_word_bytes (check_word message)) ≡ 0
 
 -- bytes after those that were read make no difference, unless more of them were wanted
 abbrev pub LongerReadsTheSame : Type 0
@@ -19,8 +19,8 @@ LongerReadsTheSame = (bytes more : List ℕ) → (section_at bytes ≡ Err Short
 
 -- a section that can be written is written as a section that says the same, and is read again as it, whatever stands after it
 pub record WrittenIsRead (s : SectionView) : Type 0 where
-  pub section : IsSection (section_text s) s
-  pub read : (rest : List ℕ) → section_at (section_text s ++ rest) ≡ Ok (s, length (section_text s))
+  pub section : IsSection (section_bytes s) s
+  pub read : (rest : List ℕ) → section_at (section_bytes s ++ rest) ≡ Ok (s, length (section_bytes s))
 
 abbrev pub SectionsAreReadAgain : Type 0
 SectionsAreReadAgain = (s : SectionView) → IsWritable s → WrittenIsRead s

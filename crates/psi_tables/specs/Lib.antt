@@ -3,7 +3,7 @@ pub mod Codes
 pub mod Views
 pub mod Syntax
 pub mod Reading
-pub mod Spelling
+pub mod Encoding
 pub mod Tables
 pub mod ProgramAssociation
 pub mod Loops

@@ -18,21 +18,21 @@ pub record IsEntry (k : ℕ) (e : EntryView) : Type 0 where
   pub named : descriptors_length e.head ≡ length e.descriptors
 
 -- the bytes of an entry
-unfoldable pub entry_text : EntryView → List ℕ
-entry_text e = e.head ++ e.descriptors
+unfoldable pub entry_bytes : EntryView → List ℕ
+entry_bytes e = e.head ++ e.descriptors
 
 -- bytes are entries one after the other
 abbrev pub AreEntries : ℕ → List ℕ → List EntryView → Type 0
 AreEntries k bytes [] = bytes ≡ []
-AreEntries k bytes (e ∷ es) = (rest : List ℕ) × (bytes ≡ entry_text e ++ rest) × IsEntry k e × AreEntries k rest es
+AreEntries k bytes (e ∷ es) = (rest : List ℕ) × (bytes ≡ entry_bytes e ++ rest) × IsEntry k e × AreEntries k rest es
 
--- the entry with this head, and what stands after it
+-- the entry with this head, and what follows it
 unfoldable pub entry_after : List ℕ → List ℕ → Option (EntryView × List ℕ)
 entry_after head rest =
     if nat_lt (length rest) (descriptors_length head) then None
     else Some (record { head = head; descriptors = take (descriptors_length head) rest }, drop (descriptors_length head) rest)
 
--- the entry at the front, and what stands after it; none where it does not fit
+-- the entry at the front, and what follows it; none where it does not fit
 unfoldable pub entry_at : ℕ → List ℕ → Option (EntryView × List ℕ)
 entry_at k bytes = if nat_lt (length bytes) k then None else entry_after (take k bytes) (drop k bytes)
 

@@ -3,7 +3,7 @@ use Rattle.std.specs.Prelude.{◌≡◌, ℕ, ◌+◌, ◌*◌, ◌/◌, ◌%◌
 use Rattle.bit_fields.specs.Fields.{number, fields}
 use Rattle.bit_fields.specs.Reading.{◌>>=◌}
 use Rattle.psi_tables.specs.Views.{SectionView}
-use Rattle.psi_tables.specs.Spelling.{LongFits}
+use Rattle.psi_tables.specs.Encoding.{LongFits}
 use Rattle.psi_tables.specs.Tables.{table_header_at}
 use Rattle.psi_tables.specs.declared.error.SectionError.{SectionError}
 use Rattle.psi_tables.specs.declared.error.SectionError.TheVariants.{Body}
@@ -20,18 +20,18 @@ pub record PatView : Type 0 where
   pub programs : List Program
 
 -- four bytes are one entry: program_number, three reserved bits, and network_PID or program_map_PID
-pub record IsProgram (text : List ℕ) (p : Program) : Type 0 where
-  pub len : length text ≡ 4
+pub record IsProgram (bytes : List ℕ) (p : Program) : Type 0 where
+  pub len : length bytes ≡ 4
   pub reserved : ℕ
-  pub spelled : number text ≡ fields ((16, p.program_number) ∷ (3, reserved) ∷ (13, p.pid) ∷ [])
+  pub spelled : number bytes ≡ fields ((16, p.program_number) ∷ (3, reserved) ∷ (13, p.pid) ∷ [])
   pub program_number : p.program_number < 2 ^ 16
   pub three_bits : reserved < 2 ^ 3
   pub pid : p.pid < 2 ^ 13
 
 -- bytes are entries one after the other
 abbrev pub ArePrograms : List ℕ → List Program → Type 0
-ArePrograms text [] = text ≡ []
-ArePrograms text (p ∷ ps) = (one : List ℕ) × (rest : List ℕ) × (text ≡ one ++ rest) × IsProgram one p × ArePrograms rest ps
+ArePrograms bytes [] = bytes ≡ []
+ArePrograms bytes (p ∷ ps) = (one : List ℕ) × (rest : List ℕ) × (bytes ≡ one ++ rest) × IsProgram one p × ArePrograms rest ps
 
 -- a section is a program association section that says this
 pub record IsPat (s : SectionView) (p : PatView) : Type 0 where
@@ -58,12 +58,12 @@ pat_at s = table_header_at 0x00 1021 s >>= λ header.
     (if length s.body % 4 == 0 then Ok (record { header = header; programs = programs_in s.body }) else Err Body)
 
 -- an entry as it is written, reserved bits 1
-unfoldable pub program_text : Program → List ℕ
-program_text p = (p.program_number / 256) ∷ (p.program_number % 256) ∷ (0xE0 + p.pid / 256 % 32) ∷ (p.pid % 256) ∷ []
+unfoldable pub program_bytes : Program → List ℕ
+program_bytes p = (p.program_number / 256) ∷ (p.program_number % 256) ∷ (0xE0 + p.pid / 256 % 32) ∷ (p.pid % 256) ∷ []
 
 -- entries as they are written
-unfoldable pub programs_text : List Program → List ℕ
-programs_text ps = flat_map program_text ps
+unfoldable pub programs_bytes : List Program → List ℕ
+programs_bytes ps = flat_map program_bytes ps
 
 -- the header of the section that carries a PAT
 unfoldable pub pat_header : LongHeader → SectionHeader
@@ -71,7 +71,7 @@ pat_header header = record { table_id = 0x00; private_indicator = false; long = 
 
 -- the section that carries a PAT
 unfoldable pub pat_section : PatView → SectionView
-pat_section p = record { header = pat_header p.header; body = programs_text p.programs }
+pat_section p = record { header = pat_header p.header; body = programs_bytes p.programs }
 
 -- the entries that are left of an iterator over a program loop
 unfoldable pub programs_of : Programs → List Program

@@ -3,9 +3,9 @@ use Rattle.std.specs.Prelude.{◌≡◌, ℕ, ◌+◌, ◌*◌, ◌/◌, ◌%◌
 use Rattle.bit_fields.specs.Fields.{number, fields}
 use Rattle.bit_fields.specs.Reading.{◌>>=◌}
 use Rattle.psi_tables.specs.Views.{SectionView}
-use Rattle.psi_tables.specs.Spelling.{LongFits}
+use Rattle.psi_tables.specs.Encoding.{LongFits}
 use Rattle.psi_tables.specs.Tables.{table_header_at}
-use Rattle.psi_tables.specs.Loops.{EntryView, entry_at, loop_at, entries_in, entry_text}
+use Rattle.psi_tables.specs.Loops.{EntryView, entry_at, loop_at, entries_in, entry_bytes}
 use Rattle.psi_tables.specs.declared.error.SectionError.{SectionError}
 use Rattle.psi_tables.specs.declared.error.SectionError.TheVariants.{Body}
 use Rattle.psi_tables.specs.declared.section.LongHeader.{LongHeader}
@@ -29,9 +29,9 @@ pub record PmtView : Type 0 where
   pub streams : List StreamView
 
 -- one entry: stream_type, three reserved bits, elementary_PID, four reserved bits, ES_info_length, descriptors
-pub record IsStream (text : List ℕ) (s : StreamView) : Type 0 where
+pub record IsStream (bytes : List ℕ) (s : StreamView) : Type 0 where
   pub head : List ℕ
-  pub is : text ≡ head ++ s.descriptors
+  pub is : bytes ≡ head ++ s.descriptors
   pub reserved : ℕ
   pub reserved_after : ℕ
   pub head_length : length head ≡ 5
@@ -44,8 +44,8 @@ pub record IsStream (text : List ℕ) (s : StreamView) : Type 0 where
 
 -- bytes are entries one after the other
 abbrev pub AreStreams : List ℕ → List StreamView → Type 0
-AreStreams text [] = text ≡ []
-AreStreams text (s ∷ ss) = (one : List ℕ) × (rest : List ℕ) × (text ≡ one ++ rest) × IsStream one s × AreStreams rest ss
+AreStreams bytes [] = bytes ≡ []
+AreStreams bytes (s ∷ ss) = (one : List ℕ) × (rest : List ℕ) × (bytes ≡ one ++ rest) × IsStream one s × AreStreams rest ss
 
 -- a section is a program map section that says this: three reserved bits, PCR_PID, four reserved bits, program_info_length,
 -- the program's descriptors, the entries
@@ -97,30 +97,30 @@ unfoldable pub pmt_at : SectionView → Result PmtView SectionError
 pmt_at s = table_header_at 0x02 1021 s >>= λ header. pmt_after header (entry_at 4 s.body)
 
 -- the number of bytes of descriptors, as it is written after four reserved bits
-unfoldable pub info_length_text : ℕ → List ℕ
-info_length_text n = (0xF0 + n / 256 % 16) ∷ (n % 256) ∷ []
+unfoldable pub info_length_bytes : ℕ → List ℕ
+info_length_bytes n = (0xF0 + n / 256 % 16) ∷ (n % 256) ∷ []
 
 -- a PID as it is written after three reserved bits
-unfoldable pub pid_text : ℕ → List ℕ
-pid_text pid = (0xE0 + pid / 256 % 32) ∷ (pid % 256) ∷ []
+unfoldable pub pid_bytes : ℕ → List ℕ
+pid_bytes pid = (0xE0 + pid / 256 % 32) ∷ (pid % 256) ∷ []
 
 -- an entry as it is written, reserved bits 1
 unfoldable pub stream_entry : StreamView → EntryView
 stream_entry s = record {
-  head = s.stream_type ∷ (pid_text s.elementary_pid ++ info_length_text (length s.descriptors));
+  head = s.stream_type ∷ (pid_bytes s.elementary_pid ++ info_length_bytes (length s.descriptors));
   descriptors = s.descriptors;
 }
 
-unfoldable pub stream_text : StreamView → List ℕ
-stream_text s = entry_text (stream_entry s)
+unfoldable pub stream_bytes : StreamView → List ℕ
+stream_bytes s = entry_bytes (stream_entry s)
 
 -- entries as they are written
-unfoldable pub streams_text : List StreamView → List ℕ
-streams_text ss = flat_map stream_text ss
+unfoldable pub streams_bytes : List StreamView → List ℕ
+streams_bytes ss = flat_map stream_bytes ss
 
 -- the body of a program map section
 unfoldable pub pmt_body : PmtView → List ℕ
-pmt_body p = pid_text p.pcr_pid ++ info_length_text (length p.program_info) ++ p.program_info ++ streams_text p.streams
+pmt_body p = pid_bytes p.pcr_pid ++ info_length_bytes (length p.program_info) ++ p.program_info ++ streams_bytes p.streams
 
 -- the header of the section that carries a PMT
 unfoldable pub pmt_header : LongHeader → SectionHeader

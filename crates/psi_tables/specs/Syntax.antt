@@ -6,9 +6,9 @@ use Rattle.psi_tables.specs.Views.{SectionView}
 use Rattle.psi_tables.specs.declared.section.LongHeader.{LongHeader}
 
 -- the short form, section_syntax_indicator 0: three bytes and the body
-pub record IsShortSection (text : List ℕ) (s : SectionView) : Type 0 where
+pub record IsShortSection (bytes : List ℕ) (s : SectionView) : Type 0 where
   pub front : List ℕ
-  pub is : text ≡ front ++ s.body
+  pub is : bytes ≡ front ++ s.body
   pub reserved : ℕ
   pub front_length : length front ≡ 3
   pub spelled : number front ≡ fields ((8, s.header.table_id) ∷ (1, 0) ∷ (1, bit s.header.private_indicator) ∷ (2, reserved) ∷ (12, length s.body) ∷ [])
@@ -17,17 +17,17 @@ pub record IsShortSection (text : List ℕ) (s : SectionView) : Type 0 where
   pub section_length : length s.body ≤ 4093
 
 -- the long form, section_syntax_indicator 1: eight bytes, the body, and CRC_32, over all of which the check word is 0
-pub record IsLongSection (text : List ℕ) (s : SectionView) (h : LongHeader) : Type 0 where
+pub record IsLongSection (bytes : List ℕ) (s : SectionView) (h : LongHeader) : Type 0 where
   pub front : List ℕ
   pub crc : List ℕ
-  pub is : text ≡ front ++ (s.body ++ crc)
+  pub is : bytes ≡ front ++ (s.body ++ crc)
   pub reserved : ℕ
   pub reserved_after : ℕ
   pub front_length : length front ≡ 8
   pub crc_length : length crc ≡ 4
   pub spelled : number front ≡ fields ((8, s.header.table_id) ∷ (1, 1) ∷ (1, bit s.header.private_indicator) ∷ (2, reserved) ∷ (12, 9 + length s.body)
       ∷ (16, h.table_id_extension) ∷ (2, reserved_after) ∷ (5, h.version_number) ∷ (1, bit h.current_next) ∷ (8, h.section_number) ∷ (8, h.last_section_number) ∷ [])
-  pub checked : check_word text ≡ 0
+  pub checked : check_word bytes ≡ 0
   pub table_id : s.header.table_id < 2 ^ 8
   pub two_bits : reserved < 2 ^ 2
   pub section_length : 9 + length s.body ≤ 4093
@@ -39,9 +39,9 @@ pub record IsLongSection (text : List ℕ) (s : SectionView) (h : LongHeader) : 
 
 -- a section in the form that its header has
 abbrev pub HasForm : Option LongHeader → List ℕ → SectionView → Type 0
-HasForm None text s = IsShortSection text s
-HasForm (Some h) text s = IsLongSection text s h
+HasForm None bytes s = IsShortSection bytes s
+HasForm (Some h) bytes s = IsLongSection bytes s h
 
 -- these bytes are a section that says this
 abbrev pub IsSection : List ℕ → SectionView → Type 0
-IsSection text s = HasForm s.header.long text s
+IsSection bytes s = HasForm s.header.long bytes s

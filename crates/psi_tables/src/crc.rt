@@ -1,12 +1,12 @@
 //! The check word CRC_32 of ISO/IEC 13818-1, Annex A: polynomial 0x04C11DB7, all bits 1 at the
-//! beginning, the highest bit first, nothing joined at the end.
+//! beginning, the highest bit first, no exclusive or at the end.
 
-mod words;
+mod crc_table;
 
-ghost use Rattle.std.specs.Prelude.{◌≡◌, ◌/◌, ◌*◌, ◌%◌, ◌^◌, bit_xor};
+ghost use Rattle.std.specs.Prelude.{◌≡◌};
 ghost use Rattle.psi_tables.specs.CheckWord.{after_byte, check_word};
 
-use words::WORDS;
+use crc_table::CRC_TABLE;
 
 /// The check word of a message. Over a section with its CRC_32 it is 0.
 ///
@@ -27,12 +27,12 @@ fn step(register: u32, byte: u8) -> u32
     ensures { result ≡ after_byte register byte }
 {
     let high = (register >> 24) as u8;
-    register << 8 ^ word(high ^ byte)
+    register << 8 ^ crc_table_entry(high ^ byte)
 }
 
-/// What the table has for a byte.
-fn word(byte: u8) -> u32
+/// The entry of the table for a byte.
+fn crc_table_entry(byte: u8) -> u32
     ensures { result ≡ after_byte 0 byte }
 {
-    WORDS[byte as usize]
+    CRC_TABLE[byte as usize]
 }

@@ -1,18 +1,19 @@
 //! Loops of entries with descriptors: those of PMT, NIT, SDT and EIT. Each entry is a head of a fixed
 //! number of bytes, the last 12 bits of which are the number of descriptor bytes, and those bytes.
 
-ghost use Rattle.std.specs.Prelude.{◌≡◌, ◌<◌, ◌≤◌, ◌+◌, [], ◌∷◌, length, option_map, is_some, true, false, IfSome, IfNone};
+ghost use Rattle.std.specs.Prelude.{◌≡◌, ◌<◌, ◌≤◌, ◌+◌, [], ◌∷◌, length, option_map, is_some, true, false, IfSome};
+ghost use Rattle.std.specs.Prelude.{IfNone};
 ghost use Rattle.psi_tables.specs.Loops.{descriptors_length, entry_after, entry_at, loop_at, entries_in, entry_view};
 
 /// An entry of a loop.
-#[derive(Clone, Copy, Debug)]
+#[derive(Clone, Copy)]
 pub struct Entry<'a> {
     /// The fixed part, to the end of the 12 bits that count the descriptors' bytes.
     pub head: &'a [u8],
     pub descriptors: &'a [u8],
 }
 
-/// The entry at the front of `bytes`, with a head of `head_length` bytes, and what stands after it;
+/// The entry at the front of `bytes`, with a head of `head_length` bytes, and what follows it;
 /// `None` where it does not fit.
 pub fn entry_at(head_length: usize, bytes: &[u8]) -> Option<(Entry<'_>, &[u8])>
     requires { 2 ≤ head_length }
@@ -21,9 +22,12 @@ pub fn entry_at(head_length: usize, bytes: &[u8]) -> Option<(Entry<'_>, &[u8])>
     ensures shorter { IfSome result (λ p. length p.1.now + head_length ≤ length bytes.now) }
 
     // A loop is its first entry and the loop after it.
-    ensures whole { IfSome result (λ p. is_some (loop_at head_length bytes.now) ≡ is_some (loop_at head_length p.1.now)) }
-    ensures next { IfSome result (λ p. is_some (loop_at head_length bytes.now) ≡ true → entries_in head_length bytes.now ≡ entry_view p.0 ∷ entries_in head_length p.1.now) }
-    ensures end { IfNone result (is_some (loop_at head_length bytes.now) ≡ true → entries_in head_length bytes.now ≡ []) }
+    ensures whole { IfSome result (λ p. is_some (loop_at head_length bytes.now)
+        ≡ is_some (loop_at head_length p.1.now)) }
+    ensures next { IfSome result (λ p. is_some (loop_at head_length bytes.now) ≡ true
+        → entries_in head_length bytes.now ≡ entry_view p.0 ∷ entries_in head_length p.1.now) }
+    ensures end { IfNone result (is_some (loop_at head_length bytes.now) ≡ true
+        → entries_in head_length bytes.now ≡ []) }
     ensures stop { IfNone result (0 < length bytes.now → is_some (loop_at head_length bytes.now) ≡ false) }
 {
     first_entry(head_length, bytes)

@@ -1,6 +1,7 @@
 //! Laws of the definitions. Each function does nothing: its contract is the law.
 
-ghost use Rattle.psi_tables.specs.Laws.{CheckWordEnds, LongerReadsTheSame, SectionsAreReadAgain, PatsAreReadAgain, PmtsAreReadAgain};
+ghost use Rattle.psi_tables.specs.Laws.{CheckWordEnds, LongerReadsTheSame, SectionsAreReadAgain, PatsAreReadAgain};
+ghost use Rattle.psi_tables.specs.Laws.{PmtsAreReadAgain};
 
 /// Over a message with its check word after it the check word is 0.
 pub fn check_word_ends()

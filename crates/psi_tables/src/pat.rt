@@ -4,13 +4,16 @@
 mod program_loop;
 mod programs;
 
-ghost use Rattle.std.specs.Prelude.{◌≡◌, ◌+◌, ◌*◌, ◌<◌, ◌≤◌, ◌++◌, ◌↔◌, length, IsOk, OnOk, IfOk, OnErr, IfErr, Ok, Err};
+ghost use Rattle.std.specs.Prelude.{◌≡◌, ◌+◌, ◌*◌, ◌<◌, ◌≤◌, ◌++◌, ◌↔◌, length, IsOk, OnOk, IfOk, OnErr, IfErr, Ok};
+ghost use Rattle.std.specs.Prelude.{Err};
 ghost use Rattle.arrayvec.specs.ArrayVec.{array_vec_len};
 ghost use Rattle.bit_fields.specs.Fields.{IsBytes};
 ghost use Rattle.bit_fields.specs.Reading.{Gives};
+ghost use Rattle.psi_tables.specs.declared.writing.TheConstants.{GREATEST_TABLE_LENGTH};
 ghost use Rattle.psi_tables.specs.Views.{section_view};
-ghost use Rattle.psi_tables.specs.Spelling.{section_text};
-ghost use Rattle.psi_tables.specs.ProgramAssociation.{PatView, IsPat, programs_text, programs_of, pat_at, pat_header, pat_section, pat_view};
+ghost use Rattle.psi_tables.specs.Encoding.{section_bytes};
+ghost use Rattle.psi_tables.specs.ProgramAssociation.{PatView, IsPat, programs_bytes, programs_of, pat_at, pat_header};
+ghost use Rattle.psi_tables.specs.ProgramAssociation.{pat_section, pat_view};
 
 use crate::error::{SectionError, WriteError};
 use crate::section::{LongHeader, Section, SectionHeader};
@@ -26,7 +29,7 @@ use std::alloc::Allocator;
 pub const PAT_TABLE_ID: u8 = 0x00;
 
 /// A program association section.
-#[derive(Clone, Copy, Debug)]
+#[derive(Clone, Copy)]
 pub struct Pat<'a> {
     /// table_id_extension is transport_stream_id.
     pub header: LongHeader,
@@ -76,11 +79,11 @@ impl<'a> Pat<'a> {
 impl Pat<'_> {
     /// Leaves exactly the section in `out`, or, where section_length would be over 1,021 (`TooLong`),
     /// `out` as it was. It takes no memory.
-    #[tactic(auto, unfolding(crate::specs::Spelling::section_text, crate::specs::ProgramAssociation::pat_section, crate::specs::ProgramAssociation::pat_header))]
+    #[tactic(auto, unfolding(crate::specs::Encoding::section_bytes, crate::specs::ProgramAssociation::pat_section, crate::specs::ProgramAssociation::pat_header))]
     pub fn write_to(&self, out: &mut ArrayVec<u8, 4096>) -> Result<(), SectionError>
         requires { self.now.header.version_number < 32 }
-        ensures variant { IsOk result ↔ (9 + 4 * length (programs_of self.now.programs) ≤ 1021) }
-        ensures ok { OnOk result (out.new.items ≡ section_text (pat_section (pat_view self.now))) }
+        ensures variant { IsOk result ↔ (9 + 4 * length (programs_of self.now.programs) ≤ GREATEST_TABLE_LENGTH) }
+        ensures ok { OnOk result (out.new.items ≡ section_bytes (pat_section (pat_view self.now))) }
         ensures too_long { IfErr result (λ e. e ≡ SectionError.TooLong) }
         ensures unchanged { OnErr result (out.new ≡ out.old) }
     {
@@ -98,13 +101,15 @@ impl Pat<'_> {
     /// The bytes of the section in a vector of their own.
     pub fn write<A: Allocator>(&self, alloc: A) -> Result<Vec<u8, A>, WriteError>
         requires { self.now.header.version_number < 32 }
-        ensures ok { IfOk result (λ bytes. bytes.items ≡ section_text (pat_section (pat_view self.now))) }
-        ensures too_long { 1021 < 9 + 4 * length (programs_of self.now.programs) → result ≡ Err (WriteError.Refused SectionError.TooLong) }
-        ensures memory { 9 + 4 * length (programs_of self.now.programs) ≤ 1021 → IfErr result (λ e. e ≡ WriteError.Memory) }
+        ensures ok { IfOk result (λ bytes. bytes.items ≡ section_bytes (pat_section (pat_view self.now))) }
+        ensures too_long { GREATEST_TABLE_LENGTH < 9 + 4 * length (programs_of self.now.programs)
+            → result ≡ Err (WriteError.Refused SectionError.TooLong) }
+        ensures memory { 9 + 4 * length (programs_of self.now.programs) ≤ GREATEST_TABLE_LENGTH
+            → IfErr result (λ e. e ≡ WriteError.Memory) }
     {
-        let mut text = ArrayVec::new();
-        self.write_to(&mut text)?;
-        to_vec(alloc, text.as_slice())
+        let mut bytes = ArrayVec::new();
+        self.write_to(&mut bytes)?;
+        to_vec(alloc, bytes.as_slice())
     }
 }
 
@@ -119,10 +124,10 @@ fn pat_header(header: LongHeader) -> SectionHeader
     }
 }
 
-#[tactic(auto, unfolding(crate::specs::ProgramAssociation::programs_text))]
+#[tactic(auto, unfolding(crate::specs::ProgramAssociation::programs_bytes))]
 fn append_programs(out: &mut ArrayVec<u8, 4096>, programs: Programs<'_>)
     requires { array_vec_len out.old + 4 * length (programs_of programs) ≤ 4092 }
-    ensures items { out.new.items ≡ out.old.items ++ programs_text (programs_of programs.entry) }
+    ensures items { out.new.items ≡ out.old.items ++ programs_bytes (programs_of programs.entry) }
     ensures len { array_vec_len out.new ≡ array_vec_len out.old + 4 * length (programs_of programs.entry) }
 {
     for program in programs {

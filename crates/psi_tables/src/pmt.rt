@@ -4,18 +4,21 @@ mod fields;
 mod stream_loop;
 mod streams;
 
-ghost use Rattle.std.specs.Prelude.{◌≡◌, ◌+◌, ◌<◌, ◌≤◌, ◌++◌, ◌↔◌, length, MatchOption, IsOk, OnOk, IfOk, OnErr, IfErr, Ok, Err};
+ghost use Rattle.std.specs.Prelude.{◌≡◌, ◌+◌, ◌<◌, ◌≤◌, ◌++◌, ◌↔◌, length, MatchOption, IsOk, OnOk, IfOk, OnErr, IfErr};
+ghost use Rattle.std.specs.Prelude.{Ok, Err};
 ghost use Rattle.arrayvec.specs.ArrayVec.{array_vec_len};
 ghost use Rattle.bit_fields.specs.Fields.{IsBytes};
 ghost use Rattle.bit_fields.specs.Reading.{Gives};
+ghost use Rattle.psi_tables.specs.declared.writing.TheConstants.{GREATEST_TABLE_LENGTH};
 ghost use Rattle.psi_tables.specs.Views.{section_view};
-ghost use Rattle.psi_tables.specs.Spelling.{section_text};
+ghost use Rattle.psi_tables.specs.Encoding.{section_bytes};
 ghost use Rattle.psi_tables.specs.Loops.{entry_at};
-ghost use Rattle.psi_tables.specs.ProgramMap.{PmtView, IsPmt, pmt_at, pmt_after, pmt_body, pmt_header, pmt_section, pmt_view, streams_text, streams_of};
+ghost use Rattle.psi_tables.specs.ProgramMap.{PmtView, IsPmt, pmt_at, pmt_after, pmt_body, pmt_header, pmt_section};
+ghost use Rattle.psi_tables.specs.ProgramMap.{pmt_view, streams_bytes, streams_of};
 
 use crate::entries::entry_at;
 use crate::error::{SectionError, WriteError};
-use crate::pmt::fields::{info_length_text, pid_text};
+use crate::pmt::fields::{info_length_bytes, pid_bytes};
 use crate::section::{LongHeader, Section, SectionHeader};
 use crate::table::table_header_at;
 use crate::writing::{GREATEST_TABLE_LENGTH, begin_section, end_section, to_vec};
@@ -29,7 +32,7 @@ pub use streams::{Stream, Streams};
 pub const PMT_TABLE_ID: u8 = 0x02;
 
 /// A program map section.
-#[derive(Clone, Copy, Debug)]
+#[derive(Clone, Copy)]
 pub struct Pmt<'a> {
     /// table_id_extension is program_number.
     pub header: LongHeader,
@@ -95,12 +98,12 @@ impl<'a> Pmt<'a> {
 impl Pmt<'_> {
     /// Leaves exactly the section in `out`, or, where section_length would be over 1,021 (`TooLong`),
     /// `out` as it was. It takes no memory.
-    #[tactic(auto, unfolding(crate::specs::Spelling::section_text, crate::specs::ProgramMap::pmt_section, crate::specs::ProgramMap::pmt_header))]
+    #[tactic(auto, unfolding(crate::specs::Encoding::section_bytes, crate::specs::ProgramMap::pmt_section, crate::specs::ProgramMap::pmt_header))]
     pub fn write_to(&self, out: &mut ArrayVec<u8, 4096>) -> Result<(), SectionError>
         requires version { self.now.header.version_number < 32 }
         requires pcr_pid { self.now.pcr_pid < 8192 }
-        ensures variant { IsOk result ↔ (9 + length (pmt_body (pmt_view self.now)) ≤ 1021) }
-        ensures ok { OnOk result (out.new.items ≡ section_text (pmt_section (pmt_view self.now))) }
+        ensures variant { IsOk result ↔ (9 + length (pmt_body (pmt_view self.now)) ≤ GREATEST_TABLE_LENGTH) }
+        ensures ok { OnOk result (out.new.items ≡ section_bytes (pmt_section (pmt_view self.now))) }
         ensures too_long { IfErr result (λ e. e ≡ SectionError.TooLong) }
         ensures unchanged { OnErr result (out.new ≡ out.old) }
     {
@@ -120,22 +123,25 @@ impl Pmt<'_> {
     pub fn write<A: Allocator>(&self, alloc: A) -> Result<Vec<u8, A>, WriteError>
         requires version { self.now.header.version_number < 32 }
         requires pcr_pid { self.now.pcr_pid < 8192 }
-        ensures ok { IfOk result (λ bytes. bytes.items ≡ section_text (pmt_section (pmt_view self.now))) }
-        ensures too_long { 1021 < 9 + length (pmt_body (pmt_view self.now)) → result ≡ Err (WriteError.Refused SectionError.TooLong) }
-        ensures memory { 9 + length (pmt_body (pmt_view self.now)) ≤ 1021 → IfErr result (λ e. e ≡ WriteError.Memory) }
+        ensures ok { IfOk result (λ bytes. bytes.items ≡ section_bytes (pmt_section (pmt_view self.now))) }
+        ensures too_long { GREATEST_TABLE_LENGTH < 9 + length (pmt_body (pmt_view self.now))
+            → result ≡ Err (WriteError.Refused SectionError.TooLong) }
+        ensures memory { 9 + length (pmt_body (pmt_view self.now)) ≤ GREATEST_TABLE_LENGTH
+            → IfErr result (λ e. e ≡ WriteError.Memory) }
     {
-        let mut text = ArrayVec::new();
-        self.write_to(&mut text)?;
-        to_vec(alloc, text.as_slice())
+        let mut bytes = ArrayVec::new();
+        self.write_to(&mut bytes)?;
+        to_vec(alloc, bytes.as_slice())
     }
 
     /// The number of bytes of the body, where it has room under a section_length of 1,021.
-    #[tactic(auto, using(crate::proofs::StreamTexts::length_pmt_body))]
+    #[tactic(auto, using(crate::proofs::StreamEncodings::length_pmt_body))]
     fn body_length(&self) -> Option<usize>
-        ensures { MatchOption result (1012 < length (pmt_body (pmt_view self.now))) (λ n. (n ≡ length (pmt_body (pmt_view self.now))) × (n ≤ 1012)) }
+        ensures { MatchOption result (1012 < length (pmt_body (pmt_view self.now)))
+            (λ n. (n ≡ length (pmt_body (pmt_view self.now))) × (n ≤ 1012)) }
     {
         let program_info = self.program_info.len();
-        let streams = self.streams.text_length();
+        let streams = self.streams.byte_length();
         if program_info > 1008 {
             return None;
         }
@@ -151,8 +157,8 @@ impl Pmt<'_> {
         ensures items { out.new.items ≡ out.old.items ++ pmt_body (pmt_view self.now) }
         ensures len { array_vec_len out.new ≡ array_vec_len out.old + length (pmt_body (pmt_view self.now)) }
     {
-        append(out, &pid_text(self.pcr_pid));
-        append(out, &info_length_text(self.program_info.len()));
+        append(out, &pid_bytes(self.pcr_pid));
+        append(out, &info_length_bytes(self.program_info.len()));
         append(out, self.program_info);
         append_streams(out, self.streams);
     }
@@ -169,11 +175,11 @@ fn pmt_header(header: LongHeader) -> SectionHeader
     }
 }
 
-#[tactic(auto, unfolding(crate::specs::ProgramMap::streams_text))]
+#[tactic(auto, unfolding(crate::specs::ProgramMap::streams_bytes))]
 fn append_streams(out: &mut ArrayVec<u8, 4096>, streams: Streams<'_>)
-    requires { array_vec_len out.old + length (streams_text (streams_of streams)) ≤ 4096 }
-    ensures items { out.new.items ≡ out.old.items ++ streams_text (streams_of streams.entry) }
-    ensures len { array_vec_len out.new ≡ array_vec_len out.old + length (streams_text (streams_of streams.entry)) }
+    requires { array_vec_len out.old + length (streams_bytes (streams_of streams)) ≤ 4096 }
+    ensures items { out.new.items ≡ out.old.items ++ streams_bytes (streams_of streams.entry) }
+    ensures len { array_vec_len out.new ≡ array_vec_len out.old + length (streams_bytes (streams_of streams.entry)) }
 {
     for stream in streams {
         stream.append_entry(out);

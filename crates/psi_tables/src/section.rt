@@ -2,8 +2,10 @@
 
 ghost use Rattle.std.specs.Prelude.{◌≡◌, ◌+◌, ◌<◌, ◌≤◌, length, true, false, IfOk};
 ghost use Rattle.bit_fields.specs.Reading.{Gives};
+ghost use Rattle.psi_tables.specs.declared.writing.TheConstants.{GREATEST_LENGTH};
 ghost use Rattle.psi_tables.specs.Views.{section_view, sized_view};
-ghost use Rattle.psi_tables.specs.Reading.{start_at, is_bad_length, long_header_of, long_section, whole_at, sized_at, section_at};
+ghost use Rattle.psi_tables.specs.Reading.{section_start_at, is_bad_length, long_header_of, long_section, whole_at};
+ghost use Rattle.psi_tables.specs.Reading.{sized_at, section_at};
 
 use crate::crc::check_word;
 use crate::error::{SectionError, WriteError};
@@ -13,7 +15,7 @@ use bit_fields::append;
 use std::alloc::Allocator;
 
 /// The fields of the long form, section_syntax_indicator 1, after section_length.
-#[derive(Clone, Copy, Debug, PartialEq, Eq)]
+#[derive(Clone, Copy, PartialEq, Eq)]
 pub struct LongHeader {
     /// What tells tables of one table_id apart: transport_stream_id, program_number, service_id ..
     pub table_id_extension: u16,
@@ -45,7 +47,7 @@ impl LongHeader {
 }
 
 /// The fields of a section but its length, which is that of the body.
-#[derive(Clone, Copy, Debug, PartialEq, Eq)]
+#[derive(Clone, Copy, PartialEq, Eq)]
 pub struct SectionHeader {
     pub table_id: u8,
     /// The bit after section_syntax_indicator: 0 in PAT and PMT, 1 in the tables of EN 300 468.
@@ -55,8 +57,8 @@ pub struct SectionHeader {
 }
 
 /// A section. Its body is a slice of the bytes that it was read from, or of those to be written:
-/// what stands after the header and, in the long form, before CRC_32.
-#[derive(Clone, Copy, Debug)]
+/// what follows the header and, in the long form, before CRC_32.
+#[derive(Clone, Copy)]
 pub struct Section<'a> {
     pub header: SectionHeader,
     pub body: &'a [u8],
@@ -64,7 +66,7 @@ pub struct Section<'a> {
 
 /// The first three bytes of a section.
 #[derive(Clone, Copy)]
-struct Start {
+struct SectionStart {
     table_id: u8,
     is_long: bool,
     private_indicator: bool,
@@ -75,7 +77,7 @@ impl<'a> Section<'a> {
     ghost use Rattle.std.specs.Prelude.{◌≡◌, ◌++◌, ◌↔◌, ℕ, List, take, length, IsOk, IfOk, OnOk, IfErr, OnErr, Ok, Err};
     ghost use Rattle.psi_tables.specs.Views.{SectionView};
     ghost use Rattle.psi_tables.specs.Syntax.{IsSection};
-    ghost use Rattle.psi_tables.specs.Spelling.{HeaderFits, section_length, section_text};
+    ghost use Rattle.psi_tables.specs.Encoding.{HeaderFits, section_length, section_bytes};
 
     /// Reads the section at the front of `bytes`, and says how many bytes it takes.
     ///
@@ -91,7 +93,8 @@ impl<'a> Section<'a> {
         ensures fits { IfOk result (λ p. HeaderFits p.0.header) }
 
         // What the bytes say is read.
-        ensures only { (text rest : List ℕ) (s : SectionView) → bytes.now ≡ text ++ rest → IsSection text s → Gives sized_view result (Ok (s, length text)) }
+        ensures only { (section rest : List ℕ) (s : SectionView) → bytes.now ≡ section ++ rest → IsSection section s
+            → Gives sized_view result (Ok (s, length section)) }
 
         // Which refusal it is.
         ensures exact { Gives sized_view result (section_at bytes.now) }
@@ -101,11 +104,12 @@ impl<'a> Section<'a> {
 
     /// Leaves exactly the bytes of the section in `out`, or, where section_length would be over 4,093
     /// (`TooLong`), `out` as it was. It takes no memory.
-    #[tactic(auto, unfolding(crate::specs::Spelling::section_text))]
+    #[tactic(auto, unfolding(crate::specs::Encoding::section_bytes))]
     pub fn write_to(&self, out: &mut ArrayVec<u8, 4096>) -> Result<(), SectionError>
         requires { HeaderFits self.now.header }
-        ensures variant { IsOk result ↔ (section_length self.now.header.long (length self.now.body.now) ≤ 4093) }
-        ensures ok { OnOk result (out.new.items ≡ section_text (section_view self.now)) }
+        ensures variant { IsOk result ↔ (section_length self.now.header.long (length self.now.body.now)
+            ≤ GREATEST_LENGTH) }
+        ensures ok { OnOk result (out.new.items ≡ section_bytes (section_view self.now)) }
         ensures too_long { IfErr result (λ e. e ≡ SectionError.TooLong) }
         ensures unchanged { OnErr result (out.new ≡ out.old) }
     {
@@ -126,13 +130,15 @@ impl<'a> Section<'a> {
     /// The bytes of the section in a vector of their own.
     pub fn write<A: Allocator>(&self, alloc: A) -> Result<Vec<u8, A>, WriteError>
         requires { HeaderFits self.now.header }
-        ensures ok { IfOk result (λ bytes. bytes.items ≡ section_text (section_view self.now)) }
-        ensures too_long { 4093 < section_length self.now.header.long (length self.now.body.now) → result ≡ Err (WriteError.Refused SectionError.TooLong) }
-        ensures memory { section_length self.now.header.long (length self.now.body.now) ≤ 4093 → IfErr result (λ e. e ≡ WriteError.Memory) }
+        ensures ok { IfOk result (λ bytes. bytes.items ≡ section_bytes (section_view self.now)) }
+        ensures too_long { GREATEST_LENGTH < section_length self.now.header.long (length self.now.body.now)
+            → result ≡ Err (WriteError.Refused SectionError.TooLong) }
+        ensures memory { section_length self.now.header.long (length self.now.body.now) ≤ GREATEST_LENGTH
+            → IfErr result (λ e. e ≡ WriteError.Memory) }
     {
-        let mut text = ArrayVec::new();
-        self.write_to(&mut text)?;
-        to_vec(alloc, text.as_slice())
+        let mut bytes = ArrayVec::new();
+        self.write_to(&mut bytes)?;
+        to_vec(alloc, bytes.as_slice())
     }
 }
 
@@ -140,17 +146,17 @@ impl<'a> Section<'a> {
 fn section_at(bytes: &[u8]) -> Result<(Section<'_>, usize), SectionError>
     ensures { Gives sized_view result (section_at bytes.now) }
 {
-    let start = start_at(bytes)?;
+    let start = section_start_at(bytes)?;
     sized_at(start, bytes)
 }
 
-#[tactic(auto, unfolding(crate::specs::Reading::start_at))]
-fn start_at(bytes: &[u8]) -> Result<Start, SectionError>
-    ensures reads { result ≡ start_at bytes.now }
+#[tactic(auto, unfolding(crate::specs::Reading::section_start_at))]
+fn section_start_at(bytes: &[u8]) -> Result<SectionStart, SectionError>
+    ensures reads { result ≡ section_start_at bytes.now }
     ensures twelve_bits { IfOk result (λ start. start.section_length < 4096) }
 {
     match bytes {
-        [table_id, high, low, ..] => Ok(Start {
+        [table_id, high, low, ..] => Ok(SectionStart {
             table_id: *table_id,
             is_long: *high >> 7 & 1 == 1,
             private_indicator: *high >> 6 & 1 == 1,
@@ -165,7 +171,7 @@ fn is_bad_length(is_long: bool, section_length: usize) -> bool
     ensures tests { result ≡ is_bad_length is_long section_length }
     ensures enough { result ≡ false → is_long ≡ true → 9 ≤ section_length }
 {
-    if section_length > 4093 {
+    if section_length > GREATEST_LENGTH {
         true
     } else if is_long {
         section_length < 9
@@ -175,7 +181,7 @@ fn is_bad_length(is_long: bool, section_length: usize) -> bool
 }
 
 #[tactic(auto, unfolding(crate::specs::Reading::sized_at))]
-fn sized_at(start: Start, bytes: &[u8]) -> Result<(Section<'_>, usize), SectionError>
+fn sized_at(start: SectionStart, bytes: &[u8]) -> Result<(Section<'_>, usize), SectionError>
     requires { start.section_length < 4096 }
     ensures { Gives sized_view result (sized_at start bytes.now) }
 {
@@ -186,20 +192,20 @@ fn sized_at(start: Start, bytes: &[u8]) -> Result<(Section<'_>, usize), SectionE
     if bytes.len() < size {
         return Err(SectionError::Short);
     }
-    let (text, _after) = bytes.split_at(size);
-    let section = whole_at(start, text)?;
+    let (whole, _after) = bytes.split_at(size);
+    let section = whole_at(start, whole)?;
     Ok((section, size))
 }
 
 #[tactic(auto, unfolding(crate::specs::Reading::whole_at, crate::specs::Reading::short_section))]
-fn whole_at(start: Start, text: &[u8]) -> Result<Section<'_>, SectionError>
-    requires front { 3 ≤ length text.now }
-    requires long_form { start.is_long ≡ true → 12 ≤ length text.now }
-    ensures { Gives section_view result (whole_at start text.now) }
+fn whole_at(start: SectionStart, bytes: &[u8]) -> Result<Section<'_>, SectionError>
+    requires front { 3 ≤ length bytes.now }
+    requires long_form { start.is_long ≡ true → 12 ≤ length bytes.now }
+    ensures { Gives section_view result (whole_at start bytes.now) }
 {
-    let (_front, rest) = text.split_at(3);
+    let (_front, rest) = bytes.split_at(3);
     if start.is_long {
-        if check_word(text) == 0 {
+        if check_word(bytes) == 0 {
             Ok(long_section(start, rest))
         } else {
             Err(SectionError::CheckWord)
@@ -217,7 +223,7 @@ fn whole_at(start: Start, text: &[u8]) -> Result<Section<'_>, SectionError>
 }
 
 #[tactic(auto, unfolding(crate::specs::Reading::long_section))]
-fn long_section(start: Start, rest: &[u8]) -> Section<'_>
+fn long_section(start: SectionStart, rest: &[u8]) -> Section<'_>
     requires { 9 ≤ length rest.now }
     ensures { section_view result ≡ long_section start rest.now }
 {

@@ -1,10 +1,11 @@
-//! Writing a section into a vector of fixed capacity: what stands before the body, the body, and
-//! what stands after it. The writers of tables are made of these parts.
+//! Writing a section into a vector of fixed capacity: what precedes the body, the body, and
+//! what follows it. The writers of tables are made of these parts.
 
 ghost use Rattle.std.specs.Prelude.{◌≡◌, ◌+◌, ◌≤◌, ◌<◌, IfOk, IfErr};
 ghost use Rattle.arrayvec.specs.ArrayVec.{array_vec_len};
-ghost use Rattle.psi_tables.specs.CheckWord.{check_word};
-ghost use Rattle.psi_tables.specs.Spelling.{word_text, start_text, long_header_text, section_length, front_length, crc_length, header_text, ended_text, HeaderFits};
+ghost use Rattle.psi_tables.specs.declared.writing.TheConstants.{GREATEST_LENGTH};
+ghost use Rattle.psi_tables.specs.Encoding.{check_word_bytes, start_bytes, long_header_bytes, section_length};
+ghost use Rattle.psi_tables.specs.Encoding.{front_length, crc_length, header_bytes, with_crc, HeaderFits};
 
 use crate::crc::check_word;
 use crate::error::WriteError;
@@ -31,13 +32,13 @@ pub const GREATEST_LENGTH: usize = 4093;
 /// 2.4.4.9; EN 300 468, 5.2).
 pub const GREATEST_TABLE_LENGTH: usize = 1021;
 
-/// Begins a section: leaves in `out` what stands before a body of `body_length` bytes, and nothing
+/// Begins a section: leaves in `out` what precedes a body of `body_length` bytes, and nothing
 /// else. The body is to be appended, and then `end_section` called with the same header.
-#[tactic(auto, unfolding(crate::specs::Spelling::header_text, crate::specs::Spelling::front_text))]
+#[tactic(auto, unfolding(crate::specs::Encoding::header_bytes, crate::specs::Encoding::front_bytes))]
 pub fn begin_section(out: &mut ArrayVec<u8, 4096>, header: SectionHeader, body_length: usize)
     requires fits { HeaderFits header }
-    requires room { section_length header.long body_length ≤ 4093 }
-    ensures items { out.new.items ≡ header_text header body_length }
+    requires room { section_length header.long body_length ≤ GREATEST_LENGTH }
+    ensures items { out.new.items ≡ header_bytes header body_length }
     ensures len { array_vec_len out.new ≡ front_length header.long }
 {
     out.clear();
@@ -45,7 +46,7 @@ pub fn begin_section(out: &mut ArrayVec<u8, 4096>, header: SectionHeader, body_l
         None => {
             append(
                 out,
-                &start_text(
+                &start_bytes(
                     header.table_id,
                     false,
                     header.private_indicator,
@@ -57,45 +58,45 @@ pub fn begin_section(out: &mut ArrayVec<u8, 4096>, header: SectionHeader, body_l
             let length = 9 + body_length;
             append(
                 out,
-                &start_text(header.table_id, true, header.private_indicator, length),
+                &start_bytes(header.table_id, true, header.private_indicator, length),
             );
-            append(out, &long_header_text(long));
+            append(out, &long_header_bytes(long));
         }
     }
 }
 
-/// Ends a section: appends what stands after the body, in the long form the check word over all
+/// Ends a section: appends what follows the body, in the long form the check word over all
 /// that stands in `out`.
-#[tactic(auto, unfolding(crate::specs::Spelling::ended_text))]
+#[tactic(auto, unfolding(crate::specs::Encoding::with_crc))]
 pub fn end_section(out: &mut ArrayVec<u8, 4096>, header: SectionHeader)
     requires { array_vec_len out.old + crc_length header.long ≤ 4096 }
-    ensures { out.new.items ≡ ended_text header.long out.old.items }
+    ensures { out.new.items ≡ with_crc header.long out.old.items }
 {
     match header.long {
         None => {}
         Some(_) => {
             let word = check_word(out.as_slice());
-            append(out, &word_text(word));
+            append(out, &check_word_bytes(word));
         }
     }
 }
 
-#[tactic(auto, unfolding(crate::specs::Spelling::word_text))]
-fn word_text(word: u32) -> [u8; 4]
-    ensures { result ≡ word_text word }
+#[tactic(auto, unfolding(crate::specs::Encoding::check_word_bytes))]
+fn check_word_bytes(word: u32) -> [u8; 4]
+    ensures { result ≡ check_word_bytes word }
 {
     word.to_be_bytes()
 }
 
-#[tactic(auto, unfolding(crate::specs::Spelling::start_text))]
-fn start_text(
+#[tactic(auto, unfolding(crate::specs::Encoding::start_bytes))]
+fn start_bytes(
     table_id: u8,
     is_long: bool,
     private_indicator: bool,
     section_length: usize,
 ) -> [u8; 3]
-    requires { section_length ≤ 4093 }
-    ensures { result ≡ start_text table_id is_long private_indicator section_length }
+    requires { section_length ≤ GREATEST_LENGTH }
+    ensures { result ≡ start_bytes table_id is_long private_indicator section_length }
 {
     let form = if is_long { 0x80 } else { 0 };
     let private = if private_indicator { 0x40 } else { 0 };
@@ -104,10 +105,10 @@ fn start_text(
     [table_id, form + (private + (0x30 + high)), low]
 }
 
-#[tactic(auto, unfolding(crate::specs::Spelling::long_header_text))]
-fn long_header_text(header: LongHeader) -> [u8; 5]
+#[tactic(auto, unfolding(crate::specs::Encoding::long_header_bytes))]
+fn long_header_bytes(header: LongHeader) -> [u8; 5]
     requires { header.version_number < 32 }
-    ensures { result ≡ long_header_text header }
+    ensures { result ≡ long_header_bytes header }
 {
     let [high, low] = header.table_id_extension.to_be_bytes();
     let version = header.version_number << 1;

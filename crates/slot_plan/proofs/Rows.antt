@@ -7,11 +7,11 @@ use Rattle.slot_plan.specs.declared.slot.Slot.{Slot}
 use Rattle.slot_plan.specs.declared.slot.Slot.TheVariants.{Stream, Pcr, Table, Null}
 use Rattle.slot_plan.specs.declared.condition.Condition.TheVariants.{Shape, PcrGap, Spread, StreamRate, TransportBuffer, StreamLead, SystemBuffer, LeadSwitch}
 use Rattle.slot_plan.specs.Planned.{Planned, Certified}
-use Rattle.slot_plan.specs.Entries.{Entry, at_most, as_many, first_failing}
+use Rattle.slot_plan.specs.Entries.{Entry, at_most, equal_counts, first_failing}
 use Rattle.slot_plan.specs.Conditions.{entries}
 use Rattle.slot_plan.specs.SwitchConditions.{switch_entries}
 use Rattle.description.specs.Described.{Described, DescribedStream}
-use Rattle.slot_plan.proofs.Base.{base, base_stream, base_plan, base_slots, claims}
+use Rattle.slot_plan.proofs.BaseService.{base, base_stream, base_plan, base_slots, claims}
 
 -- the first condition that fails
 answer : Described → Planned → Option Entry
@@ -60,7 +60,7 @@ moved_spread : answer base (record { slots = moved_slots; certificate = with_spr
 unfolding answer moved_slots with_spread
 moved_spread = refl
 
--- at 38,000,000 bits a second five packets on end overflow the stream's transport buffer
+-- at 38,000,000 bits a second five packets in a row overflow the stream's transport buffer
 burst_slots : List Slot
 burst_slots = replicate 5 (Stream 0) ++ (Pcr 0 ∷ Table 0 ∷ Table 1 ∷ Table 3 ∷ Table 2 ∷ Table 4 ∷ Table 5 ∷ []) ++ replicate 588 Null
 
@@ -73,7 +73,7 @@ late_pcr : answer base (with_slots (slice_set base_slots 97 Null)) ≡ Some (at_
 unfolding answer with_slots
 late_pcr = refl
 
-no_claim : answer base (record base_plan { certificate = record claims { streams = [] } }) ≡ Some (as_many Shape 5 0 0 1)
+no_claim : answer base (record base_plan { certificate = record claims { streams = [] } }) ≡ Some (equal_counts Shape 5 0 0 1)
 unfolding answer
 no_claim = refl
 

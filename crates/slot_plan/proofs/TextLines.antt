@@ -7,13 +7,14 @@ use Rattle.slot_plan.specs.declared.slot.Slot.{Slot}
 use Rattle.slot_plan.specs.declared.slot.Slot.TheVariants.{Stream, Pcr, Table, Null}
 use Rattle.slot_plan.specs.declared.certificate.StreamEntry.{StreamEntry}
 use Rattle.slot_plan.specs.declared.certificate.ProgramEntry.{ProgramEntry}
-use Rattle.slot_plan.specs.Planned.{number_end, is_small_stream, is_small_program}
+use Rattle.text_words.specs.Words.{number_limit, field, number_before, after_word}
+use Rattle.slot_plan.specs.Planned.{is_small_stream, is_small_program}
 use Rattle.slot_plan.specs.Plans.{IsByteSlot}
-use Rattle.slot_plan.specs.Text.{field, slot_text, stream_line, program_line}
-use Rattle.slot_plan.specs.Reading.{number_before, after_word, lettered, slot_at, stream_claims, program_claims, stream_at, program_at}
-use Rattle.slot_plan.proofs.TextPieces.{Exact, some_same, word-complete, word-sound, number-exact, field-exact, after-complete, after-sound, then-some, then-read}
+use Rattle.slot_plan.specs.Text.{slot_text, stream_line, program_line}
+use Rattle.slot_plan.specs.Readers.{slot_of_letter, slot_at, stream_claims, program_claims, stream_at, program_at}
+use Rattle.text_words.proofs.Readers.{Exact, some_same, word-complete, word-sound, number-exact, field-exact, after-complete, after-sound, then-some, then-read}
 
--- what stands after the number in the line of a stream entry, of a program entry
+-- what comes after the number in the line of a stream entry, of a program entry
 stream_tail : StreamEntry → List ℕ
 stream_tail e = field (codes "spread ") e.spread 32 ++ (field (codes "start ") e.start 32 ++ field (codes "peak ") e.peak 10)
 
@@ -27,7 +28,7 @@ joined xs a b r s e f = rw (e, f, append_assoc) refl
 claims-complete : (e : StreamEntry) (rest : List ℕ) → is_small_stream e ≡ true → stream_claims (stream_tail e ++ rest) ≡ Some (e, rest)
 unfolding stream_tail
 claims-complete e rest small =
-    let f : (e.spread < number_end) × (e.start < number_end) × (e.peak < number_end) = grind (arith, nat_tests) in
+    let f : (e.spread < number_limit) × (e.start < number_limit) × (e.peak < number_limit) = grind (arith, nat_tests) in
     let a = field (codes "spread ") e.spread 32 in let b = field (codes "start ") e.start 32 in let d = field (codes "peak ") e.peak 10 in
     rw (
       append_assoc a (b ++ d) rest,
@@ -51,7 +52,7 @@ claims-sound xs e rest is =
 program-claims-complete : (e : ProgramEntry) (rest : List ℕ) → is_small_program e ≡ true → program_claims (program_tail e ++ rest) ≡ Some (e, rest)
 unfolding program_tail
 program-claims-complete e rest small =
-    let f : (e.transport_start < number_end) × (e.transport_peak < number_end) × (e.system_start < number_end) × (e.system_peak < number_end) = grind (arith, nat_tests) in
+    let f : (e.transport_start < number_limit) × (e.transport_peak < number_limit) × (e.system_start < number_limit) × (e.system_peak < number_limit) = grind (arith, nat_tests) in
     let a = field (codes "tstart ") e.transport_start 32 in let b = field (codes "tpeak ") e.transport_peak 32 in
     let d = field (codes "bstart ") e.system_start 32 in let g = field (codes "bpeak ") e.system_peak 10 in
     rw (
@@ -81,7 +82,7 @@ program-claims-sound xs e rest is =
     )
 
 -- the line of a stream entry
-pub stream-exact : (k : ℕ) → k < number_end → Exact (stream_at k) (stream_line k) (λ e. is_small_stream e ≡ true)
+pub stream-exact : (k : ℕ) → k < number_limit → Exact (stream_at k) (stream_line k) (λ e. is_small_stream e ≡ true)
 unfolding stream_tail
 stream-exact k below = record { sound = sound; complete = complete }
   where
@@ -94,7 +95,7 @@ stream-exact k below = record { sound = sound; complete = complete }
         (v.0, joined xs (field (codes "stream ") k 32) (stream_tail e) w.0 rest (after-sound (codes "stream ") k xs w.0 w.1) v.1)
 
 -- the line of a program entry
-pub program-exact : (k : ℕ) → k < number_end → Exact (program_at k) (program_line k) (λ e. is_small_program e ≡ true)
+pub program-exact : (k : ℕ) → k < number_limit → Exact (program_at k) (program_line k) (λ e. is_small_program e ≡ true)
 unfolding program_tail
 program-exact k below = record { sound = sound; complete = complete }
   where
@@ -113,7 +114,7 @@ slot-complete ending ends (Pcr n) rest below = rw ((number-exact ending 256 (ome
 slot-complete ending ends (Table n) rest below = rw ((number-exact ending 256 (omega arith) ends).complete n rest below) refl
 slot-complete ending ends Null rest below = rw (word-complete (ending ∷ []) rest) refl
 
-lettered-sound : (b n : ℕ) (s : Slot) → lettered b n ≡ Some s → n < 256 → IsByteSlot s × (b ∷ decimal n ≡ slot_text s)
+lettered-sound : (b n : ℕ) (s : Slot) → slot_of_letter b n ≡ Some s → n < 256 → IsByteSlot s × (b ∷ decimal n ≡ slot_text s)
 lettered-sound b n s e below = elim (cases_Bool (b == 83)) [
   | inl is ↦ (let letter : b ≡ 83 = grind (arith, nat_tests) in let P : Slot → Type 0 = λ t. IsByteSlot t × (b ∷ decimal n ≡ slot_text t) in
       subst P (some_same _ _ (rw is at e)) (below, rw letter refl))
@@ -145,7 +146,7 @@ slot-exact ending ends = record { sound = sound; complete = slot-complete ending
           let P : Slot × List ℕ → Type 0 = λ p. IsByteSlot p.0 × (b ∷ bs ≡ (slot_text p.0 ++ ending ∷ []) ++ p.1) in
           subst P (some_same _ _ w.2) (tt, null_text b ending bs w.0 letter (word-sound (ending ∷ []) bs w.0 w.1)))
       | inr other ↦ (let w = then-read (number_before ending 256 bs) _ (s, rest) (rw other at e) in
-          let v = then-read (lettered b w.0.0) _ (s, rest) w.2 in
+          let v = then-read (slot_of_letter b w.0.0) _ (s, rest) w.2 in
           let n = (number-exact ending 256 (omega arith) ends).sound bs w.0.0 w.0.1 w.1 in
           let l = lettered-sound b w.0.0 v.0 v.1 n.0 in
           let P : Slot × List ℕ → Type 0 = λ p. IsByteSlot p.0 × (b ∷ bs ≡ (slot_text p.0 ++ ending ∷ []) ++ p.1) in

@@ -12,7 +12,7 @@ use Rattle.slot_plan.specs.Numbered.{numbered}
 use Rattle.slot_plan.specs.Planned.{is_small_stream, is_small_program}
 use Rattle.slot_plan.specs.Plans.{IsByteSlot}
 use Rattle.slot_plan.specs.Text.{slot_ending, slot_word, stream_line, program_line}
-use Rattle.slot_plan.specs.Reading.{slot_at, slots_at, continued, with_first, line_of_slot, begins_with, stream_at, streams_at, program_at, programs_at}
+use Rattle.slot_plan.specs.Readers.{slot_at, slots_at, continued, with_first, line_of_slot, begins_with, stream_at, streams_at, program_at, programs_at}
 use Rattle.slot_plan.proofs.TextLines.{slot-exact, stream-exact, program-exact}
 
 pub ending-small : (n i : ℕ) → slot_ending n i < 48

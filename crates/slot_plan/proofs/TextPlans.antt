@@ -1,4 +1,4 @@
--- A plan text is read exactly where it stands.
+-- A plan is read exactly where a text begins with its text.
 use Rattle.std.specs.Prelude.{ℕ, ◌+◌, ◌-◌, ◌≤◌, ◌||◌, true, false, List, [], ◌∷◌, ◌++◌, Option, None, Some, Result, Ok, Err, length, drop, codes, nat_lt}
 use Rattle.std.specs.List.{list_all}
 use Rattle.std.proofs.Common.{◌≡◌, refl, ap, sym, subst, ◌∙◌, append_assoc, length-append, arith, inl, inr, if◌then◌else◌}
@@ -10,10 +10,11 @@ use Rattle.slot_plan.specs.declared.certificate.ProgramEntry.{ProgramEntry}
 use Rattle.slot_plan.specs.Numbered.{numbered}
 use Rattle.slot_plan.specs.Planned.{Planned, Certified, plan_error, is_small_stream, is_small_program, has_small_numbers}
 use Rattle.slot_plan.specs.Plans.{IsPlan}
-use Rattle.slot_plan.specs.PlanTexts.{StandsAtFront}
-use Rattle.slot_plan.specs.Text.{field, slot_word, stream_line, program_line, plan_text}
-use Rattle.slot_plan.specs.Reading.{after_word, field_at, slots_at, streams_at, programs_at, begins_with, certificate_at, period_at, plan_at, slot_lines, or_line, ◌>>>◌}
-use Rattle.slot_plan.proofs.TextPieces.{word-complete, word-sound, field-exact, then-read, some_same}
+use Rattle.slot_plan.specs.PlanTexts.{BeginsWithPlan}
+use Rattle.text_words.specs.Words.{field, after_word, field_at}
+use Rattle.slot_plan.specs.Text.{slot_word, stream_line, program_line, plan_text}
+use Rattle.slot_plan.specs.Readers.{slots_at, streams_at, programs_at, begins_with, certificate_at, period_at, plan_at, slot_lines, or_line, ◌>>>◌}
+use Rattle.text_words.proofs.Readers.{word-complete, word-sound, field-exact, then-read, some_same}
 use Rattle.slot_plan.proofs.TextLines.{joined}
 use Rattle.slot_plan.proofs.TextLists.{slots-complete, slots-sound, streams-complete, SlotsRead, streams-sound, programs-complete, programs-sound, ok_same}
 
@@ -69,8 +70,8 @@ certificate-sound line xs c rest e =
     )
 
 -- the first two lines and the slots
-few_slots : (p : Planned) → plan_error p.slots p.certificate ≡ None → (length p.slots ≤ 99999) × IsCertificate p.certificate
-few_slots p within = elim (cases_Bool (nat_lt 99999 (length p.slots))) [
+slot_bound : (p : Planned) → plan_error p.slots p.certificate ≡ None → (length p.slots ≤ 99999) × IsCertificate p.certificate
+slot_bound p within = elim (cases_Bool (nat_lt 99999 (length p.slots))) [
   | inl many ↦ absurd (let h = rw many at within in cc)
   | inr few ↦ elim (cases_Bool (nat_lt 256 (length p.certificate.streams) || nat_lt 256 (length p.certificate.programs))) [
     | inl more ↦ absurd (let h = rw (few, more) at within in cc)
@@ -117,10 +118,10 @@ read_from : (xs u v w rest : List ℕ) (n : ℕ) (slots : List Slot) (c : Certif
     slots_at n n v ≡ Ok (slots, w) → certificate_at (3 + slot_lines n) w ≡ Ok (c, rest) → plan_at xs ≡ Ok (record { slots = slots; certificate = c }, rest)
 read_from xs u v w rest n slots c a b d e = rw (a, b, d, e) refl
 
--- the text of a plan is read, whatever stands after it
+-- the text of a plan is read, whatever comes after it
 pub plan-complete : (p : Planned) (rest : List ℕ) → IsPlan p → plan_at (plan_text p ++ rest) ≡ Ok (p, rest)
 plan-complete p rest is =
-    let few = few_slots p is.within in let n = length p.slots in
+    let few = slot_bound p is.within in let n = length p.slots in
     let slots = numbered (slot_word n) 0 p.slots in let after = certificate_text p.certificate ++ rest in
     let zero_left : n - n ≡ 0 = omega arith in
     let third : slots_at n n (slots ++ after) ≡ Ok (p.slots, after) = rw zero_left at (slots-complete n n p.slots after refl (omega arith) is.numbers) in
@@ -128,7 +129,7 @@ plan-complete p rest is =
     (ap (after_word (codes "tsplan 1\n")) (in_parts p rest) ∙ word-complete (codes "tsplan 1\n") (field (codes "period ") n 10 ++ (slots ++ after)))
     (period-complete n (slots ++ after) few.0) third (certificate-complete (3 + slot_lines n) p.certificate rest few.1)
 
--- where a plan is read, its text stands
+-- where a plan is read, the text begins with its text
 pub plan-sound : (xs : List ℕ) (p : Planned) (rest : List ℕ) → plan_at xs ≡ Ok (p, rest) → IsPlan p × (xs ≡ plan_text p ++ rest)
 plan-sound xs p rest e =
     let h = then-ok (or_line 1 (after_word (codes "tsplan 1\n") xs)) _ (p, rest) e in
@@ -163,7 +164,7 @@ cut_front xs t rest e =
     (omega arith, bytes, rw after e)
 
 -- and how many bytes it has
-pub stands : (xs : List ℕ) (p : Planned) (rest : List ℕ) → plan_at xs ≡ Ok (p, rest) → (length rest ≤ length xs) × StandsAtFront xs p (length xs - length rest)
+pub stands : (xs : List ℕ) (p : Planned) (rest : List ℕ) → plan_at xs ≡ Ok (p, rest) → (length rest ≤ length xs) × BeginsWithPlan xs p (length xs - length rest)
 stands xs p rest e =
     let s = plan-sound xs p rest e in let f = cut_front xs (plan_text p) rest s.1 in
     (f.0, record { is_plan = s.0; bytes_are = f.1; text_is = f.2 })

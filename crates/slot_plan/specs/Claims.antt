@@ -4,7 +4,7 @@ use Rattle.own_slots.specs.Period.{per_period}
 use Rattle.unit_timing.specs.Plans.{Declaration}
 use Rattle.unit_timing.specs.Conditions.{Share}
 use Rattle.description.specs.Described.{DescribedStream}
-use Rattle.description.specs.Tables.{greatest_pieces}
+use Rattle.description.specs.Tables.{greatest_unit_packets}
 use Rattle.slot_plan.specs.declared.slot.Item.TheVariants.{Stream}
 use Rattle.slot_plan.specs.declared.certificate.StreamEntry.{StreamEntry}
 use Rattle.slot_plan.specs.declared.certificate.ProgramEntry.{ProgramEntry}
@@ -19,7 +19,7 @@ declaration s = record {
   drain = s.rx;
   main = s.main;
   largest = 19 + s.size;
-  pieces = greatest_pieces s;
+  unit_packets = greatest_unit_packets s;
   group = s.group;
   group_packets = s.group_packets;
 }

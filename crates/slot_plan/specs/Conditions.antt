@@ -1,7 +1,7 @@
 -- The conditions under which a plan serves a service description: each compares two whole numbers. The first, code 1, is
--- the shape of the plan; the others stand only where it holds. Rates are in bits a second, a slot is 188 bytes.
-use Rattle.std.specs.Prelude.{◌≡◌, ℕ, zero, suc, ◌+◌, ◌-◌, ◌*◌, ◌==◌, Bool, None, List, [], ◌∷◌, ◌++◌, length, is_none, if◌then◌else◌}
-use Rattle.clock27.specs.Units.{slot_milliseconds}
+-- the shape of the plan; the others are asked only where it holds. Rates are in bits a second, a slot is 188 bytes.
+use Rattle.std.specs.Prelude.{◌≡◌, ℕ, zero, suc, ◌+◌, ◌*◌, ◌==◌, Bool, None, List, [], ◌∷◌, ◌++◌, length, is_none, if◌then◌else◌}
+use Rattle.clock27.specs.Units.{slot_ms_at_1bps}
 use Rattle.own_slots.specs.Period.{per_period}
 use Rattle.own_slots.specs.Gaps.{gap}
 use Rattle.own_slots.specs.Spread.{spread}
@@ -9,7 +9,7 @@ use Rattle.own_slots.specs.Work.{most_before, most_after, work_left}
 use Rattle.unit_timing.specs.Buffers.{tb_size, system_tb_drain, bsys_size, bsys_drain}
 use Rattle.unit_timing.specs.Conditions.{rate_needed, rate_given, lead_needed, time_given, bytes_waiting}
 use Rattle.description.specs.Described.{Described, DescribedProgram, DescribedStream}
-use Rattle.description.specs.Tables.{table_kinds, table_count, table_limit, round_places}
+use Rattle.description.specs.Tables.{table_kinds, table_count, table_limit, round_packets}
 use Rattle.slot_plan.specs.declared.slot.Slot.{Slot}
 use Rattle.slot_plan.specs.declared.slot.Item.{Item}
 use Rattle.slot_plan.specs.declared.slot.Slot.TheVariants.{Stream, Pcr, Table, Null}
@@ -20,9 +20,9 @@ use Rattle.slot_plan.specs.Numbered.{numbered}
 use Rattle.slot_plan.specs.Planned.{Planned}
 use Rattle.slot_plan.specs.Items.{marks}
 use Rattle.slot_plan.specs.Claims.{declaration, stream_claim, program_claim, stream_share}
-use Rattle.slot_plan.specs.Entries.{Entry, at_most, as_many, first_failing}
+use Rattle.slot_plan.specs.Entries.{Entry, at_most, equal_counts, first_failing}
 
--- the slots of a period, at most
+-- the most slots of a period
 abbrev pub longest_period : ℕ
 longest_period = 65536
 
@@ -57,8 +57,8 @@ table_owner_entries d p = numbered (λ t _. owner_entry p (length d.streams + le
 
 -- code 1, parts 5 and 6: the certificate has an entry for each stream and each program
 abbrev pub claim_entries : Described → Planned → List Entry
-claim_entries d p = as_many Shape 5 0 (length p.certificate.streams) (length d.streams)
-    ∷ as_many Shape 6 0 (length p.certificate.programs) (length d.programs) ∷ []
+claim_entries d p = equal_counts Shape 5 0 (length p.certificate.streams) (length d.streams)
+    ∷ equal_counts Shape 6 0 (length p.certificate.programs) (length d.programs) ∷ []
 
 -- code 1: the shape of a plan
 abbrev pub shape_entries : Described → Planned → List Entry
@@ -66,22 +66,22 @@ shape_entries d p = length_entries p ++ (name_entries d p ++ (stream_owner_entri
 
 -- code 2: the PCRs of a program recur within its limit, in ms (ISO/IEC 13818-1, 2.7.2)
 abbrev pub pcr_gap_entry : Described → Planned → ℕ → DescribedProgram → Entry
-pcr_gap_entry d p i program = at_most PcrGap 0 i (gap (marks (PcrItem i) p.slots) 1 * slot_milliseconds) (program.pcr_limit * d.rate)
+pcr_gap_entry d p i program = at_most PcrGap 0 i (gap (marks (PcrItem i) p.slots) 1 * slot_ms_at_1bps) (program.pcr_limit * d.rate)
 
 -- code 3: each section of a table recurs within the table's limit, in ms (ETSI TR 101 290, 5.2)
 abbrev pub table_gap_entry : Described → Planned → ℕ → Entry
-table_gap_entry d p t = at_most TableGap 0 t (gap (marks (TableItem t) p.slots) (round_places d t) * slot_milliseconds) (table_limit d t * d.rate)
+table_gap_entry d p t = at_most TableGap 0 t (gap (marks (TableItem t) p.slots) (round_packets d t) * slot_ms_at_1bps) (table_limit d t * d.rate)
 
 -- code 4: a stream's slots are spread as claimed
 abbrev pub spread_entry : Planned → ℕ → Entry
 spread_entry p i = at_most Spread 0 i (spread (marks (StreamItem i) p.slots)) (stream_claim p i).spread
 
--- code 5: a stream has slots enough for its groups of units on end
+-- code 5: a stream has slots enough for group after group of its units
 abbrev pub stream_rate_entry : Described → Planned → ℕ → DescribedStream → Entry
 stream_rate_entry d p i s = let own = stream_share p i in
     at_most StreamRate 0 i (rate_needed (declaration s) own) (rate_given d.rate (declaration s) own)
 
--- the three parts of a buffer of that room in bytes: each packet finds room, the work after a packet is at most the
+-- the three parts of a buffer of that size in bytes: each packet finds room, the work after a packet is at most the
 -- peak, a period leaves at most the work with which it began
 abbrev pub buffer_entries : Condition → ℕ → ℕ → ℕ → ℕ → ℕ → ℕ → List Bool → List Entry
 buffer_entries condition item rate drain room start peak own =
@@ -109,9 +109,9 @@ stream_lead_entry d p i s m = let own = stream_share p i in
     at_most StreamLead (group_part s m) i (lead_needed (declaration s) own m) (time_given d.rate (declaration s) own.count m)
 
 -- an entry for each of the n numbers from m on
-abbrev pub counting : (ℕ → Entry) → ℕ → ℕ → List Entry
-counting f m zero = []
-counting f m (suc n) = f m ∷ counting f (suc m) n
+abbrev pub entries_from : (ℕ → Entry) → ℕ → ℕ → List Entry
+entries_from f m zero = []
+entries_from f m (suc n) = f m ∷ entries_from f (suc m) n
 
 -- code 8: what waits for its decoding time finds room in the main buffer
 abbrev pub main_buffer_entry : Described → Planned → ℕ → DescribedStream → Entry
@@ -142,7 +142,7 @@ abbrev pub transport_buffers : Described → Planned → List Entry
 transport_buffers d p = numbered (λ i _. transport_buffer_entries d p i) 0 d.programs
 
 abbrev pub stream_leads : Described → Planned → List Entry
-stream_leads d p = numbered (λ i s. counting (stream_lead_entry d p i s) 1 s.group) 0 d.streams
+stream_leads d p = numbered (λ i s. entries_from (stream_lead_entry d p i s) 1 s.group) 0 d.streams
 
 abbrev pub main_buffers : Described → Planned → List Entry
 main_buffers d p = numbered (λ i s. main_buffer_entry d p i s ∷ []) 0 d.streams

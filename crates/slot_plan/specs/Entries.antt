@@ -35,8 +35,8 @@ abbrev pub at_most : Condition → ℕ → ℕ → ℕ → ℕ → Entry
 at_most condition part item left right =
     record { condition = condition; part = part; item = item; relation = AtMost; left = left; right = right }
 
-abbrev pub as_many : Condition → ℕ → ℕ → ℕ → ℕ → Entry
-as_many condition part item left right =
+abbrev pub equal_counts : Condition → ℕ → ℕ → ℕ → ℕ → Entry
+equal_counts condition part item left right =
     record { condition = condition; part = part; item = item; relation = Equal; left = left; right = right }
 
 -- whether two numbers compare so

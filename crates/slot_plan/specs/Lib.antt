@@ -1,11 +1,11 @@
 pub mod Numbered
 pub mod Planned
-pub mod PlanErrors
+pub mod Refusals
 pub mod Items
 pub mod Plans
 pub mod Text
-pub mod Reading
-pub mod Readings
+pub mod Readers
+pub mod ReadResults
 pub mod Entries
 pub mod Claims
 pub mod Conditions

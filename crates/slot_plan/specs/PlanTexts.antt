@@ -1,14 +1,14 @@
--- What stands in a text that may be a plan's.
+-- What a text has that may be a plan's.
 use Rattle.std.specs.Prelude.{◌≡◌, ℕ, ◌++◌, List, Ok, Err, length, drop}
 use Rattle.slot_plan.specs.declared.reader.PlanTextError.{PlanTextError}
 use Rattle.slot_plan.specs.declared.reader.PlanTextError.TheVariants.{Line, Memory}
 use Rattle.slot_plan.specs.Planned.{Planned}
 use Rattle.slot_plan.specs.Plans.{IsPlan}
 use Rattle.slot_plan.specs.Text.{plan_text}
-use Rattle.slot_plan.specs.Reading.{plan_at}
+use Rattle.slot_plan.specs.Readers.{plan_at}
 
--- the text begins with that plan's, of so many bytes
-pub record StandsAtFront (text : List ℕ) (plan : Planned) (bytes : ℕ) : Type 0 where
+-- the text begins with that plan's, of that number of bytes
+pub record BeginsWithPlan (text : List ℕ) (plan : Planned) (bytes : ℕ) : Type 0 where
   pub is_plan : IsPlan plan
   pub bytes_are : bytes ≡ length (plan_text plan)
   pub text_is : text ≡ plan_text plan ++ drop bytes text

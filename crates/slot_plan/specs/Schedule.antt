@@ -1,5 +1,4 @@
--- What each slot of a run carries: one plan over and over, or one plan for a whole number of its periods and then a
--- second.
+-- What each slot of a run carries: one plan repeated, or one plan for a whole number of its periods and then a second.
 use Rattle.std.specs.Prelude.{◌≡◌, ℕ, ◌-◌, ◌*◌, ◌%◌, Bool, List, Option, None, Some, length, nat_lt, slice_index_or, if◌then◌else◌}
 use Rattle.own_slots.specs.Period.{own}
 use Rattle.own_slots.specs.Switch.{joined}
@@ -22,11 +21,11 @@ pub record Schedule : Type 0 where
 abbrev pub single : List Slot → Schedule
 single slots = record { first = slots; following = None }
 
--- a second plan after so many periods of the first
+-- a second plan after that number of periods of the first
 abbrev pub switched : List Slot → ℕ → List Slot → Schedule
 switched first periods second = record { first = first; following = Some (record { slots = second; from = periods * length first }) }
 
--- what slot s of a period over and over carries
+-- what slot s of a repeated period carries
 abbrev pub repeated : List Slot → ℕ → Slot
 repeated slots s = slice_index_or slots (s % length slots) Null
 
@@ -41,7 +40,7 @@ slot_of schedule s = elim schedule.following [
 abbrev pub owned : Schedule → Item → ℕ → Bool
 owned schedule item s = is_own item (slot_of schedule s)
 
--- they are those of the period, over and over; with a second plan, those of both plans joined
+-- they are those of the period, repeated; with a second plan, those of both plans joined
 pub record OwnedLaw : Type 0 where
   pub alone : (slots : List Slot) (item : Item) → owned (single slots) item ≡ own (marks item slots)
   pub in_turn : (first second : List Slot) (periods : ℕ) (item : Item) →

@@ -1,4 +1,4 @@
--- What is known of a plan that serves a description, in plain facts.
+-- What is known of a plan that serves a description.
 use Rattle.std.specs.Prelude.{ℕ, ◌<◌, All, length}
 use Rattle.description.specs.Described.{Described}
 use Rattle.description.specs.Tables.{table_count}

@@ -1,4 +1,4 @@
--- What a plan of good shape is, in plain facts.
+-- What a plan of good shape is.
 use Rattle.std.specs.Prelude.{◌≡◌, ℕ, ◌<◌, ◌≤◌, length}
 use Rattle.own_slots.specs.Period.{per_period}
 use Rattle.description.specs.Described.{Described}
@@ -11,7 +11,7 @@ use Rattle.slot_plan.specs.Items.{marks}
 -- each stream and each program
 pub record IsShaped (d : Described) (p : Planned) : Type 0 where
   pub some_slots : 1 ≤ length p.slots
-  pub few_slots : length p.slots ≤ 65536
+  pub slot_bound : length p.slots ≤ 65536
   pub streams_own : (i : ℕ) → i < length d.streams → 0 < per_period (marks (Stream i) p.slots)
   pub programs_own : (i : ℕ) → i < length d.programs → 0 < per_period (marks (Pcr i) p.slots)
   pub tables_own : (t : ℕ) → t < table_count d → 0 < per_period (marks (Table t) p.slots)

@@ -1,7 +1,7 @@
 -- The conditions under which a plan may be followed, at the end of one of its periods, by a second plan of the same
 -- description.
 use Rattle.std.specs.Prelude.{◌≡◌, ℕ, suc, ◌+◌, ◌-◌, ◌*◌, Bool, List, [], ◌∷◌, ◌++◌, length, is_none, None, if◌then◌else◌}
-use Rattle.clock27.specs.Units.{slot_milliseconds}
+use Rattle.clock27.specs.Units.{slot_ms_at_1bps}
 use Rattle.own_slots.specs.Period.{position, back}
 use Rattle.own_slots.specs.Extremes.{greatest}
 use Rattle.own_slots.specs.Work.{work_left}
@@ -9,7 +9,7 @@ use Rattle.own_slots.specs.Switch.{shift}
 use Rattle.unit_timing.specs.Buffers.{system_tb_drain, bsys_drain}
 use Rattle.unit_timing.specs.Conditions.{lead_across, time_given, bytes_across}
 use Rattle.description.specs.Described.{Described, DescribedProgram, DescribedStream}
-use Rattle.description.specs.Tables.{table_kinds, table_limit, round_places}
+use Rattle.description.specs.Tables.{table_kinds, table_limit, round_packets}
 use Rattle.slot_plan.specs.declared.slot.Item.TheVariants.{Stream as StreamItem, Pcr as PcrItem, Table as TableItem, System}
 use Rattle.slot_plan.specs.declared.condition.Condition.TheVariants.{PcrSwitch, TableSwitch, WorkSwitch, LeadSwitch, MainSwitch}
 use Rattle.slot_plan.specs.Numbered.{numbered}
@@ -17,7 +17,7 @@ use Rattle.slot_plan.specs.Planned.{Planned}
 use Rattle.slot_plan.specs.Items.{marks}
 use Rattle.slot_plan.specs.Entries.{Entry, at_most, first_failing}
 use Rattle.slot_plan.specs.Claims.{declaration, stream_claim, program_claim, stream_share}
-use Rattle.slot_plan.specs.Conditions.{group_part, counting, entries}
+use Rattle.slot_plan.specs.Conditions.{group_part, entries_from, entries}
 
 -- the greatest gap across the switch between k own slots in a row: from own slot -x of the first plan to own slot k - x
 -- of the second, x from 1 to k
@@ -27,12 +27,12 @@ gap_across first second k = greatest k (λ x. position second (k - suc x) + back
 -- code 12: the PCRs of a program recur across the switch
 abbrev pub pcr_switch_entry : Described → Planned → Planned → ℕ → DescribedProgram → Entry
 pcr_switch_entry d first second i program =
-    at_most PcrSwitch 0 i (gap_across (marks (PcrItem i) first.slots) (marks (PcrItem i) second.slots) 1 * slot_milliseconds) (program.pcr_limit * d.rate)
+    at_most PcrSwitch 0 i (gap_across (marks (PcrItem i) first.slots) (marks (PcrItem i) second.slots) 1 * slot_ms_at_1bps) (program.pcr_limit * d.rate)
 
 -- code 13: each section of a table recurs across the switch
 abbrev pub table_switch_entry : Described → Planned → Planned → ℕ → Entry
 table_switch_entry d first second t =
-    at_most TableSwitch 0 t (gap_across (marks (TableItem t) first.slots) (marks (TableItem t) second.slots) (round_places d t) * slot_milliseconds) (table_limit d t * d.rate)
+    at_most TableSwitch 0 t (gap_across (marks (TableItem t) first.slots) (marks (TableItem t) second.slots) (round_packets d t) * slot_ms_at_1bps) (table_limit d t * d.rate)
 
 -- code 14: the work that a period of the first plan leaves in a buffer is at most that with which the second begins
 abbrev pub work_switch_entry : ℕ → ℕ → ℕ → ℕ → List Bool → ℕ → Entry
@@ -79,7 +79,7 @@ abbrev pub system_works : Described → Planned → Planned → List Entry
 system_works d first second = numbered (λ i _. system_work_entry d first second i ∷ []) 0 d.programs
 
 abbrev pub lead_switches : Described → Planned → Planned → List Entry
-lead_switches d first second = numbered (λ i s. counting (lead_switch_entry d first second i s) 1 s.group) 0 d.streams
+lead_switches d first second = numbered (λ i s. entries_from (lead_switch_entry d first second i s) 1 s.group) 0 d.streams
 
 abbrev pub main_switches : Described → Planned → Planned → List Entry
 main_switches d first second = numbered (λ i s. main_switch_entry d first second i s ∷ []) 0 d.streams

@@ -1,16 +1,13 @@
--- The text of a plan: each line ends with LF, one space stands between words, numbers are decimal without leading
--- zeros. A plan has one text.
+-- The text of a plan: each line ends with LF, one space is between words, numbers are decimal without leading zeros. A
+-- plan has one text.
 use Rattle.std.specs.Prelude.{ℕ, suc, ◌%◌, ◌==◌, ◌||◌, List, [], ◌∷◌, ◌++◌, length, codes, decimal, if◌then◌else◌}
+use Rattle.text_words.specs.Words.{field}
 use Rattle.slot_plan.specs.declared.slot.Slot.{Slot}
 use Rattle.slot_plan.specs.declared.slot.Slot.TheVariants.{Stream, Pcr, Table, Null}
 use Rattle.slot_plan.specs.declared.certificate.StreamEntry.{StreamEntry}
 use Rattle.slot_plan.specs.declared.certificate.ProgramEntry.{ProgramEntry}
 use Rattle.slot_plan.specs.Planned.{Planned}
 use Rattle.slot_plan.specs.Numbered.{numbered}
-
--- a word with its space, its number, and the byte that ends them: a space, or LF
-abbrev pub field : List ℕ → ℕ → ℕ → List ℕ
-field word number ending = word ++ decimal number ++ ending ∷ []
 
 -- S, P or T and the item's number, or - for a null packet
 abbrev pub slot_text : Slot → List ℕ
@@ -19,7 +16,7 @@ slot_text (Pcr number) = 80 ∷ decimal number
 slot_text (Table number) = 84 ∷ decimal number
 slot_text Null = 45 ∷ []
 
--- what ends slot number i of n: 24 slots stand on a line, and the rest on the last
+-- what ends slot number i of n: a line has 24 slots, and the last one the rest
 abbrev pub slot_ending : ℕ → ℕ → ℕ
 slot_ending n i = if ((suc i) % 24 == 0) || (suc i == n) then 10 else 32
 

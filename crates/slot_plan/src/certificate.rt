@@ -3,21 +3,18 @@
 use std::alloc::{Allocator, Global};
 use std::marker::Model;
 
-/// Entries of a kind, at most.
-pub const MOST_ENTRIES: u32 = 256;
-
-/// Each number of a certificate is below this.
-pub const NUMBER_END: u64 = 1_000_000_000_000_000_000;
+/// The most entries of a kind.
+pub const MAX_ENTRIES: u32 = 256;
 
 /// What a plan claims of one stream. `spread` is in slots times own slots a period; `start` and `peak`
 /// are work of its transport buffer, counted in units of 8 / (rate * leak rate) seconds.
 #[derive(Clone, Copy, PartialEq, Eq)]
 pub struct StreamEntry {
-    /// How far the own slots stray from even spacing, at most.
+    /// The most that the own slots stray from even spacing.
     pub spread: u64,
-    /// The work with which a period begins, at most.
+    /// The most work with which a period begins.
     pub start: u64,
-    /// The work right after an own slot, at most.
+    /// The most work right after an own slot.
     pub peak: u64,
 }
 
@@ -25,13 +22,13 @@ pub struct StreamEntry {
 /// in work as for a stream.
 #[derive(Clone, Copy, PartialEq, Eq)]
 pub struct ProgramEntry {
-    /// The transport buffer's work with which a period begins, at most.
+    /// The most work of the transport buffer with which a period begins.
     pub transport_start: u64,
-    /// The transport buffer's work right after an own slot, at most.
+    /// The most work of the transport buffer right after an own slot.
     pub transport_peak: u64,
-    /// The system buffer's work with which a period begins, at most.
+    /// The most work of the system buffer with which a period begins.
     pub system_start: u64,
-    /// The system buffer's work right after an own slot, at most.
+    /// The most work of the system buffer right after an own slot.
     pub system_peak: u64,
 }
 

@@ -6,7 +6,7 @@ ghost use Rattle.slot_plan.specs.Entries.{code_of};
 /// What a plan has to keep. The last five are those of a second plan after a first one.
 #[derive(Clone, Copy, Debug, PartialEq, Eq)]
 pub enum Condition {
-    /// The period's length, the items that its slots name and that have slots, the entries of the certificate.
+    /// The period's length, the items that its slots name, the items that have slots, the entries of the certificate.
     Shape,
     /// PCRs recur within the program's limit (ISO/IEC 13818-1, 2.7.2).
     PcrGap,
@@ -14,7 +14,7 @@ pub enum Condition {
     TableGap,
     /// A stream's own slots stray from even spacing by no more than claimed.
     Spread,
-    /// A stream has slots enough for its units on end.
+    /// A stream has slots enough for unit after unit.
     StreamRate,
     /// A transport buffer of 512 bytes never overflows (ISO/IEC 13818-1, 2.4.2.3).
     TransportBuffer,

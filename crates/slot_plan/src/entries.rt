@@ -1,11 +1,11 @@
 //! Slots and entries of a plan text, read at its front.
 
 ghost use Rattle.std.specs.Prelude.{◌≡◌, ◌<◌, option_map};
-ghost use Rattle.slot_plan.specs.Reading.{slot_at, stream_at, program_at, after_number, lettered};
+ghost use Rattle.slot_plan.specs.Readers.{slot_at, stream_at, program_at, slot_of_letter};
 
 use crate::certificate::{ProgramEntry, StreamEntry};
 use crate::slot::Slot;
-use crate::words::{after_word, field_at, number_before};
+use text_words::{after_number, after_word, field_at, number_before};
 
 /// A slot, and the text after the byte that ends it.
 pub fn slot_at(ending: u8, text: &[u8]) -> Option<(Slot, &[u8])>
@@ -17,12 +17,13 @@ pub fn slot_at(ending: u8, text: &[u8]) -> Option<(Slot, &[u8])>
         return Some((Slot::Null, rest));
     }
     let (number, rest) = number_before(ending, 256, rest)?;
-    let slot = lettered(*letter, number as u8)?;
+    let slot = slot_of_letter(*letter, number as u8)?;
     Some((slot, rest))
 }
 
-fn lettered(letter: u8, number: u8) -> Option<Slot>
-    ensures { result ≡ lettered letter number }
+/// The slot of that letter and number.
+fn slot_of_letter(letter: u8, number: u8) -> Option<Slot>
+    ensures { result ≡ slot_of_letter letter number }
 {
     match letter {
         b'S' => Some(Slot::Stream(number)),
@@ -30,14 +31,6 @@ fn lettered(letter: u8, number: u8) -> Option<Slot>
         b'T' => Some(Slot::Table(number)),
         _ => None,
     }
-}
-
-/// A word with its space, the number given, and the text after the space after it.
-fn after_number<'a>(word: &[u8], number: u64, text: &'a [u8]) -> Option<&'a [u8]>
-    ensures { option_map (λ rest. rest.now) result ≡ after_number word.now number text.now }
-{
-    let (found, rest) = field_at(word, b' ', text)?;
-    if found == number { Some(rest) } else { None }
 }
 
 /// The line of a stream's entry, and the text after it.

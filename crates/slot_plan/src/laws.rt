@@ -4,14 +4,14 @@ ghost use Rattle.slot_plan.specs.PlanTexts.{ReadsExactly, OneText};
 ghost use Rattle.slot_plan.specs.Schedule.{OwnedLaw};
 ghost use Rattle.slot_plan.specs.SlotPids.{SlotsApartLaw, SlotsBelowLaw};
 
-/// A plan is read exactly where its text stands, and that text is the plan's only one.
+/// A plan is read exactly where a text begins with its text, and that text is the plan's only one.
 pub fn plan_text()
     ensures exact { ReadsExactly }
     ensures one_text { OneText }
 {}
 
-/// The own slots of an item over a run are those of its plan's period, over and over; over two plans
-/// they are those of both, joined.
+/// The own slots of an item over a run are those of its plan's period, repeated; over two plans they are those of both,
+/// joined.
 pub fn own_slots()
     ensures { OwnedLaw }
 {}

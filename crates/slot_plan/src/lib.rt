@@ -3,7 +3,7 @@
 //!
 //! - [`Slot`] and [`Item`]: what a packet slot carries, and what owns it.
 //! - [`Certificate`]: what a plan claims of its buffers.
-//! - [`Plan`]: slots and certificate, and their text both ways.
+//! - [`Plan`]: slots and certificate; their text, written and read.
 //! - [`Condition`]: what a plan has to keep; `specs/Conditions` and `specs/SwitchConditions` say it in numbers.
 //! - [`laws`]: the plan's text is its only one; the own slots over a run.
 //! - [`serving_plans`]: what is known of a plan that serves a description.
@@ -18,11 +18,12 @@ mod reader;
 pub mod serving_plans;
 mod slot;
 mod text;
-mod words;
 
 pub use certificate::{Certificate, ProgramEntry, StreamEntry};
 pub use condition::{Condition, Relation};
-pub use description::{Description, Network, PrivateTable, Program, Stream, TableKind};
+pub use description::{
+    Description, Network, PrivateTable, ProgramDescription, StreamDescription, TableKind,
+};
 pub use plan::{Plan, PlanError};
 pub use reader::PlanTextError;
 pub use slot::{Item, Slot};

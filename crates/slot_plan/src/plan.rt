@@ -3,16 +3,17 @@
 ghost use Rattle.std.specs.Prelude.{◌≡◌, IfOk, IfErr, None, string_bytes};
 ghost use Rattle.std.specs.List.{list_all};
 ghost use Rattle.slot_plan.specs.Text.{plan_text};
-ghost use Rattle.slot_plan.specs.PlanTexts.{StandsAtFront, Refuses};
-ghost use Rattle.slot_plan.specs.PlanErrors.{plan_refusal};
+ghost use Rattle.slot_plan.specs.PlanTexts.{BeginsWithPlan, Refuses};
+ghost use Rattle.slot_plan.specs.Refusals.{plan_refusal};
 ghost use Rattle.slot_plan.specs.Planned.{plan_error, has_small_numbers, is_small_stream, is_small_program};
 
-use crate::certificate::{Certificate, MOST_ENTRIES, NUMBER_END, ProgramEntry, StreamEntry};
+use crate::certificate::{Certificate, MAX_ENTRIES, ProgramEntry, StreamEntry};
 use crate::reader::{PlanTextError, plan_at};
-use crate::slot::{MOST_SLOTS, Slot};
+use crate::slot::{MAX_SLOTS, Slot};
 use crate::text::{write_head, write_programs, write_slots, write_streams};
 use std::alloc::{AllocError, Allocator, Global};
 use std::marker::Model;
+use text_words::NUMBER_LIMIT;
 use thiserror::Error;
 
 /// Why slots and certificate make no plan. The first that holds is given.
@@ -46,7 +47,7 @@ impl<A: Allocator> Model for Plan<A> {
 }
 
 impl<A: Allocator> Plan<A> {
-    /// A plan of these slots with this certificate, or what stands against it.
+    /// A plan of these slots with this certificate, or the reason against it.
     pub fn new(
         slots: Vec<Slot, A>,
         certificate: Certificate<A>,
@@ -92,11 +93,11 @@ impl<A: Allocator> Plan<A> {
 }
 
 impl<A: Allocator + Clone> Plan<A> {
-    /// The plan whose text stands at the front, and the number of bytes of its text; what stands after it is
-    /// not looked at. Else the number of the first line that is not as it must be, from 1; where the text ends
-    /// too soon, of the line that is missing or cut.
+    /// The plan whose text is at the front, and the number of bytes of its text; what comes after it is not looked at.
+    /// Else the number of the first line that is not as it must be, from 1; where the text ends too soon, of the line
+    /// that is missing or cut.
     pub fn read_text(alloc: A, text: &[u8]) -> Result<(Plan<A>, usize), PlanTextError>
-        ensures read { IfOk result (λ read. StandsAtFront text.now read.0 read.1) }
+        ensures read { IfOk result (λ read. BeginsWithPlan text.now read.0 read.1) }
         ensures refused { IfErr result (Refuses text.now) }
     {
         let (slots, certificate, rest) = plan_at(alloc, text)?;
@@ -108,10 +109,10 @@ impl<A: Allocator + Clone> Plan<A> {
 fn error_of<A: Allocator>(slots: &Vec<Slot, A>, certificate: &Certificate<A>) -> Option<PlanError>
     ensures { result ≡ plan_error slots.now.items certificate.now }
 {
-    if slots.len() > MOST_SLOTS as usize {
+    if slots.len() > MAX_SLOTS as usize {
         Some(PlanError::Slots)
-    } else if certificate.streams.len() > MOST_ENTRIES as usize
-        || certificate.programs.len() > MOST_ENTRIES as usize
+    } else if certificate.streams.len() > MAX_ENTRIES as usize
+        || certificate.programs.len() > MAX_ENTRIES as usize
     {
         Some(PlanError::Entries)
     } else if has_small_numbers(certificate) {
@@ -143,14 +144,14 @@ fn has_small_programs(entries: &[ProgramEntry]) -> bool
 fn is_small_stream(entry: StreamEntry) -> bool
     ensures { result ≡ is_small_stream entry }
 {
-    entry.spread < NUMBER_END && entry.start < NUMBER_END && entry.peak < NUMBER_END
+    entry.spread < NUMBER_LIMIT && entry.start < NUMBER_LIMIT && entry.peak < NUMBER_LIMIT
 }
 
 fn is_small_program(entry: ProgramEntry) -> bool
     ensures { result ≡ is_small_program entry }
 {
-    entry.transport_start < NUMBER_END
-        && entry.transport_peak < NUMBER_END
-        && entry.system_start < NUMBER_END
-        && entry.system_peak < NUMBER_END
+    entry.transport_start < NUMBER_LIMIT
+        && entry.transport_peak < NUMBER_LIMIT
+        && entry.system_start < NUMBER_LIMIT
+        && entry.system_peak < NUMBER_LIMIT
 }

@@ -2,21 +2,22 @@
 
 ghost use Rattle.std.specs.Prelude.{◌≡◌, ◌+◌, ◌<◌, ◌≤◌, IfOk, IfSome, option_map, vec_len};
 ghost use Rattle.slot_plan.specs.Text.{slot_ending};
-ghost use Rattle.slot_plan.specs.Reading.{slots_at, streams_at, programs_at, begins_with, period_at, certificate_at, plan_at};
-ghost use Rattle.slot_plan.specs.Readings.{Reads};
+ghost use Rattle.slot_plan.specs.Readers.{slots_at, streams_at, programs_at, begins_with};
+ghost use Rattle.slot_plan.specs.Readers.{period_at, certificate_at, plan_at};
+ghost use Rattle.slot_plan.specs.ReadResults.{Reads};
 
-use crate::certificate::{Certificate, MOST_ENTRIES, ProgramEntry, StreamEntry};
+use crate::certificate::{Certificate, MAX_ENTRIES, ProgramEntry, StreamEntry};
 use crate::entries::{program_at, slot_at, stream_at};
-use crate::slot::{MOST_SLOTS, Slot};
+use crate::slot::{MAX_SLOTS, Slot};
 use crate::text::SLOTS_ON_A_LINE;
-use crate::words::{after_word, field_at};
 use std::alloc::Allocator;
+use text_words::{after_word, field_at};
 use thiserror::Error;
 
 /// Why a text is no plan's.
 #[derive(Clone, Copy, Debug, PartialEq, Eq, Error)]
 pub enum PlanTextError {
-    /// The first line that is not as it must be, from 1; where the text ends too soon, the line that is missing or cut.
+    /// The first line that is not as it must be, from 1; where the text ends too soon, the one that is missing or cut.
     #[error("line {0} is not as it must be")]
     Line(u32),
     #[error("out of memory")]
@@ -58,6 +59,7 @@ pub fn slots_at<A: Allocator>(
     Ok((slots, rest))
 }
 
+/// Whether a text begins with that letter.
 fn begins_with(letter: u8, text: &[u8]) -> bool
     ensures { result ≡ begins_with letter text.now }
 {
@@ -75,11 +77,11 @@ pub fn streams_at<A: Allocator>(
 ) -> Result<(Vec<StreamEntry, A>, &[u8]), PlanTextError>
     requires { line < 10000 }
     ensures read { Reads (λ read. (read.0.items, read.1.now)) result (streams_at 256 line 0 text.now) }
-    ensures few { IfOk result (λ read. vec_len read.0 ≤ 256) }
+    ensures bound { IfOk result (λ read. vec_len read.0 ≤ 256) }
 {
     let mut entries = Vec::new(alloc);
     let mut rest = text;
-    for number in 0..MOST_ENTRIES {
+    for number in 0..MAX_ENTRIES {
         if !begins_with(b's', rest) {
             return Ok((entries, rest));
         }
@@ -102,11 +104,11 @@ pub fn programs_at<A: Allocator>(
 ) -> Result<(Vec<ProgramEntry, A>, &[u8]), PlanTextError>
     requires { line < 10000 }
     ensures read { Reads (λ read. (read.0.items, read.1.now)) result (programs_at 256 line 0 text.now) }
-    ensures few { IfOk result (λ read. vec_len read.0 ≤ 256) }
+    ensures bound { IfOk result (λ read. vec_len read.0 ≤ 256) }
 {
     let mut entries = Vec::new(alloc);
     let mut rest = text;
-    for number in 0..MOST_ENTRIES {
+    for number in 0..MAX_ENTRIES {
         if !begins_with(b'p', rest) {
             return Ok((entries, rest));
         }
@@ -146,22 +148,23 @@ fn certificate_at<A: Allocator + Clone>(
 /// `period N`, and the text after its line.
 fn period_at(text: &[u8]) -> Option<(u32, &[u8])>
     ensures read { option_map (λ read. (read.0, read.1.now)) result ≡ period_at text.now }
-    ensures most { IfSome result (λ read. read.0 ≤ 99999) }
+    ensures bound { IfSome result (λ read. read.0 ≤ 99999) }
 {
     let (period, rest) = field_at(b"period ", b'\n', text)?;
-    if period > MOST_SLOTS as u64 {
+    if period > MAX_SLOTS as u64 {
         None
     } else {
         Some((period as u32, rest))
     }
 }
 
-/// The slots and the certificate of the plan whose text stands at the front, and the text after it.
+/// The slots and the certificate of the plan whose text is at the front, and the text after it.
 pub fn plan_at<A: Allocator + Clone>(
     alloc: A,
     text: &[u8],
 ) -> Result<(Vec<Slot, A>, Certificate<A>, &[u8]), PlanTextError>
-    ensures { Reads (λ read. (record { slots = read.0.items; certificate = read.1 }, read.2.now)) result (plan_at text.now) }
+    ensures { Reads (λ read. (record { slots = read.0.items; certificate = read.1 }, read.2.now))
+        result (plan_at text.now) }
 {
     let Some(rest) = after_word(b"tsplan 1\n", text) else {
         return Err(PlanTextError::Line(1));

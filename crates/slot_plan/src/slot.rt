@@ -3,8 +3,8 @@
 ghost use Rattle.std.specs.Prelude.{◌≡◌};
 ghost use Rattle.slot_plan.specs.Items.{is_own};
 
-/// Slots of a plan, at most.
-pub const MOST_SLOTS: u32 = 99_999;
+/// The most slots of a plan.
+pub const MAX_SLOTS: u32 = 99_999;
 
 /// What one packet slot (188 bytes) of a period carries: the next packet of a stream, a PCR of a
 /// program, a packet of a table, each by its number from 0, or a null packet.

@@ -1,7 +1,8 @@
 //! The text of a plan, written.
 
-ghost use Rattle.std.specs.Prelude.{◌≡◌, ◌+◌, ◌<◌, ◌++◌, ◌∷◌, [], OnOk, string_bytes, length, codes};
-ghost use Rattle.slot_plan.specs.Text.{field, slot_word, stream_line, program_line};
+ghost use Rattle.std.specs.Prelude.{◌≡◌, ◌+◌, ◌<◌, ◌++◌, OnOk, string_bytes, length, codes};
+ghost use Rattle.slot_plan.specs.Text.{slot_word, stream_line, program_line};
+ghost use Rattle.text_words.specs.Words.{field};
 ghost use Rattle.slot_plan.specs.Numbered.{numbered};
 
 use crate::certificate::{ProgramEntry, StreamEntry};
@@ -9,19 +10,21 @@ use crate::slot::Slot;
 use std::alloc::{AllocError, Allocator};
 use std::fmt::Write;
 
-/// Slots that stand on one line of the text.
+/// The slots of one line of the text.
 pub const SLOTS_ON_A_LINE: usize = 24;
 
 /// Appends the first two lines.
 pub fn write_head<A: Allocator>(text: &mut String<A>, period: usize) -> Result<(), AllocError>
-    ensures { OnOk result (string_bytes text.new ≡ string_bytes text.old ++ codes "tsplan 1\n" ++ field (codes "period ") period 10) }
+    ensures { OnOk result (string_bytes text.new
+        ≡ string_bytes text.old ++ codes "tsplan 1\n" ++ field (codes "period ") period 10) }
 {
     write!(text, "tsplan 1\nperiod {period}\n")
 }
 
 /// Appends the slots of a period.
 pub fn write_slots<A: Allocator>(text: &mut String<A>, slots: &[Slot]) -> Result<(), AllocError>
-    ensures { OnOk result (string_bytes text.new ≡ string_bytes text.old ++ numbered (slot_word (length slots.now)) 0 slots.now) }
+    ensures { OnOk result (string_bytes text.new
+        ≡ string_bytes text.old ++ numbered (slot_word (length slots.now)) 0 slots.now) }
 {
     for (index, slot) in slots.iter().enumerate() {
         write_slot(text, slots.len(), index, *slot)?;

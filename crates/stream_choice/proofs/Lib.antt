@@ -1,8 +1,7 @@
-pub mod Extremes
 pub mod Quotients
-pub mod Best
-pub mod Keeping
-pub mod Chosen
-pub mod Slower
-pub mod Freeing
-pub mod Sharing
+pub mod BestChoice
+pub mod KeptChoices
+pub mod ChoiceFacts
+pub mod SlowerOutputs
+pub mod ShareTimes
+pub mod ShareProof

@@ -1,18 +1,19 @@
 -- What a stream declares: the best of what is tried.
 use Rattle.std.specs.Prelude.{◌≡◌, ℕ, zero, suc, ◌+◌, ◌-◌, ◌*◌, ◌/◌, ◌^◌, ◌<◌, ◌≤◌, ◌&&◌, min, nat_le, nat_lt, Bool, if◌then◌else◌, List, length, slice_index, Option, Some, None, IfSome}
 use Rattle.std.specs.Int.{div_ceil}
-use Rattle.clock27.specs.Release.{slot_units}
+use Rattle.clock27.specs.Units.{slot_units_at_1bps}
 use Rattle.unit_timing.specs.PesPacket.{grouped}
 use Rattle.stream_choice.specs.declared.needs.Needs.{Needs}
 use Rattle.stream_choice.specs.declared.choice.Choice.{Choice}
-use Rattle.stream_choice.specs.Shares.{parts, pieces, lead_share, least_share}
-use Rattle.stream_choice.specs.Leads.{leads, pace_lead, numbered_lead}
+use Rattle.unit_timing.specs.Shares.{parts}
+use Rattle.stream_choice.specs.Shares.{packets_of_unit, lead_share, least_share}
+use Rattle.stream_choice.specs.Leads.{leads, sufficient_lead, numbered_lead}
 
 -- ---- buffers
 
 -- the transport buffer is drained no slower than packets of that share come
 abbrev pub drains : Needs → ℕ → Bool
-drains needs share = nat_le (share * slot_units) (needs.rx * parts)
+drains needs share = nat_le (share * slot_units_at_1bps) (needs.rx * parts)
 
 -- the units that can wait for their decoding at once, rounded up
 abbrev pub waiting_units : Needs → ℕ → ℕ
@@ -26,7 +27,7 @@ packets_within lead share = lead * share / parts + 2
 abbrev pub waiting_bytes : Needs → ℕ → ℕ → ℕ → ℕ → ℕ
 waiting_bytes needs group packets lead share =
     min (waiting_units needs lead * (19 + needs.size))
-    (184 * min (grouped group packets (pieces needs) (waiting_units needs lead)) (packets_within lead share))
+    (184 * min (grouped group packets (packets_of_unit needs) (waiting_units needs lead)) (packets_within lead share))
 
 -- and the main buffer holds them
 abbrev pub holds : Needs → ℕ → ℕ → ℕ → ℕ → Bool
@@ -36,18 +37,18 @@ holds needs group packets lead share = nat_le (waiting_bytes needs group packets
 
 -- the choice of a group and a lead, where its buffers hold
 abbrev pub choice_of : Needs → ℕ → ℕ → ℕ → ℕ → Option Choice
-choice_of needs group packets wait lead = elim (lead_share needs group packets wait lead) [
+choice_of needs group packets delay lead = elim (lead_share needs group packets delay lead) [
   | None ↦ None
   | Some share ↦ if drains needs share && holds needs group packets lead share
       then Some (record { group = group; group_packets = packets; lead = lead; share = share }) else None
 ]
 
--- that of a lead by its number; no lead is tried above the pace's own or the greatest
-abbrev pub tried : Needs → ℕ → ℕ → ℕ → ℕ → ℕ → Option Choice
-tried needs wait most_lead group packets number =
-    let pace = pace_lead needs group packets wait in
-    let lead = numbered_lead needs pace most_lead number in
-    if nat_le lead (min pace most_lead) then choice_of needs group packets wait lead else None
+-- that of a lead by its number; no lead is tried above the sufficient one or the greatest
+abbrev pub numbered_choice : Needs → ℕ → ℕ → ℕ → ℕ → ℕ → Option Choice
+numbered_choice needs delay max_lead group packets number =
+    let sufficient = sufficient_lead needs group packets delay in
+    let lead = numbered_lead needs sufficient max_lead number in
+    if nat_le lead (min sufficient max_lead) then choice_of needs group packets delay lead else None
 
 -- ---- the best
 
@@ -69,32 +70,32 @@ best (suc n) f = better (best n f) (f n)
 
 -- of one group, and of all
 abbrev pub group_choice : Needs → ℕ → ℕ → ℕ → ℕ → Option Choice
-group_choice needs wait most_lead group packets = best leads (tried needs wait most_lead group packets)
+group_choice needs delay max_lead group packets = best leads (numbered_choice needs delay max_lead group packets)
 
 abbrev pub choice : Needs → List ℕ → ℕ → ℕ → Option Choice
-choice needs most wait most_lead = best (length most) (λ i. group_choice needs wait most_lead (i + 1) (slice_index most i))
+choice needs max_packets delay max_lead = best (length max_packets) (λ i. group_choice needs delay max_lead (i + 1) (slice_index max_packets i))
 
 -- ---- what holds of it
 
 -- it is in range, its packets are those of its group, its share is what its lead asks for and no less than the least of
 -- any group, and its buffers hold
-pub record IsChoice (needs : Needs) (most : List ℕ) (wait most_lead : ℕ) (c : Choice) : Type 0 where
+pub record IsChoice (needs : Needs) (max_packets : List ℕ) (delay max_lead : ℕ) (c : Choice) : Type 0 where
   pub some_units : 1 ≤ c.group
-  pub most_units : c.group ≤ length most
-  pub packets : c.group_packets ≡ slice_index most (c.group - 1)
+  pub most_units : c.group ≤ length max_packets
+  pub packets : c.group_packets ≡ slice_index max_packets (c.group - 1)
   pub some_lead : 1 ≤ c.lead
-  pub greatest_lead : c.lead ≤ most_lead
-  pub share : lead_share needs c.group c.group_packets wait c.lead ≡ Some c.share
-  pub no_less : least_share needs most ≤ c.share
-  pub drained : c.share * slot_units ≤ needs.rx * parts
+  pub greatest_lead : c.lead ≤ max_lead
+  pub share : lead_share needs c.group c.group_packets delay c.lead ≡ Some c.share
+  pub no_less : least_share needs max_packets ≤ c.share
+  pub drained : c.share * slot_units_at_1bps ≤ needs.rx * parts
   pub held : waiting_bytes needs c.group c.group_packets c.lead c.share ≤ needs.main
 
 -- nothing that is tried is better
 abbrev pub IsBest : Needs → List ℕ → ℕ → ℕ → Choice → Type 0
-IsBest needs most wait most_lead c = (i number : ℕ) → i < length most → number < leads →
-    IfSome (tried needs wait most_lead (i + 1) (slice_index most i) number) (λ d. rank c ≤ rank d)
+IsBest needs max_packets delay max_lead c = (i number : ℕ) → i < length max_packets → number < leads →
+    IfSome (numbered_choice needs delay max_lead (i + 1) (slice_index max_packets i) number) (λ d. rank c ≤ rank d)
 
 -- nothing that is tried can be kept
 abbrev pub IsRefused : Needs → List ℕ → ℕ → ℕ → Type 0
-IsRefused needs most wait most_lead = (i number : ℕ) → i < length most → number < leads →
-    tried needs wait most_lead (i + 1) (slice_index most i) number ≡ None
+IsRefused needs max_packets delay max_lead = (i number : ℕ) → i < length max_packets → number < leads →
+    numbered_choice needs delay max_lead (i + 1) (slice_index max_packets i) number ≡ None

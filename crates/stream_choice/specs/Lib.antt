@@ -3,4 +3,4 @@ pub mod Shares
 pub mod Leads
 pub mod Choices
 pub mod Rates
-pub mod Serving
+pub mod ShareLaws

@@ -1,4 +1,4 @@
--- The numbers with which a choice can begin.
+-- The ranges of the numbers that a choice is made from.
 use Rattle.std.specs.Prelude.{ℕ, ◌^◌, ◌≤◌, ◌&&◌, nat_le, Bool, List, length, All}
 use Rattle.std.specs.List.{list_all}
 use Rattle.stream_choice.specs.declared.needs.Needs.{Needs}
@@ -14,7 +14,7 @@ pub record IsNeeds (needs : Needs) : Type 0 where
   pub some_main : 1 ≤ needs.main
   pub most_main : needs.main ≤ 10000000
 
--- so many units in a row, and the most packets that they have together
+-- a number of units in a row, and the most packets that they have together
 pub record IsGroup (group packets : ℕ) : Type 0 where
   pub some_units : 1 ≤ group
   pub most_units : group ≤ 64
@@ -22,19 +22,19 @@ pub record IsGroup (group packets : ℕ) : Type 0 where
   pub most_packets : packets ≤ 2 ^ 21
 
 -- the most packets of 1, 2, .. units in a row
-pub record IsMost (most : List ℕ) : Type 0 where
-  pub some_groups : 1 ≤ length most
-  pub most_groups : length most ≤ 64
-  pub some_packets : All (λ packets. 1 ≤ packets) most
-  pub most_packets : All (λ packets. packets ≤ 2 ^ 21) most
+pub record AreMaxPackets (max_packets : List ℕ) : Type 0 where
+  pub some_groups : 1 ≤ length max_packets
+  pub most_groups : length max_packets ≤ 64
+  pub some_packets : All (λ packets. 1 ≤ packets) max_packets
+  pub most_packets : All (λ packets. packets ≤ 2 ^ 21) max_packets
 
 -- the same as functions
 unfoldable pub is_within : ℕ → ℕ → ℕ → Bool
-is_within least most n = nat_le least n && nat_le n most
+is_within low high n = nat_le low n && nat_le n high
 
 unfoldable pub is_needs : Needs → Bool
 is_needs needs =
     is_within 1 90000 needs.interval && is_within 1 4000000 needs.size && is_within 64000 200000000 needs.rx && is_within 1 10000000 needs.main
 
-unfoldable pub is_most : List ℕ → Bool
-is_most most = is_within 1 64 (length most) && list_all (is_within 1 (2 ^ 21)) most
+unfoldable pub are_max_packets : List ℕ → Bool
+are_max_packets max_packets = is_within 1 64 (length max_packets) && list_all (is_within 1 (2 ^ 21)) max_packets

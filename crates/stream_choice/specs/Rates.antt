@@ -1,19 +1,20 @@
 -- The rate of an output that has slots enough for its items.
-use Rattle.std.specs.Prelude.{◌≡◌, ℕ, ◌+◌, ◌*◌, ◌/◌, ◌<◌, ◌≤◌, ◌&&◌, nat_le, nat_lt, Bool, true, false, if◌then◌else◌, List, sum_by}
+use Rattle.std.specs.Prelude.{ℕ, ◌+◌, ◌*◌, ◌/◌, ◌&&◌, nat_le, nat_lt, Bool, if◌then◌else◌, List, sum_by}
 use Rattle.std.specs.Int.{div_ceil}
-use Rattle.clock27.specs.Release.{slot_units}
-use Rattle.clock27.specs.Units.{slot_milliseconds}
+use Rattle.clock27.specs.Units.{slot_units_at_1bps, slot_ms_at_1bps}
+use Rattle.clock27.specs.LeastRate.{IsLeastRate as IsLeast, HasNoRate}
+use Rattle.clock27.specs.declared.rate.TheConstants.{LEAST_RATE}
 use Rattle.stream_choice.specs.declared.recurring.Recurring.{Recurring}
-use Rattle.stream_choice.specs.Shares.{parts}
+use Rattle.unit_timing.specs.Shares.{parts}
 
 -- the slots of a stream of that share, in parts of all slots, rounded up
 abbrev pub stream_part : ℕ → ℕ → ℕ
-stream_part rate share = div_ceil (share * slot_units) rate
+stream_part rate share = div_ceil (share * slot_units_at_1bps) rate
 
--- those of what recurs, so many slots in each whole slots of its limit; more than all where they don't fit in
+-- those of what recurs: its slots in each whole number of slots of its limit; more than all where they don't fit in
 abbrev pub recurring_part : ℕ → Recurring → ℕ
 recurring_part rate r =
-    let gap = r.limit * rate / slot_milliseconds in
+    let gap = r.limit * rate / slot_ms_at_1bps in
     if nat_lt 0 gap && nat_le r.slots gap then div_ceil (parts * r.slots) gap else parts + 1
 
 -- those of all items
@@ -24,20 +25,10 @@ all_parts shares recurring rate = sum_by (stream_part rate) shares + sum_by (rec
 abbrev pub has_slots : List ℕ → List Recurring → ℕ → Bool
 has_slots shares recurring rate = nat_le (all_parts shares recurring rate) parts
 
--- the rates that an output can have, in bits a second
-abbrev pub lowest_rate : ℕ
-lowest_rate = 100000
+-- the least rate that has
+abbrev pub IsLeastRate : List ℕ → List Recurring → ℕ → Type 0
+IsLeastRate shares recurring rate = IsLeast (has_slots shares recurring) LEAST_RATE rate
 
-abbrev pub highest_rate : ℕ
-highest_rate = 100000000
-
--- the least of them that has
-pub record IsLeastRate (shares : List ℕ) (recurring : List Recurring) (rate : ℕ) : Type 0 where
-  pub low : lowest_rate ≤ rate
-  pub high : rate ≤ highest_rate
-  pub enough : has_slots shares recurring rate ≡ true
-  pub least : (r : ℕ) → lowest_rate ≤ r → r < rate → has_slots shares recurring r ≡ false
-
--- none has
+-- no rate has
 abbrev pub IsTooMuch : List ℕ → List Recurring → Type 0
-IsTooMuch shares recurring = (r : ℕ) → lowest_rate ≤ r → r ≤ highest_rate → has_slots shares recurring r ≡ false
+IsTooMuch shares recurring = HasNoRate (has_slots shares recurring) LEAST_RATE

@@ -1,6 +1,6 @@
 //! What is chosen.
 
-ghost use Rattle.std.specs.Prelude.{◌≡◌, ◌≤◌, ◌<◌, ◌^◌};
+ghost use Rattle.std.specs.Prelude.{◌≡◌, ◌<◌};
 ghost use Rattle.stream_choice.specs.Choices as spec;
 
 /// A group, a lead, and the share of an output that they ask for.
@@ -8,7 +8,7 @@ ghost use Rattle.stream_choice.specs.Choices as spec;
 pub struct Choice {
     /// The units of a group.
     pub group: u8,
-    /// The most packets of so many units in a row.
+    /// The most packets of a group.
     pub group_packets: u32,
     /// How long before its DTS a unit may be sent, in units of 90 kHz.
     pub lead: u32,
@@ -16,7 +16,7 @@ pub struct Choice {
     pub share: u64,
 }
 
-/// Where a choice stands among others: the better, the lower.
+/// The rank of a choice among others: the better, the lower.
 fn rank(choice: Choice) -> u128
     ensures { result ≡ spec.rank choice }
 {

@@ -1,10 +1,10 @@
 //! What a share is for.
 
-ghost use Rattle.stream_choice.specs.Serving.{ShareLaw};
+ghost use Rattle.stream_choice.specs.ShareLaws.{ShareLaw};
 
-/// Own slots of a stream's share serve it: where they are no fewer than the share asks for, stray from even spacing by at
-/// most one of their distances and two slots, and keep the transport buffer, groups of units have slots enough, and units in
-/// a row have left the transport buffer by their decoding times.
+/// Own slots of a stream's share serve it: where they are no fewer than the share asks for, stray from even spacing by
+/// at most one of their distances and two slots, and keep the transport buffer, groups of units have slots enough, and
+/// units in a row have left the transport buffer by their decoding times.
 pub fn shares_serve()
     ensures { ShareLaw }
 {}

@@ -18,22 +18,22 @@ pub struct Needs {
 }
 
 /// The packets of the greatest unit.
-pub fn pieces(needs: Needs) -> u64
+pub fn packets_of_unit(needs: Needs) -> u64
     requires ranges { IsNeeds needs }
-    ensures value { result ≡ spec.pieces needs }
-    ensures few { result ≤ 21740 }
+    ensures value { result ≡ spec.packets_of_unit needs }
+    ensures upper { result ≤ 21740 }
 {
     (19 + u64::from(needs.size) + 183) / 184
 }
 
-/// The most packets of so many units in a row, at most those of a group.
-pub fn in_row(needs: Needs, packets: u32, units: u64) -> u64
+/// The most packets of `units` units in a row, at most those of a group.
+pub fn packets_in_row(needs: Needs, packets: u32, units: u64) -> u64
     requires ranges { IsNeeds needs }
     requires units { units ≤ 64 }
-    ensures value { result ≡ spec.in_row needs packets units }
-    ensures few { result ≤ packets }
+    ensures value { result ≡ spec.packets_in_row needs packets units }
+    ensures upper { result ≤ packets }
 {
-    let all = units * pieces(needs);
+    let all = units * packets_of_unit(needs);
     let packets = u64::from(packets);
     if packets < all { packets } else { all }
 }

@@ -1,4 +1,4 @@
-//! Whether numbers are such that a choice can begin with them.
+//! Whether numbers are in the ranges that a choice asks for.
 
 ghost use Rattle.std.specs.Prelude.{◌≡◌, ◌↔◌, ◌≤◌, ◌^◌, IsTrue, All};
 ghost use Rattle.std.specs.List.{list_all};
@@ -7,14 +7,14 @@ ghost use Rattle.stream_choice.specs.Ranges as spec;
 use crate::needs::Needs;
 
 /// The most packets of a group that can be declared.
-const MOST_PACKETS: u32 = 1 << 21;
+const MAX_PACKETS: u32 = 1 << 21;
 
 // Whether a number is in a range.
 #[tactic(auto, unfolding(crate::specs::Ranges::is_within))]
-fn is_within(least: u32, most: u32, n: u32) -> bool
-    ensures { result ≡ spec.is_within least most n }
+fn is_within(low: u32, high: u32, n: u32) -> bool
+    ensures { result ≡ spec.is_within low high n }
 {
-    least <= n && n <= most
+    low <= n && n <= high
 }
 
 impl Needs {
@@ -33,20 +33,22 @@ impl Needs {
 
 // Whether each number of packets can be declared.
 #[tactic(auto, unfolding(crate::specs::Ranges::is_within))]
-fn are_packets(most: &[u32]) -> bool
-    ensures ranges { IsTrue result ↔ (All (λ packets. 1 ≤ packets) most.now × All (λ packets. packets ≤ 2 ^ 21) most.now) }
-    ensures value { result ≡ list_all (spec.is_within 1 (2 ^ 21)) most.now }
+fn are_packets(max_packets: &[u32]) -> bool
+    ensures ranges { IsTrue result
+        ↔ (All (λ packets. 1 ≤ packets) max_packets.now × All (λ packets. packets ≤ 2 ^ 21) max_packets.now) }
+    ensures value { result ≡ list_all (spec.is_within 1 (2 ^ 21)) max_packets.now }
 {
-    most.iter()
-        .all(|packets| is_within(1, MOST_PACKETS, *packets))
+    max_packets
+        .iter()
+        .all(|packets| is_within(1, MAX_PACKETS, *packets))
 }
 
 /// Whether there are 1 to 64 numbers of packets, each 1 to 2^21.
-#[tactic(auto, unfolding(crate::specs::Ranges::is_within, crate::specs::Ranges::is_most))]
-pub fn are_most(most: &[u32]) -> bool
-    ensures ranges { IsTrue result ↔ spec.IsMost most.now }
-    ensures value { result ≡ spec.is_most most.now }
+#[tactic(auto, unfolding(crate::specs::Ranges::is_within, crate::specs::Ranges::are_max_packets))]
+pub fn are_max_packets(max_packets: &[u32]) -> bool
+    ensures ranges { IsTrue result ↔ spec.AreMaxPackets max_packets.now }
+    ensures value { result ≡ spec.are_max_packets max_packets.now }
 {
-    let all = are_packets(most);
-    !most.is_empty() && most.len() <= 64 && all
+    let all = are_packets(max_packets);
+    !max_packets.is_empty() && max_packets.len() <= 64 && all
 }

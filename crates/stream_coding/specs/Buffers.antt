@@ -56,15 +56,15 @@ hevc_limits level =
     else (12_000, 12_000))))))))))))
 
 -- at most what a description can declare
-unfoldable pub declarable : ℕ → ℕ → Buffers
-declarable rx bits = record { rx = min rx 200_000_000; main = min (bits / 8) 10_000_000 }
+unfoldable pub capped : ℕ → ℕ → Buffers
+capped rx bits = record { rx = min rx 200_000_000; main = min (bits / 8) 10_000_000 }
 
 -- of a rate and of a buffer in bits, the rate at least 2,000,000
-abbrev pub of_limits : ℕ → ℕ → Buffers
-of_limits rate bits = declarable (max rate 2_000_000) (bits + mux_bits (max rate 2_000_000))
+abbrev pub level_buffers : ℕ → ℕ → Buffers
+level_buffers rate bits = capped (max rate 2_000_000) (bits + mux_bits (max rate 2_000_000))
 
 abbrev pub mpeg_buffers : ℕ × ℕ → Buffers
-mpeg_buffers limits = declarable (limits.0 * 12 / 10) (limits.1 + mux_bits limits.0)
+mpeg_buffers limits = capped (limits.0 * 12 / 10) (limits.1 + mux_bits limits.0)
 
 -- by the number of channels
 unfoldable pub aac_buffers : ℕ → Buffers
@@ -76,8 +76,8 @@ aac_buffers channels =
 
 unfoldable pub buffers_of : Coding → Buffers
 buffers_of (Mpeg level) = mpeg_buffers (mpeg_limits level)
-buffers_of (Avc level) = of_limits (1_200 * (avc_limits level).0) (1_200 * (avc_limits level).1)
-buffers_of (Hevc level) = of_limits (1_100 * (hevc_limits level).0) (1_100 * (hevc_limits level).1)
+buffers_of (Avc level) = level_buffers (1_200 * (avc_limits level).0) (1_200 * (avc_limits level).1)
+buffers_of (Hevc level) = level_buffers (1_100 * (hevc_limits level).0) (1_100 * (hevc_limits level).1)
 buffers_of Audio = record { rx = 2_000_000; main = 3_584 }
 buffers_of (Aac channels) = aac_buffers channels
 buffers_of Ac3 = record { rx = 2_000_000; main = 5_696 }

@@ -24,12 +24,12 @@ is_ac3 stream_type descriptors =
 
 -- 2. Codings
 
-abbrev pub found_or_0 : Field → List ℕ → ℕ
-found_or_0 field unit = unwrap_or (found_in field unit) 0
+abbrev pub field_or_zero : Field → List ℕ → ℕ
+field_or_zero field unit = unwrap_or (found_in field unit) 0
 
 -- by descriptors: AC-3, or the subtitling and teletext descriptors of EN 300 468, table 12
-unfoldable pub described : ℕ → List ℕ → Coding
-described stream_type descriptors =
+unfoldable pub coding_by_descriptors : ℕ → List ℕ → Coding
+coding_by_descriptors stream_type descriptors =
     if is_ac3 stream_type descriptors then Ac3
     else (if has_tag 0x59 descriptors then Subtitles
     else (if has_tag 0x56 descriptors then Teletext
@@ -38,9 +38,9 @@ described stream_type descriptors =
 -- by stream_type (ISO/IEC 13818-1, table 2-34), and where it names none of these codings by descriptors
 unfoldable pub coding_of : ℕ → List ℕ → List ℕ → Coding
 coding_of stream_type descriptors unit =
-    if stream_type == 0x01 || stream_type == 0x02 then Mpeg (found_or_0 MpegLevel unit)
-    else (if stream_type == 0x1B then Avc (found_or_0 AvcLevel unit)
-    else (if stream_type == 0x24 then Hevc (found_or_0 HevcLevel unit)
-    else (if stream_type == 0x0F then Aac (found_or_0 AdtsChannels unit)
+    if stream_type == 0x01 || stream_type == 0x02 then Mpeg (field_or_zero MpegLevel unit)
+    else (if stream_type == 0x1B then Avc (field_or_zero AvcLevel unit)
+    else (if stream_type == 0x24 then Hevc (field_or_zero HevcLevel unit)
+    else (if stream_type == 0x0F then Aac (field_or_zero AdtsChannels unit)
     else (if stream_type == 0x03 || stream_type == 0x04 || stream_type == 0x11 || stream_type == 0x1C then Audio
-    else described stream_type descriptors))))
+    else coding_by_descriptors stream_type descriptors))))

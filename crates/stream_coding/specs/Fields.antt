@@ -6,11 +6,11 @@ use Rattle.std.specs.Str.{bytes_eq}
 use Rattle.stream_coding.specs.declared.fields.Field.{Field}
 use Rattle.stream_coding.specs.declared.fields.Field.TheVariants.{MpegLevel, AvcLevel, HevcLevel, AdtsChannels}
 
--- 1. What stands at the front of bytes
+-- 1. What is at the front of bytes
 
 -- the bytes after a start code prefix, 00 00 01 (ISO/IEC 13818-2, 5.2.3; ISO/IEC 14496-10, annex B)
-unfoldable pub after_start : List ℕ → Option (List ℕ)
-after_start bytes = if bytes_eq (take 3 bytes) (0 ∷ 0 ∷ 1 ∷ []) then Some (drop 3 bytes) else None
+unfoldable pub after_start_code : List ℕ → Option (List ℕ)
+after_start_code bytes = if bytes_eq (take 3 bytes) (0 ∷ 0 ∷ 1 ∷ []) then Some (drop 3 bytes) else None
 
 -- of a sequence extension (ISO/IEC 13818-2, 6.2.2.3): the start code's value 0xB5, the identifier 0001 in 4 bits,
 -- profile_and_level_indication in 8 bits, of which the first is the escape, 0 where the last four are a level (8.1)
@@ -25,38 +25,38 @@ avc_level (header ∷ profile ∷ constraints ∷ level ∷ rest) = if header % 
 avc_level _ = None
 
 -- the bytes of a NAL unit without its emulation prevention bytes, each the 3 of a 00 00 03 (ISO/IEC 23008-2, 7.3.1.1)
-unfoldable pub without_prevention : List ℕ → List ℕ
-without_prevention [] = []
-without_prevention (a ∷ []) = a ∷ []
-without_prevention (a ∷ b ∷ []) = a ∷ b ∷ []
-without_prevention (a ∷ b ∷ c ∷ rest) =
-    if bytes_eq (a ∷ b ∷ c ∷ []) (0 ∷ 0 ∷ 3 ∷ []) then a ∷ b ∷ without_prevention rest else a ∷ without_prevention (b ∷ c ∷ rest)
+unfoldable pub rbsp_bytes : List ℕ → List ℕ
+rbsp_bytes [] = []
+rbsp_bytes (a ∷ []) = a ∷ []
+rbsp_bytes (a ∷ b ∷ []) = a ∷ b ∷ []
+rbsp_bytes (a ∷ b ∷ c ∷ rest) =
+    if bytes_eq (a ∷ b ∷ c ∷ []) (0 ∷ 0 ∷ 3 ∷ []) then a ∷ b ∷ rbsp_bytes rest else a ∷ rbsp_bytes (b ∷ c ∷ rest)
 
 -- of a sequence parameter set of layer 0 (ISO/IEC 23008-2, 7.3.1.2, 7.3.2.2.1 and 7.3.3): two bytes of header with nal_unit_type
 -- 33 and nuh_layer_id 0; then, without emulation prevention, a byte of sps_video_parameter_set_id, sps_max_sub_layers_minus1
 -- and sps_temporal_id_nesting_flag, a byte of general_profile_space, general_tier_flag and general_profile_idc, 4 bytes of
 -- compatibility flags, 6 bytes of constraint flags, and general_level_idc
 unfoldable pub hevc_level : List ℕ → Option ℕ
-hevc_level (first ∷ second ∷ rest) = if first == 0x42 && nat_lt second 8 then slice_get (without_prevention rest) 12 else None
+hevc_level (first ∷ second ∷ rest) = if first == 0x42 && nat_lt second 8 then slice_get (rbsp_bytes rest) 12 else None
 hevc_level _ = None
 
 -- the channels of a channel_configuration (ISO/IEC 13818-7, table 42)
-unfoldable pub channels_of : ℕ → ℕ
-channels_of configuration = if configuration == 7 then 8 else configuration
+unfoldable pub channel_count : ℕ → ℕ
+channel_count configuration = if configuration == 7 then 8 else configuration
 
 -- of an ADTS header (ISO/IEC 13818-7, 6.2): the syncword, twelve ones, ID, layer 00, protection_absent; 2 bits of profile, 4 of
 -- sampling_frequency_index, private_bit, and channel_configuration in 3 bits
 unfoldable pub adts_channels : List ℕ → Option ℕ
-adts_channels (a ∷ b ∷ c ∷ d ∷ rest) = if a == 0xFF && b / 16 == 15 && b / 2 % 4 == 0 then Some (channels_of (c % 2 * 4 + d / 64)) else None
+adts_channels (a ∷ b ∷ c ∷ d ∷ rest) = if a == 0xFF && b / 16 == 15 && b / 2 % 4 == 0 then Some (channel_count (c % 2 * 4 + d / 64)) else None
 adts_channels _ = None
 
 -- 2. What is found in a unit
 
--- a field, where what it stands in begins with the first of these bytes
+-- a field, where the structure that has it begins with the first of these bytes
 unfoldable pub field_at_front : Field → List ℕ → Option ℕ
-field_at_front MpegLevel bytes = option_and_then mpeg_level (after_start bytes)
-field_at_front AvcLevel bytes = option_and_then avc_level (after_start bytes)
-field_at_front HevcLevel bytes = option_and_then hevc_level (after_start bytes)
+field_at_front MpegLevel bytes = option_and_then mpeg_level (after_start_code bytes)
+field_at_front AvcLevel bytes = option_and_then avc_level (after_start_code bytes)
+field_at_front HevcLevel bytes = option_and_then hevc_level (after_start_code bytes)
 field_at_front AdtsChannels bytes = adts_channels bytes
 
 -- at the first place at which there is one

@@ -6,7 +6,7 @@ ghost use Rattle.stream_coding.specs.Buffers as spec;
 use crate::coding::Coding;
 
 /// The rate out of the transport buffer in bits a second, and the main buffer in bytes.
-#[derive(Clone, Copy, Debug, PartialEq, Eq)]
+#[derive(Clone, Copy)]
 pub struct Buffers {
     pub rx: u32,
     pub main: u32,
@@ -89,9 +89,9 @@ fn mux_bits(rate: u32) -> u32
 }
 
 // At most what a description can declare.
-#[tactic(auto, unfolding(crate::specs::Buffers::declarable))]
-fn declarable(rx: u32, bits: u32) -> Buffers
-    ensures { result ≡ spec.declarable rx bits }
+#[tactic(auto, unfolding(crate::specs::Buffers::capped))]
+fn capped(rx: u32, bits: u32) -> Buffers
+    ensures { result ≡ spec.capped rx bits }
 {
     Buffers {
         rx: rx.min(200_000_000),
@@ -99,14 +99,14 @@ fn declarable(rx: u32, bits: u32) -> Buffers
     }
 }
 
-// Of a rate and of a buffer in bits.
-fn of_limits(rate: u32, bits: u32) -> Buffers
+// By a level's rate and its buffer in bits.
+fn level_buffers(rate: u32, bits: u32) -> Buffers
     requires rate { rate ≤ 300000000 }
     requires bits { bits ≤ 300000000 }
-    ensures { result ≡ spec.of_limits rate bits }
+    ensures { result ≡ spec.level_buffers rate bits }
 {
     let rate = if rate < 2_000_000 { 2_000_000 } else { rate };
-    declarable(rate, bits + mux_bits(rate))
+    capped(rate, bits + mux_bits(rate))
 }
 
 fn mpeg_buffers(limits: (u32, u32)) -> Buffers
@@ -115,7 +115,7 @@ fn mpeg_buffers(limits: (u32, u32)) -> Buffers
     ensures { result ≡ spec.mpeg_buffers limits }
 {
     let (rate, bits) = limits;
-    declarable(rate * 12 / 10, bits + mux_bits(rate))
+    capped(rate * 12 / 10, bits + mux_bits(rate))
 }
 
 // By the number of channels.
@@ -151,11 +151,11 @@ pub fn buffers_of(coding: Coding) -> Buffers
         Coding::Mpeg(level) => mpeg_buffers(mpeg_limits(level)),
         Coding::Avc(level) => {
             let (rate, size) = avc_limits(level);
-            of_limits(1_200 * rate, 1_200 * size)
+            level_buffers(1_200 * rate, 1_200 * size)
         }
         Coding::Hevc(level) => {
             let (rate, size) = hevc_limits(level);
-            of_limits(1_100 * rate, 1_100 * size)
+            level_buffers(1_100 * rate, 1_100 * size)
         }
         Coding::Audio => fixed(2_000_000, 3_584),
         Coding::Aac(channels) => aac_buffers(channels),

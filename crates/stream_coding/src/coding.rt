@@ -12,9 +12,9 @@ const SUBTITLES: u8 = 0x59;
 
 const TELETEXT: u8 = 0x56;
 
-/// How a stream is coded, as far as its buffers go. A level is the byte that stands in the coded stream: the low four bits of
-/// profile_and_level_indication, level_idc, or general_level_idc; for one that no table has, or 0, the one in most use is
-/// taken (main level, 4, 4).
+/// How a stream is coded, as far as its buffers depend on it. A level is the byte in the coded stream: the low four
+/// bits of profile_and_level_indication, level_idc, or general_level_idc; for one that no table has, or 0, the one in
+/// most use is taken (main level, 4, 4).
 #[derive(Clone, Copy, PartialEq, Eq)]
 pub enum Coding {
     /// ISO/IEC 11172-2 and 13818-2 video, of a level.
@@ -25,7 +25,7 @@ pub enum Coding {
     Hevc(u8),
     /// ISO/IEC 11172-3 and 13818-3 audio, and any other audio.
     Audio,
-    /// ISO/IEC 13818-7 audio of so many channels.
+    /// ISO/IEC 13818-7 audio with this number of channels.
     Aac(u8),
     /// AC-3 and Enhanced AC-3 audio.
     Ac3,
@@ -37,17 +37,17 @@ pub enum Coding {
     Other,
 }
 
-// What stands in a unit, 0 where it is not found.
-fn found_or_0(field: Field, unit: &[u8]) -> u8
-    ensures { result ≡ spec.found_or_0 field unit.now }
+// A field of a unit, 0 where it is not found.
+fn field_or_zero(field: Field, unit: &[u8]) -> u8
+    ensures { result ≡ spec.field_or_zero field unit.now }
 {
     found_in(field, unit).unwrap_or(0)
 }
 
 // By the descriptors of a stream whose stream_type leaves its coding open.
-#[tactic(auto, unfolding(crate::specs::Codings::described))]
-fn described(stream_type: u8, descriptors: &[u8]) -> Coding
-    ensures { result ≡ spec.described stream_type descriptors.now }
+#[tactic(auto, unfolding(crate::specs::Codings::coding_by_descriptors))]
+fn coding_by_descriptors(stream_type: u8, descriptors: &[u8]) -> Coding
+    ensures { result ≡ spec.coding_by_descriptors stream_type descriptors.now }
 {
     if is_ac3(stream_type, descriptors) {
         Coding::Ac3
@@ -60,19 +60,19 @@ fn described(stream_type: u8, descriptors: &[u8]) -> Coding
     }
 }
 
-/// How a stream is coded that a program map names with this stream_type (ISO/IEC 13818-1, table 2-34) and these bytes of
-/// descriptors; `unit` is its first access unit, in which the level or the number of channels is looked for: 0 where it
-/// is not found. A stream_type that names a coding goes before descriptors.
+/// How a stream is coded that a program map names with this stream_type (ISO/IEC 13818-1, table 2-34) and these bytes
+/// of descriptors; `unit` is its first access unit, in which the level or the number of channels is looked for: 0 where
+/// it is not found. A stream_type that names a coding goes before descriptors.
 #[tactic(auto, unfolding(crate::specs::Codings::coding_of))]
 pub fn coding_of(stream_type: u8, descriptors: &[u8], unit: &[u8]) -> Coding
     ensures { result ≡ spec.coding_of stream_type descriptors.now unit.now }
 {
     match stream_type {
-        0x01 | 0x02 => Coding::Mpeg(found_or_0(Field::MpegLevel, unit)),
-        0x1b => Coding::Avc(found_or_0(Field::AvcLevel, unit)),
-        0x24 => Coding::Hevc(found_or_0(Field::HevcLevel, unit)),
-        0x0f => Coding::Aac(found_or_0(Field::AdtsChannels, unit)),
+        0x01 | 0x02 => Coding::Mpeg(field_or_zero(Field::MpegLevel, unit)),
+        0x1b => Coding::Avc(field_or_zero(Field::AvcLevel, unit)),
+        0x24 => Coding::Hevc(field_or_zero(Field::HevcLevel, unit)),
+        0x0f => Coding::Aac(field_or_zero(Field::AdtsChannels, unit)),
         0x03 | 0x04 | 0x11 | 0x1c => Coding::Audio,
-        _ => described(stream_type, descriptors),
+        _ => coding_by_descriptors(stream_type, descriptors),
     }
 }

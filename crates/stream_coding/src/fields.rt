@@ -1,4 +1,4 @@
-//! Where a coded stream says its level, or how many channels it has.
+//! The level, or the number of channels, that a coded stream says.
 
 ghost use Rattle.std.specs.Prelude.{◌≡◌, option_map};
 ghost use Rattle.std.specs.List.{slice_get};
@@ -18,14 +18,14 @@ pub(crate) enum Field {
 }
 
 // The bytes after a start code prefix at the front.
-#[tactic(auto, unfolding(crate::specs::Fields::after_start))]
-fn after_start(bytes: &[u8]) -> Option<&[u8]>
-    ensures { option_map (λ rest. rest.now) result ≡ spec.after_start bytes.now }
+#[tactic(auto, unfolding(crate::specs::Fields::after_start_code))]
+fn after_start_code(bytes: &[u8]) -> Option<&[u8]>
+    ensures { option_map (λ rest. rest.now) result ≡ spec.after_start_code bytes.now }
 {
     bytes.strip_prefix(&[0, 0, 1])
 }
 
-// Of a sequence extension.
+// The level of a sequence extension.
 #[tactic(auto, unfolding(crate::specs::Fields::mpeg_level))]
 fn mpeg_level(bytes: &[u8]) -> Option<u8>
     ensures { result ≡ spec.mpeg_level bytes.now }
@@ -42,7 +42,7 @@ fn mpeg_level(bytes: &[u8]) -> Option<u8>
     }
 }
 
-// Of a sequence parameter set of ISO/IEC 14496-10.
+// The level of a sequence parameter set of ISO/IEC 14496-10.
 #[tactic(auto, unfolding(crate::specs::Fields::avc_level))]
 fn avc_level(bytes: &[u8]) -> Option<u8>
     ensures { result ≡ spec.avc_level bytes.now }
@@ -59,10 +59,10 @@ fn avc_level(bytes: &[u8]) -> Option<u8>
     }
 }
 
-// The byte of a NAL unit that has this number among those that prevent no emulation.
-#[tactic(auto, using(crate::proofs::Searching::byte_here, crate::proofs::Searching::byte_later, crate::proofs::Searching::byte_second, crate::proofs::Searching::byte_after, crate::proofs::Searching::byte_nowhere))]
-fn payload_byte(number: usize, bytes: &[u8]) -> Option<u8>
-    ensures { result ≡ slice_get (spec.without_prevention bytes.now) number }
+// The byte of this number in a NAL unit without its emulation prevention bytes.
+#[tactic(auto, using(crate::proofs::FieldSearch::byte_here, crate::proofs::FieldSearch::byte_later, crate::proofs::FieldSearch::byte_second, crate::proofs::FieldSearch::byte_after, crate::proofs::FieldSearch::byte_nowhere))]
+fn rbsp_byte(number: usize, bytes: &[u8]) -> Option<u8>
+    ensures { result ≡ slice_get (spec.rbsp_bytes bytes.now) number }
 {
     let mut left = bytes;
     let mut before = number;
@@ -85,7 +85,7 @@ fn payload_byte(number: usize, bytes: &[u8]) -> Option<u8>
     None
 }
 
-// Of a sequence parameter set of ISO/IEC 23008-2.
+// The level of a sequence parameter set of ISO/IEC 23008-2.
 #[tactic(auto, unfolding(crate::specs::Fields::hevc_level))]
 fn hevc_level(bytes: &[u8]) -> Option<u8>
     ensures { result ≡ spec.hevc_level bytes.now }
@@ -93,7 +93,7 @@ fn hevc_level(bytes: &[u8]) -> Option<u8>
     match bytes {
         [first, second, rest @ ..] => {
             if *first == 0x42 && *second < 8 {
-                payload_byte(12, rest)
+                rbsp_byte(12, rest)
             } else {
                 None
             }
@@ -103,14 +103,14 @@ fn hevc_level(bytes: &[u8]) -> Option<u8>
 }
 
 // The channels of a channel_configuration.
-#[tactic(auto, unfolding(crate::specs::Fields::channels_of))]
-fn channels_of(configuration: u8) -> u8
-    ensures { result ≡ spec.channels_of configuration }
+#[tactic(auto, unfolding(crate::specs::Fields::channel_count))]
+fn channel_count(configuration: u8) -> u8
+    ensures { result ≡ spec.channel_count configuration }
 {
     if configuration == 7 { 8 } else { configuration }
 }
 
-// Of an ADTS header.
+// The channels of an ADTS header.
 #[tactic(auto, unfolding(crate::specs::Fields::adts_channels))]
 fn adts_channels(bytes: &[u8]) -> Option<u8>
     ensures { result ≡ spec.adts_channels bytes.now }
@@ -118,7 +118,7 @@ fn adts_channels(bytes: &[u8]) -> Option<u8>
     match bytes {
         [a, b, c, d, ..] => {
             if *a == 0xff && *b / 16 == 15 && *b / 2 % 4 == 0 {
-                Some(channels_of(*c % 2 * 4 + *d / 64))
+                Some(channel_count(*c % 2 * 4 + *d / 64))
             } else {
                 None
             }
@@ -127,21 +127,21 @@ fn adts_channels(bytes: &[u8]) -> Option<u8>
     }
 }
 
-// A field, where what it stands in begins with the first of these bytes.
+// A field, where the structure that has it begins with the first of these bytes.
 #[tactic(auto, unfolding(crate::specs::Fields::field_at_front))]
 fn field_at_front(field: Field, bytes: &[u8]) -> Option<u8>
     ensures { result ≡ spec.field_at_front field bytes.now }
 {
     match field {
-        Field::MpegLevel => mpeg_level(after_start(bytes)?),
-        Field::AvcLevel => avc_level(after_start(bytes)?),
-        Field::HevcLevel => hevc_level(after_start(bytes)?),
+        Field::MpegLevel => mpeg_level(after_start_code(bytes)?),
+        Field::AvcLevel => avc_level(after_start_code(bytes)?),
+        Field::HevcLevel => hevc_level(after_start_code(bytes)?),
         Field::AdtsChannels => adts_channels(bytes),
     }
 }
 
-/// A field at the first place in a unit at which it stands.
-#[tactic(auto, using(crate::proofs::Searching::found_here, crate::proofs::Searching::found_later, crate::proofs::Searching::found_nowhere))]
+/// A field at the first place in a unit that has it.
+#[tactic(auto, using(crate::proofs::FieldSearch::found_here, crate::proofs::FieldSearch::found_later, crate::proofs::FieldSearch::found_nowhere))]
 pub(crate) fn found_in(field: Field, unit: &[u8]) -> Option<u8>
     ensures { result ≡ spec.found_in field unit.now }
 {

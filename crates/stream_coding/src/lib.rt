@@ -1,7 +1,7 @@
 //! How an elementary stream is coded, and the buffers that a decoder has for it.
 //!
-//! The coding is that of its entry in the program map (`specs/Codings`) with the level or the number of channels that its
-//! first access unit says (`specs/Fields`); the buffers are those of the standards (`specs/Buffers`).
+//! The coding is that of its entry in the program map (`specs/Codings`) with the level or the number of channels that
+//! its first access unit says (`specs/Fields`); the buffers are those of the standards (`specs/Buffers`).
 #![tactic(auto)]
 
 mod ac3;

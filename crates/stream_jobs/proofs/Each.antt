@@ -1,98 +1,52 @@
--- What comes of each element of a list, and of one more.
+-- The results of a function on each element of a list.
 use Rattle.std.proofs.Common.{◌≡◌, ◌∙◌, ◌++◌, refl, sym, ap, List, [], ◌∷◌, length, zip, Result, Ok, Err}
 use Rattle.std.proofs.lemmas.List.{append_assoc, append-nil}
-use Rattle.stream_jobs.specs.declared.refusal.Refusal.{Refusal}
+use Rattle.stream_jobs.specs.declared.refusal.JobRefusal.{JobRefusal}
 use Rattle.stream_jobs.specs.declared.refusal.JobError.{JobError}
 use Rattle.stream_jobs.specs.declared.refusal.JobError.TheVariants.{Memory, Refused}
 use Rattle.stream_jobs.specs.Answers.{and_then, each, Refuses}
 
 -- what comes of the first and what comes of the others
-joined : {B : Type 0} → Result B Refusal → Result (List B) Refusal → Result (List B) Refusal
+joined : {B : Type 0} → Result B JobRefusal → Result (List B) JobRefusal → Result (List B) JobRefusal
 joined first others = and_then (λ y. and_then (λ ys. Ok (y ∷ ys)) others) first
 
 -- after what has come of some elements, that of more
-pub after : {B : Type 0} → List B → Result (List B) Refusal → Result (List B) Refusal
+pub after : {B : Type 0} → List B → Result (List B) JobRefusal → Result (List B) JobRefusal
 after ys more = and_then (λ zs. Ok (ys ++ zs)) more
 
-after_none : {B : Type 0} (more : Result (List B) Refusal) → more ≡ after [] more
+after_none : {B : Type 0} (more : Result (List B) JobRefusal) → more ≡ after [] more
 unfolding and_then after
 after_none (Ok zs) = refl
-after_none (Err why) = refl
+after_none (Err refusal) = refl
 
-after_one : {B : Type 0} (y : B) (ys : List B) (more : Result (List B) Refusal) → joined (Ok y) (after ys more) ≡ after (y ∷ ys) more
-unfolding and_then after joined
-after_one y ys (Ok zs) = refl
-after_one y ys (Err why) = refl
-
-after_more : {B : Type 0} (y : B) (ys : List B) (more : Result (List B) Refusal) → after ys (joined (Ok y) more) ≡ after (ys ++ y ∷ []) more
+after_more : {B : Type 0} (y : B) (ys : List B) (more : Result (List B) JobRefusal) → after ys (joined (Ok y) more) ≡ after (ys ++ y ∷ []) more
 unfolding and_then after joined
 after_more y ys (Ok zs) = ap Ok (sym (append_assoc ys (y ∷ []) zs))
-after_more y ys (Err why) = refl
+after_more y ys (Err refusal) = refl
 
--- the first of a list of which something comes, and what comes of the others
-record Begun (B : Type 0) (first : Result B Refusal) (others : Result (List B) Refusal) (ys : List B) : Type 0 where
-  head : B
-  tail : List B
-  first_is : first ≡ Ok head
-  others_are : others ≡ Ok tail
-  all_are : ys ≡ head ∷ tail
-
-begun : {B : Type 0} (first : Result B Refusal) (others : Result (List B) Refusal) (ys : List B) → joined first others ≡ Ok ys → Begun B first others ys
-unfolding and_then joined
-begun (Err why) others ys is = absurd cc
-begun (Ok y) (Err why) ys is = absurd cc
-begun (Ok y) (Ok zs) ys is = record { head = y; tail = zs; first_is = refl; others_are = refl; all_are = cc }
-
-each_cons : {A B : Type 0} (f : A → Result B Refusal) (x : A) (xs : List A) → each f (x ∷ xs) ≡ joined (f x) (each f xs)
+each_cons : {A B : Type 0} (f : A → Result B JobRefusal) (x : A) (xs : List A) → each f (x ∷ xs) ≡ joined (f x) (each f xs)
 unfolding each joined
 each_cons f x xs = refl
 
-each_none : {A B : Type 0} (f : A → Result B Refusal) (ys : List B) → each f [] ≡ Ok ys → ys ≡ []
-unfolding each
-each_none f ys is = cc
-
--- of two lists one after the other, where something comes of each element of the first
-pub each_after : {A B : Type 0} (f : A → Result B Refusal) (xs more : List A) (ys : List B) → each f xs ≡ Ok ys → each f (xs ++ more) ≡ after ys (each f more)
-each_after f [] more ys is = after_none (each f more) ∙ ap (λ (l : List _). after l (each f more)) (sym (each_none f ys is))
-each_after f (x ∷ xs) more ys is =
-    let b = begun (f x) (each f xs) ys (sym (each_cons f x xs) ∙ is) in
-    each_cons f x (xs ++ more)
-    ∙ ap (λ (r : Result _ Refusal). joined r (each f (xs ++ more))) b.first_is
-    ∙ ap (joined (Ok b.head)) (each_after f xs more b.tail b.others_are)
-    ∙ after_one b.head b.tail (each f more)
-    ∙ ap (λ (l : List _). after l (each f more)) (sym b.all_are)
-
--- one more
-pub each_more : {A B : Type 0} (f : A → Result B Refusal) (xs : List A) (x : A) (ys : List B) (y : B) →
-    each f xs ≡ Ok ys → f x ≡ Ok y → each f (xs ++ x ∷ []) ≡ Ok (ys ++ y ∷ [])
-unfolding and_then after each
-each_more f xs x ys y are is = each_after f xs (x ∷ []) ys are ∙ rw is refl
-
--- one of which nothing comes
-pub each_fails : {A B : Type 0} (f : A → Result B Refusal) (xs more : List A) (x : A) (ys : List B) (why : Refusal) →
-    each f xs ≡ Ok ys → f x ≡ Err why → each f (xs ++ x ∷ more) ≡ Err why
-unfolding and_then after each
-each_fails f xs more x ys why are is = each_after f xs (x ∷ more) ys are ∙ rw is refl
-
--- the same of a list that is taken from its front: before the first, at each, at one of which nothing comes, and at its end
-pub each_begins : {A B : Type 0} (f : A → Result B Refusal) (xs : List A) → each f xs ≡ after [] (each f xs)
+-- of a list that is taken from its front: before the first, at each, at one of which nothing comes, and at its end
+pub each_begins : {A B : Type 0} (f : A → Result B JobRefusal) (xs : List A) → each f xs ≡ after [] (each f xs)
 each_begins f xs = after_none (each f xs)
 
-pub each_goes_on : {A B : Type 0} (f : A → Result B Refusal) (x : A) (xs : List A) (ys : List B) (y : B) →
+pub each_goes_on : {A B : Type 0} (f : A → Result B JobRefusal) (x : A) (xs : List A) (ys : List B) (y : B) →
     f x ≡ Ok y → after ys (each f (x ∷ xs)) ≡ after (ys ++ y ∷ []) (each f xs)
-each_goes_on f x xs ys y is = ap (after ys) (each_cons f x xs ∙ ap (λ (r : Result _ Refusal). joined r (each f xs)) is) ∙ after_more y ys (each f xs)
+each_goes_on f x xs ys y is = ap (after ys) (each_cons f x xs ∙ ap (λ (r : Result _ JobRefusal). joined r (each f xs)) is) ∙ after_more y ys (each f xs)
 
-pub each_stops : {A B : Type 0} (f : A → Result B Refusal) (x : A) (xs : List A) (ys : List B) (why : Refusal) →
-    f x ≡ Err why → after ys (each f (x ∷ xs)) ≡ Err why
+pub each_stops : {A B : Type 0} (f : A → Result B JobRefusal) (x : A) (xs : List A) (ys : List B) (refusal : JobRefusal) →
+    f x ≡ Err refusal → after ys (each f (x ∷ xs)) ≡ Err refusal
 unfolding and_then after each
-each_stops f x xs ys why is = rw is refl
+each_stops f x xs ys refusal is = rw is refl
 
-pub each_ends : {A B : Type 0} (f : A → Result B Refusal) (ys : List B) → after ys (each f []) ≡ Ok ys
+pub each_ends : {A B : Type 0} (f : A → Result B JobRefusal) (ys : List B) → after ys (each f []) ≡ Ok ys
 unfolding and_then after each
 each_ends f ys = ap Ok (append-nil ys)
 
 -- the same along a loop over what is left of all
-pub each_step : {A B : Type 0} (f : A → Result B Refusal) (all left later : List A) (x : A) (ys zs : List B) (y : B) →
+pub each_step : {A B : Type 0} (f : A → Result B JobRefusal) (all left later : List A) (x : A) (ys zs : List B) (y : B) →
     each f all ≡ after ys (each f left) → left ≡ x ∷ later → f x ≡ Ok y → zs ≡ ys ++ y ∷ [] → each f all ≡ after zs (each f later)
 each_step f all left later x ys zs y so_far first is more =
     so_far
@@ -100,19 +54,19 @@ each_step f all left later x ys zs y so_far first is more =
     ∙ each_goes_on f x later ys y is
     ∙ ap (λ (l : List _). after l (each f later)) (sym more)
 
-pub each_done : {A B : Type 0} (f : A → Result B Refusal) (all left : List A) (ys : List B) →
+pub each_done : {A B : Type 0} (f : A → Result B JobRefusal) (all left : List A) (ys : List B) →
     each f all ≡ after ys (each f left) → length left ≡ 0 → each f all ≡ Ok ys
 each_done f all [] ys so_far none = so_far ∙ each_ends f ys
 each_done f all (x ∷ left) ys so_far none = absurd cc
 
-pub each_refused : {A B : Type 0} (f : A → Result B Refusal) (all left later : List A) (x : A) (ys : List B) (error : JobError) →
+pub each_refused : {A B : Type 0} (f : A → Result B JobRefusal) (all left later : List A) (x : A) (ys : List B) (error : JobError) →
     each f all ≡ after ys (each f left) → left ≡ x ∷ later → Refuses (f x) error → Refuses (each f all) error
 unfolding Refuses
 each_refused f all left later x ys Memory so_far first is = tt
-each_refused f all left later x ys (Refused why) so_far first is =
-    so_far ∙ ap (λ (l : List _). after ys (each f l)) first ∙ each_stops f x later ys why is
+each_refused f all left later x ys (Refused refusal) so_far first is =
+    so_far ∙ ap (λ (l : List _). after ys (each f l)) first ∙ each_stops f x later ys refusal is
 
-pub each_start : {A B : Type 0} (f : A → Result B Refusal) (all left : List A) (ys : List B) → left ≡ all → ys ≡ [] → each f all ≡ after ys (each f left)
+pub each_start : {A B : Type 0} (f : A → Result B JobRefusal) (all left : List A) (ys : List B) → left ≡ all → ys ≡ [] → each f all ≡ after ys (each f left)
 each_start f all left ys whole none =
     ap (each f) (sym whole) ∙ each_begins f left ∙ ap (λ (l : List _). after l (each f left)) (sym none)
 

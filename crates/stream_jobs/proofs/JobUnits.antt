@@ -1,5 +1,5 @@
 -- The units of a job are those of its streams.
-use Rattle.std.proofs.Common.{◌≡◌, ◌≤◌, ◌<◌, ℕ, Bool, Some, List, [], All, length, map, slice_get, get_or, ap, subst, ◌∙◌, arith}
+use Rattle.std.proofs.Common.{◌≡◌, ◌<◌, ℕ, Bool, Some, List, [], All, length, map, slice_get, get_or, ap, subst, ◌∙◌, arith}
 use Rattle.std.specs.Prelude.{option_map}
 use Rattle.std.proofs.lemmas.List.{length-map}
 use Rattle.std.proofs.lemmas.Option.{slice_get_within, slice_get-get_or, slice_get-map}
@@ -8,16 +8,16 @@ use Rattle.pes_packet.specs.Units.{units_of}
 use Rattle.demux.specs.Views.{FindingView}
 use Rattle.description.specs.Described.{Described, DescribedStream}
 use Rattle.unit_order.specs.Merging.{AreMerged}
-use Rattle.stream_jobs.specs.Jobs.{AllAgree, AreUnits, IsFew, IsMoved, IsStream}
-use Rattle.stream_jobs.specs.Moments.{Timed}
+use Rattle.stream_jobs.specs.Jobs.{AllAgree, AreUnits, FitsQueue, IsMoved, IsStream}
+use Rattle.stream_jobs.specs.JobStreams.{TimedStreamView}
 
-none : Timed
+none : TimedStreamView
 none = record { program = 0; pid = 0; stream_type = 0; stream_id = 0; descriptors = []; units = [] }
 
-stream_of : (made : Bool) (findings : List FindingView) (d : Described) (streams : List Timed) (units : List (ℕ × AccessUnit)) →
-    All (IsMoved made findings) streams → All IsFew streams → AllAgree d streams → AreMerged (map (λ t. t.units) streams) units →
+stream_of : (made : Bool) (findings : List FindingView) (d : Described) (streams : List TimedStreamView) (units : List (ℕ × AccessUnit)) →
+    All (IsMoved made findings) streams → All FitsQueue streams → AllAgree d streams → AreMerged (map (λ t. t.units) streams) units →
     (k : ℕ) (s : DescribedStream) → slice_get d.streams k ≡ Some s → IsStream made findings d s (units_of k units)
-stream_of made findings d streams units moved few agree merged k s at =
+stream_of made findings d streams units moved fits agree merged k s at =
     let lt : k < length streams = omega (arith, slice_get_within d.streams k s at, agree.same) in
     let t = get_or streams k none in
     let here : slice_get streams k ≡ Some t = slice_get-get_or streams k none lt in
@@ -26,16 +26,12 @@ stream_of made findings d streams units moved few agree merged k s at =
     record {
       found = rw (same, one.pid) (moved k none lt);
       declares = rw same one.declares;
-      few = rw same (few k none lt);
+      fits = rw same (fits k none lt);
     }
 
-pub job_units : (made : Bool) (findings : List FindingView) (d : Described) (streams : List Timed) (units : List (ℕ × AccessUnit)) →
-    All (IsMoved made findings) streams → All IsFew streams → AllAgree d streams → AreMerged (map (λ t. t.units) streams) units → AreUnits made findings d units
-job_units made findings d streams units moved few agree merged = record {
-  streams = stream_of made findings d streams units moved few agree merged;
+pub job_units : (made : Bool) (findings : List FindingView) (d : Described) (streams : List TimedStreamView) (units : List (ℕ × AccessUnit)) →
+    All (IsMoved made findings) streams → All FitsQueue streams → AllAgree d streams → AreMerged (map (λ t. t.units) streams) units → AreUnits made findings d units
+job_units made findings d streams units moved fits agree merged = record {
+  streams = stream_of made findings d streams units moved fits agree merged;
   numbered = subst (λ n. All (λ e. e.0 < n) units) (length-map streams (λ t. t.units) ∙ agree.same) merged.numbered;
 }
-
-pub few_queues : {Q : Type 0} (items : Q → List AccessUnit) (queues : List Q) (streams : List Timed) → map items queues ≡ map (λ t. t.units) streams → length streams ≤ 32 → length queues ≤ 256
-few_queues items queues streams same least =
-    omega (arith, ap length same, length-map queues items, length-map streams (λ t. t.units), least)

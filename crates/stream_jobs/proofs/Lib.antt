@@ -1,8 +1,8 @@
-mod InTurn
+mod Agreement
 mod Elements
 mod JobUnits
-mod Answering
-mod Placing
+mod AndThen
+mod JobInputs
 mod Each
 mod CarriedStreams
-mod Trying
+mod TriedRates

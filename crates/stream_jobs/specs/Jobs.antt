@@ -4,53 +4,52 @@ use Rattle.pes_packet.specs.AccessUnits.{AccessUnit}
 use Rattle.pes_packet.specs.Units.{units_of}
 use Rattle.demux.specs.Views.{FindingView}
 use Rattle.description.specs.Described.{Described, DescribedStream}
-use Rattle.plan_maker.specs.Reasons.{reasons_of}
-use Rattle.plan_maker.specs.declared.reasoning.Reason.{Reason}
-use Rattle.stream_units.specs.Declaration.{least_interval, greatest_size, group_packets}
+use Rattle.plan_search.specs.Reasons.{reasons_of}
+use Rattle.plan_search.specs.declared.reason.Reason.{Reason}
+use Rattle.stream_units.specs.Declaration.{min_interval, max_unit_size, group_packets}
 use Rattle.unit_order.specs.Merging.{AreMerged}
-use Rattle.stream_jobs.specs.Materials.{MaterialView}
-use Rattle.stream_jobs.specs.Moments.{Timed}
-use Rattle.stream_jobs.specs.Moving.{AreFound, Declares, source_of}
+use Rattle.stream_jobs.specs.JobInput.{JobInputView}
+use Rattle.stream_jobs.specs.FoundUnits.{AreFound, Declares, source_of}
 use Rattle.stream_jobs.specs.Rates.{IsAskedOrFirst, IsRate, IsServed}
 pub use Rattle.stream_jobs.specs.Rates.{IsText}
 use Rattle.stream_jobs.specs.Texts.{description_text}
-use Rattle.stream_jobs.specs.Wire.{WireView}
-use Rattle.stream_jobs.specs.Wished.{WishesView}
+use Rattle.stream_jobs.specs.JobOptions.{JobOptionsView}
+use Rattle.stream_jobs.specs.JobStreams.{TimedStreamView, WireStreamView}
 
 -- 1. Streams
 
 -- its units are those that are found of its PID
-abbrev pub IsCarried : Bool → List FindingView → WireView → Type 0
+abbrev pub IsCarried : Bool → List FindingView → WireStreamView → Type 0
 IsCarried made findings s = s.units ≡ source_of made s.pid findings
 
 -- at moments by one constant
-abbrev pub IsMoved : Bool → List FindingView → Timed → Type 0
+abbrev pub IsMoved : Bool → List FindingView → TimedStreamView → Type 0
 IsMoved made findings t = AreFound made findings t.pid t.units
 
--- as many as a multiplexer may hold
-abbrev pub IsFew : Timed → Type 0
-IsFew t = length t.units ≤ 1_048_576
+-- a queue of a multiplexer may hold them
+abbrev pub FitsQueue : TimedStreamView → Type 0
+FitsQueue t = length t.units ≤ 1_048_576
 
-pub record AreStreams (made : Bool) (findings : List FindingView) (m : MaterialView) : Type 0 where
-  pub moved : All (IsMoved made findings) m.streams
-  pub few : All IsFew m.streams
-  pub least : length m.streams ≤ 32
+pub record AreStreams (made : Bool) (findings : List FindingView) (input : JobInputView) : Type 0 where
+  pub moved : All (IsMoved made findings) input.streams
+  pub fits : All FitsQueue input.streams
+  pub stream_count : length input.streams ≤ 32
 
 -- 2. What a description declares of them
 
 -- a stream of a description has these units, and what it declares of them is what they need
-pub record Agrees (d : Described) (s : DescribedStream) (t : Timed) : Type 0 where
+pub record Agrees (d : Described) (s : DescribedStream) (t : TimedStreamView) : Type 0 where
   pub pid : s.pid ≡ t.pid
   pub declares : Declares d s t.units
 
 -- streams and units, one after another
-unfoldable pub AgreeInTurn : Described → List DescribedStream → List Timed → Type 0
+unfoldable pub AgreeInTurn : Described → List DescribedStream → List TimedStreamView → Type 0
 AgreeInTurn d (s ∷ ss) (t ∷ ts) = Agrees d s t × AgreeInTurn d ss ts
 AgreeInTurn d _ _ = ⊤
 
-pub record AllAgree (d : Described) (streams : List Timed) : Type 0 where
+pub record AllAgree (d : Described) (streams : List TimedStreamView) : Type 0 where
   pub same : length streams ≡ length d.streams
-  pub each : (k : ℕ) (s : DescribedStream) (t : Timed) → slice_get d.streams k ≡ Some s → slice_get streams k ≡ Some t → Agrees d s t
+  pub each : (k : ℕ) (s : DescribedStream) (t : TimedStreamView) → slice_get d.streams k ≡ Some s → slice_get streams k ≡ Some t → Agrees d s t
 
 -- the first unit is due no earlier than a moment
 unfoldable pub first_due : ℕ → List AccessUnit → Bool
@@ -60,17 +59,17 @@ first_due from (u ∷ us) = nat_le from u.dts
 -- the same as a test
 unfoldable pub keeps : Described → DescribedStream → List AccessUnit → Bool
 keeps d s us =
-    nat_le s.interval (least_interval us)
-    && (nat_le (greatest_size us) s.size
+    nat_le s.interval (min_interval us)
+    && (nat_le (max_unit_size us) s.size
     && (first_due s.lead us
     && (nat_le s.group 64 && nat_le (group_packets s.stream_id d.base0 s.group us) s.group_packets)))
 
--- the PID of the first stream that is not the declared one in its place, and 0 where there are not as many
-unfoldable pub first_disagreeing : Described → List DescribedStream → List Timed → Option ℕ
+-- the PID of the first stream that is not the declared one in its place, and 0 if there are not as many
+unfoldable pub first_disagreeing : Described → List DescribedStream → List TimedStreamView → Option ℕ
 first_disagreeing d (s ∷ ss) (t ∷ ts) = if s.pid == t.pid && keeps d s t.units then first_disagreeing d ss ts else Some t.pid
 first_disagreeing d _ _ = None
 
-unfoldable pub disagreeing : Described → List Timed → Option ℕ
+unfoldable pub disagreeing : Described → List TimedStreamView → Option ℕ
 disagreeing d streams = if length d.streams == length streams then first_disagreeing d d.streams streams else Some 0
 
 -- 3. Units
@@ -80,7 +79,7 @@ disagreeing d streams = if length d.streams == length streams then first_disagre
 pub record IsStream (made : Bool) (findings : List FindingView) (d : Described) (s : DescribedStream) (us : List AccessUnit) : Type 0 where
   pub found : AreFound made findings s.pid us
   pub declares : Declares d s us
-  pub few : length us ≤ 1_048_576
+  pub fits : length us ≤ 1_048_576
 
 pub record AreUnits (made : Bool) (findings : List FindingView) (d : Described) (units : List (ℕ × AccessUnit)) : Type 0 where
   pub streams : (k : ℕ) (s : DescribedStream) → slice_get d.streams k ≡ Some s → IsStream made findings d s (units_of k units)
@@ -89,24 +88,24 @@ pub record AreUnits (made : Bool) (findings : List FindingView) (d : Described) 
 -- 4. A job
 
 -- the description of these streams: at the rate that is asked for, else at one of those that are tried, which a plan serves
-pub record IsDescription (w : WishesView) (findings : List FindingView) (m : MaterialView) (text : List ℕ) : Type 0 where
+pub record IsDescription (options : JobOptionsView) (findings : List FindingView) (input : JobInputView) (text : List ℕ) : Type 0 where
   pub rate : ℕ
-  pub rate_is : IsRate w.rate w findings m rate
-  pub served : w.rate ≡ None → IsServed w findings m rate
-  pub text_is : text ≡ description_text w findings m rate
+  pub rate_is : IsRate options.rate options findings input rate
+  pub served : options.rate ≡ None → IsServed options findings input rate
+  pub text_is : text ≡ description_text options findings input rate
 
 -- with what it is read as, and the units of all streams by their DTS
-pub record IsJob (w : WishesView) (findings : List FindingView) (m : MaterialView) (d : Described) (text : List ℕ) (units : List (ℕ × AccessUnit)) : Type 0 where
-  pub described : IsDescription w findings m text
+pub record IsJob (options : JobOptionsView) (findings : List FindingView) (input : JobInputView) (d : Described) (text : List ℕ) (units : List (ℕ × AccessUnit)) : Type 0 where
+  pub described : IsDescription options findings input text
   pub read : IsText d text
-  pub merged : AreMerged (map (λ s. s.units) m.streams) units
+  pub merged : AreMerged (map (λ s. s.units) input.streams) units
 
--- 5. Why no plan serves a description
+-- 5. The reasons why no plan serves a description
 
 -- at the rate that is asked for, else at the least at which all have slots
-pub record AreReasons (w : WishesView) (findings : List FindingView) (m : MaterialView) (reasons : List Reason) : Type 0 where
+pub record AreReasons (options : JobOptionsView) (findings : List FindingView) (input : JobInputView) (reasons : List Reason) : Type 0 where
   pub rate : ℕ
-  pub rate_is : IsAskedOrFirst w.rate w findings m rate
+  pub rate_is : IsAskedOrFirst options.rate options findings input rate
   pub description : Described
-  pub read : IsText description (description_text w findings m rate)
+  pub read : IsText description (description_text options findings input rate)
   pub are : reasons ≡ reasons_of description

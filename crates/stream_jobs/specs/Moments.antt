@@ -3,42 +3,33 @@ use Rattle.std.specs.Prelude.{ℕ, ◌+◌, ◌%◌, ◌^◌, ◌==◌, nat_lt, 
 use Rattle.std.specs.List.{list_any}
 use Rattle.pes_packet.specs.AccessUnits.{AccessUnit}
 use Rattle.demux.specs.Views.{FindingView}
-use Rattle.stream_units.specs.Carried.{CarriedUnit, carried_units}
+use Rattle.stream_units.specs.CarriedUnits.{CarriedUnit, carried_units}
 use Rattle.stream_units.specs.Stamps.{constant_of, first_fault, moved}
 use Rattle.stream_units.specs.declared.stamps.StampFault.{StampFault}
-use Rattle.stream_jobs.specs.declared.moving.First.{First}
-use Rattle.stream_jobs.specs.declared.refusal.Refusal.{Refusal}
-use Rattle.stream_jobs.specs.declared.refusal.Refusal.TheVariants as why
+use Rattle.stream_jobs.specs.declared.moved_streams.FirstDts.{FirstDts}
+use Rattle.stream_jobs.specs.declared.refusal.JobRefusal.{JobRefusal}
+use Rattle.stream_jobs.specs.declared.refusal.JobRefusal.TheVariants as refusals
 use Rattle.stream_jobs.specs.Answers.{unless, each}
 use Rattle.stream_jobs.specs.JobPrograms.{JobProgramView}
-use Rattle.stream_jobs.specs.Wire.{WireView}
-
--- a stream whose units have their moments
-pub record Timed : Type 0 where
-  pub program : ℕ
-  pub pid : ℕ
-  pub stream_type : ℕ
-  pub stream_id : ℕ
-  pub descriptors : List ℕ
-  pub units : List AccessUnit
+use Rattle.stream_jobs.specs.JobStreams.{TimedStreamView, WireStreamView}
 
 -- 1. When the first unit of a program is due
 
 -- the bytes of a stream in the program map section of its program (ISO/IEC 13818-1, 2.4.4.8): 5 and its descriptors
-unfoldable pub entry_size : ℕ → WireView → ℕ
+unfoldable pub entry_size : ℕ → WireStreamView → ℕ
 entry_size number s = if s.program == number then 5 + length s.descriptors else 0
 
 -- those of the section: 16, the program's descriptors, and its streams
-unfoldable pub map_size : List WireView → JobProgramView → ℕ
+unfoldable pub map_size : List WireStreamView → JobProgramView → ℕ
 map_size streams p = 16 + length p.descriptors + sum_by (entry_size p.number) streams
 
 -- it has more than one packet
-unfoldable pub is_long_map : List WireView → JobProgramView → Bool
+unfoldable pub is_long_map : List WireStreamView → JobProgramView → Bool
 is_long_map streams p = nat_lt 183 (map_size streams p)
 
 -- 2 seconds after the first slot, and half a second more where a map has more than one packet, in units of 90 kHz: a unit may
 -- be sent a second before it is due, and before that each table that it needs has come
-unfoldable pub earliest : List JobProgramView → List WireView → ℕ
+unfoldable pub earliest : List JobProgramView → List WireStreamView → ℕ
 earliest programs streams = if list_any (is_long_map streams) programs then 225_000 else 180_000
 
 -- 2. What the clock of a program shows at moment 0
@@ -48,33 +39,33 @@ first_dts [] = 0
 first_dts (u ∷ us) = u.unit.dts
 
 -- the first DTS of each stream, beside its program
-unfoldable pub first_of : WireView → First
-first_of s = record { program = s.program; dts = first_dts s.units }
+unfoldable pub first_dts_of : WireStreamView → FirstDts
+first_dts_of s = record { program = s.program; dts = first_dts s.units }
 
-abbrev pub firsts : List WireView → List First
-firsts streams = map first_of streams
+abbrev pub firsts : List WireStreamView → List FirstDts
+firsts streams = map first_dts_of streams
 
 -- those of a program
-unfoldable pub is_of : ℕ → First → Bool
-is_of number f = f.program == number
+unfoldable pub is_in_program : ℕ → FirstDts → Bool
+is_in_program number f = f.program == number
 
-abbrev pub stamps_of : ℕ → List First → List ℕ
-stamps_of number all = map (λ f. f.dts) (filter (is_of number) all)
+abbrev pub stamps_of : ℕ → List FirstDts → List ℕ
+stamps_of number all = map (λ f. f.dts) (filter (is_in_program number) all)
 
 unfoldable pub base_for : ℕ → List ℕ → ℕ
 base_for due [] = 0
 base_for due (first ∷ more) = constant_of due (first % 2 ^ 33) (first ∷ more)
 
 -- the first of its units is due at a moment
-unfoldable pub base_of : ℕ → List First → ℕ → ℕ
+unfoldable pub base_of : ℕ → List FirstDts → ℕ → ℕ
 base_of due all number = base_for due (stamps_of number all)
 
 -- that of the first stream's program
-unfoldable pub base_of_first : ℕ → List First → ℕ
+unfoldable pub base_of_first : ℕ → List FirstDts → ℕ
 base_of_first due [] = 0
 base_of_first due (f ∷ fs) = base_of due (f ∷ fs) f.program
 
-unfoldable pub first_base : ℕ → List WireView → ℕ
+unfoldable pub first_base : ℕ → List WireStreamView → ℕ
 first_base due streams = base_of_first due (firsts streams)
 
 -- 3. Moments
@@ -83,13 +74,13 @@ first_base due streams = base_of_first due (firsts streams)
 unfoldable pub packet_of : List FindingView → ℕ → ℕ → ℕ
 packet_of findings pid index = unwrap_or (option_map (λ u. u.packet) (slice_get (carried_units pid findings) index)) 0
 
-unfoldable pub stamps_fault : List FindingView → ℕ → ℕ × StampFault → Refusal
-stamps_fault findings pid fault = why.Stamps (packet_of findings pid fault.0) pid fault.1
+unfoldable pub stamps_refusal : List FindingView → ℕ → ℕ × StampFault → JobRefusal
+stamps_refusal findings pid fault = refusals.Stamps (packet_of findings pid fault.0) pid fault.1
 
-abbrev pub wire_of : WireView → List AccessUnit
+abbrev pub wire_of : WireStreamView → List AccessUnit
 wire_of s = map (λ u. u.unit) s.units
 
-unfoldable pub with_moments : ℕ → WireView → Timed
+unfoldable pub with_moments : ℕ → WireStreamView → TimedStreamView
 with_moments base s = record {
   program = s.program;
   pid = s.pid;
@@ -100,13 +91,13 @@ with_moments base s = record {
 }
 
 -- a stream with its units at moments by a constant
-unfoldable pub moved_stream : List FindingView → ℕ → WireView → Result Timed Refusal
+unfoldable pub moved_stream : List FindingView → ℕ → WireStreamView → Result TimedStreamView JobRefusal
 moved_stream findings base s =
-    unless (option_map (stamps_fault findings s.pid) (first_fault base None 0 (wire_of s))) (Ok (with_moments base s))
+    unless (option_map (stamps_refusal findings s.pid) (first_fault base None 0 (wire_of s))) (Ok (with_moments base s))
 
 -- those of a program have one constant
-unfoldable pub moved_by : List FindingView → ℕ → List First → WireView → Result Timed Refusal
+unfoldable pub moved_by : List FindingView → ℕ → List FirstDts → WireStreamView → Result TimedStreamView JobRefusal
 moved_by findings due all s = moved_stream findings (base_of due all s.program) s
 
-unfoldable pub moved_streams : List FindingView → ℕ → List WireView → Result (List Timed) Refusal
+unfoldable pub moved_streams : List FindingView → ℕ → List WireStreamView → Result (List TimedStreamView) JobRefusal
 moved_streams findings due streams = each (moved_by findings due (firsts streams)) streams

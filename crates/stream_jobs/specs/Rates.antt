@@ -4,17 +4,16 @@ use Rattle.std.specs.List.{range_with_len}
 use Rattle.demux.specs.Views.{FindingView}
 use Rattle.description.specs.Described.{Described, DescribedProgram}
 use Rattle.description.specs.Reading.{description_of}
-use Rattle.description.specs.Tables.{round_places, table_count, table_limit}
-use Rattle.plan_maker.specs.PlainPlan.{plain_plan, serves}
+use Rattle.description.specs.Tables.{round_packets, table_count, table_limit}
+use Rattle.plan_search.specs.PlainPlan.{plain_plan, serves}
 use Rattle.slot_plan.specs.Conditions.{IsServing}
 use Rattle.slot_plan.specs.Planned.{Planned}
 use Rattle.stream_choice.specs.Rates.{IsLeastRate, IsTooMuch}
-use Rattle.stream_choice.specs.declared.choice.Choice.{Choice}
 use Rattle.stream_choice.specs.declared.recurring.Recurring.{Recurring}
 use Rattle.toml.specs.Parse.{parse_document}
-use Rattle.stream_jobs.specs.Materials.{MaterialView}
+use Rattle.stream_jobs.specs.JobInput.{JobInputView}
 use Rattle.stream_jobs.specs.Texts.{description_text}
-use Rattle.stream_jobs.specs.Wished.{WishesView}
+use Rattle.stream_jobs.specs.JobOptions.{JobOptionsView}
 
 -- the text of a description is read as it
 abbrev pub IsText : Described → List ℕ → Type 0
@@ -23,7 +22,7 @@ IsText d text = Ok d ≡ description_of (parse_document text)
 -- 1. What recurs: the sections of tables, and the clock references of programs, one packet each
 
 unfoldable pub table_recurs : Described → ℕ → Recurring
-table_recurs d t = record { slots = min (round_places d t) (2 ^ 32 - 1); limit = table_limit d t }
+table_recurs d t = record { slots = min (round_packets d t) (2 ^ 32 - 1); limit = table_limit d t }
 
 unfoldable pub clock_recurs : DescribedProgram → Recurring
 clock_recurs p = record { slots = 1; limit = p.pcr_limit }
@@ -38,31 +37,31 @@ recurring_of d = map (table_recurs d) (range_with_len 0 (table_count d)) ++ map 
 abbrev pub greatest_rate : ℕ
 greatest_rate = 100_000_000
 
-abbrev pub shares : MaterialView → List ℕ
-shares m = map (λ c. c.share) m.choices
+abbrev pub shares : JobInputView → List ℕ
+shares input = map (λ c. c.share) input.choices
 
-pub record IsFirstRate (w : WishesView) (findings : List FindingView) (m : MaterialView) (rate : ℕ) : Type 0 where
+pub record IsFirstRate (options : JobOptionsView) (findings : List FindingView) (input : JobInputView) (rate : ℕ) : Type 0 where
   pub description : Described
-  pub read : IsText description (description_text w findings m greatest_rate)
-  pub least : IsLeastRate (shares m) (recurring_of description) rate
+  pub read : IsText description (description_text options findings input greatest_rate)
+  pub least : IsLeastRate (shares input) (recurring_of description) rate
 
 -- the rate that is asked for, else that one
-abbrev pub IsAskedOrFirst : Option ℕ → WishesView → List FindingView → MaterialView → ℕ → Type 0
-IsAskedOrFirst (Some asked) w findings m rate = rate ≡ asked
-IsAskedOrFirst None w findings m rate = IsFirstRate w findings m rate
+abbrev pub IsAskedOrFirst : Option ℕ → JobOptionsView → List FindingView → JobInputView → ℕ → Type 0
+IsAskedOrFirst (Some asked) options findings input rate = rate ≡ asked
+IsAskedOrFirst None options findings input rate = IsFirstRate options findings input rate
 
 -- there is none
-pub record HasNoRate (w : WishesView) (findings : List FindingView) (m : MaterialView) : Type 0 where
+pub record HasNoFirstRate (options : JobOptionsView) (findings : List FindingView) (input : JobInputView) : Type 0 where
   pub description : Described
-  pub read : IsText description (description_text w findings m greatest_rate)
-  pub too_much : IsTooMuch (shares m) (recurring_of description)
+  pub read : IsText description (description_text options findings input greatest_rate)
+  pub too_much : IsTooMuch (shares input) (recurring_of description)
 
 -- 3. The rates from there on, by small steps at first
 
 unfoldable pub next_rate : ℕ → ℕ → ℕ
 next_rate tried rate = rate + (if nat_lt tried 32 then rate / 256 else rate / 16)
 
--- so many at most, and none over the greatest
+-- this number of rates at most, and none over the greatest
 unfoldable pub rates_from : ℕ → ℕ → ℕ → List ℕ
 rates_from zero tried rate = []
 rates_from (suc more) tried rate = if nat_le rate greatest_rate then rate ∷ rates_from more (tried + 1) (next_rate tried rate) else []
@@ -73,46 +72,46 @@ tried_rates first = rates_from 96 0 first
 -- 4. A rate with a plan
 
 -- the text at a rate, with what it is read as
-pub record IsPlanned (w : WishesView) (findings : List FindingView) (m : MaterialView) (rate : ℕ) (d : Described) (text : List ℕ) : Type 0 where
-  pub text_is : text ≡ description_text w findings m rate
+pub record IsPlanned (options : JobOptionsView) (findings : List FindingView) (input : JobInputView) (rate : ℕ) (d : Described) (text : List ℕ) : Type 0 where
+  pub text_is : text ≡ description_text options findings input rate
   pub read : IsText d text
 
 -- a plan serves the description at a rate
-pub record IsServed (w : WishesView) (findings : List FindingView) (m : MaterialView) (rate : ℕ) : Type 0 where
+pub record IsServed (options : JobOptionsView) (findings : List FindingView) (input : JobInputView) (rate : ℕ) : Type 0 where
   pub description : Described
   pub plan : Planned
-  pub read : IsText description (description_text w findings m rate)
+  pub read : IsText description (description_text options findings input rate)
   pub serving : IsServing description plan
 
 -- not even the plain plan does
-pub record IsUnserved (w : WishesView) (findings : List FindingView) (m : MaterialView) (rate : ℕ) : Type 0 where
+pub record IsUnserved (options : JobOptionsView) (findings : List FindingView) (input : JobInputView) (rate : ℕ) : Type 0 where
   pub description : Described
-  pub read : IsText description (description_text w findings m rate)
+  pub read : IsText description (description_text options findings input rate)
   pub fails : serves description (plain_plan description) ≡ false
 
 -- one of the rates from a first one on is tried only after those before it, none of which is served
-pub record IsTriedFrom (w : WishesView) (findings : List FindingView) (m : MaterialView) (first rate : ℕ) : Type 0 where
+pub record IsTriedFrom (options : JobOptionsView) (findings : List FindingView) (input : JobInputView) (first rate : ℕ) : Type 0 where
   pub before : List ℕ
   pub after : List ℕ
   pub among : tried_rates first ≡ before ++ rate ∷ after
-  pub none_before : All (IsUnserved w findings m) before
+  pub none_before : All (IsUnserved options findings input) before
 
-pub record IsTried (w : WishesView) (findings : List FindingView) (m : MaterialView) (rate : ℕ) : Type 0 where
+pub record IsTried (options : JobOptionsView) (findings : List FindingView) (input : JobInputView) (rate : ℕ) : Type 0 where
   pub first : ℕ
-  pub is_first : IsFirstRate w findings m first
-  pub tried : IsTriedFrom w findings m first rate
+  pub is_first : IsFirstRate options findings input first
+  pub tried : IsTriedFrom options findings input first rate
 
 -- the rate that is asked for, else one that is tried
-abbrev pub IsRate : Option ℕ → WishesView → List FindingView → MaterialView → ℕ → Type 0
-IsRate (Some asked) w findings m rate = rate ≡ asked
-IsRate None w findings m rate = IsTried w findings m rate
+abbrev pub IsRate : Option ℕ → JobOptionsView → List FindingView → JobInputView → ℕ → Type 0
+IsRate (Some asked) options findings input rate = rate ≡ asked
+IsRate None options findings input rate = IsTried options findings input rate
 
 -- nor at one of those that are tried, of which this is the first
-pub record AreUnserved (w : WishesView) (findings : List FindingView) (m : MaterialView) (first : ℕ) : Type 0 where
-  pub is_first : IsFirstRate w findings m first
-  pub none : All (IsUnserved w findings m) (tried_rates first)
+pub record AreUnserved (options : JobOptionsView) (findings : List FindingView) (input : JobInputView) (first : ℕ) : Type 0 where
+  pub is_first : IsFirstRate options findings input first
+  pub none : All (IsUnserved options findings input) (tried_rates first)
 
 -- no plan is found: at the rate that is asked for; else at the first and those after it; or no rate has slots for all
-abbrev pub HasNoPlan : Option ℕ → WishesView → List FindingView → MaterialView → ℕ → Type 0
-HasNoPlan (Some asked) w findings m rate = (rate ≡ asked) × IsUnserved w findings m rate
-HasNoPlan None w findings m rate = AreUnserved w findings m rate ⊎ ((rate ≡ greatest_rate) × HasNoRate w findings m)
+abbrev pub HasNoPlan : Option ℕ → JobOptionsView → List FindingView → JobInputView → ℕ → Type 0
+HasNoPlan (Some asked) options findings input rate = (rate ≡ asked) × IsUnserved options findings input rate
+HasNoPlan None options findings input rate = AreUnserved options findings input rate ⊎ ((rate ≡ greatest_rate) × HasNoFirstRate options findings input)

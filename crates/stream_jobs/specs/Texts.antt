@@ -1,18 +1,18 @@
 -- The description of a job as text.
-use Rattle.std.specs.Prelude.{ℕ, ◌-◌, ◌^◌, min, Bool, false, List, [], ◌∷◌, ◌++◌, map, flat_map, zip, is_some, unwrap_or, Option, Some, None}
+use Rattle.std.specs.Prelude.{ℕ, ◌-◌, ◌^◌, min, Bool, false, List, [], ◌++◌, flat_map, zip, is_some, unwrap_or, Option, Some, None}
 use Rattle.std.specs.List.{list_any}
 use Rattle.demux.specs.Views.{FindingView}
-use Rattle.job_text.specs.Entries.{HeadingView, ProgramEntryView, StreamEntryView}
+use Rattle.job_text.specs.DescriptionParts.{HeadingView, ProgramPartView, StreamPartView}
 use Rattle.job_text.specs.Texts.{heading_text, program_text, stream_text}
 use Rattle.stream_choice.specs.declared.choice.Choice.{Choice}
 use Rattle.stream_programs.specs.Networks.{network}
-use Rattle.stream_programs.specs.Services.{ServiceTexts, service}
-use Rattle.stream_programs.specs.Texts.{readable}
-use Rattle.stream_jobs.specs.Declaring.{CountedView}
+use Rattle.stream_programs.specs.Services.{FoundServiceView, service}
+use Rattle.stream_programs.specs.Texts.{decode_text}
+use Rattle.stream_jobs.specs.Declarations.{UnitCountsView}
 use Rattle.stream_jobs.specs.JobPrograms.{JobProgramView}
-use Rattle.stream_jobs.specs.Materials.{MaterialView}
-use Rattle.stream_jobs.specs.Moments.{Timed}
-use Rattle.stream_jobs.specs.Wished.{WishesView}
+use Rattle.stream_jobs.specs.JobInput.{JobInputView}
+use Rattle.stream_jobs.specs.JobOptions.{JobOptionsView}
+use Rattle.stream_jobs.specs.JobStreams.{TimedStreamView}
 
 -- 1. The head
 
@@ -21,26 +21,26 @@ unfoldable pub has_services : List FindingView → List JobProgramView → Bool
 has_services findings programs = list_any (λ p. is_some (service p.number findings)) programs
 
 -- at a rate in bits a second, a number of 32 bits; without a service description original_network_id is one for private use (ETSI TS 101 162)
-unfoldable pub heading_of : WishesView → List FindingView → MaterialView → ℕ → HeadingView
-heading_of w findings m rate = record {
+unfoldable pub heading_of : JobOptionsView → List FindingView → JobInputView → ℕ → HeadingView
+heading_of options findings input rate = record {
   rate = min rate (2 ^ 32 - 1);
-  start = w.start;
-  base0 = m.base0;
-  transport_stream_id = m.transport_stream_id;
+  start = options.start;
+  base0 = input.base0;
+  transport_stream_id = input.transport_stream_id;
   original_network_id = unwrap_or (network findings) 0xFF01;
-  sdt = has_services findings m.programs;
+  sdt = has_services findings input.programs;
   tdt = false;
 }
 
 -- 2. Programs, each with its service
 
--- the texts with at most 100 bytes each; where there is no service a digital television service without a name (EN 300 468,
+-- the texts with at most 100 bytes each; without a service, a digital television service without a name (EN 300 468,
 -- table 87)
-unfoldable pub named_service : Option ServiceTexts → ServiceTexts
-named_service (Some s) = record { service_type = s.service_type; provider = readable 100 s.provider; name = readable 100 s.name }
+unfoldable pub named_service : Option FoundServiceView → FoundServiceView
+named_service (Some s) = record { service_type = s.service_type; provider = decode_text 100 s.provider; name = decode_text 100 s.name }
 named_service None = record { service_type = 1; provider = []; name = [] }
 
-unfoldable pub program_with : ℕ → JobProgramView → ServiceTexts → ProgramEntryView
+unfoldable pub program_with : ℕ → JobProgramView → FoundServiceView → ProgramPartView
 program_with pcr_limit p s = record {
   number = p.number;
   pmt_pid = p.map_pid;
@@ -52,13 +52,13 @@ program_with pcr_limit p s = record {
   name = s.name;
 }
 
-unfoldable pub program_entry : WishesView → List FindingView → JobProgramView → ProgramEntryView
-program_entry w findings p = program_with w.pcr_limit p (named_service (service p.number findings))
+unfoldable pub program_part : JobOptionsView → List FindingView → JobProgramView → ProgramPartView
+program_part options findings p = program_with options.pcr_limit p (named_service (service p.number findings))
 
 -- 3. Streams
 
-unfoldable pub stream_entry : Timed × (CountedView × Choice) → StreamEntryView
-stream_entry s = record {
+unfoldable pub stream_part : TimedStreamView × (UnitCountsView × Choice) → StreamPartView
+stream_part s = record {
   program = s.0.program;
   pid = s.0.pid;
   stream_id = s.0.stream_id;
@@ -75,17 +75,17 @@ stream_entry s = record {
 
 -- 4. The whole
 
-abbrev pub program_lines : WishesView → List FindingView → JobProgramView → List ℕ
-program_lines w findings p = program_text (program_entry w findings p)
+abbrev pub program_lines : JobOptionsView → List FindingView → JobProgramView → List ℕ
+program_lines options findings p = program_text (program_part options findings p)
 
-abbrev pub programs_text : WishesView → List FindingView → List JobProgramView → List ℕ
-programs_text w findings programs = flat_map (program_lines w findings) programs
+abbrev pub programs_text : JobOptionsView → List FindingView → List JobProgramView → List ℕ
+programs_text options findings programs = flat_map (program_lines options findings) programs
 
-abbrev pub stream_lines : Timed × (CountedView × Choice) → List ℕ
-stream_lines s = stream_text (stream_entry s)
+abbrev pub stream_lines : TimedStreamView × (UnitCountsView × Choice) → List ℕ
+stream_lines s = stream_text (stream_part s)
 
-abbrev pub streams_text : List Timed → List CountedView → List Choice → List ℕ
-streams_text streams counted choices = flat_map stream_lines (zip streams (zip counted choices))
+abbrev pub streams_text : List TimedStreamView → List UnitCountsView → List Choice → List ℕ
+streams_text streams unit_counts choices = flat_map stream_lines (zip streams (zip unit_counts choices))
 
-unfoldable pub description_text : WishesView → List FindingView → MaterialView → ℕ → List ℕ
-description_text w findings m rate = heading_text (heading_of w findings m rate) ++ (programs_text w findings m.programs ++ streams_text m.streams m.counted m.choices)
+unfoldable pub description_text : JobOptionsView → List FindingView → JobInputView → ℕ → List ℕ
+description_text options findings input rate = heading_text (heading_of options findings input rate) ++ (programs_text options findings input.programs ++ streams_text input.streams input.unit_counts input.choices)

@@ -5,11 +5,11 @@ ghost use Rattle.std.specs.List.{list_any};
 ghost use Rattle.stream_jobs.specs.Moments as spec;
 
 use crate::job_programs::JobProgram;
-use crate::wire_streams::WireStream;
+use crate::job_stream::WireStream;
 
-/// The first unit is due two seconds after the first slot, in units of 90 kHz: a unit may be sent a second before it is due,
-/// and in the other second each table that it needs has come. Half a second more where a program map section has more than
-/// one packet.
+/// The first unit is due two seconds after the first slot, in units of 90 kHz: a unit may be sent a second before it is
+/// due, and in the other second each table that it needs has come. Half a second more if a program map section has more
+/// than one packet.
 const EARLIEST: u64 = 180_000;
 
 const LATER: u64 = 225_000;
@@ -26,7 +26,7 @@ fn entry_size(number: u16, stream: &WireStream) -> usize
     }
 }
 
-// Those of all streams, or the greatest number where they are more.
+// The bytes of all streams, or the greatest number if they are more.
 fn entries_size(number: u16, streams: &[WireStream]) -> usize
     ensures { result ≡ min (sum_by (spec.entry_size number) streams.now) (2 ^ 64 - 1) }
 {

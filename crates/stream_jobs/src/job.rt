@@ -1,25 +1,25 @@
 //! A job: a description, a plan that serves it, and the units of its streams.
 
-ghost use Rattle.std.specs.Prelude.{◌≡◌, ◌≤◌, IfErr, IfOk, All, length, map, string_bytes};
+ghost use Rattle.std.specs.Prelude.{◌≡◌, ◌≤◌, IfErr, IfOk, length, map, string_bytes};
 ghost use Rattle.demux.specs.Shown.{finding_view};
 ghost use Rattle.slot_plan.specs.Conditions.{IsServing};
 ghost use Rattle.unit_order.specs.Merging.{AreMerged};
 ghost use Rattle.stream_jobs.specs.Jobs.{AllAgree, AreReasons, AreStreams, AreUnits, IsDescription, IsJob, IsText};
 ghost use Rattle.stream_jobs.specs.Rates.{IsAskedOrFirst, IsPlanned, IsRate};
-ghost use Rattle.stream_jobs.specs.Unmade.{IsUndescribed, IsUnmade, IsUnreasoned};
+ghost use Rattle.stream_jobs.specs.WhyNoJob.{IsWhyNoDescription, IsWhyNoJob, IsWhyNoReasons};
 ghost use Rattle.stream_jobs.specs.declared.refusal.JobError.TheVariants.{Memory};
 
-use crate::agreeing::disagreeing;
-use crate::draft::{Draft, described};
-use crate::material::Material;
-use crate::moving::JobStream;
-use crate::rates::{Planned, first_rate, plan_draft};
-use crate::refusal::{JobError, Refusal};
-use crate::wishes::Wishes;
+use crate::declaration_check::disagreeing;
+use crate::description_draft::{DescriptionDraft, described};
+use crate::input::JobInput;
+use crate::job_options::JobOptions;
+use crate::job_stream::TimedStream;
+use crate::rates::{PlannedDescription, first_rate, plan_draft};
+use crate::refusal::{JobError, JobRefusal};
 use demux::Finding;
 use pes_packet::Unit;
 use plan_checker::CheckedPlan;
-use plan_maker::{Reason, reasons};
+use plan_search::{Reason, reasons};
 use std::alloc::{AllocError, Global};
 use std::collections::VecDeque;
 use unit_order::merged;
@@ -36,7 +36,7 @@ pub struct Job {
 }
 
 // The units of each stream.
-fn queues_of(alloc: Global, streams: Vec<JobStream>) -> Result<Vec<VecDeque<Unit>>, AllocError>
+fn queues_of(alloc: Global, streams: Vec<TimedStream>) -> Result<Vec<VecDeque<Unit>>, AllocError>
     ensures { IfOk result (λ queues. map (λ q. q.items) queues.items ≡ map (λ t. t.units) streams.items) }
 {
     let mut queues = Vec::new(alloc);
@@ -47,7 +47,7 @@ fn queues_of(alloc: Global, streams: Vec<JobStream>) -> Result<Vec<VecDeque<Unit
 }
 
 // The units of all streams, each with the number of its stream.
-fn merged_units(alloc: Global, streams: Vec<JobStream>) -> Result<Vec<(u8, Unit)>, AllocError>
+fn merged_units(alloc: Global, streams: Vec<TimedStream>) -> Result<Vec<(u8, Unit)>, AllocError>
     requires { length streams.items ≤ 32 }
     ensures { IfOk result (λ units. AreMerged (map (λ t. t.units) streams.items) units.items) }
 {
@@ -57,43 +57,47 @@ fn merged_units(alloc: Global, streams: Vec<JobStream>) -> Result<Vec<(u8, Unit)
 // A plan for the description, which declares what the units of the streams need.
 fn agreed_plan(
     alloc: Global,
-    wishes: &Wishes<'_>,
+    options: &JobOptions<'_>,
     findings: &[Finding<'_>],
-    material: &Material,
-) -> Result<Planned, JobError>
-    ensures planned { IfOk result (λ p. IsPlanned wishes.now (map finding_view findings.now) material.now p.rate p.plan.description (string_bytes p.text)) }
-    ensures rate { IfOk result (λ p. IsRate wishes.now.rate wishes.now (map finding_view findings.now) material.now p.rate) }
+    input: &JobInput,
+) -> Result<PlannedDescription, JobError>
+    ensures planned { IfOk result (λ p. IsPlanned options.now (map finding_view findings.now) input.now p.rate
+        p.plan.description (string_bytes p.text)) }
+    ensures rate { IfOk result (λ p. IsRate options.now.rate options.now (map finding_view findings.now) input.now
+        p.rate) }
     ensures serving { IfOk result (λ p. IsServing p.plan.description p.plan.plan) }
-    ensures agree { IfOk result (λ p. AllAgree p.plan.description material.now.streams) }
-    ensures refused { IfErr result (IsUnmade wishes.now (map finding_view findings.now) material.now) }
+    ensures agree { IfOk result (λ p. AllAgree p.plan.description input.now.streams) }
+    ensures refused { IfErr result (IsWhyNoJob options.now (map finding_view findings.now) input.now) }
 {
-    let draft = Draft {
-        wishes,
+    let draft = DescriptionDraft {
+        options,
         findings,
-        material,
+        input,
     };
     let planned = plan_draft(alloc, &draft)?;
-    match disagreeing(planned.plan.description(), &material.streams) {
-        Some(pid) => Err(JobError::Refused(Refusal::Declaration(pid))),
+    match disagreeing(planned.plan.description(), &input.streams) {
+        Some(pid) => Err(JobError::Refused(JobRefusal::Declaration(pid))),
         None => Ok(planned),
     }
 }
 
-/// The job of this material.
+/// The job of this input.
 pub fn make_job(
     alloc: Global,
-    wishes: &Wishes<'_>,
+    options: &JobOptions<'_>,
     findings: &[Finding<'_>],
-    material: Material,
+    input: JobInput,
 ) -> Result<Job, JobError>
-    requires { AreStreams wishes.now.make_dts (map finding_view findings.now) material }
-    ensures job { IfOk result (λ j. IsJob wishes.now (map finding_view findings.now) material j.plan.description (string_bytes j.text) j.units.items) }
+    requires { AreStreams options.now.make_dts (map finding_view findings.now) input }
+    ensures job { IfOk result (λ j. IsJob options.now (map finding_view findings.now) input j.plan.description
+        (string_bytes j.text) j.units.items) }
     ensures text { IfOk result (λ j. IsText j.plan.description (string_bytes j.text)) }
-    ensures units { IfOk result (λ j. AreUnits wishes.now.make_dts (map finding_view findings.now) j.plan.description j.units.items) }
-    ensures refused { IfErr result (IsUnmade wishes.now (map finding_view findings.now) material) }
+    ensures units { IfOk result (λ j. AreUnits options.now.make_dts (map finding_view findings.now) j.plan.description
+        j.units.items) }
+    ensures refused { IfErr result (IsWhyNoJob options.now (map finding_view findings.now) input) }
 {
-    let planned = agreed_plan(alloc, wishes, findings, &material)?;
-    let units = merged_units(alloc, material.streams)?;
+    let planned = agreed_plan(alloc, options, findings, &input)?;
+    let units = merged_units(alloc, input.streams)?;
     Ok(Job {
         text: planned.text,
         plan: planned.plan,
@@ -102,7 +106,7 @@ pub fn make_job(
 }
 
 // The text of a description that a plan serves.
-fn served_text(planned: Planned) -> String
+fn served_text(planned: PlannedDescription) -> String
     ensures text { result ≡ planned.text }
     ensures serving { IsServing planned.plan.description planned.plan.plan }
 {
@@ -110,62 +114,69 @@ fn served_text(planned: Planned) -> String
     planned.text
 }
 
-/// The text of the description of a job, at the rate that is wished, else at the least at which a plan is found.
+/// The text of the description of a job, at the rate of the options, else at the least at which a plan is found.
 pub fn describe(
     alloc: Global,
-    wishes: &Wishes<'_>,
+    options: &JobOptions<'_>,
     findings: &[Finding<'_>],
-    material: &Material,
+    input: &JobInput,
 ) -> Result<String, JobError>
-    ensures description { IfOk result (λ text. IsDescription wishes.now (map finding_view findings.now) material.now (string_bytes text)) }
-    ensures refused { IfErr result (IsUndescribed wishes.now.rate wishes.now (map finding_view findings.now) material.now) }
+    ensures description { IfOk result (λ text. IsDescription options.now (map finding_view findings.now) input.now
+        (string_bytes text)) }
+    ensures refused { IfErr result (IsWhyNoDescription options.now.rate options.now (map finding_view findings.now)
+        input.now) }
 {
-    let draft = Draft {
-        wishes,
+    let draft = DescriptionDraft {
+        options,
         findings,
-        material,
+        input,
     };
-    match wishes.rate {
+    match options.rate {
         Some(rate) => Ok(draft.text(alloc, rate)?),
         None => Ok(served_text(plan_draft(alloc, &draft)?)),
     }
 }
 
 /// The units of a job without its description, by their DTS, each with the number of its stream.
-pub fn units(alloc: Global, material: Material) -> Result<Vec<(u8, Unit)>, JobError>
-    requires { length material.streams ≤ 32 }
-    ensures units { IfOk result (λ units. AreMerged (map (λ t. t.units) material.streams) units.items) }
+pub fn units(alloc: Global, input: JobInput) -> Result<Vec<(u8, Unit)>, JobError>
+    requires { length input.streams ≤ 32 }
+    ensures units { IfOk result (λ units. AreMerged (map (λ t. t.units) input.streams) units.items) }
     ensures refused { IfErr result (λ error. error ≡ Memory) }
 {
-    Ok(merged_units(alloc, material.streams)?)
+    Ok(merged_units(alloc, input.streams)?)
 }
 
-// The rate that is wished, else the least at which all have slots.
-fn rate_of(alloc: Global, draft: &Draft<'_, '_>) -> Result<u64, JobError>
-    ensures rate { IfOk result (IsAskedOrFirst draft.now.wishes.now.rate draft.now.wishes.now (map finding_view draft.now.findings.now) draft.now.material.now) }
-    ensures refused { IfErr result (IsUnreasoned draft.now.wishes.now.rate draft.now.wishes.now (map finding_view draft.now.findings.now) draft.now.material.now) }
+// The rate of the options, else the least at which all have slots.
+fn rate_of(alloc: Global, draft: &DescriptionDraft<'_, '_>) -> Result<u64, JobError>
+    ensures rate { IfOk result (IsAskedOrFirst draft.now.options.now.rate draft.now.options.now
+        (map finding_view draft.now.findings.now) draft.now.input.now) }
+    ensures refused { IfErr result (IsWhyNoReasons draft.now.options.now.rate draft.now.options.now
+        (map finding_view draft.now.findings.now) draft.now.input.now) }
 {
-    let wishes = draft.wishes;
-    match wishes.rate {
+    let options = draft.options;
+    match options.rate {
         Some(rate) => Ok(rate),
         None => first_rate(alloc, draft),
     }
 }
 
-/// Why no plan serves the description of a job at the rate that is wished, else at the least at which all have slots.
-pub fn why(
+/// The reasons why no plan serves the description of a job at the rate of the options, else at the least at which all
+/// have slots.
+pub fn reasons_against(
     alloc: Global,
-    wishes: &Wishes<'_>,
+    options: &JobOptions<'_>,
     findings: &[Finding<'_>],
-    material: &Material,
+    input: &JobInput,
 ) -> Result<Vec<Reason>, JobError>
-    ensures reasons { IfOk result (λ reasons. AreReasons wishes.now (map finding_view findings.now) material.now reasons.items) }
-    ensures refused { IfErr result (IsUnreasoned wishes.now.rate wishes.now (map finding_view findings.now) material.now) }
+    ensures reasons { IfOk result (λ reasons. AreReasons options.now (map finding_view findings.now) input.now
+        reasons.items) }
+    ensures refused { IfErr result (IsWhyNoReasons options.now.rate options.now (map finding_view findings.now)
+        input.now) }
 {
-    let draft = Draft {
-        wishes,
+    let draft = DescriptionDraft {
+        options,
         findings,
-        material,
+        input,
     };
     let rate = rate_of(alloc, &draft)?;
     let text = draft.text(alloc, rate)?;

@@ -4,11 +4,11 @@ ghost use Rattle.std.specs.Prelude.{◌≡◌, ◌==◌, ◌++◌, ◌∷◌, []
 ghost use Rattle.std.specs.List.{list_any};
 ghost use Rattle.stream_jobs.specs.JobPrograms as spec;
 
-use crate::told::Told;
-use crate::wire_streams::WireStream;
+use crate::job_stream::WireStream;
+use crate::warning::Warning;
 use std::alloc::{AllocError, Global};
 use std::marker::Model;
-use stream_programs::{FoundProgram, Placed};
+use stream_programs::{FoundProgram, ProgramPids};
 
 /// A program, with the PIDs that its map and its clock references have in the new stream.
 #[derive(Drop)]
@@ -40,21 +40,22 @@ fn has_stream(streams: &[WireStream], number: u16) -> bool
     streams.iter().any(|stream| stream.program == number)
 }
 
-// Tells that a program has no stream, or where its map moves.
-#[tactic(auto, unfolding(crate::specs::JobPrograms::program_told, crate::specs::JobPrograms::has_stream))]
-fn tell_program(
+// Appends the warning that a program has no stream, or that its map moves.
+#[tactic(auto, unfolding(crate::specs::JobPrograms::program_warnings, crate::specs::JobPrograms::has_stream))]
+fn push_program_warnings(
     streams: &[WireStream],
     program: &FoundProgram,
-    placed: Placed,
-    told: &mut Vec<Told>,
+    assigned: ProgramPids,
+    warnings: &mut Vec<Warning>,
 ) -> Result<(), AllocError>
-    ensures { OnOk result (told.new.items ≡ told.old.items ++ spec.program_told streams.now (program.now, placed)) }
+    ensures { OnOk result (warnings.new.items ≡ warnings.old.items
+        ++ spec.program_warnings streams.now (program.now, assigned)) }
 {
-    let (number, from, to) = (program.number, program.map_pid, placed.map_pid);
+    let (number, from, to) = (program.number, program.map_pid, assigned.map_pid);
     if !has_stream(streams, number) {
-        told.push(Told::NoStream { program: number })?;
+        warnings.push(Warning::NoStream { program: number })?;
     } else if from != to {
-        told.push(Told::MapMoved {
+        warnings.push(Warning::MapMoved {
             program: number,
             from,
             to,
@@ -64,56 +65,60 @@ fn tell_program(
 }
 
 // A program with the PIDs that it is given.
-#[tactic(auto, unfolding(crate::specs::JobPrograms::placed_program))]
-fn placed_program(program: FoundProgram, placed: Placed) -> JobProgram
-    ensures { result ≡ spec.placed_program (program, placed) }
+#[tactic(auto, unfolding(crate::specs::JobPrograms::program_with_pids))]
+fn program_with_pids(program: FoundProgram, assigned: ProgramPids) -> JobProgram
+    ensures { result ≡ spec.program_with_pids (program, assigned) }
 {
     JobProgram {
         number: program.number,
-        map_pid: placed.map_pid,
-        pcr_pid: placed.pcr_pid,
+        map_pid: assigned.map_pid,
+        pcr_pid: assigned.pcr_pid,
         descriptors: program.descriptors,
     }
 }
 
-// Notes a program that has a stream, with the PIDs that it is given; where it has none or its map moves, that is told.
+// Appends a program that has a stream, with the PIDs that it is given, and the warning about a program.
 #[tactic(auto, unfolding(crate::specs::JobPrograms::has_stream))]
-fn note_program(
+fn push_program(
     streams: &[WireStream],
     program: FoundProgram,
-    placed: Placed,
+    assigned: ProgramPids,
     programs: &mut Vec<JobProgram>,
-    told: &mut Vec<Told>,
+    warnings: &mut Vec<Warning>,
 ) -> Result<(), AllocError>
-    ensures programs { OnOk result (programs.new.items ≡ programs.old.items ++ spec.job_programs streams.now (program ∷ []) (placed ∷ [])) }
-    ensures told { OnOk result (told.new.items ≡ told.old.items ++ spec.program_told streams.now (program, placed)) }
+    ensures programs { OnOk result (programs.new.items ≡ programs.old.items
+        ++ spec.job_programs streams.now (program ∷ []) (assigned ∷ [])) }
+    ensures warnings { OnOk result (warnings.new.items ≡ warnings.old.items
+        ++ spec.program_warnings streams.now (program, assigned)) }
 {
-    tell_program(streams, &program, placed, told)?;
+    push_program_warnings(streams, &program, assigned, warnings)?;
     if has_stream(streams, program.number) {
-        programs.push(placed_program(program, placed))?;
+        programs.push(program_with_pids(program, assigned))?;
     }
     Ok(())
 }
 
-/// The programs with a stream that has units, each with the PIDs that it is given; of the others that is told.
+/// The programs with a stream that has units, each with the PIDs that it is given, and the warnings about the others.
 pub(crate) fn job_programs(
     alloc: Global,
     streams: &[WireStream],
     found: Vec<FoundProgram>,
-    placed: Vec<Placed>,
-    told: &mut Vec<Told>,
+    assigned: Vec<ProgramPids>,
+    warnings: &mut Vec<Warning>,
 ) -> Result<Vec<JobProgram>, AllocError>
-    ensures programs { IfOk result (λ programs. programs.items ≡ spec.job_programs streams.now found.items placed.items) }
-    ensures told { OnOk result (told.new.items ≡ told.old.items ++ spec.programs_told streams.now found.items placed.items) }
+    ensures programs { IfOk result (λ programs. programs.items
+        ≡ spec.job_programs streams.now found.items assigned.items) }
+    ensures warnings { OnOk result (warnings.new.items ≡ warnings.old.items
+        ++ spec.all_program_warnings streams.now found.items assigned.items) }
 {
     let mut programs = Vec::new(alloc);
-    let mut places = placed.as_slice();
+    let mut left = assigned.as_slice();
     for program in found {
-        let Some((place, later)) = places.split_first() else {
+        let Some((pids, later)) = left.split_first() else {
             return Ok(programs);
         };
-        note_program(streams, program, *place, &mut programs, told)?;
-        places = later;
+        push_program(streams, program, *pids, &mut programs, warnings)?;
+        left = later;
     }
     Ok(programs)
 }

@@ -2,14 +2,14 @@
 
 ghost use Rattle.std.specs.Prelude.{◌≡◌, IfOk, is_some, map, option_map};
 ghost use Rattle.demux.specs.Shown.{finding_view};
-ghost use Rattle.stream_programs.specs.Services.{service, service_texts};
+ghost use Rattle.stream_programs.specs.Services.{service, found_service_view};
 ghost use Rattle.stream_jobs.specs.Texts as spec;
 
 use crate::job_programs::JobProgram;
 use demux::Finding;
 use std::alloc::{AllocError, Global};
 use std::marker::Model;
-use stream_programs::{FoundService, last_service, readable};
+use stream_programs::{FoundService, decode_text, last_service};
 
 /// The most bytes of a service's name and provider, as written in a descriptor.
 const LONGEST_NAME: usize = 100;
@@ -28,9 +28,9 @@ pub(crate) struct NamedService {
 // A contract sees its texts as lists.
 impl Model for NamedService {
     ghost use Rattle.std.specs.Prelude.{string_bytes};
-    ghost use Rattle.stream_programs.specs.Services.{ServiceTexts};
+    ghost use Rattle.stream_programs.specs.Services.{FoundServiceView};
 
-    ghost Value = { ServiceTexts };
+    ghost Value = { FoundServiceView };
 
     ghost view = { λ s. record {
       service_type = s.service_type;
@@ -65,13 +65,13 @@ fn named_service(
     alloc: Global,
     service: Option<FoundService<'_>>,
 ) -> Result<NamedService, AllocError>
-    ensures { IfOk result (λ named. named ≡ spec.named_service (option_map service_texts service.entry)) }
+    ensures { IfOk result (λ named. named ≡ spec.named_service (option_map found_service_view service.entry)) }
 {
     match service {
         Some(service) => Ok(NamedService {
             service_type: service.service_type,
-            provider: readable(alloc, service.provider, LONGEST_NAME)?,
-            name: readable(alloc, service.name, LONGEST_NAME)?,
+            provider: decode_text(alloc, service.provider, LONGEST_NAME)?,
+            name: decode_text(alloc, service.name, LONGEST_NAME)?,
         }),
         None => Ok(NamedService {
             service_type: TELEVISION,

@@ -4,7 +4,7 @@ ghost use Rattle.std.specs.Prelude.{◌≡◌, map};
 ghost use Rattle.demux.specs.Shown.{finding_view};
 ghost use Rattle.stream_jobs.specs.Packets as spec;
 
-use crate::refusal::Refusal;
+use crate::refusal::JobRefusal;
 use demux::{Finding, What};
 
 // Whether 188 bytes are no packet.
@@ -15,20 +15,20 @@ fn is_bad(finding: &Finding<'_>) -> bool
     matches!(finding.what, What::BadPacket(_))
 }
 
-// How many are none.
+// The number of 188 bytes that are no packet.
 fn bad_packets(findings: &[Finding<'_>]) -> usize
     ensures { result ≡ spec.bad_packets (map finding_view findings.now) }
 {
     findings.iter().filter(|finding| is_bad(finding)).count()
 }
 
-/// More than half of so many whole packets are none.
+/// The refusal of `count` whole packets of which more than half are none.
 #[tactic(auto, unfolding(crate::specs::Packets::no_packets))]
-pub(crate) fn no_packets(count: u64, findings: &[Finding<'_>]) -> Option<Refusal>
+pub(crate) fn no_packets(count: u64, findings: &[Finding<'_>]) -> Option<JobRefusal>
     ensures { result ≡ spec.no_packets count (map finding_view findings.now) }
 {
     if count / 2 < bad_packets(findings) as u64 {
-        Some(Refusal::NoPackets)
+        Some(JobRefusal::NoPackets)
     } else {
         None
     }

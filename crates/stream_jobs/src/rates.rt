@@ -1,51 +1,51 @@
 //! A rate with a plan.
 
-ghost use Rattle.std.specs.Prelude.{◌≡◌, ◌≤◌, ◌<◌, ◌++◌, IfOk, IfErr, IfSome, IfNone, Some, None, All, OnOk, map, string_bytes};
+ghost use Rattle.std.specs.Prelude.{◌≡◌, ◌≤◌, ◌<◌, ◌++◌, IfOk, IfErr, IfSome, IfNone, Some, None, All, OnOk, map};
+ghost use Rattle.std.specs.Prelude.{string_bytes};
 ghost use Rattle.std.specs.List.{range_with_len};
 ghost use Rattle.demux.specs.Shown.{finding_view};
 ghost use Rattle.description.specs.Tables.{table_count};
 ghost use Rattle.stream_jobs.specs.Rates as spec;
-ghost use Rattle.stream_jobs.specs.Unmade.{IsUnplanned, IsUnrated, IsUnreadAtOne, IsUnreadAt};
+ghost use Rattle.stream_jobs.specs.WhyNoJob.{IsWhyNoPlan, IsWhyNoRate, IsWhyNotReadAtOne, IsWhyNotReadAt};
 
-use crate::draft::{Draft, described};
-use crate::refusal::{JobError, Refusal};
-use description::{Description, Program};
+use crate::description_draft::{DescriptionDraft, described};
+use crate::refusal::{JobError, JobRefusal};
+use clock27::GREATEST_RATE;
+use description::{Description, ProgramDescription};
 use plan_checker::CheckedPlan;
 use plan_maker::{MakeError, make};
 use std::alloc::{AllocError, Global};
 use stream_choice::{Choice, Recurring, least_rate};
 
-/// The greatest rate that a description may have, in bits a second.
-const GREATEST_RATE: u64 = 100_000_000;
-
-/// How many rates are tried, and how many of them by small steps.
+/// The number of rates that are tried, and of those that follow by small steps.
 const TRIES: u32 = 96;
 
 const SMALL_STEPS: u32 = 32;
 
 /// A description with a plan that serves it, its rate and its text.
 #[derive(Drop)]
-pub(crate) struct Planned {
+pub(crate) struct PlannedDescription {
     pub rate: u64,
     pub text: String,
     pub plan: CheckedPlan,
 }
 
-// The sections of a table.
+// How often the sections of a table recur.
 #[tactic(auto, unfolding(crate::specs::Rates::table_recurs))]
 fn table_recurs(description: &Description, table: usize) -> Recurring
     requires { table < table_count description.now }
     ensures { result ≡ spec.table_recurs description.now table }
 {
     Recurring {
-        slots: description.round_places(table).min(u32::MAX as usize) as u32,
+        slots: description.round_packets(table).min(u32::MAX as usize) as u32,
         limit: u32::from(description.table_limit(table)),
     }
 }
 
-// Those of all tables.
+// Appends those of all tables.
 fn push_tables(description: &Description, recurring: &mut Vec<Recurring>) -> Result<(), AllocError>
-    ensures { OnOk result (recurring.new.items ≡ recurring.old.items ++ map (spec.table_recurs description.now) (range_with_len 0 (table_count description.now))) }
+    ensures { OnOk result (recurring.new.items ≡ recurring.old.items
+        ++ map (spec.table_recurs description.now) (range_with_len 0 (table_count description.now))) }
 {
     for table in 0..description.tables() {
         recurring.push(table_recurs(description, table))?;
@@ -53,9 +53,9 @@ fn push_tables(description: &Description, recurring: &mut Vec<Recurring>) -> Res
     Ok(())
 }
 
-// The clock references of a program.
+// How often the clock references of a program recur.
 #[tactic(auto, unfolding(crate::specs::Rates::clock_recurs))]
-fn clock_recurs(program: &Program) -> Recurring
+fn clock_recurs(program: &ProgramDescription) -> Recurring
     ensures { result ≡ spec.clock_recurs program.now }
 {
     Recurring {
@@ -64,8 +64,11 @@ fn clock_recurs(program: &Program) -> Recurring
     }
 }
 
-// Those of all programs.
-fn push_clocks(programs: &[Program], recurring: &mut Vec<Recurring>) -> Result<(), AllocError>
+// Appends those of all programs.
+fn push_clocks(
+    programs: &[ProgramDescription],
+    recurring: &mut Vec<Recurring>,
+) -> Result<(), AllocError>
     ensures { OnOk result (recurring.new.items ≡ recurring.old.items ++ map spec.clock_recurs programs.now) }
 {
     for program in programs {
@@ -92,32 +95,42 @@ fn shares_of(alloc: Global, choices: &[Choice]) -> Result<Vec<u64>, AllocError>
 }
 
 /// The rate at which all shares together are the whole.
-pub(crate) fn first_rate(alloc: Global, draft: &Draft<'_, '_>) -> Result<u64, JobError>
-    ensures first { IfOk result (spec.IsFirstRate draft.now.wishes.now (map finding_view draft.now.findings.now) draft.now.material.now) }
-    ensures refused { IfErr result (IsUnrated draft.now.wishes.now (map finding_view draft.now.findings.now) draft.now.material.now) }
+pub(crate) fn first_rate(alloc: Global, draft: &DescriptionDraft<'_, '_>) -> Result<u64, JobError>
+    ensures first { IfOk result (spec.IsFirstRate draft.now.options.now (map finding_view draft.now.findings.now)
+        draft.now.input.now) }
+    ensures refused { IfErr result (IsWhyNoRate draft.now.options.now (map finding_view draft.now.findings.now)
+        draft.now.input.now) }
 {
-    let material = draft.material;
+    let input = draft.input;
     let text = draft.text(alloc, GREATEST_RATE)?;
     let description = described(alloc, &text)?;
     let recurring = recurring_of(alloc, &description)?;
-    let shares = shares_of(alloc, &material.choices)?;
+    let shares = shares_of(alloc, &input.choices)?;
     match least_rate(&shares, &recurring) {
-        Some(rate) => Ok(u64::from(rate)),
-        None => Err(JobError::Refused(Refusal::Plan(GREATEST_RATE))),
+        Some(rate) => Ok(rate),
+        None => Err(JobError::Refused(JobRefusal::Plan(GREATEST_RATE))),
     }
 }
 
 // The plan at a rate, where one is found.
-fn plan_at(alloc: Global, draft: &Draft<'_, '_>, rate: u64) -> Result<Option<Planned>, JobError>
-    ensures planned { IfOk result (λ found. IfSome found (λ p. spec.IsPlanned draft.now.wishes.now (map finding_view draft.now.findings.now) draft.now.material.now p.rate p.plan.description (string_bytes p.text))) }
+fn plan_at(
+    alloc: Global,
+    draft: &DescriptionDraft<'_, '_>,
+    rate: u64,
+) -> Result<Option<PlannedDescription>, JobError>
+    ensures planned { IfOk result (λ found. IfSome found
+        (λ p. spec.IsPlanned draft.now.options.now (map finding_view draft.now.findings.now) draft.now.input.now p.rate
+        p.plan.description (string_bytes p.text))) }
     ensures rate { IfOk result (λ found. IfSome found (λ p. p.rate ≡ rate)) }
-    ensures none { IfOk result (λ found. IfNone found (spec.IsUnserved draft.now.wishes.now (map finding_view draft.now.findings.now) draft.now.material.now rate)) }
-    ensures refused { IfErr result (IsUnreadAt draft.now.wishes.now (map finding_view draft.now.findings.now) draft.now.material.now rate) }
+    ensures none { IfOk result (λ found. IfNone found
+        (spec.IsUnserved draft.now.options.now (map finding_view draft.now.findings.now) draft.now.input.now rate)) }
+    ensures refused { IfErr result (IsWhyNotReadAt draft.now.options.now (map finding_view draft.now.findings.now)
+        draft.now.input.now rate) }
 {
     let text = draft.text(alloc, rate)?;
     let description = described(alloc, &text)?;
     match make(alloc, description) {
-        Ok(plan) => Ok(Some(Planned { rate, text, plan })),
+        Ok(plan) => Ok(Some(PlannedDescription { rate, text, plan })),
         Err((MakeError::NotFound, _)) => Ok(None),
         Err((MakeError::Memory, _)) => Err(JobError::Memory),
     }
@@ -137,11 +150,23 @@ fn next_rate(tried: u32, rate: u64) -> u64
 }
 
 // The first plan that is found of those from a rate on.
-fn plan_from(alloc: Global, draft: &Draft<'_, '_>, first: u64) -> Result<Option<Planned>, JobError>
-    ensures planned { IfOk result (λ found. IfSome found (λ p. spec.IsPlanned draft.now.wishes.now (map finding_view draft.now.findings.now) draft.now.material.now p.rate p.plan.description (string_bytes p.text))) }
-    ensures tried { IfOk result (λ found. IfSome found (λ p. spec.IsTriedFrom draft.now.wishes.now (map finding_view draft.now.findings.now) draft.now.material.now first p.rate)) }
-    ensures none { IfOk result (λ found. IfNone found (All (spec.IsUnserved draft.now.wishes.now (map finding_view draft.now.findings.now) draft.now.material.now) (spec.tried_rates first))) }
-    ensures refused { IfErr result (IsUnreadAtOne (spec.IsTriedFrom draft.now.wishes.now (map finding_view draft.now.findings.now) draft.now.material.now first) draft.now.wishes.now (map finding_view draft.now.findings.now) draft.now.material.now) }
+fn plan_from(
+    alloc: Global,
+    draft: &DescriptionDraft<'_, '_>,
+    first: u64,
+) -> Result<Option<PlannedDescription>, JobError>
+    ensures planned { IfOk result (λ found. IfSome found
+        (λ p. spec.IsPlanned draft.now.options.now (map finding_view draft.now.findings.now) draft.now.input.now p.rate
+        p.plan.description (string_bytes p.text))) }
+    ensures tried { IfOk result (λ found. IfSome found
+        (λ p. spec.IsTriedFrom draft.now.options.now (map finding_view draft.now.findings.now) draft.now.input.now first
+        p.rate)) }
+    ensures none { IfOk result (λ found. IfNone found
+        (All (spec.IsUnserved draft.now.options.now (map finding_view draft.now.findings.now) draft.now.input.now)
+        (spec.tried_rates first))) }
+    ensures refused { IfErr result (IsWhyNotReadAtOne
+        (spec.IsTriedFrom draft.now.options.now (map finding_view draft.now.findings.now) draft.now.input.now first)
+        draft.now.options.now (map finding_view draft.now.findings.now) draft.now.input.now) }
 {
     let mut rate = first;
     for tried in 0..TRIES {
@@ -157,38 +182,56 @@ fn plan_from(alloc: Global, draft: &Draft<'_, '_>, first: u64) -> Result<Option<
 }
 
 // The first plan that is found from the least rate on.
-fn first_plan(alloc: Global, draft: &Draft<'_, '_>) -> Result<Planned, JobError>
-    ensures planned { IfOk result (λ p. spec.IsPlanned draft.now.wishes.now (map finding_view draft.now.findings.now) draft.now.material.now p.rate p.plan.description (string_bytes p.text)) }
-    ensures tried { IfOk result (λ p. spec.IsTried draft.now.wishes.now (map finding_view draft.now.findings.now) draft.now.material.now p.rate) }
-    ensures refused { IfErr result (IsUnplanned None draft.now.wishes.now (map finding_view draft.now.findings.now) draft.now.material.now) }
+fn first_plan(
+    alloc: Global,
+    draft: &DescriptionDraft<'_, '_>,
+) -> Result<PlannedDescription, JobError>
+    ensures planned { IfOk result (λ p. spec.IsPlanned draft.now.options.now (map finding_view draft.now.findings.now)
+        draft.now.input.now p.rate p.plan.description (string_bytes p.text)) }
+    ensures tried { IfOk result (λ p. spec.IsTried draft.now.options.now (map finding_view draft.now.findings.now)
+        draft.now.input.now p.rate) }
+    ensures refused { IfErr result (IsWhyNoPlan None draft.now.options.now (map finding_view draft.now.findings.now)
+        draft.now.input.now) }
 {
     let first = first_rate(alloc, draft)?;
     match plan_from(alloc, draft, first)? {
         Some(planned) => Ok(planned),
-        None => Err(JobError::Refused(Refusal::Plan(first))),
+        None => Err(JobError::Refused(JobRefusal::Plan(first))),
     }
 }
 
 // The plan at a rate that is asked for.
-fn asked_plan(alloc: Global, draft: &Draft<'_, '_>, rate: u64) -> Result<Planned, JobError>
-    ensures planned { IfOk result (λ p. spec.IsPlanned draft.now.wishes.now (map finding_view draft.now.findings.now) draft.now.material.now p.rate p.plan.description (string_bytes p.text)) }
+fn asked_plan(
+    alloc: Global,
+    draft: &DescriptionDraft<'_, '_>,
+    rate: u64,
+) -> Result<PlannedDescription, JobError>
+    ensures planned { IfOk result (λ p. spec.IsPlanned draft.now.options.now (map finding_view draft.now.findings.now)
+        draft.now.input.now p.rate p.plan.description (string_bytes p.text)) }
     ensures asked { IfOk result (λ p. p.rate ≡ rate) }
-    ensures refused { IfErr result (IsUnplanned (Some rate) draft.now.wishes.now (map finding_view draft.now.findings.now) draft.now.material.now) }
+    ensures refused { IfErr result (IsWhyNoPlan (Some rate) draft.now.options.now
+        (map finding_view draft.now.findings.now) draft.now.input.now) }
 {
     match plan_at(alloc, draft, rate)? {
         Some(planned) => Ok(planned),
-        None => Err(JobError::Refused(Refusal::Plan(rate))),
+        None => Err(JobError::Refused(JobRefusal::Plan(rate))),
     }
 }
 
-/// The description at the rate that is wished, else at the least that is found, with a plan that serves it.
-pub(crate) fn plan_draft(alloc: Global, draft: &Draft<'_, '_>) -> Result<Planned, JobError>
-    ensures planned { IfOk result (λ p. spec.IsPlanned draft.now.wishes.now (map finding_view draft.now.findings.now) draft.now.material.now p.rate p.plan.description (string_bytes p.text)) }
-    ensures rate { IfOk result (λ p. spec.IsRate draft.now.wishes.now.rate draft.now.wishes.now (map finding_view draft.now.findings.now) draft.now.material.now p.rate) }
-    ensures refused { IfErr result (IsUnplanned draft.now.wishes.now.rate draft.now.wishes.now (map finding_view draft.now.findings.now) draft.now.material.now) }
+/// The description at the rate of the options, else at the least at which a plan is found, with a plan that serves it.
+pub(crate) fn plan_draft(
+    alloc: Global,
+    draft: &DescriptionDraft<'_, '_>,
+) -> Result<PlannedDescription, JobError>
+    ensures planned { IfOk result (λ p. spec.IsPlanned draft.now.options.now (map finding_view draft.now.findings.now)
+        draft.now.input.now p.rate p.plan.description (string_bytes p.text)) }
+    ensures rate { IfOk result (λ p. spec.IsRate draft.now.options.now.rate draft.now.options.now
+        (map finding_view draft.now.findings.now) draft.now.input.now p.rate) }
+    ensures refused { IfErr result (IsWhyNoPlan draft.now.options.now.rate draft.now.options.now
+        (map finding_view draft.now.findings.now) draft.now.input.now) }
 {
-    let wishes = draft.wishes;
-    match wishes.rate {
+    let options = draft.options;
+    match options.rate {
         Some(rate) => asked_plan(alloc, draft, rate),
         None => first_plan(alloc, draft),
     }

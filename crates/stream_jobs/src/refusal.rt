@@ -1,15 +1,15 @@
-//! Why no job is given.
+//! Why there is no job.
 
 ghost use Rattle.std.specs.Prelude.{◌≡◌};
 ghost use Rattle.stream_jobs.specs.declared.refusal.JobError.TheVariants.{Memory, Refused};
 
-use description::Fault;
+use description::DescFault;
 use std::alloc::{AllocError, AllocFailed};
-use stream_units::{MakeFault, StampFault};
+use stream_units::{DtsFault, StampFault};
 
-/// Why a transport stream gives no job. Nothing of it is written then.
-#[derive(Clone, Copy, Debug, PartialEq, Eq)]
-pub enum Refusal {
+/// Why a transport stream is refused: then nothing is written.
+#[derive(Clone, Copy, PartialEq, Eq)]
+pub enum JobRefusal {
     /// More than half of its packets of 188 bytes are no packets.
     NoPackets,
     /// No program association section in force is found.
@@ -44,7 +44,7 @@ pub enum Refusal {
     /// No DTS can be made from the PTS of the units of a PID.
     Dts {
         pid: u16,
-        fault: MakeFault,
+        fault: DtsFault,
     },
     /// A stream has at most 1,048,576 units.
     Units {
@@ -56,7 +56,7 @@ pub enum Refusal {
         pid: u16,
         size: usize,
     },
-    /// No lead and no group let units of up to so many bytes into these buffers.
+    /// No lead and no group let units of up to `size` bytes into these buffers.
     Buffers {
         pid: u16,
         size: u32,
@@ -66,21 +66,21 @@ pub enum Refusal {
     /// There is no PID left for the clock references or the program map table of a program.
     Pids,
     /// The description that was written is refused.
-    Description(Fault),
-    /// No plan is found at this rate, in bits a second: the one that is asked for; else the least at which all have slots,
-    /// nor at those after it that are tried; or at no rate all have slots, of which this is the greatest.
+    Description(DescFault),
+    /// No plan is found at this rate, in bits a second: the one that is asked for; else the least at which all have
+    /// slots, nor at those after it that are tried; or at no rate all have slots, of which this is the greatest.
     Plan(u64),
     /// The description that was written does not declare what the units of this PID need.
     Declaration(u16),
 }
 
-/// Why a call gives no job.
-#[derive(Clone, Copy, Debug, PartialEq, Eq)]
+/// Why a call fails.
+#[derive(Clone, Copy, PartialEq, Eq)]
 pub enum JobError {
     /// No memory was left.
     Memory,
     /// The stream is refused.
-    Refused(Refusal),
+    Refused(JobRefusal),
 }
 
 impl From<AllocError> for JobError {
@@ -99,10 +99,10 @@ impl<T: Drop> From<AllocFailed<T>> for JobError {
     }
 }
 
-impl From<Refusal> for JobError {
+impl From<JobRefusal> for JobError {
     ghost from_gives = { λ refusal e. e ≡ Refused refusal };
 
-    fn from(refusal: Refusal) -> JobError {
+    fn from(refusal: JobRefusal) -> JobError {
         JobError::Refused(refusal)
     }
 }

@@ -8,7 +8,7 @@ use Rattle.demux.specs.Laws.{has_pid, found_of}
 use Rattle.stream_programs.specs.Sections.{section_on}
 use Rattle.stream_programs.specs.Association as a
 use Rattle.stream_programs.specs.ProgramMaps.{pmt_found, program_map}
-use Rattle.stream_programs.specs.Programs.{ProgramsView, nothing, with_program_by, with_programs, programs_of}
+use Rattle.stream_programs.specs.Programs.{FoundProgramsView, nothing, with_program_by, with_programs, programs_of}
 use Rattle.stream_programs.specs.Laws.{FindingsOfPidZero, FindingsOfTheMap, SameOnMaps, MapsDecide}
 
 -- 1. The program association table
@@ -69,7 +69,7 @@ of_the_map p (f ∷ fs) = elim (cases_Bool (has_pid p.pid f.pid)) [
 
 -- 3. All of them
 
-same_maps : (named : List Program) (found : ProgramsView) (one other : List FindingView) → SameOnMaps named one other →
+same_maps : (named : List Program) (found : FoundProgramsView) (one other : List FindingView) → SameOnMaps named one other →
     with_programs found named one ≡ with_programs found named other
 unfolding with_programs
 same_maps [] found one other same = refl

@@ -4,10 +4,10 @@ use Rattle.psi_tables.specs.declared.pat.programs.Program.{Program}
 use Rattle.demux.specs.Views.{FindingView}
 use Rattle.demux.specs.Laws.{found_of}
 use Rattle.stream_programs.specs.Association.{association}
-use Rattle.stream_programs.specs.Placing.{AreApart, all_pids, placed_pids, stream_pids}
+use Rattle.stream_programs.specs.PidAssignment.{AreDistinctPids, all_pids, assigned_pids, stream_pids}
 use Rattle.stream_programs.specs.ProgramMaps.{program_map}
-use Rattle.stream_programs.specs.Programs.{ProgramsView, programs_of}
-use Rattle.stream_programs.specs.declared.placing.Placed.{Placed}
+use Rattle.stream_programs.specs.Programs.{FoundProgramsView, programs_of}
+use Rattle.stream_programs.specs.declared.pid_assignment.ProgramPids.{ProgramPids}
 
 -- the programs that are named are those of what is found on PID 0 alone
 abbrev pub FindingsOfPidZero : Type 0
@@ -27,10 +27,10 @@ abbrev pub MapsDecide : Type 0
 MapsDecide = (named : List Program) (one other : List FindingView) → SameOnMaps named one other → programs_of named one ≡ programs_of named other
 
 -- the PIDs of streams that are found and those that are given to their maps and clocks
-abbrev pub PidsAreApart : Type 0
-PidsAreApart = (named : List Program) (findings : List FindingView) (places : List Placed) →
-    placed_pids (programs_of named findings) ≡ Some places → AreApart (all_pids places (stream_pids (programs_of named findings)))
+abbrev pub PidsAreDistinct : Type 0
+PidsAreDistinct = (named : List Program) (findings : List FindingView) (places : List ProgramPids) →
+    assigned_pids (programs_of named findings) ≡ Some places → AreDistinctPids (all_pids places (stream_pids (programs_of named findings)))
 
 -- each program gets such
-abbrev pub EachIsPlaced : Type 0
-EachIsPlaced = (found : ProgramsView) (places : List Placed) → placed_pids found ≡ Some places → length places ≡ length found.programs
+abbrev pub EachHasPids : Type 0
+EachHasPids = (found : FoundProgramsView) (places : List ProgramPids) → assigned_pids found ≡ Some places → length places ≡ length found.programs

@@ -4,7 +4,8 @@ pub mod ProgramMaps
 pub mod Streams
 pub mod Programs
 pub mod FreePids
-pub mod Placing
+pub mod PidAssignment
+pub mod ServiceDescriptions
 pub mod Services
 pub mod Networks
 pub mod Texts

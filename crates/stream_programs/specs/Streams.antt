@@ -1,7 +1,7 @@
 -- Which streams of a program map table are kept.
 use Rattle.std.specs.Prelude.{ℕ, ◌==◌, ◌&&◌, ◌||◌, nat_le, nat_lt, Bool, if◌then◌else◌, List, [], ◌∷◌, Option, Some, None}
-use Rattle.stream_programs.specs.declared.left_out.LeftOut.{LeftOut}
-use Rattle.stream_programs.specs.declared.left_out.LeftOut.TheVariants.{NoPes, Reserved, Taken}
+use Rattle.stream_programs.specs.declared.omission.TableOmission.{TableOmission}
+use Rattle.stream_programs.specs.declared.omission.TableOmission.TheVariants.{NoPes, Reserved, Taken}
 
 -- an elementary stream of a program, with its whole descriptors but for those of conditional access
 pub record FoundStreamView : Type 0 where
@@ -25,12 +25,12 @@ unfoldable pub holder : ℕ → List FoundStreamView → Option ℕ
 holder pid [] = None
 holder pid (s ∷ ss) = if s.pid == pid then Some s.program else holder pid ss
 
-abbrev pub taken : ℕ → ℕ → Option ℕ → Option LeftOut
+abbrev pub taken : ℕ → ℕ → Option ℕ → Option TableOmission
 taken program pid None = None
 taken program pid (Some other) = Some (Taken program pid other)
 
 -- why a stream is left out beside those that are kept
-unfoldable pub refused : ℕ → ℕ → ℕ → List FoundStreamView → Option LeftOut
-refused program stream_type pid kept =
+unfoldable pub omission_of : ℕ → ℕ → ℕ → List FoundStreamView → Option TableOmission
+omission_of program stream_type pid kept =
     if has_no_pes stream_type then Some (NoPes program pid stream_type)
     else (if is_reserved pid then Some (Reserved program pid) else taken program pid (holder pid kept))

@@ -1,9 +1,7 @@
 //! The programs that the program association table names (ISO/IEC 13818-1, 2.4.4.3).
 
 ghost use Rattle.std.specs.Prelude.{◌≡◌, IfOk, OnOk, map, option_map};
-ghost use Rattle.bit_fields.specs.Reading.{Gives};
 ghost use Rattle.psi_tables.specs.ProgramAssociation.{pat_at, pat_view, programs_of};
-ghost use Rattle.psi_tables.specs.Reading.{section_at};
 ghost use Rattle.psi_tables.specs.Views.{section_view};
 ghost use Rattle.demux.specs.Shown.{finding_view};
 ghost use Rattle.stream_programs.specs.Association as spec;
@@ -30,7 +28,11 @@ impl<A: Allocator> Model for Association<A> {
 
     ghost Value = { AssociationView };
 
-    ghost view = { λ a. record { transport_stream_id = a.transport_stream_id; version_number = a.version_number; programs = a.programs.items } };
+    ghost view = { λ a. record {
+      transport_stream_id = a.transport_stream_id;
+      version_number = a.version_number;
+      programs = a.programs.items;
+    } };
 }
 
 // A table that is in force now.
@@ -109,7 +111,8 @@ fn add_program<A: Allocator>(
 // The entries of a table.
 #[tactic(auto, unfolding(crate::specs::Association::with_programs))]
 fn add_entries<A: Allocator>(pat: Pat<'_>, programs: &mut Vec<Program, A>) -> Result<(), AllocError>
-    ensures { OnOk result (programs.new.items ≡ spec.with_programs programs.old.items (programs_of pat.entry.programs)) }
+    ensures { OnOk result (programs.new.items ≡ spec.with_programs programs.old.items
+        (programs_of pat.entry.programs)) }
 {
     for program in pat.programs {
         add_program(program, programs)?;
@@ -124,7 +127,8 @@ fn add_version<A: Allocator>(
     finding: &Finding<'_, A>,
     programs: &mut Vec<Program, A>,
 ) -> Result<(), AllocError>
-    ensures { OnOk result (programs.new.items ≡ spec.with_programs programs.old.items (spec.entries_of version (spec.pat_found (finding_view finding.now)))) }
+    ensures { OnOk result (programs.new.items ≡ spec.with_programs programs.old.items
+        (spec.entries_of version (spec.pat_found (finding_view finding.now)))) }
 {
     match pat_found(finding) {
         None => Ok(()),
@@ -144,7 +148,8 @@ fn add_all<A: Allocator>(
     findings: &[Finding<'_, A>],
     programs: &mut Vec<Program, A>,
 ) -> Result<(), AllocError>
-    ensures { OnOk result (programs.new.items ≡ spec.with_programs programs.old.items (spec.entries version (map finding_view findings.now))) }
+    ensures { OnOk result (programs.new.items ≡ spec.with_programs programs.old.items
+        (spec.entries version (map finding_view findings.now))) }
 {
     for finding in findings {
         add_version(version, finding, programs)?;
@@ -152,8 +157,8 @@ fn add_all<A: Allocator>(
     Ok(())
 }
 
-/// The programs of a stream, by what is found of it: those that the program association sections of the first one's version
-/// name. Where there is no such section in force there is no answer.
+/// The programs of a stream, by what is found of it: those that the program association sections of the first one's
+/// version name. Where there is no such section in force there is no answer.
 #[tactic(auto, unfolding(crate::specs::Association::association))]
 pub fn named_programs<A: Allocator>(
     alloc: A,

@@ -1,21 +1,23 @@
 //! The programs of a transport stream and their elementary streams, from what a demultiplexer finds of its tables.
 //!
-//! The program association table in force names the programs (`specs/Association`), and the last program map table of each
-//! its streams (`specs/ProgramMaps`, `specs/Streams`, `specs/Programs`); the service description has its name
-//! (`specs/Services`), as characters (`specs/Texts`), and the network in which it began (`specs/Networks`). Maps and clocks are given PIDs that nothing else has (`specs/Placing`).
-//! What is left out of the tables is said, and in which packets they change. The laws say that the findings of PID 0 and of
-//! the maps' PIDs alone decide, and that no two PIDs are equal.
+//! The program association table in force names the programs (`specs/Association`), and the last program map table of
+//! each its streams (`specs/ProgramMaps`, `specs/Streams`, `specs/Programs`); the service description has its name
+//! (`specs/Services`), as characters (`specs/Texts`), and the network in which it began (`specs/Networks`). Maps and
+//! PCRs are assigned PIDs that nothing else has (`specs/PidAssignment`). What is left out of the tables is said, and in
+//! which packets they change. The laws say that the findings of PID 0 and of the maps' PIDs alone decide, and that no
+//! two PIDs are equal.
 #![tactic(auto)]
 
 mod association;
 mod free_pids;
 mod laws;
-mod left_out;
 mod networks;
-mod placing;
+mod omission;
+mod pid_assignment;
 mod program_map;
 mod programs;
 mod sections;
+mod service_description;
 mod services;
 mod streams;
 mod tables;
@@ -24,14 +26,14 @@ mod texts;
 pub use association::{Association, association_change, named_programs};
 pub use free_pids::free_pid;
 pub use laws::{
-    each_is_placed, findings_of_pid_zero, findings_of_the_map, maps_decide, pids_are_apart,
+    each_has_pids, findings_of_pid_zero, findings_of_the_map, maps_decide, pids_are_distinct,
 };
-pub use left_out::LeftOut;
 pub use networks::original_network;
-pub use placing::{Placed, placed_pids};
+pub use omission::TableOmission;
+pub use pid_assignment::{ProgramPids, assigned_pids};
 pub use program_map::{last_program_map, map_change};
-pub use programs::{FoundProgram, Programs, found_programs};
+pub use programs::{FoundProgram, FoundPrograms, found_programs};
 pub use services::{FoundService, last_service};
 pub use streams::FoundStream;
-pub use tables::{ReadService, StreamTables, stream_tables};
-pub use texts::readable;
+pub use tables::{DecodedService, StreamTables, stream_tables};
+pub use texts::decode_text;

@@ -2,7 +2,6 @@
 
 ghost use Rattle.std.specs.Prelude.{◌≡◌, map, option_map};
 ghost use Rattle.psi_tables.specs.ProgramMap.{pmt_at, pmt_view, stream_view, streams_of};
-ghost use Rattle.psi_tables.specs.Reading.{section_at};
 ghost use Rattle.psi_tables.specs.Views.{section_view};
 ghost use Rattle.demux.specs.Shown.{finding_view};
 ghost use Rattle.stream_programs.specs.ProgramMaps as spec;
@@ -131,8 +130,8 @@ fn others_named<A: Allocator>(
     None
 }
 
-/// The packet in which a program map section in force of this program ends that names other streams, by stream_type and PID,
-/// than the last one does; of several the first. The last one stands all the same.
+/// The packet in which a program map section in force of this program ends that names other streams, by stream_type and
+/// PID, than the last one does; of several the first. The last one counts all the same.
 #[tactic(auto, unfolding(crate::specs::ProgramMaps::map_change))]
 pub fn map_change<A: Allocator>(program: Program, findings: &[Finding<'_, A>]) -> Option<u64>
     ensures { result ≡ spec.map_change program (map finding_view findings.now) }

@@ -6,9 +6,9 @@ ghost use Rattle.demux.specs.Shown.{finding_view};
 ghost use Rattle.stream_programs.specs.ProgramMaps.{program_map};
 ghost use Rattle.stream_programs.specs.Programs as spec;
 
-use crate::left_out::LeftOut;
+use crate::omission::TableOmission;
 use crate::program_map::last_program_map;
-use crate::streams::{FoundStream, refused};
+use crate::streams::{FoundStream, omission_of};
 use demux::Finding;
 use descriptor_loops::{has_ca, kept_descriptors};
 use psi_tables::{Pmt, Program, Stream, Streams};
@@ -33,27 +33,36 @@ impl<A: Allocator> Model for FoundProgram<A> {
 
     ghost Value = { FoundProgramView };
 
-    ghost view = { λ p. record { number = p.number; map_pid = p.map_pid; pcr_pid = p.pcr_pid; descriptors = p.descriptors.items } };
+    ghost view = { λ p. record {
+      number = p.number;
+      map_pid = p.map_pid;
+      pcr_pid = p.pcr_pid;
+      descriptors = p.descriptors.items;
+    } };
 }
 
 /// The programs of a stream.
 #[derive(Drop)]
-pub struct Programs<A: Allocator = Global> {
+pub struct FoundPrograms<A: Allocator = Global> {
     /// In the order of the program association table.
     pub programs: Vec<FoundProgram<A>, A>,
     /// By program, then in the order of its program map table. No two have the same PID.
     pub streams: Vec<FoundStream<A>, A>,
-    /// What is not taken as it stands, program by program.
-    pub left_out: Vec<LeftOut, A>,
+    /// What is left out, program by program.
+    pub left_out: Vec<TableOmission, A>,
 }
 
 // A contract sees lists.
-impl<A: Allocator> Model for Programs<A> {
-    ghost use Rattle.stream_programs.specs.Programs.{ProgramsView};
+impl<A: Allocator> Model for FoundPrograms<A> {
+    ghost use Rattle.stream_programs.specs.Programs.{FoundProgramsView};
 
-    ghost Value = { ProgramsView };
+    ghost Value = { FoundProgramsView };
 
-    ghost view = { λ p. record { programs = p.programs.items; streams = p.streams.items; left_out = p.left_out.items } };
+    ghost view = { λ p. record {
+      programs = p.programs.items;
+      streams = p.streams.items;
+      left_out = p.left_out.items;
+    } };
 }
 
 // Whether the descriptors of a stream have one of conditional access.
@@ -69,11 +78,11 @@ fn any_ca(streams: Streams<'_>) -> bool
     false
 }
 
-impl<A: Allocator + Copy> Programs<A> {
-    fn new(alloc: A) -> Programs<A>
+impl<A: Allocator + Copy> FoundPrograms<A> {
+    fn new(alloc: A) -> FoundPrograms<A>
         ensures { result ≡ spec.nothing }
     {
-        Programs {
+        FoundPrograms {
             programs: Vec::new(alloc),
             streams: Vec::new(alloc),
             left_out: Vec::new(alloc),
@@ -86,7 +95,7 @@ impl<A: Allocator + Copy> Programs<A> {
         ensures { OnOk result (self.new ≡ spec.with_stream self.old program (stream_view stream.entry)) }
     {
         let (stream_type, pid) = (stream.stream_type, stream.elementary_pid);
-        match refused(program, stream_type, pid, &self.streams) {
+        match omission_of(program, stream_type, pid, &self.streams) {
             Some(why) => {
                 self.left_out.push(why)?;
             }
@@ -123,7 +132,8 @@ impl<A: Allocator + Copy> Programs<A> {
         ensures { OnOk result (self.new ≡ spec.with_access self.old program (pmt_view pmt.now)) }
     {
         if has_ca(pmt.program_info) || any_ca(pmt.streams) {
-            self.left_out.push(LeftOut::ConditionalAccess { program })?;
+            self.left_out
+                .push(TableOmission::ConditionalAccess { program })?;
         }
         Ok(())
     }
@@ -133,7 +143,7 @@ impl<A: Allocator + Copy> Programs<A> {
         ensures { OnOk result (self.new ≡ spec.with_program_if before self.old program) }
     {
         if self.streams.len() == before {
-            self.left_out.push(LeftOut::NoStream {
+            self.left_out.push(TableOmission::NoStream {
                 program: program.number,
             })?;
         } else {
@@ -166,11 +176,12 @@ impl<A: Allocator + Copy> Programs<A> {
         program: Program,
         findings: &[Finding<'_, A>],
     ) -> Result<(), AllocError>
-        ensures { OnOk result (self.new ≡ spec.with_program_by self.old program (program_map program (map finding_view findings.now))) }
+        ensures { OnOk result (self.new ≡ spec.with_program_by self.old program
+            (program_map program (map finding_view findings.now))) }
     {
         match last_program_map(program, findings) {
             None => {
-                self.left_out.push(LeftOut::NoMap {
+                self.left_out.push(TableOmission::NoMap {
                     program: program.program_number,
                 })?;
                 Ok(())
@@ -180,17 +191,17 @@ impl<A: Allocator + Copy> Programs<A> {
     }
 }
 
-/// The programs of a stream, by what is found of it: of those that are named the ones with a program map table that has a
-/// stream, each as its last table says. Of streams with one PID the first is kept.
+/// The programs of a stream, by what is found of it: of those that are named the ones with a program map table that has
+/// a stream, each as its last table says. Of streams with one PID the first is kept.
 #[tactic(auto, unfolding(crate::specs::Programs::programs_of))]
 pub fn found_programs<A: Allocator + Copy>(
     alloc: A,
     named: &[Program],
     findings: &[Finding<'_, A>],
-) -> Result<Programs<A>, AllocError>
+) -> Result<FoundPrograms<A>, AllocError>
     ensures { IfOk result (λ found. found ≡ spec.programs_of named.now (map finding_view findings.now)) }
 {
-    let mut found = Programs::new(alloc);
+    let mut found = FoundPrograms::new(alloc);
     for program in named {
         found.note(alloc, *program, findings)?;
     }

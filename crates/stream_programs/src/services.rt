@@ -1,39 +1,32 @@
 //! The services of a stream (EN 300 468, 5.2.3 and 6.2.33).
 
 ghost use Rattle.std.specs.Prelude.{◌≡◌, map, option_map};
-ghost use Rattle.psi_tables.specs.Reading.{section_at};
-ghost use Rattle.psi_tables.specs.Views.{section_view};
 ghost use Rattle.demux.specs.Shown.{finding_view};
-ghost use Rattle.dvb_tables.specs.ServiceDescription.{sdt_at, sdt_view};
 ghost use Rattle.dvb_tables.specs.Services.{service_view, services_of};
 ghost use Rattle.descriptor_loops.specs.Descriptors.{descriptor_view, descriptors_in};
 ghost use Rattle.stream_programs.specs.Services as spec;
 
-use crate::sections::section_on;
+use crate::service_description::sdt_found;
 use demux::Finding;
 use descriptor_loops::{Descriptor, Descriptors};
-use dvb_tables::{Sdt, Service, Services};
-use psi_tables::Section;
+use dvb_tables::{Service, Services};
 use std::alloc::Allocator;
-
-// The PID of service description sections.
-const SDT_PID: u16 = 0x11;
 
 // The tag of a service descriptor.
 const SERVICE: u8 = 0x48;
 
-/// What a service descriptor says. The texts are coded as they stand there (EN 300 468, annex A).
-#[derive(Clone, Copy, Debug)]
+/// What a service descriptor says. The texts are still coded (EN 300 468, annex A).
+#[derive(Clone, Copy)]
 pub struct FoundService<'f> {
     pub service_type: u8,
     pub provider: &'f [u8],
     pub name: &'f [u8],
 }
 
-// The bytes after a byte that counts them, and what stands after them.
-#[tactic(auto, unfolding(crate::specs::Services::counted))]
-fn counted(bytes: &[u8]) -> Option<(&[u8], &[u8])>
-    ensures { option_map (λ p. (p.0.now, p.1.now)) result ≡ spec.counted bytes.now }
+// The bytes after a byte with their number, and what follows them.
+#[tactic(auto, unfolding(crate::specs::Services::length_prefixed))]
+fn length_prefixed(bytes: &[u8]) -> Option<(&[u8], &[u8])>
+    ensures { option_map (λ p. (p.0.now, p.1.now)) result ≡ spec.length_prefixed bytes.now }
 {
     match bytes {
         [size, rest @ ..] => {
@@ -46,13 +39,14 @@ fn counted(bytes: &[u8]) -> Option<(&[u8], &[u8])>
     }
 }
 
-// The texts of a service descriptor.
+// The service of a service descriptor with this service_type.
 #[tactic(auto, unfolding(crate::specs::Services::with_provider))]
 fn named(service_type: u8, rest: &[u8]) -> Option<FoundService<'_>>
-    ensures { option_map spec.service_texts result ≡ spec.with_provider service_type (spec.counted rest.now) }
+    ensures { option_map spec.found_service_view result ≡ spec.with_provider service_type
+        (spec.length_prefixed rest.now) }
 {
-    let (provider, after) = counted(rest)?;
-    let (name, _) = counted(after)?;
+    let (provider, after) = length_prefixed(rest)?;
+    let (name, _) = length_prefixed(after)?;
     Some(FoundService {
         service_type,
         provider,
@@ -63,7 +57,7 @@ fn named(service_type: u8, rest: &[u8]) -> Option<FoundService<'_>>
 // What the body of a service descriptor says.
 #[tactic(auto, unfolding(crate::specs::Services::service_in))]
 fn service_in(body: &[u8]) -> Option<FoundService<'_>>
-    ensures { option_map spec.service_texts result ≡ spec.service_in body.now }
+    ensures { option_map spec.found_service_view result ≡ spec.service_in body.now }
 {
     match body {
         [service_type, rest @ ..] => named(*service_type, rest),
@@ -74,7 +68,7 @@ fn service_in(body: &[u8]) -> Option<FoundService<'_>>
 // What a descriptor says of a service.
 #[tactic(auto, unfolding(crate::specs::Services::of_descriptor))]
 fn of_descriptor<'f>(descriptor: Descriptor<'f>) -> Option<FoundService<'f>>
-    ensures { option_map spec.service_texts result ≡ spec.of_descriptor (descriptor_view descriptor.entry) }
+    ensures { option_map spec.found_service_view result ≡ spec.of_descriptor (descriptor_view descriptor.entry) }
 {
     if descriptor.tag == SERVICE {
         service_in(descriptor.body)
@@ -86,7 +80,7 @@ fn of_descriptor<'f>(descriptor: Descriptor<'f>) -> Option<FoundService<'f>>
 // What the first service descriptor says.
 #[tactic(auto, unfolding(crate::specs::Services::in_descriptors))]
 fn in_descriptors(bytes: &[u8]) -> Option<FoundService<'_>>
-    ensures { option_map spec.service_texts result ≡ spec.in_descriptors (descriptors_in bytes.now) }
+    ensures { option_map spec.found_service_view result ≡ spec.in_descriptors (descriptors_in bytes.now) }
 {
     for descriptor in Descriptors::of(bytes) {
         if let Some(service) = of_descriptor(descriptor) {
@@ -98,7 +92,7 @@ fn in_descriptors(bytes: &[u8]) -> Option<FoundService<'_>>
 
 #[tactic(auto, unfolding(crate::specs::Services::of_entry))]
 fn of_entry<'f>(number: u16, entry: Service<'f>) -> Option<FoundService<'f>>
-    ensures { option_map spec.service_texts result ≡ spec.of_entry number (service_view entry.entry) }
+    ensures { option_map spec.found_service_view result ≡ spec.of_entry number (service_view entry.entry) }
 {
     if entry.service_id == number {
         in_descriptors(entry.descriptors)
@@ -110,7 +104,7 @@ fn of_entry<'f>(number: u16, entry: Service<'f>) -> Option<FoundService<'f>>
 // What the entry of a program says.
 #[tactic(auto, unfolding(crate::specs::Services::in_entries))]
 fn in_entries<'f>(number: u16, entries: Services<'f>) -> Option<FoundService<'f>>
-    ensures { option_map spec.service_texts result ≡ spec.in_entries number (services_of entries.entry) }
+    ensures { option_map spec.found_service_view result ≡ spec.in_entries number (services_of entries.entry) }
 {
     for entry in entries {
         if let Some(service) = of_entry(number, entry) {
@@ -120,43 +114,17 @@ fn in_entries<'f>(number: u16, entries: Services<'f>) -> Option<FoundService<'f>
     None
 }
 
-#[tactic(auto, unfolding(crate::specs::Services::in_force))]
-fn in_force<'f>(number: u16, section: &Section<'f>) -> Option<FoundService<'f>>
-    ensures { option_map spec.service_texts result ≡ spec.in_force number (sdt_at (section_view section.now)) }
-{
-    match Sdt::read(section) {
-        Err(_) => None,
-        Ok(sdt) => {
-            if sdt.header.current_next {
-                in_entries(number, sdt.services)
-            } else {
-                None
-            }
-        }
-    }
-}
-
-#[tactic(auto, unfolding(crate::specs::Services::in_section, crate::specs::Services::of_section))]
-fn in_section(number: u16, bytes: &[u8]) -> Option<FoundService<'_>>
-    ensures { option_map spec.service_texts result ≡ spec.in_section number bytes.now }
-{
-    match Section::read(bytes) {
-        Err(_) => None,
-        Ok((section, _)) => in_force(number, &section),
-    }
-}
-
 // What a finding says of a program.
 #[tactic(auto, unfolding(crate::specs::Services::service_found))]
 fn service_found<'f, A: Allocator>(
     number: u16,
     finding: &'f Finding<'_, A>,
 ) -> Option<FoundService<'f>>
-    ensures { option_map spec.service_texts result ≡ spec.service_found number (finding_view finding.now) }
+    ensures { option_map spec.found_service_view result ≡ spec.service_found number (finding_view finding.now) }
 {
-    match section_on(SDT_PID, finding) {
+    match sdt_found(finding) {
         None => None,
-        Some(bytes) => in_section(number, bytes),
+        Some(sdt) => in_entries(number, sdt.services),
     }
 }
 
@@ -165,7 +133,7 @@ pub fn last_service<'f, A: Allocator>(
     number: u16,
     findings: &'f [Finding<'_, A>],
 ) -> Option<FoundService<'f>>
-    ensures { option_map spec.service_texts result ≡ spec.service number (map finding_view findings.now) }
+    ensures { option_map spec.found_service_view result ≡ spec.service number (map finding_view findings.now) }
 {
     let mut last = None;
     for finding in findings {

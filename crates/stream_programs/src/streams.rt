@@ -3,7 +3,7 @@
 ghost use Rattle.std.specs.Prelude.{◌≡◌};
 ghost use Rattle.stream_programs.specs.Streams as spec;
 
-use crate::left_out::LeftOut;
+use crate::omission::TableOmission;
 use std::alloc::{Allocator, Global};
 use std::marker::Model;
 
@@ -24,7 +24,12 @@ impl<A: Allocator> Model for FoundStream<A> {
 
     ghost Value = { FoundStreamView };
 
-    ghost view = { λ s. record { program = s.program; stream_type = s.stream_type; pid = s.pid; descriptors = s.descriptors.items } };
+    ghost view = { λ s. record {
+      program = s.program;
+      stream_type = s.stream_type;
+      pid = s.pid;
+      descriptors = s.descriptors.items;
+    } };
 }
 
 // Whether streams of a type are sections (ISO/IEC 13818-1, table 2-34; SCTE 35 for 0x86), and DSM-CC (0x08), whose
@@ -63,28 +68,28 @@ fn holder<A: Allocator>(pid: u16, streams: &[FoundStream<A>]) -> Option<u16>
 }
 
 /// Why a stream is left out beside those that are kept.
-#[tactic(auto, unfolding(crate::specs::Streams::refused))]
-pub(crate) fn refused<A: Allocator>(
+#[tactic(auto, unfolding(crate::specs::Streams::omission_of))]
+pub(crate) fn omission_of<A: Allocator>(
     program: u16,
     stream_type: u8,
     pid: u16,
     kept: &[FoundStream<A>],
-) -> Option<LeftOut>
-    ensures { result ≡ spec.refused program stream_type pid kept.now }
+) -> Option<TableOmission>
+    ensures { result ≡ spec.omission_of program stream_type pid kept.now }
 {
     if has_no_pes(stream_type) {
-        return Some(LeftOut::NoPes {
+        return Some(TableOmission::NoPes {
             program,
             pid,
             stream_type,
         });
     }
     if is_reserved(pid) {
-        return Some(LeftOut::Reserved { program, pid });
+        return Some(TableOmission::Reserved { program, pid });
     }
     match holder(pid, kept) {
         None => None,
-        Some(holder) => Some(LeftOut::Taken {
+        Some(holder) => Some(TableOmission::Taken {
             program,
             pid,
             holder,

@@ -2,39 +2,43 @@
 
 ghost use Rattle.std.specs.Prelude.{◌≡◌, IfOk, map, option_map};
 ghost use Rattle.demux.specs.Shown.{finding_view};
-ghost use Rattle.stream_programs.specs.Services.{service_texts};
+ghost use Rattle.stream_programs.specs.Services.{found_service_view};
 ghost use Rattle.stream_programs.specs.Tables as spec;
 
 use crate::association::named_programs;
-use crate::placing::{Placed, placed_pids};
-use crate::programs::{FoundProgram, Programs, found_programs};
+use crate::pid_assignment::{ProgramPids, assigned_pids};
+use crate::programs::{FoundProgram, FoundPrograms, found_programs};
 use crate::services::{FoundService, last_service};
-use crate::texts::readable;
+use crate::texts::decode_text;
 use demux::Finding;
 use std::alloc::{AllocError, Allocator, Global};
 use std::marker::Model;
 
 // The most bytes that a service descriptor has room for in each of its two texts, as a description takes them.
-const LONGEST_TEXT: usize = 100;
+const MAX_TEXT_BYTES: usize = 100;
 
 /// A service with its texts as characters.
 #[derive(Drop)]
-pub struct ReadService<A: Allocator = Global> {
+pub struct DecodedService<A: Allocator = Global> {
     pub service_type: u8,
-    /// As `readable` gives it, of at most 100 bytes as a descriptor writes it.
+    /// As `decode_text` gives it, of at most 100 bytes as a descriptor writes it.
     pub provider: String<A>,
     /// As the provider.
     pub name: String<A>,
 }
 
 // A contract sees the texts as UTF-8 bytes.
-impl<A: Allocator> Model for ReadService<A> {
+impl<A: Allocator> Model for DecodedService<A> {
     ghost use Rattle.std.specs.String.{string_bytes};
-    ghost use Rattle.stream_programs.specs.Tables.{ReadServiceView};
+    ghost use Rattle.stream_programs.specs.Tables.{DecodedServiceView};
 
-    ghost Value = { ReadServiceView };
+    ghost Value = { DecodedServiceView };
 
-    ghost view = { λ s. record { service_type = s.service_type; provider = string_bytes s.provider; name = string_bytes s.name } };
+    ghost view = { λ s. record {
+      service_type = s.service_type;
+      provider = string_bytes s.provider;
+      name = string_bytes s.name;
+    } };
 }
 
 /// What the tables of a stream say.
@@ -44,11 +48,11 @@ pub struct StreamTables<A: Allocator = Global> {
     /// Of the program association sections that count.
     pub version_number: u8,
     /// The programs, their streams, and what is left out.
-    pub programs: Programs<A>,
+    pub programs: FoundPrograms<A>,
     /// For each program in order its PIDs that nothing else has; none where there is none left.
-    pub places: Option<Vec<Placed, A>>,
+    pub pids: Option<Vec<ProgramPids, A>>,
     /// For each program in order its service, where one is described.
-    pub services: Vec<Option<ReadService<A>>, A>,
+    pub services: Vec<Option<DecodedService<A>>, A>,
 }
 
 // A contract sees lists.
@@ -58,19 +62,25 @@ impl<A: Allocator> Model for StreamTables<A> {
 
     ghost Value = { TablesView };
 
-    ghost view = { λ t. record { transport_stream_id = t.transport_stream_id; version_number = t.version_number; programs = t.programs; places = option_map (λ given. given.items) t.places; services = t.services.items } };
+    ghost view = { λ t. record {
+      transport_stream_id = t.transport_stream_id;
+      version_number = t.version_number;
+      programs = t.programs;
+      pids = option_map (λ given. given.items) t.pids;
+      services = t.services.items;
+    } };
 }
 
-#[tactic(auto, unfolding(crate::specs::Tables::read_service))]
-fn read_service<A: Allocator + Copy>(
+#[tactic(auto, unfolding(crate::specs::Tables::decode_service))]
+fn decode_service<A: Allocator + Copy>(
     alloc: A,
     found: FoundService<'_>,
-) -> Result<ReadService<A>, AllocError>
-    ensures { IfOk result (λ service. service ≡ spec.read_service (service_texts found.entry)) }
+) -> Result<DecodedService<A>, AllocError>
+    ensures { IfOk result (λ service. service ≡ spec.decode_service (found_service_view found.entry)) }
 {
-    let provider = readable(alloc, found.provider, LONGEST_TEXT)?;
-    let name = readable(alloc, found.name, LONGEST_TEXT)?;
-    Ok(ReadService {
+    let provider = decode_text(alloc, found.provider, MAX_TEXT_BYTES)?;
+    let name = decode_text(alloc, found.name, MAX_TEXT_BYTES)?;
+    Ok(DecodedService {
         service_type: found.service_type,
         provider,
         name,
@@ -83,12 +93,12 @@ fn service_of<A: Allocator + Copy>(
     alloc: A,
     number: u16,
     findings: &[Finding<'_, A>],
-) -> Result<Option<ReadService<A>>, AllocError>
+) -> Result<Option<DecodedService<A>>, AllocError>
     ensures { IfOk result (λ service. service ≡ spec.service_of number (map finding_view findings.now)) }
 {
     match last_service(number, findings) {
         None => Ok(None),
-        Some(found) => Ok(Some(read_service(alloc, found)?)),
+        Some(found) => Ok(Some(decode_service(alloc, found)?)),
     }
 }
 
@@ -96,7 +106,7 @@ fn services_of<A: Allocator + Copy>(
     alloc: A,
     programs: &[FoundProgram<A>],
     findings: &[Finding<'_, A>],
-) -> Result<Vec<Option<ReadService<A>>, A>, AllocError>
+) -> Result<Vec<Option<DecodedService<A>>, A>, AllocError>
     ensures { IfOk result (λ services. services.items ≡ spec.services_of programs.now (map finding_view findings.now)) }
 {
     let mut services = Vec::new(alloc);
@@ -106,9 +116,9 @@ fn services_of<A: Allocator + Copy>(
     Ok(services)
 }
 
-/// What the tables of a stream say, by what is found of it: the programs that are named (`named_programs`) with their streams
-/// (`found_programs`), PIDs for them (`placed_pids`) and their services (`last_service`) with texts as characters (`readable`).
-/// Where no program association section is in force there is no answer.
+/// What the tables of a stream say, by what is found of it: the programs that are named (`named_programs`) with their
+/// streams (`found_programs`), PIDs for them (`assigned_pids`) and their services (`last_service`) with texts as
+/// characters (`decode_text`). Where no program association section is in force there is no answer.
 #[tactic(auto, unfolding(crate::specs::Tables::tables))]
 pub fn stream_tables<A: Allocator + Copy>(
     alloc: A,
@@ -120,13 +130,13 @@ pub fn stream_tables<A: Allocator + Copy>(
         return Ok(None);
     };
     let programs = found_programs(alloc, &named.programs, findings)?;
-    let places = placed_pids(alloc, &programs)?;
+    let pids = assigned_pids(alloc, &programs)?;
     let services = services_of(alloc, &programs.programs, findings)?;
     Ok(Some(StreamTables {
         transport_stream_id: named.transport_stream_id,
         version_number: named.version_number,
         programs,
-        places,
+        pids,
         services,
     }))
 }

@@ -1,5 +1,6 @@
-//! Tests of what is found in any stream and made of it, each over public contracts alone: the crates `demux`, `monitor`,
-//! `descriptor_loops`, `stream_programs`, `stream_units`, `unit_order`, `stream_coding`, `stream_choice`, `job_text` and `stream_jobs`.
+//! Tests of what is found in any stream and made of it, each over public contracts alone: the crates `demux`,
+//! `monitor`, `descriptor_loops`, `stream_programs`, `stream_units`, `unit_order`, `stream_coding`, `stream_choice`,
+//! `job_text` and `stream_jobs`.
 #![tactic(auto)]
 
 #[cfg(test)]

@@ -2,7 +2,7 @@
 use Rattle.std.proofs.Common.{◌≡◌, ◌≤◌, ◌<◌, ℕ, ◌+◌, ◌==◌, true, false, Some, None, List, length, drop, get_or, refl, sym, add-one}
 use Rattle.std.proofs.Math.Seq.{drop-cons}
 use Rattle.std.proofs.lemmas.List.{drop_all}
-use Rattle.stream_units.specs.Carried.{CarriedUnit}
+use Rattle.stream_units.specs.CarriedUnits.{CarriedUnit}
 use Rattle.stream_units.specs.StreamIds.{first_other_at}
 
 pub same_at : (id i : ℕ) (us : List CarriedUnit) (u : CarriedUnit) → i < length us → u ≡ get_or us i u → (u.stream_id == id) ≡ true →

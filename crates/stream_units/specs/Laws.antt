@@ -1,15 +1,15 @@
 -- What the laws of this crate say.
 use Rattle.std.specs.Prelude.{◌≡◌, ◌≤◌, ◌<◌, ℕ, ◌+◌, ◌-◌, ◌^◌, ◌++◌, Option, None, List, [], ◌∷◌, length, map, All}
 use Rattle.pes_packet.specs.AccessUnits.{AccessUnit}
-use Rattle.pes_packet.specs.Spelling.{on_wire}
-use Rattle.unit_queue.specs.Lanes.{Lane}
+use Rattle.pes_packet.specs.Encoding.{on_wire}
+use Rattle.unit_queue.specs.OwnedStreams.{OwnedStream}
 use Rattle.unit_queue.specs.Causes.{unit_cause}
 use Rattle.unit_queue.specs.Queues.{Kept}
-use Rattle.stream_units.specs.Stamps.{distance, moved, first_fault, least_after, constant_of}
+use Rattle.stream_units.specs.Stamps.{distance, moved, first_fault, min_distance, constant_of}
 use Rattle.demux.specs.Views.{FindingView}
 use Rattle.demux.specs.Laws.{found_of}
-use Rattle.stream_units.specs.Carried.{carried_units}
-use Rattle.stream_units.specs.Declaration.{least_interval, greatest_size, group_packets}
+use Rattle.stream_units.specs.CarriedUnits.{carried_units}
+use Rattle.stream_units.specs.Declaration.{min_interval, max_unit_size, group_packets}
 
 -- the units of a PID are those of its findings alone
 abbrev pub FindingsOfThePid : Type 0
@@ -29,9 +29,9 @@ after_half first stamp = distance (first + 2 ^ 32) stamp
 -- each comes as long after `earliest` as it is after the least of them, where that is below the range
 abbrev pub ConstantIsLeast : Type 0
 ConstantIsLeast = (earliest first : ℕ) (others : List ℕ) (stamp : ℕ) → earliest < 2 ^ 33 →
-    least_after (first + 2 ^ 32) (2 ^ 32) others ≤ after_half first stamp →
-    after_half first stamp - least_after (first + 2 ^ 32) (2 ^ 32) others + earliest < 2 ^ 33 →
-    distance (constant_of earliest first others) stamp ≡ after_half first stamp - least_after (first + 2 ^ 32) (2 ^ 32) others + earliest
+    min_distance (first + 2 ^ 32) (2 ^ 32) others ≤ after_half first stamp →
+    after_half first stamp - min_distance (first + 2 ^ 32) (2 ^ 32) others + earliest < 2 ^ 33 →
+    distance (constant_of earliest first others) stamp ≡ after_half first stamp - min_distance (first + 2 ^ 32) (2 ^ 32) others + earliest
 
 -- the first unit is due no earlier than a moment
 unfoldable pub FirstDue : ℕ → List AccessUnit → Type 0
@@ -39,18 +39,18 @@ FirstDue from [] = Unit {0}
 FirstDue from (u ∷ us) = from ≤ u.dts
 
 -- a stream declares at least what its units need
-pub record Declares (l : Lane) (us : List AccessUnit) : Type 0 where
-  pub interval : l.rules.interval ≤ least_interval us
-  pub size : greatest_size us ≤ l.rules.size
-  pub lead : FirstDue l.rules.lead us
-  pub group : group_packets l.rules.stream_id l.rules.base0 l.rules.group us ≤ l.rules.group_packets
+pub record Declares (l : OwnedStream) (us : List AccessUnit) : Type 0 where
+  pub interval : l.parameters.interval ≤ min_interval us
+  pub size : max_unit_size us ≤ l.parameters.size
+  pub lead : FirstDue l.parameters.lead us
+  pub group : group_packets l.parameters.stream_id l.parameters.base0 l.parameters.group us ≤ l.parameters.group_packets
 
 -- units that have bytes, and stamps that can be moments, keep what is declared of them
 abbrev pub UnitsAreKept : Type 0
-UnitsAreKept = (l : Lane) (base : ℕ) (wire : List AccessUnit) → first_fault base None 0 wire ≡ None → All (λ u. 1 ≤ length u.bytes) wire →
+UnitsAreKept = (l : OwnedStream) (base : ℕ) (wire : List AccessUnit) → first_fault base None 0 wire ≡ None → All (λ u. 1 ≤ length u.bytes) wire →
     Declares l (moved base None wire) → Kept l (moved base None wire)
 
--- each of them is then taken after those before it while no slot is written, where there is room for one
+-- each of them is then taken after those before it while no slot is written, if there is room for one
 abbrev pub TakenOneByOne : Type 0
-TakenOneByOne = (l : Lane) (capacity : ℕ) (us : List AccessUnit) (u : AccessUnit) (more : List AccessUnit) → 1 ≤ l.rules.group →
+TakenOneByOne = (l : OwnedStream) (capacity : ℕ) (us : List AccessUnit) (u : AccessUnit) (more : List AccessUnit) → 1 ≤ l.parameters.group →
     Kept l (us ++ u ∷ more) → length us < capacity → unit_cause l 0 capacity us u ≡ None

@@ -1,11 +1,11 @@
-pub mod Carried
+pub mod CarriedUnits
 pub mod Shown
-pub mod LeavingOut
+pub mod UnitWarnings
 pub mod Damage
 pub mod StreamIds
 pub mod Stamps
-pub mod Refusals
-pub mod Making
-pub mod MakeRefusals
+pub mod StampErrors
+pub mod MadeDts
+pub mod DtsErrors
 pub mod Declaration
 pub mod Laws

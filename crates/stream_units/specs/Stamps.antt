@@ -2,7 +2,7 @@
 use Rattle.std.specs.Prelude.{ℕ, ◌+◌, ◌-◌, ◌%◌, ◌^◌, ◌==◌, ◌||◌, min, nat_lt, nat_le, if◌then◌else◌, Option, Some, None, List, [], ◌∷◌}
 use Rattle.pes_packet.specs.AccessUnits.{AccessUnit}
 use Rattle.stream_units.specs.declared.stamps.StampFault.{StampFault}
-use Rattle.stream_units.specs.declared.stamps.StampFault.TheVariants.{Falls, Presented, TooFar}
+use Rattle.stream_units.specs.declared.stamps.StampFault.TheVariants.{DtsNotIncreasing, PtsOutOfRange, DtsTooFar}
 
 -- how long after a moment the clock next shows a stamp, where it shows `from` at that moment
 unfoldable pub distance : ℕ → ℕ → ℕ
@@ -31,18 +31,18 @@ moved base before (u ∷ us) = unit_at base before u ∷ moved base (Some (dts_a
 -- 2. What can't be moments of units
 
 -- a DTS that does not rise: it is the same as the one before, or nearer before that one than after it
-unfoldable pub falls : ℕ → Option ℕ → ℕ → Option StampFault
-falls base None stamp = None
-falls base (Some before) stamp =
-    if distance (before + base) stamp == 0 || nat_le (2 ^ 32) (distance (before + base) stamp) then Some (Falls (distance stamp (before + base))) else None
+unfoldable pub dts_not_increasing : ℕ → Option ℕ → ℕ → Option StampFault
+dts_not_increasing base None stamp = None
+dts_not_increasing base (Some before) stamp =
+    if distance (before + base) stamp == 0 || nat_le (2 ^ 32) (distance (before + base) stamp) then Some (DtsNotIncreasing (distance stamp (before + base))) else None
 
 -- a PTS that is over a second after its DTS, or before it
-abbrev pub presented : ℕ → ℕ → ℕ → Option StampFault
-presented base dts stamp = if nat_lt 90_000 (distance (dts + base) stamp) then Some (Presented (distance (dts + base) stamp)) else None
+abbrev pub pts_out_of_range : ℕ → ℕ → ℕ → Option StampFault
+pts_out_of_range base dts stamp = if nat_lt 90_000 (distance (dts + base) stamp) then Some (PtsOutOfRange (distance (dts + base) stamp)) else None
 
 -- a moment that no unit may have
-abbrev pub too_far : ℕ → Option StampFault
-too_far dts = if nat_lt (2 ^ 52) dts then Some TooFar else None
+abbrev pub dts_too_far : ℕ → Option StampFault
+dts_too_far dts = if nat_lt (2 ^ 52) dts then Some DtsTooFar else None
 
 -- the first of two faults
 unfoldable pub or_fault : Option StampFault → Option StampFault → Option StampFault
@@ -52,7 +52,7 @@ or_fault None next = next
 -- of a unit after a DTS or after none
 abbrev pub unit_fault : ℕ → Option ℕ → AccessUnit → Option StampFault
 unit_fault base before u =
-    or_fault (falls base before u.dts) (or_fault (presented base (dts_at base before u.dts) u.pts) (too_far (dts_at base before u.dts)))
+    or_fault (dts_not_increasing base before u.dts) (or_fault (pts_out_of_range base (dts_at base before u.dts) u.pts) (dts_too_far (dts_at base before u.dts)))
 
 -- of units one after another: the place of the first unit that has one, and its fault
 unfoldable pub fault_or : ℕ → Option StampFault → Option (ℕ × StampFault) → Option (ℕ × StampFault)
@@ -67,11 +67,11 @@ first_fault base before place (u ∷ us) =
 -- 3. The constant of a program
 
 -- of the first DTS of streams, how long each is after the moment half the range before that of the first stream: the least
-unfoldable pub least_after : ℕ → ℕ → List ℕ → ℕ
-least_after from least [] = least
-least_after from least (stamp ∷ stamps) = least_after from (min least (distance from stamp)) stamps
+unfoldable pub min_distance : ℕ → ℕ → List ℕ → ℕ
+min_distance from least [] = least
+min_distance from least (stamp ∷ stamps) = min_distance from (min least (distance from stamp)) stamps
 
 -- what the clock shows at moment 0, so that the earliest of the streams' first DTS is at moment `earliest`. Which one is the
 -- earliest can be told where all lie within half the range of each other
 abbrev pub constant_of : ℕ → ℕ → List ℕ → ℕ
-constant_of earliest first others = distance earliest (first + 2 ^ 32 + least_after (first + 2 ^ 32) (2 ^ 32) others)
+constant_of earliest first others = distance earliest (first + 2 ^ 32 + min_distance (first + 2 ^ 32) (2 ^ 32) others)

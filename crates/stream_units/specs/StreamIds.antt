@@ -1,7 +1,7 @@
 -- The stream_id of a stream's units.
 use Rattle.std.specs.Prelude.{ℕ, ◌+◌, ◌==◌, ◌&&◌, Bool, if◌then◌else◌, Option, Some, None, List, [], ◌∷◌}
 use Rattle.pes_packet.specs.StreamIds.{is_unit_id}
-use Rattle.stream_units.specs.Carried.{CarriedUnit}
+use Rattle.stream_units.specs.CarriedUnits.{CarriedUnit}
 
 -- the place of the first unit of another stream_id
 unfoldable pub first_other_at : ℕ → ℕ → List CarriedUnit → Option ℕ

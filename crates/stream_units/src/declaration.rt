@@ -1,8 +1,8 @@
 //! What a stream declares of its units, counted from them.
 
 ghost use Rattle.std.specs.Prelude.{◌≡◌, ◌≤◌, ◌<◌, ◌+◌, ◌/◌, ◌^◌, ℕ, min, length, take};
-ghost use Rattle.pes_packet.specs.Spelling.{unit_text};
-ghost use Rattle.unit_timing.specs.PesPacket.{packets_of};
+ghost use Rattle.pes_packet.specs.Encoding.{pes_packet_bytes};
+ghost use Rattle.unit_timing.specs.PesPacket.{packets_of_units};
 ghost use Rattle.stream_units.specs.Declaration as spec;
 
 use crate::unit::{dts_of, size_of};
@@ -10,8 +10,8 @@ use pes_packet::{Unit, packet_size};
 use std::alloc::Allocator;
 
 /// The least time from one DTS to the next, in units of 90 kHz: at most 90,000, and 90,000 for a single unit.
-pub fn least_interval<A: Allocator>(units: &[Unit<A>]) -> u32
-    ensures value { result ≡ spec.least_interval units.now }
+pub fn min_interval<A: Allocator>(units: &[Unit<A>]) -> u32
+    ensures value { result ≡ spec.min_interval units.now }
     ensures bound { result ≤ 90000 }
 {
     let Some((first, rest)) = units.split_first() else {
@@ -46,9 +46,9 @@ fn shorter(least: u32, time: u64) -> u32
     }
 }
 
-/// The bytes of the greatest unit.
-pub fn greatest_size<A: Allocator>(units: &[Unit<A>]) -> usize
-    ensures value { result ≡ spec.greatest_size units.now }
+/// The size of the largest unit, in bytes.
+pub fn max_unit_size<A: Allocator>(units: &[Unit<A>]) -> usize
+    ensures value { result ≡ spec.max_unit_size units.now }
     ensures bound { result < 2 ^ 63 }
 {
     let mut greatest = 0;
@@ -60,16 +60,16 @@ pub fn greatest_size<A: Allocator>(units: &[Unit<A>]) -> usize
 
 // The packets of a unit, whatever its stream_id.
 fn unit_packets<A: Allocator>(base0: u64, unit: &Unit<A>) -> u64
-    ensures value { (id : ℕ) → result ≡ (length (unit_text id base0 unit.now) + 183) / 184 }
+    ensures value { (id : ℕ) → result ≡ (length (pes_packet_bytes id base0 unit.now) + 183) / 184 }
     ensures bound { result ≤ 2 ^ 56 }
 {
     (packet_size(base0, unit) + 183) / 184
 }
 
-// The packets of the units, of which there are few.
+// The packets of fewer than 128 units.
 fn total_packets<A: Allocator>(base0: u64, units: &[Unit<A>]) -> u64
     requires { length units.now < 2 ^ 7 }
-    ensures value { (id : ℕ) → result ≡ packets_of (spec.timed_units id base0 units.now) }
+    ensures value { (id : ℕ) → result ≡ packets_of_units (spec.timed_units id base0 units.now) }
     ensures bound { result ≤ 2 ^ 63 }
 {
     let mut total = 0;
@@ -79,10 +79,10 @@ fn total_packets<A: Allocator>(base0: u64, units: &[Unit<A>]) -> u64
     total
 }
 
-// The first of the units, at most so many.
+// The first `count` units, or all if they are fewer.
 fn front<A: Allocator>(units: &[Unit<A>], count: usize) -> &[Unit<A>]
     ensures value { result.now ≡ take count units.now }
-    ensures few { length result.now ≤ count }
+    ensures bound { length result.now ≤ count }
 {
     if count < units.len() {
         &units[..count]
@@ -91,22 +91,22 @@ fn front<A: Allocator>(units: &[Unit<A>], count: usize) -> &[Unit<A>]
     }
 }
 
-// The packets of a unit of so many bytes with the longest header.
-fn most_packets(size: usize) -> u64
+// The packets of a unit of `size` bytes with the longest header.
+fn max_unit_packets(size: usize) -> u64
     requires { size < 2 ^ 63 }
-    ensures { result ≡ spec.unit_packets size }
+    ensures { result ≡ spec.max_unit_packets size }
 {
     (19 + size as u64 + 183) / 184
 }
 
-/// The most packets of `group` units in a row, or of all where they are fewer; at least as many as a unit of the greatest
-/// size has, whatever its header. The units are counted with the clock's first value `base0`, which decides which of them
-/// have a DTS in their header.
+/// The most packets of `group` units in a row, or of all if they are fewer; at least as many as a unit of the largest
+/// size has, whatever its header. The units are counted with the clock's first value `base0`, which decides which of
+/// them have a DTS in their header.
 pub fn group_packets<A: Allocator>(base0: u64, units: &[Unit<A>], group: u8) -> u64
     requires { group ≤ 64 }
     ensures { (id : ℕ) → result ≡ spec.group_packets id base0 group units.now }
 {
-    let mut most = most_packets(greatest_size(units));
+    let mut most = max_unit_packets(max_unit_size(units));
     let mut rest = units;
     while let Some((_, next)) = rest.split_first() {
         most = most.max(total_packets(base0, front(rest, group as usize)));

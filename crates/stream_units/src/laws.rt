@@ -1,19 +1,21 @@
 //! Laws of the definitions. Each function does nothing: its contract is the law.
 
-ghost use Rattle.stream_units.specs.Laws.{FindingsOfThePid, MovedByOneConstant, ConstantIsLeast, UnitsAreKept, TakenOneByOne};
+ghost use Rattle.stream_units.specs.Laws.{ConstantIsLeast, FindingsOfThePid, MovedByOneConstant};
+ghost use Rattle.stream_units.specs.Laws.{TakenOneByOne, UnitsAreKept};
 
 /// The units of a PID are a function of what is found of that PID.
 pub fn findings_of_the_pid()
     ensures { FindingsOfThePid }
 {}
 
-/// The moments of a stream's units are their stamps less one constant: with it, modulo 2^33, they are what the wire has.
+/// The moments of a stream's units are their stamps less one constant: plus that, modulo 2^33, they are the
+/// stamps.
 pub fn moved_by_one_constant()
     ensures { MovedByOneConstant }
 {}
 
-/// With the constant of a program the least first DTS of its streams is at the moment that was asked for, and each other
-/// one is as long after it as on the wire.
+/// With the constant of a program the least first DTS of its streams is at the moment that was asked for, and each
+/// other one is as long after it as on the wire.
 pub fn constant_is_least()
     ensures { ConstantIsLeast }
 {}

@@ -1,36 +1,36 @@
 //! Access units from what a demultiplexer finds, and what a stream declares so that they keep it.
 //!
-//! The units of a PID are a function of its findings (`specs/Carried`); their stamps of 33 bits become moments of a run by
-//! one constant for a program (`specs/Stamps`); the least that a stream declares is counted from them
-//! (`specs/Declaration`). The laws say that the stamps on the wire are the moments with the constant modulo 2^33, and that
-//! the units keep what is declared, so that a queue accepts each.
+//! The units of a PID are a function of its findings (`specs/CarriedUnits`); their stamps of 33 bits become moments of
+//! a run by one constant for a program (`specs/Stamps`); the least that a stream declares is counted from them
+//! (`specs/Declaration`). The laws say that the stamps on the wire are the moments with the constant modulo 2^33, and
+//! that the units keep what is declared, so that a queue accepts each.
 #![tactic(auto)]
 
-mod beginning;
-mod carrying;
+mod carried;
 mod declaration;
+mod dts_from_pts;
 mod laws;
-mod leaving_out;
-mod making;
+mod made_units;
 mod moments;
-mod moving;
-mod reason;
-mod restamping;
+mod pes_role;
 mod stamps;
 mod stream_ids;
 mod unit;
+mod unit_moments;
+mod unit_warning;
+mod warnings;
 mod wire_unit;
 
-pub use carrying::carried_units;
-pub use declaration::{greatest_size, group_packets, least_interval};
+pub use carried::carried_units;
+pub use declaration::{group_packets, max_unit_size, min_interval};
+pub use dts_from_pts::{DtsError, DtsFault, made_dts};
 pub use laws::{
     constant_is_least, findings_of_the_pid, moved_by_one_constant, taken_one_by_one, units_are_kept,
 };
-pub use leaving_out::left_out;
-pub use making::{MakeError, MakeFault, made_dts};
-pub use moving::{StampError, moved_units};
-pub use reason::{LeftOut, Reason};
-pub use restamping::made_stamps;
+pub use made_units::units_with_made_dts;
 pub use stamps::{StampFault, constant, distance};
 pub use stream_ids::{first_other, written_id};
+pub use unit_moments::{StampError, moved_units};
+pub use unit_warning::{UnitWarning, UnitWarningCause};
+pub use warnings::unit_warnings;
 pub use wire_unit::WireUnit;

@@ -1,21 +1,20 @@
 //! PTS as moments, and in order of time.
 
 ghost use Rattle.std.specs.Prelude.{◌≡◌, ◌≤◌, ◌+◌, ◌^◌, IfOk};
-ghost use Rattle.stream_units.specs.Making as spec;
+ghost use Rattle.stream_units.specs.MadeDts as spec;
 
 use crate::stamps::distance;
+use clock27::STAMP_MODULUS;
 use std::alloc::{AllocError, Allocator};
 
-// Stamps count modulo this, and half of it.
-const RANGE: u128 = 1 << 33;
-
+// Half the range of stamps.
 const HALF: u128 = 1 << 32;
 
 // Moments are counted from long before the first one.
 const START: u128 = 1 << 100;
 
 // The moment nearest to another at which the clock shows a stamp.
-#[tactic(auto, unfolding(crate::specs::Making::nearest))]
+#[tactic(auto, unfolding(crate::specs::MadeDts::nearest))]
 fn nearest(moment: u128, stamp: u64) -> u128
     requires low { 2 ^ 32 ≤ moment }
     requires high { moment ≤ 2 ^ 101 }
@@ -23,7 +22,7 @@ fn nearest(moment: u128, stamp: u64) -> u128
     ensures low { moment ≤ result + 2 ^ 32 }
     ensures high { result ≤ moment + 2 ^ 32 }
 {
-    let shown = ((moment + HALF) % RANGE) as u64;
+    let shown = ((moment + HALF) % u128::from(STAMP_MODULUS)) as u64;
     moment - HALF + u128::from(distance(shown, stamp))
 }
 

@@ -1,33 +1,26 @@
 //! The stream_id of a stream's units.
 
-ghost use Rattle.std.specs.Prelude.{◌≡◌, ◌==◌};
+ghost use Rattle.std.specs.Prelude.{◌≡◌};
 ghost use Rattle.stream_units.specs.StreamIds as spec;
 
 use crate::wire_unit::WireUnit;
 use pes_packet::is_unit_id;
 use std::alloc::Allocator;
 
-// Whether a unit has this stream_id.
-fn has_id<A: Allocator>(unit: &WireUnit<A>, id: u8) -> bool
-    ensures { result ≡ (unit.now.stream_id == id) }
-{
-    unit.stream_id == id
-}
-
 /// The place of the first unit of another stream_id than this one.
 pub fn first_other<A: Allocator>(id: u8, units: &[WireUnit<A>]) -> Option<usize>
     ensures { result ≡ spec.first_other_at id 0 units.now }
 {
     for (at, unit) in units.iter().enumerate() {
-        if !has_id(unit, id) {
+        if unit.stream_id != id {
             return Some(at);
         }
     }
     None
 }
 
-/// The stream_id that is written for one on the wire: AC-3 that has 253, extended_stream_id, is written as private_stream_1;
-/// none for one that no unit may have.
+/// The stream_id that is written for one on the wire: AC-3 that has 253, extended_stream_id, is written as
+/// private_stream_1; none for one that no unit may have.
 #[tactic(auto, unfolding(crate::specs::StreamIds::written_id))]
 pub fn written_id(id: u8, is_ac3: bool) -> Option<u8>
     ensures { result ≡ spec.written_id id is_ac3 }

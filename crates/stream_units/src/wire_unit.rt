@@ -17,7 +17,7 @@ pub struct WireUnit<A: Allocator = Global> {
 
 // A contract sees what it says, and not where its bytes are kept.
 impl<A: Allocator> Model for WireUnit<A> {
-    ghost use Rattle.stream_units.specs.Carried.{CarriedUnit};
+    ghost use Rattle.stream_units.specs.CarriedUnits.{CarriedUnit};
 
     ghost Value = { CarriedUnit };
 

@@ -1,5 +1,5 @@
-pub mod Cutting
-pub mod Placing
-pub mod Turning
-pub mod Carrying
-pub mod Beginning
+pub mod SectionParts
+pub mod Places
+pub mod CarouselSteps
+pub mod CarriedBytes
+pub mod SectionStarts

@@ -1,34 +1,34 @@
 -- What the laws of a table on its own slots say.
 use Rattle.std.specs.Prelude.{◌≡◌, ℕ, suc, ◌+◌, ◌<◌, true, false, List, take, sum_by, slice_index_or, length}
-use Rattle.ts_packet.specs.Contents.{packet_of}
+use Rattle.slot_contents.specs.Contents.{packet_of}
 use Rattle.table_rounds.specs.Parts.{places_of}
-use Rattle.table_rounds.specs.Tables.{Table, Place, round_places, place_in, table_content}
-use Rattle.table_rounds.specs.Turns.{Turn, TurnHolds, first_turn, turn_content, turned}
+use Rattle.table_rounds.specs.Tables.{Table, SectionPlace, round_places, place_in, table_content}
+use Rattle.table_rounds.specs.Carousels.{Carousel, CarouselHolds, first_carousel, carousel_content, carousel_after}
 
 -- a round has a place
 abbrev pub HasPlaces : Table → Type 0
 HasPlaces table = 0 < round_places table.lengths
 
--- these texts are the table's, for each section that there is
-abbrev pub IsTextOf : Table → (ℕ → ℕ → List ℕ) → Type 0
-IsTextOf table texts = (j moment : ℕ) → j < length table.lengths → texts j moment ≡ table.text j moment
+-- these source are the table's, for each section that there is
+abbrev pub IsSourceOf : Table → (ℕ → ℕ → List ℕ) → Type 0
+IsSourceOf table source = (j moment : ℕ) → j < length table.lengths → source j moment ≡ table.bytes j moment
 
 -- before slot 0
-abbrev pub FirstTurnLaw : Type 0
-FirstTurnLaw = (table : Table) → HasPlaces table → TurnHolds table 0 (first_turn table.pid table.rate table.start table.lengths)
+abbrev pub FirstCarouselLaw : Type 0
+FirstCarouselLaw = (table : Table) → HasPlaces table → CarouselHolds table 0 (first_carousel table.pid table.rate table.start table.lengths)
 
 -- at an own slot the state gives the slot's packet, and stands for the table in the next slot
-pub record OwnSlot (table : Table) (s : ℕ) (texts : ℕ → ℕ → List ℕ) (turn : Turn) : Type 0 where
-  pub packet : packet_of (turn_content texts s turn) ≡ packet_of (table_content table s)
-  pub holds : TurnHolds table (suc s) (turned texts s turn)
+pub record TableSlot (table : Table) (s : ℕ) (source : ℕ → ℕ → List ℕ) (carousel : Carousel) : Type 0 where
+  pub packet : packet_of (carousel_content source s carousel) ≡ packet_of (table_content table s)
+  pub holds : CarouselHolds table (suc s) (carousel_after source s carousel)
 
-abbrev pub OwnSlotLaw : Type 0
-OwnSlotLaw = (table : Table) (s : ℕ) (texts : ℕ → ℕ → List ℕ) (turn : Turn) → HasPlaces table → IsTextOf table texts → table.own s ≡ true →
-    TurnHolds table s turn → OwnSlot table s texts turn
+abbrev pub TableSlotLaw : Type 0
+TableSlotLaw = (table : Table) (s : ℕ) (source : ℕ → ℕ → List ℕ) (carousel : Carousel) → HasPlaces table → IsSourceOf table source → table.own s ≡ true →
+    CarouselHolds table s carousel → TableSlot table s source carousel
 
 -- in another slot it stays as it is
-abbrev pub OtherSlotLaw : Type 0
-OtherSlotLaw = (table : Table) (s : ℕ) (turn : Turn) → table.own s ≡ false → TurnHolds table s turn → TurnHolds table (suc s) turn
+abbrev pub OtherTableSlotLaw : Type 0
+OtherTableSlotLaw = (table : Table) (s : ℕ) (carousel : Carousel) → table.own s ≡ false → CarouselHolds table s carousel → CarouselHolds table (suc s) carousel
 
 -- section j and its part q are in place q after those of the sections before it
 abbrev pub first_place : List ℕ → ℕ → ℕ
@@ -39,7 +39,7 @@ PlaceLaw = (lengths : List ℕ) (j q : ℕ) → j < length lengths → q < place
     place_in 0 lengths (first_place lengths j + q) ≡ record { section = j; part = q }
 
 -- and each place of a round is one of these
-pub record IsPlace (lengths : List ℕ) (n : ℕ) (place : Place) : Type 0 where
+pub record IsPlace (lengths : List ℕ) (n : ℕ) (place : SectionPlace) : Type 0 where
   pub section : place.section < length lengths
   pub part : place.part < places_of (slice_index_or lengths place.section 0)
   pub number : n ≡ first_place lengths place.section + place.part

@@ -1,5 +1,5 @@
 pub mod Tables
 pub mod Parts
-pub mod Turns
+pub mod Carousels
 pub mod Laws
 pub mod Payloads

@@ -1,6 +1,6 @@
 -- The parts of a section in transport packets (ISO/IEC 13818-1, 2.4.4.1): pointer_field 0 before it, 0xFF from its end to that of the packet.
 use Rattle.std.specs.Prelude.{ℕ, ◌+◌, ◌*◌, ◌/◌, ◌==◌, nat_lt, cond, List, ◌∷◌, ◌++◌, length, take, drop, replicate, Option, Some, None}
-use Rattle.ts_packet.specs.Contents.{Content, Carries, Stuffs, Piece}
+use Rattle.slot_contents.specs.Contents.{Content, PayloadContent, NullContent, Piece}
 
 -- the packets that a section of that length takes, in bytes
 abbrev pub places_of : ℕ → ℕ
@@ -8,13 +8,13 @@ places_of l = (1 + l + 183) / 184
 
 -- pointer_field, the section, and as many bytes 0xFF as a packet can need
 abbrev pub filled : List ℕ → List ℕ
-filled text = 0 ∷ (text ++ replicate 184 0xFF)
+filled section = 0 ∷ (section ++ replicate 184 0xFF)
 
 -- part number q of a section: 184 bytes, none after the section's end
 unfoldable pub part_of : List ℕ → ℕ → Option Piece
-part_of text q = cond (nat_lt (184 * q) (1 + length text)) (Some (record { start = q == 0; bytes = take 184 (drop (184 * q) (filled text)) })) None
+part_of section q = cond (nat_lt (184 * q) (1 + length section)) (Some (record { start = q == 0; bytes = take 184 (drop (184 * q) (filled section)) })) None
 
 -- a part in a slot, where it is the payload of this number on its PID
 unfoldable pub part_content : ℕ → ℕ → Option Piece → Content
-part_content pid number None = Stuffs
-part_content pid number (Some part) = Carries pid number part.start part.bytes
+part_content pid number None = NullContent
+part_content pid number (Some part) = PayloadContent pid number part.start part.bytes

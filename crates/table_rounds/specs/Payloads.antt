@@ -3,9 +3,9 @@ use Rattle.std.specs.Prelude.{◌≡◌, ℕ, suc, ◌%◌, ◌^◌, ◌<◌, �
 use Rattle.std.specs.List.{flat_map}
 use Rattle.own_slots.specs.Slots.{own_slots}
 use Rattle.own_slots.specs.Rounds.{starts}
-use Rattle.ts_packet.specs.PidList.{Entry, is_of_pid, pid_list}
-use Rattle.ts_packet.specs.Contents.{Content, ContentFits, view_of, run_bytes, Payload, payload_of, payload_at, Piece, put}
-use Rattle.ts_packet.specs.RunLaws.{Fits}
+use Rattle.ts_packet.specs.PidList.{Entry, is_of_pid, pid_list, payload_of}
+use Rattle.slot_contents.specs.Contents.{Content, ContentFits, view_of, run_bytes, Payload, payload_at, Piece, put}
+use Rattle.slot_contents.specs.RunLaws.{Fits}
 use Rattle.table_rounds.specs.Parts.{filled}
 use Rattle.table_rounds.specs.Tables.{Table, round_places, place_at, moment_before, part_at, table_content}
 use Rattle.table_rounds.specs.Laws.{first_place}
@@ -14,7 +14,7 @@ use Rattle.table_rounds.specs.Laws.{first_place}
 abbrev pub table_payloads : Table → ℕ → List Payload
 table_payloads table n = flat_map (λ s. put s (part_at table s)) (own_slots table.own 0 n)
 
--- what stands in the finished bytes of n slots of a table
+-- what the finished bytes of n slots have of a table
 pub record TableCarried (table : Table) (n : ℕ) (bytes : List ℕ) : Type 0 where
   -- packet number j of the PID has the continuity_counter j modulo 16 (ISO/IEC 13818-1, 2.4.3.3)
   pub counters : (j : ℕ) (e : Entry) → slice_get (pid_list table.pid bytes) j ≡ Some e → e.packet.header.continuity_counter ≡ j % 16
@@ -22,14 +22,14 @@ pub record TableCarried (table : Table) (n : ℕ) (bytes : List ℕ) : Type 0 wh
   pub payloads : map payload_at (pid_list table.pid bytes) ≡ table_payloads table n
 
 -- an output in which the table, and nothing else, is on its PID
-pub record IsAlone (table : Table) (content : ℕ → Content) : Type 0 where
+pub record TableIsAlone (table : Table) (content : ℕ → Content) : Type 0 where
   pub fits : Fits content
   pub no_null : (table.pid == 8191) ≡ false
   pub own : (t : ℕ) → table.own t ≡ true → content t ≡ table_content table t
   pub others : (t : ℕ) → table.own t ≡ false → is_of_pid table.pid (view_of (content t)) ≡ false
 
 abbrev pub TableCarriedLaw : Type 0
-TableCarriedLaw = (table : Table) (n : ℕ) (content : ℕ → Content) → IsAlone table content → TableCarried table n (run_bytes content 0 n)
+TableCarriedLaw = (table : Table) (n : ℕ) (content : ℕ → Content) → TableIsAlone table content → TableCarried table n (run_bytes content 0 n)
 
 -- the first part of a section is there, whatever its length: pointer_field, and the section's bytes
 abbrev pub FirstPartLaw : Type 0
@@ -46,10 +46,10 @@ pub record Begins (table : Table) (j s : ℕ) (bytes : List ℕ) : Type 0 where
   pub entry : Entry
   pub listed : slice_get (pid_list table.pid bytes) number ≡ Some entry
   pub slot : entry.index ≡ s
-  pub start : entry.packet.header.start_indicator ≡ true
-  pub first : payload_of entry.packet ≡ take 184 (filled (table.text j (moment_before table (suc s))))
+  pub start : entry.packet.header.payload_unit_start_indicator ≡ true
+  pub first : payload_of entry.packet ≡ take 184 (filled (table.bytes j (moment_before table (suc s))))
 
 -- a section begins in each slot that is its first place
 abbrev pub BeginsLaw : Type 0
-BeginsLaw = (table : Table) (n j s : ℕ) (content : ℕ → Content) → IsAlone table content → j < length table.lengths → s < n →
+BeginsLaw = (table : Table) (n j s : ℕ) (content : ℕ → Content) → TableIsAlone table content → j < length table.lengths → s < n →
     starts table.own (round_places table.lengths) (first_place table.lengths j) s ≡ true → Begins table j s (run_bytes content 0 n)

@@ -1,9 +1,10 @@
 -- One table on its own slots. Its sections take places one after another, each as many packets as its greatest length needs; they make a
--- round, and the table's own slots, counted over the run, are the places of one round after another. A round's texts are those of the
+-- round, and the table's own slots, counted over the run, are the places of one round after another. A round's source are those of the
 -- moment at which its first slot begins.
 use Rattle.std.specs.Prelude.{ℕ, zero, suc, ◌+◌, ◌-◌, ◌*◌, ◌/◌, ◌%◌, ◌==◌, ◌&&◌, nat_lt, Bool, cond, List, [], ◌∷◌, sum_by, Option, Some, None}
+use Rattle.clock27.specs.Units.{slot_seconds_at_1bps}
 use Rattle.own_slots.specs.Slots.{own_before}
-use Rattle.ts_packet.specs.Contents.{Content, Piece}
+use Rattle.slot_contents.specs.Contents.{Content, Piece}
 use Rattle.table_rounds.specs.Parts.{places_of, part_of, part_content}
 
 pub record Table : Type 0 where
@@ -13,13 +14,13 @@ pub record Table : Type 0 where
   -- the greatest length of each section over all moments, in bytes
   pub lengths : List ℕ
   -- the bytes of a section at a moment, in seconds since 1970
-  pub text : ℕ → ℕ → List ℕ
+  pub bytes : ℕ → ℕ → List ℕ
   -- bits a second of the output, and the moment at which slot 0 begins
   pub rate : ℕ
   pub start : ℕ
 
 -- a section, and one of its places, each counted from 0
-pub record Place : Type 0 where
+pub record SectionPlace : Type 0 where
   pub section : ℕ
   pub part : ℕ
 
@@ -28,12 +29,12 @@ abbrev pub round_places : List ℕ → ℕ
 round_places lengths = sum_by places_of lengths
 
 -- the place of that number in a round of sections of these lengths, the first of which is section j
-unfoldable pub place_in : ℕ → List ℕ → ℕ → Place
+unfoldable pub place_in : ℕ → List ℕ → ℕ → SectionPlace
 place_in j [] n = record { section = j; part = n }
 place_in j (l ∷ ls) n = cond (nat_lt n (places_of l)) (record { section = j; part = n }) (place_in (suc j) ls (n - places_of l))
 
 -- the place of the own slot in slot s, or of the next one after it
-abbrev pub place_at : Table → ℕ → Place
+abbrev pub place_at : Table → ℕ → SectionPlace
 place_at table s = place_in 0 table.lengths (own_before table.own s % round_places table.lengths)
 
 -- the last slot before slot s that is the first of a round of k places
@@ -43,18 +44,18 @@ round_before own k (suc s) = cond (own s && (own_before own s % k == 0)) s (roun
 
 -- the moment at which slot s begins: a slot lasts 1,504 / rate seconds
 abbrev pub moment_of : Table → ℕ → ℕ
-moment_of table s = table.start + s * 1504 / table.rate
+moment_of table s = table.start + s * slot_seconds_at_1bps / table.rate
 
 -- the moment of the last round that began before slot s
 abbrev pub moment_before : Table → ℕ → ℕ
 moment_before table s = moment_of table (round_before table.own (round_places table.lengths) s)
 
--- the text of the section in the own slot s, and the part of it there
-abbrev pub text_at : Table → ℕ → List ℕ
-text_at table s = table.text (place_at table s).section (moment_before table (suc s))
+-- the bytes of the section in the own slot s, and the part of it there
+abbrev pub bytes_at : Table → ℕ → List ℕ
+bytes_at table s = table.bytes (place_at table s).section (moment_before table (suc s))
 
 abbrev pub part_at : Table → ℕ → Option Piece
-part_at table s = part_of (text_at table s) (place_at table s).part
+part_at table s = part_of (bytes_at table s) (place_at table s).part
 
 -- the payloads of the table before slot s, and so the number of the next one on its PID
 abbrev pub one_if_some : Option Piece → ℕ

@@ -1,20 +1,20 @@
 //! Laws of the definitions. Each function does nothing: its contract is the law.
 ghost use Rattle.table_rounds.specs.Payloads.{TableCarriedLaw, BeginsLaw, FirstPartLaw, PartFitsLaw};
-ghost use Rattle.table_rounds.specs.Laws.{FirstTurnLaw, OwnSlotLaw, OtherSlotLaw, PlaceLaw, PlaceFoundLaw};
+ghost use Rattle.table_rounds.specs.Laws.{FirstCarouselLaw, TableSlotLaw, OtherTableSlotLaw, PlaceLaw, PlaceFoundLaw};
 
 /// A new state stands for its table before slot 0.
-pub fn first_turn()
-    ensures { FirstTurnLaw }
+pub fn first_carousel()
+    ensures { FirstCarouselLaw }
 {}
 
 /// At an own slot the state gives what the table carries there, and stands for the table in the next slot.
 pub fn own_slot()
-    ensures { OwnSlotLaw }
+    ensures { TableSlotLaw }
 {}
 
 /// In a slot that is not the table's the state stays as it is.
 pub fn other_slot()
-    ensures { OtherSlotLaw }
+    ensures { OtherTableSlotLaw }
 {}
 
 /// Part q of a section is in place q after those of the sections before it.

@@ -1,90 +1,76 @@
 //! A section in packets.
 
-ghost use Rattle.std.specs.Prelude.{◌≡◌, ◌+◌, ◌-◌, ◌*◌, ◌<◌, ◌≤◌, ◌++◌, ◌^◌, length, take, drop, replicate, is_some};
-ghost use Rattle.arrayvec.specs.ArrayVec.{array_vec_len};
-ghost use Rattle.ts_packet.specs.Contents.{packet_of};
+ghost use Rattle.std.specs.Prelude.{◌≡◌, ◌+◌, ◌-◌, ◌*◌, ◌<◌, ◌++◌, ◌^◌, true, false, length, take, drop};
+ghost use Rattle.std.specs.Prelude.{replicate};
+ghost use Rattle.std.specs.Prelude.{is_some};
+ghost use Rattle.slot_contents.specs.Contents.{PayloadContent, packet_of};
 ghost use Rattle.table_rounds.specs.Parts.{filled, part_of, part_content};
 
 use arrayvec::ArrayVec;
 use bit_fields::append;
-use ts_packet::{overwrite_null, overwrite_payload};
-
-// The bytes of a packet's payload.
-const PAYLOAD: usize = 184;
+use ts_packet::{MAX_PAYLOAD, write_null_packet_into, write_split_payload_into};
 
 const FILL: [u8; 184] = [0xff; 184];
 
-fn append_fill(payload: &mut ArrayVec<u8, 184>, n: usize)
-    requires { array_vec_len payload.old + n ≤ 184 }
-    ensures items { payload.new.items ≡ payload.old.items ++ replicate n 0xFF }
-    ensures len { array_vec_len payload.new ≡ array_vec_len payload.old + n }
+// Writes the packet of a payload that has these bytes, as many as fit, and then bytes 0xFF.
+#[tactic(auto, unfolding(slot_contents::specs::Contents::packet_of))]
+fn write_filled(packet: &mut [u8; 188], pid: u16, start: bool, counter: u8, bytes: &[u8])
+    requires pid { pid < 2 ^ 13 }
+    requires lower { 0 < length bytes.now }
+    ensures { packet.new ≡ packet_of (PayloadContent pid counter start (take 184 (bytes.now ++ replicate 184 0xFF))) }
 {
-    append(payload, &FILL[..n]);
+    let (front, _) = bytes.split_at(bytes.len().min(MAX_PAYLOAD));
+    let fill = &FILL[..MAX_PAYLOAD - front.len()];
+    write_split_payload_into(packet, pid, start, counter % 16, front, fill);
 }
 
-// Fills a payload up: what stands there, then these bytes, then bytes 0xFF.
-fn fill_up(payload: &mut ArrayVec<u8, 184>, bytes: &[u8])
-    requires { array_vec_len payload.old ≤ 184 }
-    ensures items { payload.new.items
-        ≡ payload.old.items
-        ++ take (184 - array_vec_len payload.old) (bytes.now ++ replicate 184 0xFF) }
-    ensures len { array_vec_len payload.new ≡ 184 }
+// Writes the packet of the first part of a section, after pointer_field 0.
+fn write_first_part(packet: &mut [u8; 188], pid: u16, counter: u8, section: &[u8])
+    requires pid { pid < 2 ^ 13 }
+    ensures { packet.new ≡ packet_of (PayloadContent pid counter true (take 184 (filled section.now))) }
 {
-    let room = PAYLOAD - payload.len();
-    let size = bytes.len().min(room);
-    let (front, _) = bytes.split_at(size);
-    append(payload, front);
-    append_fill(payload, room - size);
+    let (front, _) = section.split_at(section.len().min(MAX_PAYLOAD - 1));
+    let mut first: ArrayVec<u8, 184> = ArrayVec::new();
+    first.push(0);
+    append(&mut first, front);
+    write_filled(packet, pid, true, counter, &first);
 }
 
-// The first part of a section.
-fn first_part(text: &[u8]) -> ArrayVec<u8, 184>
-    ensures items { result.items ≡ take 184 (filled text.now) }
-    ensures len { array_vec_len result ≡ 184 }
+// Writes the packet of a later part, from this byte of the section on.
+fn write_later_part(packet: &mut [u8; 188], pid: u16, counter: u8, section: &[u8], from: usize)
+    requires pid { pid < 2 ^ 13 }
+    requires from { from < length section.now }
+    ensures { packet.new ≡ packet_of (PayloadContent pid counter false
+        (take 184 (drop (from + 1) (filled section.now)))) }
 {
-    let mut payload = ArrayVec::new();
-    payload.push(0);
-    fill_up(&mut payload, text);
-    payload
+    let (_, rest) = section.split_at(from);
+    write_filled(packet, pid, false, counter, rest);
 }
 
-// A further part of it, from that byte of the section on.
-fn later_part(text: &[u8], from: usize) -> ArrayVec<u8, 184>
-    requires { from ≤ length text.now }
-    ensures items { result.items ≡ take 184 (drop (from + 1) (filled text.now)) }
-    ensures len { array_vec_len result ≡ 184 }
-{
-    let mut payload = ArrayVec::new();
-    let (_, rest) = text.split_at(from);
-    fill_up(&mut payload, rest);
-    payload
-}
-
-/// Writes the packet of a part of a section over what stands in `packet`, and says whether it has a payload: the null
+/// Writes the packet of a part of a section over the bytes of `packet`, and says whether it has a payload: the null
 /// packet after the section's end. The counter is taken modulo 16.
-#[tactic(auto, unfolding(crate::specs::Parts::part_of, crate::specs::Parts::part_content, ts_packet::specs::Contents::packet_of))]
-pub(crate) fn write_part(
+#[tactic(auto, unfolding(crate::specs::Parts::part_of, crate::specs::Parts::part_content, slot_contents::specs::Contents::packet_of))]
+pub(crate) fn write_section_packet(
     packet: &mut [u8; 188],
     pid: u16,
     counter: u8,
-    text: &[u8],
+    section: &[u8],
     part: usize,
 ) -> bool
     requires pid { pid < 2 ^ 13 }
     requires part { part < 2 ^ 32 }
-    ensures packet { packet.new ≡ packet_of (part_content pid counter (part_of text.now part)) }
-    ensures some { result ≡ is_some (part_of text.now part) }
+    ensures packet { packet.new ≡ packet_of (part_content pid counter (part_of section.now part)) }
+    ensures sent { result ≡ is_some (part_of section.now part) }
 {
     if part == 0 {
-        overwrite_payload(packet, pid, true, counter % 16, &first_part(text));
+        write_first_part(packet, pid, counter, section);
         return true;
     }
-    let from = PAYLOAD * part;
-    if from > text.len() {
-        overwrite_null(packet);
+    let from = MAX_PAYLOAD * part;
+    if from > section.len() {
+        write_null_packet_into(packet);
         return false;
     }
-    let payload = later_part(text, from - 1);
-    overwrite_payload(packet, pid, false, counter % 16, &payload);
+    write_later_part(packet, pid, counter, section, from - 1);
     true
 }

@@ -3,17 +3,17 @@ use Rattle.std.proofs.Common.{◌≡◌, ℕ, suc, ◌+◌, ◌*◌, ◌/◌, �
 use Rattle.std.proofs.lemmas.List.{length-append}
 use lib.Seq.{take-append_seam}
 use Rattle.bit_fields.specs.Fields.{fields, bit, flag}
-use Rattle.bit_fields.proofs.Binding.{bind_at, guarded}
-use Rattle.bit_fields.proofs.Spellings.{test_bit}
+use Rattle.bit_fields.proofs.Bind.{bind_at, guarded}
+use Rattle.bit_fields.proofs.Fields.{test_bit}
 use Rattle.clock27.specs.Reference.{Reference}
 use Rattle.ts_packet.specs.declared.header.Header.{Header}
 use Rattle.ts_packet.specs.declared.packet.PacketError.TheVariants.{FieldTooLong, PartTooLong}
-use Rattle.ts_packet.specs.Views.{PartsView, AdaptationView, NoFlags, WithFlags, PacketView}
-use Rattle.ts_packet.specs.Syntax.{control_of, IsHeader, IsReference, IsCountdown, IsCounted, IsAnnounced, IsParts, IsAdaptation, IsPayload, IsPacket}
-use Rattle.ts_packet.specs.Reading.{reference_of, reference_at, countdown_at, counted_at, parts_at, adaptation_at, field_at, body_at, header_of, packet_at}
+use Rattle.ts_packet.specs.Views.{FieldView, AdaptationView, NoFlags, WithFlags, PacketView}
+use Rattle.ts_packet.specs.Syntax.{control_of, IsHeader, IsReference, IsCountdown, IsLengthPrefixed, IsAnnounced, IsParts, IsAdaptation, IsPayload, IsPacket}
+use Rattle.ts_packet.specs.Reading.{reference_of, reference_at, countdown_at, length_prefixed_at, parts_at, adaptation_at, field_at, body_at, header_of, packet_at}
 
 -- six bytes of a clock reference are read as it
-reference_again : (text : List ℕ) (reference : Reference) → IsReference text reference → reference_of text ≡ reference
+reference_again : (wire : List ℕ) (reference : Reference) → IsReference wire reference → reference_of wire ≡ reference
 unfolding reference_of
 reference_again (a ∷ b ∷ c ∷ d ∷ e ∷ f ∷ []) reference is =
     let p : a < 256 = is.bytes 0 in
@@ -33,27 +33,27 @@ reference_again (a ∷ b ∷ c ∷ d ∷ e ∷ f ∷ []) reference is =
 reference_again _ reference is = absurd (omega (arith, is.size))
 
 -- a clock reference and what follows
-reference_read : (flagged : Bool) (part : Option Reference) (text rest : List ℕ) → flagged ≡ is_some part → IsAnnounced IsReference text part
-    → reference_at flagged (text ++ rest) ≡ Ok (part, rest)
+reference_read : (flagged : Bool) (part : Option Reference) (wire rest : List ℕ) → flagged ≡ is_some part → IsAnnounced IsReference wire part
+    → reference_at flagged (wire ++ rest) ≡ Ok (part, rest)
 unfolding reference_at
-reference_read flagged None text rest e is = rw (e, is) refl
+reference_read flagged None wire rest e is = rw (e, is) refl
 reference_read flagged (Some reference) (a ∷ b ∷ c ∷ d ∷ f ∷ g ∷ []) rest e is =
     let long : nat_lt (length ((a ∷ b ∷ c ∷ d ∷ f ∷ g ∷ []) ++ rest)) 6 ≡ false = le-ltb _ _ (omega arith) in
     let same : reference_of (a ∷ b ∷ c ∷ d ∷ f ∷ g ∷ []) ≡ reference = reference_again (a ∷ b ∷ c ∷ d ∷ f ∷ g ∷ []) reference is in
     rw e (guarded _ PartTooLong _ long ∙ ap (λ (r : Reference). Ok (Some r, rest)) same)
 reference_read flagged (Some reference) _ rest e is = absurd (omega (arith, is.size))
 
-countdown_read : (flagged : Bool) (part : Option ℤ) (text rest : List ℕ) → flagged ≡ is_some part → IsAnnounced IsCountdown text part
-    → countdown_at flagged (text ++ rest) ≡ Ok (part, rest)
+countdown_read : (flagged : Bool) (part : Option ℤ) (wire rest : List ℕ) → flagged ≡ is_some part → IsAnnounced IsCountdown wire part
+    → countdown_at flagged (wire ++ rest) ≡ Ok (part, rest)
 unfolding countdown_at
-countdown_read flagged None text rest e is = rw (e, is) refl
-countdown_read flagged (Some countdown) text rest e is = rw (e, is.is, is.signed) refl
+countdown_read flagged None wire rest e is = rw (e, is) refl
+countdown_read flagged (Some countdown) wire rest e is = rw (e, is.is, is.signed) refl
 
-counted_read : (flagged : Bool) (part : Option (List ℕ)) (text rest : List ℕ) → flagged ≡ is_some part → IsAnnounced IsCounted text part
-    → counted_at flagged (text ++ rest) ≡ Ok (part, rest)
-unfolding counted_at
-counted_read flagged None text rest e is = rw (e, is) refl
-counted_read flagged (Some counted) text rest e is =
+length_prefixed_read : (flagged : Bool) (part : Option (List ℕ)) (wire rest : List ℕ) → flagged ≡ is_some part → IsAnnounced IsLengthPrefixed wire part
+    → length_prefixed_at flagged (wire ++ rest) ≡ Ok (part, rest)
+unfolding length_prefixed_at
+length_prefixed_read flagged None wire rest e is = rw (e, is) refl
+length_prefixed_read flagged (Some counted) wire rest e is =
     let long : nat_lt (length (counted ++ rest)) (length counted) ≡ false = le-ltb _ _ (omega (arith, length-append counted rest)) in
     let front : take (length counted) (counted ++ rest) ≡ counted = take-append_seam counted rest in
     let after : drop (length counted) (counted ++ rest) ≡ rest = drop_at counted rest (length counted) refl in
@@ -90,15 +90,15 @@ flags_read flags p q r s t u v w a b c d e f g h is = record {
 }
 
 -- flags and the parts that they announce are read as they are
-parts_read : (body : List ℕ) (parts : PartsView) → IsParts body parts → adaptation_at body ≡ Ok (WithFlags parts)
+parts_read : (body : List ℕ) (parts : FieldView) → IsParts body parts → adaptation_at body ≡ Ok (WithFlags parts)
 unfolding adaptation_at parts_at
 parts_read body parts is =
-    let bits = flags_read is.flags _ _ _ _ _ _ _ _ (bit_below parts.discontinuity) (bit_below parts.random_access) (bit_below parts.priority)
+    let bits = flags_read is.flags _ _ _ _ _ _ _ _ (bit_below parts.discontinuity_indicator) (bit_below parts.random_access_indicator) (bit_below parts.elementary_stream_priority_indicator)
     (bit_below (is_some parts.pcr)) (bit_below (is_some parts.opcr)) (bit_below (is_some parts.splice_countdown))
     (bit_below (is_some parts.private_data)) (bit_below (is_some parts.extension)) is.flagged in
-    let discontinuity : flag is.flags 128 ≡ parts.discontinuity = test_bit parts.discontinuity _ bits.first in
-    let random_access : flag is.flags 64 ≡ parts.random_access = test_bit parts.random_access _ bits.second in
-    let priority : flag is.flags 32 ≡ parts.priority = test_bit parts.priority _ bits.third in
+    let discontinuity_indicator : flag is.flags 128 ≡ parts.discontinuity_indicator = test_bit parts.discontinuity_indicator _ bits.first in
+    let random_access_indicator : flag is.flags 64 ≡ parts.random_access_indicator = test_bit parts.random_access_indicator _ bits.second in
+    let priority : flag is.flags 32 ≡ parts.elementary_stream_priority_indicator = test_bit parts.elementary_stream_priority_indicator _ bits.third in
     let rest-extension = parts.stuffing in
     let rest-private = is.extension ++ rest-extension in
     let rest-splice = is.private ++ rest-private in
@@ -107,15 +107,15 @@ parts_read body parts is =
     let pcr = reference_read (flag is.flags 16) parts.pcr is.pcr rest-pcr (test_bit (is_some parts.pcr) _ bits.fourth) is.is_pcr in
     let opcr = reference_read (flag is.flags 8) parts.opcr is.opcr rest-opcr (test_bit (is_some parts.opcr) _ bits.fifth) is.is_opcr in
     let splice = countdown_read (flag is.flags 4) parts.splice_countdown is.splice rest-splice (test_bit (is_some parts.splice_countdown) _ bits.sixth) is.is_splice in
-    let private = counted_read (flag is.flags 2) parts.private_data is.private rest-private (test_bit (is_some parts.private_data) _ bits.seventh) is.is_private in
-    let extension = counted_read (flag is.flags 1) parts.extension is.extension rest-extension (test_bit (is_some parts.extension) _ bits.eighth) is.is_extension in
+    let private = length_prefixed_read (flag is.flags 2) parts.private_data is.private rest-private (test_bit (is_some parts.private_data) _ bits.seventh) is.is_private in
+    let extension = length_prefixed_read (flag is.flags 1) parts.extension is.extension rest-extension (test_bit (is_some parts.extension) _ bits.eighth) is.is_extension in
     let read : parts_at is.flags (is.pcr ++ rest-pcr) ≡ Ok parts =
     bind_at _ _ (parts.pcr, rest-pcr) pcr
     ∙ bind_at _ _ (parts.opcr, rest-opcr) opcr
     ∙ bind_at _ _ (parts.splice_countdown, rest-splice) splice
     ∙ bind_at _ _ (parts.private_data, rest-private) private
     ∙ bind_at _ _ (parts.extension, rest-extension) extension
-    ∙ rw (discontinuity, random_access, priority) refl in
+    ∙ rw (discontinuity_indicator, random_access_indicator, priority) refl in
     rw is.is (bind_at _ _ parts read)
 
 -- a length of 0 and nothing after it
@@ -177,16 +177,16 @@ header_read a b c d rest header control is below =
     let s : d < 256 = is.bytes 3 in
     let spelled = is.spelled in
     let pid_fits = is.fits.pid in
-    let scrambling_fits = is.fits.scrambling_control in
+    let scrambling_fits = is.fits.transport_scrambling_control in
     let counter_fits = is.fits.continuity_counter in
-    let t : bit header.error_indicator < 2 = bit_below header.error_indicator in
-    let u : bit header.start_indicator < 2 = bit_below header.start_indicator in
-    let v : bit header.priority < 2 = bit_below header.priority in
-    let error : flag b 128 ≡ header.error_indicator = test_bit header.error_indicator (b / 128 % 2) (omega arith) in
-    let start : flag b 64 ≡ header.start_indicator = test_bit header.start_indicator (b / 64 % 2) (omega arith) in
-    let priority : flag b 32 ≡ header.priority = test_bit header.priority (b / 32 % 2) (omega arith) in
+    let t : bit header.transport_error_indicator < 2 = bit_below header.transport_error_indicator in
+    let u : bit header.payload_unit_start_indicator < 2 = bit_below header.payload_unit_start_indicator in
+    let v : bit header.transport_priority < 2 = bit_below header.transport_priority in
+    let error : flag b 128 ≡ header.transport_error_indicator = test_bit header.transport_error_indicator (b / 128 % 2) (omega arith) in
+    let start : flag b 64 ≡ header.payload_unit_start_indicator = test_bit header.payload_unit_start_indicator (b / 64 % 2) (omega arith) in
+    let priority : flag b 32 ≡ header.transport_priority = test_bit header.transport_priority (b / 32 % 2) (omega arith) in
     let pid : b % 32 * 256 + c ≡ header.pid = omega arith in
-    let scrambling : d / 64 ≡ header.scrambling_control = omega arith in
+    let scrambling : d / 64 ≡ header.transport_scrambling_control = omega arith in
     let counter : d % 16 ≡ header.continuity_counter = omega arith in
     record { sync = omega arith; controlled = omega arith; read = rw (error, start, priority, pid, scrambling, counter) refl }
 

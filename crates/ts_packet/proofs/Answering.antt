@@ -3,7 +3,7 @@ use Rattle.std.proofs.Common.{◌≡◌, ℕ, List, length, Result, Ok, Err, IfO
 use Rattle.std.specs.Result.{IsOkAnd}
 use Rattle.bit_fields.specs.Fields.{IsBytes}
 use Rattle.bit_fields.specs.Reading.{Gives}
-use Rattle.bit_fields.proofs.Binding.{ok_is, ok_not_err}
+use Rattle.bit_fields.proofs.Bind.{ok_is, ok_not_err}
 use Rattle.ts_packet.specs.declared.packet.Packet.{Packet}
 use Rattle.ts_packet.specs.declared.packet.PacketError.{PacketError}
 use Rattle.ts_packet.specs.Views.{PacketView, packet_view}

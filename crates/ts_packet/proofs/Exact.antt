@@ -4,19 +4,19 @@ use Rattle.std.proofs.lemmas.List.{length-take, length-append}
 use Rattle.std.specs.Int.{cast_signed, w8}
 use Rattle.bit_fields.specs.Fields.{fields, bit, flag, IsBytes}
 use Rattle.bit_fields.specs.Reading.{Takes}
-use Rattle.bit_fields.proofs.Binding.{bind_ok, guard_ok, chosen, ok_is}
+use Rattle.bit_fields.proofs.Bind.{bind_ok, guard_ok, chosen, ok_is}
 use Rattle.bit_fields.proofs.ByteLists.{IsBytes-drop, IsBytes-take, IsBytes-tail, IsBytes-head, Takes-none, Takes-front}
-use Rattle.bit_fields.proofs.Spellings.{bit_test}
+use Rattle.bit_fields.proofs.Fields.{bit_test}
 use Rattle.clock27.specs.Reference.{Reference}
 use Rattle.ts_packet.specs.declared.header.Header.{Header}
 use Rattle.ts_packet.specs.declared.packet.PacketError.{PacketError}
 use Rattle.ts_packet.specs.declared.packet.PacketError.TheVariants.{Sync, FieldTooLong, PartTooLong}
-use Rattle.ts_packet.specs.Views.{PartsView, AdaptationView, NoFlags, WithFlags, PacketView}
-use Rattle.ts_packet.specs.Syntax.{control_of, IsHeader, IsReference, IsCountdown, IsCounted, IsAnnounced, IsParts, IsAdaptation, IsPayload, IsPacket}
-use Rattle.ts_packet.specs.Reading.{reference_of, reference_at, countdown_at, counted_at, parts_at, adaptation_at, field_at, body_at, header_of, packet_at}
+use Rattle.ts_packet.specs.Views.{FieldView, AdaptationView, NoFlags, WithFlags, PacketView}
+use Rattle.ts_packet.specs.Syntax.{control_of, IsHeader, IsReference, IsCountdown, IsLengthPrefixed, IsAnnounced, IsParts, IsAdaptation, IsPayload, IsPacket}
+use Rattle.ts_packet.specs.Reading.{reference_of, reference_at, countdown_at, length_prefixed_at, parts_at, adaptation_at, field_at, body_at, header_of, packet_at}
 
 -- six bytes are a clock reference
-reference_is : (text : List ℕ) → length text ≡ 6 → IsBytes text → IsReference text (reference_of text)
+reference_is : (wire : List ℕ) → length wire ≡ 6 → IsBytes wire → IsReference wire (reference_of wire)
 unfolding reference_of
 reference_is (a ∷ b ∷ c ∷ d ∷ e ∷ f ∷ []) size h =
     let p : a < 256 = h 0 in
@@ -35,15 +35,15 @@ reference_is (a ∷ b ∷ c ∷ d ∷ e ∷ f ∷ []) size h =
     }
 reference_is _ size h = absurd (omega arith)
 
--- what a part's reader gave: the part's text, and the bytes after it
+-- what a part's reader gave: the part's bytes, and the bytes after it
 record Reads {A : Type 0} (Is : List ℕ → A → Type 0) (flagged : Bool) (bytes : List ℕ) (read : Option A × List ℕ) : Type 0 where
-  text : List ℕ
-  taken : Takes bytes text read.1
+  wire : List ℕ
+  taken : Takes bytes wire read.1
   announced : is_some read.0 ≡ flagged
-  says : IsAnnounced Is text read.0
+  says : IsAnnounced Is wire read.0
 
 reads_none : {A : Type 0} (Is : List ℕ → A → Type 0) (bytes : List ℕ) → IsBytes bytes → Reads {A = A} Is false bytes (None, bytes)
-reads_none Is bytes h = record { text = []; taken = Takes-none bytes h; announced = refl; says = refl }
+reads_none Is bytes h = record { wire = []; taken = Takes-none bytes h; announced = refl; says = refl }
 
 reference_reads : (flagged : Bool) (bytes : List ℕ) (read : Option Reference × List ℕ) → IsBytes bytes
     → reference_at flagged bytes ≡ Ok read → Reads IsReference flagged bytes read
@@ -54,7 +54,7 @@ reference_reads true bytes read h e =
     let enough : 6 ≤ length bytes = ltb-false (length bytes) 6 g.0 in
     let size : length (take 6 bytes) ≡ 6 = omega (arith, length-take 6 bytes) in
     subst (Reads IsReference true bytes) (ok_is (Some (reference_of (take 6 bytes)), drop 6 bytes) read g.1) (record {
-      text = take 6 bytes;
+      wire = take 6 bytes;
       taken = Takes-front 6 bytes h;
       announced = refl;
       says = reference_is (take 6 bytes) size (IsBytes-take 6 bytes h);
@@ -67,24 +67,24 @@ countdown_reads false bytes read h e = subst (Reads IsCountdown false bytes) (ok
 countdown_reads true [] read h e = absurd cc
 countdown_reads true (byte ∷ bytes) read h e =
     subst (Reads IsCountdown true (byte ∷ bytes)) (ok_is (Some (cast_signed w8 byte), bytes) read e) (record {
-      text = byte ∷ [];
+      wire = byte ∷ [];
       taken = Takes-front 1 (byte ∷ bytes) h;
       announced = refl;
       says = record { byte = byte; is = refl; signed = refl };
     })
 
 counted_reads : (flagged : Bool) (bytes : List ℕ) (read : Option (List ℕ) × List ℕ) → IsBytes bytes
-    → counted_at flagged bytes ≡ Ok read → Reads IsCounted flagged bytes read
-unfolding counted_at
-counted_reads false bytes read h e = subst (Reads IsCounted false bytes) (ok_is (None, bytes) read e) (reads_none IsCounted bytes h)
+    → length_prefixed_at flagged bytes ≡ Ok read → Reads IsLengthPrefixed flagged bytes read
+unfolding length_prefixed_at
+counted_reads false bytes read h e = subst (Reads IsLengthPrefixed false bytes) (ok_is (None, bytes) read e) (reads_none IsLengthPrefixed bytes h)
 counted_reads true [] read h e = absurd cc
 counted_reads true (n ∷ bytes) read h e =
     let g = guard_ok (nat_lt (length bytes) n) PartTooLong (Ok (Some (take n bytes), drop n bytes)) read e in
     let enough : n ≤ length bytes = ltb-false (length bytes) n g.0 in
     let size : n ≡ length (take n bytes) = omega (arith, length-take n bytes) in
     let rest : IsBytes bytes = IsBytes-tail n bytes h in
-    subst (Reads IsCounted true (n ∷ bytes)) (ok_is (Some (take n bytes), drop n bytes) read g.1) (record {
-      text = n ∷ take n bytes;
+    subst (Reads IsLengthPrefixed true (n ∷ bytes)) (ok_is (Some (take n bytes), drop n bytes) read g.1) (record {
+      wire = n ∷ take n bytes;
       taken = record { is = ap (λ (l : List ℕ). n ∷ l) (sym (take-append-drop n bytes)); rest_fits = IsBytes-drop n bytes rest };
       announced = refl;
       says = ap (λ (m : ℕ). m ∷ take n bytes) size;
@@ -99,7 +99,7 @@ part_bit : {A : Type 0} (byte value : ℕ) (part : Option A) → is_some part �
 part_bit byte value part e = ap bit e ∙ flag_bit byte value
 
 -- the flags, and the parts that they announce
-parts_is : (flags : ℕ) (bytes : List ℕ) (parts : PartsView) → IsBytes (flags ∷ bytes) → parts_at flags bytes ≡ Ok parts → IsParts (flags ∷ bytes) parts
+parts_is : (flags : ℕ) (bytes : List ℕ) (parts : FieldView) → IsBytes (flags ∷ bytes) → parts_at flags bytes ≡ Ok parts → IsParts (flags ∷ bytes) parts
 unfolding parts_at
 parts_is flags bytes parts h e =
     let below : flags < 256 = IsBytes-head flags bytes h in
@@ -115,12 +115,12 @@ parts_is flags bytes parts h e =
     let extension = counted_reads (flag flags 1) d.0.1 f.0 private.taken.rest_fits f.1 in
     subst (IsParts (flags ∷ bytes)) (ok_is _ parts f.2) (record {
       flags = flags;
-      pcr = pcr.text;
-      opcr = opcr.text;
-      splice = splice.text;
-      private = private.text;
-      extension = extension.text;
-      is = ap (λ (l : List ℕ). flags ∷ l) (five pcr.text opcr.text splice.text private.text extension.text bytes a.0.1 b.0.1 c.0.1 d.0.1 f.0.1
+      pcr = pcr.wire;
+      opcr = opcr.wire;
+      splice = splice.wire;
+      private = private.wire;
+      extension = extension.wire;
+      is = ap (λ (l : List ℕ). flags ∷ l) (five pcr.wire opcr.wire splice.wire private.wire extension.wire bytes a.0.1 b.0.1 c.0.1 d.0.1 f.0.1
           pcr.taken.is opcr.taken.is splice.taken.is private.taken.is extension.taken.is);
       flagged = flags_are flags below (bit (is_some a.0.0)) (bit (is_some b.0.0)) (bit (is_some c.0.0)) (bit (is_some d.0.0)) (bit (is_some f.0.0))
           (part_bit flags 16 a.0.0 pcr.announced) (part_bit flags 8 b.0.0 opcr.announced) (part_bit flags 4 c.0.0 splice.announced)
@@ -155,10 +155,10 @@ adaptation_is (flags ∷ bytes) adaptation h e =
 
 -- an adaptation field and the bytes after it
 record FieldReads (most : ℕ) (bytes : List ℕ) (read : AdaptationView × List ℕ) : Type 0 where
-  text : List ℕ
-  is : bytes ≡ text ++ read.1
-  says : IsAdaptation text (Some read.0)
-  short : length text ≤ most + 1
+  wire : List ℕ
+  is : bytes ≡ wire ++ read.1
+  says : IsAdaptation wire (Some read.0)
+  short : length wire ≤ most + 1
 
 field_reads : (most : ℕ) (bytes : List ℕ) (read : AdaptationView × List ℕ) → IsBytes bytes → most < length bytes → field_at most bytes ≡ Ok read → FieldReads most bytes read
 unfolding field_at
@@ -169,7 +169,7 @@ field_reads most (n ∷ bytes) read h room e =
     let size : length (take n bytes) ≡ n = omega (arith, length-take n bytes) in
     let a = bind_ok (adaptation_at (take n bytes)) _ read g.1 in
     subst (FieldReads most (n ∷ bytes)) (ok_is (a.0, drop n bytes) read a.2) (record {
-      text = n ∷ take n bytes;
+      wire = n ∷ take n bytes;
       is = ap (λ (l : List ℕ). n ∷ l) (sym (take-append-drop n bytes));
       says = subst (λ (m : ℕ). IsAdaptation (m ∷ take n bytes) (Some a.0)) size (adaptation_is (take n bytes) a.0 (IsBytes-take n bytes (IsBytes-tail n bytes h)) a.1);
       short = omega arith;
@@ -205,7 +205,7 @@ body_reads header (suc (suc zero)) bytes packet h size below e =
     let a = bind_ok (field_at 183 bytes) _ packet e in
     let f = field_reads 183 bytes a.0 h (omega arith) a.1 in
     subst (BodyReads header 2 bytes) (ok_is (record { header = header; adaptation = Some a.0.0; payload = None }) packet a.2) (record {
-      field = f.text;
+      field = f.wire;
       rest = a.0.1;
       is = f.is;
       same = refl;
@@ -217,10 +217,10 @@ body_reads header (suc (suc zero)) bytes packet h size below e =
 body_reads header (suc (suc (suc zero))) bytes packet h size below e =
     let a = bind_ok (field_at 182 bytes) _ packet e in
     let f = field_reads 182 bytes a.0 h (omega arith) a.1 in
-    let all : length bytes ≡ length f.text + length a.0.1 = ap (length {A = ℕ}) f.is ∙ length-append f.text a.0.1 in
+    let all : length bytes ≡ length f.wire + length a.0.1 = ap (length {A = ℕ}) f.is ∙ length-append f.wire a.0.1 in
     let some : 0 < length a.0.1 = omega (arith, f.short) in
     subst (BodyReads header 3 bytes) (ok_is (record { header = header; adaptation = Some a.0.0; payload = Some a.0.1 }) packet a.2) (record {
-      field = f.text;
+      field = f.wire;
       rest = a.0.1;
       is = f.is;
       same = refl;
@@ -246,7 +246,7 @@ header_is a b c d rest h sync =
       bytes = IsBytes-take 4 (a ∷ b ∷ c ∷ d ∷ rest) h;
       size = refl;
       spelled = omega arith;
-      fits = record { pid = omega arith; scrambling_control = omega arith; continuity_counter = omega arith };
+      fits = record { pid = omega arith; transport_scrambling_control = omega arith; continuity_counter = omega arith };
     }
 
 -- what is read of 188 bytes is what they say

@@ -4,50 +4,50 @@ use Rattle.std.proofs.lemmas.List.{length-replicate}
 use Rattle.clock27.specs.Reference.{Reference}
 use Rattle.ts_packet.specs.Syntax.{control_of}
 use Rattle.ts_packet.specs.Views.{WithFlags}
-use Rattle.ts_packet.specs.Writing.{optional_text, adaptation_text, parts_text, flags_of, reference_text}
-use Rattle.ts_packet.specs.Packets.{plain_parts, filler}
+use Rattle.ts_packet.specs.Writing.{optional_bytes, adaptation_bytes, parts_bytes, flags_of, reference_bytes}
+use Rattle.ts_packet.specs.Packets.{plain_parts, stuffing_field}
 
 -- no byte
-pub filler_none : (n : ℕ) → n ≡ 0 → optional_text adaptation_text (filler n) ≡ []
-unfolding filler
-filler_none zero e = refl
-filler_none (suc n) e = absurd (omega arith)
+pub stuffing_none : (n : ℕ) → n ≡ 0 → optional_bytes adaptation_bytes (stuffing_field n) ≡ []
+unfolding stuffing_field
+stuffing_none zero e = refl
+stuffing_none (suc n) e = absurd (omega arith)
 
 -- the length alone
-pub filler_one : (n : ℕ) → n ≡ 1 → optional_text adaptation_text (filler n) ≡ 0 ∷ []
-unfolding filler adaptation_text
-filler_one zero e = absurd (omega arith)
-filler_one (suc zero) e = refl
-filler_one (suc (suc n)) e = absurd (omega arith)
+pub stuffing_one : (n : ℕ) → n ≡ 1 → optional_bytes adaptation_bytes (stuffing_field n) ≡ 0 ∷ []
+unfolding stuffing_field adaptation_bytes
+stuffing_one zero e = absurd (omega arith)
+stuffing_one (suc zero) e = refl
+stuffing_one (suc (suc n)) e = absurd (omega arith)
 
 -- the length, the flags and stuffing
-pub filler_long : (n : ℕ) → 1 < n → optional_text adaptation_text (filler n) ≡ (n - 1) ∷ 0 ∷ replicate (n - 2) 0xFF
-unfolding filler adaptation_text parts_text flags_of
-filler_long zero h = absurd (omega arith)
-filler_long (suc zero) h = absurd (omega arith)
-filler_long (suc (suc n)) h =
+pub stuffing_long : (n : ℕ) → 1 < n → optional_bytes adaptation_bytes (stuffing_field n) ≡ (n - 1) ∷ 0 ∷ replicate (n - 2) 0xFF
+unfolding stuffing_field adaptation_bytes parts_bytes flags_of
+stuffing_long zero h = absurd (omega arith)
+stuffing_long (suc zero) h = absurd (omega arith)
+stuffing_long (suc (suc n)) h =
     let size : length (replicate {A = ℕ} n 0xFF) ≡ n = length-replicate n 0xFF in
     let first : 1 + length (replicate {A = ℕ} n 0xFF) ≡ suc (suc n) - 1 = omega arith in
     let left : n ≡ suc (suc n) - 2 = omega arith in
     ap (λ (m : ℕ). m ∷ 0 ∷ replicate n 0xFF) first ∙ ap (λ (m : ℕ). (suc (suc n) - 1) ∷ 0 ∷ replicate m 0xFF) left
 
 -- a packet with a payload has no adaptation field exactly where nothing is to be filled
-pub control_none : (n : ℕ) (payload : List ℕ) → n ≡ 0 → control_of (filler n) (Some payload) ≡ 1
-unfolding filler
+pub control_none : (n : ℕ) (payload : List ℕ) → n ≡ 0 → control_of (stuffing_field n) (Some payload) ≡ 1
+unfolding stuffing_field
 control_none zero payload e = refl
 control_none (suc n) payload e = absurd (omega arith)
 
-pub control_some : (n : ℕ) (payload : List ℕ) → 0 < n → control_of (filler n) (Some payload) ≡ 3
-unfolding filler
+pub control_some : (n : ℕ) (payload : List ℕ) → 0 < n → control_of (stuffing_field n) (Some payload) ≡ 3
+unfolding stuffing_field
 control_some zero payload h = absurd (omega arith)
 control_some (suc zero) payload h = refl
 control_some (suc (suc n)) payload h = refl
 
-pub ruleset filling = (filler_none, filler_one, filler_long, control_none, control_some)
+pub ruleset filling = (stuffing_none, stuffing_one, stuffing_long, control_none, control_some)
 
 -- the adaptation field of a clock reference and stuffing
-pub clock_text : (pcr : Reference) → optional_text adaptation_text (Some (WithFlags (plain_parts (Some pcr) 176))) ≡ 183 ∷ 16 ∷ (reference_text pcr ++ replicate 176 0xFF)
-unfolding adaptation_text parts_text flags_of reference_text
-clock_text pcr = refl
+pub pcr_field_bytes : (pcr : Reference) → optional_bytes adaptation_bytes (Some (WithFlags (plain_parts (Some pcr) 176))) ≡ 183 ∷ 16 ∷ (reference_bytes pcr ++ replicate 176 0xFF)
+unfolding adaptation_bytes parts_bytes flags_of reference_bytes
+pcr_field_bytes pcr = refl
 
-pub ruleset clock = (clock_text)
+pub ruleset clock = (pcr_field_bytes)

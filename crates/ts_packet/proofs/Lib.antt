@@ -1,4 +1,3 @@
-pub mod Transfers
 pub mod Flagging
 pub mod Filling
 pub mod Exact
@@ -8,5 +7,3 @@ pub mod Written
 pub mod PlainWritten
 pub mod Listing
 pub mod PcrBytes
-pub mod Runs
-pub mod Counts

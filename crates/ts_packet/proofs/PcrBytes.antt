@@ -1,11 +1,11 @@
 -- Comparing packets with and without the bytes of a program clock reference, and where these stand.
-use Rattle.std.proofs.Common.{◌≡◌, ℕ, Bool, true, false, List, [], ◌∷◌, ◌++◌, length, take, drop, nat_eq, ◌+◌, Option, Some, refl, sym, ap, ◌∙◌, subst, drop_at, take_at, append_assoc, arith, length-append, length-drop}
+use Rattle.std.proofs.Common.{◌≡◌, ℕ, Bool, true, false, List, [], ◌∷◌, ◌++◌, length, take, drop, nat_eq, ◌+◌, Some, refl, sym, ap, ◌∙◌, subst, drop_at, take_at, append_assoc, arith, length-append, length-drop}
 use Rattle.std.proofs.lemmas.List.{length-take}
 use Rattle.std.specs.Prelude.{◌&&◌}
 use Rattle.std.specs.Str.{bytes_eq}
 use Rattle.clock27.specs.Reference.{Reference}
-use Rattle.ts_packet.specs.Views.{PartsView, AdaptationView, WithFlags, PacketView}
-use Rattle.ts_packet.specs.Syntax.{IsAdaptation, IsAnnounced, IsField, IsPacket, IsParts, IsReference}
+use Rattle.ts_packet.specs.Views.{FieldView}
+use Rattle.ts_packet.specs.Syntax.{IsAdaptation, IsAnnounced, IsField, IsReference}
 use Rattle.ts_packet.specs.PcrBytes.{without_pcr, pcr_bytes, PcrStands}
 
 bool_cases : (b : Bool) (P : Bool → Type 0) → P true → P false → P b
@@ -45,7 +45,7 @@ middle : (front pcr tail : List ℕ) → length front ≡ 6 → length pcr ≡ 6
 middle front pcr tail f p = ap (take 6) (drop_at front (pcr ++ tail) 6 f) ∙ take_at pcr tail 6 p
 
 -- after the header's four bytes, the length and the flags
-stands_in : (bytes front field rest : List ℕ) (parts : PartsView) (pcr : Reference) → bytes ≡ front ++ (field ++ rest) → length front ≡ 4 →
+stands_in : (bytes front field rest : List ℕ) (parts : FieldView) (pcr : Reference) → bytes ≡ front ++ (field ++ rest) → length front ≡ 4 →
     IsField field parts → parts.pcr ≡ Some pcr → IsReference (pcr_bytes bytes) pcr
 stands_in bytes front field rest parts pcr e n f h =
     let p = f.parted in

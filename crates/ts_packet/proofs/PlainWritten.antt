@@ -5,60 +5,60 @@ use Rattle.std.proofs.lemmas.List.Elements.{All-replicate}
 use Rattle.clock27.specs.Reference.{Reference}
 use Rattle.ts_packet.specs.Views.{WithFlags}
 use Rattle.ts_packet.specs.Syntax.{HeaderFits}
-use Rattle.ts_packet.specs.Writing.{optional_text, adaptation_text, reference_text, AdaptationFits}
-use Rattle.ts_packet.specs.Packets.{plain_header, plain_parts, filler, payload_view, payload_packet, pcr_view, pcr_packet, null_view, null_text}
-use Rattle.ts_packet.specs.Laws.{PayloadsAgain, ClocksAgain, NullAgain}
-use Rattle.ts_packet.proofs.Filling.{filler_none, filler_one, filler_long, clock_text}
+use Rattle.ts_packet.specs.Writing.{optional_bytes, adaptation_bytes, reference_bytes, AdaptationFits}
+use Rattle.ts_packet.specs.Packets.{plain_header, plain_parts, stuffing_field, payload_view, payload_packet, pcr_view, pcr_packet, null_view, null_packet}
+use Rattle.ts_packet.specs.Laws.{PayloadsAgain, PcrsAgain, NullAgain}
+use Rattle.ts_packet.proofs.Filling.{stuffing_none, stuffing_one, stuffing_long, pcr_field_bytes}
 use Rattle.ts_packet.proofs.Written.{packets_again}
 
-all_fill : (n : ℕ) → All (λ (byte : ℕ). byte ≡ 0xFF) (replicate n 0xFF)
-all_fill n = All-replicate (λ (byte : ℕ). byte ≡ 0xFF) n 0xFF refl
+all_stuffing : (n : ℕ) → All (λ (byte : ℕ). byte ≡ 0xFF) (replicate n 0xFF)
+all_stuffing n = All-replicate (λ (byte : ℕ). byte ≡ 0xFF) n 0xFF refl
 
 -- a field that fills n bytes up has n bytes
-pub length-filler : (n : ℕ) → length (optional_text adaptation_text (filler n)) ≡ n
-length-filler zero = ap (length {A = ℕ}) (filler_none zero refl)
-length-filler (suc zero) = ap (length {A = ℕ}) (filler_one (suc zero) refl)
-length-filler (suc (suc n)) =
+pub length-stuffing_field : (n : ℕ) → length (optional_bytes adaptation_bytes (stuffing_field n)) ≡ n
+length-stuffing_field zero = ap (length {A = ℕ}) (stuffing_none zero refl)
+length-stuffing_field (suc zero) = ap (length {A = ℕ}) (stuffing_one (suc zero) refl)
+length-stuffing_field (suc (suc n)) =
     let size : length (replicate {A = ℕ} (suc (suc n) - 2) 0xFF) ≡ suc (suc n) - 2 = length-replicate (suc (suc n) - 2) 0xFF in
-    ap (length {A = ℕ}) (filler_long (suc (suc n)) (omega arith)) ∙ omega arith
+    ap (length {A = ℕ}) (stuffing_long (suc (suc n)) (omega arith)) ∙ omega arith
 
 header_fits : (pid : ℕ) (start : Bool) (counter : ℕ) → pid < 2 ^ 13 → counter < 2 ^ 4 → HeaderFits (plain_header pid start counter)
-header_fits pid start counter p c = record { pid = p; scrambling_control = lit< tt; continuity_counter = c }
+header_fits pid start counter p c = record { pid = p; transport_scrambling_control = lit< tt; continuity_counter = c }
 
-filler_fits : (n : ℕ) → AdaptationFits (filler n)
-unfolding filler
-filler_fits zero = tt
-filler_fits (suc zero) = tt
-filler_fits (suc (suc n)) = record { pcr = tt; opcr = tt; splice_countdown = tt; stuffing = all_fill n }
+stuffing_fits : (n : ℕ) → AdaptationFits (stuffing_field n)
+unfolding stuffing_field
+stuffing_fits zero = tt
+stuffing_fits (suc zero) = tt
+stuffing_fits (suc (suc n)) = record { pcr = tt; opcr = tt; splice_countdown = tt; stuffing = all_stuffing n }
 
 pub payloads_again : PayloadsAgain
 unfolding payload_packet
 payloads_again pid start counter payload p c some most =
-    let field : length (optional_text adaptation_text (filler (184 - length payload))) ≡ 184 - length payload = length-filler (184 - length payload) in
+    let field : length (optional_bytes adaptation_bytes (stuffing_field (184 - length payload))) ≡ 184 - length payload = length-stuffing_field (184 - length payload) in
     packets_again (payload_view pid start counter payload) (record {
       header = header_fits pid start counter p c;
-      adaptation = filler_fits (184 - length payload);
+      adaptation = stuffing_fits (184 - length payload);
       payload = some;
       size = omega arith;
     })
 
-length-clock : (pcr : Reference) → length (optional_text adaptation_text (Some (WithFlags (plain_parts (Some pcr) 176)))) ≡ 184
-unfolding reference_text
-length-clock pcr = ap (length {A = ℕ}) (clock_text pcr)
+length-pcr_field : (pcr : Reference) → length (optional_bytes adaptation_bytes (Some (WithFlags (plain_parts (Some pcr) 176)))) ≡ 184
+unfolding reference_bytes
+length-pcr_field pcr = ap (length {A = ℕ}) (pcr_field_bytes pcr)
 
-pub clocks_again : ClocksAgain
+pub pcrs_again : PcrsAgain
 unfolding pcr_packet
-clocks_again pid pcr p fits =
-    let field = length-clock pcr in
+pcrs_again pid pcr p fits =
+    let field = length-pcr_field pcr in
     packets_again (pcr_view pid pcr) (record {
       header = header_fits pid _ 15 p (lit< tt);
-      adaptation = record { pcr = fits; opcr = tt; splice_countdown = tt; stuffing = all_fill 176 };
+      adaptation = record { pcr = fits; opcr = tt; splice_countdown = tt; stuffing = all_stuffing 176 };
       payload = tt;
       size = omega arith;
     })
 
 pub null_again : NullAgain
-unfolding null_text
+unfolding null_packet
 null_again =
     packets_again null_view (record {
       header = header_fits 0x1FFF _ 0 (lit< tt) (lit< tt);

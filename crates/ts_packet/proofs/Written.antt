@@ -8,9 +8,9 @@ use Rattle.bit_fields.specs.Fields.{fields, bit, IsBytes}
 use Rattle.bit_fields.proofs.ByteLists.{IsBytes-cons, IsBytes-nil}
 use Rattle.clock27.specs.Reference.{Reference}
 use Rattle.ts_packet.specs.declared.header.Header.{Header}
-use Rattle.ts_packet.specs.Views.{PartsView, AdaptationView, NoFlags, WithFlags, PacketView}
-use Rattle.ts_packet.specs.Syntax.{control_of, HeaderFits, IsHeader, ReferenceFits, IsReference, IsCountdown, IsCounted, IsAnnounced, IsParts, IsAdaptation, IsPayload, IsPacket}
-use Rattle.ts_packet.specs.Writing.{header_text, reference_text, optional_text, countdown_text, counted_text, flags_of, parts_text, adaptation_text, payload_text, packet_text, PartsFit, AdaptationFits, PayloadFits, PacketFits}
+use Rattle.ts_packet.specs.Views.{FieldView, AdaptationView, NoFlags, WithFlags, PacketView}
+use Rattle.ts_packet.specs.Syntax.{control_of, HeaderFits, IsHeader, ReferenceFits, IsReference, IsCountdown, IsLengthPrefixed, IsAnnounced, IsParts, IsAdaptation, IsPayload, IsPacket}
+use Rattle.ts_packet.specs.Writing.{header_bytes, reference_bytes, optional_bytes, countdown_bytes, length_prefixed_bytes, flags_of, parts_bytes, adaptation_bytes, payload_bytes, packet_bytes, PartsFit, AdaptationFits, PayloadFits, PacketFits}
 use Rattle.ts_packet.specs.Laws.{PacketsAgain}
 use Rattle.ts_packet.proofs.Again.{bit_below, control_below, packet_read}
 
@@ -22,8 +22,8 @@ bytes_six : (a b c d e f : ℕ) → a < 256 → b < 256 → c < 256 → d < 256 
 bytes_six a b c d e f p q r s t u =
     IsBytes-cons a (b ∷ c ∷ d ∷ e ∷ f ∷ []) p (IsBytes-cons b (c ∷ d ∷ e ∷ f ∷ []) q (bytes_four c d e f r s t u))
 
-reference_written : (reference : Reference) → ReferenceFits reference → IsReference (reference_text reference) reference
-unfolding reference_text
+reference_written : (reference : Reference) → ReferenceFits reference → IsReference (reference_bytes reference) reference
+unfolding reference_bytes
 reference_written reference fits =
     let base = fits.base in
     let extension = fits.extension in
@@ -38,92 +38,92 @@ reference_written reference fits =
       fits = fits;
     }
 
-announced_reference : (part : Option Reference) → IfSome part ReferenceFits → IsAnnounced IsReference (optional_text reference_text part) part
+announced_reference : (part : Option Reference) → IfSome part ReferenceFits → IsAnnounced IsReference (optional_bytes reference_bytes part) part
 announced_reference None fits = refl
 announced_reference (Some reference) fits = reference_written reference fits
 
-announced_countdown : (part : Option ℤ) → IfSome part (FitsSigned w8) → IsAnnounced IsCountdown (optional_text countdown_text part) part
+announced_countdown : (part : Option ℤ) → IfSome part (FitsSigned w8) → IsAnnounced IsCountdown (optional_bytes countdown_bytes part) part
 announced_countdown None fits = refl
 announced_countdown (Some countdown) fits = record { byte = cast_unsigned w8 countdown; is = refl; signed = sym (to_z-of_z w8 countdown fits) }
 
-announced_counted : (part : Option (List ℕ)) → IsAnnounced IsCounted (optional_text counted_text part) part
-announced_counted None = refl
-announced_counted (Some counted) = refl
+announced_length_prefixed : (part : Option (List ℕ)) → IsAnnounced IsLengthPrefixed (optional_bytes length_prefixed_bytes part) part
+announced_length_prefixed None = refl
+announced_length_prefixed (Some counted) = refl
 
-parts_written : (parts : PartsView) → PartsFit parts → IsParts (flags_of parts ∷ parts_text parts) parts
-unfolding flags_of parts_text
+parts_written : (parts : FieldView) → PartsFit parts → IsParts (flags_of parts ∷ parts_bytes parts) parts
+unfolding flags_of parts_bytes
 parts_written parts fits = record {
   flags = flags_of parts;
-  pcr = optional_text reference_text parts.pcr;
-  opcr = optional_text reference_text parts.opcr;
-  splice = optional_text countdown_text parts.splice_countdown;
-  private = optional_text counted_text parts.private_data;
-  extension = optional_text counted_text parts.extension;
+  pcr = optional_bytes reference_bytes parts.pcr;
+  opcr = optional_bytes reference_bytes parts.opcr;
+  splice = optional_bytes countdown_bytes parts.splice_countdown;
+  private = optional_bytes length_prefixed_bytes parts.private_data;
+  extension = optional_bytes length_prefixed_bytes parts.extension;
   is = refl;
   flagged = refl;
   is_pcr = announced_reference parts.pcr fits.pcr;
   is_opcr = announced_reference parts.opcr fits.opcr;
   is_splice = announced_countdown parts.splice_countdown fits.splice_countdown;
-  is_private = announced_counted parts.private_data;
-  is_extension = announced_counted parts.extension;
+  is_private = announced_length_prefixed parts.private_data;
+  is_extension = announced_length_prefixed parts.extension;
 }
 
-adaptation_written : (adaptation : Option AdaptationView) → AdaptationFits adaptation → IsAdaptation (optional_text adaptation_text adaptation) adaptation
-unfolding adaptation_text
+adaptation_written : (adaptation : Option AdaptationView) → AdaptationFits adaptation → IsAdaptation (optional_bytes adaptation_bytes adaptation) adaptation
+unfolding adaptation_bytes
 adaptation_written None fits = refl
 adaptation_written (Some NoFlags) fits = refl
 adaptation_written (Some (WithFlags parts)) fits =
-    let size : 1 + length (parts_text parts) ≡ length (flags_of parts ∷ parts_text parts) = omega arith in
+    let size : 1 + length (parts_bytes parts) ≡ length (flags_of parts ∷ parts_bytes parts) = omega arith in
     record {
-      body = flags_of parts ∷ parts_text parts;
-      is = ap (λ (n : ℕ). n ∷ flags_of parts ∷ parts_text parts) size;
+      body = flags_of parts ∷ parts_bytes parts;
+      is = ap (λ (n : ℕ). n ∷ flags_of parts ∷ parts_bytes parts) size;
       parted = parts_written parts fits;
     }
 
-payload_written : (payload : Option (List ℕ)) → PayloadFits payload → IsPayload (payload_text payload) payload
+payload_written : (payload : Option (List ℕ)) → PayloadFits payload → IsPayload (payload_bytes payload) payload
 payload_written None fits = tt
 payload_written (Some payload) fits = (refl, fits)
 
-header_written : (header : Header) (control : ℕ) → HeaderFits header → control < 4 → IsHeader (header_text header control) header control
-unfolding header_text
+header_written : (header : Header) (control : ℕ) → HeaderFits header → control < 4 → IsHeader (header_bytes header control) header control
+unfolding header_bytes
 header_written header control fits below =
     let pid = fits.pid in
-    let scrambling = fits.scrambling_control in
+    let scrambling = fits.transport_scrambling_control in
     let counter = fits.continuity_counter in
-    let t : bit header.error_indicator < 2 = bit_below header.error_indicator in
-    let u : bit header.start_indicator < 2 = bit_below header.start_indicator in
-    let v : bit header.priority < 2 = bit_below header.priority in
+    let t : bit header.transport_error_indicator < 2 = bit_below header.transport_error_indicator in
+    let u : bit header.payload_unit_start_indicator < 2 = bit_below header.payload_unit_start_indicator in
+    let v : bit header.transport_priority < 2 = bit_below header.transport_priority in
     record {
       bytes = bytes_four 0x47
-          (fields ((1, bit header.error_indicator) ∷ (1, bit header.start_indicator) ∷ (1, bit header.priority) ∷ (5, header.pid / 256) ∷ []))
-          (header.pid % 256) (fields ((2, header.scrambling_control) ∷ (2, control) ∷ (4, header.continuity_counter) ∷ []))
+          (fields ((1, bit header.transport_error_indicator) ∷ (1, bit header.payload_unit_start_indicator) ∷ (1, bit header.transport_priority) ∷ (5, header.pid / 256) ∷ []))
+          (header.pid % 256) (fields ((2, header.transport_scrambling_control) ∷ (2, control) ∷ (4, header.continuity_counter) ∷ []))
           (lit< tt) (omega arith) (omega arith) (omega arith);
       size = refl;
       spelled = omega arith;
       fits = fits;
     }
 
-length-header_text : (header : Header) (control : ℕ) → length (header_text header control) ≡ 4
-unfolding header_text
-length-header_text header control = refl
+length-header_bytes : (header : Header) (control : ℕ) → length (header_bytes header control) ≡ 4
+unfolding header_bytes
+length-header_bytes header control = refl
 
 -- a packet has a payload or an adaptation field
-not_reserved : (adaptation : Option AdaptationView) (payload : Option (List ℕ)) → 4 + length (optional_text adaptation_text adaptation) + length (payload_text payload) ≡ 188
+not_reserved : (adaptation : Option AdaptationView) (payload : Option (List ℕ)) → 4 + length (optional_bytes adaptation_bytes adaptation) + length (payload_bytes payload) ≡ 188
     → 0 < control_of adaptation payload
 not_reserved None None size = absurd (omega arith)
 not_reserved None (Some payload) size = lit< tt
 not_reserved (Some adaptation) None size = lit< tt
 not_reserved (Some adaptation) (Some payload) size = lit< tt
 
-packet_written : (packet : PacketView) → PacketFits packet → IsPacket (packet_text packet) packet
-unfolding packet_text
+packet_written : (packet : PacketView) → PacketFits packet → IsPacket (packet_bytes packet) packet
+unfolding packet_bytes
 packet_written packet fits =
     let control = control_of packet.adaptation packet.payload in
-    let front = header_text packet.header control in
-    let field = optional_text adaptation_text packet.adaptation in
-    let rest = payload_text packet.payload in
+    let front = header_bytes packet.header control in
+    let field = optional_bytes adaptation_bytes packet.adaptation in
+    let rest = payload_bytes packet.payload in
     let size = fits.size in
-    let four : length front ≡ 4 = length-header_text packet.header control in
+    let four : length front ≡ 4 = length-header_bytes packet.header control in
     let outer : length (front ++ (field ++ rest)) ≡ length front + length (field ++ rest) = length-append front (field ++ rest) in
     let inner : length (field ++ rest) ≡ length field + length rest = length-append field rest in
     record {
@@ -141,4 +141,4 @@ packet_written packet fits =
 pub packets_again : PacketsAgain
 packets_again packet fits =
     let is = packet_written packet fits in
-    record { size = is.size; says = is; read = packet_read (packet_text packet) packet is }
+    record { size = is.size; says = is; read = packet_read (packet_bytes packet) packet is }

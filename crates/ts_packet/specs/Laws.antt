@@ -4,8 +4,8 @@ use Rattle.clock27.specs.Reference.{Reference}
 use Rattle.ts_packet.specs.Views.{PacketView}
 use Rattle.ts_packet.specs.Syntax.{IsPacket, ReferenceFits}
 use Rattle.ts_packet.specs.Reading.{packet_at}
-use Rattle.ts_packet.specs.Writing.{packet_text, PacketFits}
-use Rattle.ts_packet.specs.Packets.{payload_view, payload_packet, pcr_view, pcr_packet, null_view, null_text, packets, payload_views}
+use Rattle.ts_packet.specs.Writing.{packet_bytes, PacketFits}
+use Rattle.ts_packet.specs.Packets.{payload_view, payload_packet, pcr_view, pcr_packet, null_view, null_packet, packets, payload_views}
 use Rattle.ts_packet.specs.PidList.{cut_packets, pid_list}
 
 -- the bytes of a packet say one thing, and it is read
@@ -19,17 +19,17 @@ pub record ReadAgain (bytes : List ℕ) (packet : PacketView) : Type 0 where
   pub read : packet_at bytes ≡ Ok packet
 
 abbrev pub PacketsAgain : Type 0
-PacketsAgain = (packet : PacketView) → PacketFits packet → ReadAgain (packet_text packet) packet
+PacketsAgain = (packet : PacketView) → PacketFits packet → ReadAgain (packet_bytes packet) packet
 
 abbrev pub PayloadsAgain : Type 0
 PayloadsAgain = (pid : ℕ) (start : Bool) (counter : ℕ) (payload : List ℕ) → pid < 2 ^ 13 → counter < 2 ^ 4 → 0 < length payload → length payload ≤ 184
     → ReadAgain (payload_packet pid start counter payload) (payload_view pid start counter payload)
 
-abbrev pub ClocksAgain : Type 0
-ClocksAgain = (pid : ℕ) (pcr : Reference) → pid < 2 ^ 13 → ReferenceFits pcr → ReadAgain (pcr_packet pid pcr) (pcr_view pid pcr)
+abbrev pub PcrsAgain : Type 0
+PcrsAgain = (pid : ℕ) (pcr : Reference) → pid < 2 ^ 13 → ReferenceFits pcr → ReadAgain (pcr_packet pid pcr) (pcr_view pid pcr)
 
 abbrev pub NullAgain : Type 0
-NullAgain = ReadAgain null_text null_view
+NullAgain = ReadAgain null_packet null_view
 
 -- a piece that can be the payload of a packet
 abbrev pub IsPiece : List ℕ → Type 0

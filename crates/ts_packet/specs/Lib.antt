@@ -6,9 +6,4 @@ pub mod Writing
 pub mod Packets
 pub mod PidList
 pub mod Laws
-pub mod Device
-pub mod Counting
-pub mod Faulty
 pub mod PcrBytes
-pub mod Contents
-pub mod RunLaws

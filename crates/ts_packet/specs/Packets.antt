@@ -2,26 +2,26 @@
 use Rattle.std.specs.Prelude.{ℕ, zero, suc, ◌+◌, ◌-◌, ◌%◌, List, [], ◌∷◌, ◌++◌, length, replicate, Bool, false, Option, Some, None}
 use Rattle.clock27.specs.Reference.{Reference}
 use Rattle.ts_packet.specs.declared.header.Header.{Header}
-use Rattle.ts_packet.specs.Views.{PartsView, AdaptationView, NoFlags, WithFlags, PacketView}
-use Rattle.ts_packet.specs.Writing.{packet_text}
+use Rattle.ts_packet.specs.Views.{FieldView, AdaptationView, NoFlags, WithFlags, PacketView}
+use Rattle.ts_packet.specs.Writing.{packet_bytes}
 
 -- a header in the clear, of a packet without known faults
 abbrev pub plain_header : ℕ → Bool → ℕ → Header
 plain_header pid start counter = record {
-  error_indicator = false;
-  start_indicator = start;
-  priority = false;
+  transport_error_indicator = false;
+  payload_unit_start_indicator = start;
+  transport_priority = false;
   pid = pid;
-  scrambling_control = 0;
+  transport_scrambling_control = 0;
   continuity_counter = counter;
 }
 
--- an adaptation field with stuffing, and a clock reference or none
-abbrev pub plain_parts : Option Reference → ℕ → PartsView
+-- an adaptation field with stuffing, and a program clock reference or none
+abbrev pub plain_parts : Option Reference → ℕ → FieldView
 plain_parts pcr stuffing = record {
-  discontinuity = false;
-  random_access = false;
-  priority = false;
+  discontinuity_indicator = false;
+  random_access_indicator = false;
+  elementary_stream_priority_indicator = false;
   pcr = pcr;
   opcr = None;
   splice_countdown = None;
@@ -30,24 +30,24 @@ plain_parts pcr stuffing = record {
   stuffing = replicate stuffing 0xFF;
 }
 
--- the adaptation field of so many bytes that fills a packet up: none, one of length 0, or one without parts
-unfoldable pub filler : ℕ → Option AdaptationView
-filler zero = None
-filler (suc zero) = Some NoFlags
-filler (suc (suc n)) = Some (WithFlags (plain_parts None n))
+-- an adaptation field of n bytes of stuffing: none, one of length 0, or one without parts
+unfoldable pub stuffing_field : ℕ → Option AdaptationView
+stuffing_field zero = None
+stuffing_field (suc zero) = Some NoFlags
+stuffing_field (suc (suc n)) = Some (WithFlags (plain_parts None n))
 
--- a packet of one payload of at most 184 bytes, filled up by its adaptation field
+-- a packet of one payload of at most 184 bytes, after an adaptation field of stuffing where it is shorter
 abbrev pub payload_view : ℕ → Bool → ℕ → List ℕ → PacketView
 payload_view pid start counter payload = record {
   header = plain_header pid start counter;
-  adaptation = filler (184 - length payload);
+  adaptation = stuffing_field (184 - length payload);
   payload = Some payload;
 }
 
 unfoldable pub payload_packet : ℕ → Bool → ℕ → List ℕ → List ℕ
-payload_packet pid start counter payload = packet_text (payload_view pid start counter payload)
+payload_packet pid start counter payload = packet_bytes (payload_view pid start counter payload)
 
--- a packet of a PID that carries clock references alone: no payload, and counter 15 in each
+-- a packet of a PID that carries program clock references alone: no payload, and counter 15 in each
 abbrev pub pcr_view : ℕ → Reference → PacketView
 pcr_view pid pcr = record {
   header = plain_header pid false 15;
@@ -56,7 +56,7 @@ pcr_view pid pcr = record {
 }
 
 unfoldable pub pcr_packet : ℕ → Reference → List ℕ
-pcr_packet pid pcr = packet_text (pcr_view pid pcr)
+pcr_packet pid pcr = packet_bytes (pcr_view pid pcr)
 
 -- the null packet: PID 0x1FFF and a payload of 0xFF
 abbrev pub null_view : PacketView
@@ -66,8 +66,8 @@ null_view = record {
   payload = Some (replicate 184 0xFF);
 }
 
-unfoldable pub null_text : List ℕ
-null_text = packet_text null_view
+unfoldable pub null_packet : List ℕ
+null_packet = packet_bytes null_view
 
 -- the packets of pieces on one PID, one after the other: the first has this start indicator and this number, from which each counts on;
 -- the counter is the number modulo 16

@@ -1,7 +1,7 @@
 -- Where a program clock reference stands in a packet, and comparing packets but for it.
-use Rattle.std.specs.Prelude.{◌≡◌, ℕ, ◌+◌, Bool, true, false, List, ◌++◌, take, drop, Option, Some, None, is_some}
+use Rattle.std.specs.Prelude.{◌≡◌, ℕ, ◌+◌, Bool, true, false, List, ◌++◌, take, drop, Option, Some, is_some}
 use Rattle.clock27.specs.Reference.{Reference}
-use Rattle.ts_packet.specs.Views.{PartsView, AdaptationView, WithFlags, PacketView}
+use Rattle.ts_packet.specs.Views.{FieldView, AdaptationView, WithFlags, PacketView}
 use Rattle.ts_packet.specs.Syntax.{IsPacket, IsReference}
 
 -- the number of bytes before it: the header, adaptation_field_length and the flags (ISO/IEC 13818-1, 2.4.3.2 and 2.4.3.4)
@@ -28,5 +28,5 @@ without_pcr false bytes = bytes
 
 -- in a packet with a program clock reference the bytes at its place are it
 abbrev pub PcrStands : Type 0
-PcrStands = (bytes : List ℕ) (packet : PacketView) (parts : PartsView) (pcr : Reference) → IsPacket bytes packet →
+PcrStands = (bytes : List ℕ) (packet : PacketView) (parts : FieldView) (pcr : Reference) → IsPacket bytes packet →
     packet.adaptation ≡ Some (WithFlags parts) → parts.pcr ≡ Some pcr → IsReference (pcr_bytes bytes) pcr

@@ -1,6 +1,6 @@
 -- The packets of a byte stream, and those of one PID.
-use Rattle.std.specs.Prelude.{ℕ, ◌/◌, ◌==◌, ◌&&◌, not, Bool, List, length, filter, Option, Some, None, Result, Ok, Err}
-use Rattle.std.specs.List.{enumerate_from, filter_map}
+use Rattle.std.specs.Prelude.{ℕ, ◌/◌, ◌==◌, ◌&&◌, not, Bool, List, [], length, map, filter, Option, Some, None, unwrap_or, Result, Ok, Err}
+use Rattle.std.specs.List.{concat, enumerate_from, filter_map}
 use Rattle.std.specs.Simd.{first_chunks}
 use Rattle.ts_packet.specs.declared.packet.PacketError.{PacketError}
 use Rattle.ts_packet.specs.Views.{PacketView}
@@ -27,8 +27,16 @@ entries_of bytes = filter_map (λ p. entry_of p.0 p.1 (packet_at p.1)) (enumerat
 
 -- a packet of this PID that is not known to be wrong
 abbrev pub is_of_pid : ℕ → PacketView → Bool
-is_of_pid pid packet = (packet.header.pid == pid) && not packet.header.error_indicator
+is_of_pid pid packet = (packet.header.pid == pid) && not packet.header.transport_error_indicator
 
 -- the PID list: the packets of a PID in their order, each with its index
 abbrev pub pid_list : ℕ → List ℕ → List Entry
 pid_list pid bytes = filter (λ entry. is_of_pid pid entry.packet) (entries_of bytes)
+
+-- the payload of a packet, no bytes where it has none
+abbrev pub payload_of : PacketView → List ℕ
+payload_of packet = unwrap_or packet.payload []
+
+-- the payloads of a PID in a byte stream, joined
+abbrev pub payloads_on : ℕ → List ℕ → List ℕ
+payloads_on pid bytes = concat (map (λ entry. payload_of entry.packet) (pid_list pid bytes))

@@ -7,13 +7,13 @@ use Rattle.clock27.specs.Reference.{Reference}
 use Rattle.ts_packet.specs.declared.header.Header.{Header}
 use Rattle.ts_packet.specs.declared.packet.PacketError.{PacketError}
 use Rattle.ts_packet.specs.declared.packet.PacketError.TheVariants.{Sync, ReservedControl, FieldTooLong, PartTooLong}
-use Rattle.ts_packet.specs.Views.{PartsView, AdaptationView, NoFlags, WithFlags, PacketView}
+use Rattle.ts_packet.specs.Views.{FieldView, AdaptationView, NoFlags, WithFlags, PacketView}
 
 -- a clock reference in six bytes: 33 bits, six that are not looked at, 9 bits
 unfoldable pub reference_of : List ℕ → Reference
-reference_of text = record {
-  base = (((slice_index text 0 * 256 + slice_index text 1) * 256 + slice_index text 2) * 256 + slice_index text 3) * 2 + slice_index text 4 / 128;
-  extension = slice_index text 4 % 2 * 256 + slice_index text 5;
+reference_of bytes = record {
+  base = (((slice_index bytes 0 * 256 + slice_index bytes 1) * 256 + slice_index bytes 2) * 256 + slice_index bytes 3) * 2 + slice_index bytes 4 / 128;
+  extension = slice_index bytes 4 % 2 * 256 + slice_index bytes 5;
 }
 
 -- a clock reference where its flag is set, and the bytes after it
@@ -28,23 +28,23 @@ countdown_at true [] = Err PartTooLong
 countdown_at true (byte ∷ bytes) = Ok (Some (cast_signed w8 byte), bytes)
 
 -- a byte of length and that many bytes where the flag is set, and the bytes after them
-unfoldable pub counted_at : Bool → List ℕ → Result (Option (List ℕ) × List ℕ) PacketError
-counted_at false bytes = Ok (None, bytes)
-counted_at true [] = Err PartTooLong
-counted_at true (n ∷ bytes) = if nat_lt (length bytes) n then Err PartTooLong else Ok (Some (take n bytes), drop n bytes)
+unfoldable pub length_prefixed_at : Bool → List ℕ → Result (Option (List ℕ) × List ℕ) PacketError
+length_prefixed_at false bytes = Ok (None, bytes)
+length_prefixed_at true [] = Err PartTooLong
+length_prefixed_at true (n ∷ bytes) = if nat_lt (length bytes) n then Err PartTooLong else Ok (Some (take n bytes), drop n bytes)
 
 -- the parts that the flags announce, in their order; the rest is stuffing
-unfoldable pub parts_at : ℕ → List ℕ → Result PartsView PacketError
+unfoldable pub parts_at : ℕ → List ℕ → Result FieldView PacketError
 parts_at flags bytes = do
   pcr ← reference_at (flag flags 16) bytes
   opcr ← reference_at (flag flags 8) pcr.1
   splice ← countdown_at (flag flags 4) opcr.1
-  private ← counted_at (flag flags 2) splice.1
-  extension ← counted_at (flag flags 1) private.1
+  private ← length_prefixed_at (flag flags 2) splice.1
+  extension ← length_prefixed_at (flag flags 1) private.1
   Ok (record {
-    discontinuity = flag flags 128;
-    random_access = flag flags 64;
-    priority = flag flags 32;
+    discontinuity_indicator = flag flags 128;
+    random_access_indicator = flag flags 64;
+    elementary_stream_priority_indicator = flag flags 32;
     pcr = pcr.0;
     opcr = opcr.0;
     splice_countdown = splice.0;
@@ -60,7 +60,7 @@ adaptation_at (flags ∷ bytes) = do
   parts ← parts_at flags bytes
   Ok (WithFlags parts)
 
--- an adaptation field of at most so many bytes after its length, and the bytes after it
+-- an adaptation field of at most `most` bytes after its length, and the bytes after it
 unfoldable pub field_at : ℕ → List ℕ → Result (AdaptationView × List ℕ) PacketError
 field_at most [] = Err FieldTooLong
 field_at most (n ∷ bytes) = if nat_lt most n then Err FieldTooLong else do
@@ -82,11 +82,11 @@ body_at header control bytes =
 -- the fields of the header but adaptation_field_control
 unfoldable pub header_of : List ℕ → Header
 header_of bytes = record {
-  error_indicator = flag (slice_index bytes 1) 128;
-  start_indicator = flag (slice_index bytes 1) 64;
-  priority = flag (slice_index bytes 1) 32;
+  transport_error_indicator = flag (slice_index bytes 1) 128;
+  payload_unit_start_indicator = flag (slice_index bytes 1) 64;
+  transport_priority = flag (slice_index bytes 1) 32;
   pid = slice_index bytes 1 % 32 * 256 + slice_index bytes 2;
-  scrambling_control = slice_index bytes 3 / 64;
+  transport_scrambling_control = slice_index bytes 3 / 64;
   continuity_counter = slice_index bytes 3 % 16;
 }
 

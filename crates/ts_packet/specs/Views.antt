@@ -5,16 +5,16 @@ use Rattle.std.specs.Borrow.{Bor}
 use Rattle.clock27.specs.Reference.{Reference}
 use Rattle.ts_packet.specs.declared.header.Header.{Header}
 use Rattle.ts_packet.specs.declared.adaptation.ClockReference.{ClockReference}
-use Rattle.ts_packet.specs.declared.adaptation.AdaptationParts.{AdaptationParts}
+use Rattle.ts_packet.specs.declared.adaptation.AdaptationField.{AdaptationField}
 use Rattle.ts_packet.specs.declared.adaptation.Adaptation.{Adaptation}
 use Rattle.ts_packet.specs.declared.adaptation.Adaptation.TheVariants.{Empty, Flagged}
 use Rattle.ts_packet.specs.declared.packet.Packet.{Packet}
 
 -- what stands after the flags of an adaptation field (ISO/IEC 13818-1, 2.4.3.4)
-pub record PartsView : Type 0 where
-  pub discontinuity : Bool
-  pub random_access : Bool
-  pub priority : Bool
+pub record FieldView : Type 0 where
+  pub discontinuity_indicator : Bool
+  pub random_access_indicator : Bool
+  pub elementary_stream_priority_indicator : Bool
   pub pcr : Option Reference
   pub opcr : Option Reference
   pub splice_countdown : Option ℤ
@@ -25,7 +25,7 @@ pub record PartsView : Type 0 where
 -- an adaptation field: of length 0, or flags and what they announce
 pub data AdaptationView : Type 0 where
   NoFlags : AdaptationView
-  WithFlags : PartsView → AdaptationView
+  WithFlags : FieldView → AdaptationView
 
 -- a packet
 pub record PacketView : Type 0 where
@@ -41,11 +41,11 @@ bytes_view slice = option_map (λ s. s.now) slice
 abbrev pub reference_view : ClockReference → Reference
 reference_view reference = record { base = reference.base; extension = reference.extension }
 
-abbrev pub parts_view : AdaptationParts → PartsView
-parts_view parts = record {
-  discontinuity = parts.discontinuity;
-  random_access = parts.random_access;
-  priority = parts.priority;
+abbrev pub field_view : AdaptationField → FieldView
+field_view parts = record {
+  discontinuity_indicator = parts.discontinuity_indicator;
+  random_access_indicator = parts.random_access_indicator;
+  elementary_stream_priority_indicator = parts.elementary_stream_priority_indicator;
   pcr = option_map reference_view parts.pcr;
   opcr = option_map reference_view parts.opcr;
   splice_countdown = parts.splice_countdown;
@@ -56,7 +56,7 @@ parts_view parts = record {
 
 abbrev pub adaptation_view : Adaptation → AdaptationView
 adaptation_view Empty = NoFlags
-adaptation_view (Flagged parts) = WithFlags (parts_view parts)
+adaptation_view (Flagged parts) = WithFlags (field_view parts)
 
 abbrev pub packet_view : Packet → PacketView
 packet_view packet = record {

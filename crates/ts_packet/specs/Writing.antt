@@ -7,21 +7,21 @@ use Rattle.std.specs.Option.{option_map}
 use Rattle.clock27.specs.Reference.{Reference}
 use Rattle.ts_packet.specs.declared.adaptation.Adaptation.{Adaptation}
 use Rattle.ts_packet.specs.declared.header.Header.{Header}
-use Rattle.ts_packet.specs.Views.{PartsView, AdaptationView, NoFlags, WithFlags, PacketView, adaptation_view, bytes_view}
+use Rattle.ts_packet.specs.Views.{FieldView, AdaptationView, NoFlags, WithFlags, PacketView, adaptation_view, bytes_view}
 use Rattle.ts_packet.specs.Syntax.{control_of, HeaderFits, ReferenceFits}
 
 -- the header, with its adaptation_field_control
-unfoldable pub header_text : Header → ℕ → List ℕ
-header_text header control =
+unfoldable pub header_bytes : Header → ℕ → List ℕ
+header_bytes header control =
     0x47
-    ∷ fields ((1, bit header.error_indicator) ∷ (1, bit header.start_indicator) ∷ (1, bit header.priority) ∷ (5, header.pid / 256) ∷ [])
+    ∷ fields ((1, bit header.transport_error_indicator) ∷ (1, bit header.payload_unit_start_indicator) ∷ (1, bit header.transport_priority) ∷ (5, header.pid / 256) ∷ [])
     ∷ header.pid % 256
-    ∷ fields ((2, header.scrambling_control) ∷ (2, control) ∷ (4, header.continuity_counter) ∷ [])
+    ∷ fields ((2, header.transport_scrambling_control) ∷ (2, control) ∷ (4, header.continuity_counter) ∷ [])
     ∷ []
 
 -- a clock reference; its six reserved bits are 1
-unfoldable pub reference_text : Reference → List ℕ
-reference_text reference =
+unfoldable pub reference_bytes : Reference → List ℕ
+reference_bytes reference =
     reference.base / 2 ^ 25
     ∷ reference.base / 2 ^ 17 % 256
     ∷ reference.base / 2 ^ 9 % 256
@@ -31,51 +31,51 @@ reference_text reference =
     ∷ []
 
 -- a part that may be there
-abbrev pub optional_text : {A : Type 0} → (A → List ℕ) → Option A → List ℕ
-optional_text text None = []
-optional_text text (Some part) = text part
+abbrev pub optional_bytes : {A : Type 0} → (A → List ℕ) → Option A → List ℕ
+optional_bytes bytes None = []
+optional_bytes bytes (Some part) = bytes part
 
-abbrev pub countdown_text : ℤ → List ℕ
-countdown_text countdown = cast_unsigned w8 countdown ∷ []
+abbrev pub countdown_bytes : ℤ → List ℕ
+countdown_bytes countdown = cast_unsigned w8 countdown ∷ []
 
 -- a byte of length, and the bytes
-abbrev pub counted_text : List ℕ → List ℕ
-counted_text bytes = length bytes ∷ bytes
+abbrev pub length_prefixed_bytes : List ℕ → List ℕ
+length_prefixed_bytes bytes = length bytes ∷ bytes
 
 -- the byte of flags
-unfoldable pub flags_of : PartsView → ℕ
-flags_of parts = fields ((1, bit parts.discontinuity) ∷ (1, bit parts.random_access) ∷ (1, bit parts.priority)
+unfoldable pub flags_of : FieldView → ℕ
+flags_of parts = fields ((1, bit parts.discontinuity_indicator) ∷ (1, bit parts.random_access_indicator) ∷ (1, bit parts.elementary_stream_priority_indicator)
     ∷ (1, bit (is_some parts.pcr)) ∷ (1, bit (is_some parts.opcr)) ∷ (1, bit (is_some parts.splice_countdown))
     ∷ (1, bit (is_some parts.private_data)) ∷ (1, bit (is_some parts.extension)) ∷ [])
 
 -- what the flags announce, and the stuffing
-unfoldable pub parts_text : PartsView → List ℕ
-parts_text parts =
-    optional_text reference_text parts.pcr
-    ++ (optional_text reference_text parts.opcr
-    ++ (optional_text countdown_text parts.splice_countdown
-    ++ (optional_text counted_text parts.private_data
-    ++ (optional_text counted_text parts.extension
+unfoldable pub parts_bytes : FieldView → List ℕ
+parts_bytes parts =
+    optional_bytes reference_bytes parts.pcr
+    ++ (optional_bytes reference_bytes parts.opcr
+    ++ (optional_bytes countdown_bytes parts.splice_countdown
+    ++ (optional_bytes length_prefixed_bytes parts.private_data
+    ++ (optional_bytes length_prefixed_bytes parts.extension
     ++ parts.stuffing))))
 
 -- an adaptation field
-unfoldable pub adaptation_text : AdaptationView → List ℕ
-adaptation_text NoFlags = 0 ∷ []
-adaptation_text (WithFlags parts) = (1 + length (parts_text parts)) ∷ flags_of parts ∷ parts_text parts
+unfoldable pub adaptation_bytes : AdaptationView → List ℕ
+adaptation_bytes NoFlags = 0 ∷ []
+adaptation_bytes (WithFlags parts) = (1 + length (parts_bytes parts)) ∷ flags_of parts ∷ parts_bytes parts
 
 -- a payload that may be there
-abbrev pub payload_text : Option (List ℕ) → List ℕ
-payload_text None = []
-payload_text (Some payload) = payload
+abbrev pub payload_bytes : Option (List ℕ) → List ℕ
+payload_bytes None = []
+payload_bytes (Some payload) = payload
 
 -- a packet
-unfoldable pub packet_text : PacketView → List ℕ
-packet_text packet =
-    header_text packet.header (control_of packet.adaptation packet.payload)
-    ++ (optional_text adaptation_text packet.adaptation ++ payload_text packet.payload)
+unfoldable pub packet_bytes : PacketView → List ℕ
+packet_bytes packet =
+    header_bytes packet.header (control_of packet.adaptation packet.payload)
+    ++ (optional_bytes adaptation_bytes packet.adaptation ++ payload_bytes packet.payload)
 
 -- the numbers of an adaptation field fit their fields, and its stuffing is 0xFF
-pub record PartsFit (parts : PartsView) : Type 0 where
+pub record PartsFit (parts : FieldView) : Type 0 where
   pub pcr : IfSome parts.pcr ReferenceFits
   pub opcr : IfSome parts.opcr ReferenceFits
   pub splice_countdown : IfSome parts.splice_countdown (FitsSigned w8)
@@ -96,7 +96,7 @@ pub record PacketFits (packet : PacketView) : Type 0 where
   pub header : HeaderFits packet.header
   pub adaptation : AdaptationFits packet.adaptation
   pub payload : PayloadFits packet.payload
-  pub size : 4 + length (optional_text adaptation_text packet.adaptation) + length (payload_text packet.payload) ≡ 188
+  pub size : 4 + length (optional_bytes adaptation_bytes packet.adaptation) + length (payload_bytes packet.payload) ≡ 188
 
 -- the packet that a header, an adaptation field and a payload make
 abbrev pub packet_of : Header → Option (Bor Adaptation) → Option (Bor (List ℕ)) → PacketView

@@ -29,19 +29,19 @@ pub enum Adaptation<'a> {
     /// One of length 0: the length byte alone, without flags.
     Empty,
     /// One with flags.
-    Flagged(AdaptationParts<'a>),
+    Flagged(AdaptationField<'a>),
 }
 
-/// The flags of an adaptation field and the parts that they announce. A part's flag is set exactly where the part is
-/// there.
+/// The flags of an adaptation field and the parts that they announce: a part's flag is set exactly where the part is
+/// present.
 #[derive(Clone, Copy, Debug)]
-pub struct AdaptationParts<'a> {
+pub struct AdaptationField<'a> {
     /// discontinuity_indicator.
-    pub discontinuity: bool,
+    pub discontinuity_indicator: bool,
     /// random_access_indicator.
-    pub random_access: bool,
+    pub random_access_indicator: bool,
     /// elementary_stream_priority_indicator.
-    pub priority: bool,
+    pub elementary_stream_priority_indicator: bool,
     /// Program clock reference.
     pub pcr: Option<ClockReference>,
     /// Original program clock reference.
@@ -52,6 +52,6 @@ pub struct AdaptationParts<'a> {
     pub private_data: Option<&'a [u8]>,
     /// The bytes of adaptation_field_extension, without their length.
     pub extension: Option<&'a [u8]>,
-    /// What is left of the field, 0xFF where this crate writes it.
+    /// stuffing_byte: the rest of the field, 0xFF in what this crate writes.
     pub stuffing: &'a [u8],
 }

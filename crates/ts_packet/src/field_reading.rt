@@ -1,12 +1,13 @@
 //! Reading an adaptation field from its first byte on.
-ghost use Rattle.std.specs.Prelude.{◌≡◌, ◌+◌, ◌^◌, ◌<◌, length};
+ghost use Rattle.std.specs.Prelude.{◌≡◌, ◌^◌, ◌<◌, length};
 ghost use Rattle.std.specs.Option.{option_map};
 ghost use Rattle.bit_fields.specs.Fields.{flag};
 ghost use Rattle.bit_fields.specs.Reading.{Gives};
-ghost use Rattle.ts_packet.specs.Views.{bytes_view, reference_view, parts_view, adaptation_view};
-ghost use Rattle.ts_packet.specs.Reading.{reference_of, reference_at, countdown_at, counted_at, parts_at, adaptation_at, field_at};
+ghost use Rattle.ts_packet.specs.Views.{bytes_view, reference_view, field_view, adaptation_view};
+ghost use Rattle.ts_packet.specs.Reading.{reference_of, reference_at, countdown_at, length_prefixed_at};
+ghost use Rattle.ts_packet.specs.Reading.{parts_at, adaptation_at, field_at};
 
-use crate::adaptation::{Adaptation, AdaptationParts, ClockReference};
+use crate::adaptation::{Adaptation, AdaptationField, ClockReference};
 use crate::packet::PacketError;
 
 // The flag at this bit, from 0, the lowest.
@@ -18,12 +19,12 @@ fn flag(byte: u8, bit: u8) -> bool
 }
 
 #[tactic(auto, unfolding(crate::specs::Reading::reference_of))]
-fn reference_of(text: &[u8; 6]) -> ClockReference
-    ensures { reference_view result ≡ reference_of text.now }
+fn reference_of(bytes: &[u8; 6]) -> ClockReference
+    ensures { reference_view result ≡ reference_of bytes.now }
 {
-    let high = u32::from_be_bytes([text[0], text[1], text[2], text[3]]);
-    let base = u64::from(high) << 1 | u64::from(text[4] >> 7);
-    let extension = u16::from_be_bytes([text[4] & 1, text[5]]);
+    let high = u32::from_be_bytes([bytes[0], bytes[1], bytes[2], bytes[3]]);
+    let base = u64::from(high) << 1 | u64::from(bytes[4] >> 7);
+    let extension = u16::from_be_bytes([bytes[4] & 1, bytes[5]]);
     ClockReference { base, extension }
 }
 
@@ -36,7 +37,7 @@ fn reference_at(flagged: bool, bytes: &[u8]) -> Result<(Option<ClockReference>, 
     }
     match bytes.split_first_chunk::<6>() {
         None => Err(PacketError::PartTooLong),
-        Some((text, rest)) => Ok((Some(reference_of(text)), rest)),
+        Some((field, rest)) => Ok((Some(reference_of(field)), rest)),
     }
 }
 
@@ -53,9 +54,9 @@ fn countdown_at(flagged: bool, bytes: &[u8]) -> Result<(Option<i8>, &[u8]), Pack
     }
 }
 
-#[tactic(auto, unfolding(crate::specs::Reading::counted_at))]
-fn counted_at(flagged: bool, bytes: &[u8]) -> Result<(Option<&[u8]>, &[u8]), PacketError>
-    ensures { Gives (λ x. (bytes_view x.0, x.1.now)) result (counted_at flagged bytes.now) }
+#[tactic(auto, unfolding(crate::specs::Reading::length_prefixed_at))]
+fn length_prefixed_at(flagged: bool, bytes: &[u8]) -> Result<(Option<&[u8]>, &[u8]), PacketError>
+    ensures { Gives (λ x. (bytes_view x.0, x.1.now)) result (length_prefixed_at flagged bytes.now) }
 {
     if !flagged {
         return Ok((None, bytes));
@@ -67,25 +68,25 @@ fn counted_at(flagged: bool, bytes: &[u8]) -> Result<(Option<&[u8]>, &[u8]), Pac
             if rest.len() < length {
                 return Err(PacketError::PartTooLong);
             }
-            let (counted, rest) = rest.split_at(length);
-            Ok((Some(counted), rest))
+            let (data, rest) = rest.split_at(length);
+            Ok((Some(data), rest))
         }
     }
 }
 
 #[tactic(auto, unfolding(crate::specs::Reading::parts_at))]
-fn parts_at(flags: u8, bytes: &[u8]) -> Result<AdaptationParts<'_>, PacketError>
-    ensures { Gives parts_view result (parts_at flags bytes.now) }
+fn parts_at(flags: u8, bytes: &[u8]) -> Result<AdaptationField<'_>, PacketError>
+    ensures { Gives field_view result (parts_at flags bytes.now) }
 {
     let (pcr, bytes) = reference_at(flag(flags, 4), bytes)?;
     let (opcr, bytes) = reference_at(flag(flags, 3), bytes)?;
     let (splice_countdown, bytes) = countdown_at(flag(flags, 2), bytes)?;
-    let (private_data, bytes) = counted_at(flag(flags, 1), bytes)?;
-    let (extension, stuffing) = counted_at(flag(flags, 0), bytes)?;
-    Ok(AdaptationParts {
-        discontinuity: flag(flags, 7),
-        random_access: flag(flags, 6),
-        priority: flag(flags, 5),
+    let (private_data, bytes) = length_prefixed_at(flag(flags, 1), bytes)?;
+    let (extension, stuffing) = length_prefixed_at(flag(flags, 0), bytes)?;
+    Ok(AdaptationField {
+        discontinuity_indicator: flag(flags, 7),
+        random_access_indicator: flag(flags, 6),
+        elementary_stream_priority_indicator: flag(flags, 5),
         pcr,
         opcr,
         splice_countdown,

@@ -3,16 +3,20 @@ ghost use Rattle.std.specs.Prelude.{◌≡◌, ◌+◌, ◌<◌, ◌≤◌, ◌�
 ghost use Rattle.std.specs.Int.{w8};
 ghost use Rattle.std.specs.Option.{option_map};
 ghost use Rattle.ts_packet.specs.Syntax.{HeaderFits, ReferenceFits};
-ghost use Rattle.ts_packet.specs.Views.{reference_view, parts_view, adaptation_view, bytes_view};
-ghost use Rattle.ts_packet.specs.Writing.{optional_text, reference_text, countdown_text, counted_text, parts_text, adaptation_text, payload_text, PartsFit, AdaptationFits, PayloadFits, PacketFits, packet_of};
+ghost use Rattle.ts_packet.specs.Views.{reference_view, field_view, adaptation_view, bytes_view};
+ghost use Rattle.ts_packet.specs.Writing.{optional_bytes, reference_bytes, countdown_bytes, length_prefixed_bytes};
+ghost use Rattle.ts_packet.specs.Writing.{parts_bytes, adaptation_bytes, payload_bytes};
+ghost use Rattle.ts_packet.specs.Writing.{PartsFit, AdaptationFits, PayloadFits, PacketFits, packet_of};
 
-use crate::adaptation::{Adaptation, AdaptationParts, ClockReference};
+use crate::adaptation::{Adaptation, AdaptationField, ClockReference};
 use crate::header::Header;
 
 fn header_fits(header: Header) -> bool
     ensures { IsTrue result ↔ HeaderFits header }
 {
-    header.pid < 1 << 13 && header.scrambling_control < 1 << 2 && header.continuity_counter < 1 << 4
+    header.pid < 1 << 13
+        && header.transport_scrambling_control < 1 << 2
+        && header.continuity_counter < 1 << 4
 }
 
 fn is_reference(reference: ClockReference) -> bool
@@ -40,19 +44,19 @@ fn countdown_fits(countdown: Option<i8>) -> bool
     }
 }
 
-fn is_fill(stuffing: &[u8]) -> bool
+fn is_stuffing(stuffing: &[u8]) -> bool
     ensures { IsTrue result ↔ All (λ byte. byte ≡ 0xFF) stuffing.now }
 {
     stuffing.iter().all(|byte| *byte == 0xff)
 }
 
-fn parts_fit(parts: &AdaptationParts<'_>) -> bool
-    ensures { IsTrue result ↔ PartsFit (parts_view parts.now) }
+fn parts_fit(parts: &AdaptationField<'_>) -> bool
+    ensures { IsTrue result ↔ PartsFit (field_view parts.now) }
 {
     reference_fits(parts.pcr)
         && reference_fits(parts.opcr)
         && countdown_fits(parts.splice_countdown)
-        && is_fill(parts.stuffing)
+        && is_stuffing(parts.stuffing)
 }
 
 fn adaptation_fits(adaptation: Option<&Adaptation<'_>>) -> bool
@@ -74,9 +78,9 @@ fn payload_fits(payload: Option<&[u8]>) -> bool
     }
 }
 
-#[tactic(auto, unfolding(crate::specs::Writing::reference_text))]
+#[tactic(auto, unfolding(crate::specs::Writing::reference_bytes))]
 fn reference_size(reference: Option<ClockReference>) -> u128
-    ensures size { result ≡ length (optional_text reference_text (option_map reference_view reference)) }
+    ensures size { result ≡ length (optional_bytes reference_bytes (option_map reference_view reference)) }
     ensures bound { result ≤ 6 }
 {
     match reference {
@@ -86,7 +90,7 @@ fn reference_size(reference: Option<ClockReference>) -> u128
 }
 
 fn countdown_size(countdown: Option<i8>) -> u128
-    ensures size { result ≡ length (optional_text countdown_text countdown) }
+    ensures size { result ≡ length (optional_bytes countdown_bytes countdown) }
     ensures bound { result ≤ 1 }
 {
     match countdown {
@@ -95,29 +99,29 @@ fn countdown_size(countdown: Option<i8>) -> u128
     }
 }
 
-fn counted_size(counted: Option<&[u8]>) -> u128
-    ensures size { result ≡ length (optional_text counted_text (bytes_view counted.entry)) }
+fn length_prefixed_size(bytes: Option<&[u8]>) -> u128
+    ensures size { result ≡ length (optional_bytes length_prefixed_bytes (bytes_view bytes.entry)) }
     ensures bound { result ≤ 2 ^ 64 }
 {
-    match counted {
+    match bytes {
         None => 0,
-        Some(counted) => 1 + counted.len() as u128,
+        Some(bytes) => 1 + bytes.len() as u128,
     }
 }
 
-#[tactic(auto, unfolding(crate::specs::Writing::parts_text))]
-pub fn parts_size(parts: &AdaptationParts<'_>) -> u128
-    ensures size { result ≡ length (parts_text (parts_view parts.now)) }
+#[tactic(auto, unfolding(crate::specs::Writing::parts_bytes))]
+pub fn parts_size(parts: &AdaptationField<'_>) -> u128
+    ensures size { result ≡ length (parts_bytes (field_view parts.now)) }
     ensures bound { result < 2 ^ 67 }
 {
     let clocks = reference_size(parts.pcr) + reference_size(parts.opcr);
-    let data = counted_size(parts.private_data) + counted_size(parts.extension);
+    let data = length_prefixed_size(parts.private_data) + length_prefixed_size(parts.extension);
     clocks + countdown_size(parts.splice_countdown) + data + parts.stuffing.len() as u128
 }
 
-#[tactic(auto, unfolding(crate::specs::Writing::adaptation_text))]
+#[tactic(auto, unfolding(crate::specs::Writing::adaptation_bytes))]
 fn adaptation_size(adaptation: Option<&Adaptation<'_>>) -> u128
-    ensures size { result ≡ length (optional_text adaptation_text
+    ensures size { result ≡ length (optional_bytes adaptation_bytes
         (option_map (λ a. adaptation_view a.now) adaptation.entry)) }
     ensures bound { result < 2 ^ 68 }
 {
@@ -129,7 +133,7 @@ fn adaptation_size(adaptation: Option<&Adaptation<'_>>) -> u128
 }
 
 fn payload_size(payload: Option<&[u8]>) -> u128
-    ensures size { result ≡ length (payload_text (bytes_view payload.entry)) }
+    ensures size { result ≡ length (payload_bytes (bytes_view payload.entry)) }
     ensures bound { result < 2 ^ 64 }
 {
     match payload {
@@ -138,8 +142,8 @@ fn payload_size(payload: Option<&[u8]>) -> u128
     }
 }
 
-/// Whether `write_packet` can write them: they make 188 bytes, each number fits its field, stuffing is 0xFF alone, and
-/// a payload has at least one byte.
+/// Whether `write_packet` can write them: they make 188 bytes, each number fits its field, each stuffing byte is 0xFF,
+/// and a payload has at least one byte.
 pub fn fits(header: Header, adaptation: Option<&Adaptation<'_>>, payload: Option<&[u8]>) -> bool
     ensures { IsTrue result ↔ PacketFits (packet_of header adaptation.entry payload.entry) }
 {

@@ -1,6 +1,7 @@
 //! Laws of the definitions. Each function does nothing: its contract is the law.
 ghost use Rattle.ts_packet.specs.PcrBytes.{PcrStands};
-ghost use Rattle.ts_packet.specs.Laws.{ReadOnce, PacketsAgain, PayloadsAgain, ClocksAgain, NullAgain, FirstCut, PiecesListed};
+ghost use Rattle.ts_packet.specs.Laws.{ReadOnce, PacketsAgain, PayloadsAgain, PcrsAgain, NullAgain};
+ghost use Rattle.ts_packet.specs.Laws.{FirstCut, PiecesListed};
 
 /// The bytes of a packet say one thing, and it is read.
 pub fn read_once()
@@ -12,14 +13,14 @@ pub fn packets_again()
     ensures { PacketsAgain }
 {}
 
-/// The packet of a payload is read again as that payload, with a plain header and the adaptation field that fills it up.
+/// The packet of a payload is read again as that payload, with a plain header and the adaptation field of stuffing.
 pub fn payloads_again()
     ensures { PayloadsAgain }
 {}
 
-/// The packet of a clock reference is read again as that reference, without a payload and with counter 15.
-pub fn clocks_again()
-    ensures { ClocksAgain }
+/// The packet of a program clock reference is read again as that reference, without a payload and with counter 15.
+pub fn pcrs_again()
+    ensures { PcrsAgain }
 {}
 
 /// The null packet is read again.
@@ -27,17 +28,17 @@ pub fn null_again()
     ensures { NullAgain }
 {}
 
-/// A byte stream is cut by 188 from its first byte on: a whole packet in front is its first.
+/// A byte stream is cut into packets of 188 bytes from its first byte on: a whole packet in front is its first.
 pub fn first_cut()
     ensures { FirstCut }
 {}
 
-/// The packets of pieces on one PID, read back from their bytes, are those pieces in order.
+/// The packets of payloads on one PID, read back from their bytes, are those payloads in order.
 pub fn pieces_listed()
     ensures { PiecesListed }
 {}
 
-/// In a packet with a program clock reference, bytes 6 to 11 are it.
+/// In a packet with a program clock reference, it is bytes 6 to 11.
 pub fn pcr_stands()
     ensures { PcrStands }
 {}

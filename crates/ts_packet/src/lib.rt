@@ -1,13 +1,14 @@
-//! Transport packets of ISO/IEC 13818-1 (2.4.3), and the devices that they are read from and written to.
+//! Transport packets of ISO/IEC 13818-1 (2.4.3).
 //!
-//! A packet is 188 bytes: a `Header`, an `Adaptation` field or none, and a payload or none. `read_packet` lends all
+//! A packet is 188 bytes: a `Header`, an `Adaptation` field or none, and a payload or none. `read_packet` borrows all
 //! three from the caller's bytes, or names the first of four faults; `write_packet` writes what `fits` accepts. A
 //! multiplexer writes three kinds of packet: `write_payload`, `write_pcr` and `null_packet`. No call takes memory.
+//! The readers and writers of `counted_io` are exported here as well.
 //!
-//! Definitions stand in `specs/`: `Syntax` has the standard's tables of fields as a relation, `Reading` the function on
-//! lists that names the refusals, `Writing` and `Packets` what is written, `PidList` the packets of one PID in a byte
-//! stream, `PcrBytes` which bytes of a packet a program clock reference has, and `Device` what is known of a device whose
-//! failed calls are counted. The functions of `laws` say how these hang together.
+//! The definitions stand in `specs/`: `Syntax` has the standard's tables of fields as a relation, `Reading` the
+//! function on lists that names the refusals, `Writing` and `Packets` what is written, `PidList` the packets of one PID
+//! in a byte stream, and `PcrBytes` which bytes of a packet are its program clock reference. The functions of `laws`
+//! say how these are related.
 #![tactic(auto)]
 
 // What a packet is.
@@ -23,19 +24,15 @@ mod pcr_bytes;
 // Writing.
 mod field_writing;
 mod fitting;
-mod fixed_texts;
+mod fixed_fields;
 mod packet_writing;
 mod plain_packets;
 
-// How the definitions hang together.
+// How the definitions are related.
 pub mod laws;
-pub mod run_laws;
 
-// Readers and writers whose failed calls are counted.
-mod device;
-
-pub use adaptation::{Adaptation, AdaptationParts, ClockReference};
-pub use device::{Counted, DeviceFault, Failing, Sink, Source, read_part, write_part};
+pub use adaptation::{Adaptation, AdaptationField, ClockReference};
+pub use counted_io::{Counted, DeviceFault, Failing, Sink, Source, read_part, write_part};
 pub use fitting::fits;
 pub use header::Header;
 pub use packet::{Packet, PacketError};
@@ -43,6 +40,6 @@ pub use packet_reading::read_packet;
 pub use packet_writing::write_packet;
 pub use pcr_bytes::{has_pcr, is_same_without_pcr};
 pub use plain_packets::{
-    NULL_PID, null_packet, overwrite_joined, overwrite_null, overwrite_payload, overwrite_pcr,
-    write_payload, write_pcr,
+    MAX_PAYLOAD, NULL_PID, null_packet, write_null_packet_into, write_payload, write_payload_into,
+    write_pcr, write_pcr_into, write_split_payload_into,
 };

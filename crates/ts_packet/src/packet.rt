@@ -5,7 +5,7 @@ use crate::adaptation::Adaptation;
 use crate::header::Header;
 use thiserror::Error;
 
-/// A transport packet (ISO/IEC 13818-1, 2.4.3.2). Its slices lie in the 188 bytes that were read.
+/// A transport packet (ISO/IEC 13818-1, 2.4.3.2). Its slices borrow from the 188 bytes that were read.
 #[derive(Clone, Copy, Debug)]
 pub struct Packet<'a> {
     pub header: Header,

@@ -14,11 +14,11 @@ fn header_of(bytes: &[u8; 188]) -> Header
     ensures { result ≡ header_of bytes.now }
 {
     Header {
-        error_indicator: bytes[1] >> 7 & 1 == 1,
-        start_indicator: bytes[1] >> 6 & 1 == 1,
-        priority: bytes[1] >> 5 & 1 == 1,
+        transport_error_indicator: bytes[1] >> 7 & 1 == 1,
+        payload_unit_start_indicator: bytes[1] >> 6 & 1 == 1,
+        transport_priority: bytes[1] >> 5 & 1 == 1,
         pid: u16::from_be_bytes([bytes[1] & 0x1f, bytes[2]]),
-        scrambling_control: bytes[3] >> 6,
+        transport_scrambling_control: bytes[3] >> 6,
         continuity_counter: bytes[3] & 0x0f,
     }
 }
@@ -65,8 +65,8 @@ fn packet_at(bytes: &[u8; 188]) -> Result<Packet<'_>, PacketError>
     body_at(header_of(bytes), bytes[3] >> 4 & 3, rest)
 }
 
-/// Reads a packet. Its slices lie in these 188 bytes. Where an adaptation field without payload is shorter than 183
-/// bytes, the bytes after it are not looked at.
+/// Reads a packet. Its slices borrow from these 188 bytes. Where an adaptation field without payload is shorter than
+/// 183 bytes, the bytes after it are not read.
 pub fn read_packet(bytes: &[u8; 188]) -> Result<Packet<'_>, PacketError>
     // What is read is what the bytes say.
     ensures found { IfOk result (λ packet. IsPacket bytes.now (packet_view packet)) }

@@ -1,14 +1,14 @@
 //! Writing a packet.
-ghost use Rattle.std.specs.Prelude.{◌≡◌, ◌+◌, ◌≤◌, ◌<◌, ◌^◌, ◌++◌, length};
+ghost use Rattle.std.specs.Prelude.{◌≡◌, ◌+◌, ◌≤◌, ◌<◌, ◌++◌, length};
 ghost use Rattle.arrayvec.specs.ArrayVec.{array_vec_len};
 ghost use Rattle.std.specs.Option.{option_map};
 ghost use Rattle.ts_packet.specs.Syntax.{control_of};
 ghost use Rattle.ts_packet.specs.Views.{adaptation_view, bytes_view};
-ghost use Rattle.ts_packet.specs.Writing.{payload_text, packet_text, PacketFits, packet_of};
+ghost use Rattle.ts_packet.specs.Writing.{payload_bytes, packet_bytes, PacketFits, packet_of};
 
 use crate::adaptation::Adaptation;
 use crate::field_writing::append_adaptation;
-use crate::fixed_texts::header_text;
+use crate::fixed_fields::header_bytes;
 use crate::header::Header;
 use arrayvec::ArrayVec;
 use bit_fields::append;
@@ -40,29 +40,29 @@ fn control_of(adaptation: Option<&Adaptation<'_>>, payload: Option<&[u8]>) -> u8
 
 // Appends a payload, or nothing.
 fn append_payload(packet: &mut ArrayVec<u8, 188>, payload: Option<&[u8]>)
-    requires { array_vec_len packet.old + length (payload_text (bytes_view payload)) ≤ 188 }
-    ensures items { packet.new.items ≡ packet.old.items ++ payload_text (bytes_view payload.entry) }
+    requires { array_vec_len packet.old + length (payload_bytes (bytes_view payload)) ≤ 188 }
+    ensures items { packet.new.items ≡ packet.old.items ++ payload_bytes (bytes_view payload.entry) }
     ensures len { array_vec_len packet.new
-        ≡ array_vec_len packet.old + length (payload_text (bytes_view payload.entry)) }
+        ≡ array_vec_len packet.old + length (payload_bytes (bytes_view payload.entry)) }
 {
     if let Some(payload) = payload {
         append(packet, payload);
     }
 }
 
-/// The packet of a header, an adaptation field and a payload, where `fits` says that there is one.
-#[tactic(auto, unfolding(crate::specs::Writing::packet_text))]
+/// The packet of a header, an adaptation field and a payload that `fits` accepts.
+#[tactic(auto, unfolding(crate::specs::Writing::packet_bytes))]
 pub fn write_packet(
     header: Header,
     adaptation: Option<&Adaptation<'_>>,
     payload: Option<&[u8]>,
 ) -> [u8; 188]
     requires { PacketFits (packet_of header adaptation payload) }
-    ensures { result ≡ packet_text (packet_of header adaptation.entry payload.entry) }
+    ensures { result ≡ packet_bytes (packet_of header adaptation.entry payload.entry) }
 {
     let mut packet: ArrayVec<u8, 188> = ArrayVec::new();
     let control = control_of(adaptation, payload);
-    append(&mut packet, &header_text(header, control));
+    append(&mut packet, &header_bytes(header, control));
     append_adaptation(&mut packet, adaptation);
     append_payload(&mut packet, payload);
     whole(packet)

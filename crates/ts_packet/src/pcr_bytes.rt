@@ -23,7 +23,7 @@ pub fn has_pcr(packet: &Packet<'_>) -> bool
     }
 }
 
-/// Whether two packets, with or without a program clock reference each, have the same bytes but those of one: what a
+/// Whether two packets, each with or without a program clock reference, have the same bytes apart from it: what a
 /// duplicate repeats.
 #[tactic(auto, unfolding(crate::specs::PcrBytes::without_pcr), using(crate::proofs::PcrBytes::forms_differ))]
 pub fn is_same_without_pcr(
@@ -32,7 +32,8 @@ pub fn is_same_without_pcr(
     other: &[u8; 188],
     other_has_pcr: bool,
 ) -> bool
-    ensures { result ≡ bytes_eq (pcr_bytes.without_pcr has_pcr bytes.now) (pcr_bytes.without_pcr other_has_pcr other.now) }
+    ensures { result ≡ bytes_eq (pcr_bytes.without_pcr has_pcr bytes.now)
+        (pcr_bytes.without_pcr other_has_pcr other.now) }
 {
     match (has_pcr, other_has_pcr) {
         (true, true) => is_same_around(bytes, other),

@@ -1,48 +1,51 @@
-//! The packets that a multiplexer writes: of one payload, of one clock reference, and null. Each is written over the bytes of
-//! a packet that is at hand, so that no byte of it is copied again on its way, or given as a value.
+//! The packets that a multiplexer writes: of one payload, of one program clock reference, and null. Each can be written
+//! into the 188 bytes of a caller's buffer, so that no byte of it is copied again.
 ghost use Rattle.std.specs.Prelude.{◌≡◌, ◌+◌, ◌-◌, ◌≤◌, ◌<◌, ◌^◌, ◌++◌, ℕ, List, Some, length};
 ghost use Rattle.ts_packet.specs.Syntax.{control_of};
-ghost use Rattle.ts_packet.specs.Packets.{plain_header, filler, payload_packet, pcr_packet, null_text};
-ghost use Rattle.ts_packet.specs.Writing.{header_text, optional_text, adaptation_text};
+ghost use Rattle.ts_packet.specs.Packets.{plain_header, stuffing_field, payload_packet, pcr_packet, null_packet};
+ghost use Rattle.ts_packet.specs.Writing.{header_bytes, optional_bytes, adaptation_bytes};
 
 use crate::adaptation::ClockReference;
-use crate::fixed_texts::{header_text, reference_text};
+use crate::fixed_fields::{header_bytes, reference_bytes};
 use crate::header::Header;
 use clock27::Pcr;
 
 /// The PID of null packets (ISO/IEC 13818-1, table 2-3).
 pub const NULL_PID: u16 = 0x1fff;
 
-// A payload of stuffing.
-const FILL: [u8; 184] = [0xff; 184];
+/// The greatest payload of a packet in bytes: its 188 bytes but for the header of 4 (ISO/IEC 13818-1, 2.4.3.2).
+pub const MAX_PAYLOAD: usize = 184;
+
+// The payload of a null packet, and stuffing of any length.
+const STUFFING: [u8; 184] = [0xff; 184];
 
 fn plain_header(pid: u16, start: bool, counter: u8) -> Header
     ensures { result ≡ plain_header pid start counter }
 {
     Header {
-        error_indicator: false,
-        start_indicator: start,
-        priority: false,
+        transport_error_indicator: false,
+        payload_unit_start_indicator: start,
+        transport_priority: false,
         pid,
-        scrambling_control: 0,
+        transport_scrambling_control: 0,
         continuity_counter: counter,
     }
 }
 
-// adaptation_field_control of a packet with a payload after an adaptation field of `fill` bytes in all.
+// adaptation_field_control of a packet with a payload after an adaptation field of `size` bytes in all.
 #[tactic(auto, using(crate::proofs::Filling::filling))]
-fn control_beside(fill: usize) -> u8
-    ensures value { (payload : List ℕ) → result ≡ control_of (filler fill) (Some payload) }
+fn adaptation_field_control(size: usize) -> u8
+    ensures value { (payload : List ℕ) → result ≡ control_of (stuffing_field size) (Some payload) }
     ensures below { result < 4 }
 {
-    if fill == 0 { 1 } else { 3 }
+    if size == 0 { 1 } else { 3 }
 }
 
-// Writes an adaptation field over all of these bytes, or nothing over none.
+// Writes an adaptation field of stuffing into all of these bytes, or nothing where there are none.
 #[tactic(auto, using(crate::proofs::Filling::filling))]
-fn overwrite_filler(field: &mut [u8])
+fn write_stuffing_field(field: &mut [u8])
     requires { length field.old < 184 }
-    ensures bytes { field.new ≡ optional_text adaptation_text (filler (length field.old)) }
+    ensures bytes { field.new ≡ optional_bytes adaptation_bytes (stuffing_field (length field.old)) }
     ensures len { length field.new ≡ length field.old }
 {
     match field.len() {
@@ -51,33 +54,40 @@ fn overwrite_filler(field: &mut [u8])
         size => {
             let (front, stuffing) = field.split_at_mut(2);
             front.copy_from_slice(&[(size - 1) as u8, 0]);
-            stuffing.copy_from_slice(&FILL[..size - 2]);
+            stuffing.copy_from_slice(&STUFFING[..size - 2]);
         }
     }
 }
 
-// Writes what stands before a payload: the header, and the adaptation field that fills the packet up.
-fn overwrite_front(front: &mut [u8], pid: u16, start: bool, counter: u8)
+// Writes what stands before a payload: the header, and an adaptation field of stuffing.
+fn write_header_and_stuffing(front: &mut [u8], pid: u16, start: bool, counter: u8)
     requires pid { pid < 2 ^ 13 }
     requires counter { counter < 2 ^ 4 }
     requires header { 4 ≤ length front.old }
     requires some { length front.old < 188 }
     ensures bytes { (payload : List ℕ) → front.new
-        ≡ header_text (plain_header pid start counter) (control_of (filler (length front.old - 4)) (Some payload))
-        ++ optional_text adaptation_text (filler (length front.old - 4)) }
+        ≡ header_bytes (plain_header pid start counter)
+        (control_of (stuffing_field (length front.old - 4)) (Some payload))
+        ++ optional_bytes adaptation_bytes (stuffing_field (length front.old - 4)) }
     ensures len { length front.new ≡ length front.old }
 {
-    let fill = front.len() - 4;
-    let text = header_text(plain_header(pid, start, counter), control_beside(fill));
+    let control = adaptation_field_control(front.len() - 4);
+    let bytes = header_bytes(plain_header(pid, start, counter), control);
     let (header, field) = front.split_at_mut(4);
-    header.copy_from_slice(&text);
-    overwrite_filler(field);
+    header.copy_from_slice(&bytes);
+    write_stuffing_field(field);
 }
 
-/// Writes the packet of one payload of 1 to 184 bytes over what stands in `packet`. Where the payload is shorter than
-/// 184 bytes an adaptation field of stuffing stands before it.
-#[tactic(auto, unfolding(crate::specs::Packets::payload_packet, crate::specs::Writing::packet_text))]
-pub fn overwrite_payload(packet: &mut [u8; 188], pid: u16, start: bool, counter: u8, payload: &[u8])
+/// Writes the packet of one payload of 1 to 184 bytes into `packet`. Where the payload is shorter than 184 bytes an
+/// adaptation field of stuffing stands before it.
+#[tactic(auto, unfolding(crate::specs::Packets::payload_packet, crate::specs::Writing::packet_bytes))]
+pub fn write_payload_into(
+    packet: &mut [u8; 188],
+    pid: u16,
+    start: bool,
+    counter: u8,
+    payload: &[u8],
+)
     requires pid { pid < 2 ^ 13 }
     requires counter { counter < 2 ^ 4 }
     requires some { 0 < length payload.now }
@@ -85,13 +95,13 @@ pub fn overwrite_payload(packet: &mut [u8; 188], pid: u16, start: bool, counter:
     ensures { packet.new ≡ payload_packet pid start counter payload.now }
 {
     let (front, room) = packet.split_at_mut(188 - payload.len());
-    overwrite_front(front, pid, start, counter);
+    write_header_and_stuffing(front, pid, start, counter);
     room.copy_from_slice(payload);
 }
 
 /// The same of a payload in two parts, one after the other.
-#[tactic(auto, unfolding(crate::specs::Packets::payload_packet, crate::specs::Writing::packet_text))]
-pub fn overwrite_joined(
+#[tactic(auto, unfolding(crate::specs::Packets::payload_packet, crate::specs::Writing::packet_bytes))]
+pub fn write_split_payload_into(
     packet: &mut [u8; 188],
     pid: u16,
     start: bool,
@@ -107,7 +117,7 @@ pub fn overwrite_joined(
 {
     let size = first.len() + rest.len();
     let (front, room) = packet.split_at_mut(188 - size);
-    overwrite_front(front, pid, start, counter);
+    write_header_and_stuffing(front, pid, start, counter);
     let (before, after) = room.split_at_mut(first.len());
     before.copy_from_slice(first);
     after.copy_from_slice(rest);
@@ -122,51 +132,51 @@ pub fn write_payload(pid: u16, start: bool, counter: u8, payload: &[u8]) -> [u8;
     ensures { result ≡ payload_packet pid start counter payload.now }
 {
     let mut packet = [0; 188];
-    overwrite_payload(&mut packet, pid, start, counter, payload);
+    write_payload_into(&mut packet, pid, start, counter, payload);
     packet
 }
 
-/// Writes the packet of a PID that carries clock references alone over what stands in `packet`: no payload, counter 15.
-#[tactic(auto, unfolding(crate::specs::Packets::pcr_packet, crate::specs::Writing::packet_text), using(crate::proofs::Filling::clock))]
-pub fn overwrite_pcr(packet: &mut [u8; 188], pid: u16, pcr: Pcr)
+/// Writes a packet of a PID that carries program clock references alone into `packet`: no payload, counter 15.
+#[tactic(auto, unfolding(crate::specs::Packets::pcr_packet, crate::specs::Writing::packet_bytes), using(crate::proofs::Filling::clock))]
+pub fn write_pcr_into(packet: &mut [u8; 188], pid: u16, pcr: Pcr)
     requires { pid < 2 ^ 13 }
     ensures { packet.new ≡ pcr_packet pid pcr }
 {
-    let reference = reference_text(ClockReference::from(pcr));
+    let reference = reference_bytes(ClockReference::from(pcr));
     let (header, field) = packet.split_at_mut(4);
-    header.copy_from_slice(&header_text(plain_header(pid, false, 15), 2));
+    header.copy_from_slice(&header_bytes(plain_header(pid, false, 15), 2));
     let (front, stuffing) = field.split_at_mut(8);
     let (flags, clock) = front.split_at_mut(2);
     flags.copy_from_slice(&[183, 0x10]);
     clock.copy_from_slice(&reference);
-    stuffing.copy_from_slice(&FILL[..176]);
+    stuffing.copy_from_slice(&STUFFING[..176]);
 }
 
-/// The packet of a PID that carries clock references alone.
+/// A packet of a PID that carries program clock references alone.
 pub fn write_pcr(pid: u16, pcr: Pcr) -> [u8; 188]
     requires { pid < 2 ^ 13 }
     ensures { result ≡ pcr_packet pid pcr }
 {
     let mut packet = [0; 188];
-    overwrite_pcr(&mut packet, pid, pcr);
+    write_pcr_into(&mut packet, pid, pcr);
     packet
 }
 
-/// Writes the null packet over what stands in `packet` (ISO/IEC 13818-1, 2.4.1): its payload is 0xFF throughout.
-#[tactic(auto, unfolding(crate::specs::Packets::null_text, crate::specs::Writing::packet_text))]
-pub fn overwrite_null(packet: &mut [u8; 188])
-    ensures { packet.new ≡ null_text }
+/// Writes the null packet (ISO/IEC 13818-1, 2.4.1) into `packet`: each byte of its payload is 0xFF.
+#[tactic(auto, unfolding(crate::specs::Packets::null_packet, crate::specs::Writing::packet_bytes))]
+pub fn write_null_packet_into(packet: &mut [u8; 188])
+    ensures { packet.new ≡ null_packet }
 {
     let (header, payload) = packet.split_at_mut(4);
-    header.copy_from_slice(&header_text(plain_header(NULL_PID, false, 0), 1));
-    payload.copy_from_slice(&FILL);
+    header.copy_from_slice(&header_bytes(plain_header(NULL_PID, false, 0), 1));
+    payload.copy_from_slice(&STUFFING);
 }
 
 /// The null packet.
 pub fn null_packet() -> [u8; 188]
-    ensures { result ≡ null_text }
+    ensures { result ≡ null_packet }
 {
     let mut packet = [0; 188];
-    overwrite_null(&mut packet);
+    write_null_packet_into(&mut packet);
     packet
 }

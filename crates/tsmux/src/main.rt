@@ -1,53 +1,32 @@
 //! `tsmux`: a constant-rate MPEG-2 transport stream multiplexer (ISO/IEC 13818-1, EN 300 468, TR 101 290).
 //!
-//! The program is `subcommands::run` over any reader and two writers; `main` joins it to the real ones. `subcommands` has a
-//! module a subcommand, and the words of the command line; `devices` reads inputs, writes lines and says what ends a
-//! program before its time.
+//! The program is `tsmux_cli::run` over any reader and two writers; `devices::run_program` runs it over the real ones.
 #![tactic(auto)]
 
-use devices::{Halt, halted};
-use std::env;
-use std::io::{BufReader, Error, ErrorKind};
+use counted_io::{Sink, Source};
+use devices::{Program, run_program};
+use std::alloc::Global;
 use std::process::ExitCode;
-use subcommands::{run, tell_usage};
-use ts_packet::{Counted, Sink};
+use tsmux_cli::{report_usage, run};
 
-/// The room of the input's buffer, in bytes.
-const INPUT_ROOM: usize = 1 << 18;
+struct Tsmux;
 
-// The words can't be had: memory is wanting, or one is not UTF-8, which is a usage error.
-fn without_words<E: Sink>(error: Error, faults: &mut E) -> u8 {
-    match error.kind() {
-        ErrorKind::OutOfMemory => halted(faults, Halt::Memory),
-        _ => tell_usage(faults),
+impl Program for Tsmux {
+    fn run<R: Source, W: Sink, E: Sink>(
+        alloc: Global,
+        words: &[&str],
+        input: &mut R,
+        output: &mut W,
+        faults: &mut E,
+    ) -> u8 {
+        run(alloc, words, input, output, faults)
+    }
+
+    fn report_usage<E: Sink>(faults: &mut E) -> u8 {
+        report_usage(faults)
     }
 }
 
 fn main(rt: HostRuntime) -> ExitCode {
-    let mut faults = Counted::new(rt.stderr());
-    let args = match env::args(&rt) {
-        Ok(args) => args,
-        Err(error) => return ExitCode::from(without_words(error, &mut faults)),
-    };
-    let words: Vec<String> = match args.skip(1).collect(rt.alloc()) {
-        Ok(words) => words,
-        Err(_) => return ExitCode::from(halted(&mut faults, Halt::Memory)),
-    };
-    let texts: Vec<&str> = match words.iter().map(|word| word.as_str()).collect(rt.alloc()) {
-        Ok(texts) => texts,
-        Err(_) => return ExitCode::from(halted(&mut faults, Halt::Memory)),
-    };
-    let Ok(reader) = BufReader::with_capacity(rt.alloc(), INPUT_ROOM, rt.stdin()) else {
-        return ExitCode::from(halted(&mut faults, Halt::Memory));
-    };
-    let mut input = Counted::new(reader);
-    let mut output = Counted::new(rt.stdout());
-    let status = run(
-        rt.alloc(),
-        texts.as_slice(),
-        &mut input,
-        &mut output,
-        &mut faults,
-    );
-    ExitCode::from(status)
+    run_program::<Tsmux>(&rt)
 }

@@ -1,13 +1,6 @@
-pub mod Agreements
-pub mod Climbing
-pub mod Entries
-pub mod Passing
+pub mod CarriedBytes
 pub mod Peaks
-pub mod Rows
 pub mod StreamPackets
+pub mod StreamsInTurn
 pub mod TablePackets
-pub mod Takings
-pub mod Tallying
-pub mod Turns
 pub mod UnitLists
-pub mod Walks

@@ -1,4 +1,4 @@
--- The greatest fullness of a buffer is known from the longest stay of a byte in it.
+-- The greatest fullness of a buffer is known from the longest residence of a byte in it.
 use Rattle.std.proofs.Common.{◌≡◌, ◌∙◌, ℕ, ◌+◌, ◌-◌, ◌*◌, ◌≤◌, ◌<◌, max, List, [], ◌∷◌, ◌++◌, length, refl, arith, inl, inr}
 use Rattle.std.proofs.Math.Nat.{add-div_right, div-eq_of_lt, div-mul-le_self}
 use Rattle.std.proofs.lemmas.Nat.{le-div}
@@ -8,16 +8,16 @@ use Rattle.clock27.specs.Arrival.{bytes_from, arrivals}
 use Rattle.clock27.specs.Departure.{departures}
 use Rattle.clock27.specs.Fullness.{fullness}
 use Rattle.clock27.specs.Peak.{IsPeak, Climbs, found, most_found}
-use Rattle.clock27.proofs.Holding.{fullness_le}
-use Rattle.clock27.proofs.Peaking.{peak_law, arrivals_climb, departures_climb}
-use Rattle.clock27.proofs.Leaving.{length-departures}
-use Rattle.tstd.specs.declared.queue.Queue.{Queue}
+use Rattle.clock27.proofs.Fullness.{fullness_le}
+use Rattle.clock27.proofs.Peak.{peak_law, arrivals_climb, departures_climb}
+use Rattle.clock27.proofs.Departures.{length-departures}
+use Rattle.decoder_buffers.specs.declared.queue.Queue.{Queue}
 use Rattle.tstd.specs.declared.fullness.SystemFullness.{SystemFullness}
 use Rattle.tstd.specs.Measured.{IsSystemFullness}
-use Rattle.tstd.specs.State.Queues.{all_arrived, longest_stay, bytes_within}
-use Rattle.tstd.proofs.Climbing.{climbs_low}
-use Rattle.tstd.proofs.Passing.{passed-longest}
-use Rattle.tstd.proofs.Rows.{length-row}
+use Rattle.decoder_buffers.specs.Queues.{all_arrived, greatest_residence, bytes_within}
+use Rattle.decoder_buffers.proofs.RisingTimes.{climbs_low}
+use Rattle.decoder_buffers.proofs.QueueStates.{passed-longest}
+use Rattle.decoder_buffers.proofs.ByteRows.{length-row}
 
 -- a longer time is that of no fewer bytes
 within_more : (step a b : ℕ) → 0 < step → a ≤ b → bytes_within step a ≤ bytes_within step b
@@ -34,32 +34,32 @@ within_max step a b pos = elim (cases_lt a b) [
       rw e (omega (arith, within_more step b a pos more))
 ]
 
--- a byte's stay is that of the bytes that it finds and itself
+-- a byte's residence is that of the bytes that it finds and itself
 within_one : (step prev t : ℕ) → 0 < step → bytes_within step (max t prev + step - t) ≡ found step prev t
 within_one step prev t pos =
     let e : (max t prev + step - t) + (step - 1) ≡ ((prev - t) + (step - 1)) + step = omega arith in
     rw e (add-div_right ((prev - t) + (step - 1)) pos)
 
-pub most_stays : (step prev : ℕ) (ts : List ℕ) → 0 < step → bytes_within step (longest_stay step prev ts) ≡ most_found step prev ts
-unfolding longest_stay most_found
-most_stays step prev [] pos = div-eq_of_lt (omega (arith, pos))
-most_stays step prev (t ∷ ts) pos =
-    within_max step (max t prev + step - t) (longest_stay step (max t prev + step) ts) pos
-    ∙ omega (arith, within_one step prev t pos, most_stays step (max t prev + step) ts pos)
+pub most_residence : (step prev : ℕ) (ts : List ℕ) → 0 < step → bytes_within step (greatest_residence step prev ts) ≡ most_found step prev ts
+unfolding greatest_residence most_found
+most_residence step prev [] pos = div-eq_of_lt (omega (arith, pos))
+most_residence step prev (t ∷ ts) pos =
+    within_max step (max t prev + step - t) (greatest_residence step (max t prev + step) ts) pos
+    ∙ omega (arith, within_one step prev t pos, most_residence step (max t prev + step) ts pos)
 
-pub stay_peak : (step longest : ℕ) (ts : List ℕ) → 0 < step → Climbs 0 ts → longest ≡ longest_stay step 0 ts →
-    IsPeak (λ x. fullness x ts (departures step 0 ts)) (bytes_within step longest)
-stay_peak step longest ts pos climbs is = rw (is, most_stays step 0 ts pos) (peak_law step 0 ts pos climbs)
+pub residence_peak : (step longest_residence : ℕ) (ts : List ℕ) → 0 < step → Climbs 0 ts → longest_residence ≡ greatest_residence step 0 ts →
+    IsPeak (λ x. fullness x ts (departures step 0 ts)) (bytes_within step longest_residence)
+residence_peak step longest_residence ts pos climbs is = rw (is, most_residence step 0 ts pos) (peak_law step 0 ts pos climbs)
 
 -- no more bytes are there than have arrived
 pub peak_few : (most : ℕ) (ts ds : List ℕ) → IsPeak (λ x. fullness x ts ds) most → most ≤ length ts
 peak_few most ts ds peak = omega (arith, peak.reached, fullness_le peak.moment ts ds)
 
 -- of bytes that have passed an empty buffer
-pub own_before_stay : (step : ℕ) (q : Queue) (ts : List ℕ) → q ≡ all_arrived (record { step = step; last = 0; longest = 0 }) ts → q.longest ≡ longest_stay step 0 ts
-unfolding longest_stay
-own_before_stay step q ts is =
-    let start : Queue = record { step = step; last = 0; longest = 0 } in
+pub longest_arrived : (step : ℕ) (q : Queue) (ts : List ℕ) → q ≡ all_arrived (record { step = step; last = 0; longest_residence = 0 }) ts → q.longest_residence ≡ greatest_residence step 0 ts
+unfolding greatest_residence
+longest_arrived step q ts is =
+    let start : Queue = record { step = step; last = 0; longest_residence = 0 } in
     let all = passed-longest start ts [] in
     let none : ts ++ [] ≡ ts = append-nil ts in
     rw is (omega (arith, rw none at all))
@@ -71,9 +71,9 @@ length-arrivals r (s ∷ slots) = length-append (bytes_from r (188 * s) 188) (ar
 
 -- of the packets of a program's tables
 pub tables_peak : (rate : ℕ) (slots : List ℕ) (q p : Queue) (n m : ℕ) → 0 < rate → Climbs 0 slots → q.step ≡ 2 * rate → p.step ≡ 25 * rate →
-    q ≡ all_arrived (record { step = 2 * rate; last = 0; longest = 0 }) (arrivals 2000000 slots) →
-    p ≡ all_arrived (record { step = 25 * rate; last = 0; longest = 0 }) (departures (2 * rate) 0 (arrivals 2000000 slots)) →
-    n ≡ bytes_within q.step q.longest → m ≡ bytes_within p.step p.longest → IsSystemFullness rate slots (record { transport = n; system = m })
+    q ≡ all_arrived (record { step = 2 * rate; last = 0; longest_residence = 0 }) (arrivals 2000000 slots) →
+    p ≡ all_arrived (record { step = 25 * rate; last = 0; longest_residence = 0 }) (departures (2 * rate) 0 (arrivals 2000000 slots)) →
+    n ≡ bytes_within q.step q.longest_residence → m ≡ bytes_within p.step p.longest_residence → IsSystemFullness rate slots (record { transport = n; system = m })
 tables_peak rate slots q p n m some climbs step step' passed passed' is is' =
     let pos : 0 < 2 * rate = omega (arith, some) in
     let pos' : 0 < 25 * rate = omega (arith, some) in
@@ -81,9 +81,9 @@ tables_peak rate slots q p n m some climbs step step' passed passed' is is' =
     let low : 0 ≤ 1 = omega arith in
     let leave : Climbs 0 (departures (2 * rate) 0 (arrivals 2000000 slots)) = climbs_low 0 1 _ low (departures_climb (2 * rate) 0 (arrivals 2000000 slots) pos) in
     record {
-      transport = rw (is, step) (stay_peak (2 * rate) q.longest (arrivals 2000000 slots) pos arrive (own_before_stay (2 * rate) q (arrivals 2000000 slots) passed));
-      system = rw (is', step') (stay_peak (25 * rate) p.longest (departures (2 * rate) 0 (arrivals 2000000 slots)) pos' leave
-          (own_before_stay (25 * rate) p (departures (2 * rate) 0 (arrivals 2000000 slots)) passed'));
+      transport = rw (is, step) (residence_peak (2 * rate) q.longest_residence (arrivals 2000000 slots) pos arrive (longest_arrived (2 * rate) q (arrivals 2000000 slots) passed));
+      system = rw (is', step') (residence_peak (25 * rate) p.longest_residence (departures (2 * rate) 0 (arrivals 2000000 slots)) pos' leave
+          (longest_arrived (25 * rate) p (departures (2 * rate) 0 (arrivals 2000000 slots)) passed'));
     }
 
 -- so there are no more bytes than came

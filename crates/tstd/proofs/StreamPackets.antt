@@ -8,19 +8,19 @@ use Rattle.clock27.specs.Peak.{Climbs, greatest_at}
 use Rattle.ts_packet.specs.declared.packet.PacketError.{PacketError}
 use Rattle.ts_packet.specs.Views.{PacketView}
 use Rattle.ts_packet.specs.Reading.{packet_at}
-use Rattle.ts_packet.specs.PidList.{Entry, entry_of, is_of_pid}
+use Rattle.ts_packet.specs.PidList.{Entry, entry_of, is_of_pid, payload_of}
 use Rattle.unit_timing.specs.MainBuffer.{mb_fullness}
 use Rattle.unit_timing.specs.Schedule.{Packet}
 use Rattle.unit_timing.specs.PesPacket.{PesPacket}
 use Rattle.unit_timing.specs.Transport.{slots_of, of_payloads}
-use Rattle.tstd.specs.declared.departures.Departures.{Departures}
-use Rattle.tstd.specs.declared.main_buffer.MainBuffer.{MainBuffer}
-use Rattle.ts_packet.specs.Contents.{payload_of}
-use Rattle.tstd.specs.State.Entering.{most_of}
-use Rattle.tstd.specs.State.Keeping.{there_at}
-use Rattle.tstd.specs.State.Listing.{size_in, listed, packets_from, payload_in, payloads_from, is_of_tables, tables_from}
-use Rattle.tstd.specs.State.Walking.{left_ahead, given}
-use Rattle.tstd.proofs.Climbing.{climbs_low, greatest_ext}
+use Rattle.decoder_buffers.specs.declared.departures.Departures.{Departures}
+use Rattle.decoder_buffers.specs.declared.main_buffer.MainBuffer.{MainBuffer}
+use Rattle.unit_arrival.specs.Entry.{peak_of}
+use Rattle.decoder_buffers.specs.BufferState.{fullness_at}
+use Rattle.decoder_buffers.specs.PidPackets.{size_in, listed, packets_from}
+use Rattle.tstd.specs.PacketLists.{payload_in, payloads_from, is_of_tables, tables_from}
+use Rattle.decoder_buffers.specs.DepartureWalk.{left_ahead, given}
+use Rattle.decoder_buffers.proofs.RisingTimes.{climbs_low, greatest_ext}
 
 listed_climb : (index : ℕ) (o : Option ℕ) (packets : List Packet) → Climbs (suc index) (slots_of packets) → Climbs index (slots_of (listed index o packets))
 unfolding Climbs
@@ -62,20 +62,20 @@ pub none_given : (o : Option ℕ) (rest ahead : List ℕ) → ahead ≡ [] → a
 none_given None rest ahead none is = refl
 none_given (Some time) rest ahead none is = cc
 
-plain_most : (before : ℕ → ℕ) (most first rate rx rate' rx' : ℕ) (texts : List PesPacket) (left left' : List ℕ) → ((x : ℕ) → before x ≡ 0) → first ≡ 0 → rate' ≡ rate → rx' ≡ rx → left' ≡ left →
-    max most 0 ≡ max first (greatest_at (λ x. before x + mb_fullness rate' rx' x texts left') left') → most ≡ greatest_at (λ x. mb_fullness rate rx x texts left) left
-plain_most before most first rate rx rate' rx' texts left left' none start same_rate same_rx same is =
-    let all = greatest_ext (λ x. before x + mb_fullness rate rx x texts left) (λ x. mb_fullness rate rx x texts left) left (λ x. omega (arith, none x)) in
+plain_most : (before : ℕ → ℕ) (peak first rate rx rate' rx' : ℕ) (pes_packets : List PesPacket) (left left' : List ℕ) → ((x : ℕ) → before x ≡ 0) → first ≡ 0 → rate' ≡ rate → rx' ≡ rx → left' ≡ left →
+    max peak 0 ≡ max first (greatest_at (λ x. before x + mb_fullness rate' rx' x pes_packets left') left') → peak ≡ greatest_at (λ x. mb_fullness rate rx x pes_packets left) left
+plain_most before peak first rate rx rate' rx' pes_packets left left' none start same_rate same_rx same is =
+    let all = greatest_ext (λ x. before x + mb_fullness rate rx x pes_packets left) (λ x. mb_fullness rate rx x pes_packets left) left (λ x. omega (arith, none x)) in
     omega (arith, rw (start, same_rate, same_rx, same) at is, all)
 
 -- what a walk from an empty buffer to its end has found
-pub most_found_all : {A : Type 0} (walk walk' : Departures) (buffer buffer' : MainBuffer A) (rate rx : ℕ) (texts : List PesPacket) (left : List ℕ) →
-    ((x : ℕ) → there_at buffer x ≡ 0) → buffer.most ≡ 0 → walk.queue.step ≡ rate → walk.rx ≡ rx → left_ahead walk ≡ left → left_ahead walk' ≡ [] →
-    most_of walk' buffer' [] ≡ most_of walk buffer texts → buffer'.most ≡ greatest_at (λ x. mb_fullness rate rx x texts left) left
+pub most_found_all : {A : Type 0} (walk walk' : Departures) (buffer buffer' : MainBuffer A) (rate rx : ℕ) (pes_packets : List PesPacket) (left : List ℕ) →
+    ((x : ℕ) → fullness_at buffer x ≡ 0) → buffer.peak ≡ 0 → walk.queue.step ≡ rate → walk.rx ≡ rx → left_ahead walk ≡ left → left_ahead walk' ≡ [] →
+    peak_of walk' buffer' [] ≡ peak_of walk buffer pes_packets → buffer'.peak ≡ greatest_at (λ x. mb_fullness rate rx x pes_packets left) left
 unfolding greatest_at
-most_found_all walk walk' buffer buffer' rate rx texts left none start same_rate same_rx same ended is =
-    plain_most (there_at buffer) buffer'.most buffer.most rate rx walk.queue.step walk.rx texts left (left_ahead walk) none start same_rate same_rx same
-    (let e : most_of walk' buffer' [] ≡ max buffer'.most 0 = rw ended refl in sym e ∙ is)
+most_found_all walk walk' buffer buffer' rate rx pes_packets left none start same_rate same_rx same ended is =
+    plain_most (fullness_at buffer) buffer'.peak buffer.peak rate rx walk.queue.step walk.rx pes_packets left (left_ahead walk) none start same_rate same_rx same
+    (let e : peak_of walk' buffer' [] ≡ max buffer'.peak 0 = rw ended refl in sym e ∙ is)
 
 -- ---- over the bytes
 

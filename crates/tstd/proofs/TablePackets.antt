@@ -7,13 +7,13 @@ use Rattle.std.proofs.lemmas.List.Sums.{fold-append}
 use Rattle.clock27.specs.Arrival.{bytes_from, arrivals}
 use Rattle.clock27.specs.Departure.{departures, last_left}
 use Rattle.clock27.specs.Peak.{Climbs}
-use Rattle.clock27.proofs.Leaving.{departures-append}
+use Rattle.clock27.proofs.Departures.{departures-append}
 use Rattle.ts_packet.specs.Reading.{packet_at}
-use Rattle.tstd.specs.declared.queue.Queue.{Queue}
-use Rattle.tstd.specs.State.Listing.{is_of_tables, tables_from}
-use Rattle.tstd.specs.State.Queues.{arrived, all_arrived}
-use Rattle.tstd.proofs.Climbing.{climbs_low}
-use Rattle.tstd.proofs.Passing.{passed-step, passed-last}
+use Rattle.decoder_buffers.specs.declared.queue.Queue.{Queue}
+use Rattle.tstd.specs.PacketLists.{is_of_tables, tables_from}
+use Rattle.decoder_buffers.specs.Queues.{arrived, all_arrived}
+use Rattle.decoder_buffers.proofs.RisingTimes.{climbs_low}
+use Rattle.decoder_buffers.proofs.QueueStates.{passed-step, passed-last}
 
 -- one byte more of those up to `end` passes both
 pub pass_step : (q p : Queue) (byte end : ℕ) → byte < end →

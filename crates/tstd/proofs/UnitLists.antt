@@ -6,25 +6,25 @@ use Rattle.std.proofs.lemmas.List.Sums.{sum_by-cons}
 use Rattle.std.proofs.Common.{add-one}
 use Rattle.std.specs.Option.{option_or}
 use Rattle.pes_packet.specs.AccessUnits.{AccessUnit}
-use Rattle.pes_packet.specs.Spelling.{unit_text}
+use Rattle.pes_packet.specs.Encoding.{pes_packet_bytes}
 use Rattle.unit_timing.specs.Arrived.{is_due, has_left, first_late}
 use Rattle.unit_timing.specs.PesPacket.{PesPacket}
 use Rattle.pes_packet.specs.Units.{units_of}
-use Rattle.tstd.specs.Carried.{timed_texts}
+use Rattle.tstd.specs.Carried.{timed_pes_packets}
 
 -- an entry of the stream, with its stamp and the size of its PES packet
 pub texts_own : (id base0 stream i due size : ℕ) (units : List (ℕ × AccessUnit)) (u : ℕ × AccessUnit) → i < length units → u ≡ get_or units i u → (u.0 == stream) ≡ true →
-    due ≡ u.1.dts → size ≡ length (unit_text id base0 u.1) →
-    timed_texts id base0 (units_of stream (drop i units)) ≡ record { dts = due; size = size } ∷ timed_texts id base0 (units_of stream (drop (i + 1) units))
+    due ≡ u.1.dts → size ≡ length (pes_packet_bytes id base0 u.1) →
+    timed_pes_packets id base0 (units_of stream (drop i units)) ≡ record { dts = due; size = size } ∷ timed_pes_packets id base0 (units_of stream (drop (i + 1) units))
 texts_own id base0 stream i due size units u below at own stamp is = rw (drop-cons units i u below, add-one i, sym at, own, stamp, is) refl
 
 -- of another
 pub texts_other : (id base0 stream i : ℕ) (units : List (ℕ × AccessUnit)) (u : ℕ × AccessUnit) → i < length units → u ≡ get_or units i u → (u.0 == stream) ≡ false →
-    timed_texts id base0 (units_of stream (drop i units)) ≡ timed_texts id base0 (units_of stream (drop (i + 1) units))
+    timed_pes_packets id base0 (units_of stream (drop i units)) ≡ timed_pes_packets id base0 (units_of stream (drop (i + 1) units))
 texts_other id base0 stream i units u below at other = rw (drop-cons units i u below, add-one i, sym at, other) refl
 
 -- none is left
-pub texts_end : (id base0 stream i : ℕ) (units : List (ℕ × AccessUnit)) → length units ≤ i → timed_texts id base0 (units_of stream (drop i units)) ≡ []
+pub texts_end : (id base0 stream i : ℕ) (units : List (ℕ × AccessUnit)) → length units ≤ i → timed_pes_packets id base0 (units_of stream (drop i units)) ≡ []
 texts_end id base0 stream i units over = rw (drop_all i units over) refl
 
 -- the first late one of those so far, of this one, and of those after it
@@ -38,17 +38,17 @@ pub late_end : (late : Option ℕ) → option_or late None ≡ late
 late_end None = refl
 late_end (Some n) = refl
 
-pub size_next : (text : PesPacket) (texts : List PesPacket) → sum_by (λ t. t.size) (text ∷ texts) ≡ text.size + sum_by (λ t. t.size) texts
-size_next text texts = sum_by-cons (λ t. t.size) text texts
+pub size_next : (pes_packet : PesPacket) (pes_packets : List PesPacket) → sum_by (λ t. t.size) (pes_packet ∷ pes_packets) ≡ pes_packet.size + sum_by (λ t. t.size) pes_packets
+size_next pes_packet pes_packets = sum_by-cons (λ t. t.size) pes_packet pes_packets
 
 -- a text, and those after it
-pub late_more : (rate rx slots number size due : ℕ) (late : Option ℕ) (is : Bool) (texts : List PesPacket) (left left' : List ℕ) (rate' rx' : ℕ) → rate' ≡ rate → rx' ≡ rx →
+pub late_more : (rate rx slots number size due : ℕ) (late : Option ℕ) (is : Bool) (pes_packets : List PesPacket) (left left' : List ℕ) (rate' rx' : ℕ) → rate' ≡ rate → rx' ≡ rx →
     is ≡ (is_due rate' slots (record { dts = due; size = size }) && not (has_left rate' rx' (record { dts = due; size = size }) left)) → left' ≡ drop size left →
-    option_or (option_or late (if is then Some number else None)) (first_late rate rx slots (number + 1) texts left')
-    ≡ option_or late (first_late rate rx slots number (record { dts = due; size = size } ∷ texts) left)
+    option_or (option_or late (if is then Some number else None)) (first_late rate rx slots (number + 1) pes_packets left')
+    ≡ option_or late (first_late rate rx slots number (record { dts = due; size = size } ∷ pes_packets) left)
 unfolding first_late
-late_more rate rx slots number size due late is texts left left' rate' rx' same_rate same_rx decided rest =
-    rw (late_next late is number (first_late rate rx slots (number + 1) texts left'), decided, rest, same_rate, same_rx, add-one number) refl
+late_more rate rx slots number size due late is pes_packets left left' rate' rx' same_rate same_rx decided rest =
+    rw (late_next late is number (first_late rate rx slots (number + 1) pes_packets left'), decided, rest, same_rate, same_rx, add-one number) refl
 
 pub fewer_left : (size total : ℕ) (left : List ℕ) → length left ≤ size + total → length (drop size left) ≤ total
 fewer_left size total left le = omega (arith, length-drop size left, le)

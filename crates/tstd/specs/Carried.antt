@@ -2,16 +2,15 @@
 use Rattle.std.specs.Prelude.{ℕ, ◌||◌, nat_eq, Bool, List, map, filter, length}
 use Rattle.std.specs.List.{concat, starts_with}
 use Rattle.pes_packet.specs.AccessUnits.{AccessUnit}
-use Rattle.pes_packet.specs.Spelling.{unit_text}
-use Rattle.pes_packet.specs.Units.{texts_of}
-use Rattle.ts_packet.specs.PidList.{entries_of, is_of_pid, pid_list}
-use Rattle.ts_packet.specs.Contents.{payload_of, payloads_on}
+use Rattle.pes_packet.specs.Encoding.{pes_packet_bytes}
+use Rattle.pes_packet.specs.Units.{pes_packets_of}
+use Rattle.ts_packet.specs.PidList.{entries_of, is_of_pid, pid_list, payload_of, payloads_on}
 use Rattle.unit_timing.specs.Schedule.{Packet}
 use Rattle.unit_timing.specs.PesPacket.{PesPacket}
 
 -- the PES packets of units as timing sees them: the size in bytes, and the decoding time stamp
-abbrev pub timed_texts : ℕ → ℕ → List AccessUnit → List PesPacket
-timed_texts id base0 units = map (λ u. record { dts = u.dts; size = length (unit_text id base0 u) }) units
+abbrev pub timed_pes_packets : ℕ → ℕ → List AccessUnit → List PesPacket
+timed_pes_packets id base0 units = map (λ u. record { dts = u.dts; size = length (pes_packet_bytes id base0 u) }) units
 
 -- the packets of a PID as timing sees them: each with its index and the size of its payload in bytes
 abbrev pub packets_on : ℕ → List ℕ → List Packet
@@ -24,4 +23,4 @@ table_packets pmt_pid bytes =
 
 -- the payloads of a PID are a beginning of the PES packets of these units
 abbrev pub carries : ℕ → ℕ → ℕ → List AccessUnit → List ℕ → Bool
-carries pid id base0 units bytes = starts_with nat_eq (concat (texts_of id base0 units)) (payloads_on pid bytes)
+carries pid id base0 units bytes = starts_with nat_eq (concat (pes_packets_of id base0 units)) (payloads_on pid bytes)

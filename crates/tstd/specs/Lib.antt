@@ -2,4 +2,6 @@ pub mod Carried
 pub mod Measured
 pub mod Refusals
 pub mod Codes
-pub mod State
+pub mod PacketLists
+pub mod PayloadWalk
+pub mod StreamFit

@@ -13,7 +13,7 @@ use Rattle.unit_timing.specs.Schedule.{Packet}
 use Rattle.unit_timing.specs.SystemBuffer.{system_tb_fullness, bsys_fullness}
 use Rattle.unit_timing.specs.Transport.{slots_of, tb_fullness, pes_left}
 use Rattle.pes_packet.specs.Units.{units_of}
-use Rattle.tstd.specs.Carried.{timed_texts, packets_on, table_packets}
+use Rattle.tstd.specs.Carried.{timed_pes_packets, packets_on, table_packets}
 use Rattle.tstd.specs.declared.fullness.StreamFullness.{StreamFullness}
 use Rattle.tstd.specs.declared.fullness.SystemFullness.{SystemFullness}
 use Rattle.tstd.specs.declared.fullness.LateUnit.{LateUnit}
@@ -28,7 +28,7 @@ pub record Measured : Type 0 where
 -- units
 pub record IsStreamFullness (rate base0 : ℕ) (s : DescribedStream) (units : List AccessUnit) (packets : List Packet) (f : StreamFullness) : Type 0 where
   pub transport : IsPeak (λ x. tb_fullness rate s.rx x (slots_of packets)) f.transport
-  pub main : IsPeak (λ x. mb_fullness rate s.rx x (timed_texts s.stream_id base0 units) (pes_left rate s.rx 0 packets)) f.main
+  pub main : IsPeak (λ x. mb_fullness rate s.rx x (timed_pes_packets s.stream_id base0 units) (pes_left rate s.rx 0 packets)) f.main
 
 -- of each stream of a description
 pub record StreamsMeasured (d : Described) (units : List (ℕ × AccessUnit)) (bytes : List ℕ) (found : List StreamFullness) : Type 0 where
@@ -48,11 +48,11 @@ pub record SystemsMeasured (d : Described) (bytes : List ℕ) (found : List Syst
   pub each : (number : ℕ) (p : DescribedProgram) (f : SystemFullness) → slice_get d.programs number ≡ Some p → slice_get found number ≡ Some f →
       IsSystemFullness d.rate (table_packets p.pmt_pid bytes) f
 
--- the number of the first unit of a stream that is due in a run of so many slots and has not left its transport buffer
+-- the number of the first unit of a stream that is due in a run of `slots` slots and has not left its transport buffer
 -- whole by its decoding time stamp
 abbrev pub late_of : ℕ → ℕ → ℕ → DescribedStream → List AccessUnit → List Packet → Option ℕ
 late_of rate base0 slots s units packets =
-    first_late rate s.rx slots 0 (timed_texts s.stream_id base0 units) (pes_left rate s.rx 0 packets)
+    first_late rate s.rx slots 0 (timed_pes_packets s.stream_id base0 units) (pes_left rate s.rx 0 packets)
 
 -- a late unit of a stream, before those of the streams after it
 abbrev pub late_or : ℕ → Option ℕ → Option LateUnit → Option LateUnit

@@ -14,14 +14,14 @@ use Rattle.tstd.specs.declared.refusal.MeasureError.{MeasureError}
 use Rattle.tstd.specs.declared.refusal.MeasureError.TheVariants.{Length, Packet, Carried, Memory}
 
 -- a packet that can't be read, or else what is refused of those after it
-abbrev pub unread_or : ℕ → Result PacketView PacketError → Option MeasureError → Option MeasureError
-unread_or index (Err error) later = Some (Packet index error)
-unread_or index (Ok packet) later = later
+abbrev pub unreadable_or : ℕ → Result PacketView PacketError → Option MeasureError → Option MeasureError
+unreadable_or index (Err error) later = Some (Packet index error)
+unreadable_or index (Ok packet) later = later
 
 -- the first of these packets that can't be read; the first has this index
-unfoldable pub first_unread : ℕ → List (List ℕ) → Option MeasureError
-first_unread index [] = None
-first_unread index (packet ∷ packets) = unread_or index (packet_at packet) (first_unread (index + 1) packets)
+unfoldable pub first_unreadable : ℕ → List (List ℕ) → Option MeasureError
+first_unreadable index [] = None
+first_unreadable index (packet ∷ packets) = unreadable_or index (packet_at packet) (first_unreadable (index + 1) packets)
 
 -- a unit of this size is within the declaration of its stream, if there is such a stream
 abbrev pub is_within : ℕ → Option DescribedStream → Bool
@@ -49,10 +49,10 @@ unless_carried false = Some Carried
 
 abbrev pub cause : Described → List (ℕ × AccessUnit) → List ℕ → Option MeasureError
 cause d units bytes =
-    if length bytes % 188 == 0 then option_or (first_unread 0 (cut_packets bytes)) (unless_carried (are_carried d units bytes))
+    if length bytes % 188 == 0 then option_or (first_unreadable 0 (cut_packets bytes)) (unless_carried (are_carried d units bytes))
     else Some Length
 
--- a measurement is refused exactly where there is such a reason, and it is that one; memory may be wanting before
+-- a measurement is refused exactly where there is such a reason, and it is that one; memory may run out before
 abbrev pub Answers : {V : Type 0} → Result V MeasureError → Option MeasureError → Type 0
 Answers (Ok value) reason = reason ≡ None
 Answers (Err Memory) reason = ⊤

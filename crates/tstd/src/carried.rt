@@ -1,12 +1,12 @@
 //! Whether the packets of a PID carry the units of a stream.
 ghost use Rattle.std.specs.Prelude.{◌≡◌, ◌+◌, ◌++◌, ◌&&◌, true, List, ℕ, length, nat_eq, IsTrue};
 ghost use Rattle.std.specs.List.{starts_with, concat, list_all};
-ghost use Rattle.pes_packet.specs.Spelling.{header_text, unit_text};
+ghost use Rattle.pes_packet.specs.Encoding.{pes_header_bytes, pes_packet_bytes};
 ghost use Rattle.pes_packet.specs.StreamIds.{fits_packet};
-ghost use Rattle.tstd.specs.State.Agreeing.{bytes_ahead};
-ghost use Rattle.pes_packet.specs.Units.{units_of, texts_of};
-ghost use Rattle.tstd.specs.State.Fitting.{fits_of};
-ghost use Rattle.tstd.specs.State.Listing.{payloads_from};
+ghost use Rattle.tstd.specs.PayloadWalk.{bytes_ahead};
+ghost use Rattle.pes_packet.specs.Units.{units_of, pes_packets_of};
+ghost use Rattle.tstd.specs.StreamFit.{fits_of};
+ghost use Rattle.tstd.specs.PacketLists.{payloads_from};
 
 use crate::payloads::{Payloads, agrees};
 use crate::units::is_of;
@@ -15,10 +15,10 @@ use pes_packet::{Unit, on_wire, write_header};
 use std::alloc::Allocator;
 
 // The header of a unit's PES packet.
-#[tactic(auto, using(crate::proofs::Agreements::header_wire))]
+#[tactic(auto, using(crate::proofs::CarriedBytes::header_wire))]
 fn header_of<B: Allocator>(id: u8, base0: u64, unit: &Unit<B>) -> ArrayVec<u8, 19>
     requires { IsTrue (fits_packet id (length unit.now.bytes)) }
-    ensures { result.items ≡ header_text id (length unit.now.bytes) (unit.now.pts + base0) (unit.now.dts + base0) }
+    ensures { result.items ≡ pes_header_bytes id (length unit.now.bytes) (unit.now.pts + base0) (unit.now.dts + base0) }
 {
     write_header(
         id,
@@ -28,8 +28,8 @@ fn header_of<B: Allocator>(id: u8, base0: u64, unit: &Unit<B>) -> ArrayVec<u8, 1
     )
 }
 
-// Whether the bytes of a walk begin with a unit's PES packet, or end inside it as it does.
-#[tactic(auto, unfolding(pes_packet::specs::Spelling::unit_text))]
+// Whether the bytes of a walk begin with a unit's PES packet, or end inside it and agree so far.
+#[tactic(auto, unfolding(pes_packet::specs::Encoding::pes_packet_bytes))]
 fn unit_agrees<B: Allocator>(
     payloads: &mut Payloads<'_>,
     id: u8,
@@ -37,7 +37,8 @@ fn unit_agrees<B: Allocator>(
     unit: &Unit<B>,
 ) -> bool
     requires { IsTrue (fits_packet id (length unit.now.bytes)) }
-    ensures { (more : List ℕ) → starts_with nat_eq (unit_text id base0 unit.now ++ more) (bytes_ahead payloads.old)
+    ensures { (more : List ℕ) →
+        starts_with nat_eq (pes_packet_bytes id base0 unit.now ++ more) (bytes_ahead payloads.old)
         ≡ (result && starts_with nat_eq more (bytes_ahead payloads.new)) }
 {
     let header = header_of(id, base0, unit);
@@ -55,14 +56,15 @@ fn entry_agrees<B: Allocator>(
     entry: &(u8, Unit<B>),
 ) -> bool
     requires { IsTrue (fits_packet id (length entry.now.1.bytes)) }
-    ensures { (more : List ℕ) → starts_with nat_eq (unit_text id base0 entry.now.1 ++ more) (bytes_ahead payloads.old)
+    ensures { (more : List ℕ) →
+        starts_with nat_eq (pes_packet_bytes id base0 entry.now.1 ++ more) (bytes_ahead payloads.old)
         ≡ (result && starts_with nat_eq more (bytes_ahead payloads.new)) }
 {
     unit_agrees(payloads, id, base0, &entry.1)
 }
 
 /// Whether the payloads of a PID are a beginning of the PES packets of a stream's units.
-#[tactic(auto, unfolding(crate::specs::State::Agreeing::bytes_ahead))]
+#[tactic(auto, unfolding(crate::specs::PayloadWalk::bytes_ahead))]
 pub fn carries<B: Allocator>(
     pid: u16,
     id: u8,
@@ -72,7 +74,8 @@ pub fn carries<B: Allocator>(
     packets: &[[u8; 188]],
 ) -> bool
     requires { list_all (fits_of number id) units.now ≡ true }
-    ensures { result ≡ starts_with nat_eq (concat (texts_of id base0 (units_of number units.now))) (payloads_from pid packets.now) }
+    ensures { result ≡ starts_with nat_eq
+        (concat (pes_packets_of id base0 (units_of number units.now))) (payloads_from pid packets.now) }
 {
     let mut payloads = Payloads {
         pid,

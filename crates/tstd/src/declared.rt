@@ -3,7 +3,7 @@ ghost use Rattle.std.specs.Prelude.{◌≡◌, length, slice_get};
 ghost use Rattle.std.specs.List.{list_all};
 ghost use Rattle.tstd.specs.Refusals.{is_within};
 
-use description::Stream;
+use description::StreamDescription;
 use pes_packet::Unit;
 use std::alloc::Allocator;
 
@@ -15,7 +15,7 @@ fn size_of<B: Allocator>(entry: &(u8, Unit<B>)) -> usize
 }
 
 // Whether a unit has from one byte to the greatest size of its stream.
-fn is_declared<B: Allocator>(streams: &[Stream], entry: &(u8, Unit<B>)) -> bool
+fn is_declared<B: Allocator>(streams: &[StreamDescription], entry: &(u8, Unit<B>)) -> bool
     ensures { result ≡ is_within (length entry.now.1.bytes) (slice_get streams.now entry.now.0) }
 {
     let size = size_of(entry);
@@ -26,7 +26,7 @@ fn is_declared<B: Allocator>(streams: &[Stream], entry: &(u8, Unit<B>)) -> bool
 }
 
 /// Whether each unit is within the declaration of its stream.
-pub fn are_declared<B: Allocator>(streams: &[Stream], units: &[(u8, Unit<B>)]) -> bool
+pub fn are_declared<B: Allocator>(streams: &[StreamDescription], units: &[(u8, Unit<B>)]) -> bool
     ensures { result ≡ list_all (λ unit. is_within (length unit.1.bytes) (slice_get streams.now unit.0)) units.now }
 {
     units.iter().all(|entry| is_declared(streams, entry))

@@ -3,11 +3,11 @@ ghost use Rattle.std.specs.Prelude.{◌≡◌, IfOk};
 ghost use Rattle.tstd.specs.Measured.{StreamsMeasured, SystemsMeasured, late_unit};
 ghost use Rattle.tstd.specs.Refusals.{Answers, cause};
 
+use crate::all_streams::{all_carried, measure_streams, measure_systems};
 use crate::declared::are_declared;
 use crate::fullness::Fullness;
-use crate::reading::first_unread;
 use crate::refusal::MeasureError;
-use crate::rounds::{all_carried, measure_streams, measure_systems};
+use crate::unreadable::first_unreadable;
 use description::Description;
 use pes_packet::Unit;
 use std::alloc::Allocator;
@@ -39,7 +39,7 @@ pub fn measure<A: Allocator + Clone, B: Allocator>(
         return Err(MeasureError::Length);
     }
     let (packets, _) = bytes.as_chunks::<188>();
-    if let Some(refusal) = first_unread(packets) {
+    if let Some(refusal) = first_unreadable(packets) {
         return Err(refusal);
     }
     if !are_declared(description.streams(), units) {

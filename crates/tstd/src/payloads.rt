@@ -2,8 +2,8 @@
 ghost use Rattle.std.specs.Prelude.{◌≡◌, ◌+◌, ◌++◌, ◌&&◌, [], List, ℕ, length, nat_eq, IfNone};
 ghost use Rattle.std.specs.Bool.{OnTrue, OnFalse};
 ghost use Rattle.std.specs.List.{starts_with};
-ghost use Rattle.tstd.specs.State.Agreeing.{bytes_ahead};
-ghost use Rattle.tstd.specs.State.Walking.{given};
+ghost use Rattle.tstd.specs.PayloadWalk.{bytes_ahead};
+ghost use Rattle.decoder_buffers.specs.DepartureWalk.{given};
 
 use crate::packets::payload_on;
 
@@ -18,8 +18,8 @@ pub struct Payloads<'a> {
 
 impl Payloads<'_> {
     // Goes into the next packet, if there is one.
-    #[tactic(auto, unfolding(crate::specs::State::Agreeing::bytes_ahead, crate::specs::State::Listing::payloads_from))]
-    fn go_on(&mut self) -> bool
+    #[tactic(auto, unfolding(crate::specs::PayloadWalk::bytes_ahead, crate::specs::PacketLists::payloads_from))]
+    fn enter_packet(&mut self) -> bool
         requires { self.old.rest.now ≡ [] }
         ensures ahead { bytes_ahead self.new ≡ bytes_ahead self.old }
         ensures fewer { OnTrue result (length self.new.packets.now + 1 ≡ length self.old.packets.now) }
@@ -34,7 +34,7 @@ impl Payloads<'_> {
     }
 
     /// The next byte, if there is one.
-    #[tactic(auto, unfolding(crate::specs::State::Agreeing::bytes_ahead))]
+    #[tactic(auto, unfolding(crate::specs::PayloadWalk::bytes_ahead))]
     pub fn next(&mut self) -> Option<u8>
         ensures ahead { bytes_ahead self.old ≡ given result (bytes_ahead self.new) }
         ensures none { IfNone result (bytes_ahead self.new ≡ []) }
@@ -44,19 +44,19 @@ impl Payloads<'_> {
                 self.rest = rest;
                 return Some(*first);
             }
-            if !self.go_on() {
+            if !self.enter_packet() {
                 return None;
             }
         }
     }
 }
 
-/// Whether the bytes of a walk begin with a text, or end inside it as it does.
-pub fn agrees(payloads: &mut Payloads<'_>, text: &[u8]) -> bool
-    ensures { (more : List ℕ) → starts_with nat_eq (text.now ++ more) (bytes_ahead payloads.old)
+/// Whether the bytes of a walk begin with the expected ones, or end inside them and agree so far.
+pub fn agrees(payloads: &mut Payloads<'_>, expected: &[u8]) -> bool
+    ensures { (more : List ℕ) → starts_with nat_eq (expected.now ++ more) (bytes_ahead payloads.old)
         ≡ (result && starts_with nat_eq more (bytes_ahead payloads.new)) }
 {
-    for byte in text {
+    for byte in expected {
         if let Some(found) = payloads.next() {
             if found != *byte {
                 return false;

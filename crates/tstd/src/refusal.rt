@@ -5,7 +5,7 @@ ghost use Rattle.std.specs.Prelude.{◌≡◌};
 use thiserror::Error;
 use ts_packet::PacketError;
 
-/// Why bytes can't be measured. The first of these that holds is given; memory may be wanting before.
+/// Why bytes can't be measured. The first of these that holds is given; memory may run out before.
 #[derive(Clone, Copy, Debug, PartialEq, Eq, Error)]
 pub enum MeasureError {
     /// The bytes are no whole number of packets.
@@ -18,7 +18,7 @@ pub enum MeasureError {
     /// are no beginning of its units' PES packets.
     #[error("the bytes carry other units")]
     Carried,
-    /// Memory is wanting.
+    /// Out of memory.
     #[error("out of memory")]
     Memory,
 }
@@ -26,7 +26,7 @@ pub enum MeasureError {
 impl MeasureError {
     ghost use Rattle.tstd.specs.Codes.{code_of};
 
-    /// The refusal's number, from 1 in the order in which they are given; want of memory has none.
+    /// The refusal's number, from 1 in the order in which they are given; out of memory has none.
     pub fn code(self) -> Option<u8>
         ensures { result ≡ code_of self }
     {

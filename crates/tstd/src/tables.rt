@@ -2,13 +2,13 @@
 ghost use Rattle.std.specs.Prelude.{◌≡◌, ◌+◌, ◌*◌, ◌<◌, ◌≤◌, ◌^◌, length};
 ghost use Rattle.clock27.specs.Arrival.{bytes_from};
 ghost use Rattle.clock27.specs.Departure.{departures};
-ghost use Rattle.tstd.specs.State.Listing.{tables_from};
+ghost use Rattle.tstd.specs.PacketLists.{tables_from};
 ghost use Rattle.tstd.specs.Measured.{IsSystemFullness};
-ghost use Rattle.tstd.specs.State.Queues.{all_arrived};
+ghost use Rattle.decoder_buffers.specs.Queues.{all_arrived};
 
 use crate::fullness::SystemFullness;
 use crate::packets::is_of_tables;
-use crate::queue::Queue;
+use decoder_buffers::Queue;
 
 // The bytes of a packet, from byte `from` of the output on, arrive and go from one buffer into the other.
 fn pass_packet(transport: &mut Queue, system: &mut Queue, from: u64)
@@ -16,15 +16,16 @@ fn pass_packet(transport: &mut Queue, system: &mut Queue, from: u64)
     requires system { system.old.step ≤ 2 ^ 33 }
     requires last { transport.old.last ≤ from * 2 ^ 34 }
     requires left { system.old.last ≤ from * 2 ^ 35 }
-    requires longest { transport.old.longest ≤ transport.old.last }
-    requires inner { system.old.longest ≤ system.old.last }
+    requires longest_residence { transport.old.longest_residence ≤ transport.old.last }
+    requires inner { system.old.longest_residence ≤ system.old.last }
     requires end { from + 188 < 2 ^ 64 }
     ensures transport { transport.new ≡ all_arrived transport.old (bytes_from 2000000 from 188) }
-    ensures system { system.new ≡ all_arrived system.old (departures transport.old.step transport.old.last (bytes_from 2000000 from 188)) }
+    ensures system { system.new
+        ≡ all_arrived system.old (departures transport.old.step transport.old.last (bytes_from 2000000 from 188)) }
     ensures last { transport.new.last ≤ (from + 188) * 2 ^ 34 }
     ensures left { system.new.last ≤ (from + 188) * 2 ^ 35 }
-    ensures longest { transport.new.longest ≤ transport.new.last }
-    ensures inner { system.new.longest ≤ system.new.last }
+    ensures longest_residence { transport.new.longest_residence ≤ transport.new.last }
+    ensures inner { system.new.longest_residence ≤ system.new.last }
 {
     for byte in from..from + 188 {
         let left = transport.arrive(u128::from(byte) * 2_000_000);
@@ -34,8 +35,8 @@ fn pass_packet(transport: &mut Queue, system: &mut Queue, from: u64)
 
 /// The greatest numbers of bytes in the buffers of the tables of the program with this PMT.
 pub fn measure_tables(rate: u64, pmt_pid: u16, packets: &[[u8; 188]]) -> SystemFullness
-    requires least { 100000 ≤ rate }
-    requires most { rate ≤ 100000000 }
+    requires low { 100000 ≤ rate }
+    requires high { rate ≤ 100000000 }
     requires count { 188 * length packets.now < 2 ^ 63 }
     ensures { IsSystemFullness rate (tables_from pmt_pid 0 packets.now) result }
 {
@@ -48,7 +49,7 @@ pub fn measure_tables(rate: u64, pmt_pid: u16, packets: &[[u8; 188]]) -> SystemF
         pass_packet(&mut transport, &mut system, 188 * index as u64);
     }
     SystemFullness {
-        transport: transport.most() as u64,
-        system: system.most() as u64,
+        transport: transport.peak() as u64,
+        system: system.peak() as u64,
     }
 }

@@ -1,19 +1,19 @@
 //! The units of a stream, one after another.
-ghost use Rattle.std.specs.Prelude.{◌≡◌, ℕ, ◌==◌, ◌+◌, ◌<◌, ◌≤◌, ◌^◌, Some, None, [], List, length, sum_by, IfOk, OnOk, if◌then◌else◌};
+ghost use Rattle.std.specs.Prelude.{◌≡◌, ℕ, ◌==◌, ◌+◌, ◌<◌, ◌≤◌, Some, None, [], length, sum_by};
+ghost use Rattle.std.specs.Prelude.{IfOk, OnOk, if◌then◌else◌};
 ghost use Rattle.std.specs.Option.{option_or};
-ghost use Rattle.pes_packet.specs.Spelling.{unit_text};
+ghost use Rattle.pes_packet.specs.Encoding.{pes_packet_bytes};
 ghost use Rattle.unit_timing.specs.Arrived.{first_late};
 ghost use Rattle.pes_packet.specs.Units.{units_of};
-ghost use Rattle.tstd.specs.Carried.{timed_texts};
-ghost use Rattle.tstd.specs.State.Entering.{most_of};
-ghost use Rattle.tstd.specs.State.Keeping.{IsSound};
-ghost use Rattle.tstd.specs.State.Walking.{left_ahead, longest_of};
+ghost use Rattle.tstd.specs.Carried.{timed_pes_packets};
+ghost use Rattle.unit_arrival.specs.Entry.{peak_of};
+ghost use Rattle.decoder_buffers.specs.BufferState.{IsSound};
+ghost use Rattle.decoder_buffers.specs.DepartureWalk.{left_ahead, walk_residence};
 
-use crate::departures::Departures;
-use crate::main_buffer::MainBuffer;
-use crate::texts::measure_text;
+use decoder_buffers::{Departures, MainBuffer};
 use pes_packet::{Unit, packet_size};
 use std::alloc::{AllocError, Allocator};
+use unit_arrival::measure_unit;
 
 /// Whether a unit is one of this stream.
 pub fn is_of<B: Allocator>(entry: &(u8, Unit<B>), stream: u8) -> bool
@@ -22,7 +22,7 @@ pub fn is_of<B: Allocator>(entry: &(u8, Unit<B>), stream: u8) -> bool
     entry.0 == stream
 }
 
-// When a unit is due.
+// The decoding time of a unit.
 fn due_of<B: Allocator>(entry: &(u8, Unit<B>)) -> u64
     ensures { result ≡ entry.now.1.dts }
 {
@@ -31,13 +31,13 @@ fn due_of<B: Allocator>(entry: &(u8, Unit<B>)) -> u64
 
 // The size in bytes of its PES packet, whatever the stream_id.
 fn size_of<B: Allocator>(entry: &(u8, Unit<B>), base0: u64) -> u64
-    ensures size { (id : ℕ) → result ≡ length (unit_text id base0 entry.now.1) }
-    ensures some { 0 < result }
+    ensures size { (id : ℕ) → result ≡ length (pes_packet_bytes id base0 entry.now.1) }
+    ensures positive { 0 < result }
 {
     packet_size(base0, &entry.1)
 }
 
-// A late unit, where none was before.
+// A late unit, where there was none before.
 fn first_of(late: Option<u64>, is_late: bool, number: u64) -> Option<u64>
     ensures { result ≡ option_or late (if is_late then Some number else None) }
 {
@@ -47,8 +47,8 @@ fn first_of(late: Option<u64>, is_late: bool, number: u64) -> Option<u64>
     }
 }
 
-/// The units of a stream go from one buffer into the other, in a run of so many slots; the number of the first late
-/// one.
+/// Measures the units of a stream, which go from one buffer into the other, in a run of `slots` slots; the number of
+/// the first late one.
 pub fn measure_units<A: Allocator, B: Allocator>(
     walk: &mut Departures<'_>,
     buffer: &mut MainBuffer<A>,
@@ -59,13 +59,16 @@ pub fn measure_units<A: Allocator, B: Allocator>(
 ) -> Result<Option<u64>, AllocError>
     requires sound { IsSound buffer.old }
     requires fullness { buffer.old.fullness ≤ walk.old.byte }
-    requires carried { (id : ℕ) × (length (left_ahead walk.old) ≤ sum_by (λ t. t.size) (timed_texts id base0 (units_of stream units.now))) }
+    requires carried { (id : ℕ) × (length (left_ahead walk.old)
+        ≤ sum_by (λ t. t.size) (timed_pes_packets id base0 (units_of stream units.now))) }
     ensures late { IfOk result (λ late. (id : ℕ) →
-        late ≡ first_late walk.old.queue.step walk.old.rx slots 0 (timed_texts id base0 (units_of stream units.now)) (left_ahead walk.old)) }
-    ensures most { OnOk result ((id : ℕ) →
-        most_of walk.new buffer.new [] ≡ most_of walk.old buffer.old (timed_texts id base0 (units_of stream units.now))) }
+        late ≡ first_late walk.old.queue.step walk.old.rx slots 0
+        (timed_pes_packets id base0 (units_of stream units.now)) (left_ahead walk.old)) }
+    ensures peak { OnOk result ((id : ℕ) →
+        peak_of walk.new buffer.new []
+        ≡ peak_of walk.old buffer.old (timed_pes_packets id base0 (units_of stream units.now))) }
     ensures left { OnOk result (left_ahead walk.new ≡ []) }
-    ensures longest { OnOk result (longest_of walk.new ≡ longest_of walk.old) }
+    ensures longest_residence { OnOk result (walk_residence walk.new ≡ walk_residence walk.old) }
     ensures rx { OnOk result (walk.new.rx ≡ walk.old.rx) }
     ensures step { OnOk result (walk.new.queue.step ≡ walk.old.queue.step) }
 {
@@ -75,7 +78,7 @@ pub fn measure_units<A: Allocator, B: Allocator>(
         if !is_of(entry, stream) {
             continue;
         }
-        let is_late = measure_text(walk, buffer, slots, due_of(entry), size_of(entry, base0))?;
+        let is_late = measure_unit(walk, buffer, slots, due_of(entry), size_of(entry, base0))?;
         late = first_of(late, is_late, number);
         number += 1;
     }

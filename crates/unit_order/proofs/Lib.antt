@@ -1,2 +1,2 @@
-mod Nexts
-mod Lefts
+mod NextStream
+mod MergedUnits

@@ -8,7 +8,7 @@ unfoldable pub head_dts : List AccessUnit → Option ℕ
 head_dts [] = None
 head_dts (u ∷ us) = Some u.dts
 
--- the earlier of two streams with the times when they are due next, the first one where these are the same
+-- the earlier of two streams with the times when they are due next, the first one if these are equal
 unfoldable pub earlier : Option (ℕ × ℕ) → ℕ → Option ℕ → Option (ℕ × ℕ)
 earlier best k None = best
 earlier None k (Some dts) = Some (k, dts)
@@ -19,7 +19,7 @@ unfoldable pub next_of : ℕ → Option (ℕ × ℕ) → List (List AccessUnit) 
 next_of k best [] = best
 next_of k best (us ∷ rest) = next_of (k + 1) (earlier best k (head_dts us)) rest
 
--- the number of the stream that is due next, none where all are at their end
+-- the number of the stream that is due next, none if no stream has a unit left
 abbrev pub due : List (List AccessUnit) → Option ℕ
 due streams = option_map (λ b. b.0) (next_of 0 None streams)
 
@@ -35,7 +35,7 @@ pub record AreMerged (streams : List (List AccessUnit)) (units : List (ℕ × Ac
   pub order : (left : List (List AccessUnit)) × AreTaken streams units left
 
 -- the next unit of stream k is taken from what is left of the streams
-pub record Takes (before after : List (List AccessUnit)) (k : ℕ) (u : AccessUnit) : Type 0 where
+pub record TakesNext (before after : List (List AccessUnit)) (k : ℕ) (u : AccessUnit) : Type 0 where
   pub rest : List AccessUnit
   pub first : slice_get before k ≡ Some (u ∷ rest)
   pub left : after ≡ slice_set before k rest

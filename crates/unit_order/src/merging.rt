@@ -1,6 +1,6 @@
 //! The units of all streams in one list.
 
-ghost use Rattle.std.specs.Prelude.{◌≡◌, ◌≤◌, ◌<◌, IfOk, IfSome, IfNone, [], None, Some, All, length, map, option_map, slice_get};
+ghost use Rattle.std.specs.Prelude.{◌≡◌, ◌≤◌, ◌<◌, IfOk, IfSome, IfNone, [], None, Some, length, map, slice_get};
 ghost use Rattle.unit_order.specs.Merging as spec;
 
 use pes_packet::Unit;
@@ -38,7 +38,7 @@ fn earlier(best: Option<(usize, u64)>, k: usize, dts: Option<u64>) -> Option<(us
     }
 }
 
-// The stream whose next unit is due first, the first of those; none where all are at their end.
+// The stream whose next unit is due first, the first of those; none if no stream has a unit left.
 fn next_stream<A: Allocator>(queues: &[VecDeque<Unit<A>, A>]) -> Option<(usize, u64)>
     ensures { result ≡ spec.next_of 0 None (map (λ q. q.items) queues.now) }
 {
@@ -52,14 +52,15 @@ fn next_stream<A: Allocator>(queues: &[VecDeque<Unit<A>, A>]) -> Option<(usize, 
 // Takes the next unit of a stream.
 fn take_next<A: Allocator>(queues: &mut Vec<VecDeque<Unit<A>, A>, A>, k: usize) -> Option<Unit<A>>
     requires { k < length queues.old.items }
-    ensures some { IfSome result (λ u. spec.Takes (map (λ q. q.items) queues.old.items) (map (λ q. q.items) queues.new.items) k u) }
+    ensures some { IfSome result (λ u.
+        spec.TakesNext (map (λ q. q.items) queues.old.items) (map (λ q. q.items) queues.new.items) k u) }
     ensures none { IfNone result (slice_get (map (λ q. q.items) queues.old.items) k ≡ Some []) }
 {
     queues[k].pop_front()
 }
 
-/// The units of up to 256 streams by their DTS, those of one DTS in the order of the streams, each with the number of its
-/// stream. A unit waits for those before it in its stream, whatever their DTS.
+/// The units of up to 256 streams by their DTS, those of one DTS in the order of the streams, each with
+/// the number of its stream. A unit waits for those before it in its stream, whatever their DTS.
 pub fn merged<A: Allocator + Clone>(
     alloc: A,
     streams: Vec<VecDeque<Unit<A>, A>, A>,

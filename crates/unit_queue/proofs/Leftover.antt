@@ -5,10 +5,10 @@ use Rattle.std.proofs.lemmas.List.{length-append}
 use Rattle.clock27.specs.Release.{release}
 use Rattle.own_slots.specs.Slots.{own_before}
 use Rattle.pes_packet.specs.AccessUnits.{AccessUnit}
-use Rattle.pes_packet.specs.Spelling.{unit_text, header_text, header_size, on_wire}
+use Rattle.pes_packet.specs.Encoding.{pes_packet_bytes, pes_header_bytes, header_size, on_wire}
 use Rattle.pes_packet.proofs.Written.{header_sizes}
 use Rattle.unit_timing.specs.Schedule.{first_slot as first_own_slot}
-use Rattle.unit_queue.specs.Lanes.{Lane, text_of, packet_count, first_slot, end_slot}
+use Rattle.unit_queue.specs.OwnedStreams.{OwnedStream, pes_bytes, packet_count, first_slot, end_slot}
 use Rattle.unit_queue.specs.Places.{place_at, left_at}
 
 -- a header has 14 bytes or more, so that each unit has a packet
@@ -18,57 +18,57 @@ header_some pts dts = elim (cases_Bool (on_wire pts == on_wire dts)) [
   | inr other ↦ rw other (omega arith)
 ]
 
-pub header_most : (id size pts dts : ℕ) → length (header_text id size pts dts) ≤ 19
+pub header_most : (id size pts dts : ℕ) → length (pes_header_bytes id size pts dts) ≤ 19
 header_most id size pts dts = rw (header_sizes id size pts dts) (elim (cases_Bool (on_wire pts == on_wire dts)) [
   | inl same ↦ rw same (omega arith)
   | inr other ↦ rw other (omega arith)
 ])
 
-pub text_some : (l : Lane) (u : AccessUnit) → 14 ≤ length (text_of l u)
-unfolding unit_text
+pub text_some : (l : OwnedStream) (u : AccessUnit) → 14 ≤ length (pes_bytes l u)
+unfolding pes_packet_bytes
 text_some l u =
-    let header = header_text l.rules.stream_id (length u.bytes) (u.pts + l.rules.base0) (u.dts + l.rules.base0) in
-    let size = header_sizes l.rules.stream_id (length u.bytes) (u.pts + l.rules.base0) (u.dts + l.rules.base0) in
-    omega (arith, length-append header u.bytes, size, header_some (u.pts + l.rules.base0) (u.dts + l.rules.base0))
+    let header = pes_header_bytes l.parameters.stream_id (length u.bytes) (u.pts + l.parameters.base0) (u.dts + l.parameters.base0) in
+    let size = header_sizes l.parameters.stream_id (length u.bytes) (u.pts + l.parameters.base0) (u.dts + l.parameters.base0) in
+    omega (arith, length-append header u.bytes, size, header_some (u.pts + l.parameters.base0) (u.dts + l.parameters.base0))
 
-pub count_some : (l : Lane) (u : AccessUnit) → 0 < packet_count l u
+pub count_some : (l : OwnedStream) (u : AccessUnit) → 0 < packet_count l u
 count_some l u = omega (arith, text_some l u)
 
 -- the own slot in which a unit begins: it is free, and not before the release
-pub first_free : (l : Lane) (free : ℕ) (u : AccessUnit) → free ≤ first_slot l free u
+pub first_free : (l : OwnedStream) (free : ℕ) (u : AccessUnit) → free ≤ first_slot l free u
 unfolding first_slot first_own_slot
 first_free l free u = omega arith
 
-pub first_released : (l : Lane) (free : ℕ) (u : AccessUnit) → own_before l.own (release l.rules.rate l.rules.lead u.dts) ≤ first_slot l free u
+pub first_released : (l : OwnedStream) (free : ℕ) (u : AccessUnit) → own_before l.own (release l.parameters.rate l.parameters.lead u.dts) ≤ first_slot l free u
 unfolding first_slot first_own_slot
 first_released l free u = omega arith
 
-pub first_least : (l : Lane) (free m : ℕ) (u : AccessUnit) → free ≤ m → own_before l.own (release l.rules.rate l.rules.lead u.dts) ≤ m → first_slot l free u ≤ m
+pub first_least : (l : OwnedStream) (free m : ℕ) (u : AccessUnit) → free ≤ m → own_before l.own (release l.parameters.rate l.parameters.lead u.dts) ≤ m → first_slot l free u ≤ m
 unfolding first_slot first_own_slot
 first_least l free m u a b = omega arith
 
 -- what is left, and what an own slot carries, case by case
-pub left_stop : (l : Lane) (p free number : ℕ) (u : AccessUnit) (us : List AccessUnit) → p < end_slot l free u →
+pub left_stop : (l : OwnedStream) (p free number : ℕ) (u : AccessUnit) (us : List AccessUnit) → p < end_slot l free u →
     left_at l p free number (u ∷ us) ≡ record { free = free; number = number; units = u ∷ us }
 unfolding left_at
 left_stop l p free number u us below = rw (lt-ltb p (end_slot l free u) below) refl
 
-pub left_on : (l : Lane) (p free number : ℕ) (u : AccessUnit) (us : List AccessUnit) → end_slot l free u ≤ p →
+pub left_on : (l : OwnedStream) (p free number : ℕ) (u : AccessUnit) (us : List AccessUnit) → end_slot l free u ≤ p →
     left_at l p free number (u ∷ us) ≡ left_at l p (end_slot l free u) (number + packet_count l u) us
 unfolding left_at
 left_on l p free number u us over = rw (le-ltb p (end_slot l free u) over) refl
 
-pub place_before : (l : Lane) (free number i : ℕ) (u : AccessUnit) (us : List AccessUnit) → i < first_slot l free u →
+pub place_before : (l : OwnedStream) (free number i : ℕ) (u : AccessUnit) (us : List AccessUnit) → i < first_slot l free u →
     place_at l free number (u ∷ us) i ≡ None
 unfolding place_at
 place_before l free number i u us below = rw (lt-ltb i (first_slot l free u) below) refl
 
-pub place_in : (l : Lane) (free number i : ℕ) (u : AccessUnit) (us : List AccessUnit) → first_slot l free u ≤ i → i < end_slot l free u →
+pub place_in : (l : OwnedStream) (free number i : ℕ) (u : AccessUnit) (us : List AccessUnit) → first_slot l free u ≤ i → i < end_slot l free u →
     place_at l free number (u ∷ us) i ≡ Some (record { unit = u; piece = i - first_slot l free u; number = number + (i - first_slot l free u) })
 unfolding place_at
 place_in l free number i u us from below = rw (le-ltb i (first_slot l free u) from, lt-ltb i (end_slot l free u) below) refl
 
-pub place_on : (l : Lane) (free number i : ℕ) (u : AccessUnit) (us : List AccessUnit) → end_slot l free u ≤ i →
+pub place_on : (l : OwnedStream) (free number i : ℕ) (u : AccessUnit) (us : List AccessUnit) → end_slot l free u ≤ i →
     place_at l free number (u ∷ us) i ≡ place_at l (end_slot l free u) (number + packet_count l u) us i
 unfolding place_at
 place_on l free number i u us over =
@@ -76,7 +76,7 @@ place_on l free number i u us over =
     rw (le-ltb i (first_slot l free u) from, le-ltb i (end_slot l free u) over) refl
 
 -- what is left makes what all makes
-pub place_left : (l : Lane) (p free number i : ℕ) (us : List AccessUnit) → p ≤ i →
+pub place_left : (l : OwnedStream) (p free number i : ℕ) (us : List AccessUnit) → p ≤ i →
     place_at l free number us i ≡ place_at l (left_at l p free number us).free (left_at l p free number us).number (left_at l p free number us).units i
 unfolding left_at
 place_left l p free number i [] le = refl
@@ -86,7 +86,7 @@ place_left l p free number i (u ∷ us) le = elim (cases_lt p (end_slot l free u
       (place_on l free number i u us (omega (arith, on, le)) ∙ place_left l p (end_slot l free u) (number + packet_count l u) i us le)
 ]
 
-pub left_left : (l : Lane) (p free number i : ℕ) (us : List AccessUnit) → p ≤ i →
+pub left_left : (l : OwnedStream) (p free number i : ℕ) (us : List AccessUnit) → p ≤ i →
     left_at l i free number us ≡ left_at l i (left_at l p free number us).free (left_at l p free number us).number (left_at l p free number us).units
 left_left l p free number i [] le = unfold left_at in refl
 left_left l p free number i (u ∷ us) le = elim (cases_lt p (end_slot l free u)) [
@@ -96,7 +96,7 @@ left_left l p free number i (u ∷ us) le = elim (cases_lt p (end_slot l free u)
 ]
 
 -- the own slots taken have passed, and the first unit left has not ended
-pub left_free : (l : Lane) (p free number : ℕ) (us : List AccessUnit) → free ≤ p → (left_at l p free number us).free ≤ p
+pub left_free : (l : OwnedStream) (p free number : ℕ) (us : List AccessUnit) → free ≤ p → (left_at l p free number us).free ≤ p
 left_free l p free number [] le = unfold left_at in le
 left_free l p free number (u ∷ us) le = elim (cases_lt p (end_slot l free u)) [
   | inl stop ↦ rw (left_stop l p free number u us stop) le
@@ -104,11 +104,11 @@ left_free l p free number (u ∷ us) le = elim (cases_lt p (end_slot l free u)) 
 ]
 
 -- a unit that is not sent whole
-unfoldable pub Unfinished : Lane → ℕ → ℕ → List AccessUnit → Type 0
+unfoldable pub Unfinished : OwnedStream → ℕ → ℕ → List AccessUnit → Type 0
 Unfinished l p free [] = Unit {0}
 Unfinished l p free (u ∷ us) = p < end_slot l free u
 
-pub left_unfinished : (l : Lane) (p free number : ℕ) (us : List AccessUnit) → Unfinished l p (left_at l p free number us).free (left_at l p free number us).units
+pub left_unfinished : (l : OwnedStream) (p free number : ℕ) (us : List AccessUnit) → Unfinished l p (left_at l p free number us).free (left_at l p free number us).units
 unfolding Unfinished
 left_unfinished l p free number [] = unfold left_at in tt
 left_unfinished l p free number (u ∷ us) = elim (cases_lt p (end_slot l free u)) [
@@ -117,7 +117,7 @@ left_unfinished l p free number (u ∷ us) = elim (cases_lt p (end_slot l free u
 ]
 
 -- one unit more, which begins later
-pub left_fed : (l : Lane) (p free number : ℕ) (us : List AccessUnit) (u : AccessUnit) → ((f : ℕ) → p < end_slot l f u) →
+pub left_fed : (l : OwnedStream) (p free number : ℕ) (us : List AccessUnit) (u : AccessUnit) → ((f : ℕ) → p < end_slot l f u) →
     left_at l p free number (us ++ u ∷ [])
     ≡ record { free = (left_at l p free number us).free; number = (left_at l p free number us).number; units = (left_at l p free number us).units ++ u ∷ [] }
 left_fed l p free number [] u later = left_stop l p free number u [] (later free) ∙ (unfold left_at in refl)
@@ -127,7 +127,7 @@ left_fed l p free number (v ∷ us) u later = elim (cases_lt p (end_slot l free 
       (left_on l p free number v (us ++ u ∷ []) on ∙ left_fed l p (end_slot l free v) (number + packet_count l v) us u later)
 ]
 
-pub place_fed : (l : Lane) (free number i : ℕ) (us : List AccessUnit) (u : AccessUnit) → ((f : ℕ) → i < first_slot l f u) →
+pub place_fed : (l : OwnedStream) (free number i : ℕ) (us : List AccessUnit) (u : AccessUnit) → ((f : ℕ) → i < first_slot l f u) →
     place_at l free number (us ++ u ∷ []) i ≡ place_at l free number us i
 place_fed l free number i [] u later = place_before l free number i u [] (later free) ∙ (unfold place_at in refl)
 place_fed l free number i (v ∷ us) u later = elim (cases_lt i (first_slot l free v)) [

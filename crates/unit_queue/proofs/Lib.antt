@@ -1,8 +1,8 @@
-pub mod Waiting
+pub mod PieceBytes
 pub mod Leftover
-pub mod Stepping
-pub mod Judging
-pub mod Holding
+pub mod QueueSteps
+pub mod CauseLemmas
+pub mod QueueStates
 pub mod SentPlaces
 pub mod OwnPayloads
-pub mod Carrying
+pub mod CarriedBytes

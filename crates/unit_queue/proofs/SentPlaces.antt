@@ -9,23 +9,23 @@ use Rattle.clock27.specs.Release.{release}
 use Rattle.own_slots.specs.Slots.{own_before}
 use Rattle.pes_packet.specs.AccessUnits.{AccessUnit}
 use Rattle.pes_packet.specs.Payloads.{pieces}
-use Rattle.pes_packet.proofs.PieceLists.{payloads_join}
-use Rattle.ts_packet.specs.Contents.{ContentFits}
-use Rattle.unit_queue.specs.Lanes.{Lane, text_of, packet_count, first_slot, end_slot}
-use Rattle.unit_queue.specs.Places.{Place, place_at, piece_bytes, content_of}
-use Rattle.unit_queue.specs.Payloads.{marked, text_pieces, all_pieces, all_senders}
+use Rattle.pes_packet.proofs.Payloads.{payloads_join}
+use Rattle.slot_contents.specs.Contents.{ContentFits}
+use Rattle.unit_queue.specs.OwnedStreams.{OwnedStream, pes_bytes, packet_count, first_slot, end_slot}
+use Rattle.unit_queue.specs.Places.{UnitPlace, place_at, piece_bytes, content_of}
+use Rattle.unit_queue.specs.Payloads.{marked, pes_pieces, all_pieces, all_senders}
 use Rattle.unit_queue.specs.Laws.{ContentLaw}
 use Rattle.unit_queue.proofs.Leftover.{count_some, first_free, first_released, place_before, place_in, place_on}
 
 -- ---- the number of a packet is the count of those before it
 
-unfoldable pub sent_before : Lane → ℕ → ℕ → List AccessUnit → ℕ → ℕ
+unfoldable pub sent_before : OwnedStream → ℕ → ℕ → List AccessUnit → ℕ → ℕ
 sent_before l free number [] i = number
 sent_before l free number (u ∷ us) i =
     cond (nat_lt i (first_slot l free u)) number
     (cond (nat_lt i (end_slot l free u)) (number + (i - first_slot l free u)) (sent_before l (end_slot l free u) (number + packet_count l u) us i))
 
-pub sent_fresh : (l : Lane) (free number : ℕ) (us : List AccessUnit) (i : ℕ) → i ≤ free → sent_before l free number us i ≡ number
+pub sent_fresh : (l : OwnedStream) (free number : ℕ) (us : List AccessUnit) (i : ℕ) → i ≤ free → sent_before l free number us i ≡ number
 unfolding sent_before
 sent_fresh l free number [] i le = refl
 sent_fresh l free number (u ∷ us) i le = elim (cases_lt i (first_slot l free u)) [
@@ -36,11 +36,11 @@ sent_fresh l free number (u ∷ us) i le = elim (cases_lt i (first_slot l free u
       rw (le-ltb i (first_slot l free u) from, lt-ltb i (end_slot l free u) (omega (arith, first_free l free u, count_some l u)), here, none) refl
 ]
 
-abbrev pub one_of : Option Place → ℕ
+abbrev pub one_of : Option UnitPlace → ℕ
 one_of None = 0
 one_of (Some x) = 1
 
-pub sent_next : (l : Lane) (free number : ℕ) (us : List AccessUnit) (i : ℕ) →
+pub sent_next : (l : OwnedStream) (free number : ℕ) (us : List AccessUnit) (i : ℕ) →
     sent_before l free number us (suc i) ≡ sent_before l free number us i + one_of (place_at l free number us i)
 unfolding sent_before place_at
 sent_next l free number [] i = omega arith
@@ -87,15 +87,15 @@ sent_next l free number (u ∷ us) i = elim (cases_lt i (first_slot l free u)) [
 
 -- ---- what is known of a place: its number, its piece, its unit, that it has bytes, and that it does not come early
 
-pub record PlaceIs (l : Lane) (number : ℕ) (us : List AccessUnit) (i sent : ℕ) (x : Place) : Type 0 where
+pub record PlaceIs (l : OwnedStream) (number : ℕ) (us : List AccessUnit) (i sent : ℕ) (x : UnitPlace) : Type 0 where
   pub number_is : x.number ≡ sent
-  pub inside : 184 * x.piece < length (text_of l x.unit)
-  pub released : own_before l.own (release l.rules.rate l.rules.lead x.unit.dts) ≤ i
+  pub inside : 184 * x.piece < length (pes_bytes l x.unit)
+  pub released : own_before l.own (release l.parameters.rate l.parameters.lead x.unit.dts) ≤ i
   pub from : number ≤ x.number
   pub piece : slice_get (all_pieces l us) (x.number - number) ≡ Some (record { start = x.piece == 0; bytes = piece_bytes l x })
   pub sender : slice_get (all_senders l us) (x.number - number) ≡ Some x.unit
 
-abbrev pub PlaceHas : Lane → ℕ → List AccessUnit → ℕ → ℕ → Option Place → Type 0
+abbrev pub PlaceHas : OwnedStream → ℕ → List AccessUnit → ℕ → ℕ → Option UnitPlace → Type 0
 PlaceHas l number us i sent None = Unit {0}
 PlaceHas l number us i sent (Some x) = PlaceIs l number us i sent x
 
@@ -124,49 +124,49 @@ replicate_at (suc n) zero x lt = refl
 replicate_at (suc n) (suc q) x lt = replicate_at n q x (omega arith)
 
 -- the payloads of a unit, then those of the units after it
-pub pieces_cons : (l : Lane) (u : AccessUnit) (us : List AccessUnit) → all_pieces l (u ∷ us) ≡ text_pieces (text_of l u) ++ all_pieces l us
-pieces_cons l u us = flat_map-cons (λ (v : AccessUnit). text_pieces (text_of l v)) u us
+pub pieces_cons : (l : OwnedStream) (u : AccessUnit) (us : List AccessUnit) → all_pieces l (u ∷ us) ≡ pes_pieces (pes_bytes l u) ++ all_pieces l us
+pieces_cons l u us = flat_map-cons (λ (v : AccessUnit). pes_pieces (pes_bytes l v)) u us
 
-senders_cons : (l : Lane) (u : AccessUnit) (us : List AccessUnit) → all_senders l (u ∷ us) ≡ replicate (packet_count l u) u ++ all_senders l us
+senders_cons : (l : OwnedStream) (u : AccessUnit) (us : List AccessUnit) → all_senders l (u ∷ us) ≡ replicate (packet_count l u) u ++ all_senders l us
 senders_cons l u us = flat_map-cons (λ (v : AccessUnit). replicate (packet_count l v) v) u us
 
-pieces_count : (l : Lane) (u : AccessUnit) → length (text_pieces (text_of l u)) ≡ packet_count l u
-pieces_count l u = length-marked true (pieces (text_of l u)) ∙ (payloads_join (text_of l u)).count
+pieces_count : (l : OwnedStream) (u : AccessUnit) → length (pes_pieces (pes_bytes l u)) ≡ packet_count l u
+pieces_count l u = length-marked true (pieces (pes_bytes l u)) ∙ (payloads_join (pes_bytes l u)).count
 
-sent_in : (l : Lane) (free number : ℕ) (u : AccessUnit) (us : List AccessUnit) (i : ℕ) → first_slot l free u ≤ i → i < end_slot l free u →
+sent_in : (l : OwnedStream) (free number : ℕ) (u : AccessUnit) (us : List AccessUnit) (i : ℕ) → first_slot l free u ≤ i → i < end_slot l free u →
     sent_before l free number (u ∷ us) i ≡ number + (i - first_slot l free u)
 unfolding sent_before
 sent_in l free number u us i from inside = rw (le-ltb i (first_slot l free u) from, lt-ltb i (end_slot l free u) inside) refl
 
-sent_on : (l : Lane) (free number : ℕ) (u : AccessUnit) (us : List AccessUnit) (i : ℕ) → first_slot l free u ≤ i → end_slot l free u ≤ i →
+sent_on : (l : OwnedStream) (free number : ℕ) (u : AccessUnit) (us : List AccessUnit) (i : ℕ) → first_slot l free u ≤ i → end_slot l free u ≤ i →
     sent_before l free number (u ∷ us) i ≡ sent_before l (end_slot l free u) (number + packet_count l u) us i
 unfolding sent_before
 sent_on l free number u us i from over = rw (le-ltb i (first_slot l free u) from, le-ltb i (end_slot l free u) over) refl
 
-place_here : (l : Lane) (free number : ℕ) (u : AccessUnit) (us : List AccessUnit) (i : ℕ) → first_slot l free u ≤ i → i < end_slot l free u →
+place_here : (l : OwnedStream) (free number : ℕ) (u : AccessUnit) (us : List AccessUnit) (i : ℕ) → first_slot l free u ≤ i → i < end_slot l free u →
     PlaceIs l number (u ∷ us) i (sent_before l free number (u ∷ us) i) (record { unit = u; piece = i - first_slot l free u; number = number + (i - first_slot l free u) })
 place_here l free number u us i from below =
     let b = i - first_slot l free u in
-    let text = text_of l u in
+    let pes = pes_bytes l u in
     let few : i - first_slot l free u < packet_count l u = omega arith in
     let place : (number + (i - first_slot l free u)) - number ≡ i - first_slot l free u = omega arith in
-    let size : i - first_slot l free u < length (text_pieces (text_of l u)) = rw (pieces_count l u) few in
+    let size : i - first_slot l free u < length (pes_pieces (pes_bytes l u)) = rw (pieces_count l u) few in
     let many : i - first_slot l free u < length (replicate (packet_count l u) u) = rw (length-replicate (packet_count l u) u) few in
     record {
       number_is = sym (sent_in l free number u us i from below);
       inside = omega arith;
       released = omega (arith, first_released l free u);
       from = omega arith;
-      piece = rw (place, pieces_cons l u us, slice_get-append_left (text_pieces text) (all_pieces l us) b size)
-          (marked_true (pieces text) b (take 184 (drop (184 * b) text)) ((payloads_join text).each b few));
+      piece = rw (place, pieces_cons l u us, slice_get-append_left (pes_pieces pes) (all_pieces l us) b size)
+          (marked_true (pieces pes) b (take 184 (drop (184 * b) pes)) ((payloads_join pes).each b few));
       sender = rw (place, senders_cons l u us, slice_get-append_left (replicate (packet_count l u) u) (all_senders l us) b many) (replicate_at (packet_count l u) b u few);
     }
 
-has_on : (l : Lane) (number : ℕ) (u : AccessUnit) (us : List AccessUnit) (i sent : ℕ) (o : Option Place) →
+has_on : (l : OwnedStream) (number : ℕ) (u : AccessUnit) (us : List AccessUnit) (i sent : ℕ) (o : Option UnitPlace) →
     PlaceHas l (number + packet_count l u) us i sent o → PlaceHas l number (u ∷ us) i sent o
 has_on l number u us i sent None h = tt
 has_on l number u us i sent (Some x) h =
-    let far : x.number - number ≡ length (text_pieces (text_of l u)) + (x.number - (number + packet_count l u)) = omega (arith, h.from, pieces_count l u) in
+    let far : x.number - number ≡ length (pes_pieces (pes_bytes l u)) + (x.number - (number + packet_count l u)) = omega (arith, h.from, pieces_count l u) in
     let far_sender : x.number - number ≡ length (replicate (packet_count l u) u) + (x.number - (number + packet_count l u)) =
     omega (arith, h.from, length-replicate (packet_count l u) u) in
     record {
@@ -174,11 +174,11 @@ has_on l number u us i sent (Some x) h =
       inside = h.inside;
       released = h.released;
       from = omega (arith, h.from);
-      piece = rw (pieces_cons l u us, slice_get-append_right (text_pieces (text_of l u)) (all_pieces l us) (x.number - number) (x.number - (number + packet_count l u)) far) h.piece;
+      piece = rw (pieces_cons l u us, slice_get-append_right (pes_pieces (pes_bytes l u)) (all_pieces l us) (x.number - number) (x.number - (number + packet_count l u)) far) h.piece;
       sender = rw (senders_cons l u us, slice_get-append_right (replicate (packet_count l u) u) (all_senders l us) (x.number - number) (x.number - (number + packet_count l u)) far_sender) h.sender;
     }
 
-pub place_has : (l : Lane) (free number : ℕ) (us : List AccessUnit) (i : ℕ) →
+pub place_has : (l : OwnedStream) (free number : ℕ) (us : List AccessUnit) (i : ℕ) →
     PlaceHas l number us i (sent_before l free number us i) (place_at l free number us i)
 place_has l free number [] i = unfold place_at sent_before in tt
 place_has l free number (u ∷ us) i = elim (cases_lt i (first_slot l free u)) [
@@ -193,12 +193,12 @@ place_has l free number (u ∷ us) i = elim (cases_lt i (first_slot l free u)) [
 
 -- ---- what an own slot carries can be a packet
 
-place_content : (l : Lane) (us : List AccessUnit) (i sent : ℕ) (o : Option Place) → l.rules.pid < 2 ^ 13 → PlaceHas l 0 us i sent o → ContentFits (content_of l o)
+place_content : (l : OwnedStream) (us : List AccessUnit) (i sent : ℕ) (o : Option UnitPlace) → l.parameters.pid < 2 ^ 13 → PlaceHas l 0 us i sent o → ContentFits (content_of l o)
 place_content l us i sent None pid h = tt
 place_content l us i sent (Some x) pid h =
-    let text = text_of l x.unit in
-    let size : length (piece_bytes l x) ≡ min 184 (length (text_of l x.unit) - 184 * x.piece) =
-    length-take 184 (drop (184 * x.piece) text) ∙ ap (λ (n : ℕ). min 184 n) (length-drop (184 * x.piece) text) in
+    let pes = pes_bytes l x.unit in
+    let size : length (piece_bytes l x) ≡ min 184 (length (pes_bytes l x.unit) - 184 * x.piece) =
+    length-take 184 (drop (184 * x.piece) pes) ∙ ap (λ (n : ℕ). min 184 n) (length-drop (184 * x.piece) pes) in
     (pid, omega (arith, size, h.inside), omega (arith, size))
 
 pub content_law : ContentLaw

@@ -3,7 +3,7 @@ use Rattle.std.specs.Prelude.{ℕ, ◌+◌, ◌-◌, ◌^◌, ◌==◌, ◌||◌
 use Rattle.clock27.specs.Release.{release}
 use Rattle.pes_packet.specs.AccessUnits.{AccessUnit}
 use Rattle.unit_timing.specs.PesPacket.{next_due, last_packets}
-use Rattle.unit_queue.specs.Lanes.{Lane, timed, packet_count}
+use Rattle.unit_queue.specs.OwnedStreams.{OwnedStream, timed, packet_count}
 use Rattle.unit_queue.specs.Places.{left_before}
 use Rattle.unit_queue.specs.declared.refusal.FeedError.{FeedError}
 use Rattle.unit_queue.specs.declared.refusal.FeedError.TheVariants.{Empty, TooLarge, TooSoon, BadPts, Late, TooFar, Full, Group}
@@ -17,12 +17,12 @@ or_cause None next = next
 abbrev pub is_bad_pts : ℕ → ℕ → Bool
 is_bad_pts dts pts = nat_lt pts dts || nat_lt (dts + 90_000) pts
 
--- of the unit by itself and its distance from the one before: it has at most `largest` bytes, and no DTS below `earliest` is accepted
+-- of the unit by itself and its distance from the one before: it has at most `largest` bytes, and no DTS below `min_next_dts` is accepted
 unfoldable pub own_cause : ℕ → ℕ → AccessUnit → Option FeedError
-own_cause largest earliest u =
+own_cause largest min_next_dts u =
     if length u.bytes == 0 then Some Empty
     else (if nat_lt largest (length u.bytes) then Some TooLarge
-    else (if nat_lt u.dts earliest then Some TooSoon
+    else (if nat_lt u.dts min_next_dts then Some TooSoon
     else (if is_bad_pts u.dts u.pts then Some BadPts
     else None)))
 
@@ -36,27 +36,27 @@ room_cause full over = if full then Some Full else (if over then Some Group else
 
 -- the whole list
 abbrev pub first_cause : ℕ → ℕ → Bool → Bool → Bool → AccessUnit → Option FeedError
-first_cause largest earliest late full over u = or_cause (own_cause largest earliest u) (or_cause (time_cause late u.dts) (room_cause full over))
+first_cause largest min_next_dts late full over u = or_cause (own_cause largest min_next_dts u) (or_cause (time_cause late u.dts) (room_cause full over))
 
 -- the DTS is before the lead, or the slot of the unit's release is written
-abbrev pub is_late : Lane → ℕ → AccessUnit → Bool
-is_late l slots u = nat_lt u.dts l.rules.lead || nat_lt (release l.rules.rate l.rules.lead u.dts) slots
+abbrev pub is_late : OwnedStream → ℕ → AccessUnit → Bool
+is_late l slots u = nat_lt u.dts l.parameters.lead || nat_lt (release l.parameters.rate l.parameters.lead u.dts) slots
 
 -- `capacity` units are not sent whole
-abbrev pub is_full : Lane → ℕ → ℕ → List AccessUnit → Bool
+abbrev pub is_full : OwnedStream → ℕ → ℕ → List AccessUnit → Bool
 is_full l slots capacity us = nat_le capacity (length (left_before l slots us).units)
 
 -- its packets and those of the units before it in its group are more than the stream declares
-abbrev pub exceeds_group : Lane → List AccessUnit → AccessUnit → Bool
-exceeds_group l us u = nat_lt l.rules.group_packets (last_packets (l.rules.group - 1) (map (timed l) us) + packet_count l u)
+abbrev pub exceeds_group : OwnedStream → List AccessUnit → AccessUnit → Bool
+exceeds_group l us u = nat_lt l.parameters.group_packets (last_packets (l.parameters.group - 1) (map (timed l) us) + packet_count l u)
 
--- the least DTS of the next unit
-abbrev pub earliest_of : Lane → List AccessUnit → ℕ
-earliest_of l us = next_due l.rules.interval 0 (map (timed l) us)
+-- the minimum DTS of the next unit
+abbrev pub min_next_dts_of : OwnedStream → List AccessUnit → ℕ
+min_next_dts_of l us = next_due l.parameters.interval 0 (map (timed l) us)
 
--- why a stream that has accepted these units, with so many slots written, refuses a further one
-abbrev pub unit_cause : Lane → ℕ → ℕ → List AccessUnit → AccessUnit → Option FeedError
-unit_cause l slots capacity us u = first_cause l.rules.size (earliest_of l us) (is_late l slots u) (is_full l slots capacity us) (exceeds_group l us u) u
+-- why a stream that has accepted these units, with `slots` slots written, refuses a further one
+abbrev pub unit_cause : OwnedStream → ℕ → ℕ → List AccessUnit → AccessUnit → Option FeedError
+unit_cause l slots capacity us u = first_cause l.parameters.size (min_next_dts_of l us) (is_late l slots u) (is_full l slots capacity us) (exceeds_group l us u) u
 
 -- why a call refused a unit, none where it accepted it
 abbrev pub refusal : {V W : Type 0} → Result V (FeedError × W) → Option FeedError

@@ -1,8 +1,8 @@
-pub mod Lanes
+pub mod OwnedStreams
 pub mod Places
 pub mod Causes
 pub mod Codes
 pub mod Queues
-pub mod Steps
+pub mod QueueSteps
 pub mod Payloads
 pub mod Laws

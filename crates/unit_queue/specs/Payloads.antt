@@ -1,66 +1,66 @@
 -- What the packets of a stream carry.
 use Rattle.std.specs.Prelude.{◌≡◌, ◌≤◌, ℕ, ◌+◌, ◌*◌, ◌%◌, ◌==◌, nat_eq, Bool, true, false, Option, Some, None, List, [], ◌∷◌, length, map, take, replicate, slice_get}
 use Rattle.std.specs.List.{concat, flat_map, starts_with}
-use Rattle.clock27.specs.Release.{slot_units}
+use Rattle.clock27.specs.Units.{slot_units_at_1bps}
 use Rattle.own_slots.specs.Slots.{own_before, own_slots}
 use Rattle.pes_packet.specs.AccessUnits.{AccessUnit}
 use Rattle.pes_packet.specs.Payloads.{pieces}
 use Rattle.unit_timing.specs.Schedule.{packets_in_slots}
-use Rattle.ts_packet.specs.PidList.{Entry, is_of_pid, pid_list}
-use Rattle.ts_packet.specs.Contents.{Content, view_of, Payload, payload_of, payloads_on, payload_at, Piece, put}
-use Rattle.ts_packet.specs.RunLaws.{Fits}
-use Rattle.unit_queue.specs.Lanes.{Lane, text_of, timed, packet_count}
-use Rattle.unit_queue.specs.Places.{Place, place_at, piece_bytes, stream_content}
+use Rattle.ts_packet.specs.PidList.{Entry, is_of_pid, pid_list, payload_of, payloads_on}
+use Rattle.slot_contents.specs.Contents.{Content, view_of, Payload, payload_at, Piece, put}
+use Rattle.slot_contents.specs.RunLaws.{Fits}
+use Rattle.unit_queue.specs.OwnedStreams.{OwnedStream, pes_bytes, timed, packet_count}
+use Rattle.unit_queue.specs.Places.{UnitPlace, place_at, piece_bytes, stream_content}
 
--- the payloads that a text is cut into; it begins in the first
+-- the payloads that a PES packet is cut into; it begins in the first
 unfoldable pub marked : Bool → List (List ℕ) → List Piece
 marked start [] = []
 marked start (bytes ∷ rest) = record { start = start; bytes = bytes } ∷ marked false rest
 
-abbrev pub text_pieces : List ℕ → List Piece
-text_pieces text = marked true (pieces text)
+abbrev pub pes_pieces : List ℕ → List Piece
+pes_pieces pes = marked true (pieces pes)
 
 -- all payloads of a stream's units, in order, and the unit of each
-abbrev pub all_pieces : Lane → List AccessUnit → List Piece
-all_pieces l us = flat_map (λ u. text_pieces (text_of l u)) us
+abbrev pub all_pieces : OwnedStream → List AccessUnit → List Piece
+all_pieces l us = flat_map (λ u. pes_pieces (pes_bytes l u)) us
 
-abbrev pub all_senders : Lane → List AccessUnit → List AccessUnit
+abbrev pub all_senders : OwnedStream → List AccessUnit → List AccessUnit
 all_senders l us = flat_map (λ u. replicate (packet_count l u) u) us
 
--- a payload without the packet that it stands in
+-- a payload without the number of its slot
 abbrev pub piece_in : Payload → Piece
 piece_in p = record { start = p.start; bytes = p.bytes }
 
 -- the payload in the place of an own slot, and those of n slots
-abbrev pub piece_of : Lane → Option Place → Option Piece
+abbrev pub piece_of : OwnedStream → Option UnitPlace → Option Piece
 piece_of l None = None
 piece_of l (Some x) = Some (record { start = x.piece == 0; bytes = piece_bytes l x })
 
-abbrev pub stream_payloads : Lane → List AccessUnit → ℕ → List Payload
+abbrev pub stream_payloads : OwnedStream → List AccessUnit → ℕ → List Payload
 stream_payloads l us n = flat_map (λ s. put s (piece_of l (place_at l 0 0 us (own_before l.own s)))) (own_slots l.own 0 n)
 
--- a payload stands in no slot that begins before its unit's DTS less the lead
-abbrev pub IsReleased : Lane → AccessUnit → ℕ → Type 0
-IsReleased l u slot = u.dts * l.rules.rate ≤ slot * slot_units + l.rules.lead * l.rules.rate
+-- the slot of a payload does not begin before its unit's DTS less the lead
+abbrev pub IsReleased : OwnedStream → AccessUnit → ℕ → Type 0
+IsReleased l u slot = u.dts * l.parameters.rate ≤ slot * slot_units_at_1bps + l.parameters.lead * l.parameters.rate
 
--- what stands in the finished bytes of n slots of units of a stream
-pub record StreamCarried (l : Lane) (us : List AccessUnit) (n : ℕ) (bytes : List ℕ) : Type 0 where
+-- what the finished bytes of n slots have of a stream's units
+pub record StreamCarried (l : OwnedStream) (us : List AccessUnit) (n : ℕ) (bytes : List ℕ) : Type 0 where
   -- packet number j of the PID has the continuity_counter j modulo 16 (ISO/IEC 13818-1, 2.4.3.3)
-  pub counters : (j : ℕ) (e : Entry) → slice_get (pid_list l.rules.pid bytes) j ≡ Some e → e.packet.header.continuity_counter ≡ j % 16
+  pub counters : (j : ℕ) (e : Entry) → slice_get (pid_list l.parameters.pid bytes) j ≡ Some e → e.packet.header.continuity_counter ≡ j % 16
   -- the payloads are the first of those that the units are cut into: each is of one unit, and has the start indicator where a unit begins
-  pub pieces : map (λ e. piece_in (payload_at e)) (pid_list l.rules.pid bytes) ≡ take (length (pid_list l.rules.pid bytes)) (all_pieces l us)
+  pub pieces : map (λ e. piece_in (payload_at e)) (pid_list l.parameters.pid bytes) ≡ take (length (pid_list l.parameters.pid bytes)) (all_pieces l us)
   -- joined they are a beginning of the units' PES packets
-  pub joined : starts_with nat_eq (concat (map (text_of l) us)) (payloads_on l.rules.pid bytes) ≡ true
+  pub joined : starts_with nat_eq (concat (map (pes_bytes l) us)) (payloads_on l.parameters.pid bytes) ≡ true
   -- none comes early
-  pub released : (j : ℕ) (e : Entry) (u : AccessUnit) → slice_get (pid_list l.rules.pid bytes) j ≡ Some e → slice_get (all_senders l us) j ≡ Some u →
+  pub released : (j : ℕ) (e : Entry) (u : AccessUnit) → slice_get (pid_list l.parameters.pid bytes) j ≡ Some e → slice_get (all_senders l us) j ≡ Some u →
       IsReleased l u e.index
   -- they are the packets that the timing of the stream speaks of
-  pub packets : map (λ e. record { slot = e.index; size = length (payload_of e.packet) }) (pid_list l.rules.pid bytes)
-      ≡ packets_in_slots l.own l.rules.rate l.rules.lead 0 (map (timed l) us) (own_slots l.own 0 n)
+  pub packets : map (λ e. record { slot = e.index; size = length (payload_of e.packet) }) (pid_list l.parameters.pid bytes)
+      ≡ packets_in_slots l.own l.parameters.rate l.parameters.lead 0 (map (timed l) us) (own_slots l.own 0 n)
 
 -- an output in which the stream, and nothing else, is on its PID
-pub record IsAlone (l : Lane) (us : List AccessUnit) (content : ℕ → Content) : Type 0 where
+pub record StreamIsAlone (l : OwnedStream) (us : List AccessUnit) (content : ℕ → Content) : Type 0 where
   pub fits : Fits content
-  pub no_null : (l.rules.pid == 8191) ≡ false
+  pub no_null : (l.parameters.pid == 8191) ≡ false
   pub own : (t : ℕ) → l.own t ≡ true → content t ≡ stream_content l us t
-  pub others : (t : ℕ) → l.own t ≡ false → is_of_pid l.rules.pid (view_of (content t)) ≡ false
+  pub others : (t : ℕ) → l.own t ≡ false → is_of_pid l.parameters.pid (view_of (content t)) ≡ false

@@ -2,17 +2,17 @@
 use Rattle.std.specs.Prelude.{ℕ, ◌+◌, ◌-◌, ◌*◌, ◌==◌, cond, nat_lt, Option, Some, None, List, [], ◌∷◌, take, drop}
 use Rattle.own_slots.specs.Slots.{own_before}
 use Rattle.pes_packet.specs.AccessUnits.{AccessUnit}
-use Rattle.ts_packet.specs.Contents.{Content, Carries, Stuffs}
-use Rattle.unit_queue.specs.Lanes.{Lane, text_of, packet_count, first_slot, end_slot}
+use Rattle.slot_contents.specs.Contents.{Content, PayloadContent, NullContent}
+use Rattle.unit_queue.specs.OwnedStreams.{OwnedStream, pes_bytes, packet_count, first_slot, end_slot}
 
--- a packet of a unit: which piece of its text it carries, and its number among the stream's packets
-pub record Place : Type 0 where
+-- a packet of a unit: which piece of the PES packet it carries, and its number among the stream's packets
+pub record UnitPlace : Type 0 where
   pub unit : AccessUnit
   pub piece : ℕ
   pub number : ℕ
 
 -- what own slot number i carries, where the first `free` are taken and `number` packets have been sent
-unfoldable pub place_at : Lane → ℕ → ℕ → List AccessUnit → ℕ → Option Place
+unfoldable pub place_at : OwnedStream → ℕ → ℕ → List AccessUnit → ℕ → Option UnitPlace
 place_at l free number [] i = None
 place_at l free number (u ∷ us) i =
     cond (nat_lt i (first_slot l free u)) None
@@ -20,16 +20,16 @@ place_at l free number (u ∷ us) i =
     (place_at l (end_slot l free u) (number + packet_count l u) us i))
 
 -- the bytes of that piece
-abbrev pub piece_bytes : Lane → Place → List ℕ
-piece_bytes l x = take 184 (drop (184 * x.piece) (text_of l x.unit))
+abbrev pub piece_bytes : OwnedStream → UnitPlace → List ℕ
+piece_bytes l x = take 184 (drop (184 * x.piece) (pes_bytes l x.unit))
 
--- as the content of a slot: a payload in which the text begins where it is its first piece, or nothing
-abbrev pub content_of : Lane → Option Place → Content
-content_of l None = Stuffs
-content_of l (Some x) = Carries l.rules.pid x.number (x.piece == 0) (piece_bytes l x)
+-- as the content of a slot: a payload in which the PES packet begins where it is its first piece, or nothing
+abbrev pub content_of : OwnedStream → Option UnitPlace → Content
+content_of l None = NullContent
+content_of l (Some x) = PayloadContent l.parameters.pid x.number (x.piece == 0) (piece_bytes l x)
 
 -- what slot s carries of these units, where it is an own slot
-abbrev pub stream_content : Lane → List AccessUnit → ℕ → Content
+abbrev pub stream_content : OwnedStream → List AccessUnit → ℕ → Content
 stream_content l us s = content_of l (place_at l 0 0 us (own_before l.own s))
 
 -- what is left before an own slot: the units not sent whole, the own slots taken by those before them, and the number of their packets
@@ -38,20 +38,20 @@ pub record Left : Type 0 where
   pub number : ℕ
   pub units : List AccessUnit
 
-unfoldable pub left_at : Lane → ℕ → ℕ → ℕ → List AccessUnit → Left
+unfoldable pub left_at : OwnedStream → ℕ → ℕ → ℕ → List AccessUnit → Left
 left_at l p free number [] = record { free = free; number = number; units = [] }
 left_at l p free number (u ∷ us) =
     cond (nat_lt p (end_slot l free u)) (record { free = free; number = number; units = u ∷ us })
     (left_at l p (end_slot l free u) (number + packet_count l u) us)
 
--- of units of which the first is not sent whole, how many of its packets stand before own slot number p
-unfoldable pub begun : Lane → ℕ → ℕ → List AccessUnit → ℕ
+-- of units of which the first is not sent whole, the number of its packets before own slot number p
+unfoldable pub begun : OwnedStream → ℕ → ℕ → List AccessUnit → ℕ
 begun l p free [] = 0
 begun l p free (u ∷ us) = p - first_slot l free u
 
 -- what is left when the slots before s are written
-abbrev pub left_before : Lane → ℕ → List AccessUnit → Left
+abbrev pub left_before : OwnedStream → ℕ → List AccessUnit → Left
 left_before l s us = left_at l (own_before l.own s) 0 0 us
 
-abbrev pub begun_before : Lane → ℕ → List AccessUnit → ℕ
+abbrev pub begun_before : OwnedStream → ℕ → List AccessUnit → ℕ
 begun_before l s us = begun l (own_before l.own s) (left_before l s us).free (left_before l s us).units

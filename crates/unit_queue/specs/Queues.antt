@@ -3,39 +3,39 @@ use Rattle.std.specs.Prelude.{◌≡◌, ◌≤◌, ◌<◌, ℕ, ◌+◌, ◌-�
 use Rattle.circular_buffer.specs.Buffer.{keep_last}
 use Rattle.clock27.specs.Release.{release}
 use Rattle.pes_packet.specs.AccessUnits.{AccessUnit}
-use Rattle.pes_packet.specs.Spelling.{header_text}
+use Rattle.pes_packet.specs.Encoding.{pes_header_bytes}
 use Rattle.pes_packet.specs.StreamIds.{is_unit_id, greatest_size}
-use Rattle.unit_timing.specs.PesPacket.{Spaced, Sized, Declared}
-use Rattle.unit_queue.specs.declared.rules.StreamRules.{StreamRules}
-use Rattle.unit_queue.specs.Lanes.{Lane, timed, packet_count}
+use Rattle.unit_timing.specs.PesPacket.{Spaced, Sized, GroupsWithin}
+use Rattle.unit_queue.specs.declared.parameters.StreamParameters.{StreamParameters}
+use Rattle.unit_queue.specs.OwnedStreams.{OwnedStream, timed, packet_count}
 use Rattle.unit_queue.specs.Places.{left_before, begun_before}
-use Rattle.unit_queue.specs.Causes.{earliest_of}
+use Rattle.unit_queue.specs.Causes.{min_next_dts_of}
 
 -- numbers that a stream can declare
-pub record IsRules (r : StreamRules) : Type 0 where
+pub record ParametersInRange (r : StreamParameters) : Type 0 where
   pub pid : r.pid < 2 ^ 13
   pub base0 : r.base0 < 2 ^ 33
   pub stream_id : IsTrue (is_unit_id r.stream_id)
   pub size : r.size ≤ greatest_size r.stream_id
   pub group : 1 ≤ r.group
 
--- the most packets of a unit, whose header has at most 19 bytes
-abbrev pub most_packets : StreamRules → ℕ
-most_packets r = (19 + r.size + 183) / 184
+-- the maximum number of packets of a unit, whose header has at most 19 bytes
+abbrev pub max_packets_per_unit : StreamParameters → ℕ
+max_packets_per_unit r = (19 + r.size + 183) / 184
 
 -- the units that a stream accepts: each by itself, their distances, their sizes and their groups
-pub record IsUnit (r : StreamRules) (u : AccessUnit) : Type 0 where
+pub record IsUnit (r : StreamParameters) (u : AccessUnit) : Type 0 where
   pub some : 1 ≤ length u.bytes
   pub most : length u.bytes ≤ r.size
   pub later : u.dts ≤ u.pts
   pub soon : u.pts ≤ u.dts + 90_000
   pub last : u.dts ≤ 2 ^ 52
 
-pub record Kept (l : Lane) (us : List AccessUnit) : Type 0 where
-  pub units : All (IsUnit l.rules) us
-  pub spaced : Spaced l.rules.interval l.rules.lead (map (timed l) us)
-  pub sized : Sized (19 + l.rules.size) (map (timed l) us)
-  pub grouped : Declared l.rules.group l.rules.group_packets (most_packets l.rules) (map (timed l) us)
+pub record Kept (l : OwnedStream) (us : List AccessUnit) : Type 0 where
+  pub units : All (IsUnit l.parameters) us
+  pub spaced : Spaced l.parameters.interval l.parameters.lead (map (timed l) us)
+  pub sized : Sized (19 + l.parameters.size) (map (timed l) us)
+  pub grouped : GroupsWithin l.parameters.group l.parameters.group_packets (max_packets_per_unit l.parameters) (map (timed l) us)
 
 -- a waiting unit: the slot of its release, its PES header and its bytes
 pub record Queued : Type 0 where
@@ -43,44 +43,45 @@ pub record Queued : Type 0 where
   pub header : List ℕ
   pub bytes : List ℕ
 
--- a queue: the units not sent whole, and of the first the bytes that are sent; the packets of the last `span` units accepted; the least DTS of
+-- a queue: the units not sent whole, and of the first the bytes that are sent; the packets of the last `span` units accepted; the minimum DTS of
 -- the next; the number of packets sent, modulo 256
 pub record Queue : Type 0 where
-  pub rules : StreamRules
+  pub parameters : StreamParameters
   pub units : List Queued
   pub capacity : ℕ
   pub sent : ℕ
   pub counter : ℕ
-  pub earliest : ℕ
+  pub min_next_dts : ℕ
   pub recent : List ℕ
   pub span : ℕ
 
-abbrev pub queued : Lane → AccessUnit → Queued
-queued l u = record {
-  release = release l.rules.rate l.rules.lead u.dts;
-  header = header_text l.rules.stream_id (length u.bytes) (u.pts + l.rules.base0) (u.dts + l.rules.base0);
+-- a unit as it waits
+abbrev pub queued : StreamParameters → AccessUnit → Queued
+queued r u = record {
+  release = release r.rate r.lead u.dts;
+  header = pes_header_bytes r.stream_id (length u.bytes) (u.pts + r.base0) (u.dts + r.base0);
   bytes = u.bytes;
 }
 
 -- a queue for these units, which are not sent whole, when `begun` packets of the first, which is packet `number` of the stream, are sent
-abbrev pub queue_at : Lane → ℕ → ℕ → List AccessUnit → ℕ → ℕ → List ℕ → Queue
-queue_at l number begun us capacity earliest recent = record {
-  rules = l.rules;
-  units = map (queued l) us;
+abbrev pub queue_at : OwnedStream → ℕ → ℕ → List AccessUnit → ℕ → ℕ → List ℕ → Queue
+queue_at l number begun us capacity min_next_dts recent = record {
+  parameters = l.parameters;
+  units = map (queued l.parameters) us;
   capacity = capacity;
   sent = 184 * begun;
   counter = (number + begun) % 256;
-  earliest = earliest;
+  min_next_dts = min_next_dts;
   recent = recent;
-  span = l.rules.group - 1;
+  span = l.parameters.group - 1;
 }
 
--- the queue of this capacity for a stream that has accepted these units, with so many slots written
-abbrev pub queue_of : Lane → ℕ → ℕ → List AccessUnit → Queue
+-- the queue of this capacity for a stream that has accepted these units, with `slots` slots written
+abbrev pub queue_of : OwnedStream → ℕ → ℕ → List AccessUnit → Queue
 queue_of l slots capacity us = queue_at l (left_before l slots us).number (begun_before l slots us) (left_before l slots us).units capacity
-    (earliest_of l us) (keep_last (l.rules.group - 1) (map (packet_count l) us))
+    (min_next_dts_of l us) (keep_last (l.parameters.group - 1) (map (packet_count l) us))
 
 -- a queue stands for that history
-pub record Holds (l : Lane) (slots capacity : ℕ) (us : List AccessUnit) (q : Queue) : Type 0 where
+pub record QueueHolds (l : OwnedStream) (slots capacity : ℕ) (us : List AccessUnit) (q : Queue) : Type 0 where
   pub state : q ≡ queue_of l slots capacity us
   pub kept : Kept l us

@@ -8,20 +8,24 @@ use pes_packet::Unit;
 use std::alloc::Allocator;
 
 // No DTS over this is accepted.
-const LAST_DTS: u64 = 1 << 52;
+const MAX_DTS: u64 = 1 << 52;
 
-/// The first cause that lies in the unit by itself and in its distance from the one before: it has 1 to `largest` bytes,
-/// its DTS is `earliest` or later, and its PTS at most 90,000 after its DTS.
+/// The first cause that lies in the unit by itself and in its distance from the one before: it has 1 to `largest`
+/// bytes, its DTS is `min_next_dts` or later, and its PTS at most 90,000 after its DTS.
 #[tactic(auto, unfolding(crate::specs::Causes::own_cause))]
-pub fn own_cause<A: Allocator>(largest: usize, earliest: u64, unit: &Unit<A>) -> Option<FeedError>
-    ensures { result ≡ own_cause largest earliest unit.now }
+pub fn own_cause<A: Allocator>(
+    largest: usize,
+    min_next_dts: u64,
+    unit: &Unit<A>,
+) -> Option<FeedError>
+    ensures { result ≡ own_cause largest min_next_dts unit.now }
 {
     let size = unit.bytes.len();
     if size == 0 {
         Some(FeedError::Empty)
     } else if size > largest {
         Some(FeedError::TooLarge)
-    } else if unit.dts < earliest {
+    } else if unit.dts < min_next_dts {
         Some(FeedError::TooSoon)
     } else if is_bad_pts(unit.dts, unit.pts) {
         Some(FeedError::BadPts)
@@ -37,7 +41,7 @@ pub fn time_cause(late: bool, dts: u64) -> Option<FeedError>
 {
     if late {
         Some(FeedError::Late)
-    } else if dts > LAST_DTS {
+    } else if dts > MAX_DTS {
         Some(FeedError::TooFar)
     } else {
         None

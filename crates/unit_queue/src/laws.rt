@@ -1,6 +1,8 @@
 //! Laws of the definitions. Each function does nothing: its contract is the law.
 
-ghost use Rattle.unit_queue.specs.Laws.{FirstLaw, OwnSlotLaw, OtherSlotLaw, CauseLaw, FedLaw, KeptLaw, LaterUnitLaw, ContentLaw, CarriedLaw};
+ghost use Rattle.unit_queue.specs.Laws.{FirstLaw, StreamSlotLaw, OtherStreamSlotLaw, CauseLaw, FedLaw, KeptLaw};
+ghost use Rattle.unit_queue.specs.Laws.{LaterUnitLaw};
+ghost use Rattle.unit_queue.specs.Laws.{ContentLaw, CarriedLaw};
 
 /// A queue that is made stands for a stream that has accepted no unit.
 pub fn first_unit()
@@ -9,12 +11,12 @@ pub fn first_unit()
 
 /// In an own slot a queue gives the packet that the stream's units have there, and stands for one slot more.
 pub fn own_slot()
-    ensures { OwnSlotLaw }
+    ensures { StreamSlotLaw }
 {}
 
 /// A slot that is not the stream's own changes nothing.
 pub fn other_slot()
-    ensures { OtherSlotLaw }
+    ensures { OtherStreamSlotLaw }
 {}
 
 /// A queue refuses a unit for the cause that its history has.

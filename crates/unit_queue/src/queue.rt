@@ -1,76 +1,82 @@
 //! The queue of a stream.
 
-ghost use Rattle.std.specs.Prelude.{◌≡◌, ◌≤◌, ◌<◌, ◌+◌, ◌-◌, ◌%◌, ◌==◌, ◌^◌, [], ◌∷◌, ◌++◌, nat_lt, nat_le, true, ℕ, List, Some, None, length, sum, suc, IsTrue, IfOk, IfErr, OnOk, ⊤};
+ghost use Rattle.std.specs.Prelude.{◌≡◌, ◌≤◌, ◌<◌, ◌+◌, ◌-◌, ◌^◌, [], ◌∷◌, ◌++◌, nat_le, true, ℕ};
+ghost use Rattle.std.specs.Prelude.{List, Some, None, length, suc, IfOk, IfErr, OnOk};
 ghost use Rattle.clock27.specs.Release.{release};
 ghost use Rattle.pes_packet.specs.AccessUnits.{AccessUnit};
-ghost use Rattle.pes_packet.specs.StreamIds.{fits_packet};
-ghost use Rattle.ts_packet.specs.Contents.{packet_of};
-ghost use Rattle.unit_queue.specs.Lanes.{Lane};
-ghost use Rattle.unit_queue.specs.Places.{left_before, stream_content};
+ghost use Rattle.slot_contents.specs.Contents.{packet_of};
+ghost use Rattle.unit_queue.specs.OwnedStreams.{OwnedStream};
+ghost use Rattle.unit_queue.specs.Places.{stream_content};
 ghost use Rattle.unit_queue.specs.Causes.{refusal, unit_cause, or_cause, own_cause, time_cause, room_cause, error_of};
-ghost use Rattle.unit_queue.specs.Queues.{IsRules, Holds};
-ghost use Rattle.unit_queue.specs.Steps.{queue_content, sent_in, stepped, late_at, state_cause, exceeds, accepted, joined, empty_queue};
+ghost use Rattle.unit_queue.specs.Queues.{ParametersInRange, QueueHolds};
+ghost use Rattle.unit_queue.specs.QueueSteps.{queue_content, sent_in, stepped, late_at, state_cause, exceeds, accepted};
+ghost use Rattle.unit_queue.specs.QueueSteps.{joined, empty_queue};
 
 use crate::causes::{own_cause, room_cause, time_cause};
-use crate::queued::{PAYLOAD, QueuedUnit, packet_count};
+use crate::parameters::StreamParameters;
+use crate::pieces::packet_count;
+use crate::queued::QueuedUnit;
 use crate::refusal::FeedError;
-use crate::rules::StreamRules;
 use circular_buffer::HeapCircularBuffer;
 use clock27::release_slot;
 use pes_packet::Unit;
 use std::alloc::{AllocError, Allocator, Global};
 use std::marker::Model;
-use ts_packet::overwrite_null;
+use ts_packet::{MAX_PAYLOAD, write_null_packet_into};
 
-/// The units of one stream that are not sent whole, and where it stands in the first of them. All memory is taken by
+/// The units of one stream that are not sent whole, and how much of the first of them is sent. All memory is taken by
 /// `new`.
 #[derive(Drop)]
 pub struct UnitQueue<A: Allocator = Global> {
-    rules: StreamRules,
+    parameters: StreamParameters,
     waiting: HeapCircularBuffer<QueuedUnit<A>, A>,
     // The bytes sent of the first unit's PES packet.
     sent: usize,
     // The number of packets sent, modulo 256.
     counter: u8,
-    // The least DTS of the next unit.
-    earliest: u64,
-    // The packets of the units that stand in one group with the next.
+    // The minimum DTS of the next unit.
+    min_next_dts: u64,
+    // The number of packets of each unit in the same group as the next.
     recent: HeapCircularBuffer<u64, A>,
 }
 
 impl<A: Allocator> Model for UnitQueue<A> {
-    ghost use Rattle.unit_queue.specs.Queues.{Queue, IsRules};
+    ghost use Rattle.unit_queue.specs.Queues.{Queue, ParametersInRange};
 
     ghost Value = { Queue };
 
     ghost view = { λ q. record {
-      rules = q.rules;
+      parameters = q.parameters;
       units = q.waiting.items;
       capacity = q.waiting.capacity;
       sent = q.sent;
       counter = q.counter;
-      earliest = q.earliest;
+      min_next_dts = q.min_next_dts;
       recent = q.recent.items;
       span = q.recent.capacity;
     } };
 
-    ghost invariant = { λ q. IsRules q.rules };
+    ghost invariant = { λ q. ParametersInRange q.parameters };
 }
 
 impl<A: Allocator + Clone> UnitQueue<A> {
-    /// A queue for so many units, with no unit in it.
-    pub fn new(alloc: A, rules: StreamRules, capacity: usize) -> Result<UnitQueue<A>, AllocError>
-        requires { IsRules rules }
-        ensures state { IfOk result (λ q. q ≡ empty_queue rules capacity) }
+    /// A queue for `capacity` units, with no unit in it.
+    pub fn new(
+        alloc: A,
+        parameters: StreamParameters,
+        capacity: usize,
+    ) -> Result<UnitQueue<A>, AllocError>
+        requires { ParametersInRange parameters }
+        ensures state { IfOk result (λ q. q ≡ empty_queue parameters capacity) }
     {
         let waiting = HeapCircularBuffer::with_capacity(alloc.clone()?, capacity)?;
-        let recent = HeapCircularBuffer::with_capacity(alloc, rules.group as usize - 1)?;
+        let recent = HeapCircularBuffer::with_capacity(alloc, parameters.group as usize - 1)?;
         Ok(UnitQueue {
-            rules,
+            parameters,
             waiting,
             sent: 0,
             counter: 0,
-            earliest: 0,
+            min_next_dts: 0,
             recent,
         })
     }
@@ -80,28 +86,23 @@ impl<A: Allocator> UnitQueue<A> {
     /// Takes a unit, when `slots` slots are written, or hands it back with the first cause for which it is refused.
     pub fn feed(&mut self, slots: u64, unit: Unit<A>) -> Result<(), (FeedError, Unit<A>)>
         // Of any stream and its units that the queue stands for: why the unit is refused, and else one unit more.
-        ensures refused { (l : Lane) (capacity : ℕ) (us : List AccessUnit) → Holds l slots capacity us self.old → refusal result ≡ unit_cause l slots capacity us unit }
-        ensures stands { (l : Lane) (capacity : ℕ) (us : List AccessUnit) → Holds l slots capacity us self.old → OnOk result (Holds l slots capacity (us ++ unit ∷ []) self.new) }
+        ensures refused { (l : OwnedStream) (capacity : ℕ) (us : List AccessUnit) →
+            QueueHolds l slots capacity us self.old →
+            refusal result ≡ unit_cause l slots capacity us unit }
+        ensures stands { (l : OwnedStream) (capacity : ℕ) (us : List AccessUnit) →
+            QueueHolds l slots capacity us self.old →
+            OnOk result (QueueHolds l slots capacity (us ++ unit ∷ []) self.new) }
         ensures handed_back { IfErr result (λ e. (e.1 ≡ unit) × (self.new ≡ self.old)) }
         // The same, step by step.
         ensures cause { refusal result ≡ state_cause slots self.old unit }
         ensures state { OnOk result (self.new ≡ accepted self.old unit) }
-    {
-        self.take(slots, unit)
-    }
-
-    fn take(&mut self, slots: u64, unit: Unit<A>) -> Result<(), (FeedError, Unit<A>)>
-        ensures cause { refusal result ≡ state_cause slots self.old unit }
-        ensures state { OnOk result (self.new ≡ accepted self.old unit) }
-        ensures handed_back { IfErr result (λ e. (e.1 ≡ unit) × (self.new ≡ self.old)) }
-        ensures rules { IsRules self.old.rules }
     {
         let slot = match self.release(slots, &unit) {
             Ok(slot) => slot,
             Err(cause) => return Err((cause, unit)),
         };
         let dts = unit.dts;
-        let header = self.rules.header(&unit);
+        let header = self.parameters.header(&unit);
         let packets = packet_count(header.len() + unit.bytes.len());
         match self.room(packets) {
             Some(cause) => Err((cause, unit)),
@@ -115,13 +116,19 @@ impl<A: Allocator> UnitQueue<A> {
     // The slot of a unit's release, or the first cause that does not lie in the room for it.
     #[tactic(auto, unfolding(crate::specs::Causes::or_cause, crate::specs::Causes::time_cause))]
     fn release(&self, slots: u64, unit: &Unit<A>) -> Result<u64, FeedError>
-        ensures cause { error_of result ≡ or_cause (own_cause self.now.rules.size self.now.earliest unit.now) (time_cause (late_at self.now.rules slots unit.now.dts) unit.now.dts) }
-        ensures slot { IfOk result (λ slot. slot ≡ release self.now.rules.rate self.now.rules.lead unit.now.dts) }
+        ensures cause { error_of result ≡ or_cause (own_cause self.now.parameters.size self.now.min_next_dts unit.now)
+            (time_cause (late_at self.now.parameters slots unit.now.dts) unit.now.dts) }
+        ensures slot { IfOk result (λ slot. slot
+            ≡ release self.now.parameters.rate self.now.parameters.lead unit.now.dts) }
     {
-        if let Some(cause) = own_cause(self.rules.size as usize, self.earliest, unit) {
+        if let Some(cause) = own_cause(self.parameters.size as usize, self.min_next_dts, unit) {
             return Err(cause);
         }
-        match release_slot(self.rules.rate, unit.dts, u64::from(self.rules.lead)) {
+        match release_slot(
+            self.parameters.rate,
+            unit.dts,
+            u64::from(self.parameters.lead),
+        ) {
             Some(slot) if slots <= slot => match time_cause(false, unit.dts) {
                 None => Ok(slot),
                 Some(cause) => Err(cause),
@@ -130,7 +137,7 @@ impl<A: Allocator> UnitQueue<A> {
         }
     }
 
-    // The first cause that lies in the room for a unit of so many packets.
+    // The first cause that lies in the room for a unit of this number of packets.
     fn room(&self, packets: u64) -> Option<FeedError>
         ensures { result ≡ room_cause (nat_le self.now.capacity (length self.now.units)) (exceeds self.now packets) }
     {
@@ -138,11 +145,11 @@ impl<A: Allocator> UnitQueue<A> {
         room_cause(full, self.exceeds_group(packets))
     }
 
-    // Whether so many packets are too many for the group that they end.
+    // Whether a unit of this number of packets is too large for its group.
     fn exceeds_group(&self, packets: u64) -> bool
         ensures { result ≡ exceeds self.now packets }
     {
-        let Some(mut left) = u64::from(self.rules.group_packets).checked_sub(packets) else {
+        let Some(mut left) = u64::from(self.parameters.group_packets).checked_sub(packets) else {
             return true;
         };
         for before in self.recent.iter() {
@@ -160,17 +167,18 @@ impl<A: Allocator> UnitQueue<A> {
         requires room { length self.old.units < self.old.capacity }
         ensures { self.new ≡ joined self.old dts packets unit }
     {
-        self.earliest = dts + u64::from(self.rules.interval);
+        self.min_next_dts = dts + u64::from(self.parameters.interval);
         let _ = self.recent.push_back(packets);
         let _ = self.waiting.try_push_back(unit);
     }
 
-    /// The packet of an own slot: the next piece of the unit under way, else the first of the next unit, where the slot of
-    /// its release is `slot` or before; else the null packet.
+    /// The packet of an own slot: the next piece of the unit under way, else the first of the next unit, where the slot
+    /// of its release is `slot` or before; else the null packet.
     pub fn next(&mut self, slot: u64) -> [u8; 188]
         // Of any stream and its units that the queue stands for: their packet in this slot, and one slot more.
-        ensures stands { (l : Lane) (capacity : ℕ) (us : List AccessUnit) → l.own slot ≡ true → Holds l slot capacity us self.old →
-            (result ≡ packet_of (stream_content l us slot)) × Holds l (suc slot) capacity us self.new }
+        ensures stands { (l : OwnedStream) (capacity : ℕ) (us : List AccessUnit) → l.own slot ≡ true →
+            QueueHolds l slot capacity us self.old →
+            (result ≡ packet_of (stream_content l us slot)) × QueueHolds l (suc slot) capacity us self.new }
         // The same, step by step.
         ensures packet { result ≡ packet_of (queue_content slot self.old) }
         ensures state { self.new ≡ sent_in slot self.old }
@@ -180,18 +188,18 @@ impl<A: Allocator> UnitQueue<A> {
         packet
     }
 
-    /// The same, written over what stands in `packet`: no byte of it is copied again.
-    #[tactic(auto, unfolding(crate::specs::Steps::front_content, crate::specs::Steps::front_sent, ts_packet::specs::Contents::packet_of))]
+    /// The same, written over the bytes of `packet`: no byte of it is copied again.
+    #[tactic(auto, unfolding(crate::specs::QueueSteps::front_content, crate::specs::QueueSteps::front_sent, slot_contents::specs::Contents::packet_of))]
     pub fn write_next(&mut self, slot: u64, packet: &mut [u8; 188])
         ensures packet { packet.new ≡ packet_of (queue_content slot self.old) }
         ensures state { self.new ≡ sent_in slot self.old }
     {
         match self.waiting.front() {
             Some(unit) if unit.release <= slot => {
-                let more = unit.write_piece(packet, self.rules.pid, self.counter, self.sent);
+                let more = unit.write_piece(packet, self.parameters.pid, self.counter, self.sent);
                 self.step(more);
             }
-            _ => overwrite_null(packet),
+            _ => write_null_packet_into(packet),
         }
     }
 
@@ -202,7 +210,7 @@ impl<A: Allocator> UnitQueue<A> {
     {
         self.counter = self.counter.wrapping_add(1);
         if more {
-            self.sent += PAYLOAD;
+            self.sent += MAX_PAYLOAD;
         } else {
             self.sent = 0;
             let _ = self.waiting.pop_front();

@@ -1,8 +1,8 @@
 -- Units that are due have left the transport buffer whole.
 use Rattle.std.specs.Prelude.{◌≡◌, ℕ, suc, ◌*◌, ◌<◌, ◌≤◌, Bool, cond, nat_le, ◌&&◌, not, Option, Some, None, List, [], ◌∷◌, take, drop, length, All}
 use Rattle.std.specs.List.{list_all}
-use Rattle.clock27.specs.Release.{slot_units}
-use Rattle.clock27.specs.Units.{byte_units}
+use Rattle.clock27.specs.Units.{slot_units_at_1bps}
+use Rattle.clock27.specs.Units.{byte_units_at_1bps}
 use Rattle.own_slots.specs.Slots.{own_slots}
 use Rattle.own_slots.specs.Work.{BoundsWork}
 use Rattle.unit_timing.specs.PesPacket.{PesPacket}
@@ -12,19 +12,19 @@ use Rattle.unit_timing.specs.Transport.{pes_left}
 
 -- a unit is due where its stamp lies within a run of n slots
 abbrev pub is_due : ℕ → ℕ → PesPacket → Bool
-is_due rate n unit = nat_le (unit.dts * rate) (n * slot_units)
+is_due rate n unit = nat_le (unit.dts * rate) (n * slot_units_at_1bps)
 
 -- of the departures of what is written of a stream, from this unit on: all bytes of the unit are there, and none leaves
 -- after its stamp
 abbrev pub has_left : ℕ → ℕ → PesPacket → List ℕ → Bool
-has_left rate r unit left = nat_le unit.size (length left) && list_all (λ d. nat_le (d * byte_units) (unit.dts * rate * r)) (take unit.size left)
+has_left rate r unit left = nat_le unit.size (length left) && list_all (λ d. nat_le (d * byte_units_at_1bps) (unit.dts * rate * r)) (take unit.size left)
 
 -- each unit that is due in a run of n slots has left whole by its stamp; `left` has the departures of all bytes of
 -- units that are written
 unfoldable pub AllLeft : ℕ → ℕ → ℕ → List PesPacket → List ℕ → Type 0
 AllLeft rate r n [] left = Unit {0}
 AllLeft rate r n (unit ∷ units) left =
-    (unit.dts * rate ≤ n * slot_units → (unit.size ≤ length left) × All (λ d. d * byte_units ≤ unit.dts * rate * r) (take unit.size left))
+    (unit.dts * rate ≤ n * slot_units_at_1bps → (unit.size ≤ length left) × All (λ d. d * byte_units_at_1bps ≤ unit.dts * rate * r) (take unit.size left))
     × AllLeft rate r n units (drop unit.size left)
 
 -- the number of the first unit that is due and late, counted from `number`; the stamps may be in any order

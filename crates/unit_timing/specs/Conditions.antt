@@ -1,8 +1,8 @@
 -- The conditions on a stream's own slots, and on those of a program's tables, in one plan and in two plans in turn.
 -- Each compares two whole numbers, which stand here once: as numbers of the declaration and of the own slots.
 use Rattle.std.specs.Prelude.{ℕ, ◌+◌, ◌-◌, ◌*◌, ◌/◌, ◌<◌, ◌≤◌, max, min, Bool, List, length}
-use Rattle.clock27.specs.Release.{slot_units}
-use Rattle.clock27.specs.Units.{byte_units}
+use Rattle.clock27.specs.Units.{slot_units_at_1bps}
+use Rattle.clock27.specs.Units.{byte_units_at_1bps}
 use Rattle.own_slots.specs.Period.{per_period}
 use Rattle.own_slots.specs.Spread.{spread, most_within}
 use Rattle.own_slots.specs.Work.{HoldsWork, work_left}
@@ -48,7 +48,7 @@ share_of claim marks = record { count = per_period marks; period = length marks;
 
 -- the slots that the packets of a group take, and those in the time of a group
 abbrev pub rate_needed : Declaration → Share → ℕ
-rate_needed s own = s.group_packets * own.period * slot_units
+rate_needed s own = s.group_packets * own.period * slot_units_at_1bps
 
 abbrev pub rate_given : ℕ → Declaration → Share → ℕ
 rate_given rate s own = own.count * s.group * s.interval * rate
@@ -57,11 +57,11 @@ rate_given rate s own = own.count * s.group * s.interval * rate
 
 -- the most packets of m units in a row, at most a group of them
 abbrev pub packets_in_row : Declaration → ℕ → ℕ
-packets_in_row s m = min (m * s.pieces) s.group_packets
+packets_in_row s m = min (m * s.unit_packets) s.group_packets
 
--- when it has left at the latest, of so many own slots: its slots, times their number, and the work after the last
+-- when it has left at the latest, times the number of own slots: its slots, and the work after the last
 abbrev pub time_needed : Declaration → ℕ → ℕ → ℕ → ℕ
-time_needed s count slots peak = slots * slot_units * s.drain + count * peak * byte_units
+time_needed s count slots peak = slots * slot_units_at_1bps * s.drain + count * peak * byte_units_at_1bps
 
 -- its stamp
 abbrev pub time_given : ℕ → Declaration → ℕ → ℕ → ℕ
@@ -92,11 +92,11 @@ abbrev pub waiting_units : Declaration → ℕ
 waiting_units s = (s.lead + (s.interval - 1)) / s.interval
 
 abbrev pub waiting_slots : ℕ → Declaration → ℕ
-waiting_slots rate s = (s.lead * rate + (slot_units - 1)) / slot_units
+waiting_slots rate s = (s.lead * rate + (slot_units_at_1bps - 1)) / slot_units_at_1bps
 
 -- the most packets of m units in a row, any number of them: whole groups, and a rest
 abbrev pub grouped_packets : Declaration → ℕ → ℕ
-grouped_packets s m = grouped s.group s.group_packets s.pieces m
+grouped_packets s m = grouped s.group s.group_packets s.unit_packets m
 
 -- the bytes that can wait at once: by the sizes of the units or by their packets, and by the slots of one plan
 abbrev pub bytes_by_units : Declaration → ℕ
@@ -114,7 +114,7 @@ bytes_across rate s first second = min (bytes_by_units s) (bytes_by_slots rate s
 -- ---- the conditions
 
 -- on a stream's own slots in one plan
-pub record StreamHolds (rate : ℕ) (s : Declaration) (claim : StreamClaim) (marks : List Bool) : Type 0 where
+pub record StreamConditions (rate : ℕ) (s : Declaration) (claim : StreamClaim) (marks : List Bool) : Type 0 where
   pub owned : 0 < per_period marks
   pub spread_claimed : spread marks ≤ claim.spread
   pub rate_serves : rate_needed s (share_of claim marks) ≤ rate_given rate s (share_of claim marks)
@@ -123,18 +123,18 @@ pub record StreamHolds (rate : ℕ) (s : Declaration) (claim : StreamClaim) (mar
   pub main_fits : bytes_waiting rate s (share_of claim marks) ≤ s.main
 
 -- the further conditions on two plans in turn
-pub record StreamJoins (rate : ℕ) (s : Declaration) (claim : StreamClaim) (first : List Bool) (next : StreamClaim) (second : List Bool) : Type 0 where
+pub record StreamSwitchConditions (rate : ℕ) (s : Declaration) (claim : StreamClaim) (first : List Bool) (next : StreamClaim) (second : List Bool) : Type 0 where
   pub work : work_left rate s.drain claim.start first ≤ next.start
   pub lead_serves : (m : ℕ) → 0 < m → m ≤ s.group →
       lead_across s (share_of claim first) (share_of next second) (shift first second) m ≤ time_given rate s (per_period first * per_period second) m
   pub main_fits : bytes_across rate s (share_of claim first) (share_of next second) ≤ s.main
 
 -- on the slots of a program's tables in one plan
-pub record ProgramHolds (rate : ℕ) (claim : ProgramClaim) (marks : List Bool) : Type 0 where
+pub record ProgramConditions (rate : ℕ) (claim : ProgramClaim) (marks : List Bool) : Type 0 where
   pub transport : HoldsWork rate system_tb_drain tb_size claim.transport_start claim.transport_peak marks
   pub system : HoldsWork rate bsys_drain bsys_size claim.system_start claim.system_peak marks
 
 -- and on two plans in turn
-pub record ProgramJoins (rate : ℕ) (claim : ProgramClaim) (first : List Bool) (next : ProgramClaim) : Type 0 where
+pub record ProgramSwitchConditions (rate : ℕ) (claim : ProgramClaim) (first : List Bool) (next : ProgramClaim) : Type 0 where
   pub transport : work_left rate system_tb_drain claim.transport_start first ≤ next.transport_start
   pub system : work_left rate bsys_drain claim.system_start first ≤ next.system_start

@@ -1,5 +1,6 @@
 pub mod PesPacket
 pub mod Schedule
+pub mod Shares
 pub mod Buffers
 pub mod Transport
 pub mod Deadline

@@ -2,28 +2,28 @@
 -- their unit's stamp (ISO/IEC 13818-1, 2.4.2.3; one main buffer for each stream is this profile's).
 use Rattle.std.specs.Prelude.{ℕ, ◌+◌, ◌*◌, ◌<◌, ◌≤◌, min, Bool, nat_le, nat_lt, ◌&&◌, List, [], ◌∷◌, take, drop, count_by}
 use Rattle.clock27.specs.Peak.{IsPeak, greatest_at}
-use Rattle.clock27.specs.Release.{slot_units}
-use Rattle.clock27.specs.Units.{byte_units}
-use Rattle.own_slots.specs.Slots.{Spares, own_slots}
-use Rattle.unit_timing.specs.PesPacket.{PesPacket, Spaced, Declared, Sized, grouped}
+use Rattle.clock27.specs.Units.{slot_units_at_1bps}
+use Rattle.clock27.specs.Units.{byte_units_at_1bps}
+use Rattle.own_slots.specs.Slots.{AtMostPerWindow, own_slots}
+use Rattle.unit_timing.specs.PesPacket.{PesPacket, Spaced, GroupsWithin, Sized, grouped}
 use Rattle.unit_timing.specs.Schedule.{packets_in_slots}
 use Rattle.unit_timing.specs.Transport.{pes_left}
 
 -- a byte that leaves the transport buffer at d, of a unit with the stamp `due`, is in the main buffer at the moment x
-abbrev pub is_kept : ℕ → ℕ → ℕ → ℕ → ℕ → Bool
-is_kept rate r x due d = nat_le d x && nat_lt (x * byte_units) (due * rate * r)
+abbrev pub is_in_main_buffer : ℕ → ℕ → ℕ → ℕ → ℕ → Bool
+is_in_main_buffer rate r x due d = nat_le d x && nat_lt (x * byte_units_at_1bps) (due * rate * r)
 
 -- the bytes in the main buffer at the moment x: of each unit those that are there; `left` has the departures of all
 -- bytes of units that are written, from the first unit on
 unfoldable pub mb_fullness : ℕ → ℕ → ℕ → List PesPacket → List ℕ → ℕ
 mb_fullness rate r x [] left = 0
 mb_fullness rate r x (unit ∷ units) left =
-    count_by (is_kept rate r x unit.dts) (take unit.size left) + mb_fullness rate r x units (drop unit.size left)
+    count_by (is_in_main_buffer rate r x unit.dts) (take unit.size left) + mb_fullness rate r x units (drop unit.size left)
 
 -- at any moment it holds bytes of slots that begin within `lead` of one another
 abbrev pub BySlots : Type 0
 BySlots = (own : ℕ → Bool) (rate lead r w m : ℕ) (units : List PesPacket) (n x : ℕ) → 0 < rate → 0 < r →
-    lead * rate ≤ w * slot_units → Spares own w m →
+    lead * rate ≤ w * slot_units_at_1bps → AtMostPerWindow own w m →
     mb_fullness rate r x units (pes_left rate r 0 (packets_in_slots own rate lead 0 units (own_slots own 0 n))) ≤ 184 * m
 
 -- and of units that are due within `lead` of one another: u of them at most, where u times their distance is at least
@@ -35,14 +35,14 @@ BySizes = (own : ℕ → Bool) (rate lead r apart largest u : ℕ) (units : List
 
 abbrev pub ByGroups : Type 0
 ByGroups = (own : ℕ → Bool) (rate lead r apart g most each u : ℕ) (units : List PesPacket) (n x : ℕ) → 0 < rate → 0 < r → 0 < g →
-    lead ≤ u * apart → Spaced apart lead units → Declared g most each units →
+    lead ≤ u * apart → Spaced apart lead units → GroupsWithin g most each units →
     mb_fullness rate r x units (pes_left rate r 0 (packets_in_slots own rate lead 0 units (own_slots own 0 n))) ≤ 184 * grouped g most each u
 
 -- so it never holds more than the least of the three numbers
-abbrev pub KeptLaw : Type 0
-KeptLaw = (own : ℕ → Bool) (rate lead r apart largest g most each u w m : ℕ) (units : List PesPacket) (n x : ℕ) → 0 < rate → 0 < r → 0 < g →
-    lead * rate ≤ w * slot_units → Spares own w m → lead ≤ u * apart →
-    Spaced apart lead units → Sized largest units → Declared g most each units →
+abbrev pub MainBufferLaw : Type 0
+MainBufferLaw = (own : ℕ → Bool) (rate lead r apart largest g most each u w m : ℕ) (units : List PesPacket) (n x : ℕ) → 0 < rate → 0 < r → 0 < g →
+    lead * rate ≤ w * slot_units_at_1bps → AtMostPerWindow own w m → lead ≤ u * apart →
+    Spaced apart lead units → Sized largest units → GroupsWithin g most each units →
     mb_fullness rate r x units (pes_left rate r 0 (packets_in_slots own rate lead 0 units (own_slots own 0 n)))
     ≤ min (min (u * largest) (184 * grouped g most each u)) (184 * m)
 

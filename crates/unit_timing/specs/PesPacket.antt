@@ -8,11 +8,11 @@ pub record PesPacket : Type 0 where
   pub size : ℕ
 
 -- the transport packets that carry it: 184 bytes each, the last one the rest
-abbrev pub pieces_of : PesPacket → ℕ
-pieces_of unit = (unit.size + 183) / 184
+abbrev pub packets_of_unit : PesPacket → ℕ
+packets_of_unit unit = (unit.size + 183) / 184
 
-abbrev pub packets_of : List PesPacket → ℕ
-packets_of units = sum_by pieces_of units
+abbrev pub packets_of_units : List PesPacket → ℕ
+packets_of_units units = sum_by packets_of_unit units
 
 -- the first unit is due no earlier than `from`, and each further one at least `apart` after the one before
 unfoldable pub Spaced : ℕ → ℕ → List PesPacket → Type 0
@@ -22,20 +22,20 @@ Spaced apart from (unit ∷ units) = (from ≤ unit.dts) × Spaced apart (unit.d
 -- from each unit on, the next k units have at most q k packets
 unfoldable pub Paced : (ℕ → ℕ) → List PesPacket → Type 0
 Paced q [] = Unit {0}
-Paced q (unit ∷ units) = ((k : ℕ) → packets_of (take k (unit ∷ units)) ≤ q k) × Paced q units
+Paced q (unit ∷ units) = ((k : ℕ) → packets_of_units (take k (unit ∷ units)) ≤ q k) × Paced q units
 
 -- each unit has at most n packets, and any g units in a row (all that are left, where they are fewer) have at most
 -- `most`
-unfoldable pub Declared : ℕ → ℕ → ℕ → List PesPacket → Type 0
-Declared g most n [] = Unit {0}
-Declared g most n (unit ∷ units) = (pieces_of unit ≤ n) × (packets_of (take g (unit ∷ units)) ≤ most) × Declared g most n units
+unfoldable pub GroupsWithin : ℕ → ℕ → ℕ → List PesPacket → Type 0
+GroupsWithin g most n [] = Unit {0}
+GroupsWithin g most n (unit ∷ units) = (packets_of_unit unit ≤ n) × (packets_of_units (take g (unit ∷ units)) ≤ most) × GroupsWithin g most n units
 
 -- the most packets that m units in a row then have
 abbrev pub grouped : ℕ → ℕ → ℕ → ℕ → ℕ
 grouped g most n m = m / g * most + min (m % g * n) most
 
 abbrev pub GroupLaw : Type 0
-GroupLaw = (g most n : ℕ) (units : List PesPacket) → 0 < g → Declared g most n units → Paced (grouped g most n) units
+GroupLaw = (g most n : ℕ) (units : List PesPacket) → 0 < g → GroupsWithin g most n units → Paced (grouped g most n) units
 
 -- each unit has at most `largest` bytes
 unfoldable pub Sized : ℕ → List PesPacket → Type 0
@@ -51,7 +51,7 @@ next_due apart from (unit ∷ units) = next_due apart (unit.dts + apart) units
 
 -- the packets of the last k units
 abbrev pub last_packets : ℕ → List PesPacket → ℕ
-last_packets k units = packets_of (drop (length units - k) units)
+last_packets k units = packets_of_units (drop (length units - k) units)
 
 -- a further unit keeps its distance exactly where it is due no earlier
 pub record SpacedMoreLaw : Type 0 where
@@ -68,7 +68,7 @@ pub record SizedMoreLaw : Type 0 where
 -- and it keeps the groups exactly where it has at most n packets, and at most `most` with those of the m units before
 -- it; groups are of m + 1
 pub record GroupMoreLaw : Type 0 where
-  pub more : (m most n : ℕ) (units : List PesPacket) (unit : PesPacket) → Declared (m + 1) most n units →
-      pieces_of unit ≤ n → last_packets m units + pieces_of unit ≤ most → Declared (m + 1) most n (units ++ unit ∷ [])
-  pub back : (m most n : ℕ) (units : List PesPacket) (unit : PesPacket) → Declared (m + 1) most n (units ++ unit ∷ []) →
-      Declared (m + 1) most n units × (pieces_of unit ≤ n) × (last_packets m units + pieces_of unit ≤ most)
+  pub more : (m most n : ℕ) (units : List PesPacket) (unit : PesPacket) → GroupsWithin (m + 1) most n units →
+      packets_of_unit unit ≤ n → last_packets m units + packets_of_unit unit ≤ most → GroupsWithin (m + 1) most n (units ++ unit ∷ [])
+  pub back : (m most n : ℕ) (units : List PesPacket) (unit : PesPacket) → GroupsWithin (m + 1) most n (units ++ unit ∷ []) →
+      GroupsWithin (m + 1) most n units × (packets_of_unit unit ≤ n) × (last_packets m units + packets_of_unit unit ≤ most)

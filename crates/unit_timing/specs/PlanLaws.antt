@@ -7,21 +7,21 @@ use Rattle.unit_timing.specs.PesPacket.{PesPacket}
 use Rattle.unit_timing.specs.Transport.{pes_left}
 use Rattle.unit_timing.specs.Deadline.{InTime}
 use Rattle.unit_timing.specs.MainBuffer.{mb_fullness}
-use Rattle.unit_timing.specs.Plans.{Declaration, Keeps, run_packets, StreamServed, ProgramServed}
-use Rattle.unit_timing.specs.Conditions.{IsProper, StreamClaim, ProgramClaim, share_of, rate_needed, rate_given, lead_across, time_given, bytes_across, StreamHolds, StreamJoins, ProgramHolds, ProgramJoins}
+use Rattle.unit_timing.specs.Plans.{Declaration, KeepsDeclaration, run_packets, StreamServed, ProgramServed}
+use Rattle.unit_timing.specs.Conditions.{IsProper, StreamClaim, ProgramClaim, share_of, rate_needed, rate_given, lead_across, time_given, bytes_across, StreamConditions, StreamSwitchConditions, ProgramConditions, ProgramSwitchConditions}
 
--- the own slots of two plans, the first for so many of its periods
+-- the own slots of two plans, the first for a number of its periods
 abbrev pub in_turn : List Bool → ℕ → List Bool → ℕ → Bool
 in_turn first periods second = joined (own first) (own second) (periods * length first)
 
 abbrev pub StreamLaw : Type 0
 StreamLaw = (rate : ℕ) (s : Declaration) (claim : StreamClaim) (marks : List Bool) (units : List PesPacket) →
-    IsProper rate s → StreamHolds rate s claim marks → Keeps s units → StreamServed (own marks) rate s units
+    IsProper rate s → StreamConditions rate s claim marks → KeepsDeclaration s units → StreamServed (own marks) rate s units
 
 abbrev pub StreamSwitchLaw : Type 0
 StreamSwitchLaw = (rate : ℕ) (s : Declaration) (claim : StreamClaim) (first : List Bool) (next : StreamClaim) (second : List Bool)
-    (periods : ℕ) (units : List PesPacket) → IsProper rate s → StreamHolds rate s claim first → StreamHolds rate s next second →
-    StreamJoins rate s claim first next second → Keeps s units → StreamServed (in_turn first periods second) rate s units
+    (periods : ℕ) (units : List PesPacket) → IsProper rate s → StreamConditions rate s claim first → StreamConditions rate s next second →
+    StreamSwitchConditions rate s claim first next second → KeepsDeclaration s units → StreamServed (in_turn first periods second) rate s units
 
 -- the deadlines alone: both plans pay for their groups, and the lead covers both spreads and the shift
 abbrev pub DeadlineSwitchLaw : Type 0
@@ -32,21 +32,21 @@ DeadlineSwitchLaw = (rate : ℕ) (s : Declaration) (claim : StreamClaim) (first 
     rate_needed s (share_of next second) ≤ rate_given rate s (share_of next second) →
     ((m : ℕ) → 0 < m → m ≤ s.group →
     lead_across s (share_of claim first) (share_of next second) (shift first second) m ≤ time_given rate s (per_period first * per_period second) m) →
-    Keeps s units → InTime (in_turn first periods second) rate s.lead s.drain (max claim.peak next.peak) 0 units
+    KeepsDeclaration s units → InTime (in_turn first periods second) rate s.lead s.drain (max claim.peak next.peak) 0 units
 
 -- the main buffer alone
 abbrev pub MainSwitchLaw : Type 0
 MainSwitchLaw = (rate : ℕ) (s : Declaration) (claim : StreamClaim) (first : List Bool) (next : StreamClaim) (second : List Bool)
     (periods : ℕ) (units : List PesPacket) (n x : ℕ) → IsProper rate s → 0 < per_period first → 0 < per_period second →
     spread first ≤ claim.spread → spread second ≤ next.spread →
-    bytes_across rate s (share_of claim first) (share_of next second) ≤ s.main → Keeps s units →
+    bytes_across rate s (share_of claim first) (share_of next second) ≤ s.main → KeepsDeclaration s units →
     mb_fullness rate s.drain x units (pes_left rate s.drain 0 (run_packets (in_turn first periods second) rate s units n)) ≤ s.main
 
 abbrev pub ProgramLaw : Type 0
 ProgramLaw = (rate : ℕ) (claim : ProgramClaim) (marks : List Bool) → 0 < rate → 0 < length marks →
-    ProgramHolds rate claim marks → ProgramServed (own marks) rate
+    ProgramConditions rate claim marks → ProgramServed (own marks) rate
 
 abbrev pub ProgramSwitchLaw : Type 0
 ProgramSwitchLaw = (rate : ℕ) (claim : ProgramClaim) (first : List Bool) (next : ProgramClaim) (second : List Bool) (periods : ℕ) →
-    0 < rate → 0 < length first → 0 < length second → ProgramHolds rate claim first → ProgramHolds rate next second →
-    ProgramJoins rate claim first next → ProgramServed (in_turn first periods second) rate
+    0 < rate → 0 < length first → 0 < length second → ProgramConditions rate claim first → ProgramConditions rate next second →
+    ProgramSwitchConditions rate claim first next → ProgramServed (in_turn first periods second) rate

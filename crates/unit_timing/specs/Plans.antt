@@ -1,9 +1,9 @@
 -- What is declared of a stream, and what is promised of its units and of the buffers of a program's tables, in runs of
 -- any length.
-use Rattle.std.specs.Prelude.{ℕ, ◌<◌, ◌≤◌, Bool, List}
+use Rattle.std.specs.Prelude.{ℕ, ◌≤◌, Bool, List}
 use Rattle.own_slots.specs.Slots.{Rises, own_slots}
 use Rattle.unit_timing.specs.Buffers.{tb_size, bsys_size}
-use Rattle.unit_timing.specs.PesPacket.{PesPacket, Spaced, Sized, Declared}
+use Rattle.unit_timing.specs.PesPacket.{PesPacket, Spaced, Sized, GroupsWithin}
 use Rattle.unit_timing.specs.Schedule.{Packet, packets_in_slots}
 use Rattle.unit_timing.specs.Transport.{slots_of, tb_fullness, pes_left}
 use Rattle.unit_timing.specs.Arrived.{AllLeft}
@@ -16,16 +16,16 @@ pub record Declaration : Type 0 where
   pub lead : ℕ  -- how long before its stamp a unit may be sent
   pub drain : ℕ  -- the rate of the transport buffer
   pub main : ℕ  -- the size of the main buffer
-  pub largest : ℕ  -- the greatest unit
-  pub pieces : ℕ  -- its packets
-  pub group : ℕ  -- so many units in a row have at most
-  pub group_packets : ℕ  -- so many packets together
+  pub largest : ℕ  -- the size of the greatest unit, header and all
+  pub unit_packets : ℕ  -- its number of packets
+  pub group : ℕ  -- the number of units of a group: any of them in a row
+  pub group_packets : ℕ  -- the greatest number of packets of a group
 
 -- units within the declaration
-pub record Keeps (s : Declaration) (units : List PesPacket) : Type 0 where
+pub record KeepsDeclaration (s : Declaration) (units : List PesPacket) : Type 0 where
   pub spaced : Spaced s.interval s.lead units
   pub sized : Sized s.largest units
-  pub grouped : Declared s.group s.group_packets s.pieces units
+  pub grouped : GroupsWithin s.group s.group_packets s.unit_packets units
 
 -- the packets of these units in a run of n slots
 abbrev pub run_packets : (ℕ → Bool) → ℕ → Declaration → List PesPacket → ℕ → List Packet

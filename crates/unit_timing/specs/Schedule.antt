@@ -2,9 +2,9 @@
 use Rattle.std.specs.Prelude.{◌≡◌, ℕ, ◌+◌, ◌-◌, ◌*◌, max, min, Bool, cond, nat_lt, Option, Some, None, List, [], ◌∷◌, ◌++◌, take, drop}
 use Rattle.clock27.specs.Release.{release}
 use Rattle.own_slots.specs.Slots.{own_before, own_slots}
-use Rattle.unit_timing.specs.PesPacket.{PesPacket, pieces_of}
+use Rattle.unit_timing.specs.PesPacket.{PesPacket, packets_of_unit}
 
--- a transport packet of the stream: the slot in which it stands, and the bytes of its payload
+-- a transport packet of the stream: its slot, and the bytes of its payload
 pub record Packet : Type 0 where
   pub slot : ℕ
   pub size : ℕ
@@ -15,12 +15,12 @@ unfoldable pub first_slot : (ℕ → Bool) → ℕ → ℕ → ℕ → PesPacket
 first_slot own rate lead free unit = max free (own_before own (release rate lead unit.dts))
 
 -- the payload bytes that own slot number i carries, none where it carries no packet of the stream
-unfoldable pub piece_at : (ℕ → Bool) → ℕ → ℕ → ℕ → List PesPacket → ℕ → Option ℕ
-piece_at own rate lead free [] i = None
-piece_at own rate lead free (unit ∷ units) i =
+unfoldable pub payload_size_at : (ℕ → Bool) → ℕ → ℕ → ℕ → List PesPacket → ℕ → Option ℕ
+payload_size_at own rate lead free [] i = None
+payload_size_at own rate lead free (unit ∷ units) i =
     cond (nat_lt i (first_slot own rate lead free unit)) None
-    (cond (nat_lt i (first_slot own rate lead free unit + pieces_of unit)) (Some (min 184 (unit.size - 184 * (i - first_slot own rate lead free unit))))
-    (piece_at own rate lead (first_slot own rate lead free unit + pieces_of unit) units i))
+    (cond (nat_lt i (first_slot own rate lead free unit + packets_of_unit unit)) (Some (min 184 (unit.size - 184 * (i - first_slot own rate lead free unit))))
+    (payload_size_at own rate lead (first_slot own rate lead free unit + packets_of_unit unit) units i))
 
 -- the packet in slot s, where it carries one
 abbrev pub packet_in : ℕ → Option ℕ → List Packet
@@ -28,9 +28,9 @@ packet_in s None = []
 packet_in s (Some size) = record { slot = s; size = size } ∷ []
 
 -- the packets in these own slots, by what each own slot number carries
-unfoldable pub pick : (ℕ → Bool) → (ℕ → Option ℕ) → List ℕ → List Packet
-pick own carried [] = []
-pick own carried (s ∷ slots) = packet_in s (carried (own_before own s)) ++ pick own carried slots
+unfoldable pub packets_by_slot : (ℕ → Bool) → (ℕ → Option ℕ) → List ℕ → List Packet
+packets_by_slot own carried [] = []
+packets_by_slot own carried (s ∷ slots) = packet_in s (carried (own_before own s)) ++ packets_by_slot own carried slots
 
 -- the packets that carry `size` bytes in these slots: 184 each, the last one the rest
 unfoldable pub cut : ℕ → List ℕ → List Packet
@@ -42,10 +42,10 @@ cut size (s ∷ slots) = record { slot = s; size = min 184 size } ∷ cut (size 
 unfoldable pub packets_in_slots : (ℕ → Bool) → ℕ → ℕ → ℕ → List PesPacket → List ℕ → List Packet
 packets_in_slots own rate lead free [] slots = []
 packets_in_slots own rate lead free (unit ∷ units) slots =
-    cut unit.size (take (pieces_of unit) (drop (first_slot own rate lead free unit) slots))
-    ++ packets_in_slots own rate lead (first_slot own rate lead free unit + pieces_of unit) units slots
+    cut unit.size (take (packets_of_unit unit) (drop (first_slot own rate lead free unit) slots))
+    ++ packets_in_slots own rate lead (first_slot own rate lead free unit + packets_of_unit unit) units slots
 
 -- slot by slot and unit by unit the packets of a run of n slots are the same
 abbrev pub SlotwiseLaw : Type 0
 SlotwiseLaw = (own : ℕ → Bool) (rate lead n : ℕ) (units : List PesPacket) →
-    pick own (piece_at own rate lead 0 units) (own_slots own 0 n) ≡ packets_in_slots own rate lead 0 units (own_slots own 0 n)
+    packets_by_slot own (payload_size_at own rate lead 0 units) (own_slots own 0 n) ≡ packets_in_slots own rate lead 0 units (own_slots own 0 n)

@@ -4,17 +4,18 @@
 //! A stream's own slots are a function `own : ℕ → Bool` of the slot number, for one plan or for two;
 //! its units are a list of PES packets, each with its size and its decoding time stamp. The definitions in
 //! `specs/` say which own slot carries which part of which unit, when its bytes leave the transport
-//! buffer, and how many bytes each buffer holds. Each function here is a law: it does nothing, and
+//! buffer, and the fullness of each buffer. Each function here is a law: it does nothing, and
 //! its contract says what holds of the definitions.
 //!
 //! - [`buffers`]: the buffers that have one size for all.
 //! - [`transport`]: the transport buffer never overflows, and each packet leaves in time.
 //! - [`deadlines`]: from the pace of the own slots to the deadline of each unit.
 //! - [`arrived`]: each due unit has left the transport buffer whole by its stamp.
-//! - [`main_buffer`]: what the main buffer holds.
+//! - [`main_buffer`]: the fullness of the main buffer.
 //! - [`system_buffers`]: the two buffers of a program's tables.
 //! - [`schedule`]: slot by slot is unit by unit.
 //! - [`units`]: one unit more within the declaration.
+//! - [`shares`]: the parts in which shares of an output are counted.
 //! - [`plans`]: all of this for one plan and for two, from the conditions on their slots.
 #![tactic(auto)]
 
@@ -24,6 +25,7 @@ pub mod deadlines;
 pub mod main_buffer;
 pub mod plans;
 pub mod schedule;
+pub mod shares;
 pub mod system_buffers;
 pub mod transport;
 pub mod units;

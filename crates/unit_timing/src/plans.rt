@@ -1,7 +1,8 @@
 //! One plan, or two plans in turn: from the conditions on their slots to what is promised of the buffers.
-ghost use Rattle.unit_timing.specs.PlanLaws.{StreamLaw, DeadlineSwitchLaw, MainSwitchLaw, StreamSwitchLaw, ProgramLaw, ProgramSwitchLaw};
+ghost use Rattle.unit_timing.specs.PlanLaws.{StreamLaw, DeadlineSwitchLaw, MainSwitchLaw, StreamSwitchLaw};
+ghost use Rattle.unit_timing.specs.PlanLaws.{ProgramLaw, ProgramSwitchLaw};
 
-/// A stream whose slots hold the conditions, with units within its declaration: each due unit
+/// A stream whose own slots keep the conditions, with units within its declaration: each due unit
 /// leaves whole by its stamp, and neither buffer overflows, in runs of any length.
 pub fn stream()
     ensures { StreamLaw }

@@ -1,6 +1,6 @@
-//! Tests of what is on the wire, each over public contracts alone: a test here is proved against what a crate promises, and
-//! not against its bodies. The crates `clock27`, `ts_packet`, `pes_packet`, `psi_tables`, `dvb_tables`, `table_rounds` and
-//! `unit_queue`, a file or a folder each.
+//! Tests of what is on the wire, each over public contracts alone: a test here is proved against what a crate promises,
+//! and not against its bodies. The crates `clock27`, `ts_packet`, `pes_packet`, `psi_tables`, `dvb_tables` and
+//! `table_rounds`, a file or a folder each.
 #![tactic(auto)]
 
 #[cfg(test)]

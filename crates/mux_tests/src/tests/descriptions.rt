@@ -1,13 +1,13 @@
-//! The small service's description: what it says, the refusals of its changes, its sections; and a greatest description.
+//! The small service's description, its values and sections, and the greatest description.
 
-mod refusals;
 mod sections;
 
-use super::texts::DESCRIPTION;
-use super::{described, edited};
+use super::texts::{
+    DESCRIPTION, HOURS, MANY_EVENT, MANY_HEAD, MANY_PROGRAM, MANY_TABLE, NETWORK, NUMBERS,
+};
+use super::{described, edited, repeated};
 use arrayvec::ArrayVec;
-use description::{DescError, Description, TableKind};
-use refusals::{CHANGES, Change};
+use description::{Description, TableKind};
 use sections::{SECTIONS, Section};
 use std::alloc::Global;
 
@@ -38,8 +38,8 @@ fn kinds(description: &Description) -> [bool; 5] {
     ]
 }
 
-/// The PID of a table, its limit in milliseconds, its sections and the places of a round, and the most bytes of its last
-/// section.
+/// The PID of a table, its limit in milliseconds, its sections and the places of a round, and the most bytes of its
+/// last section.
 fn shape(description: &Description, table: usize) -> Option<(u16, u16, usize, usize, usize)> {
     if table >= description.tables() {
         return None;
@@ -47,7 +47,7 @@ fn shape(description: &Description, table: usize) -> Option<(u16, u16, usize, us
     let pid = description.table_pid(table);
     let limit = description.table_limit(table);
     let sections = description.sections(table);
-    let places = description.round_places(table);
+    let places = description.round_packets(table);
     if sections == 0 {
         return None;
     }
@@ -94,107 +94,13 @@ fn small_service(rt: HostRuntime) {
     assert!(rt; answers(rt.alloc()) == Some(([true; 10], [true; 5], true, true)));
 }
 
-/// Whether the description with a change is refused so.
-fn is_refused(alloc: Global, change: &Change) -> Option<bool> {
-    let (part, other, code, item) = change;
-    let text = edited(alloc, DESCRIPTION, part, other)?;
-    match Description::read(alloc, text.as_str()) {
-        Ok(description) => {
-            drop(description);
-            Some(*code == 0)
-        }
-        Err(DescError::Refused(fault)) => Some(fault.code() == *code && fault.item() == *item),
-        Err(DescError::Memory) => None,
-    }
-}
-
-#[test]
-fn changes(rt: HostRuntime) {
-    for change in &CHANGES {
-        assert!(rt; is_refused(rt.alloc(), change) == Some(true));
-    }
-}
-
-/// The beginning of a greatest description.
-const HEAD: &str = "rate = 30000000
-start = \"1993-10-13T12:45:00\"
-ts_id = 1
-original_network_id = 1
-sdt = true
-tdt = true
-[network]
-id = 1
-name = \"Net\"
-";
-
-/// Program nn with a private table and two streams.
-const PROGRAM: &str = "[[program]]
-number = nn
-pmt_pid = 1nn
-pcr_pid = 2nn
-service_type = 1
-name = \"P\"
-[[table]]
-pid = 3nn
-limit = 1000
-sections = [\"90700100\", \"91700100\"]
-[[stream]]
-program = nn
-pid = 4nn
-id = 192
-type = 3
-interval = 2160
-size = 576
-lead = 1600
-[[stream]]
-program = nn
-pid = 5nn
-id = 192
-type = 3
-interval = 2160
-size = 576
-lead = 1600
-";
-
-/// The event of program nn in hour hh.
-const EVENT: &str = "[[event]]
-program = nn
-id = 1hh
-start = \"1993-10-14Thh:00:00\"
-duration = 3600
-language = \"eng\"
-name = \"E\"
-text = \"\"
-";
-
-const HOURS: [&str; 16] = [
-    "00", "01", "02", "03", "04", "05", "06", "07", "08", "09", "10", "11", "12", "13", "14", "15",
-];
-
-pub const NUMBERS: [&str; 16] = [
-    "10", "11", "12", "13", "14", "15", "16", "17", "18", "19", "20", "21", "22", "23", "24", "25",
-];
-
-/// The text after another, once for each of these numbers, which stand where the mark does.
-pub fn repeated(
-    alloc: Global,
-    before: &str,
-    text: &str,
-    mark: &str,
-    numbers: &[&str],
-) -> Option<String> {
-    let mut whole = String::from_str(alloc, before).ok()?;
-    for number in numbers {
-        let part = edited(alloc, text, mark, number)?;
-        whole.push_str(part.as_str()).ok()?;
-    }
-    Some(whole)
-}
-
-/// 16 programs, 32 streams, 256 events, 16 private tables: the events of a program are an hour each.
+/// The greatest description: 16 programs, each with two streams, a private table and 16 events of an hour each.
 fn greatest(alloc: Global) -> Option<Description> {
-    let program = repeated(alloc, PROGRAM, EVENT, "hh", &HOURS)?;
-    let text = repeated(alloc, HEAD, program.as_str(), "nn", &NUMBERS)?;
+    let head = edited(alloc, MANY_HEAD, "rr", "30000000")?;
+    let head = edited(alloc, head.as_str(), "tdt = true", NETWORK)?;
+    let mut program = repeated(alloc, MANY_PROGRAM, MANY_EVENT, "hh", &HOURS)?;
+    program.push_str(MANY_TABLE).ok()?;
+    let text = repeated(alloc, head.as_str(), program.as_str(), "nn", &NUMBERS)?;
     if text.as_str().len() > 8_192 {
         described(alloc, text.as_str())
     } else {

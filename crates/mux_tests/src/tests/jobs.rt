@@ -3,17 +3,17 @@
 mod rows;
 
 use super::services::{Series, Service, units};
+use counted_io::{Counted, Failing};
 use linked_list_allocator::LocalHeap;
 use mux_core::{MuxError, Unit, multiplex, multiplex_as, multiplex_switch, multiplex_switch_as};
 use plan_checker::{CheckedPlan, CheckedSwitch};
 pub use rows::{DOUBLE, SINGLE};
-use rows::{JOBS, PIDS, QUIET};
+use rows::{EMPTY, JOBS};
 use std::alloc::{Allocator, Global};
-use ts_packet::{Counted, Failing};
 
-/// A service, the periods of its first plan where the second follows, what units there are, how many slots are written, and
-/// whether as lines.
-#[derive(Drop)]
+/// A service, the periods of its first plan where the second follows, what units there are, how many slots are written,
+/// and whether as lines.
+#[derive(Clone, Copy)]
 pub struct Job {
     pub service: Service,
     pub periods: Option<u64>,
@@ -102,17 +102,17 @@ fn written_to<A: Allocator + Copy>(
 }
 
 /// The same with memory for all, to a writer that never fails.
-pub fn written(alloc: Global, job: &Job) -> Option<Written> {
+fn written(alloc: Global, job: &Job) -> Option<Written> {
     let to = Failing::after_calls(Vec::new(alloc), u64::MAX);
     written_to(alloc, alloc, alloc, job, to)
 }
 
-/// Whether these bytes stand at a place.
+/// Whether these bytes are at an offset.
 fn stands_at(output: &[u8], place: usize, bytes: &[u8]) -> bool {
     output.get(place..).unwrap_or(&[]).starts_with(bytes)
 }
 
-/// Whether the job is answered so, by so many bytes, some of which are these.
+/// Whether this is the answer to the job, with these bytes at these offsets of the output.
 fn is_answered(
     alloc: Global,
     job: &Job,
@@ -138,39 +138,22 @@ fn jobs(rt: HostRuntime) {
     }
 }
 
-/// The packets on a PID.
-fn packets_on(bytes: &[u8], pid: u16) -> usize {
-    let mut count = 0usize;
-    for packet in bytes.chunks(188) {
-        if let [_, high, low, ..] = packet
-            && (*high as u16 % 32) * 256 + *low as u16 == pid
-        {
-            count = count.saturating_add(1);
-        }
-    }
-    count
-}
-
 /// The bytes of a job that is done.
-pub fn finished(alloc: Global, job: &Job) -> Option<Vec<u8>> {
+fn finished(alloc: Global, job: &Job) -> Option<Vec<u8>> {
     let (answer, output) = written(alloc, job)?;
     if answer.is_ok() { Some(output) } else { None }
 }
 
-#[test]
-fn packets_without_units(rt: HostRuntime) {
-    let bytes = finished(rt.alloc(), &QUIET).unwrap_or(Vec::new(rt.alloc()));
-    for (pid, count) in &PIDS {
-        assert!(rt; packets_on(&bytes, *pid) == *count);
-    }
-}
-
-/// Whether a writer that fails after so many bytes took just these.
+/// Whether a writer that fails after `bytes` bytes took just these.
 fn takes_part(alloc: Global, whole: &[u8], bytes: u64) -> Option<bool> {
     let to = Failing::after_bytes(Vec::new(alloc), bytes);
-    let (answer, output) = written_to(alloc, alloc, alloc, &SINGLE, to)?;
-    let is_named = answer == Err(MuxError::Device { sent: bytes });
-    Some(is_named && Some(output.as_slice()) == whole.get(..bytes as usize))
+    match written_to(alloc, alloc, alloc, &SINGLE, to)? {
+        (Err(MuxError::Device { sent }), output) => {
+            let front = whole.get(..bytes as usize).unwrap_or(&[]);
+            Some(sent == bytes && output.as_slice() == front)
+        }
+        _ => Some(false),
+    }
 }
 
 // After 0 bytes, 12 bytes and so on, 300 among them.
@@ -182,21 +165,21 @@ fn writers_fail(rt: HostRuntime) {
     }
 }
 
-/// The answer to a job of no slots, whose writer fails at its first call.
-fn nothing(alloc: Global) -> Option<Written> {
-    let job = Job { slots: 0, ..SINGLE };
+/// Whether a job of no slots is done with a writer that fails at its first call.
+fn is_nothing_written(alloc: Global) -> Option<bool> {
     let to = Failing::after_calls(Vec::new(alloc), 0);
-    written_to(alloc, alloc, alloc, &job, to)
+    let (answer, _) = written_to(alloc, alloc, alloc, &EMPTY, to)?;
+    Some(matches!(answer, Ok(0)))
 }
 
 // A job of no slots asks nothing of its writer.
 #[test]
 fn no_slots(rt: HostRuntime) {
-    assert!(rt; matches!(nothing(rt.alloc()), Some((Ok(0), _))));
+    assert!(rt; is_nothing_written(rt.alloc()) == Some(true));
 }
 
-/// Whether 18 slots are written where there is so much room beside the plan and the unit; None where there is another answer
-/// than Memory, with nothing written.
+/// Whether 18 slots are written with a heap of this size beside the plan and the unit; None where the answer is neither
+/// that nor Memory with nothing written.
 pub fn is_written_in(global: Global, job: &Job, room: usize) -> Option<bool> {
     let given = LocalHeap::new(global, 16_384).ok()?;
     let heap = LocalHeap::new(global, room).ok()?;

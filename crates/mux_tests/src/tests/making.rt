@@ -1,63 +1,31 @@
 //! Plans made for worked and for full services, and the reasons why there is none.
 
-use super::descriptions::{NUMBERS, repeated};
-use super::texts::DESCRIPTION;
-use super::{described, edited};
+use super::texts::{DESCRIPTION, MANY_HEAD, MANY_PROGRAM, NUMBERS};
+use super::{described, edited, repeated};
 use linked_list_allocator::LocalHeap;
 use plan_checker::CheckedPlan;
-use plan_maker::{MakeError, Reason, make, reasons};
+use plan_maker::{MakeError, make};
+use plan_search::{Reason, reasons};
 use slot_plan::{Description, Slot};
 use std::alloc::{Allocator, Global};
 
 enum Wanted {
     /// The small service with another part in place of one.
     Small(&'static str, &'static str),
-    /// A radio service of so many programs at this rate, each with two streams of a unit of 768 bytes every 24 ms.
+    /// A radio service of this number of programs at this rate, each with two streams of a unit of 768 bytes every 24
+    /// ms.
     Radio(usize, &'static str),
 }
 
 use Wanted::{Radio, Small};
 
-const HEAD: &str = "rate = rr
-start = \"1993-10-13T12:45:00\"
-ts_id = 1
-original_network_id = 1
-sdt = true
-tdt = true
-";
-
-/// Program nn.
-const PROGRAM: &str = "[[program]]
-number = nn
-pmt_pid = 40nn
-pcr_pid = 10nn
-service_type = 2
-name = \"A\"
-[[stream]]
-program = nn
-pid = 20nn
-id = 192
-type = 3
-interval = 2160
-size = 768
-lead = 4300
-[[stream]]
-program = nn
-pid = 21nn
-id = 192
-type = 3
-interval = 2160
-size = 768
-lead = 4300
-";
-
 fn text_of(alloc: Global, wanted: &Wanted) -> Option<String> {
     match wanted {
         Small(part, other) => edited(alloc, DESCRIPTION, part, other),
         Radio(programs, rate) => {
-            let head = edited(alloc, HEAD, "rr", rate)?;
+            let head = edited(alloc, MANY_HEAD, "rr", rate)?;
             let numbers = NUMBERS.get(..*programs)?;
-            repeated(alloc, head.as_str(), PROGRAM, "nn", numbers)
+            repeated(alloc, head.as_str(), MANY_PROGRAM, "nn", numbers)
         }
     }
 }
@@ -74,8 +42,9 @@ type Made = (usize, usize, usize);
 fn used(slots: &[Slot]) -> usize {
     let mut used = 0usize;
     for slot in slots {
-        if *slot != Slot::Null {
-            used = used.saturating_add(1);
+        match slot {
+            Slot::Null => {}
+            _ => used = used.saturating_add(1),
         }
     }
     used
@@ -89,7 +58,8 @@ fn measured<A: Allocator>(checked: CheckedPlan<A>) -> Made {
     made
 }
 
-/// The plan that is made, or how many streams the description has for which none is found; None where memory is wanting.
+/// The plan that is made, or how many streams the description has for which none is found; None where memory is
+/// wanting.
 fn made<A: Allocator + Clone>(alloc: A, description: Description) -> Option<Result<Made, usize>> {
     match make(alloc, description) {
         Ok(checked) => Some(Ok(measured(checked))),
@@ -105,10 +75,10 @@ fn made<A: Allocator + Clone>(alloc: A, description: Description) -> Option<Resu
     }
 }
 
-/// Services, the least and the most slots, the least used ones and tenths of the slots, and the streams; or the streams of one
-/// without a plan. The least full service has groups; one fills nine tenths of its rate, where evenly spaced slots find no
-/// place; two have as many programs and streams as there can be, one of them so near to its rate that only the longest period
-/// has a slot for each of their packets.
+/// Services, the least and the most slots, the least used ones and tenths of the slots, and the streams; or the streams
+/// of one without a plan. The least full service has groups; one fills nine tenths of its rate, where evenly spaced
+/// slots find no place; two have as many programs and streams as there can be, one of them so near to its rate that
+/// only the longest period has a slot for each of their packets.
 static SERVICES: [(Wanted, Result<(usize, usize, usize, usize, usize), usize>); 7] = [
     (Small("rate", "rate"), Ok((256, 256, 0, 0, 1))),
     (
@@ -152,8 +122,9 @@ fn plans_are_made(rt: HostRuntime) {
     assert!(rt; MakeError::NotFound.code() == Some(1));
 }
 
-/// Numbers that no plan can keep, with the least ones that stand in its way no more: of the drain, of the rate, of the lead,
-/// of the main buffer, of the PCRs; of a service whose leads are too short and whose rate is too low; of the greatest one.
+/// Numbers that no plan can keep, with the least ones that stand in its way no more: of the drain, of the rate, of the
+/// lead, of the main buffer, of the PCRs; of a service whose leads are too short and whose rate is too low; of the
+/// greatest one.
 static REASONS: [(Wanted, &[Reason]); 11] = [
     (Small("rate", "rate"), &[]),
     (
@@ -203,7 +174,7 @@ static REASONS: [(Wanted, &[Reason]); 11] = [
     (Radio(16, "8000000"), &[Reason::Overload(Some(10_681_124))]),
 ];
 
-/// Whether these are the reasons; None where memory is wanting.
+/// Whether these are the reasons; None when out of memory.
 fn are_reasons<A: Allocator>(
     global: Global,
     alloc: A,
@@ -226,7 +197,7 @@ fn reasons_are_named(rt: HostRuntime) {
     }
 }
 
-/// Whether there is a plan of the small service in so much room.
+/// Whether a plan of the small service is made in a heap of this size.
 pub fn is_made_in(global: Global, room: usize) -> Option<bool> {
     let heap = LocalHeap::new(global, room).ok()?;
     let description = described(global, DESCRIPTION)?;
@@ -237,7 +208,7 @@ pub fn is_made_in(global: Global, room: usize) -> Option<bool> {
     }
 }
 
-/// Whether there are reasons in so much room.
+/// Whether reasons are found in a heap of this size.
 pub fn are_reasons_in(global: Global, room: usize) -> Option<bool> {
     let heap = LocalHeap::new(global, room).ok()?;
     let (wanted, all) = &REASONS[3];

@@ -9,14 +9,15 @@ use std::alloc::{Allocator, Global};
 use ts_packet::PacketError;
 use tstd::{Fullness, LateUnit, MeasureError, measure};
 
-/// Units that are sent, four packets in the first, fifth, ninth and thirteenth of 24 slots, or of 16; how many slots there are;
-/// the units that are told; a byte that is written over; and how many bytes are left at the end.
-#[derive(Drop)]
+/// Units that are sent, four packets in the first, fifth, ninth and thirteenth of 24 slots, or of 16; how many slots
+/// there are; the units that are declared to `measure`; a byte that is written over; and how many bytes are left at the
+/// end.
+#[derive(Clone, Copy)]
 struct Run {
     sent: Series,
     width: Width,
     slots: u32,
-    told: &'static [Series],
+    declared: &'static [Series],
     change: (usize, u8),
     cut: usize,
 }
@@ -27,16 +28,24 @@ enum Width {
     Narrow,
 }
 
-/// The records of the units.
-fn records(alloc: Global, series: &Series) -> Option<Vec<u8>> {
-    let mut records = Vec::new(alloc);
+/// Appends the records of the units.
+fn push_records(records: &mut Vec<u8>, series: &Series) -> bool {
     for number in 0..series.count {
         let (size, dts) = (series.size(number) as u32, series.dts(number));
-        if !push_record(&mut records, (0, size, dts, dts), series.byte(number)) {
-            return None;
+        if !push_record(records, (0, size, dts, dts), series.byte(number)) {
+            return false;
         }
     }
-    Some(records)
+    true
+}
+
+fn records(alloc: Global, series: &Series) -> Option<Vec<u8>> {
+    let mut records = Vec::new(alloc);
+    if push_records(&mut records, series) {
+        Some(records)
+    } else {
+        None
+    }
 }
 
 /// What other slots of the small plan carry, before and after bytes FF: clock references, PAT and PMT in part, nothing.
@@ -88,18 +97,27 @@ fn push_slot(bytes: &mut Vec<u8>, packets: &[[u8; 188]], width: Width, slot: u32
     }
 }
 
+/// Appends the packets of all slots.
+fn push_run(bytes: &mut Vec<u8>, packets: &[[u8; 188]], run: &Run) -> bool {
+    for slot in 0..run.slots {
+        if !push_slot(bytes, packets, run.width, slot) {
+            return false;
+        }
+    }
+    true
+}
+
 /// The bytes of the run, before any is written over.
 fn sent(alloc: Global, run: &Run) -> Option<Vec<u8>> {
     let records = records(alloc, &run.sent)?;
     let (_, units, _, _) = carried(alloc, alloc, &records, false, NEVER, NEVER);
     let (packets, _) = units.as_slice().as_chunks::<188>();
     let mut bytes = Vec::new(alloc);
-    for slot in 0..run.slots {
-        if !push_slot(&mut bytes, packets, run.width, slot) {
-            return None;
-        }
+    if push_run(&mut bytes, packets, run) {
+        Some(bytes)
+    } else {
+        None
     }
-    Some(bytes)
 }
 
 /// The greatest fullness of the buffers, and the first late unit.
@@ -127,15 +145,33 @@ fn numbers<A: Allocator>(found: &Fullness<A>) -> Option<Numbers> {
 fn answer<A: Allocator + Clone>(
     global: Global,
     alloc: A,
-    told: &[Series],
+    declared: &[Series],
     bytes: &[u8],
 ) -> Option<Result<Numbers, MeasureError>> {
-    let units = units(global, told)?;
-    let description = described(global, DESCRIPTION)?;
-    let found = measure(alloc, &description, &units, bytes);
-    drop(description);
+    let units = units(global, declared)?;
+    match described(global, DESCRIPTION) {
+        Some(description) => {
+            let found = measure(alloc, &description, &units, bytes);
+            drop(description);
+            drop(units);
+            outcome(found)
+        }
+        None => {
+            drop(units);
+            None
+        }
+    }
+}
+
+fn outcome<A: Allocator>(
+    found: Result<Fullness<A>, MeasureError>,
+) -> Option<Result<Numbers, MeasureError>> {
     match found {
-        Ok(found) => Some(Ok(numbers(&found)?)),
+        Ok(found) => {
+            let numbers = numbers(&found);
+            drop(found);
+            Some(Ok(numbers?))
+        }
         Err(error) => Some(Err(error)),
     }
 }
@@ -148,7 +184,12 @@ fn measured<A: Allocator + Clone>(
     let (at, value) = run.change;
     let bytes = changed(global, &sent(global, run)?, at, value)?;
     let left = bytes.len().saturating_sub(run.cut);
-    answer(global, alloc, run.told, bytes.get(..left).unwrap_or(&[]))
+    answer(
+        global,
+        alloc,
+        run.declared,
+        bytes.get(..left).unwrap_or(&[]),
+    )
 }
 
 /// One unit in 18 slots.
@@ -156,7 +197,7 @@ const SHORT: Run = Run {
     sent: ONE,
     width: Width::Wide,
     slots: 18,
-    told: &[ONE],
+    declared: &[ONE],
     change: (0, 0x47),
     cut: 0,
 };
@@ -182,7 +223,7 @@ const ALL: Series = Series {
 
 /// Any two of them have four packets.
 const GROUPED: Series = Series {
-    sizes: [520, 150, 520, 150],
+    sizes: (520, 150),
     interval: 720,
     count: 20,
     ..ONE
@@ -191,17 +232,18 @@ const GROUPED: Series = Series {
 const OTHER: Series = Series { stream: 1, ..ONE };
 
 const LONG: Series = Series {
-    sizes: [577; 4],
+    sizes: (577, 577),
     ..ONE
 };
 
-/// Runs, the fullness where it is known, and the first late unit or the refusal. A packet with the error indicator is left out.
-const RUNS: [(Run, Option<Sizes>, Result<Option<LateUnit>, MeasureError>); 12] = [
+/// Runs, the fullness where it is known, and the first late unit or the refusal. A packet with the error indicator is
+/// left out.
+static RUNS: [(Run, Option<Sizes>, Result<Option<LateUnit>, MeasureError>); 12] = [
     (SHORT, Some((1, 590, 127, 346)), Ok(None)),
     (
         Run {
             sent: TIMELY,
-            told: &[TIMELY],
+            declared: &[TIMELY],
             slots: 13,
             ..SHORT
         },
@@ -211,7 +253,7 @@ const RUNS: [(Run, Option<Sizes>, Result<Option<LateUnit>, MeasureError>); 12] =
     (
         Run {
             sent: UNTIMELY,
-            told: &[UNTIMELY],
+            declared: &[UNTIMELY],
             slots: 13,
             ..SHORT
         },
@@ -224,7 +266,7 @@ const RUNS: [(Run, Option<Sizes>, Result<Option<LateUnit>, MeasureError>); 12] =
     (
         Run {
             sent: HUNDRED,
-            told: &[HUNDRED],
+            declared: &[HUNDRED],
             slots: 2_420,
             ..SHORT
         },
@@ -234,7 +276,7 @@ const RUNS: [(Run, Option<Sizes>, Result<Option<LateUnit>, MeasureError>); 12] =
     (
         Run {
             sent: ALL,
-            told: &[ALL],
+            declared: &[ALL],
             slots: 100_800,
             ..SHORT
         },
@@ -244,7 +286,7 @@ const RUNS: [(Run, Option<Sizes>, Result<Option<LateUnit>, MeasureError>); 12] =
     (
         Run {
             sent: GROUPED,
-            told: &[GROUPED],
+            declared: &[GROUPED],
             width: Width::Narrow,
             slots: 200,
             ..SHORT
@@ -254,7 +296,7 @@ const RUNS: [(Run, Option<Sizes>, Result<Option<LateUnit>, MeasureError>); 12] =
     ),
     (
         Run {
-            told: &[],
+            declared: &[],
             slots: 1,
             change: (1, 0xc1),
             ..SHORT
@@ -263,10 +305,9 @@ const RUNS: [(Run, Option<Sizes>, Result<Option<LateUnit>, MeasureError>); 12] =
         Ok(None),
     ),
     (Run { cut: 1, ..SHORT }, None, Err(MeasureError::Length)),
-    (Run { told: &[], ..SHORT }, None, Err(MeasureError::Carried)),
     (
         Run {
-            told: &[OTHER],
+            declared: &[],
             ..SHORT
         },
         None,
@@ -274,7 +315,7 @@ const RUNS: [(Run, Option<Sizes>, Result<Option<LateUnit>, MeasureError>); 12] =
     ),
     (
         Run {
-            told: &[LONG],
+            declared: &[OTHER],
             ..SHORT
         },
         None,
@@ -282,7 +323,15 @@ const RUNS: [(Run, Option<Sizes>, Result<Option<LateUnit>, MeasureError>); 12] =
     ),
     (
         Run {
-            told: &[],
+            declared: &[LONG],
+            ..SHORT
+        },
+        None,
+        Err(MeasureError::Carried),
+    ),
+    (
+        Run {
+            declared: &[],
             change: (376, 0x46),
             ..SHORT
         },
@@ -310,7 +359,7 @@ fn runs_are_measured(rt: HostRuntime) {
     }
 }
 
-/// Whether the run of one unit is measured in so much room; None where there is another answer than Memory.
+/// Whether the run of one unit is measured in a heap of this size; None where the answer is neither that nor Memory.
 pub fn is_measured_in(global: Global, room: usize) -> Option<bool> {
     let heap = LocalHeap::new(global, room).ok()?;
     match measured(global, &heap, &SHORT)? {

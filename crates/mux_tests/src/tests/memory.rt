@@ -1,4 +1,4 @@
-//! Heaps of rising sizes: each public call that takes memory gives its own answer or wants memory, and gives no other.
+//! Heaps of rising sizes: each public call that takes memory gives its own answer or Memory, and no other.
 
 use super::carrying::is_carried_in;
 use super::jobs::{DOUBLE, SINGLE, is_written_in};
@@ -22,7 +22,7 @@ enum Call {
     MultiplexSwitch,
 }
 
-/// Whether the call gives its answer in so much room; None where it gives another.
+/// Whether the call gives its answer in a heap of this size; None where it gives another.
 fn is_answered(alloc: Global, call: &Call, room: usize) -> Option<bool> {
     match call {
         Call::Carry => is_carried_in(alloc, room),
@@ -39,9 +39,9 @@ fn is_answered(alloc: Global, call: &Call, room: usize) -> Option<bool> {
     }
 }
 
-/// A call, the least room, how much more each heap has, how many heaps there are, and the least and the most in which the call
-/// gives its answer.
-const ROOMS: [(Call, usize, usize, usize, usize, usize); 13] = [
+/// A call, the least room, how much more each heap has, how many heaps there are, and the least and the most in which
+/// the call gives its answer.
+static ROOMS: [(Call, usize, usize, usize, usize, usize); 13] = [
     (Call::Carry, 65_600, 16, 64, 1, 63),
     (Call::ReadText, 16, 16, 255, 1, 249),
     (Call::WriteText, 16, 16, 255, 1, 249),

@@ -2,10 +2,10 @@
 
 use super::carrying::{NEVER, RECORD, carried};
 use super::{changed, joined};
+use counted_io::Counted;
 use linked_list_allocator::LocalHeap;
 use mux_core::{CarryError, FeedError, Unit, UnitFileError, read_unit};
 use std::alloc::Global;
-use ts_packet::Counted;
 
 /// A record after RECORD: stream 0, 2 bytes, DTS 92,160 and PTS 95,760.
 const NEXT: [u8; 23] = [
@@ -25,7 +25,7 @@ fn number_at(bytes: &[u8], from: usize, to: usize) -> u64 {
     value
 }
 
-/// What stands at the front: nothing, a whole record, or why there is none.
+/// What is at the front: nothing, a whole record, or the fault.
 fn rule(bytes: &[u8]) -> Result<Option<Parts<'_>>, UnitFileError> {
     let Some(stream) = bytes.first() else {
         return Ok(None);
@@ -44,7 +44,7 @@ fn rule(bytes: &[u8]) -> Result<Option<Parts<'_>>, UnitFileError> {
     }
 }
 
-/// What stands after a record.
+/// The bytes after a record.
 fn after<'a>(bytes: &'a [u8], parts: &Parts<'a>) -> &'a [u8] {
     let (_, _, _, unit) = parts;
     bytes
@@ -54,6 +54,18 @@ fn after<'a>(bytes: &'a [u8], parts: &Parts<'a>) -> &'a [u8] {
         .unwrap_or(&[])
 }
 
+fn is_unit(stream: u8, unit: &Unit, wanted: Result<Option<Parts<'_>>, UnitFileError>) -> bool {
+    match wanted {
+        Ok(Some((wanted_stream, dts, pts, bytes))) => {
+            stream == wanted_stream
+                && unit.dts == dts
+                && unit.pts == pts
+                && unit.bytes.as_slice() == bytes
+        }
+        _ => false,
+    }
+}
+
 /// Whether `read_unit` answers so.
 fn is_as_wanted(
     read: Result<Option<(u8, Unit)>, UnitFileError>,
@@ -61,10 +73,15 @@ fn is_as_wanted(
 ) -> bool {
     match read {
         Ok(Some((stream, unit))) => {
-            wanted == Ok(Some((stream, unit.dts, unit.pts, unit.bytes.as_slice())))
+            let is_wanted = is_unit(stream, &unit, wanted);
+            drop(unit);
+            is_wanted
         }
-        Ok(None) => wanted == Ok(None),
-        Err(refusal) => wanted == Err(refusal),
+        Ok(None) => matches!(wanted, Ok(None)),
+        Err(refusal) => match wanted {
+            Ok(_) => false,
+            Err(fault) => fault == refusal,
+        },
     }
 }
 
@@ -87,26 +104,33 @@ fn are_read(alloc: Global, bytes: &[u8]) -> bool {
 
 /// Whether a size over the greatest is named as ever where there is hardly any memory.
 fn names_the_size(alloc: Global, bytes: &[u8]) -> bool {
-    if rule(bytes) != Err(UnitFileError::Size) {
+    if !matches!(rule(bytes), Err(UnitFileError::Size)) {
         return true;
     }
     match LocalHeap::new(alloc, 256) {
-        Ok(heap) => read_unit(&heap, &mut Counted::new(bytes)).err() == Some(UnitFileError::Size),
+        Ok(heap) => matches!(
+            read_unit(&heap, &mut Counted::new(bytes)),
+            Err(UnitFileError::Size)
+        ),
         Err(_) => false,
     }
 }
 
 /// Why `carry` refuses a unit after one with this DTS.
 fn refusal(parts: &Parts<'_>, last: Option<u64>) -> Option<FeedError> {
-    match parts {
-        (stream, _, _, _) if *stream != 0 => Some(FeedError::UnknownStream),
-        (_, _, _, []) => Some(FeedError::Empty),
-        (_, dts, _, _) if Some(*dts) <= last => Some(FeedError::TooSoon),
-        (_, dts, pts, _) if pts < dts || 90_000 < pts.wrapping_sub(*dts) => {
-            Some(FeedError::BadPts)
-        }
-        (_, dts, _, _) if 1 << 52 < *dts => Some(FeedError::TooFar),
-        _ => None,
+    let (stream, dts, pts, unit) = *parts;
+    if stream != 0 {
+        Some(FeedError::UnknownStream)
+    } else if unit.is_empty() {
+        Some(FeedError::Empty)
+    } else if dts <= last.unwrap_or(0) && last.is_some() {
+        Some(FeedError::TooSoon)
+    } else if pts < dts || 90_000 < pts.wrapping_sub(dts) {
+        Some(FeedError::BadPts)
+    } else if 1 << 52 < dts {
+        Some(FeedError::TooFar)
+    } else {
+        None
     }
 }
 
@@ -148,10 +172,10 @@ fn beginnings(rt: HostRuntime) {
     for size in 0..48usize {
         assert!(rt; is_ruled(rt.alloc(), bytes.get(..size).unwrap_or(&[])));
     }
-    assert!(rt; carry_rule(&bytes) == (Ok(376), 2));
+    assert!(rt; matches!(carry_rule(&bytes), (Ok(376), 2)));
 }
 
-const VALUES: [u8; 4] = [0x00, 0x7f, 0x80, 0xff];
+static VALUES: [u8; 4] = [0x00, 0x7f, 0x80, 0xff];
 
 /// Whether each of these values of a byte is answered so.
 fn are_ruled(alloc: Global, bytes: &[u8], at: usize) -> Option<bool> {

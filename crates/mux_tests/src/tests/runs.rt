@@ -34,8 +34,8 @@ fn double<A: Allocator>(
     }
 }
 
-/// A multiplexer over the plan of the service; with a number of periods, over so many and then over its second plan. The plans
-/// are in the memory `given`.
+/// A multiplexer over the plan of the service; with a number of periods, over these and then over its second plan.
+/// The plans are in the memory `given`.
 fn made<A: Allocator + Copy>(
     global: Global,
     given: A,
@@ -57,7 +57,7 @@ fn made<A: Allocator + Copy>(
 }
 
 /// Periods and capacities, and why no multiplexer is made.
-const CAPACITIES: [(Option<u64>, usize, Option<NewError>); 8] = [
+static CAPACITIES: [(Option<u64>, usize, Option<NewError>); 8] = [
     (None, 0, Some(NewError::Capacity)),
     (None, 1, None),
     (None, 1_048_576, None),
@@ -92,7 +92,11 @@ fn is_fed(
     let unit = unit(alloc, size, dts, pts, 0xa5)?;
     match mux.feed(stream, unit) {
         Ok(()) => Some(wanted == None),
-        Err((cause, back)) => Some(Some(cause) == wanted && back.bytes.len() == size),
+        Err((cause, back)) => {
+            let is_handed_back = back.bytes.len() == size;
+            drop(back);
+            Some(Some(cause) == wanted && is_handed_back)
+        }
     }
 }
 
@@ -190,7 +194,11 @@ fn driven(mux: &mut Mux, alloc: Global, steps: &[Step]) -> Option<Vec<u8>> {
     let mut out = Vec::new(alloc);
     match drive(mux, events, &mut out) {
         Ok(()) => Some(out),
-        Err(_) => None,
+        Err(events) => {
+            drop(events);
+            drop(out);
+            None
+        }
     }
 }
 
@@ -230,7 +238,7 @@ fn alike(rt: HostRuntime) {
     }
 }
 
-/// Whether a multiplexer for 64 units is made in so much room beside its plans.
+/// Whether a multiplexer for 64 units is made in a heap of this size beside its plans.
 pub fn is_begun_in(global: Global, periods: Option<u64>, room: usize) -> Option<bool> {
     let given = LocalHeap::new(global, 16_384).ok()?;
     let heap = LocalHeap::new(global, room).ok()?;
@@ -265,7 +273,7 @@ fn are_driven<A: Allocator + Copy>(mux: &mut Mux<A>, given: A, alloc: A) -> Opti
     }
 }
 
-/// The same with so much room for their bytes.
+/// The same with a heap of this size for their bytes.
 pub fn are_driven_in(global: Global, room: usize) -> Option<bool> {
     let given = LocalHeap::new(global, 131_072).ok()?;
     let heap = LocalHeap::new(global, room).ok()?;

@@ -1,78 +1,50 @@
-//! Services of one plan or two, and the units of their streams.
+//! Services of one plan or two, and units of their stream.
 
-use super::texts::{DESCRIPTION, PLAN, RADIO, TURNED_PLAN, TURNED_TWO, TWO_PLAN, TWO_PROGRAMS};
+use super::texts::{DESCRIPTION, PLAN, TURNED_PLAN};
 use super::{checked, edited, followed};
 use mux_core::Unit;
 use plan_checker::{CheckedPlan, CheckedSwitch};
 use std::alloc::{Allocator, Global};
 
-/// A description in which another part stands in place of one, its plan, and a plan that may follow it.
-#[derive(Drop)]
+/// The small service by its plan: a part of its description and what replaces it, and a plan that may follow.
+#[derive(Clone, Copy)]
 pub struct Service {
-    pub description: &'static str,
-    pub part: &'static str,
-    pub other: &'static str,
-    pub plan: &'static str,
-    pub second: &'static str,
+    part: &'static str,
+    other: &'static str,
+    second: &'static str,
 }
 
 pub const SMALL: Service = Service {
-    description: DESCRIPTION,
     part: "rate",
     other: "rate",
-    plan: PLAN,
     second: PLAN,
 };
 
 /// Its lead is long enough for the plan turned by a slot.
 pub const PATIENT: Service = Service {
-    description: DESCRIPTION,
     part: "lead = 1600",
     other: "lead = 1688",
-    plan: PLAN,
     second: TURNED_PLAN,
 };
 
 /// Any two units in a row have at most six packets.
 pub const GROUPED: Service = Service {
-    description: DESCRIPTION,
     part: "lead = 1600",
     other: "lead = 1600\ngroup = 2\ngroup_packets = 6",
-    plan: PLAN,
     second: PLAN,
 };
 
 /// The greatest group: its units take the most memory.
 pub const WIDE: Service = Service {
-    description: DESCRIPTION,
     part: "lead = 1600",
     other: "lead = 1600\ngroup = 64\ngroup_packets = 256",
-    plan: PLAN,
     second: PLAN,
 };
 
 /// The clock begins 92 units of 90 kHz before the end of its base.
 pub const LATE_CLOCK: Service = Service {
-    description: DESCRIPTION,
     part: "ts_id = 1",
     other: "base0 = 8589934500\nts_id = 1",
-    plan: PLAN,
-    second: PLAN,
-};
-
-pub const TWO: Service = Service {
-    description: TWO_PROGRAMS,
-    part: "rate",
-    other: "rate",
-    plan: TWO_PLAN,
-    second: TURNED_TWO,
-};
-
-pub const EXAMPLE: Service = Service {
-    description: RADIO,
-    part: "rate",
-    other: "rate",
-    plan: PLAN,
     second: PLAN,
 };
 
@@ -83,8 +55,8 @@ impl Service {
         global: Global,
         alloc: A,
     ) -> Option<CheckedPlan<A>> {
-        let text = edited(global, self.description, self.part, self.other)?;
-        checked(global, alloc, text.as_str(), self.plan)
+        let text = edited(global, DESCRIPTION, self.part, self.other)?;
+        checked(global, alloc, text.as_str(), PLAN)
     }
 
     /// The plan, and then the second.
@@ -98,22 +70,22 @@ impl Service {
     }
 }
 
-/// Units of a stream: their sizes in turn, the first DTS, how far apart they are, how long after its DTS each is presented,
-/// and the bytes of the first; those of each next one are one more.
-#[derive(Drop)]
+/// Units of a stream, each presented at its DTS: two sizes in turn, the first DTS, how far apart they are, how many
+/// there are, and the bytes of the first; those of each next one are one more.
+#[derive(Clone, Copy)]
 pub struct Series {
     pub stream: u8,
-    pub sizes: [u16; 4],
+    pub sizes: (u16, u16),
     pub first: u64,
     pub interval: u64,
-    pub delay: u64,
     pub count: u16,
     pub byte: u8,
 }
 
 impl Series {
     pub fn size(&self, number: u16) -> u16 {
-        self.sizes[number as usize % 4]
+        let (one, other) = self.sizes;
+        if number % 2 == 0 { one } else { other }
     }
 
     pub fn dts(&self, number: u16) -> u64 {
@@ -121,22 +93,13 @@ impl Series {
             .saturating_add((number as u64).saturating_mul(self.interval))
     }
 
-    pub fn pts(&self, number: u16) -> u64 {
-        self.dts(number).saturating_add(self.delay)
-    }
-
     pub fn byte(&self, number: u16) -> u8 {
         self.byte.wrapping_add((number % 256) as u8)
     }
 
     fn unit<A: Allocator>(&self, alloc: A, number: u16) -> Option<Unit<A>> {
-        unit(
-            alloc,
-            self.size(number) as usize,
-            self.dts(number),
-            self.pts(number),
-            self.byte(number),
-        )
+        let (size, dts) = (self.size(number) as usize, self.dts(number));
+        unit(alloc, size, dts, dts, self.byte(number))
     }
 
     // All its units.
@@ -155,7 +118,7 @@ impl Series {
     }
 }
 
-/// A unit of so many equal bytes.
+/// A unit of `size` equal bytes.
 pub fn unit<A: Allocator>(alloc: A, size: usize, dts: u64, pts: u64, byte: u8) -> Option<Unit<A>> {
     let bytes = vec![in alloc; byte; size].ok()?;
     Some(Unit { dts, pts, bytes })
@@ -173,10 +136,9 @@ pub fn units<A: Allocator + Copy>(alloc: A, all: &[Series]) -> Option<Vec<(u8, U
 /// A unit of stream 0, of 576 bytes A5.
 pub const ONE: Series = Series {
     stream: 0,
-    sizes: [576; 4],
+    sizes: (576, 576),
     first: 1_600,
     interval: 2_160,
-    delay: 0,
     count: 1,
     byte: 0xa5,
 };

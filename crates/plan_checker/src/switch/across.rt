@@ -6,17 +6,17 @@ ghost use Rattle.own_slots.specs.Switch.{shift};
 ghost use Rattle.slot_plan.specs.Items.{marks};
 ghost use Rattle.slot_plan.specs.SwitchConditions.{gap_across};
 
-use crate::counting::{own_count, own_slot};
-use crate::positions::{next_own_slot, position};
+use crate::own_counts::{own_count, own_slot};
+use crate::own_positions::{next_own_slot, position};
 use slot_plan::{Item, Slot};
 
 /// The greatest gap across the switch between `row` own slots in a row: from own slot `-x` of the first plan to own
 /// slot `row - x` of the second, x from 1 to `row`.
 pub fn greatest_gap_across(first: &[Slot], second: &[Slot], item: Item, row: u64) -> u64
-    requires some { 0 < per_period (marks item first.now) }
-    requires some_next { 0 < per_period (marks item second.now) }
+    requires owned { 0 < per_period (marks item first.now) }
+    requires next_owned { 0 < per_period (marks item second.now) }
     requires short { length first.now ≤ 65536 }
-    requires short_next { length second.now ≤ 65536 }
+    requires next_short { length second.now ≤ 65536 }
     requires near { row < 32768 }
     ensures { result ≡ gap_across (marks item first.now) (marks item second.now) row }
 {
@@ -32,9 +32,9 @@ pub fn greatest_gap_across(first: &[Slot], second: &[Slot], item: Item, row: u64
     greatest
 }
 
-/// How far before the period's end the item's last own slot stands.
+/// The slots from the item's last own slot to the period's end.
 pub fn last_from_end(slots: &[Slot], item: Item) -> u64
-    requires some { 0 < per_period (marks item slots.now) }
+    requires owned { 0 < per_period (marks item slots.now) }
     requires short { length slots.now ≤ 65536 }
     ensures last { result ≡ back (marks item slots.now) 1 }
     ensures within { result ≤ length slots.now }
@@ -42,12 +42,12 @@ pub fn last_from_end(slots: &[Slot], item: Item) -> u64
     slots.len() as u64 - own_slot(slots, item, own_count(slots, item) - 1)
 }
 
-/// By how many slots the second plan's last own slot stands later, counted from its period's end, than the first's.
+/// By how many slots the second plan's last own slot is later, counted from its period's end, than the first's.
 pub fn shift_of(first: &[Slot], second: &[Slot], item: Item) -> u64
-    requires some { 0 < per_period (marks item first.now) }
-    requires some_next { 0 < per_period (marks item second.now) }
+    requires owned { 0 < per_period (marks item first.now) }
+    requires next_owned { 0 < per_period (marks item second.now) }
     requires short { length first.now ≤ 65536 }
-    requires short_next { length second.now ≤ 65536 }
+    requires next_short { length second.now ≤ 65536 }
     ensures shift { result ≡ shift (marks item first.now) (marks item second.now) }
     ensures within { result ≤ length first.now }
 {

@@ -3,64 +3,65 @@
 ghost use Rattle.std.specs.Prelude.{◌≡◌, ◌^◌, ◌<◌, ◌≤◌, ◌∷◌, [], length};
 ghost use Rattle.description.specs.Ranges.{IsStream};
 ghost use Rattle.slot_plan.specs.Entries.{first_failing};
-ghost use Rattle.slot_plan.specs.Conditions.{counting};
+ghost use Rattle.slot_plan.specs.Conditions.{entries_from};
 ghost use Rattle.slot_plan.specs.SwitchConditions.{lead_switch_entry};
-ghost use Rattle.plan_checker.specs.Refused.{failed};
-ghost use Rattle.plan_checker.specs.Joint.{across, across_entry, IsSmallAcross};
+ghost use Rattle.plan_checker.specs.Refusals.{failed};
+ghost use Rattle.plan_checker.specs.SwitchShares.{switch_shares, deadline_entry, AreSharesInRange};
 
 use crate::claims::claim_of_stream;
-use crate::comparing::at_most;
-use crate::counting::own_count;
-use crate::leads::{group_part, packets_of_units};
+use crate::comparison::at_most;
+use crate::condition_terms::{time_given, time_needed};
+use crate::conditions::ItemCondition;
+use crate::leads::{group_part, packets_in_row};
+use crate::own_counts::own_count;
 use crate::plans::PlanPair;
 use crate::refusal::Refusal;
-use crate::sides::{time_given, time_needed};
 use crate::switch::across::shift_of;
-use crate::switch::sides::{Across, Share, slots_needed};
-use crate::turns::OnEach;
-use slot_plan::{Condition, Item, Stream};
+use crate::switch::shares::{PlanShare, SwitchShares, slots_needed};
+use slot_plan::{Condition, Item, StreamDescription};
 use std::alloc::Allocator;
 
 /// The deadlines of all streams, of 1 to `group` units in a row.
 pub struct LeadSwitches;
 
-impl<A: Allocator> OnEach<PlanPair<'_, A>> for LeadSwitches {
-    type Item = Stream;
+impl<A: Allocator> ItemCondition<PlanPair<'_, A>> for LeadSwitches {
+    type Item = StreamDescription;
 
     ghost items = { λ s. s.description.now.streams };
 
-    ghost entries = { λ s i stream. counting (lead_switch_entry s.description.now s.first.now s.second.now i stream) 1 stream.group };
+    ghost entries = { λ s i stream.
+        entries_from (lead_switch_entry s.description.now s.first.now s.second.now i stream) 1 stream.group };
 
     fn count(plans: &PlanPair<'_, A>) -> usize {
         plans.description.streams().len()
     }
 
-    fn judge(plans: &PlanPair<'_, A>, i: usize) -> Result<(), Refusal> {
+    fn check_item(plans: &PlanPair<'_, A>, i: usize) -> Result<(), Refusal> {
         let stream = &plans.description.streams()[i];
         let rate = plans.description.rate().bits_per_second();
-        lead_switch(rate, stream, i, across_of(plans, i))
+        lead_switch(rate, stream, i, shares_of(plans, i))
     }
 }
 
-/// What the two plans give stream number `i`.
-fn across_of<A: Allocator>(plans: &PlanPair<'_, A>, i: usize) -> Across
+/// The own slots of stream number `i` in the two plans.
+fn shares_of<A: Allocator>(plans: &PlanPair<'_, A>, i: usize) -> SwitchShares
     requires { i < length plans.now.description.now.streams }
-    ensures across { result ≡ across plans.now.first.now plans.now.second.now i }
-    ensures small { IsSmallAcross result }
+    ensures shares { result ≡ switch_shares plans.now.first.now plans.now.second.now i }
+    ensures in_range { AreSharesInRange result }
 {
     plans.description.keeps_ranges();
     let (first, second) = (plans.first, plans.second);
     let item = Item::Stream(i as u8);
     let claim = claim_of_stream(first, i);
     let next_claim = claim_of_stream(second, i);
-    Across {
-        first: Share {
+    SwitchShares {
+        first: PlanShare {
             count: own_count(first.slots(), item),
             period: first.slots().len() as u64,
             spread: claim.spread,
             peak: claim.peak,
         },
-        second: Share {
+        second: PlanShare {
             count: own_count(second.slots(), item),
             period: second.slots().len() as u64,
             spread: next_claim.spread,
@@ -71,37 +72,49 @@ fn across_of<A: Allocator>(plans: &PlanPair<'_, A>, i: usize) -> Across
 }
 
 /// The deadlines of one stream.
-fn lead_switch(rate: u64, stream: &Stream, i: usize, across: Across) -> Result<(), Refusal>
+fn lead_switch(
+    rate: u64,
+    stream: &StreamDescription,
+    i: usize,
+    shares: SwitchShares,
+) -> Result<(), Refusal>
     requires rate { rate ≤ 100000000 }
     requires stream { IsStream stream.now }
-    requires few { i < 32 }
-    requires small { IsSmallAcross across }
-    requires spread { across.first.spread < 2 ^ 33 }
-    requires next_spread { across.second.spread < 2 ^ 33 }
-    ensures { failed result ≡ first_failing (counting (across_entry rate across i stream.now) 1 stream.now.group) }
+    requires index { i < 32 }
+    requires in_range { AreSharesInRange shares }
+    requires spread { shares.first.spread < 2 ^ 33 }
+    requires next_spread { shares.second.spread < 2 ^ 33 }
+    ensures { failed result
+        ≡ first_failing (entries_from (deadline_entry rate shares i stream.now) 1 stream.now.group) }
 {
     for before in 0..stream.group {
-        deadline(rate, stream, i, across, before + 1)?;
+        deadline(rate, stream, i, shares, before + 1)?;
     }
     Ok(())
 }
 
 /// The deadline of the last of `units` units in a row.
-fn deadline(rate: u64, stream: &Stream, i: usize, across: Across, units: u8) -> Result<(), Refusal>
+fn deadline(
+    rate: u64,
+    stream: &StreamDescription,
+    i: usize,
+    shares: SwitchShares,
+    units: u8,
+) -> Result<(), Refusal>
     requires rate { rate ≤ 100000000 }
     requires stream { IsStream stream.now }
-    requires few { i < 32 }
-    requires small { IsSmallAcross across }
-    requires spread { across.first.spread < 2 ^ 33 }
-    requires next_spread { across.second.spread < 2 ^ 33 }
-    requires some { 0 < units }
+    requires index { i < 32 }
+    requires in_range { AreSharesInRange shares }
+    requires spread { shares.first.spread < 2 ^ 33 }
+    requires next_spread { shares.second.spread < 2 ^ 33 }
+    requires positive { 0 < units }
     requires units { units ≤ stream.now.group }
-    ensures { failed result ≡ first_failing (across_entry rate across i stream.now units ∷ []) }
+    ensures { failed result ≡ first_failing (deadline_entry rate shares i stream.now units ∷ []) }
 {
-    let packets = packets_of_units(stream, units);
-    let count = across.first.count as u128 * across.second.count as u128;
-    let slots = slots_needed(across, packets);
-    let peak = across.first.peak.max(across.second.peak);
+    let packets = packets_in_row(stream, units);
+    let count = shares.first.count as u128 * shares.second.count as u128;
+    let slots = slots_needed(shares, packets);
+    let peak = shares.first.peak.max(shares.second.peak);
     at_most(
         Condition::LeadSwitch,
         group_part(stream, units),

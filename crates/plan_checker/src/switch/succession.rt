@@ -5,18 +5,18 @@ ghost use Rattle.slot_plan.specs.Entries.{first_failing};
 ghost use Rattle.slot_plan.specs.Shape.{IsShaped};
 ghost use Rattle.slot_plan.specs.Conditions.{IsServing, stream_leads};
 ghost use Rattle.slot_plan.specs.SwitchConditions.{joint_entries, switch_entries};
-ghost use Rattle.plan_checker.specs.Refused.{failed, refusal_of};
+ghost use Rattle.plan_checker.specs.Refusals.{failed, refusal_of};
 
 use crate::checked_plan::CheckedPlan;
 use crate::checked_switch::CheckedSwitch;
-use crate::checking::conditions;
+use crate::checking::check_conditions;
+use crate::conditions::{check_each, then_check_each};
 use crate::plans::PlanPair;
 use crate::refusal::Refusal;
-use crate::switch::gaps::{PcrSwitches, TableSwitches};
 use crate::switch::leads::LeadSwitches;
-use crate::switch::mains::MainSwitches;
-use crate::switch::works::{StreamWorks, SystemWorks, TransportWorks};
-use crate::turns::{in_turn, next_in_turn};
+use crate::switch::main_buffers::MainSwitches;
+use crate::switch::recurrence::{PcrSwitches, TableSwitches};
+use crate::switch::work::{StreamWorks, SystemWorks, TransportWorks};
 use slot_plan::{Description, Plan};
 use std::alloc::Allocator;
 
@@ -37,13 +37,13 @@ fn joint<A: Allocator>(
         first,
         second,
     };
-    let pcrs = in_turn::<PcrSwitches, _>(plans);
-    let tables = next_in_turn::<TableSwitches, _>(pcrs, plans);
-    let streams = next_in_turn::<StreamWorks, _>(tables, plans);
-    let transports = next_in_turn::<TransportWorks, _>(streams, plans);
-    let systems = next_in_turn::<SystemWorks, _>(transports, plans);
-    let leads = next_in_turn::<LeadSwitches, _>(systems, plans);
-    next_in_turn::<MainSwitches, _>(leads, plans)
+    let pcrs = check_each::<PcrSwitches, _>(plans);
+    let tables = then_check_each::<TableSwitches, _>(pcrs, plans);
+    let streams = then_check_each::<StreamWorks, _>(tables, plans);
+    let transports = then_check_each::<TransportWorks, _>(streams, plans);
+    let systems = then_check_each::<SystemWorks, _>(transports, plans);
+    let leads = then_check_each::<LeadSwitches, _>(systems, plans);
+    then_check_each::<MainSwitches, _>(leads, plans)
 }
 
 /// The conditions of a second plan after a first one: its own, then those of the two together.
@@ -55,7 +55,7 @@ fn switch_conditions<A: Allocator>(
     requires serving { IsServing description.now first.now }
     ensures { failed result ≡ first_failing (switch_entries description.now first.now second.now) }
 {
-    conditions(description, second)?;
+    check_conditions(description, second)?;
     joint(description, first, second)
 }
 

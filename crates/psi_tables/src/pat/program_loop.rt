@@ -7,7 +7,7 @@ use crate::pat::programs::{Program, Programs};
 use arrayvec::ArrayVec;
 use bit_fields::append;
 
-/// The entries of a PAT that is being put together: up to 253, which is all that a section has room
+/// The entries of a PAT that is being built: up to 253, which is all that a section has room
 /// for. It holds them in place and takes no memory.
 #[derive(Drop)]
 pub struct ProgramLoop {
@@ -41,7 +41,7 @@ impl ProgramLoop {
         if self.count() == 253 {
             return Err(SectionError::TooLong);
         }
-        append(&mut self.bytes, &program.text());
+        append(&mut self.bytes, &program.to_bytes());
         Ok(())
     }
 

@@ -2,10 +2,10 @@
 
 ghost use Rattle.std.specs.Prelude.{◌≡◌, ◌<◌, [], ◌↔◌, length, IsTrue};
 ghost use Rattle.std.specs.Iterator.{YieldsFirst, item_count};
-ghost use Rattle.psi_tables.specs.ProgramAssociation.{program_of, program_text, programs_in, programs_of};
+ghost use Rattle.psi_tables.specs.ProgramAssociation.{program_of, program_bytes, programs_in, programs_of};
 
 /// One entry of a PAT.
-#[derive(Clone, Copy, Debug, PartialEq, Eq)]
+#[derive(Clone, Copy, PartialEq, Eq)]
 pub struct Program {
     /// 0 names the network PID, any other number a program.
     pub program_number: u16,
@@ -14,24 +14,24 @@ pub struct Program {
 }
 
 /// The entries of a PAT, in order: an iterator over the bytes of the loop.
-#[derive(Clone, Copy, Debug)]
+#[derive(Clone, Copy)]
 pub struct Programs<'a> {
     bytes: &'a [u8],
 }
 
 impl Program {
     /// The entry as it is written, reserved bits 1.
-    pub fn text(self) -> [u8; 4]
+    pub fn to_bytes(self) -> [u8; 4]
         requires { self.pid < 8192 }
-        ensures { result ≡ program_text self }
+        ensures { result ≡ program_bytes self }
     {
         self.bytes()
     }
 
     // The entry of a PID that is known to have 13 bits, as one that was read.
-    #[tactic(auto, unfolding(crate::specs::ProgramAssociation::program_text))]
+    #[tactic(auto, unfolding(crate::specs::ProgramAssociation::program_bytes))]
     pub(super) fn bytes(self) -> [u8; 4]
-        ensures { result ≡ program_text self }
+        ensures { result ≡ program_bytes self }
     {
         let [a, b] = self.program_number.to_be_bytes();
         let [c, d] = self.pid.to_be_bytes();

@@ -1,21 +1,21 @@
 //! Fields of the PMT with reserved bits before them, as they are written.
 
 ghost use Rattle.std.specs.Prelude.{◌≡◌};
-ghost use Rattle.psi_tables.specs.ProgramMap.{pid_text, info_length_text};
+ghost use Rattle.psi_tables.specs.ProgramMap.{pid_bytes, info_length_bytes};
 
 /// A PID after three reserved bits.
-#[tactic(auto, unfolding(crate::specs::ProgramMap::pid_text))]
-pub fn pid_text(pid: u16) -> [u8; 2]
-    ensures { result ≡ pid_text pid }
+#[tactic(auto, unfolding(crate::specs::ProgramMap::pid_bytes))]
+pub fn pid_bytes(pid: u16) -> [u8; 2]
+    ensures { result ≡ pid_bytes pid }
 {
     let [high, low] = pid.to_be_bytes();
     [0xe0 + (high & 0x1f), low]
 }
 
 /// A number of descriptor bytes after four reserved bits.
-#[tactic(auto, unfolding(crate::specs::ProgramMap::info_length_text))]
-pub fn info_length_text(length: usize) -> [u8; 2]
-    ensures { result ≡ info_length_text length }
+#[tactic(auto, unfolding(crate::specs::ProgramMap::info_length_bytes))]
+pub fn info_length_bytes(length: usize) -> [u8; 2]
+    ensures { result ≡ info_length_bytes length }
 {
     let high = (length >> 8 & 0x0f) as u8;
     let low = (length & 0xff) as u8;

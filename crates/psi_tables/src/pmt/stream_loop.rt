@@ -7,7 +7,7 @@ use crate::error::SectionError;
 use crate::pmt::streams::{Stream, Streams};
 use arrayvec::ArrayVec;
 
-/// The streams of a PMT that is being put together. It holds up to 1,012 bytes in place and takes no
+/// The streams of a PMT that is being built. It holds up to 1,012 bytes in place and takes no
 /// memory.
 #[derive(Drop)]
 pub struct StreamLoop {
@@ -18,7 +18,7 @@ pub struct StreamLoop {
 impl StreamLoop {
     ghost use Rattle.std.specs.Prelude.{◌+◌, ◌<◌, ◌≤◌, [], ◌∷◌, ◌++◌, ◌↔◌, length, IsOk, OnOk, IfErr, OnErr};
     ghost use Rattle.arrayvec.specs.ArrayVec.{array_vec_len};
-    ghost use Rattle.psi_tables.specs.ProgramMap.{stream_view, streams_text, streams_of, stream_loop_of};
+    ghost use Rattle.psi_tables.specs.ProgramMap.{stream_view, streams_bytes, streams_of, stream_loop_of};
 
     /// A loop without streams.
     #[tactic(auto, unfolding(crate::specs::ProgramMap::stream_loop_of, crate::specs::ProgramMap::streams_in, crate::specs::Loops::loop_at, crate::specs::Loops::loop_from))]
@@ -34,7 +34,8 @@ impl StreamLoop {
     /// 1,012 bytes: 5 a stream and those of its descriptors.
     pub fn push(&mut self, stream: &Stream<'_>) -> Result<(), SectionError>
         requires { stream.now.elementary_pid < 8192 }
-        ensures variant { IsOk result ↔ (length (streams_text (stream_loop_of self.old)) + 5 + length stream.now.descriptors.now ≤ 1012) }
+        ensures variant { IsOk result ↔ (length (streams_bytes (stream_loop_of self.old)) + 5
+            + length stream.now.descriptors.now ≤ 1012) }
         ensures ok { OnOk result (stream_loop_of self.new ≡ stream_loop_of self.old ++ stream_view stream.now ∷ []) }
         ensures too_long { IfErr result (λ e. e ≡ SectionError.TooLong) }
         ensures unchanged { OnErr result (stream_loop_of self.new ≡ stream_loop_of self.old) }
@@ -42,15 +43,15 @@ impl StreamLoop {
         if stream.descriptors.len() > 1007 {
             return Err(SectionError::TooLong);
         }
-        if self.text_length() > 1007 - stream.descriptors.len() {
+        if self.byte_length() > 1007 - stream.descriptors.len() {
             return Err(SectionError::TooLong);
         }
         stream.append_to(&mut self.bytes);
         Ok(())
     }
 
-    fn text_length(&self) -> usize
-        ensures text { result ≡ length (streams_text (stream_loop_of self.now)) }
+    fn byte_length(&self) -> usize
+        ensures encoded { result ≡ length (streams_bytes (stream_loop_of self.now)) }
         ensures bytes { result ≡ array_vec_len self.now.bytes }
     {
         self.bytes.len()

@@ -5,12 +5,12 @@ ghost use Rattle.psi_tables.specs.Loops.{loop_at};
 
 use crate::entries::{Entry, entry_at, is_whole_loop};
 use crate::error::SectionError;
-use crate::pmt::fields::{info_length_text, pid_text};
+use crate::pmt::fields::{info_length_bytes, pid_bytes};
 use arrayvec::ArrayVec;
 use bit_fields::append;
 
 /// An elementary stream of a program.
-#[derive(Clone, Copy, Debug)]
+#[derive(Clone, Copy)]
 pub struct Stream<'a> {
     pub stream_type: u8,
     /// 13 bits.
@@ -20,7 +20,7 @@ pub struct Stream<'a> {
 }
 
 /// The streams of a PMT, in order: an iterator over the bytes of the loop.
-#[derive(Clone, Copy, Debug)]
+#[derive(Clone, Copy)]
 pub struct Streams<'a> {
     bytes: &'a [u8],
     ghost whole: { is_some (loop_at 5 bytes.now) ≡ true },
@@ -45,7 +45,7 @@ impl<'a> Streams<'a> {
 }
 
 impl<'a> Streams<'a> {
-    ghost use Rattle.psi_tables.specs.ProgramMap.{streams_text, streams_in, streams_of};
+    ghost use Rattle.psi_tables.specs.ProgramMap.{streams_bytes, streams_in, streams_of};
 
     /// The streams that bytes are, which are known to be whole.
     #[tactic(auto, unfolding(crate::specs::ProgramMap::streams_of))]
@@ -57,8 +57,8 @@ impl<'a> Streams<'a> {
     }
 
     /// The number of bytes that the streams are written as.
-    pub fn text_length(&self) -> usize
-        ensures { result ≡ length (streams_text (streams_of self.now)) }
+    pub fn byte_length(&self) -> usize
+        ensures { result ≡ length (streams_bytes (streams_of self.now)) }
     {
         self.bytes.len()
     }
@@ -89,29 +89,29 @@ impl<'a> Iterator for Streams<'a> {
 impl<'a> Stream<'a> {
     ghost use Rattle.std.specs.Prelude.{◌+◌, ◌<◌, ◌≤◌, ◌++◌};
     ghost use Rattle.arrayvec.specs.ArrayVec.{array_vec_len};
-    ghost use Rattle.psi_tables.specs.Loops.{entry_view, entry_text};
-    ghost use Rattle.psi_tables.specs.ProgramMap.{stream_view, stream_of, stream_entry, stream_text};
+    ghost use Rattle.psi_tables.specs.Loops.{entry_view};
+    ghost use Rattle.psi_tables.specs.ProgramMap.{stream_view, stream_of, stream_bytes};
 
     /// Appends the entry as it is written, reserved bits 1.
     pub fn append_to<const N: usize>(&self, out: &mut ArrayVec<u8, N>)
         requires pid { self.now.elementary_pid < 8192 }
         requires length { length self.now.descriptors.now < 4096 }
         requires room { array_vec_len out.old + 5 + length self.now.descriptors.now ≤ N }
-        ensures items { out.new.items ≡ out.old.items ++ stream_text (stream_view self.now) }
+        ensures items { out.new.items ≡ out.old.items ++ stream_bytes (stream_view self.now) }
         ensures len { array_vec_len out.new ≡ array_vec_len out.old + 5 + length self.now.descriptors.now }
     {
         self.append_entry(out);
     }
 
     // Appends an entry whose PID and number of descriptor bytes are known to have room, as those of one that was read.
-    #[tactic(auto, unfolding(crate::specs::ProgramMap::stream_text, crate::specs::ProgramMap::stream_entry, crate::specs::Loops::entry_text, crate::specs::ProgramMap::pid_text, crate::specs::ProgramMap::info_length_text))]
+    #[tactic(auto, unfolding(crate::specs::ProgramMap::stream_bytes, crate::specs::ProgramMap::stream_entry, crate::specs::Loops::entry_bytes, crate::specs::ProgramMap::pid_bytes, crate::specs::ProgramMap::info_length_bytes))]
     pub(super) fn append_entry<const N: usize>(&self, out: &mut ArrayVec<u8, N>)
         requires { array_vec_len out.old + 5 + length self.now.descriptors.now ≤ N }
-        ensures items { out.new.items ≡ out.old.items ++ stream_text (stream_view self.now) }
+        ensures items { out.new.items ≡ out.old.items ++ stream_bytes (stream_view self.now) }
         ensures len { array_vec_len out.new ≡ array_vec_len out.old + 5 + length self.now.descriptors.now }
     {
-        let [pid_high, pid_low] = pid_text(self.elementary_pid);
-        let [length_high, length_low] = info_length_text(self.descriptors.len());
+        let [pid_high, pid_low] = pid_bytes(self.elementary_pid);
+        let [length_high, length_low] = info_length_bytes(self.descriptors.len());
         append(
             out,
             &[self.stream_type, pid_high, pid_low, length_high, length_low],

@@ -1,6 +1,8 @@
 //! Values of a second reading of the rules, and values worked by hand.
 
-use stream_choice::{Needs, Recurring, are_most, choose, least_rate, least_share, wait};
+use stream_choice::{
+    Needs, Recurring, are_max_packets, choose, least_rate, least_share, transport_delay,
+};
 
 // What is known of a stream (interval, size, rx, main), its most packets, their least share, the wait and the greatest
 // lead; and the share, the lead and the group that are chosen.
@@ -14,7 +16,7 @@ type Row = (
 );
 
 // The first two are audio of 192 kbit/s, one and five frames to a unit.
-const ROWS: [Row; 14] = [
+static ROWS: [Row; 14] = [
     (
         [2_160, 576, 2_000_000, 3_584],
         &[4],
@@ -139,7 +141,7 @@ fn is_chosen(row: &Row) -> bool {
         main,
     };
     if !needs.is_in_range()
-        || !are_most(most)
+        || !are_max_packets(most)
         || lead > 90_000
         || least_share(needs, most) != share
     {
@@ -159,7 +161,7 @@ fn chosen(rt: HostRuntime) {
 }
 
 // Shares, what recurs, and the least rate.
-const RATES: [(&[u64], &[Recurring], Option<u32>); 10] = [
+static RATES: [(&[u64], &[Recurring], Option<u64>); 10] = [
     (
         &[2_036_132_645],
         &[Recurring {
@@ -237,9 +239,9 @@ const RATES: [(&[u64], &[Recurring], Option<u32>); 10] = [
 
 // 512 bytes at a rate, rounded up, and three packets of a share.
 fn are_waits() -> bool {
-    wait(2_000_000, 1 << 40) == 188
-        && wait(64_000, 1 << 40) == 5_763
-        && wait(200_000_000, 1 << 17) == 25_165_826
+    transport_delay(2_000_000, 1 << 40) == 188
+        && transport_delay(64_000, 1 << 40) == 5_763
+        && transport_delay(200_000_000, 1 << 17) == 25_165_826
 }
 
 fn are_ranges() -> bool {
@@ -255,9 +257,9 @@ fn are_ranges() -> bool {
     };
     needs.is_in_range()
         && !slow.is_in_range()
-        && are_most(&[1])
-        && !are_most(&[])
-        && !are_most(&[1, 0])
+        && are_max_packets(&[1])
+        && !are_max_packets(&[])
+        && !are_max_packets(&[1, 0])
 }
 
 #[test]

@@ -3,7 +3,7 @@
 use stream_coding::{Buffers, Coding, buffers_of, coding_of, is_ac3};
 
 // Rates and buffers of codings, as the tables of their standards give them.
-const BUFFERS: [(Coding, u32, u32); 9] = [
+static BUFFERS: [(Coding, u32, u32); 9] = [
     (Coding::Mpeg(8), 18_000_000, 239_376),
     (Coding::Mpeg(0), 18_000_000, 239_376),
     (Coding::Avc(40), 24_000_000, 3_766_000),
@@ -25,7 +25,8 @@ fn are_buffers() -> bool {
     true
 }
 
-// A sequence extension of main profile, main level, after the end of a sequence header, and one with the escape bit before.
+// A sequence extension of main profile, main level, after the end of a sequence header, and one with the escape bit
+// before.
 const MPEG: &[u8] = &[0x10, 0, 0, 1, 0xb5, 0x14, 0x8a, 0, 1];
 
 const ESCAPED: &[u8] = &[0, 0, 1, 0xb5, 0x18, 0x8a, 0, 0, 1, 0xb5, 0x14, 0x4a];
@@ -54,7 +55,7 @@ const REGISTERED: &[u8] = &[5, 4, 0x41, 0x43, 0x2d, 0x33];
 const SUBTITLES: &[u8] = &[0x59, 8, 0x65, 0x6e, 0x67, 0x10, 0, 1, 0, 2];
 
 // The stream_type, the descriptors, the beginning of a unit, and the coding.
-const CODINGS: [(u8, &[u8], &[u8], Coding); 20] = [
+static CODINGS: [(u8, &[u8], &[u8], Coding); 20] = [
     (2, &[], MPEG, Coding::Mpeg(8)),
     (2, &[], ESCAPED, Coding::Mpeg(4)),
     (1, &[], AVC, Coding::Mpeg(0)),

@@ -28,7 +28,8 @@ const OTHER: Packet = (
     ],
 );
 
-// A packet of PID 0 with a whole program association section; the first ten bytes of it, after stuffing; and the others.
+// A packet of PID 0 with a whole program association section; the first ten bytes of it, after stuffing; and the
+// others.
 const PAT: Packet = (
     &[
         0x47, 0x40, 0x00, 0x10, 0x00, 0x00, 0xB0, 0x0D, 0x00, 0x01, 0xC1, 0x00, 0x00, 0x00, 0x01,
@@ -118,7 +119,7 @@ const BREAK: Row = (2, Some(256), ("counter", [1, 0, 0]), None);
 // A stream: its packets, the bytes cut off its end, and its findings.
 type Stream = (&'static [Packet], usize, &'static [Row]);
 
-const STREAMS: [Stream; 6] = [
+static STREAMS: [Stream; 6] = [
     // The worked packet, the same again, the same with another last byte, and 100 bytes of one more.
     (
         &[PES, PES, OTHER, PES],
@@ -219,7 +220,7 @@ fn finish<A: Allocator + Copy>(demux: &mut Demux<A>) -> bool {
     demux.finish().is_ok()
 }
 
-// Takes a packet, where no part of one is held. None where one is.
+// Takes a packet, where no part of one waits for the rest. None where one does.
 fn take<'a, A: Allocator + Copy>(
     demux: &mut Demux<A>,
     packet: &'a [u8; 188],
@@ -279,14 +280,14 @@ fn is_found_by_packet(alloc: Global, bytes: &[u8], rows: &[Row]) -> bool {
     is_found
 }
 
-const SIZES: [usize; 7] = [1, 7, 50, 187, 188, 189, 664];
+static SIZES: [usize; 7] = [1, 7, 50, 187, 188, 189, 664];
 
 fn is_found(alloc: Global, stream: &Stream) -> bool {
     let Some(bytes) = bytes_of(alloc, stream) else {
         return false;
     };
-    for size in SIZES {
-        if !is_found_in(alloc, &bytes, size, stream.2) {
+    for size in &SIZES {
+        if !is_found_in(alloc, &bytes, *size, stream.2) {
             return false;
         }
     }
@@ -318,7 +319,7 @@ const SECTION: [u8; 16] = [
 ];
 
 // Packets in which one thing is found, whether it is a slice of its packet, and its bytes.
-const PARTS: [(&[Packet], bool, &[u8]); 3] = [
+static PARTS: [(&[Packet], bool, &[u8]); 3] = [
     (&[PES], true, &[0x41, 0x42, 0x43]),
     (&[PAT], true, &SECTION),
     (&[FIRST, SECOND], false, &SECTION),
@@ -350,7 +351,7 @@ fn slices_of_packets(rt: HostRuntime) {
     assert!(rt; are_parts(rt.alloc()));
 }
 
-// Pushes a packet in two parts; whether a part is held only between them.
+// Pushes a packet in two parts; whether a part waits only between them.
 fn push_parts(demux: &mut Demux, packet: &[u8; 188]) -> bool {
     let first = push(demux, &packet[..100]);
     let between = demux.aligned();
@@ -369,9 +370,9 @@ fn take_and_push(alloc: Global, demux: &mut Demux, packet: &[u8; 188]) -> bool {
 
 // What is forgotten is gone.
 fn forget(demux: &mut Demux) -> bool {
-    let is_told = are_rows(demux.findings(), &[DUPLICATE]);
+    let is_found = are_rows(demux.findings(), &[DUPLICATE]);
     demux.forget_findings();
-    is_told && demux.findings().is_empty()
+    is_found && demux.findings().is_empty()
 }
 
 #[test]

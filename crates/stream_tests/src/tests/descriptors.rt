@@ -4,7 +4,7 @@ use descriptor_loops::{Descriptors, has_ca, has_tag, kept_descriptors};
 use std::alloc::Global;
 
 // A language, conditional access, one without bytes, and one whose bytes are not all there.
-const LOOP: [u8; 18] = [
+static LOOP: [u8; 18] = [
     0x0a, 4, 0x65, 0x6e, 0x67, 0, 9, 4, 0, 1, 0xe1, 0, 0x6a, 0, 0x48, 3, 1, 2,
 ];
 
@@ -26,7 +26,7 @@ fn are_descriptors() -> bool {
         && left.next().is_none()
 }
 
-const TAGS: [(u8, bool); 5] = [
+static TAGS: [(u8, bool); 5] = [
     (0x0a, true),
     (9, true),
     (0x6a, true),
@@ -43,7 +43,7 @@ fn are_tags() -> bool {
     has_ca(&LOOP) && !has_ca(&LOOP[..6])
 }
 
-const KEPT: [u8; 8] = [0x0a, 4, 0x65, 0x6e, 0x67, 0, 0x6a, 0];
+static KEPT: [u8; 8] = [0x0a, 4, 0x65, 0x6e, 0x67, 0, 0x6a, 0];
 
 fn are_kept(alloc: Global) -> bool {
     match kept_descriptors(alloc, &LOOP) {

@@ -1,17 +1,15 @@
-//! Streams made by hand: each refusal, what is told, and a job.
+//! The job of a stream made by hand.
 
-mod refusals;
 mod streams;
-mod told;
 
 use demux::Finding;
 use pes_packet::Unit;
 use std::alloc::Global;
-use stream_jobs::{Job, JobError, Refusal, Wishes, describe, make_job, material_of, units};
-use streams::{audio, material, usual};
+use stream_jobs::{Job, JobError, JobOptions, JobRefusal, describe, job_input, make_job, units};
+use streams::{audio, input, usual};
 
 // Units of 24 ms.
-const UNITS: [(u8, u64, usize); 3] = [(192, 3_600, 100), (192, 5_760, 100), (192, 7_920, 100)];
+static UNITS: [(u8, u64, usize); 3] = [(192, 3_600, 100), (192, 5_760, 100), (192, 7_920, 100)];
 
 // base0 is what the clock shows two seconds before the first unit; group and lead are those that stream_choice chooses.
 const TEXT: &str = "base0 = 8589758192
@@ -46,7 +44,7 @@ type = 3
 ";
 
 // The moments of its units: the first is due two seconds after the first slot.
-const MOMENTS: [u64; 3] = [180_000, 182_160, 184_320];
+static MOMENTS: [u64; 3] = [180_000, 182_160, 184_320];
 
 fn are_units(units: &[(u8, Unit)]) -> bool {
     let mut left = MOMENTS.as_slice();
@@ -69,20 +67,20 @@ fn is_job(job: Job) -> bool {
 }
 
 // The job of a stream.
-fn made(alloc: Global, wishes: &Wishes<'_>, found: &[Finding<'_>]) -> Result<Job, JobError> {
-    match material_of(alloc, wishes, found.len() as u64, found) {
-        Ok(material) => make_job(alloc, wishes, found, material),
+fn made(alloc: Global, options: &JobOptions<'_>, found: &[Finding<'_>]) -> Result<Job, JobError> {
+    match job_input(alloc, options, found.len() as u64, found) {
+        Ok(input) => make_job(alloc, options, found, input),
         Err(error) => Err(error),
     }
 }
 
 // Its text.
-fn is_described(alloc: Global, wishes: &Wishes<'_>, found: &[Finding<'_>]) -> bool {
-    let Some(material) = material(alloc, wishes, found) else {
+fn is_described(alloc: Global, options: &JobOptions<'_>, found: &[Finding<'_>]) -> bool {
+    let Some(input) = input(alloc, options, found) else {
         return false;
     };
-    let described = describe(alloc, wishes, found, &material);
-    drop(material);
+    let described = describe(alloc, options, found, &input);
+    drop(input);
     match described {
         Ok(text) => text.as_str() == TEXT,
         Err(_) => false,
@@ -90,8 +88,8 @@ fn is_described(alloc: Global, wishes: &Wishes<'_>, found: &[Finding<'_>]) -> bo
 }
 
 // Why there is no job; none where it is the one of the text and the units.
-fn cause(alloc: Global, wishes: &Wishes<'_>, found: &[Finding<'_>]) -> Option<JobError> {
-    match made(alloc, wishes, found) {
+fn cause(alloc: Global, options: &JobOptions<'_>, found: &[Finding<'_>]) -> Option<JobError> {
+    match made(alloc, options, found) {
         Ok(job) => {
             if is_job(job) {
                 None
@@ -105,25 +103,25 @@ fn cause(alloc: Global, wishes: &Wishes<'_>, found: &[Finding<'_>]) -> Option<Jo
 
 // A start that is no moment.
 fn starts_now(alloc: Global, found: &[Finding<'_>]) -> bool {
-    let mut wishes = usual();
-    wishes.start = "now";
-    match cause(alloc, &wishes, found) {
-        Some(JobError::Refused(Refusal::Description(_))) => true,
+    let mut options = usual();
+    options.start = "now";
+    match cause(alloc, &options, found) {
+        Some(JobError::Refused(JobRefusal::Description(_))) => true,
         _ => false,
     }
 }
 
 // A rate at which no plan is found.
 fn is_too_slow(alloc: Global, found: &[Finding<'_>]) -> bool {
-    let mut wishes = usual();
-    wishes.rate = Some(100_000);
-    cause(alloc, &wishes, found) == Some(JobError::Refused(Refusal::Plan(100_000)))
+    let mut options = usual();
+    options.rate = Some(100_000);
+    cause(alloc, &options, found) == Some(JobError::Refused(JobRefusal::Plan(100_000)))
 }
 
 // The units alone need no rate.
 fn are_alone(alloc: Global, found: &[Finding<'_>]) -> Result<bool, JobError> {
-    let material = material_of(alloc, &usual(), 5, found)?;
-    match units(alloc, material) {
+    let input = job_input(alloc, &usual(), 5, found)?;
+    match units(alloc, input) {
         Ok(units) => Ok(are_units(&units)),
         Err(error) => Err(error),
     }

@@ -1,62 +1,60 @@
-//! Damaged streams, each with its faults, and refused memory. What is expected was worked out by hand from the rules.
+//! A stream packet by packet, a cut one with its faults, writers that fail, and refused memory.
 
-mod streams;
-
+use super::packets::{Packet, stream_of};
 use clock27::Rate;
+use counted_io::{Counted, Failing};
 use linked_list_allocator::LocalHeap;
-use monitor::{Monitor, Report, ReportError, WriteError, report};
+use monitor::{Monitor, Report, ReportError, ReportWriteError, report};
 use std::alloc::{AllocError, Allocator, Global};
-use streams::stream;
-use ts_packet::{Counted, Failing};
 
-// A stream in letters (`stream`), and the last lines of its report.
-type Case = (&'static str, &'static str);
+// An unbounded PES packet with a PTS, more of it, and more with a counter that jumps; a PCR; a null packet.
+const PES: Packet = (
+    &[
+        0x47, 0x41, 0x00, 0x10, 0x00, 0x00, 0x01, 0xE0, 0x00, 0x00, 0x80, 0x80, 0x05, 0x21, 0x00,
+        0x05, 0xBF, 0x21,
+    ],
+    0xFF,
+    &[],
+);
 
-// Damaged packets.
-const PACKETS: [Case; 11] = [
-    // A sync byte lost, and three in a row.
-    ("PMx", "\nfault 2 - sync\nfaults 1\n"),
-    (
-        "PxxxM",
-        "\nfault 1 - sync\nfault 2 - sync\nfault 3 - sync\nfaults 3\n",
-    ),
-    // adaptation_field_control 0, and an adaptation field past the packet.
-    ("Pr", "\nfault 1 - packet\nfaults 1\n"),
-    ("Pa", "\nfault 1 - packet\nfaults 1\n"),
-    // An error that was not corrected; scrambled packets, which are no fault.
-    ("Pe", "\nfault 1 - error\nfaults 1\n"),
-    ("Ps", "\nfaults 0\n"),
-    // Packets lost, and one packet three times.
-    ("Vvvj", "\nfault 3 256 counter\nfaults 1\n"),
-    ("Vvddv", "\nfault 3 256 counter\nfaults 1\n"),
-    // A wrong check word, whose packet comes twice; a pointer_field past the packet.
-    ("Pb", "\nfault 1 768 crc\nfaults 1\n"),
-    ("b.b", "\nfault 0 768 crc\nfaults 1\n"),
-    ("Pp", "\nfault 1 769 section\nfaults 1\n"),
-];
+const MORE: Packet = (&[0x47, 0x01, 0x00, 0x11], 0xFF, &[]);
 
-// At 100,000 bits a second a packet lasts 15.04 ms: 500 ms are 33 packets, 40 ms two.
-const GAPS: [Case; 15] = [
-    // No PAT within the limit; none at all; one too late; one too late after another; one that stops; one that is scrambled from
-    // then on.
-    (".33", "\nfaults 0\n"),
-    (".34", "\nfault 34 0 pat\nfaults 1\n"),
-    (".34P", "\nfault 34 0 pat\nfaults 1\n"),
-    ("PM.16M.15P", "\nfault 34 0 pat\nfaults 1\n"),
-    ("PM.20M.20", "\nfault 43 0 pat\nfaults 1\n"),
-    ("PM.20Mk.20", "\nfault 44 0 pat\nfaults 1\n"),
-    // No PMT; one too late.
-    ("P.20P.13", "\nfault 35 4096 pmt\nfaults 1\n"),
-    ("P.16P.16M", "\nfault 34 4096 pmt\nfaults 1\n"),
-    // Clock references, PTS, NIT, SDT, EIT and TDT, each too late once; and PAT and PMT that are never late.
-    ("C.C.2C", "\nfault 5 257 pcr\nfaults 1\n"),
-    ("Vv23Pv23V", "\nfault 48 256 pts\nfaults 1\n"),
-    ("N+21N", "\nfault 673 16 nit\nfaults 1\n"),
-    ("S+5S", "\nfault 161 17 sdt\nfaults 1\n"),
-    ("E+5E", "\nfault 161 18 eit\nfaults 1\n"),
-    ("T+63T", "\nfault 2017 20 tdt\nfaults 1\n"),
-    ("+20", "\nfaults 0\n"),
-];
+const JUMP: Packet = (&[0x47, 0x01, 0x00, 0x15], 0xFF, &[]);
+
+const CLOCK: Packet = (
+    &[
+        0x47, 0x01, 0x01, 0x20, 0xB7, 0x10, 0x00, 0x00, 0x00, 0x00, 0x7E, 0x00,
+    ],
+    0xFF,
+    &[],
+);
+
+const NULL: Packet = (&[0x47, 0x1F, 0xFF, 0x10], 0xFF, &[]);
+
+// No sync byte; neither a payload nor an adaptation field; a PAT; a PMT with a wrong check word; the beginning of a NIT.
+const NO_SYNC: Packet = (&[0x46, 0x1F, 0xFF, 0x10], 0xFF, &[]);
+
+const NO_CONTENT: Packet = (&[0x47, 0x1F, 0xFF, 0x00], 0xFF, &[]);
+
+const PAT: Packet = (
+    &[
+        0x47, 0x40, 0x00, 0x10, 0x00, 0x00, 0xB0, 0x0D, 0x00, 0x01, 0xC1, 0x00, 0x00, 0x00, 0x01,
+        0xF0, 0x00, 0x2A, 0xB1, 0x04, 0xB2,
+    ],
+    0xFF,
+    &[],
+);
+
+const BAD_PMT: Packet = (
+    &[
+        0x47, 0x43, 0x00, 0x10, 0x00, 0x02, 0xB0, 0x0D, 0x00, 0x01, 0xC1, 0x00, 0x00, 0xE1, 0x01,
+        0xF0, 0x00, 0x64, 0x2D, 0xB3, 0x4F,
+    ],
+    0xFF,
+    &[],
+);
+
+const NIT: Packet = (&[0x47, 0x40, 0x10, 0x10, 0x00, 0x40, 0x70, 0x00], 0xFF, &[]);
 
 // The report of a stream at the slow rate.
 fn reported<A: Allocator + Copy>(alloc: A, bytes: &[u8]) -> Result<Report<A>, ReportError> {
@@ -72,28 +70,6 @@ fn ends_with<A: Allocator>(alloc: Global, report: &Report<A>, lines: &str) -> bo
         Ok(text) => text.as_str().ends_with(lines),
         Err(_) => false,
     }
-}
-
-fn is_reported(alloc: Global, bytes: &[u8], lines: &str) -> bool {
-    match reported(alloc, bytes) {
-        Ok(report) => ends_with(alloc, &report, lines),
-        Err(_) => false,
-    }
-}
-
-fn are_cases(alloc: Global, cases: &[Case]) -> bool {
-    for (letters, lines) in cases {
-        match stream(alloc, letters) {
-            Ok(bytes) if is_reported(alloc, &bytes, lines) => {}
-            _ => return false,
-        }
-    }
-    true
-}
-
-#[test]
-fn damaged_streams(rt: HostRuntime) {
-    assert!(rt; are_cases(rt.alloc(), &PACKETS) && are_cases(rt.alloc(), &GAPS));
 }
 
 // Takes packets one by one.
@@ -116,7 +92,7 @@ fn is_taken(alloc: Global, bytes: &[u8], lines: &str) -> Option<bool> {
 }
 
 fn is_alike(alloc: Global) -> bool {
-    match stream(alloc, "Vv.C2") {
+    match stream_of(alloc, &[PES, MORE, NULL, CLOCK, CLOCK]) {
         Ok(bytes) => is_taken(alloc, &bytes, "scrambled 0\nfaults 0\n") == Some(true),
         Err(_) => false,
     }
@@ -137,27 +113,27 @@ faults 3
 ";
 
 fn cut_report(alloc: Global) -> Option<Report> {
-    let mut bytes = stream(alloc, "Vvxj.").ok()?;
+    let mut bytes = stream_of(alloc, &[PES, MORE, NO_SYNC, JUMP, NULL]).ok()?;
     bytes.truncate(4 * 188 + 100);
     reported(alloc, &bytes).ok()
 }
 
-// What a writer with so much room takes of the lines, and the answer.
-fn written(alloc: Global, report: &Report, room: u64) -> (Result<u64, WriteError>, Vec<u8>) {
+// What a writer that fails after `room` bytes takes of the lines, and the answer.
+fn written(alloc: Global, report: &Report, room: u64) -> (Result<u64, ReportWriteError>, Vec<u8>) {
     let mut output = Counted::new(Failing::after_bytes(Vec::new(alloc), room));
     let answer = report.write(alloc, &mut output);
     (answer, output.into_inner().into_inner())
 }
 
-// Whether a writer with so much room takes so many bytes of the lines, and the answer is that.
+// Whether a writer that fails after `room` bytes takes just these, and the answer says so.
 fn is_written(alloc: Global, report: &Report, room: u64) -> bool {
-    let (answer, held) = written(alloc, report, room);
+    let (answer, output) = written(alloc, report, room);
     let wanted = if room < LINES.len() as u64 {
-        Err(WriteError::Device { sent: room })
+        Err(ReportWriteError::Device { sent: room })
     } else {
         Ok(room)
     };
-    answer == wanted && held.len() as u64 == room && LINES.as_bytes().starts_with(&held)
+    answer == wanted && output.len() as u64 == room && LINES.as_bytes().starts_with(&output)
 }
 
 // A writer with room for all lines, and writers that fail after some bytes of them.
@@ -201,7 +177,8 @@ fn is_refused(alloc: Global, bytes: &[u8], room: usize) -> Option<bool> {
     }
 }
 
-// How many heaps of 64 bytes to 64 KiB, each 64 bytes larger than the one before, are too small; none where the largest is.
+// How many heaps of 64 bytes to 64 KiB, each 64 bytes larger than the one before, are too small; none where the largest
+// is.
 fn refusals(alloc: Global, bytes: &[u8]) -> Option<u32> {
     let mut refused = 0u32;
     let mut last = true;
@@ -213,7 +190,7 @@ fn refusals(alloc: Global, bytes: &[u8]) -> Option<u32> {
 }
 
 fn is_often_refused(alloc: Global) -> bool {
-    match stream(alloc, "xPbCNr") {
+    match stream_of(alloc, &[NO_SYNC, PAT, BAD_PMT, CLOCK, NIT, NO_CONTENT]) {
         Ok(bytes) => 16 < refusals(alloc, &bytes).unwrap_or(0),
         Err(_) => false,
     }

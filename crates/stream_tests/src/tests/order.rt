@@ -7,11 +7,11 @@ use std::collections::VecDeque;
 use unit_order::merged;
 
 // The DTS of the units of each stream; those of the second do not rise.
-const STREAMS: [&[u64]; 3] = [&[3_600, 7_200, 7_200], &[3_600, 10_800, 0], &[0, 7_200]];
+static STREAMS: [&[u64]; 3] = [&[3_600, 7_200, 7_200], &[3_600, 10_800, 0], &[0, 7_200]];
 
-// Each unit in its place: its stream, its number in the stream and its DTS. Of two of one DTS the first stream's comes first,
-// and a unit waits for those before it in its stream.
-const MERGED: [(u8, u64, u64); 8] = [
+// Each unit in its place: its stream, its number in the stream and its DTS. Of two of one DTS the first stream's comes
+// first, and a unit waits for those before it in its stream.
+static MERGED: [(u8, u64, u64); 8] = [
     (2, 0, 0),
     (0, 0, 3_600),
     (1, 0, 3_600),
@@ -73,7 +73,7 @@ fn is_merged<A: Allocator + Copy>(alloc: A) -> Result<bool, AllocError> {
     }
 }
 
-// In how many of 64 heaps of rising size memory is wanting. None where the units are merged otherwise in one.
+// In how many of 64 heaps of rising size there is not enough memory. None where the units come in another order in one.
 fn refusals(alloc: Global) -> Option<u32> {
     let mut refused = 0u32;
     for size in 0..64usize {

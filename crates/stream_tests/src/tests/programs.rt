@@ -8,9 +8,9 @@ use demux::{Finding, Kind, Part, What};
 use psi_tables::Program;
 use std::alloc::{AllocError, Global};
 use stream_programs::{
-    Association, FoundStream, LeftOut, Placed, Programs, StreamTables, association_change,
-    found_programs, free_pid, last_service, map_change, named_programs, original_network,
-    stream_tables,
+    Association, FoundPrograms, FoundStream, ProgramPids, StreamTables, TableOmission,
+    association_change, found_programs, free_pid, last_service, map_change, named_programs,
+    original_network, stream_tables,
 };
 use vectors::{EMPTY_MAP, FIRST_MAP, LAST_MAP, MORE, NEXT_PAT, OTHER_PAT, PAT, PMT, SDT};
 
@@ -32,7 +32,7 @@ fn found(
 }
 
 // The programs that are named, and what is found of them.
-fn programs(alloc: Global, findings: &[Finding<'_>]) -> Option<Programs> {
+fn programs(alloc: Global, findings: &[Finding<'_>]) -> Option<FoundPrograms> {
     match named_programs(alloc, findings) {
         Ok(Some(association)) => found_programs(alloc, &association.programs, findings).ok(),
         _ => None,
@@ -48,7 +48,7 @@ fn is_stream(stream: &FoundStream, stream_type: u8, pid: u16, descriptors: &[u8]
 }
 
 // Whether there is that one program, with video and audio.
-fn is_of_ffmpeg(programs: &Programs) -> bool {
+fn is_of_ffmpeg(programs: &FoundPrograms) -> bool {
     match (programs.programs.as_slice(), programs.streams.as_slice()) {
         ([program], [video, audio]) => {
             (program.number, program.map_pid, program.pcr_pid) == (1, 0x1000, 0x100)
@@ -60,7 +60,7 @@ fn is_of_ffmpeg(programs: &Programs) -> bool {
     }
 }
 
-const FFMPEG: [(u16, &[u8]); 4] = [(17, &PMT), (0, &PAT), (0x1000, &PMT), (0, &PAT)];
+static FFMPEG: [(u16, &[u8]); 4] = [(17, &PMT), (0, &PAT), (0x1000, &PMT), (0, &PAT)];
 
 // The tables of a stream of ffmpeg: one program, video and audio with its language.
 fn are_of_ffmpeg(alloc: Global) -> Option<bool> {
@@ -70,32 +70,32 @@ fn are_of_ffmpeg(alloc: Global) -> Option<bool> {
 }
 
 // What of tables made by hand is left out.
-const LEFT_OUT: [LeftOut; 7] = [
-    LeftOut::ConditionalAccess { program: 2 },
-    LeftOut::NoPes {
+static LEFT_OUT: [TableOmission; 7] = [
+    TableOmission::ConditionalAccess { program: 2 },
+    TableOmission::NoPes {
         program: 2,
         pid: 0x202,
         stream_type: 5,
     },
-    LeftOut::Reserved {
+    TableOmission::Reserved {
         program: 2,
         pid: 0x1f,
     },
-    LeftOut::Taken {
+    TableOmission::Taken {
         program: 2,
         pid: 0x101,
         holder: 1,
     },
-    LeftOut::NoMap { program: 3 },
-    LeftOut::NoPes {
+    TableOmission::NoMap { program: 3 },
+    TableOmission::NoPes {
         program: 4,
         pid: 0x300,
         stream_type: 0x86,
     },
-    LeftOut::NoStream { program: 4 },
+    TableOmission::NoStream { program: 4 },
 ];
 
-const TABLES: [(u16, &[u8]); 8] = [
+static TABLES: [(u16, &[u8]); 8] = [
     (0, &NEXT_PAT),
     (0, &PAT),
     (0, &MORE),
@@ -107,7 +107,7 @@ const TABLES: [(u16, &[u8]); 8] = [
 ];
 
 // What is kept of them: two programs, the second with descriptors, and three streams.
-fn is_kept(programs: &Programs) -> bool {
+fn is_kept(programs: &FoundPrograms) -> bool {
     match (programs.programs.as_slice(), programs.streams.as_slice()) {
         ([_, second], [_, _, third]) => {
             second.descriptors.as_slice() == [0x80, 1, 7].as_slice()
@@ -119,19 +119,19 @@ fn is_kept(programs: &Programs) -> bool {
 }
 
 // Programs, and the packet from which on their maps change.
-const CHANGES: [(u16, u16, Option<u64>); 3] = [
+static CHANGES: [(u16, u16, Option<u64>); 3] = [
     (1, 0x1000, None),
     (2, 0x1001, Some(3)),
     (3, 0x1002, None),
 ];
 
 fn are_changes(findings: &[Finding<'_>]) -> bool {
-    for (program_number, pid, wanted) in CHANGES {
+    for (program_number, pid, wanted) in &CHANGES {
         let program = Program {
-            program_number,
-            pid,
+            program_number: *program_number,
+            pid: *pid,
         };
-        if map_change(program, findings) != wanted {
+        if map_change(program, findings) != *wanted {
             return false;
         }
     }
@@ -148,7 +148,7 @@ fn are_left_out(alloc: Global) -> Option<bool> {
     )
 }
 
-const NAMED: [Program; 4] = [
+static NAMED: [Program; 4] = [
     Program {
         program_number: 1,
         pid: 0x1000,
@@ -174,7 +174,7 @@ fn is_named_once(association: &Association) -> bool {
         && association.programs.as_slice() == NAMED.as_slice()
 }
 
-const ONCE: [(u16, &[u8]); 3] = [(0, &PMT), (0, &PAT), (0, &MORE)];
+static ONCE: [(u16, &[u8]); 3] = [(0, &PMT), (0, &PAT), (0, &MORE)];
 
 fn are_named_once(alloc: Global) -> Option<bool> {
     let findings = found(alloc, &ONCE).ok()?;
@@ -186,7 +186,7 @@ fn are_named_once(alloc: Global) -> Option<bool> {
     }
 }
 
-const UNNAMED: [(u16, &[u8]); 3] = [(0, &PMT), (0, &NEXT_PAT), (1, &PAT)];
+static UNNAMED: [(u16, &[u8]); 3] = [(0, &PMT), (0, &NEXT_PAT), (1, &PAT)];
 
 fn are_unnamed(alloc: Global) -> Option<bool> {
     let findings = found(alloc, &UNNAMED).ok()?;
@@ -216,7 +216,7 @@ fn has_service(findings: &[Finding<'_>]) -> bool {
     }
 }
 
-const SERVICES: [(u16, &[u8]); 3] = [(0x11, &PMT), (0x11, &SDT), (0x12, &SDT)];
+static SERVICES: [(u16, &[u8]); 3] = [(0x11, &PMT), (0x11, &SDT), (0x12, &SDT)];
 
 fn are_services(alloc: Global) -> bool {
     match found(alloc, &SERVICES) {
@@ -226,13 +226,13 @@ fn are_services(alloc: Global) -> bool {
 }
 
 // The program's map stays, and its clock gets a PID.
-const PLACE: Placed = Placed {
+const PLACE: ProgramPids = ProgramPids {
     map_pid: 0x1000,
     pcr_pid: 0x102,
 };
 
 fn is_placed(said: &StreamTables) -> bool {
-    match &said.places {
+    match &said.pids {
         Some(places) => places.as_slice() == [PLACE].as_slice(),
         None => false,
     }
@@ -253,7 +253,7 @@ fn is_said(said: &StreamTables) -> bool {
     said.transport_stream_id == 1 && said.version_number == 0 && is_placed(said) && is_served(said)
 }
 
-const ALL: [(u16, &[u8]); 3] = [(0x11, &SDT), (0x1000, &PMT), (0, &PAT)];
+static ALL: [(u16, &[u8]); 3] = [(0x11, &SDT), (0x1000, &PMT), (0, &PAT)];
 
 // All that the tables of ffmpeg's stream say.
 fn are_tables(alloc: Global) -> Option<bool> {

@@ -1,8 +1,8 @@
 //! Numbers from outside: worked examples and the ends of ranges.
 use clock27::{Pcr, Rate, Stamp33, byte_ticks, release_slot};
 
-/// Rates, and what a rate tells of itself, or the number of its refusal.
-const RATES: [(u64, u64); 6] = [
+/// Rates, and the rate in bits a second, or the number of its refusal.
+static RATES: [(u64, u64); 6] = [
     (0, 1),
     (99_999, 1),
     (100_000, 100_000),
@@ -11,15 +11,15 @@ const RATES: [(u64, u64); 6] = [
     (100_000_001, 1),
 ];
 
-fn told(bits_per_second: u64) -> u64 {
+fn rate_or_code(bits_per_second: u64) -> u64 {
     match Rate::new(bits_per_second) {
         Ok(rate) => rate.bits_per_second(),
         Err(refusal) => refusal.code() as u64,
     }
 }
 
-/// The reference of slot 1 is that of byte 198, `00 00 00 2F 7E EC`: its ticks, base and extension; the base of one that
-/// passed 2^33 - 1; stamps of 33 bits.
+/// The reference of slot 1 is that of byte 198, `00 00 00 2F 7E EC`: its ticks, base and extension; the base of one
+/// that passed 2^33 - 1; stamps of 33 bits.
 const NUMBERS: [u64; 8] = [28_436, 94, 236, 28_436, 28_436, 2, 8_589_934_591, 1_508];
 
 fn numbers(rate: Rate) -> [u64; 8] {
@@ -37,7 +37,7 @@ fn numbers(rate: Rate) -> [u64; 8] {
 }
 
 /// DTS, and the first slot of a unit 1,600 before it: at 1,504,000 bits a second a slot lasts 90 units of 90 kHz.
-const RELEASES: [(u64, Option<u64>); 5] = [
+static RELEASES: [(u64, Option<u64>); 5] = [
     (1_599, None),
     (1_600, Some(0)),
     (1_601, Some(1)),
@@ -46,19 +46,19 @@ const RELEASES: [(u64, Option<u64>); 5] = [
 ];
 
 #[test]
-fn rates_end_where_they_should(rt: HostRuntime) {
-    for (bits, answer) in RATES {
-        assert!(rt; told(bits) == answer);
+fn rates_in_range(rt: HostRuntime) {
+    for (bits, answer) in &RATES {
+        assert!(rt; rate_or_code(*bits) == *answer);
     }
 }
 
 #[test]
-fn a_rate_gives_its_clock(rt: HostRuntime) {
+fn worked_clock(rt: HostRuntime) {
     let Ok(rate) = Rate::new(1_504_000) else {
         return;
     };
     assert!(rt; numbers(rate) == NUMBERS);
-    for (dts, slot) in RELEASES {
-        assert!(rt; release_slot(rate, dts, 1_600) == slot);
+    for (dts, slot) in &RELEASES {
+        assert!(rt; release_slot(rate, *dts, 1_600) == *slot);
     }
 }

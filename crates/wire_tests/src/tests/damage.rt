@@ -1,4 +1,5 @@
-//! What the readers answer: refusals by hand, and each beginning and each changed byte of worked inputs, beside a plain reading.
+//! What the readers answer: refusals by hand, and each beginning and each changed byte of worked inputs, beside a plain
+//! reading.
 
 mod plain;
 mod readers;
@@ -11,8 +12,8 @@ use rows::{DAMAGED, LONG_TABLES, READERS, REFUSED, TABLES};
 
 #[test]
 fn bytes_are_refused(rt: HostRuntime) {
-    for (reader, bytes, wanted) in REFUSED {
-        assert!(rt; answer(reader, bytes) == wanted);
+    for (reader, bytes, wanted) in &REFUSED {
+        assert!(rt; answer(*reader, bytes) == *wanted);
     }
 }
 
@@ -24,28 +25,35 @@ fn code_of_bytes(reader: u8, bytes: &[u8]) -> u8 {
     }
 }
 
-/// Each reader refuses the sections of other tables.
+/// Whether each reader refuses the section of another table, and that of the table gives this number.
+fn are_refused(bytes: &[u8], code: u8) -> bool {
+    for reader in &READERS {
+        let wanted = if bytes.first() == Some(reader) {
+            code
+        } else {
+            4
+        };
+        if code_of_bytes(*reader, bytes) != wanted {
+            return false;
+        }
+    }
+    true
+}
+
 #[test]
 fn tables_are_refused(rt: HostRuntime) {
-    for (bytes, code) in TABLES {
-        for reader in READERS {
-            let wanted = if bytes.first() == Some(&reader) {
-                code
-            } else {
-                4
-            };
-            assert!(rt; code_of_bytes(reader, bytes) == wanted);
-        }
+    for (bytes, code) in &TABLES {
+        assert!(rt; are_refused(bytes, *code));
     }
 }
 
 /// Of two refusals at once a table is answered the first in the order Syntax, Length, Body.
 #[test]
 fn long_tables_are_refused(rt: HostRuntime) {
-    for (reader, size, code) in LONG_TABLES {
-        let mut section = section_over(reader, [0xff; 1013].get(..size).unwrap_or(&[]));
+    for (reader, size, code) in &LONG_TABLES {
+        let mut section = section_over(*reader, [0xff; 1013].get(..*size).unwrap_or(&[]));
         section.header.table_id = 0;
-        assert!(rt; table_code(reader, &section) == code);
+        assert!(rt; table_code(*reader, &section) == *code);
     }
 }
 
@@ -67,7 +75,7 @@ fn are_changes_plain(reader: u8, bytes: &mut [u8], at: usize) -> bool {
     true
 }
 
-/// Whether the bytes before a place are, and the first so many with the one there changed.
+/// Whether the bytes before `at` are, and the first `size` bytes with that one changed.
 fn is_plain_at(reader: u8, bytes: &[u8], size: usize, at: usize) -> bool {
     let mut changed = packet_of(bytes);
     match changed.get_mut(..size) {
@@ -79,12 +87,18 @@ fn is_plain_at(reader: u8, bytes: &[u8], size: usize, at: usize) -> bool {
     }
 }
 
+fn is_all_plain(reader: u8, bytes: &[u8], size: usize) -> bool {
+    for at in 0..size {
+        if !is_plain_at(reader, bytes, size, at) {
+            return false;
+        }
+    }
+    true
+}
+
 #[test]
 fn damage_is_answered(rt: HostRuntime) {
-    for (reader, bytes, from, size) in DAMAGED {
-        let bytes = bytes.get(from..).unwrap_or(&[]);
-        for at in 0..size {
-            assert!(rt; is_plain_at(reader, bytes, size, at));
-        }
+    for (reader, bytes, from, size) in &DAMAGED {
+        assert!(rt; is_all_plain(*reader, bytes.get(*from..).unwrap_or(&[]), *size));
     }
 }

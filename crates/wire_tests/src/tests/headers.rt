@@ -5,11 +5,11 @@ use pes_packet::{
     PesHeader, Stamps, fits_packet, greatest_size, has_flags, is_unit_id, read_header, write_header,
 };
 
-/// What stands before 2^33.
+/// A base shortly before 2^33.
 const BASE: u64 = 8_589_934_500;
 
 /// stream_id, size, PTS and DTS of units, and their headers: a DTS is written where the stamps differ on the wire.
-const WRITTEN: [(u8, usize, u64, u64, &[u8]); 3] = [
+static WRITTEN: [(u8, usize, u64, u64, &[u8]); 3] = [
     (192, 3, 90_000, 90_000, PTS_HEADER),
     (192, 576, BASE + 3_400, BASE + 1_600, PTS_DTS_HEADER),
     (
@@ -27,13 +27,13 @@ fn is_written(id: u8, size: usize, pts: u64, dts: u64, header: &[u8]) -> bool {
 
 #[test]
 fn headers_are_written(rt: HostRuntime) {
-    for (id, size, pts, dts, header) in WRITTEN {
-        assert!(rt; is_written(id, size, pts, dts, header));
+    for (id, size, pts, dts, header) in &WRITTEN {
+        assert!(rt; is_written(*id, *size, *pts, *dts, header));
     }
 }
 
-/// Headers, what they say, and their sizes.
-const READ: [(&[u8], PesHeader, usize); 3] = [
+/// Headers, their fields, and their sizes.
+static READ: [(&[u8], PesHeader, usize); 3] = [
     (
         PTS_HEADER,
         PesHeader {
@@ -68,14 +68,14 @@ const READ: [(&[u8], PesHeader, usize); 3] = [
 
 #[test]
 fn headers_are_read(rt: HostRuntime) {
-    for (bytes, header, size) in READ {
-        assert!(rt; read_header(bytes) == Ok((header, size)));
+    for (bytes, header, size) in &READ {
+        assert!(rt; read_header(bytes) == Ok((*header, *size)));
     }
 }
 
-/// stream_ids and sizes of units: whether units have this stream_id, whether flag bytes stand in its headers, whether a unit of
-/// that size may have it, and the greatest size.
-const IDS: [(u8, usize, [bool; 3], usize); 8] = [
+/// stream_ids and sizes of units: whether units have this stream_id, whether flag bytes stand in its headers, whether a
+/// unit of that size may have it, and the greatest size.
+static IDS: [(u8, usize, [bool; 3], usize); 9] = [
     (189, 1, [true, true, true], 65_522),
     (190, 1, [false, false, false], 65_522),
     (191, 1, [false, false, false], 65_522),
@@ -84,17 +84,19 @@ const IDS: [(u8, usize, [bool; 3], usize); 8] = [
     (223, 65_522, [true, true, true], 65_522),
     (224, 0, [true, true, false], 4_000_000),
     (239, 4_000_000, [true, true, true], 4_000_000),
+    (240, 1, [false, false, false], 65_522),
 ];
 
-fn answers(id: u8, size: usize) -> [bool; 3] {
-    [is_unit_id(id), has_flags(id), fits_packet(id, size)]
+fn answers(id: u8, size: usize) -> ([bool; 3], usize) {
+    (
+        [is_unit_id(id), has_flags(id), fits_packet(id, size)],
+        greatest_size(id),
+    )
 }
 
 #[test]
 fn stream_ids_are_known(rt: HostRuntime) {
-    for (id, size, wanted, greatest) in IDS {
-        assert!(rt; answers(id, size) == wanted);
-        assert!(rt; greatest_size(id) == greatest);
+    for (id, size, wanted, greatest) in &IDS {
+        assert!(rt; answers(*id, *size) == (*wanted, *greatest));
     }
-    assert!(rt; !is_unit_id(240));
 }

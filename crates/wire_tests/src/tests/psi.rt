@@ -1,11 +1,10 @@
 //! PAT and PMT.
 
 use super::sections::SINGLE;
-use super::vectors::{FFMPEG_SDT, ONE_STREAM, PAT, PMT, TWO_PROGRAMS};
+use super::vectors::{ONE_STREAM, PAT, PMT, TWO_PROGRAMS};
 use arrayvec::ArrayVec;
 use psi_tables::{
-    LongHeader, Pat, Pmt, Program, ProgramLoop, Programs, Section, SectionError, SectionHeader,
-    Stream, StreamLoop, Streams, WriteError, entry_at, is_whole_loop, table_header_at,
+    LongHeader, Pat, Pmt, Program, ProgramLoop, Section, Stream, StreamLoop, Streams, WriteError,
 };
 use std::alloc::Global;
 
@@ -61,46 +60,7 @@ fn pats_are_read_and_written(rt: HostRuntime) {
     let two = [Some(NETWORK), Some(FIRST), None];
     assert!(rt; programs_of(TWO_PROGRAMS) == Some((SINGLE, 2, two)));
     assert!(rt; is_pat_written(rt.alloc()));
-    assert!(rt; FIRST.text() == *b"\x00\x01\xf0\x00");
-}
-
-/// A PAT's section over this body.
-fn pat_over(body: &[u8]) -> Section<'_> {
-    Section {
-        header: SectionHeader {
-            table_id: 0,
-            private_indicator: false,
-            long: Some(SINGLE),
-        },
-        body,
-    }
-}
-
-/// The PAT whose reserved bits are 0 is written as that where they are 1.
-fn are_reserved_bits_written() -> bool {
-    let Ok(pat) = Pat::read(&pat_over(b"\x00\x01\x10\x00")) else {
-        return false;
-    };
-    let mut out = ArrayVec::new();
-    pat.header.version_number == 0 && pat.write_to(&mut out).is_ok() && out.as_slice() == PAT
-}
-
-/// How many programs a loop takes before it refuses one as too long.
-fn most_programs() -> usize {
-    let mut programs = ProgramLoop::new();
-    for _ in 0..1000 {
-        if programs.push(FIRST) == Err(SectionError::TooLong) {
-            return programs.programs().len();
-        }
-    }
-    0
-}
-
-#[test]
-fn pats_end_where_they_should(rt: HostRuntime) {
-    assert!(rt; are_reserved_bits_written());
-    assert!(rt; most_programs() == 253);
-    assert!(rt; table_header_at(0, 1021, &pat_over(&[0; 1012])) == Ok(SINGLE));
+    assert!(rt; FIRST.to_bytes() == *b"\x00\x01\xf0\x00");
 }
 
 /// What is read of a PMT before its streams.
@@ -109,7 +69,7 @@ fn has_head(pmt: &Pmt<'_>) -> bool {
         pmt.header == SINGLE,
         pmt.pcr_pid == 0x100,
         pmt.program_info.is_empty(),
-        pmt.streams.text_length() == 16,
+        pmt.streams.byte_length() == 16,
     ] == [true; 4]
 }
 
@@ -161,66 +121,8 @@ fn is_pmt_written(alloc: Global) -> bool {
     answers == [Ok(()); 2] && are_written(&out, pmt.write(alloc), ONE_STREAM)
 }
 
-/// What a loop of streams answers to one with these descriptors, and a PMT of that loop to its writing.
-fn one_stream(descriptors: &[u8]) -> [Result<(), SectionError>; 2] {
-    let mut streams = StreamLoop::new();
-    let taken = streams.push(&Stream {
-        stream_type: 6,
-        elementary_pid: 32,
-        descriptors,
-    });
-    let pmt = Pmt {
-        header: SINGLE,
-        pcr_pid: 32,
-        program_info: &[],
-        streams: streams.streams(),
-    };
-    [taken, pmt.write_to(&mut ArrayVec::new())]
-}
-
 #[test]
 fn pmts_are_read_and_written(rt: HostRuntime) {
     assert!(rt; is_the_pmt_read());
     assert!(rt; is_pmt_written(rt.alloc()));
-    let too_long = Err(SectionError::TooLong);
-    assert!(rt; one_stream(&[0; 1008]) == [too_long, Ok(())]);
-    assert!(rt; one_stream(&[0; 1007]) == [Ok(()), too_long]);
-}
-
-/// Whether the SDT's loop is one service with 20 bytes of descriptors.
-fn is_one_service(services: &[u8]) -> bool {
-    match entry_at(5, services) {
-        Some((service, after)) => {
-            let sizes = [service.descriptors.len(), after.len()];
-            sizes == [20, 0] && service.head == b"\x00\x01\xfc\x80\x14".as_slice()
-        }
-        None => false,
-    }
-}
-
-/// Whether no bytes are no streams.
-fn is_without_streams() -> bool {
-    let none: &[u8] = &[];
-    is_whole_loop(5, none) && Streams::whole(none).next().is_none()
-}
-
-fn part(bytes: &[u8], from: usize, to: usize) -> &[u8] {
-    bytes.get(from..to).unwrap_or(&[])
-}
-
-#[test]
-fn entries_are_taken(rt: HostRuntime) {
-    let services = part(FFMPEG_SDT, 11, 36);
-    let streams = part(PMT, 12, 28);
-    let answers = [
-        is_one_service(services),
-        is_whole_loop(5, services),
-        !is_whole_loop(5, part(FFMPEG_SDT, 11, 35)),
-        Streams::read(streams).is_ok(),
-        Streams::read(part(PMT, 12, 27)).err() == Some(SectionError::Body),
-        is_without_streams(),
-        Programs::over(part(PAT, 8, 12)).len() == 1,
-        Programs::over(part(PAT, 8, 11)).is_empty(),
-    ];
-    assert!(rt; answers == [true; 8]);
 }

@@ -3,15 +3,12 @@
 use super::vectors::{FFMPEG_SDT, PAT, PMT, TDT};
 use arrayvec::ArrayVec;
 use bit_fields::append;
-use psi_tables::{
-    LongHeader, Section, SectionError, SectionHeader, WriteError, begin_section, check_word,
-    end_section, to_vec,
-};
+use psi_tables::{LongHeader, Section, SectionError, SectionHeader, WriteError, check_word};
 use std::alloc::Global;
 use std::test::Fail;
 
 /// Bytes with their check words.
-const CHECKED: [(&[u8], u32); 6] = [
+static CHECKED: [(&[u8], u32); 6] = [
     (b"123456789", 0x0376_e6e7),
     (b"", 0xffff_ffff),
     (
@@ -25,8 +22,8 @@ const CHECKED: [(&[u8], u32); 6] = [
 
 #[test]
 fn check_words(rt: HostRuntime) {
-    for (bytes, word) in CHECKED {
-        assert!(rt; check_word(bytes) == word);
+    for (bytes, word) in &CHECKED {
+        assert!(rt; check_word(bytes) == *word);
     }
 }
 
@@ -63,7 +60,7 @@ const TDT_HEADER: SectionHeader = SectionHeader {
 };
 
 /// Sections, their headers, where their bodies begin and end.
-const READ: [(&[u8], SectionHeader, usize, usize); 4] = [
+static READ: [(&[u8], SectionHeader, usize, usize); 4] = [
     (PAT, PAT_HEADER, 8, 12),
     (PMT, PMT_HEADER, 8, 28),
     (FFMPEG_SDT, SDT_HEADER, 8, 36),
@@ -95,16 +92,16 @@ fn is_read(
 
 #[test]
 fn sections_are_read(rt: HostRuntime) -> Result<(), Fail> {
-    for (bytes, header, from, to) in READ {
-        let body = bytes.get(from..to).unwrap_or(&[]);
-        assert!(rt; is_read(rt.alloc(), bytes, header, body)?);
+    for (bytes, header, from, to) in &READ {
+        let body = bytes.get(*from..*to).unwrap_or(&[]);
+        assert!(rt; is_read(rt.alloc(), bytes, *header, body)?);
     }
     Ok(())
 }
 
-/// Sizes of bodies of the short form, the number of the refusal, and what is left in an output that held three bytes: 4,093
-/// are the most.
-const LONG_BODIES: [(usize, u8, usize); 2] = [(4093, 0, 4096), (4094, 6, 3)];
+/// Sizes of bodies of the short form, the number of the refusal, and what is in an output that had three bytes:
+/// 4,093 are the most.
+static LONG_BODIES: [(usize, u8, usize); 2] = [(4093, 0, 4096), (4094, 6, 3)];
 
 fn written(body: &[u8]) -> (u8, usize) {
     let section = Section {
@@ -123,8 +120,8 @@ fn written(body: &[u8]) -> (u8, usize) {
 #[test]
 fn long_bodies_are_refused(rt: HostRuntime) -> Result<(), Fail> {
     let bytes = vec![in rt.alloc(); 0_u8; 4094]?;
-    for (size, code, left) in LONG_BODIES {
-        assert!(rt; written(bytes.get(..size).unwrap_or(&[])) == (code, left));
+    for (size, code, left) in &LONG_BODIES {
+        assert!(rt; written(bytes.get(..*size).unwrap_or(&[])) == (*code, *left));
     }
     let section = Section {
         header: TDT_HEADER,
@@ -132,22 +129,5 @@ fn long_bodies_are_refused(rt: HostRuntime) -> Result<(), Fail> {
     };
     let refused = Some(WriteError::Refused(SectionError::TooLong));
     assert!(rt; section.write(rt.alloc()).err() == refused);
-    Ok(())
-}
-
-/// The PAT by its parts.
-fn by_parts() -> ArrayVec<u8, 4096> {
-    let mut out = ArrayVec::new();
-    begin_section(&mut out, PAT_HEADER, 4);
-    append(&mut out, b"\x00\x01\xf0\x00");
-    end_section(&mut out, PAT_HEADER);
-    out
-}
-
-#[test]
-fn sections_are_written_by_parts(rt: HostRuntime) -> Result<(), Fail> {
-    assert!(rt; LongHeader::single(1, 0) == SINGLE);
-    assert!(rt; by_parts().as_slice() == PAT);
-    assert!(rt; to_vec(rt.alloc(), PAT)?.as_slice() == PAT);
     Ok(())
 }

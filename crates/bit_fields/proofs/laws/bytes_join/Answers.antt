@@ -1,4 +1,4 @@
-use Rattle.bit_fields.proofs.Spellings.{bytes_join}
+use Rattle.bit_fields.proofs.Fields.{bytes_join}
 use Rattle.bit_fields.proofs.laws.bytes_join.Goals as goal
 
 pub returns : goal.returns

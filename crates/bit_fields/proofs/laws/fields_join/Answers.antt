@@ -1,4 +1,4 @@
-use Rattle.bit_fields.proofs.Spellings.{fields_join}
+use Rattle.bit_fields.proofs.Fields.{fields_join}
 use Rattle.bit_fields.proofs.laws.fields_join.Goals as goal
 
 pub returns : goal.returns

@@ -1,4 +1,4 @@
-use Rattle.clock27.proofs.Leaving.{departures-append, last_left-append, length-departures, rising, earliest}
+use Rattle.clock27.proofs.Departures.{departures-append, last_left-append, length-departures, rising, earliest}
 use Rattle.clock27.proofs.laws.departures.Goals as goal
 
 pub returns-clause-appended : goal.returns-clause-appended

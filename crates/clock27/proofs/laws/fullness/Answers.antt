@@ -1,4 +1,4 @@
-use Rattle.clock27.proofs.Holding.{fullness-append, fullness_le, fullness_before, fullness_after, room_law}
+use Rattle.clock27.proofs.Fullness.{fullness-append, fullness_le, fullness_before, fullness_after, room_law}
 use Rattle.clock27.proofs.laws.fullness.Goals as goal
 
 pub returns-clause-appended : goal.returns-clause-appended

@@ -1,4 +1,4 @@
-use Rattle.clock27.proofs.Leaving.{last_packet, row}
+use Rattle.clock27.proofs.Departures.{last_packet, row}
 use Rattle.clock27.proofs.laws.packet.Goals as goal
 
 pub returns-clause-last : goal.returns-clause-last

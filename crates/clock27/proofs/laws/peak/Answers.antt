@@ -1,4 +1,4 @@
-use Rattle.clock27.proofs.Peaking.{peak_law, arrivals_climb, departures_climb}
+use Rattle.clock27.proofs.Peak.{peak_law, arrivals_climb, departures_climb}
 use Rattle.clock27.proofs.laws.peak.Goals as goal
 
 pub returns-clause-fullness : goal.returns-clause-fullness

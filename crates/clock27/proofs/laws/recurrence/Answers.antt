@@ -1,4 +1,4 @@
-use Rattle.clock27.proofs.Scaling.{limit_law}
+use Rattle.clock27.proofs.Scale.{limit_law}
 use Rattle.clock27.proofs.laws.recurrence.Goals as goal
 
 pub returns : goal.returns

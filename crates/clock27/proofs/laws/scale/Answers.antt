@@ -1,4 +1,4 @@
-use Rattle.clock27.proofs.Scaling.{departures-scale, arrivals-scale, fullness-scale}
+use Rattle.clock27.proofs.Scale.{departures-scale, arrivals-scale, fullness-scale}
 use Rattle.clock27.proofs.laws.scale.Goals as goal
 
 pub returns-clause-departures : goal.returns-clause-departures

@@ -1,4 +1,4 @@
-use Rattle.clock27.proofs.Pairing.{tandem_law, second_law}
+use Rattle.clock27.proofs.Tandem.{tandem_law, second_law}
 use Rattle.clock27.proofs.laws.tandem.Goals as goal
 
 pub returns-clause-departures : goal.returns-clause-departures

@@ -1,4 +1,4 @@
-use Rattle.demux.proofs.TakenAway.{pid_found_so_far}
+use Rattle.demux.proofs.FoundSoFar.{pid_found_so_far}
 use Rattle.demux.proofs.laws.each_pid_so_far.Goals as goal
 
 pub returns : goal.returns

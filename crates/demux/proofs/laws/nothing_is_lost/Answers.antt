@@ -1,4 +1,4 @@
-use Rattle.demux.proofs.TakenAway.{all_are_found, nothing_at_first, packet_adds, packets_add, piece_adds}
+use Rattle.demux.proofs.FoundSoFar.{all_are_found, nothing_at_first, packet_adds, packets_add, piece_adds}
 use Rattle.demux.proofs.laws.nothing_is_lost.Goals as goal
 
 pub returns-clause-at_first : goal.returns-clause-at_first

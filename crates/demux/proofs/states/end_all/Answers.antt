@@ -1,6 +1,6 @@
 use Rattle.std.proofs.Common.{◌+◌, ◌≤◌, length, inl, inr, arith, add-one}
 use Rattle.std.proofs.lemmas.Option.{slice_get_cases}
-use Rattle.demux.proofs.Ending.{ended_more, ended_none}
+use Rattle.demux.proofs.StreamEnd.{ended_more, ended_none}
 use Rattle.demux.proofs.states.end_all.Goals as goal
 
 pub loop-i-preserved : goal.loop-i-preserved

@@ -1,7 +1,7 @@
 use Rattle.std.proofs.Common.{◌≡◌, Err, arith, rules}
 use Rattle.pes_packet.specs.Reading.{header_at}
 use Rattle.pes_packet.specs.declared.refusal.PesError.TheVariants as errors
-use Rattle.demux.proofs.Bounding.{header_bound}
+use Rattle.demux.proofs.ShortReads.{header_bound}
 use Rattle.demux.proofs.verdicts.decide_pes.Goals as goal
 
 pub returns-in-Err-Short-clause-bounded : goal.returns-in-Err-Short-clause-bounded

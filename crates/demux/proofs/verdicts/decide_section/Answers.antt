@@ -1,7 +1,7 @@
 use Rattle.std.proofs.Common.{◌≡◌, Err, arith, rules}
 use Rattle.psi_tables.specs.Reading.{section_at}
 use Rattle.psi_tables.specs.declared.error.SectionError.TheVariants as errors
-use Rattle.demux.proofs.Bounding.{section_bound}
+use Rattle.demux.proofs.ShortReads.{section_bound}
 use Rattle.demux.proofs.verdicts.decide_section.Goals as goal
 
 pub returns-in-Err-Short-clause-bounded : goal.returns-in-Err-Short-clause-bounded

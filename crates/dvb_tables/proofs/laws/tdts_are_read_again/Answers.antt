@@ -1,4 +1,4 @@
-use Rattle.dvb_tables.proofs.Written.{tdt_written}
+use Rattle.dvb_tables.proofs.TablesWritten.{tdt_written}
 use Rattle.dvb_tables.proofs.laws.tdts_are_read_again.Goals as goal
 
 pub returns : goal.returns

@@ -1,4 +1,4 @@
-use Rattle.dvb_tables.proofs.Written.{texts_are_decoded}
+use Rattle.dvb_tables.proofs.TablesWritten.{texts_are_decoded}
 use Rattle.dvb_tables.proofs.laws.texts_are_decoded.Goals as goal
 
 pub returns : goal.returns

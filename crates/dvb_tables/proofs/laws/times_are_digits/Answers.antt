@@ -1,4 +1,4 @@
-use Rattle.dvb_tables.proofs.Written.{times_are_digits}
+use Rattle.dvb_tables.proofs.TablesWritten.{times_are_digits}
 use Rattle.dvb_tables.proofs.laws.times_are_digits.Goals as goal
 
 pub returns : goal.returns

@@ -1,4 +1,4 @@
-use Rattle.job_text.proofs.Reading.{texts_are_read}
+use Rattle.job_text.proofs.DocumentTexts.{texts_are_read}
 use Rattle.job_text.proofs.laws.texts_are_read.Goals as goal
 
 pub returns : goal.returns

@@ -1,4 +1,4 @@
-use Rattle.monitor.proofs.Recurring.{gaps_of_each_pid}
+use Rattle.monitor.proofs.LatePlaces.{gaps_of_each_pid}
 use Rattle.monitor.proofs.laws.gaps_of_each_pid.Goals as goal
 
 pub returns : goal.returns

@@ -1,4 +1,4 @@
-use Rattle.monitor.proofs.Reporting.{packet_by_packet}
+use Rattle.monitor.proofs.StreamReport.{packet_by_packet}
 use Rattle.monitor.proofs.laws.packet_by_packet.Goals as goal
 
 pub returns : goal.returns

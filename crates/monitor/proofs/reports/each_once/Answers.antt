@@ -1,4 +1,4 @@
-use Rattle.monitor.proofs.Tied.{tied}
+use Rattle.monitor.proofs.Ties.{tied}
 use Rattle.std.proofs.lemmas.List.Filters.{dedup_is}
 use Rattle.std.proofs.lemmas.List.Kept.{Any-dedup, Contains-from_dedup, IsStrictlySortedBy-dedup}
 use Rattle.std.proofs.lemmas.List.Sorted.{Contains-permutation, IsPermutation-sym}

@@ -1,4 +1,4 @@
-use Rattle.monitor.proofs.Rising.{sorted_is_in_order}
+use Rattle.monitor.proofs.RisingLists.{sorted_is_in_order}
 use Rattle.monitor.proofs.reports.in_order.Goals as goal
 
 pub returns : goal.returns

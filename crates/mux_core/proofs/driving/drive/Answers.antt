@@ -2,7 +2,7 @@ use Rattle.std.proofs.Common.{◌≡◌, ◌∷◌, [], ℕ, List, length, map, 
 use Rattle.mux_core.specs.Histories.{bytes_of}
 use Rattle.mux_core.specs.Headline.{Headline}
 use Rattle.mux_core.specs.declared.driving.Event.{Event}
-use Rattle.mux_core.specs.Driving.{Step, FeedStep, SlotStep, shown, history_after, Adds, StandsOn}
+use Rattle.mux_core.specs.Events.{Step, FeedStep, SlotStep, shown, history_after, Adds, StandsOn}
 use Rattle.mux_core.proofs.EventSteps.{Driven, driven_none, driven_more, driven_unit, driven_stands, driven_adds, driven_headline}
 use Rattle.mux_core.proofs.driving.drive.Goals as goal
 
@@ -26,7 +26,7 @@ events-preserved-in-Feed g c =
           (c.events.invariant.driven h st) in
           let on = c.take_unit.ensures w.so_far w.stands.stands in
           driven_more h c.args.mux.now c.events.mux c.take_unit.new.mux (map (shown {A = g.row.A.Denot}) c.from-left.result.items) left (FeedStep c.in-Feed.stream c.in-Feed.unit)
-          c.args.out.now.items c.events.out.items c.events.out.items w on.0 (driven_unit c.events.mux.line w.so_far _ c.events.out.items on.1);
+          c.args.out.now.items c.events.out.items c.events.out.items w on.0 (driven_unit c.events.mux.schedule w.so_far _ c.events.out.items on.1);
     }
 
 pub events-preserved : goal.events-preserved
@@ -46,19 +46,19 @@ events-preserved g c =
 pub returns-clause-stands : goal.returns-clause-stands
 returns-clause-stands g c = λ h st.
     let none : c.events.left.items ≡ [] = search rules in
-    subst (λ (l : List (Event g.row.A.Denot)). StandsOn (history_after c.args.mux.now.line c.args.mux.now.capacity h (map (shown {A = g.row.A.Denot}) l)) c.args.mux.now c.events.mux) c.from-left.ensures.0
+    subst (λ (l : List (Event g.row.A.Denot)). StandsOn (history_after c.args.mux.now.schedule c.args.mux.now.capacity h (map (shown {A = g.row.A.Denot}) l)) c.args.mux.now c.events.mux) c.from-left.ensures.0
     (driven_stands h c.args.mux.now c.events.mux _ _ _ _ (c.events.invariant.driven h st) (ap (map (shown {A = g.row.A.Denot})) none))
 
 pub returns-clause-written : goal.returns-clause-written
 returns-clause-written g c = λ h st.
     let none : c.events.left.items ≡ [] = search rules in
-    subst (λ (l : List (Event g.row.A.Denot)). Adds c.args.mux.now.line h (history_after c.args.mux.now.line c.args.mux.now.capacity h (map (shown {A = g.row.A.Denot}) l)) c.args.out.now.items c.events.out.items) c.from-left.ensures.0
+    subst (λ (l : List (Event g.row.A.Denot)). Adds c.args.mux.now.schedule h (history_after c.args.mux.now.schedule c.args.mux.now.capacity h (map (shown {A = g.row.A.Denot}) l)) c.args.out.now.items c.events.out.items) c.from-left.ensures.0
     (driven_adds h c.args.mux.now c.events.mux _ _ _ _ (c.events.invariant.driven h st) (ap (map (shown {A = g.row.A.Denot})) none))
 
 pub returns-clause-headline : goal.returns-clause-headline
 returns-clause-headline g c = λ h st.
     let none : c.events.left.items ≡ [] = search rules in
-    subst (λ (l : List (Event g.row.A.Denot)). Headline c.args.mux.now.line (history_after c.args.mux.now.line c.args.mux.now.capacity h (map (shown {A = g.row.A.Denot}) l)).units
-    (history_after c.args.mux.now.line c.args.mux.now.capacity h (map (shown {A = g.row.A.Denot}) l)).slots
-    (bytes_of c.args.mux.now.line (history_after c.args.mux.now.line c.args.mux.now.capacity h (map (shown {A = g.row.A.Denot}) l)))) c.from-left.ensures.0
-    (driven_headline h c.args.mux.now c.events.mux _ _ _ _ c.keeps_ranges.ensures c.promises.ensures (c.events.invariant.driven h st) (ap (map (shown {A = g.row.A.Denot})) none))
+    subst (λ (l : List (Event g.row.A.Denot)). Headline c.args.mux.now.schedule (history_after c.args.mux.now.schedule c.args.mux.now.capacity h (map (shown {A = g.row.A.Denot}) l)).units
+    (history_after c.args.mux.now.schedule c.args.mux.now.capacity h (map (shown {A = g.row.A.Denot}) l)).slots
+    (bytes_of c.args.mux.now.schedule (history_after c.args.mux.now.schedule c.args.mux.now.capacity h (map (shown {A = g.row.A.Denot}) l)))) c.from-left.ensures.0
+    (driven_headline h c.args.mux.now c.events.mux _ _ _ _ c.keeps_promises.ensures.ranges c.keeps_promises.ensures.promised (c.events.invariant.driven h st) (ap (map (shown {A = g.row.A.Denot})) none))

@@ -1,8 +1,8 @@
 use Rattle.std.proofs.Common.{◌≤◌, ◌+◌, ◌*◌, length, map}
 use Rattle.std.specs.Vec.{vec_len, vec_capacity}
 use Rattle.mux_core.specs.Histories.{History}
-use Rattle.mux_core.specs.Standing.{Stands}
-use Rattle.mux_core.specs.Driving.{shown}
+use Rattle.mux_core.specs.MuxStates.{Stands}
+use Rattle.mux_core.specs.Events.{shown}
 use Rattle.mux_core.proofs.EventSteps.{Driven}
 use Rattle.mux_core.proofs.driving.drive.Given as goal
 

@@ -1,6 +1,6 @@
 use Rattle.mux_core.proofs.laws.switch_deadlines.Goals as goal
 use Rattle.slot_plan.specs.Schedule.{switched}
-use Rattle.mux_core.proofs.Promising.{units_arrive}
+use Rattle.mux_core.proofs.PlanPromises.{units_arrive}
 
 pub returns : goal.returns
 returns c = λ d first second periods ranges serving switchable.

@@ -1,6 +1,6 @@
 use Rattle.mux_core.proofs.laws.switch_gaps.Goals as goal
 use Rattle.slot_plan.specs.Schedule.{switched}
-use Rattle.mux_core.proofs.Promising.{pcrs_recur, sections_recur}
+use Rattle.mux_core.proofs.PlanPromises.{pcrs_recur, sections_recur}
 
 pub returns-clause-pcrs : goal.returns-clause-pcrs
 returns-clause-pcrs c = λ d first second periods ranges serving switchable.

@@ -1,6 +1,6 @@
 use Rattle.mux_core.proofs.laws.switch_work.Goals as goal
 use Rattle.slot_plan.specs.Schedule.{switched}
-use Rattle.mux_core.proofs.Promising.{transport_fits, system_fits}
+use Rattle.mux_core.proofs.PlanPromises.{transport_fits, system_fits}
 
 pub returns-clause-streams : goal.returns-clause-streams
 returns-clause-streams c = λ d first second periods ranges serving switchable.

@@ -1,5 +1,5 @@
 use Rattle.std.proofs.Common.{◌≡◌, map, take}
-use Rattle.mux_core.specs.Making.{first_queue}
+use Rattle.mux_core.specs.NewMux.{first_queue}
 use Rattle.mux_core.proofs.making.first_queues.Given as goal
 
 abbrev pub invariant-loop-stream : goal.invariant-loop-stream

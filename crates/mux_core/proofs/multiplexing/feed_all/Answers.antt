@@ -1,6 +1,6 @@
 use Rattle.std.proofs.Common.{◌≡◌, [], ℕ, List, length, sym, ap, ◌∙◌, subst, arith, rules}
 use Rattle.pes_packet.specs.AccessUnits.{AccessUnit}
-use Rattle.mux_core.specs.Multiplexing.{job_history, first_refused, AllFed}
+use Rattle.mux_core.specs.WholeJobs.{job_history, first_refused, AllFed}
 use Rattle.mux_core.proofs.JobFeeding.{FedSoFar, fed_more, fed_refused, fed_all}
 use Rattle.mux_core.proofs.multiplexing.feed_all.Goals as goal
 
@@ -17,7 +17,7 @@ pub returns-in-Err : goal.returns-in-Err
 returns-in-Err g c = record {
   fed = λ st.
       let w = subst (λ (l : List (ℕ × AccessUnit)). FedSoFar c.args.mux.now c.from-left.result.items c.units.mux c.units.index l) c.in-Some.ensures.items (c.units.invariant.fed st) in
-      ap (λ (l : List (ℕ × AccessUnit)). first_refused c.args.mux.now.line c.args.mux.now.capacity [] l) (sym c.from-left.ensures.0)
+      ap (λ (l : List (ℕ × AccessUnit)). first_refused c.args.mux.now.schedule c.args.mux.now.capacity [] l) (sym c.from-left.ensures.0)
       ∙ fed_refused c.args.mux.now c.units.mux c.from-left.result.items c.units.index (c.in-Some.stream, c.in-Some.unit) c.pop_front.new.self.items c.in-Err.cause c.feed.new.self w
       (c.in-Err.ensures.takes (job_history w.fed 0) w.stands);
 }

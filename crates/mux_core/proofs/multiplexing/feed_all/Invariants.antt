@@ -1,6 +1,6 @@
 use Rattle.std.proofs.Common.{◌+◌, ◌≤◌, ◌^◌, length}
 use Rattle.mux_core.specs.Histories.{empty_history}
-use Rattle.mux_core.specs.Standing.{Stands}
+use Rattle.mux_core.specs.MuxStates.{Stands}
 use Rattle.mux_core.proofs.JobFeeding.{FedSoFar}
 use Rattle.mux_core.proofs.multiplexing.feed_all.Given as goal
 

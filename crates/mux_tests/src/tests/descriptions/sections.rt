@@ -5,7 +5,7 @@ pub type Section = (usize, usize, u64, &'static [u8]);
 
 const START: u64 = 750_516_300;
 
-pub const SECTIONS: [Section; 8] = [
+pub static SECTIONS: [Section; 8] = [
     // PAT, PMT, NIT and SDT.
     (
         0,
@@ -36,7 +36,8 @@ pub const SECTIONS: [Section; 8] = [
         4,
         0,
         START,
-        b"\x4e\xf0\x26\x00\x01\xc3\x00\x01\x00\x01\x00\x01\x01\x4e\x00\x07\xc0\x79\x12\x45\x00\x01\x30\x00\x80\x0b\x4d\x09eng\x04News\x00\x14\xde\x09\x07",
+        b"\x4e\xf0\x26\x00\x01\xc3\x00\x01\x00\x01\x00\x01\x01\x4e\
+          \x00\x07\xc0\x79\x12\x45\x00\x01\x30\x00\x80\x0b\x4d\x09eng\x04News\x00\x14\xde\x09\x07",
     ),
     (
         4,

@@ -1,8 +1,8 @@
-//! Jobs of the small service, what they answer, and parts of what is written.
+//! Jobs of the small service, their answers, and parts of their output.
 
 use super::Job;
-use crate::tests::services::{ONE, PATIENT, SMALL, Series, WIDE};
-use mux_core::{FeedError, MuxError};
+use crate::tests::services::{ONE, PATIENT, SMALL, WIDE};
+use mux_core::MuxError;
 
 /// A unit of 576 bytes in 18 slots.
 pub const SINGLE: Job = Job {
@@ -20,8 +20,11 @@ pub const DOUBLE: Job = Job {
     ..SINGLE
 };
 
+/// No slots.
+pub const EMPTY: Job = Job { slots: 0, ..SINGLE };
+
 /// Two periods without a unit.
-pub const QUIET: Job = Job {
+const QUIET: Job = Job {
     sources: &[],
     slots: 240,
     ..SINGLE
@@ -34,72 +37,27 @@ const TURNED: Job = Job {
     ..QUIET
 };
 
-/// PIDs, and the packets on each in two periods without a unit.
-pub const PIDS: [(u16, usize); 9] = [
-    (8191, 218),
-    (257, 10),
-    (0, 2),
-    (4096, 2),
-    (17, 2),
-    (16, 2),
-    (18, 2),
-    (20, 2),
-    (256, 0),
-];
-
-const LARGE: Series = Series {
-    sizes: [577; 4],
-    ..ONE
-};
-
-const EARLY: Series = Series {
-    first: 1_599,
-    ..ONE
-};
-
-const OF_NONE: Series = Series { stream: 1, ..ONE };
-
-/// Why the first unit is refused.
-const TOO_LARGE: MuxError = MuxError::Feed {
-    index: 0,
-    cause: FeedError::TooLarge,
-};
-
-const LATE: MuxError = MuxError::Feed {
-    index: 0,
-    cause: FeedError::Late,
-};
-
-const UNKNOWN: MuxError = MuxError::Feed {
-    index: 0,
-    cause: FeedError::UnknownStream,
-};
-
-/// A job, its answer, places of the output and the bytes that stand there.
+/// A job, its answer, offsets of the output and the bytes there.
 type Row = (
     Job,
     Result<u64, MuxError>,
     &'static [(usize, &'static [u8])],
 );
 
-/// Each cause is tested before those after it; the numbers of a job are tested before its units.
-pub const JOBS: [Row; 13] = [
-    (QUIET, Ok(45_120), &[]),
+/// A row for each call.
+pub static JOBS: [Row; 4] = [
     (
         SINGLE,
         Ok(3_384),
         &[
             (
                 0,
-                &[
-                    0x47, 0x41, 0x00, 0x10, 0x00, 0x00, 0x01, 0xc0, 0x02, 0x48, 0x80, 0x80, 0x05,
-                    0x21, 0x00, 0x01, 0x0c, 0x81, 0xa5,
-                ],
+                b"\x47\x41\x00\x10\x00\x00\x01\xc0\x02\x48\x80\x80\x05\x21\x00\x01\x0c\x81\xa5",
             ),
-            (4 * 188, &[0x47, 0x01, 0x00, 0x11, 0xa5]),
-            (8 * 188, &[0x47, 0x01, 0x00, 0x12, 0xa5]),
-            (12 * 188, &[0x47, 0x01, 0x00, 0x33, 0x91, 0x00, 0xff]),
-            (16 * 188, &[0x47, 0x1f, 0xff, 0x10, 0xff]),
+            (4 * 188, b"\x47\x01\x00\x11\xa5"),
+            (8 * 188, b"\x47\x01\x00\x12\xa5"),
+            (12 * 188, b"\x47\x01\x00\x33\x91\x00\xff"),
+            (16 * 188, b"\x47\x1f\xff\x10\xff"),
         ],
     ),
     (
@@ -119,18 +77,11 @@ pub const JOBS: [Row; 13] = [
         TURNED,
         Ok(45_120),
         &[
-            (
-                188,
-                &[
-                    0x47, 0x01, 0x01, 0x2f, 0xb7, 0x10, 0x00, 0x00, 0x00, 0x2f, 0x7e, 0xec, 0xff,
-                ],
-            ),
-            (121 * 188, &[0x47, 0x1f, 0xff, 0x10]),
+            (188, b"\x47\x01\x01\x2f\xb7\x10\x00\x00\x00\x2f\x7e\xec\xff"),
+            (121 * 188, b"\x47\x1f\xff\x10"),
             (
                 122 * 188,
-                &[
-                    0x47, 0x01, 0x01, 0x2f, 0xb7, 0x10, 0x00, 0x00, 0x15, 0x74, 0x7e, 0xec, 0xff,
-                ],
+                b"\x47\x01\x01\x2f\xb7\x10\x00\x00\x15\x74\x7e\xec\xff",
             ),
         ],
     ),
@@ -142,79 +93,5 @@ pub const JOBS: [Row; 13] = [
         },
         Ok(46_371),
         &[(122 * 377, b"4701012fb710000015747eecff"), (46_370, b"\n")],
-    ),
-    (
-        Job {
-            sources: &[LARGE],
-            slots: (1 << 40) + 1,
-            ..SINGLE
-        },
-        Err(MuxError::TooManySlots),
-        &[],
-    ),
-    (
-        Job {
-            sources: &[LARGE],
-            slots: 1 << 40,
-            ..SINGLE
-        },
-        Err(TOO_LARGE),
-        &[],
-    ),
-    (
-        Job {
-            sources: &[EARLY],
-            ..SINGLE
-        },
-        Err(LATE),
-        &[],
-    ),
-    (
-        Job {
-            sources: &[OF_NONE],
-            ..SINGLE
-        },
-        Err(UNKNOWN),
-        &[],
-    ),
-    (
-        Job {
-            sources: &[OF_NONE],
-            periods: Some(0),
-            slots: (1 << 40) + 1,
-            ..TURNED
-        },
-        Err(MuxError::TooManySlots),
-        &[],
-    ),
-    (
-        Job {
-            sources: &[OF_NONE],
-            periods: Some(0),
-            slots: 18,
-            ..TURNED
-        },
-        Err(MuxError::Periods),
-        &[],
-    ),
-    (
-        Job {
-            sources: &[OF_NONE],
-            periods: Some(9_162_596_899),
-            slots: 18,
-            ..TURNED
-        },
-        Err(MuxError::Periods),
-        &[],
-    ),
-    (
-        Job {
-            sources: &[OF_NONE],
-            periods: Some(9_162_596_898),
-            slots: 18,
-            ..TURNED
-        },
-        Err(UNKNOWN),
-        &[],
     ),
 ];

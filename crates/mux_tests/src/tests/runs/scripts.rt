@@ -28,55 +28,38 @@ const SECOND: Step = Feed(0, 576, 3_760, 3_760, None);
 const SLOTS: [Step; 21] = [
     FIRST,
     Until(1),
-    Carries(
-        0,
-        &[
-            0x47, 0x41, 0x00, 0x10, 0x00, 0x00, 0x01, 0xc0, 0x02, 0x48, 0x80, 0x80,
-        ],
-    ),
+    Carries(0, b"\x47\x41\x00\x10\x00\x00\x01\xc0\x02\x48\x80\x80"),
     // A clock reference.
     Until(2),
-    Carries(
-        0,
-        &[
-            0x47, 0x01, 0x01, 0x2f, 0xb7, 0x10, 0x00, 0x00, 0x00, 0x2f, 0x7e, 0xec, 0xff,
-        ],
-    ),
+    Carries(0, b"\x47\x01\x01\x2f\xb7\x10\x00\x00\x00\x2f\x7e\xec\xff"),
     Until(5),
-    Carries(0, &[0x47, 0x01, 0x00, 0x11, 0xa5]),
+    Carries(0, b"\x47\x01\x00\x11\xa5"),
     // The present event.
     Until(8),
     Carries(
         5,
-        &[
-            0x4e, 0xf0, 0x26, 0x00, 0x01, 0xc3, 0x00, 0x01, 0x00, 0x01, 0x00, 0x01, 0x01, 0x4e,
-            0x00, 0x07, 0xc0, 0x79, 0x12, 0x45, 0x00, 0x01, 0x30, 0x00, 0x80, 0x0b, 0x4d, 0x09,
-            0x65, 0x6e, 0x67, 0x04, 0x4e, 0x65, 0x77, 0x73, 0x00,
-        ],
+        b"\x4e\xf0\x26\x00\x01\xc3\x00\x01\x00\x01\x00\x01\x01\x4e\
+          \x00\x07\xc0\x79\x12\x45\x00\x01\x30\x00\x80\x0b\x4d\x09eng\x04News\x00",
     ),
     Until(9),
-    Carries(0, &[0x47, 0x01, 0x00, 0x12, 0xa5]),
+    Carries(0, b"\x47\x01\x00\x12\xa5"),
     // The time.
     Until(10),
     Carries(
         0,
-        &[
-            0x47, 0x40, 0x14, 0x10, 0x00, 0x70, 0x70, 0x05, 0xc0, 0x79, 0x12, 0x45, 0x00, 0xff,
-        ],
+        b"\x47\x40\x14\x10\x00\x70\x70\x05\xc0\x79\x12\x45\x00\xff",
     ),
     // No packet.
     Until(11),
-    Carries(0, &[0x47, 0x1f, 0xff, 0x10, 0xff]),
+    Carries(0, b"\x47\x1f\xff\x10\xff"),
     Until(13),
-    Carries(0, &[0x47, 0x01, 0x00, 0x33, 0x91, 0x00, 0xff]),
+    Carries(0, b"\x47\x01\x00\x33\x91\x00\xff"),
     Until(17),
-    Carries(0, &[0x47, 0x1f, 0xff, 0x10, 0xff]),
+    Carries(0, b"\x47\x1f\xff\x10\xff"),
     Until(128),
     Carries(
         5,
-        &[
-            0x4e, 0xf0, 0x0f, 0x00, 0x01, 0xc3, 0x01, 0x01, 0x00, 0x01, 0x00, 0x01, 0x01, 0x4e,
-        ],
+        b"\x4e\xf0\x0f\x00\x01\xc3\x01\x01\x00\x01\x00\x01\x01\x4e",
     ),
 ];
 
@@ -86,13 +69,10 @@ const OVER_THE_END: [Step; 5] = [
     Until(1),
     Carries(
         4,
-        &[
-            0x00, 0x00, 0x01, 0xc0, 0x02, 0x4d, 0x80, 0xc0, 0x0a, 0x31, 0x00, 0x01, 0x19, 0xd9,
-            0x11, 0x00, 0x01, 0x0b, 0xc9,
-        ],
+        b"\x00\x00\x01\xc0\x02\x4d\x80\xc0\x0a\x31\x00\x01\x19\xd9\x11\x00\x01\x0b\xc9",
     ),
     Until(2),
-    Carries(6, &[0x00, 0x00, 0x00, 0x01, 0x7e, 0xec]),
+    Carries(6, b"\x00\x00\x00\x01\x7e\xec"),
 ];
 
 /// A unit waits until it is sent whole.
@@ -114,6 +94,15 @@ const NEXT: [Step; 6] = [
     Feed(1, 576, 1_600, 1_600, Some(FeedError::UnknownStream)),
 ];
 
+/// A unit without bytes, and one past the last DTS.
+const OUT_OF_RANGE: [Step; 2] = [
+    Feed(0, 0, 1_600, 1_600, Some(FeedError::Empty)),
+    Feed(0, 576, LAST + 1, LAST + 1, Some(FeedError::TooFar)),
+];
+
+/// The last DTS.
+const LAST: u64 = 1 << 52;
+
 /// Any two units in a row have at most six packets.
 const PAIRED: [Step; 4] = [
     FIRST,
@@ -126,19 +115,19 @@ const PAIRED: [Step; 4] = [
 const LATER: [Step; 16] = [
     FIRST,
     Until(1),
-    Carries(0, &[0x47, 0x41, 0x00, 0x10]),
+    Carries(0, b"\x47\x41\x00\x10"),
     Until(24),
     SECOND,
     Until(25),
-    Carries(0, &[0x47, 0x41, 0x00, 0x14]),
+    Carries(0, b"\x47\x41\x00\x14"),
     Until(29),
-    Carries(0, &[0x47, 0x01, 0x00, 0x15]),
+    Carries(0, b"\x47\x01\x00\x15"),
     Until(33),
-    Carries(0, &[0x47, 0x01, 0x00, 0x16]),
+    Carries(0, b"\x47\x01\x00\x16"),
     Until(37),
-    Carries(0, &[0x47, 0x01, 0x00, 0x37]),
+    Carries(0, b"\x47\x01\x00\x37"),
     Until(41),
-    Carries(0, &[0x47, 0x1f, 0xff, 0x10]),
+    Carries(0, b"\x47\x1f\xff\x10"),
     Until(42),
 ];
 
@@ -153,12 +142,12 @@ const TOO_LATE: [Step; 4] = [
 /// The second plan from its start: nothing, and then a clock reference.
 const TURNED: [Step; 4] = [
     Until(122),
-    Carries(0, &[0x47, 0x1f, 0xff, 0x10]),
+    Carries(0, b"\x47\x1f\xff\x10"),
     Until(123),
-    Carries(6, &[0x00, 0x00, 0x15, 0x74, 0x7e, 0xec]),
+    Carries(6, b"\x00\x00\x15\x74\x7e\xec"),
 ];
 
-pub const SCRIPTS: [Script; 16] = [
+pub static SCRIPTS: [Script; 17] = [
     (
         SMALL,
         None,
@@ -183,6 +172,7 @@ pub const SCRIPTS: [Script; 16] = [
         2,
         &[Feed(0, 576, 1_599, 1_599, Some(FeedError::Late))],
     ),
+    (SMALL, None, 2, &OUT_OF_RANGE),
     (SMALL, None, 2, &[FIRST]),
     (SMALL, None, 2, &NEXT),
     (SMALL, None, 2, &[FIRST, Until(24), SECOND]),
@@ -211,9 +201,9 @@ pub const SCRIPTS: [Script; 16] = [
     (PATIENT, Some(1), 1, &TURNED),
 ];
 
-/// Two scripts, and whether they give the same packets: a unit that is fed early or late, or too late; a switch that begins
-/// with the first plan alone.
-pub const PAIRS: [(Script, Script, bool); 3] = [
+/// Two scripts, and whether they give the same packets: a unit that is fed early or late, or too late; a switch that
+/// begins with the first plan alone.
+pub static PAIRS: [(Script, Script, bool); 3] = [
     (
         (SMALL, None, 2, &[FIRST, SECOND, Until(42)]),
         (SMALL, None, 2, &LATER),

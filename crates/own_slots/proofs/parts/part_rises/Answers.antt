@@ -1,4 +1,4 @@
-use Rattle.own_slots.proofs.Parting.{part_law}
+use Rattle.own_slots.proofs.PartLemmas.{part_law}
 use Rattle.own_slots.proofs.parts.part_rises.Goals as goal
 
 pub returns : goal.returns

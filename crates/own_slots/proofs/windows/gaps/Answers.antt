@@ -1,5 +1,5 @@
 use Rattle.own_slots.proofs.windows.gaps.Goals as goal
-use Rattle.own_slots.proofs.Gapping.{gap_law}
+use Rattle.own_slots.proofs.Gaps.{gap_law}
 
 pub returns : goal.returns
 returns c = gap_law

@@ -1,5 +1,5 @@
 use Rattle.own_slots.proofs.windows.pace.Goals as goal
-use Rattle.own_slots.proofs.Pacing.{rate_law}
+use Rattle.own_slots.proofs.Spread.{rate_law}
 
 pub returns : goal.returns
 returns c = rate_law

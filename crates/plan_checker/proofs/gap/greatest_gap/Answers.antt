@@ -3,13 +3,13 @@ use Rattle.own_slots.specs.Slots.{own_before}
 use Rattle.own_slots.specs.Period.{own, position}
 use Rattle.own_slots.specs.Extremes.{greatest}
 use Rattle.own_slots.specs.Gaps.{ahead}
-use Rattle.own_slots.proofs.Greatest.{greatest_none}
-use Rattle.own_slots.proofs.Gapping.{gap_more, gap_same, gap_walk_law}
+use Rattle.own_slots.proofs.Extremes.{greatest_none}
+use Rattle.own_slots.proofs.Gaps.{gap_more, gap_same, gap_walk_law}
 use Rattle.slot_plan.specs.Items.{marks}
 use Rattle.plan_checker.proofs.gap.greatest_gap.Goals as goal
 use Rattle.plan_checker.proofs.gap.greatest_gap.Goals.{then-owns, else-owns}
-use Rattle.plan_checker.proofs.Extremes.{max_is}
-use Rattle.plan_checker.proofs.Marking.{mark_at, length_marks, own_before_none, own_before_after_other, position_ahead, position_own, position_near, one_ahead}
+use Rattle.clock27.proofs.MinMax.{max_is}
+use Rattle.plan_checker.proofs.OwnMarks.{mark_at, length_marks, own_before_none, own_before_after_other, position_ahead, position_own, position_near, one_ahead}
 
 pub loop-at-init : goal.loop-at-init
 loop-at-init c = record {
@@ -23,18 +23,18 @@ overflow_sub-ahead c = omega (
   arith,
   c.loop-at.invariant.next,
   position_ahead c.args.item c.args.slots.now c.loop-at.at c.args.row
-      (mark_at c.args.item c.args.slots.now c.loop-at.at _ c.loop-at-test.true ∙ sym c.owns.ensures ∙ c.if-owns.true) c.requires.some,
+      (mark_at c.args.item c.args.slots.now c.loop-at.at _ c.loop-at-test.true ∙ sym c.owns.ensures ∙ c.if-owns.true) c.requires.owned,
 )
 
 pub next_own_slot-ahead-requires-clause-own : goal.next_own_slot-ahead-requires-clause-own
 next_own_slot-ahead-requires-clause-own c =
-    ap (own (marks c.args.item c.args.slots.now)) c.loop-at.invariant.next ∙ position_own c.args.item c.args.slots.now _ c.requires.some
+    ap (own (marks c.args.item c.args.slots.now)) c.loop-at.invariant.next ∙ position_own c.args.item c.args.slots.now _ c.requires.owned
 
 pub next_own_slot-ahead-requires-clause-near : goal.next_own_slot-ahead-requires-clause-near
 next_own_slot-ahead-requires-clause-near c = omega (
   arith,
   c.loop-at.invariant.next,
-  position_near c.args.item c.args.slots.now c.loop-at.at c.args.row c.requires.some c.requires.short c.requires.near c.loop-at.auto.at-end,
+  position_near c.args.item c.args.slots.now c.loop-at.at c.args.row c.requires.owned c.requires.short c.requires.near c.loop-at.auto.at-end,
 )
 
 pub loop-at-preserved : goal.loop-at-preserved
@@ -51,7 +51,7 @@ loop-at-preserved c = elim c.if-owns.branch [
           c.loop-at.invariant.next,
           gap_more (marks c.args.item c.args.slots.now) c.args.row c.loop-at.at y,
         );
-        next = w.ahead-is ∙ w.next_own_slot-ahead.ensures ∙ one_ahead c.args.item c.args.slots.now c.loop-at.at c.args.row c.loop-at.ahead y c.loop-at.invariant.next c.requires.some;
+        next = w.ahead-is ∙ w.next_own_slot-ahead.ensures ∙ one_ahead c.args.item c.args.slots.now c.loop-at.at c.args.row c.loop-at.ahead y c.loop-at.invariant.next c.requires.owned;
       }
   | else-owns w ↦
       let n = mark_at c.args.item c.args.slots.now c.loop-at.at _ c.loop-at-test.true ∙ sym c.owns.ensures ∙ w.if-owns.false in
@@ -65,4 +65,4 @@ pub returns : goal.returns
 returns c =
     let e : c.loop-at.at ≡ length (marks c.args.item c.args.slots.now) = omega (arith, length_marks c.args.item c.args.slots.now) in
     c.loop-at.invariant.found ∙ ap (λ (n : ℕ). greatest n (ahead (marks c.args.item c.args.slots.now) c.args.row)) e
-    ∙ gap_walk_law (marks c.args.item c.args.slots.now) c.args.row c.requires.some
+    ∙ gap_walk_law (marks c.args.item c.args.slots.now) c.args.row c.requires.owned

@@ -1,7 +1,7 @@
 use Rattle.std.proofs.lemmas.Result.{err_from_is_err_and}
 use Rattle.std.proofs.Common.{◌∙◌, sym, arith}
 use Rattle.slot_plan.specs.Conditions.{stream_lead_entry}
-use Rattle.plan_checker.proofs.Listing.{counts_on, count_ends, count_done}
+use Rattle.plan_checker.proofs.FirstFailing.{counts_on, count_ends, count_done}
 use Rattle.plan_checker.proofs.leads.stream_lead.Goals as goal
 
 pub returns-in_err-units_lead : goal.returns-in_err-units_lead

@@ -3,14 +3,14 @@ use Rattle.std.proofs.Math.Nat.{mul-le-mul_left, mul-le-mul_right}
 use Rattle.std.proofs.lemmas.Nat.{mul-le}
 use Rattle.own_slots.specs.Period.{per_period}
 use Rattle.own_slots.specs.Extremes.{greatest}
-use Rattle.own_slots.proofs.Greatest.{greatest_none}
+use Rattle.own_slots.proofs.Extremes.{greatest_none}
 use Rattle.own_slots.specs.Spread.{highest, lowest}
-use Rattle.own_slots.proofs.Pacing.{highest_none, highest_more, highest_same, lowest_none, lowest_more, lowest_same, spread_walk_law}
+use Rattle.own_slots.proofs.Spread.{highest_none, highest_more, highest_same, lowest_none, lowest_more, lowest_same, spread_walk_law}
 use Rattle.slot_plan.specs.Items.{marks}
 use Rattle.plan_checker.proofs.spread.spread_of.Goals as goal
 use Rattle.plan_checker.proofs.spread.spread_of.Goals.{then-owns, else-owns}
-use Rattle.plan_checker.proofs.Extremes.{max_is, min_is}
-use Rattle.plan_checker.proofs.Marking.{mark_at, length_marks, own_before_none, own_before_after_own, own_before_after_other, few_own_before, raised_here}
+use Rattle.clock27.proofs.MinMax.{max_is, min_is}
+use Rattle.plan_checker.proofs.OwnMarks.{mark_at, length_marks, own_before_none, own_before_after_own, own_before_after_other, few_own_before, raised_here}
 
 none_greatest : (n : ℕ) (f : ℕ → ℕ) → n ≡ 0 → greatest n f ≡ 0
 none_greatest zero f e = greatest_none f
@@ -51,7 +51,7 @@ overflow_add-number c = record {
     c.requires.short,
     c.loop-at.invariant.counted,
     c.own_count-count.ensures.count,
-    c.own_count-count.ensures.most,
+    c.own_count-count.ensures.bound,
     few_own_before c.args.item c.args.slots.now c.loop-at.at c.loop-at.auto.at-end,
   );
 }
@@ -84,12 +84,12 @@ returns-clause-spread c =
     let low = c.loop-at.invariant.low ∙ ap (lowest (marks c.args.item c.args.slots.now)) e in
     omega (arith, c.saturating_sub.ensures, high, low, spread_walk_law (marks c.args.item c.args.slots.now) (omega (arith, c.own_count-count.ensures.count)))
 
-pub returns-clause-few : goal.returns-clause-few
-returns-clause-few c = omega (
+pub returns-clause-bound : goal.returns-clause-bound
+returns-clause-bound c = omega (
   arith,
   c.saturating_sub.ensures,
   c.loop-at.invariant.few,
   c.requires.short,
-  c.own_count-count.ensures.most,
-  mul-le c.own_count-count.result (length c.args.slots.now) 65536 65536 (omega (arith, c.own_count-count.ensures.most, c.requires.short)) c.requires.short,
+  c.own_count-count.ensures.bound,
+  mul-le c.own_count-count.result (length c.args.slots.now) 65536 65536 (omega (arith, c.own_count-count.ensures.bound, c.requires.short)) c.requires.short,
 )

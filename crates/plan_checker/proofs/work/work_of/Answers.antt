@@ -1,13 +1,13 @@
 use Rattle.std.proofs.Common.{◌≡◌, ℕ, ◌+◌, ◌*◌, length, arith, ap, sym, ◌∙◌}
 use Rattle.own_slots.specs.Extremes.{greatest}
 use Rattle.own_slots.specs.Work.{work_at, before_at, after_at}
-use Rattle.own_slots.proofs.Greatest.{greatest_none}
-use Rattle.own_slots.proofs.Working.{work_begin, before_more, before_same, after_more, after_same}
+use Rattle.own_slots.proofs.Extremes.{greatest_none}
+use Rattle.own_slots.proofs.WorkLemmas.{work_begin, before_more, before_same, after_more, after_same}
 use Rattle.slot_plan.specs.Items.{marks}
 use Rattle.plan_checker.proofs.work.work_of.Goals as goal
 use Rattle.plan_checker.proofs.work.work_of.Goals.{then-owns, else-owns}
-use Rattle.plan_checker.proofs.Extremes.{max_is}
-use Rattle.plan_checker.proofs.Marking.{length_marks, mark_within, work_own, work_other}
+use Rattle.clock27.proofs.MinMax.{max_is}
+use Rattle.plan_checker.proofs.OwnMarks.{length_marks, mark_within, work_own, work_other}
 
 pub loop-slot-init : goal.loop-slot-init
 loop-slot-init c = record {

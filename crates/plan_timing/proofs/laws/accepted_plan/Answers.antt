@@ -1,4 +1,4 @@
-use Rattle.plan_timing.proofs.Single.{plan_law}
+use Rattle.plan_timing.proofs.OnePlan.{plan_law}
 use Rattle.plan_timing.proofs.laws.accepted_plan.Goals as goal
 
 pub returns : goal.returns

@@ -1,4 +1,4 @@
-use Rattle.plan_timing.proofs.Paired.{switch_law}
+use Rattle.plan_timing.proofs.TwoPlans.{switch_law}
 use Rattle.plan_timing.proofs.laws.accepted_switch.Goals as goal
 
 pub returns : goal.returns

@@ -1,5 +1,5 @@
 use Rattle.std.proofs.Common.{arith}
-use Rattle.psi_tables.proofs.StreamTexts.{length_streams_step}
+use Rattle.psi_tables.proofs.StreamEncodings.{length_streams_step}
 use Rattle.psi_tables.proofs.pmt.append_streams.Goals as goal
 
 pub append_entry-requires : goal.append_entry-requires

@@ -1,6 +1,6 @@
 use Rattle.std.proofs.Common.{◌≡◌, ◌∙◌, sym, ap, ℕ, List}
 use Rattle.slot_plan.specs.Planned.{Planned}
-use Rattle.slot_plan.specs.Reading.{plan_at}
+use Rattle.slot_plan.specs.Readers.{plan_at}
 use Rattle.slot_plan.proofs.TextPlans.{plan-sound, plan-complete}
 use Rattle.slot_plan.proofs.TextLists.{ok_same}
 use Rattle.slot_plan.proofs.laws.plan_text.Goals as goal

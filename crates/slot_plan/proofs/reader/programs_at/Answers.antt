@@ -1,6 +1,6 @@
 use Rattle.std.proofs.Common.{◌≡◌, ◌∙◌, ◌++◌, ◌∷◌, [], Some, None, true, false, rules, arith}
-use Rattle.slot_plan.specs.Reading.{program_at, programs_at, begins_with}
-use Rattle.slot_plan.proofs.ReadOn.{program_more, program_none, programs_end, programs_full, from_none, is_none_read, is_some_read}
+use Rattle.slot_plan.specs.Readers.{program_at, programs_at, begins_with}
+use Rattle.slot_plan.proofs.ReaderSteps.{program_more, program_none, programs_end, programs_full, from_none, is_none_read, is_some_read}
 use Rattle.slot_plan.proofs.reader.programs_at.Goals as goal
 
 pub returns-in_default-clause-read : goal.returns-in_default-clause-read

@@ -1,6 +1,6 @@
 use Rattle.std.proofs.Common.{◌≡◌, ◌-◌, vec_len}
-use Rattle.slot_plan.specs.Reading.{programs_at}
-use Rattle.slot_plan.proofs.ReadOn.{with_all}
+use Rattle.slot_plan.specs.Readers.{programs_at}
+use Rattle.slot_plan.proofs.ReaderSteps.{with_all}
 use Rattle.slot_plan.proofs.reader.programs_at.Given as goal
 
 abbrev pub invariant-loop-number : goal.invariant-loop-number

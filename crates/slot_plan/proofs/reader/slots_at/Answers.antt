@@ -1,7 +1,7 @@
 use Rattle.std.proofs.Common.{◌≡◌, ◌∙◌, ◌++◌, ◌∷◌, [], Some, None, rules}
 use Rattle.slot_plan.specs.Text.{slot_ending}
-use Rattle.slot_plan.specs.Reading.{slot_at}
-use Rattle.slot_plan.proofs.ReadOn.{slot_more, slot_none, is_none_read, is_some_read}
+use Rattle.slot_plan.specs.Readers.{slot_at}
+use Rattle.slot_plan.proofs.ReaderSteps.{slot_more, slot_none, is_none_read, is_some_read}
 use Rattle.slot_plan.proofs.reader.slots_at.Goals as goal
 
 pub returns-in_default : goal.returns-in_default

@@ -1,6 +1,6 @@
 use Rattle.std.proofs.Common.{◌≡◌, ◌-◌}
-use Rattle.slot_plan.specs.Reading.{slots_at}
-use Rattle.slot_plan.proofs.ReadOn.{with_all}
+use Rattle.slot_plan.specs.Readers.{slots_at}
+use Rattle.slot_plan.proofs.ReaderSteps.{with_all}
 use Rattle.slot_plan.proofs.reader.slots_at.Given as goal
 
 abbrev pub invariant-loop-index : goal.invariant-loop-index

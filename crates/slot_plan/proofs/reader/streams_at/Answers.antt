@@ -1,6 +1,6 @@
 use Rattle.std.proofs.Common.{◌≡◌, ◌∙◌, ◌++◌, ◌∷◌, [], Some, None, true, false, rules, arith}
-use Rattle.slot_plan.specs.Reading.{stream_at, streams_at, begins_with}
-use Rattle.slot_plan.proofs.ReadOn.{stream_more, stream_none, streams_end, streams_full, from_none, is_none_read, is_some_read}
+use Rattle.slot_plan.specs.Readers.{stream_at, streams_at, begins_with}
+use Rattle.slot_plan.proofs.ReaderSteps.{stream_more, stream_none, streams_end, streams_full, from_none, is_none_read, is_some_read}
 use Rattle.slot_plan.proofs.reader.streams_at.Goals as goal
 
 pub returns-in_default-clause-read : goal.returns-in_default-clause-read

@@ -1,4 +1,4 @@
-use Rattle.slot_plan.proofs.Naming.{some_slot_law, named_law, named_in_run_law, second_law}
+use Rattle.slot_plan.proofs.NamedSlots.{some_slot_law, named_law, named_in_run_law, second_law}
 use Rattle.slot_plan.proofs.serving_plans.serving_plan.Goals as goal
 
 pub returns-clause-some_slot : goal.returns-clause-some_slot

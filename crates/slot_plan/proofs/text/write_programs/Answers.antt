@@ -1,5 +1,5 @@
 use Rattle.slot_plan.specs.Text.{program_line}
-use Rattle.slot_plan.proofs.Numbering.{written_more}
+use Rattle.slot_plan.proofs.NumberedLists.{written_more}
 use Rattle.slot_plan.proofs.text.write_programs.Goals as goal
 
 pub loop-number-preserved : goal.loop-number-preserved

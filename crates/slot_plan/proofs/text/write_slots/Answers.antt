@@ -1,6 +1,6 @@
 use Rattle.std.proofs.Common.{length}
 use Rattle.slot_plan.specs.Text.{slot_word}
-use Rattle.slot_plan.proofs.Numbering.{written_more}
+use Rattle.slot_plan.proofs.NumberedLists.{written_more}
 use Rattle.slot_plan.proofs.text.write_slots.Goals as goal
 
 pub loop-index-preserved : goal.loop-index-preserved

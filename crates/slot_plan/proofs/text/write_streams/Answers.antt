@@ -1,5 +1,5 @@
 use Rattle.slot_plan.specs.Text.{stream_line}
-use Rattle.slot_plan.proofs.Numbering.{written_more}
+use Rattle.slot_plan.proofs.NumberedLists.{written_more}
 use Rattle.slot_plan.proofs.text.write_streams.Goals as goal
 
 pub loop-number-preserved : goal.loop-number-preserved

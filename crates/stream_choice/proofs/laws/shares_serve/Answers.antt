@@ -1,5 +1,5 @@
 use Rattle.stream_choice.proofs.laws.shares_serve.Goals as goal
-use Rattle.stream_choice.proofs.Sharing.{share_law}
+use Rattle.stream_choice.proofs.ShareProof.{share_law}
 
 pub returns : goal.returns
 returns c = share_law

@@ -1,5 +1,5 @@
 use Rattle.std.proofs.Common.{◌∙◌, sym}
-use Rattle.stream_coding.proofs.Searching.{found_here}
+use Rattle.stream_coding.proofs.FieldSearch.{found_here}
 use Rattle.stream_coding.proofs.fields.found_in.Goals as goal
 
 pub returns-in-Some-field_at_front : goal.returns-in-Some-field_at_front

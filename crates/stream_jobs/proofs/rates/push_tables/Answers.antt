@@ -1,7 +1,7 @@
-use Rattle.std.proofs.Common.{◌≡◌, ◌≤◌, length, rules, arith}
+use Rattle.std.proofs.Common.{◌≤◌, length, rules, arith}
 use Rattle.description.specs.Tables.{table_count, table_kinds}
 use Rattle.stream_jobs.specs.Rates.{table_recurs}
-use Rattle.stream_jobs.proofs.Trying.{all_tables, pushed_table}
+use Rattle.stream_jobs.proofs.TriedRates.{all_tables, pushed_table}
 use Rattle.stream_jobs.proofs.rates.push_tables.Goals as goal
 
 pub loop-table-preserved : goal.loop-table-preserved

@@ -1,6 +1,6 @@
 use Rattle.std.proofs.Common.{◌∙◌, sym}
 use Rattle.demux.specs.Shown.{finding_view}
-use Rattle.stream_programs.proofs.Associating.{entries_more, entries_end}
+use Rattle.stream_programs.proofs.AssociationSteps.{entries_more, entries_end}
 use Rattle.stream_programs.proofs.association.add_all.Goals as goal
 
 pub loop-finding-preserved : goal.loop-finding-preserved

@@ -1,6 +1,6 @@
 use Rattle.std.proofs.Common.{◌≡◌, ◌∙◌, sym, true, false, rules}
 use Rattle.demux.specs.Shown.{finding_view}
-use Rattle.stream_programs.proofs.Associating.{change_later, change_here, change_end}
+use Rattle.stream_programs.proofs.AssociationSteps.{change_later, change_here, change_end}
 use Rattle.stream_programs.proofs.association.association_change.Goals as goal
 
 pub loop-finding-preserved : goal.loop-finding-preserved

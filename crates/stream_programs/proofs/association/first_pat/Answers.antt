@@ -3,7 +3,7 @@ use Rattle.std.specs.Option.{option_or}
 use Rattle.psi_tables.specs.ProgramAssociation.{PatView, pat_view}
 use Rattle.demux.specs.Shown.{finding_view}
 use Rattle.stream_programs.specs.Association.{first_pat}
-use Rattle.stream_programs.proofs.Associating.{first_more, first_end}
+use Rattle.stream_programs.proofs.AssociationSteps.{first_more, first_end}
 use Rattle.stream_programs.proofs.association.first_pat.Goals as goal
 
 pub loop-finding-preserved : goal.loop-finding-preserved

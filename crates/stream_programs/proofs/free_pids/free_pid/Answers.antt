@@ -1,6 +1,6 @@
 use Rattle.std.proofs.Common.{◌≡◌, ◌≤◌, ◌∙◌, sym, true, false, rules, arith}
-use Rattle.stream_programs.proofs.Freeing.{least_is, none_is}
-use Rattle.stream_programs.proofs.Taking.{taken_none, taken_more, taken_less}
+use Rattle.stream_programs.proofs.LeastFreePid.{least_is, none_is}
+use Rattle.stream_programs.proofs.TakenPids.{taken_none, taken_more, taken_less}
 use Rattle.stream_programs.proofs.free_pids.free_pid.Goals as goal
 
 pub loop-pid-init : goal.loop-pid-init

@@ -1,7 +1,7 @@
 use Rattle.std.proofs.Common.{◌≡◌, ◌∙◌, sym, map, rules}
 use Rattle.std.specs.Option.{option_or}
 use Rattle.demux.specs.Shown.{finding_view}
-use Rattle.stream_programs.specs.Services.{service, service_texts}
+use Rattle.stream_programs.specs.Services.{service, found_service_view}
 use Rattle.stream_programs.proofs.LastMaps.{or_none}
 use Rattle.stream_programs.proofs.LastServices.{service_more, service_end}
 use Rattle.stream_programs.proofs.services.last_service.Goals as goal
@@ -13,10 +13,10 @@ pub loop-finding-preserved : goal.loop-finding-preserved
 loop-finding-preserved g c =
     let next : c.or-last.result ≡ option_or c.service_found.result c.loop-finding.last = search rules in
     c.loop-finding.invariant
-    ∙ service_more (finding_view {A = g.row.A.Denot}) service_texts c.args.number c.loop-finding.finding-index c.args.findings.now c.finding-item.result
+    ∙ service_more (finding_view {A = g.row.A.Denot}) found_service_view c.args.number c.loop-finding.finding-index c.args.findings.now c.finding-item.result
     c.service_found.result c.loop-finding.last c.or-last.result c.loop-finding-test.true c.finding-item.is c.service_found.ensures next
 
 pub returns : goal.returns
 returns g c =
     sym (c.loop-finding.invariant
-    ∙ service_end (finding_view {A = g.row.A.Denot}) service_texts c.args.number c.loop-finding.finding-index c.args.findings.now c.loop-finding.last c.loop-finding-test.false)
+    ∙ service_end (finding_view {A = g.row.A.Denot}) found_service_view c.args.number c.loop-finding.finding-index c.args.findings.now c.loop-finding.last c.loop-finding-test.false)

@@ -1,5 +1,5 @@
 use Rattle.std.proofs.Common.{◌≡◌, ◌∙◌, ◌==◌, sym, true, false, rules}
-use Rattle.stream_programs.proofs.Holding.{holder_other, holder_here, holder_end}
+use Rattle.stream_programs.proofs.PidHolders.{holder_other, holder_here, holder_end}
 use Rattle.stream_programs.proofs.streams.holder.Goals as goal
 
 pub loop-stream-preserved : goal.loop-stream-preserved

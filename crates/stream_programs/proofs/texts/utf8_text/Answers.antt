@@ -1,6 +1,6 @@
 use Rattle.std.proofs.Common.{refl}
 use Rattle.std.proofs.lemmas.Str.{is_utf8-from_IsUtf8}
-use Rattle.stream_programs.proofs.Filling.{no_utf8}
+use Rattle.stream_programs.proofs.FittingText.{no_utf8}
 use Rattle.stream_programs.proofs.texts.utf8_text.Goals as goal
 
 pub returns-in-Ok : goal.returns-in-Ok

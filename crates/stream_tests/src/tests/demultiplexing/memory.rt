@@ -6,7 +6,7 @@ use demux::{Demux, DemuxError, Finding, Kind};
 use linked_list_allocator::LocalHeap;
 use std::alloc::Global;
 
-// What is left of a piece of which so much was taken.
+// What is left of a piece of which a part was taken.
 fn left_of(piece: &[u8], first: Result<(), DemuxError>) -> &[u8] {
     match first {
         Ok(()) => &[],
@@ -15,7 +15,8 @@ fn left_of(piece: &[u8], first: Result<(), DemuxError>) -> &[u8] {
     }
 }
 
-// Pushes a stream while a block of the heap is taken, and what is left of it once it is given back; whether memory was refused.
+// Pushes a stream while a block of the heap is taken, and what is left of it once it is given back; whether memory was
+// refused.
 fn push_again(
     heap: &LocalHeap,
     demux: &mut Demux<&LocalHeap>,
@@ -61,7 +62,7 @@ fn is_nothing_lost(alloc: Global) -> bool {
     0 < refused && refused < 48
 }
 
-// Takes the greatest block that a heap has, but for so many times 64 bytes.
+// Takes the greatest block that a heap has, less `left` times 64 bytes.
 fn fill<'h>(heap: &'h LocalHeap, left: usize) -> Option<Vec<u8, &'h LocalHeap>> {
     let mut blocks = 0;
     for n in 0..1_024usize {
@@ -73,7 +74,7 @@ fn fill<'h>(heap: &'h LocalHeap, left: usize) -> Option<Vec<u8, &'h LocalHeap>> 
     Vec::with_capacity(heap, 64 * blocks.saturating_sub(left).min(1_023)).ok()
 }
 
-// Takes a packet where memory is wanting, and again where it is there; whether it was refused. None where it is refused
+// Takes a packet without enough memory, and again with enough; whether it was refused. None where it is refused
 // otherwise, or again.
 fn take_again<'a, 'h>(
     heap: &'h LocalHeap,
@@ -160,7 +161,8 @@ fn refused_packets(alloc: Global) -> Option<u32> {
     Some(refused)
 }
 
-// The same packet by packet, with an end of the stream: what is refused changes nothing, and succeeds once there is memory.
+// The same packet by packet, with an end of the stream: what is refused changes nothing, and succeeds once there is
+// memory.
 #[test]
 fn refused_memory(rt: HostRuntime) {
     assert!(rt; is_nothing_lost(rt.alloc()) && 0 < refused_packets(rt.alloc()).unwrap_or(0));

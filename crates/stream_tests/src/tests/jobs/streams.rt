@@ -4,14 +4,14 @@ use demux::{Finding, Kind, Part, What};
 use pes_packet::{PesHeader, Stamps};
 use psi_tables::check_word;
 use std::alloc::{AllocError, Global};
-use stream_jobs::{JobError, Material, Refusal, Wishes, material_of};
+use stream_jobs::{JobInput, JobOptions, job_input};
 
 /// Findings, one after another.
 pub type Found = Vec<Finding<'static>>;
 
-/// What is asked of a job at 2 Mbit/s.
-pub fn usual() -> Wishes<'static> {
-    Wishes {
+/// The options of a job at 2 Mbit/s.
+pub fn usual() -> JobOptions<'static> {
+    JobOptions {
         rate: Some(2_000_000),
         start: "2026-03-29T00:59:50",
         pcr_limit: 40,
@@ -23,8 +23,8 @@ pub fn usual() -> Wishes<'static> {
     }
 }
 
-/// One more finding.
-pub fn add(pid: Option<u16>, what: What<'static>, found: &mut Found) -> Result<(), AllocError> {
+// One more finding.
+fn add(pid: Option<u16>, what: What<'static>, found: &mut Found) -> Result<(), AllocError> {
     let packet = found.len() as u64;
     found.push(Finding {
         packet,
@@ -36,73 +36,19 @@ pub fn add(pid: Option<u16>, what: What<'static>, found: &mut Found) -> Result<(
 }
 
 // A section with its check word.
-fn add_section(pid: u16, section: Vec<u8>, found: &mut Found) -> Result<(), AllocError> {
-    let mut bytes = section;
-    let check = check_word(&bytes).to_be_bytes();
-    bytes.extend_from_slice(&check)?;
+fn add_section(
+    alloc: Global,
+    pid: u16,
+    section: &[u8],
+    found: &mut Found,
+) -> Result<(), AllocError> {
+    let mut bytes = Vec::from_slice(alloc, section)?;
+    bytes.extend_from_slice(&check_word(section).to_be_bytes())?;
     add(Some(pid), What::Section(Part::Joined(bytes)), found)
 }
 
-/// A program association section of a version: numbers of programs, and the PIDs of their maps.
-pub fn add_programs(
-    alloc: Global,
-    version: u8,
-    programs: &[(u16, u16)],
-    found: &mut Found,
-) -> Result<(), AllocError> {
-    let length = programs.len().saturating_mul(4).saturating_add(9);
-    let front = [
-        0,
-        0xb0,
-        length.min(255) as u8,
-        0,
-        1,
-        0xc1 + version % 16 * 2,
-        0,
-        0,
-    ];
-    let mut bytes = Vec::from_slice(alloc, &front)?;
-    for (number, pid) in programs {
-        let ([one, two], [high, low]) = (number.to_be_bytes(), pid.to_be_bytes());
-        bytes.extend_from_slice(&[one, two, 0xe0 + high % 32, low])?;
-    }
-    add_section(0, bytes, found)
-}
-
-/// A program map section on a PID: of a program, types and PIDs of its streams.
-pub fn add_map(
-    alloc: Global,
-    pid: u16,
-    number: u8,
-    streams: &[(u8, u16)],
-    found: &mut Found,
-) -> Result<(), AllocError> {
-    let length = streams.len().saturating_mul(5).saturating_add(13);
-    let [high, low] = (length.min(1_021) as u16).to_be_bytes();
-    let front = [
-        2,
-        0xb0 + high % 16,
-        low,
-        0,
-        number,
-        0xc1,
-        0,
-        0,
-        0xff,
-        0xff,
-        0xf0,
-        0,
-    ];
-    let mut bytes = Vec::from_slice(alloc, &front)?;
-    for (stream_type, pid) in streams {
-        let [high, low] = pid.to_be_bytes();
-        bytes.extend_from_slice(&[*stream_type, 0xe0 + high % 32, low, 0xf0, 0])?;
-    }
-    add_section(pid, bytes, found)
-}
-
-/// A PES packet of so many bytes with a PTS.
-pub fn add_unit(
+// A PES packet of `size` bytes with a PTS.
+fn add_unit(
     alloc: Global,
     pid: u16,
     id: u8,
@@ -122,41 +68,26 @@ pub fn add_unit(
     add(Some(pid), what, found)
 }
 
-/// One program with MPEG audio on PID 256.
-pub fn tables(alloc: Global) -> Result<Found, AllocError> {
-    let mut found: Found = Vec::new(alloc);
-    add_programs(alloc, 0, &[(1, 4_096)], &mut found)?;
-    add_map(alloc, 4_096, 1, &[(3, 256)], &mut found)?;
-    Ok(found)
-}
+// Program 1 with its map on PID 4096.
+static ASSOCIATION: [u8; 12] = [0, 0xb0, 13, 0, 1, 0xc1, 0, 0, 0, 1, 0xf0, 0];
 
-/// With a unit for each stream_id, PTS and size.
+// Program 1 with MPEG audio on PID 256.
+static MAP: [u8; 17] = [
+    2, 0xb0, 18, 0, 1, 0xc1, 0, 0, 0xff, 0xff, 0xf0, 0, 3, 0xe1, 0, 0xf0, 0,
+];
+
+/// One program with MPEG audio on PID 256, and a unit for each stream_id, PTS and size.
 pub fn audio(alloc: Global, units: &[(u8, u64, usize)]) -> Result<Found, AllocError> {
-    let mut found = tables(alloc)?;
+    let mut found: Found = Vec::new(alloc);
+    add_section(alloc, 0, &ASSOCIATION, &mut found)?;
+    add_section(alloc, 4_096, &MAP, &mut found)?;
     for (id, pts, size) in units {
         add_unit(alloc, 256, *id, *pts, *size, &mut found)?;
     }
     Ok(found)
 }
 
-/// What is taken of a stream.
-pub fn material(alloc: Global, wishes: &Wishes<'_>, found: &[Finding<'_>]) -> Option<Material> {
-    material_of(alloc, wishes, found.len() as u64, found).ok()
-}
-
-/// Whether the stream is refused so (none: it is taken).
-pub fn is_refused(
-    alloc: Global,
-    wishes: &Wishes<'_>,
-    found: &[Finding<'_>],
-    refusal: Option<Refusal>,
-) -> bool {
-    match material_of(alloc, wishes, found.len() as u64, found) {
-        Ok(material) => {
-            drop(material);
-            refusal.is_none()
-        }
-        Err(JobError::Refused(why)) => refusal == Some(why),
-        Err(JobError::Memory) => false,
-    }
+/// The input of a job of a stream.
+pub fn input(alloc: Global, options: &JobOptions<'_>, found: &[Finding<'_>]) -> Option<JobInput> {
+    job_input(alloc, options, found.len() as u64, found).ok()
 }

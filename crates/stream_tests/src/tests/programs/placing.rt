@@ -2,7 +2,7 @@
 
 use linked_list_allocator::LocalHeap;
 use std::alloc::{AllocError, Allocator, Global};
-use stream_programs::{FoundProgram, FoundStream, Placed, Programs, placed_pids};
+use stream_programs::{FoundProgram, FoundPrograms, FoundStream, ProgramPids, assigned_pids};
 
 // Programs with maps on these PIDs.
 fn programs_of<A: Allocator + Copy>(
@@ -42,10 +42,10 @@ fn programs<A: Allocator + Copy>(
     alloc: A,
     maps: &[u16],
     pids: &[u16],
-) -> Result<Programs<A>, AllocError> {
+) -> Result<FoundPrograms<A>, AllocError> {
     let programs = programs_of(alloc, maps)?;
     let streams = streams_of(alloc, pids)?;
-    Ok(Programs {
+    Ok(FoundPrograms {
         programs,
         streams,
         left_out: Vec::new(alloc),
@@ -53,7 +53,7 @@ fn programs<A: Allocator + Copy>(
 }
 
 // Maps, streams, and for each map its place and its clock's.
-const ROWS: [(&[u16], &[u16], &[(u16, u16)]); 5] = [
+static ROWS: [(&[u16], &[u16], &[(u16, u16)]); 5] = [
     (&[0x1000], &[0x100, 0x101], &[(0x1000, 0x102)]),
     (&[0x100, 0x100], &[0x101], &[(0x100, 0x102), (32, 0x103)]),
     (
@@ -66,7 +66,7 @@ const ROWS: [(&[u16], &[u16], &[(u16, u16)]); 5] = [
 ];
 
 // Whether the places are these.
-fn are_places(places: &[Placed], wanted: &[(u16, u16)]) -> bool {
+fn are_places(places: &[ProgramPids], wanted: &[(u16, u16)]) -> bool {
     let mut left = wanted;
     for place in places {
         let [row, rest @ ..] = left else {
@@ -83,10 +83,10 @@ fn are_places(places: &[Placed], wanted: &[(u16, u16)]) -> bool {
 // Whether the programs are placed so; none where no PID is left.
 fn is_placed<A: Allocator + Copy>(
     alloc: A,
-    found: &Programs<A>,
+    found: &FoundPrograms<A>,
     wanted: &[(u16, u16)],
 ) -> Result<Option<bool>, AllocError> {
-    match placed_pids(alloc, found) {
+    match assigned_pids(alloc, found) {
         Ok(Some(places)) => Ok(Some(are_places(&places, wanted))),
         Ok(None) => Ok(None),
         Err(AllocError) => Err(AllocError),
@@ -122,7 +122,7 @@ fn is_last_pid(alloc: Global) -> bool {
         && are_placed(alloc, &[32], &pids[1..], &[(32, 256)]) == Ok(Some(true))
 }
 
-// In how many of 48 heaps of rising size memory is wanting. None where the programs are placed otherwise in one.
+// In how many of 48 heaps of rising size there is not enough memory. None where the programs get other PIDs in one.
 fn refusals(alloc: Global) -> Option<u32> {
     let mut refused = 0u32;
     for n in 0..48usize {

@@ -2,10 +2,10 @@
 
 use linked_list_allocator::LocalHeap;
 use std::alloc::{AllocError, Allocator, Global};
-use stream_programs::readable;
+use stream_programs::decode_text;
 
 // Coded texts, the most bytes that they may take, and what is read of them.
-const ROWS: [(&[u8], usize, &str); 14] = [
+static ROWS: [(&[u8], usize, &str); 14] = [
     (b"Service01", 100, "Service01"),
     (b"", 0, ""),
     // UTF-8, marked and not.
@@ -34,7 +34,7 @@ fn is_read<A: Allocator + Copy>(
     most: usize,
     wanted: &str,
 ) -> Result<bool, AllocError> {
-    match readable(alloc, bytes, most) {
+    match decode_text(alloc, bytes, most) {
         Ok(text) => Ok(text.as_str() == wanted),
         Err(AllocError) => Err(AllocError),
     }
@@ -49,7 +49,7 @@ fn are_read(alloc: Global) -> bool {
     true
 }
 
-// In how many of 16 heaps of rising size memory is wanting. None where another text is read in one.
+// In how many of 16 heaps of rising size there is not enough memory. None where another text is read in one.
 fn refusals(alloc: Global) -> Option<u32> {
     let mut refused = 0u32;
     for n in 0..16usize {

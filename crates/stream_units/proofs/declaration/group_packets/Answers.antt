@@ -1,14 +1,14 @@
 use Rattle.std.proofs.Common.{◌∙◌, ap, List, arith}
 use Rattle.pes_packet.specs.AccessUnits.{AccessUnit}
-use Rattle.unit_timing.specs.PesPacket.{packets_of}
+use Rattle.unit_timing.specs.PesPacket.{packets_of_units}
 use Rattle.stream_units.specs.Declaration.{timed_units}
-use Rattle.stream_units.proofs.Extremes.{max_is}
-use Rattle.stream_units.proofs.Counting.{group_more, group_end}
+use Rattle.clock27.proofs.MinMax.{max_is}
+use Rattle.stream_units.proofs.UnitCounts.{group_more, group_end}
 use Rattle.stream_units.proofs.declaration.group_packets.Goals as goal
 
 pub loop-next-preserved : goal.loop-next-preserved
 loop-next-preserved g c = λ id.
-    let total = c.total_packets.ensures.value id ∙ ap (λ (us : List AccessUnit). packets_of (timed_units id c.args.base0 us)) c.front.ensures.value in
+    let total = c.total_packets.ensures.value id ∙ ap (λ (us : List AccessUnit). packets_of_units (timed_units id c.args.base0 us)) c.front.ensures.value in
     omega (
       arith,
       c.loop-next.invariant id,

@@ -1,5 +1,5 @@
 use Rattle.std.proofs.Common.{arith}
-use Rattle.stream_units.proofs.Counting.{interval_more, interval_end, interval_most}
+use Rattle.stream_units.proofs.UnitCounts.{interval_more, interval_end, interval_most}
 use Rattle.stream_units.proofs.declaration.interval_after.Goals as goal
 
 pub loop-unit-init : goal.loop-unit-init

@@ -1,5 +1,5 @@
 use Rattle.stream_units.proofs.laws.moved_by_one_constant.Goals as goal
-use Rattle.stream_units.proofs.Stamping.{moved_by_one}
+use Rattle.stream_units.proofs.StampMoments.{moved_by_one}
 
 pub returns : goal.returns
 returns c = moved_by_one

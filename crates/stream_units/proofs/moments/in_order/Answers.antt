@@ -1,6 +1,6 @@
 use Rattle.std.proofs.Common.{◌≡◌, ◌∙◌, ap, rules}
-use Rattle.stream_units.specs.Making.{in_order}
-use Rattle.stream_units.proofs.Orders.{order_is}
+use Rattle.stream_units.specs.MadeDts.{in_order}
+use Rattle.stream_units.proofs.TimeOrder.{order_is}
 use Rattle.stream_units.proofs.moments.in_order.Goals as goal
 
 pub returns : goal.returns

@@ -1,6 +1,6 @@
 use Rattle.std.proofs.Common.{◌≡◌, ◌∙◌, ◌++◌, ◌∷◌, [], ℕ, List, ◌+◌, drop, get_or, ap, ap₂, sym, refl, arith, rules}
-use Rattle.stream_units.specs.Making.{nearest, moments_after}
-use Rattle.stream_units.proofs.Makings.{moments_more, moments_end}
+use Rattle.stream_units.specs.MadeDts.{nearest, moments_after}
+use Rattle.stream_units.proofs.MadeDts.{moments_more, moments_end}
 use Rattle.stream_units.proofs.moments.moments_of.Goals as goal
 
 pub loop-at-preserved : goal.loop-at-preserved

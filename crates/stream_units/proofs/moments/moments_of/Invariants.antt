@@ -1,5 +1,5 @@
 use Rattle.std.proofs.Common.{◌≡◌, ◌≤◌, ◌+◌, ◌*◌, ◌^◌, ◌++◌, drop}
-use Rattle.stream_units.specs.Making.{moments_after}
+use Rattle.stream_units.specs.MadeDts.{moments_after}
 use Rattle.stream_units.proofs.moments.moments_of.Given as goal
 
 abbrev pub invariant-loop-at : goal.invariant-loop-at

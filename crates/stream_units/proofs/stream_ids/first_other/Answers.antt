@@ -7,8 +7,8 @@ loop-at-preserved g c =
     let same : (c.index-units-at.result.stream_id == c.args.id) ≡ true = search rules in
     c.loop-at.invariant ∙ same_at c.args.id c.loop-at.at c.args.units.now c.index-units-at.result c.loop-at-test.true c.index-units-at.is same
 
-pub returns-then-not-has_id : goal.returns-then-not-has_id
-returns-then-not-has_id g c =
+pub returns-then-unit-id : goal.returns-then-unit-id
+returns-then-unit-id g c =
     let other : (c.index-units-at.result.stream_id == c.args.id) ≡ false = search rules in
     sym (c.loop-at.invariant ∙ other_at c.args.id c.loop-at.at c.args.units.now c.index-units-at.result c.loop-at-test.true c.index-units-at.is other)
 

@@ -1,4 +1,4 @@
-use Rattle.table_rounds.proofs.Turning.{own_slot}
+use Rattle.table_rounds.proofs.CarouselSteps.{own_slot}
 use Rattle.table_rounds.proofs.laws.own_slot.Goals as goal
 
 pub returns : goal.returns

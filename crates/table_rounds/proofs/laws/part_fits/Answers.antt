@@ -1,4 +1,4 @@
-use Rattle.table_rounds.proofs.Carrying.{part_fits}
+use Rattle.table_rounds.proofs.CarriedBytes.{part_fits}
 use Rattle.table_rounds.proofs.laws.part_fits.Goals as goal
 
 pub returns : goal.returns

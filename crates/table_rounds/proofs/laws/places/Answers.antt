@@ -1,4 +1,4 @@
-use Rattle.table_rounds.proofs.Placing.{place_law}
+use Rattle.table_rounds.proofs.Places.{place_law}
 use Rattle.table_rounds.proofs.laws.places.Goals as goal
 
 pub returns : goal.returns

@@ -3,15 +3,15 @@ use Rattle.std.proofs.Math.Nat.{le_trans}
 use Rattle.clock27.specs.Arrival.{arrivals}
 use Rattle.clock27.specs.Departure.{departures}
 use Rattle.clock27.specs.Peak.{IsPeak}
-use Rattle.clock27.proofs.Peaking.{arrivals_climb}
+use Rattle.clock27.proofs.Peak.{arrivals_climb}
 use Rattle.unit_timing.specs.Transport.{slots_of, tb_fullness, pes_left}
-use Rattle.unit_timing.proofs.Topping.{main_peak_law}
+use Rattle.unit_timing.proofs.MainBufferPeak.{main_peak_law}
 use Rattle.pes_packet.specs.Units.{units_of}
-use Rattle.tstd.specs.Carried.{timed_texts}
-use Rattle.tstd.specs.State.Listing.{packets_from}
-use Rattle.tstd.specs.State.Queues.{longest_stay}
-use Rattle.tstd.specs.State.Walking.{left_ahead}
-use Rattle.tstd.proofs.Peaks.{stay_peak, peak_few, length-arrivals}
+use Rattle.tstd.specs.Carried.{timed_pes_packets}
+use Rattle.decoder_buffers.specs.PidPackets.{packets_from}
+use Rattle.decoder_buffers.specs.Queues.{greatest_residence}
+use Rattle.decoder_buffers.specs.DepartureWalk.{left_ahead}
+use Rattle.tstd.proofs.Peaks.{residence_peak, peak_few, length-arrivals}
 use Rattle.tstd.proofs.StreamPackets.{packets_climb, packets_few, payloads_few, none_given, most_found_all}
 use Rattle.tstd.proofs.streams.measure_stream.Goals as goal
 
@@ -29,20 +29,20 @@ returns-clause-fullness g c =
     let s = c.args.stream.now in
     let packets = packets_from s.pid 0 c.args.packets.now in
     let times = arrivals s.rx (slots_of packets) in
-    let texts = timed_texts s.stream_id c.args.base0 (units_of c.args.number c.args.units.now) in
+    let pes_packets = timed_pes_packets s.stream_id c.args.base0 (units_of c.args.number c.args.units.now) in
     let left = pes_left c.args.rate s.rx 0 packets in
     let none : c.next-end.result ≡ None = none_given c.next-end.result (left_ahead c.next-end.new.self) (left_ahead c.measure_units.new.walk) all.left end.ahead in
     let step : c.next-end.new.self.queue.step ≡ c.args.rate = end.step ∙ all.step ∙ walk.step in
-    let longest : c.next-end.new.self.queue.longest ≡ longest_stay c.args.rate 0 times =
-    sym (rw none at end.ended) ∙ end.longest ∙ all.longest ∙ rw c.from.ensures at walk.longest in
-    let some : 0 < c.args.rate = omega (arith, c.requires.least) in
+    let longest_residence : c.next-end.new.self.queue.longest_residence ≡ greatest_residence c.args.rate 0 times =
+    sym (rw none at end.ended) ∙ end.longest_residence ∙ all.longest_residence ∙ rw c.from.ensures at walk.longest_residence in
+    let some : 0 < c.args.rate = omega (arith, c.requires.low) in
     let drain : 0 < s.rx = omega (arith, c.requires.stream.least_rx) in
-    let main = most_found_all c.new-walk.result c.measure_units.new.walk c.new-buffer.result c.measure_units.new.buffer c.args.rate s.rx texts left
-    c.new-buffer.ensures.empty c.new-buffer.ensures.most walk.step (walk.rx ∙ c.from.ensures) (rw c.from.ensures at walk.ahead) all.left (all.most s.stream_id) in
+    let main = most_found_all c.new-walk.result c.measure_units.new.walk c.new-buffer.result c.measure_units.new.buffer c.args.rate s.rx pes_packets left
+    c.new-buffer.ensures.empty c.new-buffer.ensures.peak walk.step (walk.rx ∙ c.from.ensures) (rw c.from.ensures at walk.ahead) all.left (all.peak s.stream_id) in
     record {
-      transport = rw (c.most.ensures, step)
-          (stay_peak c.args.rate c.next-end.new.self.queue.longest times some (arrivals_climb s.rx (slots_of packets) drain (packets_climb s.pid 0 c.args.packets.now)) longest);
-      main = rw main (main_peak_law c.args.rate s.rx texts left);
+      transport = rw (c.peak.ensures, step)
+          (residence_peak c.args.rate c.next-end.new.self.queue.longest_residence times some (arrivals_climb s.rx (slots_of packets) drain (packets_climb s.pid 0 c.args.packets.now)) longest_residence);
+      main = rw main (main_peak_law c.args.rate s.rx pes_packets left);
     }
 
 pub overflow_cast-fullness : goal.overflow_cast-fullness
@@ -55,15 +55,15 @@ overflow_cast-fullness g c =
     let times = arrivals s.rx (slots_of packets) in
     let none : c.next-end.result ≡ None = none_given c.next-end.result (left_ahead c.next-end.new.self) (left_ahead c.measure_units.new.walk) all.left end.ahead in
     let step : c.next-end.new.self.queue.step ≡ c.args.rate = end.step ∙ all.step ∙ walk.step in
-    let longest : c.next-end.new.self.queue.longest ≡ longest_stay c.args.rate 0 times =
-    sym (rw none at end.ended) ∙ end.longest ∙ all.longest ∙ rw c.from.ensures at walk.longest in
-    let some : 0 < c.args.rate = omega (arith, c.requires.least) in
+    let longest_residence : c.next-end.new.self.queue.longest_residence ≡ greatest_residence c.args.rate 0 times =
+    sym (rw none at end.ended) ∙ end.longest_residence ∙ all.longest_residence ∙ rw c.from.ensures at walk.longest_residence in
+    let some : 0 < c.args.rate = omega (arith, c.requires.low) in
     let drain : 0 < s.rx = omega (arith, c.requires.stream.least_rx) in
-    let peak : IsPeak (λ x. tb_fullness c.args.rate s.rx x (slots_of packets)) c.most.result = rw (c.most.ensures, step)
-    (stay_peak c.args.rate c.next-end.new.self.queue.longest times some (arrivals_climb s.rx (slots_of packets) drain (packets_climb s.pid 0 c.args.packets.now)) longest) in
+    let peak : IsPeak (λ x. tb_fullness c.args.rate s.rx x (slots_of packets)) c.peak.result = rw (c.peak.ensures, step)
+    (residence_peak c.args.rate c.next-end.new.self.queue.longest_residence times some (arrivals_climb s.rx (slots_of packets) drain (packets_climb s.pid 0 c.args.packets.now)) longest_residence) in
     omega (
       arith,
-      peak_few c.most.result times (departures c.args.rate 0 times) peak,
+      peak_few c.peak.result times (departures c.args.rate 0 times) peak,
       length-arrivals s.rx (slots_of packets),
       packets_few s.pid 0 c.args.packets.now,
       c.requires.count,

@@ -1,5 +1,5 @@
 use Rattle.std.proofs.Common.{◌≡◌, ◌∙◌, ◌+◌, ◌*◌, ◌≤◌, max, refl, arith}
-use Rattle.tstd.proofs.Rows.{row_step, row_pace, row_end}
+use Rattle.decoder_buffers.proofs.ByteRows.{row_step, row_pace, row_end}
 use Rattle.tstd.proofs.TablePackets.{pass_step, pass_end}
 use Rattle.tstd.proofs.tables.pass_packet.Goals as goal
 
@@ -19,7 +19,7 @@ loop-byte-preserved c =
       system_step = inv.system_step;
       last = pace;
       left = omega (arith, pace, short', inv.left);
-      longest = omega (arith, inv.longest);
+      longest_residence = omega (arith, inv.longest_residence);
       inner = omega (arith, inv.inner);
       transport = row_step c.loop-byte.transport 2000000 byte end c.loop-byte-test.true ∙ inv.transport;
       system = pass_step c.loop-byte.transport c.loop-byte.system byte end c.loop-byte-test.true ∙ inv.system;

@@ -2,11 +2,11 @@ use Rattle.std.proofs.Common.{◌≡◌, ◌∙◌, ℕ, ◌+◌, ◌≤◌, ◌
 use Rattle.unit_timing.specs.Arrived.{first_late}
 use Rattle.unit_timing.specs.PesPacket.{PesPacket}
 use Rattle.pes_packet.specs.Units.{units_of}
-use Rattle.tstd.specs.Carried.{timed_texts}
-use Rattle.tstd.specs.State.Entering.{most_of}
-use Rattle.tstd.specs.State.Walking.{left_ahead}
+use Rattle.tstd.specs.Carried.{timed_pes_packets}
+use Rattle.unit_arrival.specs.Entry.{peak_of}
+use Rattle.decoder_buffers.specs.DepartureWalk.{left_ahead}
 use Rattle.tstd.proofs.UnitLists.{texts_own, texts_other, texts_end, late_more, late_end, size_next, fewer_left}
-use Rattle.tstd.proofs.Walks.{nothing}
+use Rattle.decoder_buffers.proofs.DepartureWalks.{nothing}
 use Rattle.tstd.proofs.units.measure_units.Goals as goal
 
 pub loop-entry-preserved-then-not-is_of : goal.loop-entry-preserved-then-not-is_of
@@ -18,9 +18,9 @@ loop-entry-preserved-then-not-is_of g c =
     let same = λ (id : ℕ). texts_other id c.args.base0 c.args.stream i c.args.units.now u c.loop-entry-test.true c.entry-item.is other in
     record {
       late = λ id. rw (same id) at (inv.late id);
-      most = λ id. rw (same id) at (inv.most id);
+      peak = λ id. rw (same id) at (inv.peak id);
       carried = let id = inv.carried.0 in (id, rw (same id) at inv.carried.1);
-      longest = inv.longest;
+      longest_residence = inv.longest_residence;
       rx = inv.rx;
       step = inv.step;
       sound = inv.sound;
@@ -37,23 +37,23 @@ loop-entry-preserved g c =
     let u = c.entry-item.result in
     let due = c.due_of.result in
     let size = c.size_of.result in
-    let text : PesPacket = record { dts = due; size = size } in
+    let pes_packet : PesPacket = record { dts = due; size = size } in
     let own : (u.0 == c.args.stream) ≡ true = sym c.is_of.ensures ∙ c.if-not-is_of.false in
-    let same : (id : ℕ) → timed_texts id c.args.base0 (units_of c.args.stream (drop i units)) ≡ text ∷ timed_texts id c.args.base0 (units_of c.args.stream (drop (i + 1) units)) =
+    let same : (id : ℕ) → timed_pes_packets id c.args.base0 (units_of c.args.stream (drop i units)) ≡ pes_packet ∷ timed_pes_packets id c.args.base0 (units_of c.args.stream (drop (i + 1) units)) =
     λ id. texts_own id c.args.base0 c.args.stream i due size units u c.loop-entry-test.true c.entry-item.is own c.due_of.ensures (c.size_of.ensures.size id) in
     record {
       late = λ id. rw c.first_of-late.ensures
           (late_more c.args.walk.now.queue.step c.args.walk.now.rx c.args.slots c.loop-entry.number size due c.loop-entry.late c.in_ok-is_late.is_late
-          (timed_texts id c.args.base0 (units_of c.args.stream (drop (i + 1) units))) (left_ahead c.loop-entry.walk) (left_ahead c.measure_text.new.walk)
+          (timed_pes_packets id c.args.base0 (units_of c.args.stream (drop (i + 1) units))) (left_ahead c.loop-entry.walk) (left_ahead c.measure_unit.new.walk)
           c.loop-entry.walk.queue.step c.loop-entry.walk.rx inv.step inv.rx e.late e.left ∙ rw (same id) at (inv.late id));
-      most = λ id. e.most (timed_texts id c.args.base0 (units_of c.args.stream (drop (i + 1) units)))
-          ∙ ap (most_of c.loop-entry.walk c.loop-entry.buffer) (sym (same id)) ∙ inv.most id;
+      peak = λ id. e.peak (timed_pes_packets id c.args.base0 (units_of c.args.stream (drop (i + 1) units)))
+          ∙ ap (peak_of c.loop-entry.walk c.loop-entry.buffer) (sym (same id)) ∙ inv.peak id;
       carried = let id = inv.carried.0 in (
         id,
         rw e.left (fewer_left size _ (left_ahead c.loop-entry.walk)
-            (rw (same id, size_next text (timed_texts id c.args.base0 (units_of c.args.stream (drop (i + 1) units)))) at inv.carried.1)),
+            (rw (same id, size_next pes_packet (timed_pes_packets id c.args.base0 (units_of c.args.stream (drop (i + 1) units)))) at inv.carried.1)),
       );
-      longest = e.longest ∙ inv.longest;
+      longest_residence = e.longest_residence ∙ inv.longest_residence;
       rx = e.rx ∙ inv.rx;
       step = e.step ∙ inv.step;
       sound = e.sound;

@@ -2,8 +2,8 @@ use Rattle.std.proofs.Common.{sum_by, arith, sym, ap, ◌∙◌, rules, ◌≡�
 use Rattle.std.proofs.lemmas.Option.{slice_get_within}
 use Rattle.std.proofs.lemmas.List.{length-map}
 use Rattle.unit_order.specs.Merging as spec
-use Rattle.unit_order.proofs.Lefts.{one_more, one_fewer, none_merged, all_merged, some_or_none}
-use Rattle.unit_order.proofs.Nexts.{first_next, none_next}
+use Rattle.unit_order.proofs.MergedUnits.{one_more, one_fewer, none_merged, all_merged, some_or_none}
+use Rattle.unit_order.proofs.NextStream.{first_next, none_next}
 use Rattle.unit_order.proofs.merging.merged.Goals as goal
 
 pub units-init : goal.units-init

@@ -1,6 +1,6 @@
 use Rattle.std.proofs.Common.{rules, ◌∙◌, sym, arith, ◌≡◌, slice_index_or}
 use Rattle.unit_order.specs.Merging as spec
-use Rattle.unit_order.proofs.Nexts.{next_step, next_end}
+use Rattle.unit_order.proofs.NextStream.{next_step, next_end}
 use Rattle.unit_order.proofs.merging.next_stream.Goals as goal
 
 -- src/merging.rt:46:5

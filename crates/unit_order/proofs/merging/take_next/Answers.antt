@@ -1,5 +1,5 @@
 use Rattle.std.proofs.Common.{ap, ◌∙◌, rules, ◌≡◌, IfNone, [], slice_index_or}
-use Rattle.unit_order.proofs.Lefts.{taken_if, none_if}
+use Rattle.unit_order.proofs.MergedUnits.{taken_if, none_if}
 use Rattle.unit_order.proofs.merging.take_next.Goals as goal
 
 -- src/merging.rt:53:1

@@ -1,5 +1,5 @@
 use Rattle.unit_queue.proofs.laws.own_slot.Goals as goal
-use Rattle.unit_queue.proofs.Holding.{own_slot_law}
+use Rattle.unit_queue.proofs.QueueStates.{own_slot_law}
 
 pub returns : goal.returns
 returns c = own_slot_law

@@ -1,4 +1,4 @@
-use Rattle.unit_timing.proofs.Stretching.{deadline_law}
+use Rattle.unit_timing.proofs.DeadlineLemmas.{deadline_law}
 use Rattle.unit_timing.proofs.deadlines.grouped.Goals as goal
 
 pub returns : goal.returns

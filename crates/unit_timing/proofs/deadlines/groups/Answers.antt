@@ -1,4 +1,4 @@
-use Rattle.unit_timing.proofs.Grouping.{group_law}
+use Rattle.unit_timing.proofs.GroupLemmas.{group_law}
 use Rattle.unit_timing.proofs.deadlines.groups.Goals as goal
 
 pub returns : goal.returns

@@ -1,4 +1,4 @@
-use Rattle.unit_timing.proofs.Serving.{deadline_switch_law}
+use Rattle.unit_timing.proofs.PlanLemmas.{deadline_switch_law}
 use Rattle.unit_timing.proofs.plans.deadline_switch.Goals as goal
 
 pub returns : goal.returns

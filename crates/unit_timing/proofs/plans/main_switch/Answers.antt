@@ -1,4 +1,4 @@
-use Rattle.unit_timing.proofs.Serving.{main_switch_law}
+use Rattle.unit_timing.proofs.PlanLemmas.{main_switch_law}
 use Rattle.unit_timing.proofs.plans.main_switch.Goals as goal
 
 pub returns : goal.returns

@@ -1,4 +1,4 @@
-use Rattle.unit_timing.proofs.Serving.{stream_law}
+use Rattle.unit_timing.proofs.PlanLemmas.{stream_law}
 use Rattle.unit_timing.proofs.plans.stream.Goals as goal
 
 pub returns : goal.returns

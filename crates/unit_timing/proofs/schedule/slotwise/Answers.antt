@@ -1,4 +1,4 @@
-use Rattle.unit_timing.proofs.Numbering.{slotwise_law}
+use Rattle.unit_timing.proofs.ScheduleLemmas.{slotwise_law}
 use Rattle.unit_timing.proofs.schedule.slotwise.Goals as goal
 
 pub returns : goal.returns

@@ -1,4 +1,4 @@
-use Rattle.unit_timing.proofs.Numbering.{system_law}
+use Rattle.unit_timing.proofs.ScheduleLemmas.{system_law}
 use Rattle.unit_timing.proofs.system_buffers.pair.Goals as goal
 
 pub returns : goal.returns

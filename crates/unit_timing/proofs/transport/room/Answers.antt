@@ -1,4 +1,4 @@
-use Rattle.unit_timing.proofs.Filling.{transport_room}
+use Rattle.unit_timing.proofs.TransportBuffer.{transport_room}
 use Rattle.unit_timing.proofs.transport.room.Goals as goal
 
 pub returns : goal.returns

@@ -1,4 +1,4 @@
-use Rattle.unit_timing.proofs.Adding.{spaced_more_law, sized_more_law, group_more_law}
+use Rattle.unit_timing.proofs.OneMoreUnit.{spaced_more_law, sized_more_law, group_more_law}
 use Rattle.unit_timing.proofs.units.one_more.Goals as goal
 
 pub returns-clause-spaced : goal.returns-clause-spaced

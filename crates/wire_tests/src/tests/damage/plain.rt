@@ -60,7 +60,7 @@ fn header(bytes: &[u8]) -> usize {
     )
 }
 
-/// Whether a marker bit is 0 in so many bytes of stamps.
+/// Whether a marker bit is 0 in the first `stamps` bytes of the time stamps.
 fn lacks_a_marker(bytes: &[u8], stamps: usize) -> bool {
     for at in [0, 2, 4, 5, 7, 9] {
         if at < stamps && byte(bytes, 9 + at) % 2 == 0 {

@@ -7,7 +7,7 @@ use crate::tests::vectors::{
 };
 
 /// Readers, bytes, and the answer: 100 and the bytes that are read, or the number of the first refusal in its order.
-pub const REFUSED: [(u8, &[u8], usize); 35] = [
+pub static REFUSED: [(u8, &[u8], usize); 35] = [
     // Another prefix, and a cut one.
     (HEADER, b"\x00\x00\x02", 2),
     (HEADER, b"\x00\x00", 1),
@@ -80,8 +80,8 @@ pub const REFUSED: [(u8, &[u8], usize); 35] = [
         b"\x00\xb0\x0d\x00\x01\xc1\x00\x00\x00\x01\xf0\x00\x2a\xb1\x04\xb3",
         3,
     ),
-    // Two at once: cut and with a wrong check word, a section_length of 4,094 in three bytes, of 8 in the long form before a wrong check
-    // word, and the same in two bytes.
+    // Two at once: cut and with a wrong check word, a section_length of 4,094 in three bytes, of 8 in the long form
+    // before a wrong check word, and the same in two bytes.
     (
         SECTION,
         b"\x00\xb0\x0d\x00\x01\xc1\x00\x00\x00\x01\xf0\x00\x2a\xb1\x00",
@@ -98,10 +98,11 @@ pub const REFUSED: [(u8, &[u8], usize); 35] = [
 ];
 
 /// The readers of tables.
-pub const READERS: [u8; 6] = [0x00, 0x02, 0x40, 0x42, 0x4e, 0x70];
+pub static READERS: [u8; 6] = [0x00, 0x02, 0x40, 0x42, 0x4e, 0x70];
 
-/// Sections, and the number of the refusal by the reader of their table_id, 0 where they are read. The last three have the short form.
-pub const TABLES: [(&[u8], u8); 15] = [
+/// Sections, and the number of the refusal by the reader of their table_id, 0 where they are read. The last three have
+/// the short form.
+pub static TABLES: [(&[u8], u8); 15] = [
     (PAT, 0),
     (PMT, 0),
     (FFMPEG_SDT, 0),
@@ -120,7 +121,7 @@ pub const TABLES: [(&[u8], u8); 15] = [
 ];
 
 /// Readers of PAT and PMT, sizes of a PAT's body of 0xFF, and the numbers of the refusals.
-pub const LONG_TABLES: [(u8, usize, u8); 5] = [
+pub static LONG_TABLES: [(u8, usize, u8); 5] = [
     (0x00, 1013, 2),
     (0x00, 1012, 0),
     (0x00, 1011, 5),
@@ -128,8 +129,8 @@ pub const LONG_TABLES: [(u8, usize, u8); 5] = [
     (0x02, 1011, 4),
 ];
 
-/// Readers, bytes, and which of these are changed: from a place on, so many.
-pub const DAMAGED: [(u8, &[u8], usize, usize); 21] = [
+/// Readers, bytes, the offset of those that are changed, and their number.
+pub static DAMAGED: [(u8, &[u8], usize, usize); 21] = [
     (HEADER, PTS_HEADER, 0, 14),
     (HEADER, PTS_DTS_HEADER, 0, 19),
     (PACKET, b"\x47\x41\x00\x10", 0, 188),

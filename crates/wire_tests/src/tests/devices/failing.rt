@@ -1,4 +1,4 @@
-//! Devices that fail after so many bytes or calls.
+//! Devices that fail after a number of bytes or calls.
 use arrayvec::ArrayVec;
 use std::io::Write;
 use ts_packet::{Counted, DeviceFault, Failing, Sink, Source, read_part, write_part};
@@ -24,7 +24,7 @@ fn reads_to_the_end(rt: HostRuntime) {
     assert!(rt; parts_read() == [true; 6]);
 }
 
-/// A read that fails after so many bytes: what it answers, what it read, the count of faults, what is left.
+/// A read that fails after `bytes` bytes: its answer, what it read, the count of faults, what is left.
 fn read_after(bytes: u8) -> [bool; 4] {
     let taken = bytes as usize;
     let mut input = Counted::new(Failing::after_bytes(&TEXT[..], bytes as u64));
@@ -54,7 +54,7 @@ fn read_in_calls(calls: u64) -> bool {
     Source::faults(&input) == 6 - calls.min(6)
 }
 
-/// A write that fails after so many bytes: what it answers, the count of faults, what was written.
+/// A write that fails after `bytes` bytes: its answer, the count of faults, what was written.
 fn written_after(bytes: u8) -> [bool; 3] {
     let taken = bytes as usize;
     let mut output = Counted::new(Failing::after_bytes(ArrayVec::<u8, 8>::new(), bytes as u64));

@@ -4,7 +4,8 @@ ghost use Rattle.std.specs.Prelude.{◌≤◌, IfOk};
 use std::io::{self, Error, ErrorKind, Read, Write};
 use ts_packet::{Counted, Sink, Source, read_part, write_part};
 
-/// Each call takes the next answer: so many bytes at most, or a failure. After the last answer it gives and takes all.
+/// Each call takes the next answer: a greatest number of bytes, or a failure. After the last answer it gives and takes
+/// all.
 #[derive(Drop)]
 struct Scripted {
     answers: [Option<usize>; 3],
@@ -88,7 +89,8 @@ fn number(answer: io::Result<usize>) -> usize {
     }
 }
 
-/// A kind of call, the device's answers, what four calls answer with the count of faults after each, and the device's calls.
+/// A kind of call, the device's answers, what four calls answer with the count of faults after each, and the device's
+/// calls.
 type Row = (u8, [Option<usize>; 3], [(usize, u64); 4], usize);
 
 const ONE_FAILS: [Option<usize>; 3] = [Some(2), None, Some(3)];
@@ -113,8 +115,8 @@ const ROWS: [Row; 9] = [
     (WRITE_PART, [Some(2), Some(3), Some(1)], [(8, 0); 4], 7),
 ];
 
-fn is_answered(row: Row) -> bool {
-    let (kind, answers, wanted, calls) = row;
+fn is_answered(row: &Row) -> bool {
+    let (kind, answers, wanted, calls) = *row;
     let mut device = Counted::new(Scripted { answers, calls: 0 });
     for (answer, faults) in wanted {
         if call(&mut device, kind) != answer {
@@ -129,7 +131,8 @@ fn is_answered(row: Row) -> bool {
 
 #[test]
 fn each_call_is_passed_on_once(rt: HostRuntime) {
-    for row in ROWS {
+    let rows = ROWS;
+    for row in &rows {
         assert!(rt; is_answered(row));
     }
 }

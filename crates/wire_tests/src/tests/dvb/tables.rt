@@ -41,7 +41,7 @@ fn is_nit_written(alloc: Global) -> bool {
     let answers = [pushed, nit.write_to(&mut out)];
     answers == [Ok(()); 2]
         && are_written(&out, nit.write(alloc), NIT)
-        && nit.transport_streams.text_length() == 6
+        && nit.transport_streams.byte_length() == 6
 }
 
 /// Whether the NIT is read as it was written.
@@ -90,7 +90,7 @@ fn is_sdt_written(alloc: Global) -> bool {
     let answers = [pushed, sdt.write_to(&mut out)];
     answers == [Ok(()); 2]
         && are_written(&out, sdt.write(alloc), SDT)
-        && sdt.services.text_length() == 13
+        && sdt.services.byte_length() == 13
 }
 
 /// What is read of ffmpeg's service.
@@ -178,7 +178,7 @@ fn has_news(bytes: &[u8]) -> Option<bool> {
     let first = left.next()?;
     let answers = [
         eit.header == PRESENT,
-        eit.events.text_length() == 23,
+        eit.events.byte_length() == 23,
         first.event_id == 7,
         first.start_time == *b"\xc0\x79\x12\x45\x00",
         first.duration == *b"\x01\x30\x00",

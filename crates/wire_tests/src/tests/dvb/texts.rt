@@ -8,7 +8,7 @@ use dvb_tables::{
 };
 
 /// Letters, and their bytes: in the default table, in UTF-8, for a dash.
-const CODED: [(&str, &[u8]); 4] = [
+static CODED: [(&str, &[u8]); 4] = [
     ("", b""),
     ("Ab 9", b"Ab 9"),
     ("f\u{ea}", b"\x15f\xc3\xaa"),
@@ -33,7 +33,7 @@ fn refusal(letters: &str) -> u8 {
 
 #[test]
 fn texts(rt: HostRuntime) {
-    for (letters, wanted) in CODED {
+    for (letters, wanted) in &CODED {
         assert!(rt; is_coded(letters, wanted));
     }
     assert!(rt; [refusal("New"), refusal("News"), refusal("A-B")] == [0, 1, 1]);
@@ -55,7 +55,7 @@ fn news(start: u64, duration: u32) -> Result<Event, TextError>
 }
 
 /// Moments, with the present and the following of three events.
-const MOMENTS: [(u64, Option<usize>, Option<usize>); 7] = [
+static MOMENTS: [(u64, Option<usize>, Option<usize>); 7] = [
     (99, None, Some(0)),
     (100, Some(0), Some(1)),
     (149, Some(0), Some(1)),
@@ -68,8 +68,8 @@ const MOMENTS: [(u64, Option<usize>, Option<usize>); 7] = [
 #[test]
 fn present_and_following_events(rt: HostRuntime) -> Result<(), TextError> {
     let events = [news(100, 50)?, news(150, 10)?, news(200, 10)?];
-    for (moment, present, following) in MOMENTS {
-        assert!(rt; present_following(&events, moment) == (present, following));
+    for (moment, present, following) in &MOMENTS {
+        assert!(rt; present_following(&events, *moment) == (*present, *following));
     }
     Ok(())
 }

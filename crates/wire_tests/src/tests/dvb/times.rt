@@ -5,7 +5,7 @@ use jiff::civil::Date;
 use std::test::Fail;
 
 /// Dates with their modified Julian dates.
-const DATES: [(i16, i8, i8, Result<u16, MjdError>); 6] = [
+static DATES: [(i16, i8, i8, Result<u16, MjdError>); 6] = [
     (1970, 1, 1, Ok(40_587)),
     (1858, 11, 17, Ok(0)),
     (2038, 4, 22, Ok(65_535)),
@@ -16,15 +16,15 @@ const DATES: [(i16, i8, i8, Result<u16, MjdError>); 6] = [
 
 #[test]
 fn julian_dates(rt: HostRuntime) -> Result<(), Fail> {
-    for (year, month, day, want) in DATES {
-        assert!(rt; mjd(Date::new(year, month, day)?) == want);
+    for (year, month, day, wanted) in &DATES {
+        assert!(rt; mjd(Date::new(*year, *month, *day)?) == *wanted);
     }
     assert!(rt; MjdError::Range.code() == 1);
     Ok(())
 }
 
 /// Moments and their bytes: the example of EN 300 468, 93/10/13 12:45:00, the first moment, the day past 22 April 2038.
-const MOMENTS: [(u64, [u8; 5]); 3] = [
+static MOMENTS: [(u64, [u8; 5]); 3] = [
     (750_516_300, *b"\xc0\x79\x12\x45\x00"),
     (0, *b"\x9e\x8b\x00\x00\x00"),
     (2_155_593_600, *b"\x00\x00\x00\x00\x00"),
@@ -32,8 +32,8 @@ const MOMENTS: [(u64, [u8; 5]); 3] = [
 
 #[test]
 fn moments(rt: HostRuntime) {
-    for (moment, bytes) in MOMENTS {
-        assert!(rt; utc_time(moment) == bytes);
+    for (moment, bytes) in &MOMENTS {
+        assert!(rt; utc_time(*moment) == *bytes);
     }
     // The example of EN 300 468, 01:45:30, and the longest duration.
     assert!(rt; duration_digits(6_330) == *b"\x01\x45\x30");

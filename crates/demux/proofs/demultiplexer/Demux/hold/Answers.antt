@@ -1,6 +1,6 @@
 use Rattle.std.proofs.Common.{◌≡◌, ◌++◌, ◌-◌, length, take, ap, ap₂, ◌∙◌, List, ℕ, arith}
 use Rattle.demux.specs.Stream as stream
-use Rattle.demux.proofs.Pushing.{held_more, packet_whole}
+use Rattle.demux.proofs.PushedBytes.{held_more, packet_whole}
 use Rattle.demux.proofs.demultiplexer.Demux.hold.Goals as goal
 
 pub returns-then-piece-missing-clause-pushed : goal.returns-then-piece-missing-clause-pushed
@@ -15,4 +15,4 @@ returns-clause-pushed g c =
     let n : length c.self.inside.held.items ≡ length c.args.self.now.held = ap length held in
     let bytes : c.join-bytes.result ≡ c.args.self.now.held ++ take (188 - c.len-missing.result) c.args.piece.now =
     c.join-bytes.ensures ∙ ap₂ (λ (x y : List ℕ). x ++ y) (c.deref.ensures.0 ∙ held) c.split_at.ensures.front in
-    packet_whole c.args.self.now c.pass.new.self (188 - c.len-missing.result) c.args.piece.now c.join-bytes.result (omega arith) (omega arith) (omega arith) bytes c.in_ok-pass.ensures.ok
+    packet_whole c.args.self.now c.push_packet.new.self (188 - c.len-missing.result) c.args.piece.now c.join-bytes.result (omega arith) (omega arith) (omega arith) bytes c.in_ok-push_packet.ensures.ok

@@ -1,6 +1,6 @@
 use Rattle.std.proofs.Common.{◌≡◌, ◌≤◌, ◌+◌, length, take, ap₂, ◌∙◌, List, ℕ, arith}
 use Rattle.demux.specs.Stream as stream
-use Rattle.demux.proofs.Pushing.{pushed_take}
+use Rattle.demux.proofs.PushedBytes.{pushed_take}
 use Rattle.demux.proofs.demultiplexer.Demux.push.Goals as goal
 
 pub loop-taken-preserved : goal.loop-taken-preserved

@@ -1,6 +1,6 @@
 use Rattle.std.proofs.Common.{◌≡◌, drop, map}
 use Rattle.demux.specs.Shown.{finding_view}
-use Rattle.monitor.specs.Noting.{all_noted}
+use Rattle.monitor.specs.FindingStates.{all_noted}
 use Rattle.monitor.proofs.finding_watch.FindingWatch.note_all.Given as goal
 
 abbrev pub invariant-loop-finding : goal.invariant-loop-finding

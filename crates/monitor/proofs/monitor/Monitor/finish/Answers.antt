@@ -1,4 +1,4 @@
-use Rattle.monitor.proofs.Taking.{reports_if}
+use Rattle.monitor.proofs.TakenPackets.{reports_if}
 use Rattle.monitor.proofs.monitor.Monitor.finish.Goals as goal
 
 pub returns : goal.returns

@@ -1,4 +1,4 @@
-use Rattle.monitor.proofs.Taking.{takes_one}
+use Rattle.monitor.proofs.TakenPackets.{takes_one}
 use Rattle.monitor.proofs.monitor.Monitor.take.Goals as goal
 
 pub returns : goal.returns

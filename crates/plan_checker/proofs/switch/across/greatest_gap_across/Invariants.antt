@@ -2,7 +2,7 @@ use Rattle.std.proofs.Common.{◌≡◌, ◌+◌, ◌-◌, ◌*◌}
 use Rattle.own_slots.specs.Period.{per_period, position}
 use Rattle.own_slots.specs.Extremes.{greatest}
 use Rattle.slot_plan.specs.Items.{marks}
-use Rattle.plan_checker.proofs.Switching.{gap_after}
+use Rattle.plan_checker.proofs.SwitchGaps.{gap_after}
 use Rattle.plan_checker.proofs.switch.across.greatest_gap_across.Given as goal
 
 abbrev pub invariant-loop-step : goal.invariant-loop-step

@@ -5,7 +5,7 @@ use Rattle.bit_fields.proofs.ByteLists.{IsBytes-append_left}
 use Rattle.psi_tables.specs.Views.{SectionView, section_view, sized_view}
 use Rattle.psi_tables.specs.Syntax.{IsSection}
 use Rattle.psi_tables.specs.Reading.{section_at}
-use Rattle.psi_tables.specs.Spelling.{HeaderFits}
+use Rattle.psi_tables.specs.Encoding.{HeaderFits}
 use Rattle.psi_tables.specs.declared.error.SectionError.{SectionError}
 use Rattle.psi_tables.specs.declared.section.Section.{Section}
 use Rattle.psi_tables.proofs.SectionFound.{section_is, section_again, section_fits}
@@ -25,10 +25,10 @@ fits_of bytes (Ok p) h e = section_fits (take p.1 bytes) (section_view p.0) (sec
 fits_of bytes (Err d) h e = tt
 
 only_of : (bytes : List ℕ) (r : Result (Section × ℕ) SectionError) → IsBytes bytes → Gives sized_view r (section_at bytes)
-    → (text rest : List ℕ) (s : SectionView) → bytes ≡ text ++ rest → IsSection text s → Gives sized_view r (Ok (s, length text))
-only_of bytes r h e text rest s is section =
-    let fit : IsBytes text = IsBytes-append_left text rest (subst IsBytes is h) in
-    subst (λ (x : Result (SectionView × ℕ) SectionError). Gives sized_view r x) (section_again text rest s fit section) (subst (λ (x : List ℕ). Gives sized_view r (section_at x)) is e)
+    → (section rest : List ℕ) (s : SectionView) → bytes ≡ section ++ rest → IsSection section s → Gives sized_view r (Ok (s, length section))
+only_of bytes r h e section rest s is here =
+    let fit : IsBytes section = IsBytes-append_left section rest (subst IsBytes is h) in
+    subst (λ (x : Result (SectionView × ℕ) SectionError). Gives sized_view r x) (section_again section rest s fit here) (subst (λ (x : List ℕ). Gives sized_view r (section_at x)) is e)
 
 pub returns-clause-found : goal.returns-clause-found
 returns-clause-found c = found_of c.args.bytes.now c.section_at.result (λ i. omega (arith, c.type_inv.bytes i)) c.section_at.ensures

@@ -1,5 +1,5 @@
 use Rattle.std.proofs.Common.{◌≡◌, length}
-use Rattle.tstd.specs.State.Agreeing.{bytes_ahead}
+use Rattle.tstd.specs.PayloadWalk.{bytes_ahead}
 use Rattle.tstd.proofs.payloads.Payloads.next.Given as goal
 
 abbrev pub invariant-packets : goal.invariant-packets

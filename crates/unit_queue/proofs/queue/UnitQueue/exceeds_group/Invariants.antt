@@ -5,4 +5,4 @@ abbrev pub invariant-loop-before : goal.invariant-loop-before
 invariant-loop-before g l =
     (goal.iterator-loop-before g).can_next l.before-iterator
     × (goal.iterator-loop-before g).is_finite l.before-iterator
-    × (sum l.self.recent + l.packets + l.left ≡ l.self.rules.group_packets + sum l.before-iterator)
+    × (sum l.self.recent + l.packets + l.left ≡ l.self.parameters.group_packets + sum l.before-iterator)

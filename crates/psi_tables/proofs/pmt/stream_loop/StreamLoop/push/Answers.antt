@@ -1,7 +1,7 @@
 use Rattle.std.proofs.Common.{◌≡◌, ℕ, List, is_some, true, sym, ap, ◌∙◌, subst, arith}
 use Rattle.psi_tables.specs.Loops.{loop_at}
 use Rattle.psi_tables.specs.ProgramMap.{stream_view, stream_loop_of, streams_in}
-use Rattle.psi_tables.proofs.StreamTexts.{EntryFits, pushed}
+use Rattle.psi_tables.proofs.StreamEncodings.{EntryFits, pushed}
 use Rattle.psi_tables.proofs.pmt.stream_loop.StreamLoop.push.Goals as goal
 
 pub invariant_of-self : goal.invariant_of-self

@@ -1,5 +1,0 @@
-pub mod Taking
-pub mod Carrying
-pub mod Sending
-pub mod Finding
-pub mod Returning

@@ -1,0 +1,5 @@
+pub mod UnitPackets
+pub mod AcceptedUnits
+pub mod Runs
+pub mod LeftInput
+pub mod RunLengths

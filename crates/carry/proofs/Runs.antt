@@ -1,0 +1,265 @@
+-- A run over records, record by record.
+use Rattle.std.proofs.Common.{◌≡◌, ℕ, suc, ◌+◌, ◌-◌, ◌%◌, ◌≤◌, Bool, List, [], ◌∷◌, ◌++◌, length, take, drop, Option, Some, None, Ok, Err, refl, sym, ap, ◌∙◌, subst, arith, append_assoc, append-nil, take_at, take_all}
+use Rattle.std.proofs.lemmas.List.{length-append, length-drop, take-append-drop}
+use Rattle.std.proofs.lemmas.Grind.{flat_map-append}
+use Rattle.pes_packet.specs.AccessUnits.{AccessUnit}
+use Rattle.packet_output.specs.Buffer.{byte_count, Buffered, IsOutput, Took}
+use Rattle.carry.specs.PidPackets.{unit_packets, unit_count, stream_packets}
+use Rattle.packet_output.specs.Formats.{formatted, formatted_all}
+use Rattle.unit_records.specs.Records.{record_at, after_record, size_at}
+use Rattle.carry.specs.RecordRuns.{Run, Ending, Finished, UnitRefused, FileRefused, judged, run_step, run_from, run_of, carried, Answers, Writes}
+use Rattle.carry.specs.RunSteps.{HoldsUnit, ReadsNext, EndsRun, answer_of}
+use Rattle.unit_queue.specs.declared.refusal.FeedError.{FeedError}
+use Rattle.unit_records.specs.declared.reading.UnitFileError.{UnitFileError}
+use Rattle.unit_records.specs.declared.reading.UnitFileError.TheVariants.{Cut, Size, Device, Memory}
+use Rattle.carry.specs.declared.carrying.Stop.{Stop}
+use Rattle.carry.specs.declared.carrying.Stop.TheVariants.{Refused, Unread, OutOfMemory}
+use Rattle.std.specs.Io.KnownBytes.{Appends}
+use Rattle.std.proofs.KnownBytes.{Appends-nil}
+use Rattle.packet_output.proofs.Written.{holds_none, took_longer}
+use Rattle.unit_records.proofs.RecordReading.{record_long}
+
+-- how many packets units become
+abbrev pub packet_number : ℕ → List AccessUnit → ℕ
+packet_number id [] = 0
+packet_number id (unit ∷ units) = unit_count id unit + packet_number id units
+
+-- a run after units
+abbrev pub before : List AccessUnit → Run → Run
+before units run = record { units = units ++ run.units; ending = run.ending }
+
+packet_number-append : (id : ℕ) (us vs : List AccessUnit) → packet_number id (us ++ vs) ≡ packet_number id us + packet_number id vs
+packet_number-append id [] vs = omega arith
+packet_number-append id (u ∷ us) vs = let rest = packet_number-append id us vs in omega (arith, rest)
+
+stream_packets-append : (pid id n : ℕ) (us vs : List AccessUnit)
+    → stream_packets pid id n (us ++ vs) ≡ stream_packets pid id n us ++ stream_packets pid id (n + packet_number id us) vs
+unfolding stream_packets
+stream_packets-append pid id n [] vs = let none : n + 0 ≡ n = omega arith in rw none refl
+stream_packets-append pid id n (u ∷ us) vs =
+    let place : (n + unit_count id u) + packet_number id us ≡ n + (unit_count id u + packet_number id us) = omega arith in
+    ap (λ (t : List (List ℕ)). unit_packets pid id n u ++ t) (stream_packets-append pid id (n + unit_count id u) us vs)
+    ∙ sym (append_assoc (unit_packets pid id n u) (stream_packets pid id (n + unit_count id u) us) (stream_packets pid id ((n + unit_count id u) + packet_number id us) vs))
+    ∙ ap (λ (m : ℕ). (unit_packets pid id n u ++ stream_packets pid id (n + unit_count id u) us) ++ stream_packets pid id m vs) place
+
+stream_packets_one : (pid id n : ℕ) (u : AccessUnit) → stream_packets pid id n (u ∷ []) ≡ unit_packets pid id n u
+unfolding stream_packets
+stream_packets_one pid id n u = append-nil (unit_packets pid id n u)
+
+-- the output of one unit more
+carried_more : (hex : Bool) (pid id : ℕ) (us : List AccessUnit) (u : AccessUnit)
+    → carried hex pid id (us ++ u ∷ []) ≡ carried hex pid id us ++ formatted_all hex (unit_packets pid id (packet_number id us) u)
+carried_more hex pid id us u =
+    ap (formatted_all hex) (stream_packets-append pid id 0 us (u ∷ []))
+    ∙ flat_map-append (formatted hex) (stream_packets pid id 0 us) (stream_packets pid id (0 + packet_number id us) (u ∷ []))
+    ∙ ap (λ (t : List (List ℕ)). carried hex pid id us ++ formatted_all hex t)
+    (stream_packets_one pid id (0 + packet_number id us) u ∙ ap (λ (n : ℕ). unit_packets pid id n u) (omega arith))
+
+-- the output of units and others after them
+carried_front : (hex : Bool) (pid id : ℕ) (us vs : List AccessUnit) → (more : List ℕ) × (carried hex pid id (us ++ vs) ≡ carried hex pid id us ++ more)
+carried_front hex pid id us vs = (
+  formatted_all hex (stream_packets pid id (0 + packet_number id us) vs),
+  ap (formatted_all hex) (stream_packets-append pid id 0 us vs)
+      ∙ flat_map-append (formatted hex) (stream_packets pid id 0 us) (stream_packets pid id (0 + packet_number id us) vs),
+)
+
+carried_none : (hex : Bool) (pid id : ℕ) → carried hex pid id [] ≡ []
+unfolding stream_packets
+carried_none hex pid id = refl
+
+run_ended : (n id min_next_dts : ℕ) (xs : List ℕ) → record_at xs ≡ Ok None → run_from (suc n) id min_next_dts xs ≡ record { units = []; ending = Finished }
+unfolding run_from run_step
+run_ended n id min_next_dts xs e = rw e refl
+
+run_unread : (n id min_next_dts : ℕ) (xs : List ℕ) (fault : UnitFileError) → record_at xs ≡ Err fault → run_from (suc n) id min_next_dts xs ≡ record { units = []; ending = FileRefused fault }
+unfolding run_from run_step
+run_unread n id min_next_dts xs fault e = rw e refl
+
+run_refused : (n id min_next_dts : ℕ) (xs : List ℕ) (unit : AccessUnit) (cause : FeedError) → HoldsUnit id min_next_dts xs unit (Some cause)
+    → run_from (suc n) id min_next_dts xs ≡ record { units = []; ending = UnitRefused cause }
+unfolding run_from run_step judged
+run_refused n id min_next_dts xs unit cause h = rw (h.record_is, h.judged_is) refl
+
+run_more : (n id min_next_dts : ℕ) (xs : List ℕ) (unit : AccessUnit) → HoldsUnit id min_next_dts xs unit None
+    → run_from (suc n) id min_next_dts xs ≡ before (unit ∷ []) (run_from n id (unit.dts + 1) (after_record xs))
+unfolding run_from run_step judged
+run_more n id min_next_dts xs unit h = rw (h.record_is, h.judged_is) refl
+
+-- records of xs that are carried, those that are left, and what their packets became
+pub record Midway (pid id : ℕ) (hex : Bool) (xs : List ℕ) (min_next_dts index counter : ℕ) (left start now : Option (List ℕ)) (packets : Buffered) (all : List ℕ) : Type 0 where
+  pub done : List AccessUnit
+  pub rest : List ℕ
+  pub spare : ℕ
+  pub left_is : left ≡ Some rest
+  pub enough : length rest ≤ spare
+  pub run_is : run_of id xs ≡ before done (run_from (suc spare) id min_next_dts rest)
+  pub index_is : index ≡ length done
+  pub counter_is : counter ≡ packet_number id done % 16
+  pub holds : IsOutput start now packets (all ++ carried hex pid id done)
+
+pub midway_start : (pid id : ℕ) (hex : Bool) (xs : List ℕ) (left start now : Option (List ℕ)) (packets : Buffered) (all : List ℕ)
+    → left ≡ Some xs → IsOutput start now packets all → Midway pid id hex xs 0 0 0 left start now packets all
+midway_start pid id hex xs left start now packets all e h =
+    let fuel : 1 + length xs ≡ suc (length xs) = omega arith in
+    record {
+      done = [];
+      rest = xs;
+      spare = length xs;
+      left_is = e;
+      enough = omega arith;
+      run_is = ap (λ (n : ℕ). run_from n id 0 xs) fuel;
+      index_is = refl;
+      counter_is = refl;
+      holds = subst (λ (x : List ℕ). IsOutput start now packets x) (sym (append-nil all) ∙ ap (λ (t : List ℕ). all ++ t) (sym (carried_none hex pid id))) h;
+    }
+
+before_before : (us : List AccessUnit) (u : AccessUnit) (run : Run) → before us (before (u ∷ []) run) ≡ before (us ++ u ∷ []) run
+before_before us u run = ap (λ (units : List AccessUnit). let r : Run = record { units = units; ending = run.ending } in r) (sym (append_assoc us (u ∷ []) run.units))
+
+-- one record more is carried
+pub midway_more : (pid id : ℕ) (hex now_hex : Bool) (xs : List ℕ) (min_next_dts index counter next : ℕ) (left later start now after : Option (List ℕ)) (packets packets_after : Buffered) (all : List ℕ) (unit : AccessUnit)
+    (w : Midway pid id hex xs min_next_dts index counter left start now packets all)
+    → ReadsNext id min_next_dts w.rest later (Ok (Some unit)) → now_hex ≡ hex
+    → (next ≡ (packet_number id w.done + unit_count id unit) % 16)
+    × IsOutput start after packets_after ((all ++ carried hex pid id w.done) ++ formatted_all now_hex (unit_packets pid id (packet_number id w.done) unit))
+    → Midway pid id hex xs (unit.dts + 1) (index + 1) next later start after packets_after all
+midway_more pid id hex now_hex xs min_next_dts index counter next left later start now after packets packets_after all unit w r same pushed =
+    let long : 21 + size_at w.rest ≤ length w.rest = record_long w.rest _ r.0.record_is in
+    let fewer : length (after_record w.rest) ≤ w.spare - 1 = omega (arith, w.enough, length-drop (21 + size_at w.rest) w.rest) in
+    let fuel : w.spare ≡ suc (w.spare - 1) = omega (arith, w.enough) in
+    let number : packet_number id (w.done ++ unit ∷ []) ≡ packet_number id w.done + unit_count id unit =
+    packet_number-append id w.done (unit ∷ []) ∙ omega arith in
+    record {
+      done = w.done ++ unit ∷ [];
+      rest = after_record w.rest;
+      spare = w.spare - 1;
+      left_is = r.1;
+      enough = fewer;
+      run_is = w.run_is ∙ ap (before w.done) (run_more w.spare id min_next_dts w.rest unit r.0)
+          ∙ before_before w.done unit (run_from w.spare id (unit.dts + 1) (after_record w.rest))
+          ∙ ap (λ (n : ℕ). before (w.done ++ unit ∷ []) (run_from n id (unit.dts + 1) (after_record w.rest))) fuel;
+      index_is = omega (arith, w.index_is, length-append w.done (unit ∷ []));
+      counter_is = pushed.0 ∙ ap (λ (n : ℕ). n % 16) (sym number);
+      holds = subst (λ (x : List ℕ). IsOutput start after packets_after x)
+          (ap (λ (b : Bool). (all ++ carried hex pid id w.done) ++ formatted_all b (unit_packets pid id (packet_number id w.done) unit)) same
+          ∙ append_assoc all (carried hex pid id w.done) (formatted_all hex (unit_packets pid id (packet_number id w.done) unit))
+          ∙ ap (λ (t : List ℕ). all ++ t) (sym (carried_more hex pid id w.done unit)))
+          pushed.1;
+    }
+
+-- the writer failed at a record
+pub midway_failed : (pid id : ℕ) (hex now_hex : Bool) (xs : List ℕ) (min_next_dts index counter sent : ℕ) (left later start now after : Option (List ℕ)) (packets : Buffered) (all : List ℕ) (unit : AccessUnit)
+    (w : Midway pid id hex xs min_next_dts index counter left start now packets all)
+    → ReadsNext id min_next_dts w.rest later (Ok (Some unit)) → now_hex ≡ hex
+    → Took start after sent ((all ++ carried hex pid id w.done) ++ formatted_all now_hex (unit_packets pid id (packet_number id w.done) unit))
+    → Took start after sent (all ++ carried hex pid id (run_of id xs).units)
+midway_failed pid id hex now_hex xs min_next_dts index counter sent left later start now after packets all unit w r same took =
+    let run : Run = run_from w.spare id (unit.dts + 1) (after_record w.rest) in
+    let is : run_of id xs ≡ before (w.done ++ unit ∷ []) (run_from w.spare id (unit.dts + 1) (after_record w.rest)) =
+    w.run_is ∙ ap (before w.done) (run_more w.spare id min_next_dts w.rest unit r.0)
+    ∙ before_before w.done unit (run_from w.spare id (unit.dts + 1) (after_record w.rest)) in
+    let front = carried_front hex pid id (w.done ++ unit ∷ []) (run_from w.spare id (unit.dts + 1) (after_record w.rest)).units in
+    let so_far : Took start after sent (all ++ carried hex pid id (w.done ++ unit ∷ [])) =
+    subst (λ (x : List ℕ). Took start after sent x)
+    (ap (λ (b : Bool). (all ++ carried hex pid id w.done) ++ formatted_all b (unit_packets pid id (packet_number id w.done) unit)) same
+    ∙ append_assoc all (carried hex pid id w.done) (formatted_all hex (unit_packets pid id (packet_number id w.done) unit))
+    ∙ ap (λ (t : List ℕ). all ++ t) (sym (carried_more hex pid id w.done unit)))
+    took in
+    subst (λ (x : List ℕ). Took start after sent x)
+    (append_assoc all (carried hex pid id (w.done ++ unit ∷ [])) front.0
+    ∙ ap (λ (t : List ℕ). all ++ t) (sym front.1 ∙ ap (λ (r : Run). carried hex pid id r.units) (sym is)))
+    (took_longer start after sent (all ++ carried hex pid id (w.done ++ unit ∷ [])) front.0 so_far)
+
+-- what is carried is the output of the records so far
+pub midway_holds : (pid id : ℕ) (hex : Bool) (xs : List ℕ) (min_next_dts index counter : ℕ) (left start now : Option (List ℕ)) (packets : Buffered) (all : List ℕ)
+    → Midway pid id hex xs min_next_dts index counter left start now packets all
+    → (index ≤ length (run_of id xs).units) × IsOutput start now packets (all ++ carried hex pid id (take index (run_of id xs).units))
+midway_holds pid id hex xs min_next_dts index counter left start now packets all w =
+    let units : (run_of id xs).units ≡ w.done ++ (run_from (suc w.spare) id min_next_dts w.rest).units = ap (λ (r : Run). r.units) w.run_is in
+    let so_far : take index (run_of id xs).units ≡ w.done =
+    ap (take {A = AccessUnit} index) units ∙ take_at w.done (run_from (suc w.spare) id min_next_dts w.rest).units index (sym w.index_is) in (
+      omega (arith, w.index_is, ap (length {A = AccessUnit}) units, length-append w.done (run_from (suc w.spare) id min_next_dts w.rest).units),
+      subst (λ (u : List AccessUnit). IsOutput start now packets (all ++ carried hex pid id u)) (sym so_far) w.holds,
+    )
+
+ends : (pid id : ℕ) (hex : Bool) (xs : List ℕ) (min_next_dts index counter : ℕ) (left start now : Option (List ℕ)) (packets : Buffered) (all : List ℕ) (ending : Ending)
+    (w : Midway pid id hex xs min_next_dts index counter left start now packets all)
+    → run_from (suc w.spare) id min_next_dts w.rest ≡ record { units = []; ending = ending }
+    → ((run_of id xs).ending ≡ ending) × (index ≡ length (run_of id xs).units)
+ends pid id hex xs min_next_dts index counter left start now packets all ending w e =
+    let is : run_of id xs ≡ before w.done (record { units = []; ending = ending }) = w.run_is ∙ ap (before w.done) e in
+    let units : (run_of id xs).units ≡ w.done = ap (λ (r : Run). r.units) is ∙ append-nil w.done in
+    (ap (λ (r : Run). r.ending) is, w.index_is ∙ ap (length {A = AccessUnit}) (sym units))
+
+-- the input is at its end
+pub midway_ended : (pid id : ℕ) (hex : Bool) (xs : List ℕ) (min_next_dts index counter : ℕ) (left start now : Option (List ℕ)) (packets : Buffered) (all : List ℕ)
+    (w : Midway pid id hex xs min_next_dts index counter left start now packets all)
+    → record_at w.rest ≡ Ok None → EndsRun (run_of id xs) index None
+midway_ended pid id hex xs min_next_dts index counter left start now packets all w e =
+    ends pid id hex xs min_next_dts index counter left start now packets all Finished w (run_ended w.spare id min_next_dts w.rest e)
+
+-- no record was accepted
+pub midway_stopped : (pid id : ℕ) (hex : Bool) (xs : List ℕ) (min_next_dts index counter : ℕ) (left later start now : Option (List ℕ)) (packets : Buffered) (all : List ℕ) (stop : Stop)
+    (w : Midway pid id hex xs min_next_dts index counter left start now packets all)
+    → ReadsNext id min_next_dts w.rest later (Err stop) → EndsRun (run_of id xs) index (Some stop)
+midway_stopped pid id hex xs min_next_dts index counter left later start now packets all (Refused cause) w r =
+    ends pid id hex xs min_next_dts index counter left start now packets all (UnitRefused cause) w (run_refused w.spare id min_next_dts w.rest r.unit cause r.stands)
+midway_stopped pid id hex xs min_next_dts index counter left later start now packets all (Unread Cut) w r =
+    ends pid id hex xs min_next_dts index counter left start now packets all (FileRefused Cut) w (run_unread w.spare id min_next_dts w.rest Cut r.0)
+midway_stopped pid id hex xs min_next_dts index counter left later start now packets all (Unread Size) w r =
+    ends pid id hex xs min_next_dts index counter left start now packets all (FileRefused Size) w (run_unread w.spare id min_next_dts w.rest Size r.0)
+midway_stopped pid id hex xs min_next_dts index counter left later start now packets all (Unread Device) w r =
+    (midway_holds pid id hex xs min_next_dts index counter left start now packets all w).0
+midway_stopped pid id hex xs min_next_dts index counter left later start now packets all (Unread Memory) w r = absurd r
+midway_stopped pid id hex xs min_next_dts index counter left later start now packets all OutOfMemory w r =
+    (midway_holds pid id hex xs min_next_dts index counter left start now packets all w).0
+
+-- no unit, no output
+pub written_none : (hex : Bool) (pid id : ℕ) (a : Option (List ℕ)) → Appends a a (carried hex pid id [])
+written_none hex pid id a = rw (carried_none hex pid id) (Appends-nil a)
+
+-- a new output holds nothing
+pub holds_new : (hex : Bool) (packets : Buffered) (start : Option (List ℕ)) → packets ≡ record { waiting = []; sent = 0; hex = hex } → IsOutput start start packets []
+holds_new hex packets start e = rw e (holds_none start hex)
+
+-- what is answered of a run that ended so
+pub answers_of : (run : Run) (index sent : ℕ) (stop : Option Stop) → EndsRun run index stop → Answers run (answer_of index stop sent)
+answers_of run index sent None h = h.0
+answers_of run index sent (Some (Refused cause)) h = h
+answers_of run index sent (Some (Unread Cut)) h = h
+answers_of run index sent (Some (Unread Size)) h = h
+answers_of run index sent (Some (Unread Device)) h = h
+answers_of run index sent (Some (Unread Memory)) h = absurd h
+answers_of run index sent (Some OutOfMemory) h = h
+
+-- and what the writer took
+pub writes_of : (out : List AccessUnit → List ℕ) (run : Run) (index sent : ℕ) (old new : Option (List ℕ)) (stop : Option Stop) → EndsRun run index stop
+    → (sent ≡ byte_count (length (out (take index run.units)))) × Appends old new (out (take index run.units))
+    → Writes out run.units old new (answer_of index stop sent)
+writes_of out run index sent old new None h w =
+    let whole : take index run.units ≡ run.units = take_all index run.units (omega (arith, h.1)) in
+    (w.0 ∙ ap (λ (u : List AccessUnit). byte_count (length (out u))) whole, subst (λ (u : List AccessUnit). Appends old new (out u)) whole w.1)
+writes_of out run index sent old new (Some (Refused cause)) h w = w.1
+writes_of out run index sent old new (Some (Unread fault)) h w = w.1
+writes_of out run index sent old new (Some OutOfMemory) h w = w.1
+
+-- the writer failed after some of the units
+pub took_units : (hex : Bool) (pid id index sent : ℕ) (units : List AccessUnit) (start now : Option (List ℕ))
+    → Took start now sent (carried hex pid id (take index units)) → Took start now sent (carried hex pid id units)
+took_units hex pid id index sent units start now t =
+    let front = carried_front hex pid id (take index units) (drop index units) in
+    subst (λ (x : List ℕ). Took start now sent x)
+    (sym front.1 ∙ ap (carried hex pid id) (take-append-drop index units))
+    (took_longer start now sent (carried hex pid id (take index units)) front.0 t)
+
+-- the output of a fresh start, by the form that it was made with
+pub took_new : (hex : Bool) (pid id sent : ℕ) (units : List AccessUnit) (packets : Buffered) (start now : Option (List ℕ))
+    → packets ≡ record { waiting = []; sent = 0; hex = hex } → Took start now sent ([] ++ carried packets.hex pid id units) → Took start now sent (carried hex pid id units)
+took_new hex pid id sent units packets start now e t = subst (λ (p : Buffered). Took start now sent (carried p.hex pid id units)) e t
+
+pub wrote_new : (hex : Bool) (pid id sent : ℕ) (units : List AccessUnit) (packets : Buffered) (start now : Option (List ℕ))
+    → packets ≡ record { waiting = []; sent = 0; hex = hex }
+    → (sent ≡ byte_count (length ([] ++ carried packets.hex pid id units))) × Appends start now ([] ++ carried packets.hex pid id units)
+    → (sent ≡ byte_count (length (carried hex pid id units))) × Appends start now (carried hex pid id units)
+wrote_new hex pid id sent units packets start now e t =
+    subst (λ (p : Buffered). (sent ≡ byte_count (length (carried p.hex pid id units))) × Appends start now (carried p.hex pid id units)) e t

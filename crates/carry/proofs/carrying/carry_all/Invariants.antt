@@ -1,0 +1,21 @@
+use Rattle.std.proofs.Common.{◌≡◌, ◌<◌, ◌≤◌, ◌+◌, ◌-◌, ◌^◌, ℕ, List, Option, Some}
+use Rattle.carry.specs.RecordRuns.{after_records}
+use Rattle.packet_output.specs.Buffer.{IsOutput}
+use Rattle.carry.proofs.Runs.{Midway}
+use Rattle.carry.proofs.carrying.carry_all.Given as goal
+
+abbrev pub invariant-records : goal.invariant-records
+invariant-records g l = record {
+  index : l.index ≤ l.min_next_dts;
+  last : l.min_next_dts ≤ 2 ^ 52 + 1;
+  counter : l.counter < 16;
+  hex : l.packets.hex ≡ l.fn.packets.hex;
+  reads : g.R.Source.fault_count l.input ≡ g.R.Source.fault_count l.fn.input;
+  writes : g.W.Sink.fault_count l.output ≡ g.W.Sink.fault_count l.fn.output;
+  rest : (xs : List ℕ) → g.R.Read.remaining l.fn.input ≡ Some xs → g.R.Read.remaining l.input ≡ Some (after_records l.index xs);
+  known : (xs : List ℕ) (start : Option (List ℕ)) (all : List ℕ) → g.R.Read.remaining l.fn.input ≡ Some xs → IsOutput start (g.W.Write.contents l.fn.output) l.fn.packets all
+      → Midway l.pid l.id l.fn.packets.hex xs l.min_next_dts l.index l.counter (g.R.Read.remaining l.input) start (g.W.Write.contents l.output) l.packets all;
+}
+
+abbrev pub decreases-records : goal.decreases-records
+decreases-records g l = 2 ^ 52 + 1 - l.min_next_dts

@@ -1,0 +1,14 @@
+-- What the laws of this crate say.
+use Rattle.std.specs.Prelude.{◌≡◌, ◌<◌, ℕ, Bool, List, length}
+use Rattle.std.specs.List.{concat}
+use Rattle.ts_packet.specs.Packets.{packets}
+use Rattle.carry.specs.PidPackets.{payload_packets}
+use Rattle.carry.specs.RecordRuns.{run_from, run_of}
+
+-- an input has no more records than bytes: no run over more records says more
+abbrev pub RunsAreWhole : Type 0
+RunsAreWhole = (n id : ℕ) (xs : List ℕ) → length xs < n → run_from n id 0 xs ≡ run_of id xs
+
+-- the packets of payloads one by one, joined, are the packets of the payloads
+abbrev pub PacketsJoin : Type 0
+PacketsJoin = (pid number : ℕ) (start : Bool) (pieces : List (List ℕ)) → concat (payload_packets pid start number pieces) ≡ packets pid start number pieces

@@ -1,0 +1,5 @@
+pub mod Refusals
+pub mod PidPackets
+pub mod RecordRuns
+pub mod RunSteps
+pub mod Laws

@@ -1,0 +1,13 @@
+-- Which unit is refused, where one stream has a PID for itself and no plan.
+use Rattle.std.specs.Prelude.{ℕ, ◌==◌, not, false, if◌then◌else◌, Option, Some}
+use Rattle.pes_packet.specs.AccessUnits.{AccessUnit}
+use Rattle.pes_packet.specs.StreamIds.{greatest_size}
+use Rattle.unit_queue.specs.Causes.{or_cause, own_cause, time_cause}
+use Rattle.unit_queue.specs.declared.refusal.FeedError.{FeedError}
+use Rattle.unit_queue.specs.declared.refusal.FeedError.TheVariants.{UnknownStream}
+
+-- the first cause for which stream 0 of this stream_id refuses a unit, where no DTS below `min_next_dts` is accepted: no unit is late
+unfoldable pub refusal : ℕ → ℕ → ℕ → AccessUnit → Option FeedError
+refusal id min_next_dts stream unit =
+    if not (stream == 0) then Some UnknownStream
+    else or_cause (own_cause (greatest_size id) min_next_dts unit) (time_cause false unit.dts)

@@ -1,0 +1,18 @@
+-- The least rate at which an output has slots enough for what it carries.
+use Rattle.std.specs.Prelude.{◌≡◌, ℕ, ◌<◌, ◌≤◌, Bool, true, false}
+use Rattle.clock27.specs.declared.rate.TheConstants.{GREATEST_RATE}
+
+-- an output without slots enough has not enough at a lower rate either
+abbrev pub IsMonotone : (ℕ → Bool) → Type 0
+IsMonotone has_slots = (lower higher : ℕ) → 0 < lower → lower ≤ higher → has_slots higher ≡ false → has_slots lower ≡ false
+
+-- the least rate, of those from a first one on, at which it has
+pub record IsLeastRate (has_slots : ℕ → Bool) (from rate : ℕ) : Type 0 where
+  pub low : from ≤ rate
+  pub high : rate ≤ GREATEST_RATE
+  pub enough : has_slots rate ≡ true
+  pub least : (r : ℕ) → from ≤ r → r < rate → has_slots r ≡ false
+
+-- it has not at any rate from that one on
+abbrev pub HasNoRate : (ℕ → Bool) → ℕ → Type 0
+HasNoRate has_slots from = (r : ℕ) → from ≤ r → r ≤ GREATEST_RATE → has_slots r ≡ false

@@ -1,0 +1,5 @@
+pub mod RisingTimes
+pub mod QueueStates
+pub mod ByteRows
+pub mod DepartureWalks
+pub mod BufferCounts

@@ -1,0 +1,5 @@
+pub mod PidPackets
+pub mod Queues
+pub mod DepartureWalk
+pub mod BufferedUnits
+pub mod BufferState

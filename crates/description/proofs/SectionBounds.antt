@@ -1,0 +1,208 @@
+-- No section is longer than its greatest length.
+use Rattle.std.proofs.Common.{◌≡◌, ℕ, suc, zero, subst, ◌+◌, ◌/◌, ◌%◌, ◌<◌, ◌≤◌, ◌==◌, max, Bool, true, false, cond, List, [], ◌∷◌, ◌++◌, length, map, filter, find, flat_map, get_or, slice_get, sum_by, Option, None, Some, refl, ap, arith, length-append, All, if◌then◌else◌}
+use Rattle.std.proofs.lemmas.List.{length-map}
+use Rattle.std.proofs.lemmas.List.Elements.{All-head, All-tail, All-filter}
+use Rattle.std.proofs.lemmas.List.Sums.{sum_by-cons}
+use Rattle.std.proofs.lemmas.Option.{slice_get_within, get_or_from_slice_get}
+use Rattle.std.specs.Option.{option_to_list}
+use Rattle.psi_tables.specs.CheckWord.{check_word}
+use Rattle.psi_tables.specs.Encoding.{section_bytes, with_crc, header_bytes, front_bytes, start_bytes, long_header_bytes, check_word_bytes}
+use Rattle.psi_tables.specs.declared.section.LongHeader.{LongHeader}
+use Rattle.psi_tables.specs.ProgramAssociation.{pat_section, pat_header, programs_bytes}
+use Rattle.psi_tables.specs.ProgramMap.{pmt_body, pmt_section, pmt_header, streams_bytes, stream_bytes}
+use Rattle.psi_tables.proofs.PatForms.{length_programs_bytes}
+use Rattle.psi_tables.proofs.StreamEncodings.{length_pmt_body, length_stream_bytes}
+use Rattle.dvb_tables.specs.NetworkInformation.{nit_body, nit_section}
+use Rattle.dvb_tables.specs.Services.{services_bytes, service_bytes}
+use Rattle.dvb_tables.specs.ServiceDescription.{sdt_body, sdt_section}
+use Rattle.dvb_tables.specs.EventEntries.{events_bytes, event_bytes}
+use Rattle.dvb_tables.specs.EventInformation.{eit_body, eit_section}
+use Rattle.dvb_tables.specs.TimeAndDate.{tdt_section}
+use Rattle.dvb_tables.specs.Descriptors.{short_event_descriptor}
+use Rattle.dvb_tables.specs.declared.running_status.RunningStatus.{RunningStatus}
+use Rattle.dvb_tables.specs.declared.running_status.RunningStatus.TheVariants.{Running, NotRunning}
+use Rattle.dvb_tables.proofs.BodyLengths.{nit_body_length, sdt_body_length, eit_body_length}
+use Rattle.description.specs.Described.{Described, DescribedNetwork, DescribedProgram, DescribedStream, DescribedEvent, DescribedTable}
+use Rattle.description.specs.Ranges.{IsInRange, IsProgram, IsStream, IsEvent}
+use Rattle.description.specs.Tables.{has_event, pat_length, pmt_length, nit_length, sdt_length, eit_length, eit_lengths, es_info_length, entry_length, service_length, event_length, longest_event, kind_lengths, section_lengths, scheduled_programs, table_kind, greatest_length}
+use Rattle.description.specs.SectionBytes.{network_entries, pat_entry, pat_says, pmt_stream, is_of_program, pmt_streams, pmt_says, network_stream, nit_says, service_says, sdt_says, event_says, is_present_event, is_following_event, eit_says, eit_bytes, tdt_bytes, kind_bytes, table_bytes}
+use Rattle.description.specs.declared.table_kind.TableKind.{TableKind}
+use Rattle.description.specs.declared.table_kind.TableKind.TheVariants as kind
+use Rattle.description.proofs.LoopLengths.{stream_descriptors-length, transport_streams_bytes-one, network_name_descriptor-length, service_descriptor-length, length_service_bytes, length_event_bytes}
+
+-- a section of the long form
+long_section_length : (table_id : ℕ) (private : Bool) (h : LongHeader) (body : List ℕ)
+    → length (section_bytes (record { header = record { table_id = table_id; private_indicator = private; long = Some h }; body = body })) ≡ 12 + length body
+unfolding section_bytes with_crc header_bytes front_bytes start_bytes long_header_bytes check_word_bytes
+long_section_length table_id private h body =
+    let start : List ℕ = start_bytes table_id true private (9 + length body) in
+    let front : List ℕ = start ++ long_header_bytes h in
+    let whole : List ℕ = front ++ body in
+    omega (arith, length-append whole (check_word_bytes (check_word whole)), length-append front body, length-append start (long_header_bytes h))
+
+pat_fits : (d : Described) → length (section_bytes (pat_section (pat_says d))) ≡ pat_length d
+unfolding pat_section pat_header
+pat_fits d =
+    let entries = length_programs_bytes (network_entries d ++ map pat_entry d.programs) in
+    let first : length (network_entries d) ≡ length (option_to_list d.network) = length-map (option_to_list d.network) _ in
+    omega (
+      arith,
+      long_section_length 0 false (pat_says d).header (programs_bytes (network_entries d ++ map pat_entry d.programs)),
+      entries,
+      length-append (network_entries d) (map pat_entry d.programs),
+      length-map d.programs pat_entry,
+      first,
+    )
+
+-- the streams of a program
+one_stream : (b : Bool) (s : DescribedStream) (rest : List DescribedStream) → IsStream s
+    → length (flat_map stream_bytes (map pmt_stream (cond b (s ∷ rest) rest))) ≡ (if b then 5 + es_info_length s else 0) + length (flat_map stream_bytes (map pmt_stream rest))
+one_stream true s rest h =
+    omega (arith, length-append (stream_bytes (pmt_stream s)) (flat_map stream_bytes (map pmt_stream rest)), length_stream_bytes (pmt_stream s), stream_descriptors-length s h)
+one_stream false s rest h = omega arith
+
+streams_length : (n : ℕ) (ss : List DescribedStream) → All IsStream ss → length (streams_bytes (pmt_streams n ss)) ≡ sum_by (entry_length n) ss
+unfolding streams_bytes
+streams_length n [] h = refl
+streams_length n (s ∷ ss) h =
+    omega (
+      arith,
+      one_stream (is_of_program n s) s (filter (is_of_program n) ss) (All-head IsStream s ss h),
+      streams_length n ss (All-tail IsStream s ss h),
+      sum_by-cons (entry_length n) s ss,
+    )
+
+pmt_fits : (d : Described) (p : DescribedProgram) → All IsStream d.streams → length (section_bytes (pmt_section (pmt_says d p))) ≡ pmt_length d p
+unfolding pmt_section pmt_header
+pmt_fits d p h = omega (arith, long_section_length 2 false (pmt_says d p).header (pmt_body (pmt_says d p)), length_pmt_body (pmt_says d p), streams_length p.number d.streams h)
+
+nit_fits : (d : Described) (n : DescribedNetwork) → length (section_bytes (nit_section (nit_says d n))) ≡ nit_length n
+unfolding nit_section
+nit_fits d n = omega (arith, long_section_length 0x40 true (nit_says d n).header (nit_body (nit_says d n)), nit_body_length (nit_says d n), transport_streams_bytes-one (network_stream d n), network_name_descriptor-length n.name)
+
+services_length : (ps : List DescribedProgram) → length (services_bytes (map service_says ps)) ≡ sum_by service_length ps
+unfolding services_bytes
+services_length [] = refl
+services_length (p ∷ ps) =
+    omega (
+      arith,
+      length-append (service_bytes (service_says p)) (flat_map service_bytes (map service_says ps)),
+      length_service_bytes (service_says p),
+      service_descriptor-length p.service_type p.provider p.name,
+      services_length ps,
+      sum_by-cons service_length p ps,
+    )
+
+sdt_fits : (d : Described) → length (section_bytes (sdt_section (sdt_says d))) ≡ sdt_length d
+unfolding sdt_section
+sdt_fits d = omega (arith, long_section_length 0x42 true (sdt_says d).header (sdt_body (sdt_says d)), sdt_body_length (sdt_says d), services_length d.programs)
+
+-- an event's entry
+entry_length_is : (status : RunningStatus) (e : DescribedEvent) → IsEvent e → length (event_bytes (event_says status e)) ≡ event_length e
+unfolding short_event_descriptor
+entry_length_is status e h =
+    omega (
+      arith,
+      length_event_bytes (event_says status e),
+      h.language.letters,
+      length-append (e.language ++ (length e.name ∷ e.name)) (length e.text ∷ e.text),
+      length-append e.language (length e.name ∷ e.name),
+    )
+
+found_or_later : (status : RunningStatus) (b : Bool) (e : DescribedEvent) (o : Option DescribedEvent) (most : ℕ) → IsEvent e
+    → length (flat_map event_bytes (map (event_says status) (option_to_list o))) ≤ most
+    → length (flat_map event_bytes (map (event_says status) (option_to_list (cond b (Some e) o)))) ≤ max (event_length e) most
+found_or_later status true e o most h later = omega (arith, length-append (event_bytes (event_says status e)) [], entry_length_is status e h)
+found_or_later status false e o most h later = omega (arith, later)
+
+event_fits : (status : RunningStatus) (q : DescribedEvent → Bool) (es : List DescribedEvent) → All IsEvent es
+    → length (events_bytes (map (event_says status) (option_to_list (find q es)))) ≤ longest_event es
+unfolding events_bytes
+event_fits status q [] h = omega arith
+event_fits status q (e ∷ es) h =
+    found_or_later status (q e) e (find q es) (longest_event es) (All-head IsEvent e es h) (event_fits status q es (All-tail IsEvent e es h))
+
+either_fits : (moment : ℕ) (p : DescribedProgram) (b : Bool) → All IsEvent p.events
+    → length (events_bytes (if b then map (event_says Running) (option_to_list (find (is_present_event moment) p.events)) else map (event_says NotRunning) (option_to_list (find (is_following_event moment) p.events))))
+    ≤ longest_event p.events
+either_fits moment p true h = event_fits Running (is_present_event moment) p.events h
+either_fits moment p false h = event_fits NotRunning (is_following_event moment) p.events h
+
+eit_fits : (d : Described) (moment : ℕ) (p : DescribedProgram) (number : ℕ) → All IsEvent p.events → length (eit_bytes d moment p number) ≤ eit_length p
+unfolding eit_section
+eit_fits d moment p number h =
+    omega (arith, long_section_length 0x4E true (eit_says d moment p number).header (eit_body (eit_says d moment p number)), eit_body_length (eit_says d moment p number), either_fits moment p (number == 0) h)
+
+eit_at : (ps : List DescribedProgram) (j : ℕ) (p : DescribedProgram) → slice_get ps (j / 2) ≡ Some p → get_or (eit_lengths ps) j 0 ≡ eit_length p
+eit_at [] j p h = absurd (cc)
+eit_at (q ∷ qs) zero p h = let same : q ≡ p = cc in ap eit_length same
+eit_at (q ∷ qs) (suc zero) p h = let same : q ≡ p = cc in ap eit_length same
+eit_at (q ∷ qs) (suc (suc k)) p h =
+    let is : suc (suc k) / 2 ≡ suc (k / 2) = omega arith in
+    eit_at qs k p (rw is at h)
+
+event_section_fits : (d : Described) (section moment : ℕ) (o : Option DescribedProgram) → slice_get (scheduled_programs d) (section / 2) ≡ o → All IsProgram d.programs
+    → length (elim o as (λ _. List ℕ) [ None ↦ [] | Some program ↦ eit_bytes d moment program (section % 2) ]) ≤ get_or (eit_lengths (scheduled_programs d)) section 0
+event_section_fits d section moment None is h = omega arith
+event_section_fits d section moment (Some p) is h =
+    let at = eit_at (scheduled_programs d) section p is in
+    let scheduled = All-filter has_event IsProgram d.programs h in
+    let within = slice_get_within (scheduled_programs d) (section / 2) p is in
+    let one : IsProgram p = subst IsProgram (get_or_from_slice_get (scheduled_programs d) (section / 2) p p is) (scheduled (section / 2) p within) in
+    omega (arith, at, eit_fits d moment p (section % 2) one.events)
+
+tdt_fits : (moment : ℕ) → length (tdt_bytes moment) ≡ 8
+unfolding tdt_section section_bytes with_crc header_bytes front_bytes start_bytes
+tdt_fits moment = refl
+
+private_fits : (ss : List (List ℕ)) (j : ℕ) → length (get_or ss j []) ≤ get_or (map length ss) j 0
+private_fits [] j = omega arith
+private_fits (s ∷ ss) zero = omega arith
+private_fits (s ∷ ss) (suc j) = private_fits ss j
+
+-- the one section of a table
+first_of : (n section : ℕ) → section < 1 → get_or (n ∷ []) section 0 ≡ n
+first_of n zero h = refl
+first_of n (suc k) h = absurd (omega arith)
+
+map_section_fits : (d : Described) (o : Option DescribedProgram) (section : ℕ) → All IsStream d.streams → section < length (map (pmt_length d) (option_to_list o))
+    → length (elim o as (λ _. List ℕ) [ None ↦ [] | Some program ↦ section_bytes (pmt_section (pmt_says d program)) ]) ≤ get_or (map (pmt_length d) (option_to_list o)) section 0
+map_section_fits d None section h within = omega arith
+map_section_fits d (Some p) section h within = omega (arith, pmt_fits d p h, first_of (pmt_length d p) section within)
+
+network_section_fits : (d : Described) (o : Option DescribedNetwork) (section : ℕ) → section < length (map nit_length (option_to_list o))
+    → length (elim o as (λ _. List ℕ) [ None ↦ [] | Some network ↦ section_bytes (nit_section (nit_says d network)) ]) ≤ get_or (map nit_length (option_to_list o)) section 0
+network_section_fits d None section within = omega arith
+network_section_fits d (Some n) section within = omega (arith, nit_fits d n, first_of (nit_length n) section within)
+
+services_section_fits : (d : Described) (b : Bool) (section : ℕ) → section < 1
+    → length (if b then section_bytes (sdt_section (sdt_says d)) else []) ≤ get_or (sdt_length d ∷ []) section 0
+services_section_fits d true section within = omega (arith, sdt_fits d, first_of (sdt_length d) section within)
+services_section_fits d false section within = omega arith
+
+private_section_fits : (o : Option DescribedTable) (section : ℕ)
+    → length (elim o as (λ _. List ℕ) [ None ↦ [] | Some private ↦ get_or private.sections section [] ])
+    ≤ get_or (elim o as (λ _. List ℕ) [ None ↦ [] | Some private ↦ map length private.sections ]) section 0
+private_section_fits None section = omega arith
+private_section_fits (Some t) section = private_fits t.sections section
+
+kind_fits : (d : Described) (k : TableKind) (section moment : ℕ) → IsInRange d → section < length (kind_lengths d k)
+    → length (kind_bytes d k section moment) ≤ get_or (kind_lengths d k) section 0
+kind_fits d kind.Pat section moment h within = omega (arith, pat_fits d, first_of (pat_length d) section within)
+kind_fits d (kind.Pmt p) section moment h within = map_section_fits d (slice_get d.programs p) section h.streams within
+kind_fits d kind.Nit section moment h within = network_section_fits d d.network section within
+kind_fits d kind.Sdt section moment h within = services_section_fits d d.has_sdt section within
+kind_fits d kind.Eit section moment h within = event_section_fits d section moment (slice_get (scheduled_programs d) (section / 2)) refl h.programs
+kind_fits d kind.Tdt section moment h within = omega (arith, tdt_fits moment, first_of 8 section within)
+kind_fits d (kind.Private i) section moment h within = private_section_fits (slice_get d.tables i) section
+
+any_fits : (d : Described) (o : Option TableKind) (section moment : ℕ) → IsInRange d
+    → section < length (elim o as (λ _. List ℕ) [ None ↦ [] | Some k ↦ kind_lengths d k ])
+    → length (elim o as (λ _. List ℕ) [ None ↦ [] | Some k ↦ kind_bytes d k section moment ])
+    ≤ get_or (elim o as (λ _. List ℕ) [ None ↦ [] | Some k ↦ kind_lengths d k ]) section 0
+any_fits d None section moment h within = omega arith
+any_fits d (Some k) section moment h within = kind_fits d k section moment h within
+
+pub table_bytes_fit : (d : Described) (t section moment : ℕ) → IsInRange d → section < length (section_lengths d t)
+    → length (table_bytes d t section moment) ≤ greatest_length d t section
+table_bytes_fit d t section moment h within = any_fits d (table_kind d t) section moment h within

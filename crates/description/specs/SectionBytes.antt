@@ -1,0 +1,162 @@
+-- What each section of each table says at a moment, and its bytes (ISO/IEC 13818-1, 2.4.4; EN 300 468, 5.2). Version 0
+-- and section 0 of 0, except in the EIT.
+use Rattle.std.specs.Prelude.{ℕ, ◌+◌, ◌/◌, ◌%◌, ◌==◌, ◌&&◌, nat_le, nat_lt, Bool, true, false, List, [], ◌∷◌, ◌++◌, map, filter, find, Option, None, Some, slice_get, slice_index_or, if◌then◌else◌}
+use Rattle.std.specs.List.{count_by}
+use Rattle.std.specs.Option.{option_to_list}
+use Rattle.psi_tables.specs.Encoding.{section_bytes}
+use Rattle.psi_tables.specs.declared.section.LongHeader.{LongHeader}
+use Rattle.psi_tables.specs.declared.pat.programs.Program.{Program as PatEntry}
+use Rattle.psi_tables.specs.ProgramAssociation.{PatView, pat_section}
+use Rattle.psi_tables.specs.ProgramMap.{PmtView, StreamView, pmt_section}
+use Rattle.dvb_tables.specs.Descriptors.{iso_639_language_descriptor, network_name_descriptor, service_descriptor, short_event_descriptor, stream_identifier_descriptor}
+use Rattle.dvb_tables.specs.CodedTimes.{utc_time_bytes, clock_bytes}
+use Rattle.dvb_tables.specs.TransportStreams.{TransportStreamView}
+use Rattle.dvb_tables.specs.NetworkInformation.{NitView, nit_section}
+use Rattle.dvb_tables.specs.Services.{ServiceView}
+use Rattle.dvb_tables.specs.ServiceDescription.{SdtView, sdt_section}
+use Rattle.dvb_tables.specs.EventEntries.{EventView}
+use Rattle.dvb_tables.specs.EventInformation.{EitView, eit_section}
+use Rattle.dvb_tables.specs.TimeAndDate.{tdt_section}
+use Rattle.dvb_tables.specs.declared.running_status.RunningStatus.{RunningStatus}
+use Rattle.dvb_tables.specs.declared.running_status.RunningStatus.TheVariants.{Running, NotRunning}
+use Rattle.description.specs.Described.{Described, DescribedNetwork, DescribedProgram, DescribedStream, DescribedEvent}
+use Rattle.description.specs.Tables.{has_event, scheduled_programs, table_kind}
+use Rattle.description.specs.declared.table_kind.TableKind.{TableKind}
+use Rattle.description.specs.declared.table_kind.TableKind.TheVariants as kind
+
+-- the header of a table that is one section, version 0
+abbrev pub single_header : ℕ → LongHeader
+single_header extension = record { table_id_extension = extension; version_number = 0; current_next = true; section_number = 0; last_section_number = 0 }
+
+-- PAT: program 0 names the NIT's PID where there is a network, then the programs
+abbrev pub network_entries : Described → List PatEntry
+network_entries d = map (λ n. record { program_number = 0; pid = 0x10 }) (option_to_list d.network)
+
+abbrev pub pat_entry : DescribedProgram → PatEntry
+pat_entry p = record { program_number = p.number; pid = p.pmt_pid }
+
+abbrev pub pat_says : Described → PatView
+pat_says d = record { header = single_header d.transport_stream_id; programs = network_entries d ++ map pat_entry d.programs }
+
+-- PMT: each stream of the program with its component tag, its language and its own descriptors
+abbrev pub tag_bytes : Option ℕ → List ℕ
+tag_bytes None = []
+tag_bytes (Some tag) = stream_identifier_descriptor tag
+
+abbrev pub language_bytes : Option (List ℕ) → List ℕ
+language_bytes None = []
+language_bytes (Some language) = iso_639_language_descriptor language 0
+
+abbrev pub stream_descriptors : DescribedStream → List ℕ
+stream_descriptors s = tag_bytes s.tag ++ language_bytes s.language ++ s.descriptors
+
+abbrev pub pmt_stream : DescribedStream → StreamView
+pmt_stream s = record { stream_type = s.stream_type; elementary_pid = s.pid; descriptors = stream_descriptors s }
+
+abbrev pub is_of_program : ℕ → DescribedStream → Bool
+is_of_program number s = s.program == number
+
+abbrev pub pmt_streams : ℕ → List DescribedStream → List StreamView
+pmt_streams number streams = map pmt_stream (filter (is_of_program number) streams)
+
+abbrev pub pmt_says : Described → DescribedProgram → PmtView
+pmt_says d p = record {
+  header = single_header p.number;
+  pcr_pid = p.pcr_pid;
+  program_info = p.descriptors;
+  streams = pmt_streams p.number d.streams;
+}
+
+-- NIT: the name, and this transport stream with the network's descriptors
+abbrev pub network_stream : Described → DescribedNetwork → TransportStreamView
+network_stream d n = record { transport_stream_id = d.transport_stream_id; original_network_id = d.original_network_id; descriptors = n.descriptors }
+
+abbrev pub nit_says : Described → DescribedNetwork → NitView
+nit_says d n = record {
+  header = single_header n.id;
+  network_descriptors = network_name_descriptor n.name;
+  transport_streams = network_stream d n ∷ [];
+}
+
+-- SDT: each program's service, running; present and following events are carried where there are events
+abbrev pub service_says : DescribedProgram → ServiceView
+service_says p = record {
+  service_id = p.number;
+  eit_schedule = false;
+  eit_present_following = has_event p;
+  running_status = Running;
+  free_ca_mode = false;
+  descriptors = service_descriptor p.service_type p.provider p.name;
+}
+
+abbrev pub sdt_says : Described → SdtView
+sdt_says d = record {
+  header = single_header d.transport_stream_id;
+  original_network_id = d.original_network_id;
+  services = map service_says d.programs;
+}
+
+-- EIT: the event that is on at a moment, and the first that begins later
+abbrev pub is_present_event : ℕ → DescribedEvent → Bool
+is_present_event moment e = nat_le e.start moment && nat_lt moment (e.start + e.duration)
+
+abbrev pub is_following_event : ℕ → DescribedEvent → Bool
+is_following_event moment e = nat_lt moment e.start
+
+-- an entry of the EIT
+abbrev pub event_says : RunningStatus → DescribedEvent → EventView
+event_says status e = record {
+  event_id = e.id;
+  start_time = utc_time_bytes e.start;
+  duration = clock_bytes e.duration;
+  running_status = status;
+  free_ca_mode = false;
+  descriptors = short_event_descriptor e.language e.name e.text;
+}
+
+-- how many events have begun and how many have ended, modulo 32: it changes with what the sections say
+abbrev pub has_begun : ℕ → DescribedEvent → Bool
+has_begun moment e = nat_le e.start moment
+
+abbrev pub has_ended : ℕ → DescribedEvent → Bool
+has_ended moment e = nat_le (e.start + e.duration) moment
+
+abbrev pub eit_version : ℕ → DescribedProgram → ℕ
+eit_version moment p = (count_by (has_begun moment) p.events + count_by (has_ended moment) p.events) % 32
+
+-- section 0 of 1 has the present event, running; section 1 of 1 the following one, not running
+abbrev pub section_events : ℕ → DescribedProgram → ℕ → List EventView
+section_events moment p number =
+    if number == 0 then map (event_says Running) (option_to_list (find (is_present_event moment) p.events))
+    else map (event_says NotRunning) (option_to_list (find (is_following_event moment) p.events))
+
+abbrev pub eit_says : Described → ℕ → DescribedProgram → ℕ → EitView
+eit_says d moment p number = record {
+  header = record { table_id_extension = p.number; version_number = eit_version moment p; current_next = true; section_number = number; last_section_number = 1 };
+  transport_stream_id = d.transport_stream_id;
+  original_network_id = d.original_network_id;
+  segment_last_section_number = 1;
+  last_table_id = 0x4E;
+  events = section_events moment p number;
+}
+
+abbrev pub eit_bytes : Described → ℕ → DescribedProgram → ℕ → List ℕ
+eit_bytes d moment p number = section_bytes (eit_section (eit_says d moment p number))
+
+-- TDT: the moment
+abbrev pub tdt_bytes : ℕ → List ℕ
+tdt_bytes moment = section_bytes (tdt_section (record { utc_time = utc_time_bytes moment }))
+
+-- the bytes of a section of a table at a moment; of the EIT two sections for each program that has events
+abbrev pub kind_bytes : Described → TableKind → ℕ → ℕ → List ℕ
+kind_bytes d kind.Pat section moment = section_bytes (pat_section (pat_says d))
+kind_bytes d (kind.Pmt p) section moment = elim (slice_get d.programs p) [ None ↦ [] | Some program ↦ section_bytes (pmt_section (pmt_says d program)) ]
+kind_bytes d kind.Nit section moment = elim d.network [ None ↦ [] | Some network ↦ section_bytes (nit_section (nit_says d network)) ]
+kind_bytes d kind.Sdt section moment = if d.has_sdt then section_bytes (sdt_section (sdt_says d)) else []
+kind_bytes d kind.Eit section moment = elim (slice_get (scheduled_programs d) (section / 2)) [ None ↦ [] | Some program ↦ eit_bytes d moment program (section % 2) ]
+kind_bytes d kind.Tdt section moment = tdt_bytes moment
+kind_bytes d (kind.Private i) section moment = elim (slice_get d.tables i) [ None ↦ [] | Some private ↦ slice_index_or private.sections section [] ]
+
+-- the bytes of a section of the table of that number at a moment, in seconds since 1970
+abbrev pub table_bytes : Described → ℕ → ℕ → ℕ → List ℕ
+table_bytes d t section moment = elim (table_kind d t) [ None ↦ [] | Some k ↦ kind_bytes d k section moment ]

@@ -1,0 +1,134 @@
+//! The program map section of a program (ISO/IEC 13818-1, 2.4.4.8).
+
+ghost use Rattle.std.specs.Prelude.{◌≡◌, ◌≤◌, ◌<◌, ◌+◌, ◌++◌, [], ◌∷◌, All, length, sum_by};
+ghost use Rattle.arrayvec.specs.ArrayVec.{array_vec_len};
+ghost use Rattle.psi_tables.specs.ProgramMap.{stream_loop_of, streams_of, streams_bytes, pmt_section};
+ghost use Rattle.psi_tables.specs.Encoding.{section_bytes};
+ghost use Rattle.psi_tables.specs.declared.writing.TheConstants.{GREATEST_TABLE_LENGTH};
+ghost use Rattle.description.specs.Ranges.{IsProgram, IsStream, longest_section};
+ghost use Rattle.description.specs.Tables.{es_info_length, entry_length, pmt_length};
+ghost use Rattle.description.specs.SectionBytes as spec;
+
+use crate::description::Description;
+use crate::program::ProgramDescription;
+use crate::stream::StreamDescription;
+use arrayvec::ArrayVec;
+use bit_fields::append;
+use dvb_tables::{push_iso_639_language, push_stream_identifier};
+use psi_tables::{LongHeader, Pmt, Stream, StreamLoop, Streams};
+
+fn push_tag(out: &mut ArrayVec<u8, 709>, tag: Option<u8>)
+    requires { array_vec_len out.old + 3 ≤ 709 }
+    ensures { out.new.items ≡ out.old.items ++ spec.tag_bytes tag }
+{
+    match tag {
+        None => {}
+        Some(tag) => push_stream_identifier(out, tag),
+    }
+}
+
+fn push_language(out: &mut ArrayVec<u8, 709>, language: Option<[u8; 3]>)
+    requires { array_vec_len out.old + 6 ≤ 709 }
+    ensures { out.new.items ≡ out.old.items ++ spec.language_bytes language }
+{
+    match language {
+        None => {}
+        Some(language) => push_iso_639_language(out, language, 0),
+    }
+}
+
+// The descriptors of a stream in its PMT.
+fn stream_descriptors(stream: &StreamDescription) -> ArrayVec<u8, 709>
+    requires { IsStream stream.now }
+    ensures value { result.items ≡ spec.stream_descriptors stream.now }
+    ensures length { array_vec_len result ≡ es_info_length stream.now }
+{
+    let mut bytes = ArrayVec::new();
+    push_tag(&mut bytes, stream.tag);
+    push_language(&mut bytes, stream.language);
+    append(&mut bytes, stream.descriptors.as_bytes());
+    bytes
+}
+
+// Adds a stream, for which there is room.
+fn push_stream(entries: &mut StreamLoop, stream: &StreamDescription)
+    requires ranges { IsStream stream.now }
+    requires room { length (streams_bytes (stream_loop_of entries.old)) + 5 + es_info_length stream.now ≤ 1012 }
+    ensures value { stream_loop_of entries.new ≡ stream_loop_of entries.old ++ spec.pmt_stream stream.now ∷ [] }
+    ensures length { length (streams_bytes (stream_loop_of entries.new))
+        ≡ length (streams_bytes (stream_loop_of entries.old)) + 5 + es_info_length stream.now }
+{
+    let descriptors = stream_descriptors(stream);
+    let entry = Stream {
+        stream_type: stream.stream_type,
+        elementary_pid: stream.pid,
+        descriptors: descriptors.as_slice(),
+    };
+    match entries.push(&entry) {
+        Ok(()) => {}
+        Err(_) => unreachable!(),
+    }
+}
+
+// The streams of the program of a number.
+fn program_streams(number: u16, streams: &[StreamDescription]) -> StreamLoop
+    requires ranges { All IsStream streams.now }
+    requires room { sum_by (entry_length number) streams.now ≤ 1012 }
+    ensures value { stream_loop_of result ≡ spec.pmt_streams number streams.now }
+    ensures length { length (streams_bytes (stream_loop_of result)) ≡ sum_by (entry_length number) streams.now }
+{
+    let mut entries = StreamLoop::new();
+    for stream in streams {
+        if stream.program == number {
+            push_stream(&mut entries, stream);
+        }
+    }
+    entries
+}
+
+impl Description {
+    /// The program map section of a program.
+    pub(crate) fn write_pmt(&self, program: &ProgramDescription, out: &mut ArrayVec<u8, 4096>)
+        requires ranges { IsProgram program.now }
+        requires fits { pmt_length self.now program.now ≤ longest_section }
+        ensures { out.new.items ≡ section_bytes (pmt_section (spec.pmt_says self.now program.now)) }
+    {
+        let entries = program_streams(program.number(), self.streams());
+        write_section(
+            program.number(),
+            program.pcr_pid(),
+            program.descriptors().as_bytes(),
+            entries.streams(),
+            out,
+        );
+    }
+}
+
+#[tactic(auto, using(psi_tables::proofs::StreamEncodings::length_pmt_body))]
+fn write_section<'a>(
+    number: u16,
+    pcr_pid: u16,
+    program_info: &'a [u8],
+    streams: Streams<'a>,
+    out: &mut ArrayVec<u8, 4096>,
+)
+    requires pid { pcr_pid < 8192 }
+    requires room { 13 + length program_info.now + length (streams_bytes (streams_of streams)) ≤ GREATEST_TABLE_LENGTH }
+    ensures { out.new.items ≡ section_bytes (pmt_section (record {
+      header = spec.single_header number;
+      pcr_pid = pcr_pid;
+      program_info = program_info.now;
+      streams = streams_of streams.entry;
+    })) }
+{
+    let section = Pmt {
+        header: LongHeader::single(number, 0),
+        pcr_pid,
+        program_info,
+        streams,
+    };
+    match section.write_to(out) {
+        Ok(()) => {}
+        Err(_) => unreachable!(),
+    }
+}

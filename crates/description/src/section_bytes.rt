@@ -1,0 +1,125 @@
+//! The bytes of each section of each table at a moment.
+
+ghost use Rattle.std.specs.Prelude.{◌≡◌, ◌<◌, ◌≤◌, filter, option_map, slice_get};
+ghost use Rattle.arrayvec.specs.ArrayVec.{array_vec_len};
+ghost use Rattle.description.specs.Tables.{has_event, table_count, section_count, greatest_length};
+ghost use Rattle.description.specs.SectionBytes as spec;
+
+use crate::description::Description;
+use crate::program::ProgramDescription;
+use crate::table_kind::{TableKind, has_event};
+use arrayvec::ArrayVec;
+use bit_fields::append;
+use dvb_tables::{Tdt, utc_time};
+
+// The time and date section.
+fn write_tdt(moment: u64, out: &mut ArrayVec<u8, 4096>)
+    ensures { out.new.items ≡ spec.tdt_bytes moment }
+{
+    let section = Tdt {
+        utc_time: utc_time(moment),
+    };
+    match section.write_to(out) {
+        Ok(()) => {}
+        Err(_) => unreachable!(),
+    }
+}
+
+// The program at a place among those that have events.
+fn scheduled_program(programs: &[ProgramDescription], place: usize) -> Option<&ProgramDescription>
+    ensures { option_map (λ p. p.now) result ≡ slice_get (filter has_event programs.now) place }
+{
+    let mut left = place;
+    for program in programs {
+        if has_event(program) {
+            if left == 0 {
+                return Some(program);
+            }
+            left -= 1;
+        }
+    }
+    None
+}
+
+impl Description {
+    // The map section of the program at a place.
+    fn write_pmt_at(&self, place: usize, out: &mut ArrayVec<u8, 4096>)
+        ensures { out.new.items ≡ spec.kind_bytes self.now (TableKind.Pmt place) 0 0 }
+    {
+        match self.programs().get(place) {
+            None => out.clear(),
+            Some(program) => self.write_pmt(program, out),
+        }
+    }
+
+    fn write_nit_if_any(&self, out: &mut ArrayVec<u8, 4096>)
+        ensures { out.new.items ≡ spec.kind_bytes self.now TableKind.Nit 0 0 }
+    {
+        self.keeps_ranges();
+        match self.network() {
+            None => out.clear(),
+            Some(network) => self.write_nit(network, out),
+        }
+    }
+
+    fn write_sdt_if_any(&self, out: &mut ArrayVec<u8, 4096>)
+        ensures { out.new.items ≡ spec.kind_bytes self.now TableKind.Sdt 0 0 }
+    {
+        self.keeps_ranges();
+        if self.has_sdt() {
+            self.write_sdt(out);
+        } else {
+            out.clear();
+        }
+    }
+
+    fn write_eit_at(&self, section: usize, moment: u64, out: &mut ArrayVec<u8, 4096>)
+        ensures { out.new.items ≡ spec.kind_bytes self.now TableKind.Eit section moment }
+    {
+        match scheduled_program(self.programs(), section / 2) {
+            None => out.clear(),
+            Some(program) => self.write_eit(program, section % 2, moment, out),
+        }
+    }
+
+    // A section of the private table at a place.
+    fn write_private(&self, place: usize, section: usize, out: &mut ArrayVec<u8, 4096>)
+        ensures { out.new.items ≡ spec.kind_bytes self.now (TableKind.Private place) section 0 }
+    {
+        out.clear();
+        if let Some(table) = self.private_tables().get(place) {
+            if let Some(bytes) = table.sections().get(section) {
+                append(out, bytes.as_bytes());
+            }
+        }
+    }
+
+    fn write_kind(&self, kind: TableKind, section: usize, moment: u64, out: &mut ArrayVec<u8, 4096>)
+        ensures { out.new.items ≡ spec.kind_bytes self.now kind section moment }
+    {
+        match kind {
+            TableKind::Pat => self.write_pat(out),
+            TableKind::Pmt(place) => self.write_pmt_at(place, out),
+            TableKind::Nit => self.write_nit_if_any(out),
+            TableKind::Sdt => self.write_sdt_if_any(out),
+            TableKind::Eit => self.write_eit_at(section, moment, out),
+            TableKind::Tdt => write_tdt(moment, out),
+            TableKind::Private(place) => self.write_private(place, section, out),
+        }
+    }
+
+    /// Leaves in `out` exactly the bytes of a section of a table as it is at a moment, in seconds since
+    /// 1970-01-01T00:00:00. Takes no memory.
+    pub fn text(&self, table: usize, section: usize, moment: u64, out: &mut ArrayVec<u8, 4096>)
+        requires table { table < table_count self.now }
+        requires section { section < section_count self.now table }
+        ensures value { out.new.items ≡ spec.table_bytes self.now table section moment }
+        ensures fits { array_vec_len out.new ≤ greatest_length self.now table section }
+    {
+        self.keeps_ranges();
+        match self.kind(table) {
+            None => out.clear(),
+            Some(kind) => self.write_kind(kind, section, moment, out),
+        }
+    }
+}

@@ -1,0 +1,64 @@
+//! A program over the real reader and writers.
+
+use crate::halt::{Halt, report_halt};
+use counted_io::{Counted, Sink, Source};
+use std::alloc::Global;
+use std::env;
+use std::io::{BufReader, Error, ErrorKind};
+use std::process::ExitCode;
+
+/// The room of the input's buffer, in bytes.
+const INPUT_ROOM: usize = 1 << 18;
+
+/// A program over any reader and two writers.
+pub trait Program {
+    /// Reads the input, writes the output, reports faults, and returns the exit status.
+    fn run<R: Source, W: Sink, E: Sink>(
+        alloc: Global,
+        words: &[&str],
+        input: &mut R,
+        output: &mut W,
+        faults: &mut E,
+    ) -> u8;
+
+    /// Writes the usage, and returns the exit status.
+    fn report_usage<E: Sink>(faults: &mut E) -> u8;
+}
+
+/// The status where the command line can't be read: out of memory, or a word is not UTF-8, which is a usage error.
+fn without_words<P: Program, E: Sink>(error: Error, faults: &mut E) -> u8 {
+    match error.kind() {
+        ErrorKind::OutOfMemory => report_halt(faults, Halt::Memory),
+        _ => P::report_usage(faults),
+    }
+}
+
+/// Runs a program with the words of the command line, from standard input to standard output and standard error.
+pub fn run_program<P: Program>(rt: &HostRuntime) -> ExitCode {
+    let mut faults = Counted::new(rt.stderr());
+    let args = match env::args(rt) {
+        Ok(args) => args,
+        Err(error) => return ExitCode::from(without_words::<P, _>(error, &mut faults)),
+    };
+    let words: Vec<String> = match args.skip(1).collect(rt.alloc()) {
+        Ok(words) => words,
+        Err(_) => return ExitCode::from(report_halt(&mut faults, Halt::Memory)),
+    };
+    let texts: Vec<&str> = match words.iter().map(|word| word.as_str()).collect(rt.alloc()) {
+        Ok(texts) => texts,
+        Err(_) => return ExitCode::from(report_halt(&mut faults, Halt::Memory)),
+    };
+    let Ok(reader) = BufReader::with_capacity(rt.alloc(), INPUT_ROOM, rt.stdin()) else {
+        return ExitCode::from(report_halt(&mut faults, Halt::Memory));
+    };
+    let mut input = Counted::new(reader);
+    let mut output = Counted::new(rt.stdout());
+    let status = P::run(
+        rt.alloc(),
+        texts.as_slice(),
+        &mut input,
+        &mut output,
+        &mut faults,
+    );
+    ExitCode::from(status)
+}

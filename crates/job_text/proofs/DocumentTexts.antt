@@ -1,0 +1,209 @@
+-- The texts of a heading, of programs and of streams are one document.
+use Rattle.std.proofs.Common.{◌≡◌, ℕ, suc, pos, ◌≤◌, Bool, true, false, ◌==◌, List, [], ◌∷◌, ◌++◌, length, map, codes, refl, sym, ap, ap₂, subst, ◌∙◌, arith, append_assoc, append-nil}
+use Rattle.std.proofs.lemmas.Bool.Decides.{nat_tests}
+use Rattle.std.specs.Prelude.{All}
+use Rattle.std.specs.List.{flat_map}
+use Rattle.hex.specs.Hex.{encode_lower}
+use Rattle.toml_writer.specs.Text.{key_text}
+use Rattle.toml.specs.Data.{string, integer, boolean, Members, no_members, member, is_before, members_depth, members_have_valid_dates, members_are_sorted}
+use Rattle.toml.specs.Text.{IsLinesText, IsDocumentText, expressions, pairs, sections, elements}
+use Rattle.toml.specs.Tables.{Expression}
+use Rattle.toml.proofs.Lines.{IsLinesText-append, after}
+use Rattle.toml.proofs.ReadBack.{parse_document-printed}
+use Rattle.job_text.specs.DescriptionParts.{HeadingView, ProgramPartView, StreamPartView}
+use Rattle.job_text.specs.KeyLines.{with_numbers, with_hex, hex_line, key_line}
+use Rattle.job_text.specs.Fields.{program_numbers, stream_numbers}
+use Rattle.job_text.specs.Documents.{document, elements_of, with_tables, program_table, stream_table}
+use Rattle.job_text.specs.Texts.{heading_text, program_text, stream_text}
+use Rattle.job_text.specs.Laws.{Fits, FitsHeading, FitsProgram, FitsStream, TextsAreRead}
+use Rattle.job_text.proofs.Scalars.{AreScalars, IsScalar, scalar_lines, lines_are_text}
+use Rattle.job_text.proofs.TableArrays.{AreTables, element_lines, elements_are_text, pairs_past, sections_with, shallow, dated_past, sorted_past, before_tables}
+
+-- numbers are scalars
+small : (n : ℕ) → Fits n → IsScalar (integer (pos n))
+small n h = omega (arith, h)
+
+-- descriptors before other keys
+not_empty : (b : ℕ) (bytes : List ℕ) → (length (b ∷ bytes) == 0) ≡ false
+not_empty b bytes = grind (arith, nat_tests)
+
+hex_none : (more : Members) → with_hex (codes "descriptors") [] more ≡ more
+unfolding with_hex
+hex_none more = refl
+
+hex_some : (b : ℕ) (bytes : List ℕ) (more : Members)
+    → with_hex (codes "descriptors") (b ∷ bytes) more ≡ member (codes "descriptors") (string (encode_lower (b ∷ bytes))) more
+unfolding with_hex
+hex_some b bytes more = rw (not_empty b bytes)
+
+line_none : hex_line (codes "descriptors") [] ≡ []
+unfolding hex_line
+line_none = refl
+
+line_some : (b : ℕ) (bytes : List ℕ) → hex_line (codes "descriptors") (b ∷ bytes) ≡ key_line (codes "descriptors") (string (encode_lower (b ∷ bytes)))
+unfolding hex_line
+line_some b bytes = rw (not_empty b bytes)
+
+hex_scalars : (bytes : List ℕ) (more : Members) → AreScalars more → AreScalars (with_hex (codes "descriptors") bytes more)
+unfolding key_text
+hex_scalars [] more h = subst AreScalars (sym (hex_none more)) h
+hex_scalars (b ∷ bytes) more h = subst AreScalars (sym (hex_some b bytes more)) (refl, tt, h)
+
+hex_sorted : (bytes : List ℕ) (more : Members) → is_before (codes "descriptors") more ≡ true → members_are_sorted more ≡ true
+    → members_are_sorted (with_hex (codes "descriptors") bytes more) ≡ true
+hex_sorted [] more first sorted = ap members_are_sorted (hex_none more) ∙ sorted
+hex_sorted (b ∷ bytes) more first sorted = ap members_are_sorted (hex_some b bytes more) ∙ rw (first, sorted)
+
+hex_lines : (bytes : List ℕ) (more : Members) → scalar_lines (with_hex (codes "descriptors") bytes more) ≡ hex_line (codes "descriptors") bytes ++ scalar_lines more
+hex_lines [] more = ap scalar_lines (hex_none more) ∙ ap (λ (l : List ℕ). l ++ scalar_lines more) (sym line_none)
+hex_lines (b ∷ bytes) more = ap scalar_lines (hex_some b bytes more) ∙ ap (λ (l : List ℕ). l ++ scalar_lines more) (sym (line_some b bytes))
+
+-- a program
+program_rest : ProgramPartView → Members
+program_rest p =
+    member (codes "name") (string p.name)
+    (with_numbers (program_numbers p)
+    (member (codes "provider") (string p.provider)
+    (member (codes "service_type") (integer (pos p.service_type)) no_members)))
+
+program_scalars : (p : ProgramPartView) → FitsProgram p → AreScalars (program_table p)
+unfolding key_text program_rest
+program_scalars p h =
+    hex_scalars p.descriptors (program_rest p) (
+      refl,
+      tt,
+      (refl, small p.number h.number, (refl, small p.pcr_limit h.pcr_limit, (refl, small p.pcr_pid h.pcr_pid, (refl, small p.pmt_pid h.pmt_pid, (refl, tt, (refl, small p.service_type h.service_type, tt)))))),
+    )
+
+program_sorted : (p : ProgramPartView) → members_are_sorted (program_table p) ≡ true
+unfolding program_rest
+program_sorted p = hex_sorted p.descriptors (program_rest p) refl refl
+
+program_lines : (p : ProgramPartView) → element_lines (codes "program") (program_table p) ≡ program_text p
+unfolding program_rest
+program_lines p = rw (hex_lines p.descriptors (program_rest p)) (simp (append_assoc, append-nil))
+
+-- a stream
+stream_rest : StreamPartView → Members
+stream_rest s = with_numbers (stream_numbers s) no_members
+
+stream_scalars : (s : StreamPartView) → FitsStream s → AreScalars (stream_table s)
+unfolding key_text stream_rest
+stream_scalars s h =
+    hex_scalars s.descriptors (stream_rest s)
+    (refl, small s.group h.group, (refl, small s.group_packets h.group_packets, (refl, small s.stream_id h.stream_id, (refl, small s.interval h.interval, (refl, small s.lead h.lead, (refl, small s.main h.main, (refl, small s.pid h.pid, (refl, small s.program h.program, (refl, small s.rx h.rx, (refl, small s.size h.size, (refl, small s.stream_type h.stream_type, tt)))))))))))
+
+stream_sorted : (s : StreamPartView) → members_are_sorted (stream_table s) ≡ true
+unfolding stream_rest
+stream_sorted s = hex_sorted s.descriptors (stream_rest s) refl refl
+
+stream_lines : (s : StreamPartView) → element_lines (codes "stream") (stream_table s) ≡ stream_text s
+unfolding stream_rest
+stream_lines s = rw (hex_lines s.descriptors (stream_rest s)) (simp (append_assoc, append-nil))
+
+-- lists of them
+each : {X : Type 0} (P : X → Type 0) (x : X) (xs : List X) → All P (x ∷ xs) → P x × All P xs
+each P x xs h = (h 0 x (omega arith), λ k d less. h (suc k) d (omega (arith, less)))
+
+program_tables : (ps : List ProgramPartView) → All FitsProgram ps → AreTables (map program_table ps)
+program_tables [] h = tt
+program_tables (p ∷ ps) h = let e = each FitsProgram p ps h in (program_scalars p e.0, program_sorted p, program_tables ps e.1)
+
+stream_tables : (ss : List StreamPartView) → All FitsStream ss → AreTables (map stream_table ss)
+stream_tables [] h = tt
+stream_tables (s ∷ ss) h = let e = each FitsStream s ss h in (stream_scalars s e.0, stream_sorted s, stream_tables ss e.1)
+
+programs_lines : (ps : List ProgramPartView) → flat_map (element_lines (codes "program")) (map program_table ps) ≡ flat_map program_text ps
+programs_lines [] = refl
+programs_lines (p ∷ ps) = ap₂ (λ (a b : List ℕ). a ++ b) (program_lines p) (programs_lines ps)
+
+streams_lines : (ss : List StreamPartView) → flat_map (element_lines (codes "stream")) (map stream_table ss) ≡ flat_map stream_text ss
+streams_lines [] = refl
+streams_lines (s ∷ ss) = ap₂ (λ (a b : List ℕ). a ++ b) (stream_lines s) (streams_lines ss)
+
+-- the heading
+heading_scalars : (h : HeadingView) → FitsHeading h → AreScalars (document h [] [])
+unfolding key_text
+heading_scalars h f =
+    (refl, small h.base0 f.base0, (refl, small h.original_network_id f.original_network_id, (refl, small h.rate f.rate, (refl, tt, (refl, tt, (refl, tt, (refl, small h.transport_stream_id f.transport_stream_id, tt)))))))
+
+heading_lines : (h : HeadingView) → scalar_lines (document h [] []) ≡ heading_text h
+heading_lines h = simp (append_assoc, append-nil)
+
+-- the document after its programs, and after its streams
+abbrev after_streams : HeadingView → Members
+after_streams h = member (codes "tdt") (boolean h.tdt) (member (codes "ts_id") (integer (pos h.transport_stream_id)) no_members)
+
+abbrev after_programs : HeadingView → List Members → Members
+after_programs h us =
+    member (codes "rate") (integer (pos h.rate))
+    (member (codes "sdt") (boolean h.sdt)
+    (member (codes "start") (string h.start)
+    (with_tables (codes "stream") us (after_streams h))))
+
+whole_pairs : (h : HeadingView) (ts us : List Members) → pairs (document h ts us) ≡ pairs (document h [] [])
+whole_pairs h ts us = rw (pairs_past (codes "program") ts (after_programs h us), pairs_past (codes "stream") us (after_streams h))
+
+whole_sections : (h : HeadingView) (ts us : List Members)
+    → sections [] (document h ts us) ≡ elements ([], codes "program") (elements_of ts) ++ (elements ([], codes "stream") (elements_of us) ++ [])
+whole_sections h ts us = rw (sections_with (codes "program") ts (after_programs h us), sections_with (codes "stream") us (after_streams h))
+
+begun : (es : List Expression) → 1 ≤ length es → after false es ≡ true
+begun es some = grind (arith, nat_tests)
+
+tables_are_text : (ts us : List Members) → AreTables ts → AreTables us
+    → IsLinesText false true (elements ([], codes "program") (elements_of ts) ++ (elements ([], codes "stream") (elements_of us) ++ []))
+    (flat_map (element_lines (codes "program")) ts ++ flat_map (element_lines (codes "stream")) us)
+unfolding key_text
+tables_are_text ts us a b =
+    let programs = elements_are_text (codes "program") ts refl a in
+    let streams = elements_are_text (codes "stream") us refl b in
+    let last : IsLinesText false true (elements ([], codes "stream") (elements_of us) ++ []) (flat_map (element_lines (codes "stream")) us) =
+    subst (λ (es : List Expression). IsLinesText false true es (flat_map (element_lines (codes "stream")) us)) (sym (append-nil (elements ([], codes "stream") (elements_of us)))) streams in
+    IsLinesText-append false true (elements ([], codes "program") (elements_of ts)) (elements ([], codes "stream") (elements_of us) ++ [])
+    (flat_map (element_lines (codes "program")) ts) (flat_map (element_lines (codes "stream")) us) programs last
+
+document_is_text : (h : HeadingView) (ts us : List Members) → FitsHeading h → AreTables ts → AreTables us
+    → IsDocumentText false (document h ts us) (heading_text h ++ (flat_map (element_lines (codes "program")) ts ++ flat_map (element_lines (codes "stream")) us))
+document_is_text h ts us f a b =
+    let head = pairs (document h [] []) in
+    let rest = elements ([], codes "program") (elements_of ts) ++ (elements ([], codes "stream") (elements_of us) ++ []) in
+    let text = flat_map (element_lines (codes "program")) ts ++ flat_map (element_lines (codes "stream")) us in
+    let first : IsLinesText false false head (heading_text h) =
+    subst (λ (t : List ℕ). IsLinesText false false head t) (heading_lines h) (lines_are_text false (document h [] []) (heading_scalars h f)) in
+    let second : IsLinesText false (after false head) rest text =
+    subst (λ (s : Bool). IsLinesText false s rest text) (sym (begun head (omega arith))) (tables_are_text ts us a b) in
+    let whole = IsLinesText-append false false head rest (heading_text h) text first second in
+    let same : expressions (document h ts us) ≡ head ++ rest = ap₂ (λ (xs ys : List Expression). xs ++ ys) (whole_pairs h ts us) (whole_sections h ts us) in
+    subst (λ (es : List Expression). IsLinesText false false es (heading_text h ++ text)) (sym same) whole
+
+document_shallow : (h : HeadingView) (ts us : List Members) → AreTables ts → AreTables us → members_depth (document h ts us) ≤ 80
+document_shallow h ts us a b =
+    let last : members_depth (after_streams h) ≤ 2 = grind (arith, nat_tests) in
+    let inner = shallow (codes "stream") us (after_streams h) b last in
+    let middle : members_depth (after_programs h us) ≤ 2 = grind (arith, nat_tests) in
+    let outer = shallow (codes "program") ts (after_programs h us) a middle in
+    grind (arith, nat_tests)
+
+document_dated : (h : HeadingView) (ts us : List Members) → AreTables ts → AreTables us → members_have_valid_dates (document h ts us) ≡ true
+document_dated h ts us a b = rw (dated_past (codes "program") ts (after_programs h us) a, dated_past (codes "stream") us (after_streams h) b)
+
+document_sorted : (h : HeadingView) (ts us : List Members) → AreTables ts → AreTables us → members_are_sorted (document h ts us) ≡ true
+document_sorted h ts us a b =
+    rw (
+      before_tables (codes "original_network_id") (codes "program") ts (after_programs h us) refl refl,
+      sorted_past (codes "program") ts (after_programs h us) refl a,
+      before_tables (codes "start") (codes "stream") us (after_streams h) refl refl,
+      sorted_past (codes "stream") us (after_streams h) refl b,
+    )
+
+pub texts_are_read : TextsAreRead
+texts_are_read h ps ss f p s =
+    let ts = map program_table ps in
+    let us = map stream_table ss in
+    let a = program_tables ps p in
+    let b = stream_tables ss s in
+    let text : IsDocumentText false (document h ts us) (heading_text h ++ (flat_map program_text ps ++ flat_map stream_text ss)) =
+    subst (λ (t : List ℕ). IsDocumentText false (document h ts us) (heading_text h ++ t))
+    (ap₂ (λ (xs ys : List ℕ). xs ++ ys) (programs_lines ps) (streams_lines ss)) (document_is_text h ts us f a b) in
+    parse_document-printed false (document h ts us) _ text (document_shallow h ts us a b) (document_dated h ts us a b) (document_sorted h ts us a b)

@@ -1,0 +1,78 @@
+-- The parts of a service description: numbers, and texts and descriptors as lists.
+use Rattle.std.specs.Prelude.{ℕ, Bool, List}
+use Rattle.job_text.specs.declared.heading.Heading.{Heading}
+use Rattle.job_text.specs.declared.program_part.ProgramPart.{ProgramPart}
+use Rattle.job_text.specs.declared.stream_part.StreamPart.{StreamPart}
+
+pub record HeadingView : Type 0 where
+  pub rate : ℕ
+  pub start : List ℕ
+  pub base0 : ℕ
+  pub transport_stream_id : ℕ
+  pub original_network_id : ℕ
+  pub sdt : Bool
+  pub tdt : Bool
+
+pub record ProgramPartView : Type 0 where
+  pub number : ℕ
+  pub pmt_pid : ℕ
+  pub pcr_pid : ℕ
+  pub pcr_limit : ℕ
+  pub descriptors : List ℕ
+  pub service_type : ℕ
+  pub provider : List ℕ
+  pub name : List ℕ
+
+pub record StreamPartView : Type 0 where
+  pub program : ℕ
+  pub pid : ℕ
+  pub stream_id : ℕ
+  pub stream_type : ℕ
+  pub interval : ℕ
+  pub size : ℕ
+  pub lead : ℕ
+  pub rx : ℕ
+  pub main : ℕ
+  pub descriptors : List ℕ
+  pub group : ℕ
+  pub group_packets : ℕ
+
+-- the parts of the code as lists and numbers
+abbrev pub heading_view : Heading → HeadingView
+heading_view h = record {
+  rate = h.rate;
+  start = h.start.now;
+  base0 = h.base0;
+  transport_stream_id = h.transport_stream_id;
+  original_network_id = h.original_network_id;
+  sdt = h.sdt;
+  tdt = h.tdt;
+}
+
+abbrev pub program_view : ProgramPart → ProgramPartView
+program_view p = record {
+  number = p.number;
+  pmt_pid = p.pmt_pid;
+  pcr_pid = p.pcr_pid;
+  pcr_limit = p.pcr_limit;
+  descriptors = p.descriptors.now;
+  service_type = p.service_type;
+  provider = p.provider.now;
+  name = p.name.now;
+}
+
+abbrev pub stream_view : StreamPart → StreamPartView
+stream_view s = record {
+  program = s.program;
+  pid = s.pid;
+  stream_id = s.stream_id;
+  stream_type = s.stream_type;
+  interval = s.interval;
+  size = s.size;
+  lead = s.lead;
+  rx = s.rx;
+  main = s.main;
+  descriptors = s.descriptors.now;
+  group = s.group;
+  group_packets = s.group_packets;
+}

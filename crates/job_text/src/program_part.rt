@@ -1,0 +1,60 @@
+//! A program of a service description.
+
+ghost use Rattle.std.specs.Prelude.{◌≡◌, ◌++◌, OnOk, string_bytes};
+ghost use Rattle.job_text.specs.DescriptionParts.{program_view};
+ghost use Rattle.job_text.specs.Texts.{program_text, program_front, program_service};
+
+use crate::key_line::{write_element, write_number, write_numbers, write_string};
+use std::alloc::{AllocError, Allocator};
+
+/// What a description says of a program and its service (ISO/IEC 13818-1, 2.4.4.8; EN 300 468, 5.2.3 and 6.2.34).
+#[derive(Clone, Copy, PartialEq, Eq)]
+pub struct ProgramPart<'a> {
+    /// program_number, and service_id.
+    pub number: u16,
+    /// The PID of its PMT.
+    pub pmt_pid: u16,
+    /// The PID of its clock references, which carries nothing else.
+    pub pcr_pid: u16,
+    /// The greatest time between two clock references, in ms.
+    pub pcr_limit: u8,
+    /// Whole descriptors of the program in its PMT.
+    pub descriptors: &'a [u8],
+    pub service_type: u8,
+    pub provider: &'a str,
+    pub name: &'a str,
+}
+
+impl ProgramPart<'_> {
+    /// Appends an empty line, `[[program]]`, and its lines: every key, but `descriptors` only if there are any.
+    pub fn write_text<A: Allocator + Clone>(&self, text: &mut String<A>) -> Result<(), AllocError>
+        ensures { OnOk result (string_bytes text.new ≡ string_bytes text.old ++ program_text (program_view self.now)) }
+    {
+        let numbers = [
+            ("number", self.number as u64),
+            ("pcr_limit", self.pcr_limit as u64),
+            ("pcr_pid", self.pcr_pid as u64),
+            ("pmt_pid", self.pmt_pid as u64),
+        ];
+        self.write_front(text)?;
+        write_numbers(text, &numbers)?;
+        self.write_service(text)
+    }
+
+    // The lines up to its name.
+    fn write_front<A: Allocator + Clone>(&self, text: &mut String<A>) -> Result<(), AllocError>
+        ensures { OnOk result (string_bytes text.new ≡ string_bytes text.old ++ program_front (program_view self.now)) }
+    {
+        write_element(text, "program", self.descriptors)?;
+        write_string(text, "name", self.name)
+    }
+
+    // The lines of its service after the numbers.
+    fn write_service<A: Allocator>(&self, text: &mut String<A>) -> Result<(), AllocError>
+        ensures { OnOk result (string_bytes text.new ≡ string_bytes text.old
+            ++ program_service (program_view self.now)) }
+    {
+        write_string(text, "provider", self.provider)?;
+        write_number(text, "service_type", self.service_type as u64)
+    }
+}

@@ -1,9 +1,0 @@
-pub mod CommandLine
-pub mod Lists
-pub mod Asked
-pub mod ToldLines
-pub mod RefusalLine
-pub mod ReasonLines
-pub mod Streams
-pub mod Records
-pub mod Outcomes

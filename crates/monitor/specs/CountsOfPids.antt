@@ -1,0 +1,38 @@
+-- What is counted of each PID.
+use Rattle.std.specs.Prelude.{ℕ, ◌-◌, ◌^◌, ◌==◌, not, min, Bool, true, false, List, [], ◌∷◌, length, map, filter}
+use Rattle.ts_packet.specs.PidList.{pid_list}
+use Rattle.demux.specs.Views.{WhatView, IsDuplicate, IsScrambled}
+use Rattle.monitor.specs.declared.reports.PidCounts.{PidCounts}
+use Rattle.monitor.specs.Begins.{found_on}
+use Rattle.monitor.specs.Faults.{packet_pids}
+
+-- each number once, where it comes first
+abbrev pub first_seen : List ℕ → List ℕ
+first_seen [] = []
+first_seen (x ∷ xs) = x ∷ filter (λ y. not (y == x)) (first_seen xs)
+
+-- counts stop at 2^64 - 1
+abbrev pub counted : ℕ → ℕ
+counted n = min n (2 ^ 64 - 1)
+
+unfoldable pub is_duplicate : WhatView → Bool
+is_duplicate IsDuplicate = true
+is_duplicate what = false
+
+unfoldable pub is_scrambled : WhatView → Bool
+is_scrambled IsScrambled = true
+is_scrambled what = false
+
+-- the packets of a PID, those that begin a payload unit, and those found to be duplicates or scrambled
+unfoldable pub counts_of : List ℕ → ℕ → PidCounts
+counts_of bytes pid = record {
+  pid = pid;
+  packets = counted (length (pid_list pid bytes));
+  starts = counted (length (filter (λ entry. entry.packet.header.payload_unit_start_indicator) (pid_list pid bytes)));
+  duplicates = counted (length (filter (λ at. is_duplicate at.found.what) (found_on pid bytes)));
+  scrambled = counted (length (filter (λ at. is_scrambled at.found.what) (found_on pid bytes)));
+}
+
+-- of each PID, in the order in which these are first seen
+abbrev pub counts_of_all : List ℕ → List PidCounts
+counts_of_all bytes = map (counts_of bytes) (first_seen (packet_pids bytes))

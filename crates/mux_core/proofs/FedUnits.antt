@@ -1,0 +1,162 @@
+-- One unit: it is refused for the cause that the history gives, and an accepted one is one more of its stream, before which nothing changes.
+use Rattle.std.specs.Prelude.{ℕ, suc, zero, ◌+◌, ◌<◌, cond, Bool, true, List, [], ◌∷◌, ◌++◌, Option, Some, None, slice_get, option_map}
+use Rattle.std.proofs.Common.{◌≡◌, ◌≢◌, inl, inr, refl, sym, ◌∙◌, ap, subst, arith}
+use Rattle.std.proofs.lemmas.Bool.{eq-eqb, ne_eqb, cases_eq}
+use Rattle.std.proofs.lemmas.Option.{slice_get_within}
+use Rattle.circular_buffer.proofs.Places.{slice_get-set_same, slice_get-set_other}
+use Rattle.pes_packet.specs.AccessUnits.{AccessUnit}
+use Rattle.slot_contents.specs.Contents.{Content, packet_of, run_bytes}
+use Rattle.description.specs.Described.{DescribedStream}
+use Rattle.slot_plan.specs.declared.slot.Slot.{Slot}
+use Rattle.slot_plan.specs.declared.slot.Slot.TheVariants.{Stream, Pcr, Table, Null}
+use Rattle.slot_plan.specs.declared.slot.Item.TheVariants.{Stream as StreamItem}
+use Rattle.slot_plan.specs.Items.{is_own}
+use Rattle.slot_plan.specs.Schedule.{slot_of, owned}
+use Rattle.unit_queue.specs.declared.refusal.FeedError.{FeedError}
+use Rattle.unit_queue.specs.Places.{stream_content}
+use Rattle.unit_queue.specs.Queues.{Queue, QueueHolds, ParametersInRange}
+use Rattle.unit_queue.specs.QueueSteps.{accepted}
+use Rattle.unit_queue.specs.Laws.{CauseLaw, FedLaw, LaterUnitLaw}
+use Rattle.mux_core.specs.Scheduled.{Scheduled}
+use Rattle.mux_core.specs.Histories.{History, owned_stream, parameters_of, stream_in, content_in, content_at, bytes_of, with_unit}
+use Rattle.mux_core.specs.MuxStates.{MuxState, Stands, QueueStands, Takes, feed_cause, refusal_of}
+use Rattle.mux_core.specs.SlotSteps.{queue_cause, queues_with, fed}
+
+pub record FeedLaws : Type 0 where
+  pub cause : CauseLaw
+  pub fed : FedLaw
+  pub later : LaterUnitLaw
+
+-- the rules of each stream are such as a queue asks for
+abbrev pub ParametersKnown : Scheduled → Type 0
+ParametersKnown d = (k : ℕ) (s : DescribedStream) → slice_get d.description.streams k ≡ Some s → ParametersInRange (parameters_of d.description s)
+
+-- ---- the cause
+
+cause_is : CauseLaw → (d : Scheduled) (h : History) (capacity k : ℕ) (u : AccessUnit) (q : Option Queue) (s : Option DescribedStream) →
+    QueueStands d h capacity k q s → queue_cause h.slots u q ≡ feed_cause d capacity h k u s
+unfolding queue_cause feed_cause
+cause_is law d h capacity k u (Some q) (Some s) st = law (owned_stream d k s) h.slots capacity (h.units k) q u st
+cause_is law d h capacity k u (Some q) None st = absurd st
+cause_is law d h capacity k u None (Some s) st = absurd st
+cause_is law d h capacity k u None None st = refl
+
+-- ---- the queues
+
+stream_fed : FedLaw → (d : Scheduled) (h : History) (capacity k : ℕ) (u : AccessUnit) (q : Option Queue) (s : Option DescribedStream) →
+    ParametersKnown d → slice_get d.description.streams k ≡ s → feed_cause d capacity h k u s ≡ None → QueueStands d h capacity k q s →
+    QueueStands d (with_unit h k u) capacity k (option_map (λ x. accepted x u) q) s
+unfolding feed_cause
+stream_fed law d h capacity k u (Some q) (Some s) rules is none st =
+    subst (λ (b : Bool). QueueHolds (owned_stream d k s) h.slots capacity (cond b (h.units k ++ (u ∷ [])) (h.units k)) (accepted q u)) (sym (eq-eqb k k refl))
+    (law (owned_stream d k s) h.slots capacity (h.units k) q u (rules k s is) none st)
+stream_fed law d h capacity k u (Some q) None rules is none st = st
+stream_fed law d h capacity k u None (Some s) rules is none st = st
+stream_fed law d h capacity k u None None rules is none st = st
+
+stream_unfed : (d : Scheduled) (h : History) (capacity j k : ℕ) (u : AccessUnit) (q : Option Queue) (s : Option DescribedStream) → j ≢ k →
+    QueueStands d h capacity j q s → QueueStands d (with_unit h k u) capacity j q s
+stream_unfed d h capacity j k u (Some q) (Some s) ne st =
+    subst (λ (b : Bool). QueueHolds (owned_stream d j s) h.slots capacity (cond b (h.units j ++ (u ∷ [])) (h.units j)) q) (sym (ne_eqb j k ne)) st
+stream_unfed d h capacity j k u (Some q) None ne st = st
+stream_unfed d h capacity j k u None (Some s) ne st = st
+stream_unfed d h capacity j k u None None ne st = st
+
+fed_same : (k : ℕ) (u : AccessUnit) (queues : List Queue) (o : Option Queue) → slice_get queues k ≡ o →
+    slice_get (queues_with queues k u o) k ≡ option_map (λ q. accepted q u) o
+unfolding queues_with
+fed_same k u queues None e = e
+fed_same k u queues (Some q) e = slice_get-set_same queues k (accepted q u) (slice_get_within queues k q e)
+
+fed_other : (j k : ℕ) (u : AccessUnit) (queues : List Queue) (o : Option Queue) → j ≢ k → slice_get (queues_with queues k u o) j ≡ slice_get queues j
+unfolding queues_with
+fed_other j k u queues None ne = refl
+fed_other j k u queues (Some q) ne = slice_get-set_other queues k j (accepted q u) ne
+
+streams_fed : FedLaw → (d : Scheduled) (h : History) (capacity k : ℕ) (u : AccessUnit) (queues : List Queue) → ParametersKnown d →
+    feed_cause d capacity h k u (slice_get d.description.streams k) ≡ None →
+    ((j : ℕ) → QueueStands d h capacity j (slice_get queues j) (slice_get d.description.streams j)) → (j : ℕ) →
+    QueueStands d (with_unit h k u) capacity j (slice_get (queues_with queues k u (slice_get queues k)) j) (slice_get d.description.streams j)
+streams_fed law d h capacity k u queues rules none st j = elim (cases_eq j k) [
+  | inl e ↦ subst (λ (n : ℕ). QueueStands d (with_unit h k u) capacity n (slice_get (queues_with queues k u (slice_get queues k)) n) (slice_get d.description.streams n))
+      (sym e) (subst (λ (o : Option Queue). QueueStands d (with_unit h k u) capacity k o (slice_get d.description.streams k))
+      (sym (fed_same k u queues (slice_get queues k) refl))
+      (stream_fed law d h capacity k u (slice_get queues k) (slice_get d.description.streams k) rules refl none (st k)))
+  | inr ne ↦ subst (λ (o : Option Queue). QueueStands d (with_unit h k u) capacity j o (slice_get d.description.streams j))
+      (sym (fed_other j k u queues (slice_get queues k) ne))
+      (stream_unfed d h capacity j k u (slice_get queues j) (slice_get d.description.streams j) ne (st j))
+]
+
+-- ---- what was written stays
+
+own_kept : LaterUnitLaw → (d : Scheduled) (h : History) (capacity k t : ℕ) (u : AccessUnit) (s : Option DescribedStream) →
+    feed_cause d capacity h k u s ≡ None → owned d.schedule (StreamItem k) t ≡ true → t < h.slots →
+    stream_in d (with_unit h k u).units t k s ≡ stream_in d h.units t k s
+unfolding stream_in feed_cause
+own_kept law d h capacity k t u None none own lt = refl
+own_kept law d h capacity k t u (Some s) none own lt =
+    ap (λ (b : Bool). stream_content (owned_stream d k s) (cond b (h.units k ++ (u ∷ [])) (h.units k)) t) (eq-eqb k k refl)
+    ∙ law (owned_stream d k s) h.slots capacity (h.units k) u t none own lt
+
+other_kept : (d : Scheduled) (h : History) (j k t : ℕ) (u : AccessUnit) (s : Option DescribedStream) → j ≢ k →
+    stream_in d (with_unit h k u).units t j s ≡ stream_in d h.units t j s
+unfolding stream_in
+other_kept d h j k t u None ne = refl
+other_kept d h j k t u (Some s) ne =
+    ap (λ (b : Bool). stream_content (owned_stream d j s) (cond b (h.units j ++ (u ∷ [])) (h.units j)) t) (ne_eqb j k ne)
+
+content_kept : LaterUnitLaw → (d : Scheduled) (h : History) (capacity k t : ℕ) (u : AccessUnit) (slot : Slot) →
+    slot_of d.schedule t ≡ slot → feed_cause d capacity h k u (slice_get d.description.streams k) ≡ None → t < h.slots →
+    content_in d (with_unit h k u).units t slot ≡ content_in d h.units t slot
+unfolding content_in
+content_kept law d h capacity k t u (Stream j) is none lt = elim (cases_eq j k) [
+  | inl e ↦ subst (λ (n : ℕ). stream_in d (with_unit h k u).units t n (slice_get d.description.streams n) ≡ stream_in d h.units t n (slice_get d.description.streams n))
+      (sym e) (own_kept law d h capacity k t u (slice_get d.description.streams k) none (ap (is_own (StreamItem k)) is ∙ eq-eqb k j (sym e)) lt)
+  | inr ne ↦ other_kept d h j k t u (slice_get d.description.streams j) ne
+]
+content_kept law d h capacity k t u (Pcr p) is none lt = refl
+content_kept law d h capacity k t u (Table x) is none lt = refl
+content_kept law d h capacity k t u Null is none lt = refl
+
+-- equal slots give equal bytes
+pub run_same : (f g : ℕ → Content) (s n : ℕ) → ((t : ℕ) → t < s + n → f t ≡ g t) → run_bytes f s n ≡ run_bytes g s n
+unfolding run_bytes
+run_same f g s zero same = refl
+run_same f g s (suc n) same =
+    ap (λ (c : Content). packet_of c ++ run_bytes f (suc s) n) (same s (omega arith))
+    ∙ ap (λ (bytes : List ℕ). packet_of (g s) ++ bytes) (run_same f g (suc s) n (λ t lt. same t (omega arith)))
+
+pub bytes_kept : LaterUnitLaw → (d : Scheduled) (h : History) (capacity k : ℕ) (u : AccessUnit) →
+    feed_cause d capacity h k u (slice_get d.description.streams k) ≡ None → bytes_of d (with_unit h k u) ≡ bytes_of d h
+unfolding content_at
+bytes_kept law d h capacity k u none = run_same (content_at d (with_unit h k u).units) (content_at d h.units) 0 h.slots
+    (λ t lt. content_kept law d h capacity k t u (slot_of d.schedule t) refl none (omega (arith, lt)))
+
+-- ---- the whole
+
+-- how the state takes a unit
+pub record Feeds (old : MuxState) (k : ℕ) (u : AccessUnit) (refused : Option FeedError) (new : MuxState) : Type 0 where
+  pub first : refused ≡ queue_cause old.slots u (slice_get old.queues k)
+  pub taken : refused ≡ None → new ≡ fed old k u
+  pub same_schedule : new.schedule ≡ old.schedule
+  pub same_capacity : new.capacity ≡ old.capacity
+
+cause_of : CauseLaw → (h : History) (m : MuxState) (k : ℕ) (u : AccessUnit) → Stands h m → queue_cause m.slots u (slice_get m.queues k) ≡ refusal_of m h k u
+cause_of law h m k u st = ap (λ (n : ℕ). queue_cause n u (slice_get m.queues k)) st.written
+    ∙ cause_is law m.schedule h m.capacity k u (slice_get m.queues k) (slice_get m.schedule.description.streams k) (st.streams k)
+
+pub takes : FeedLaws → (h : History) (old : MuxState) (k : ℕ) (u : AccessUnit) (refused : Option FeedError) (new : MuxState) → ParametersKnown old.schedule →
+    Stands h old → Feeds old k u refused new → Takes h old k u refused new
+takes laws h old k u refused new rules st feeds =
+    let first = feeds.first ∙ cause_of laws.cause h old k u st in
+    record {
+      first = first;
+      stands = λ none. subst (λ (m : MuxState). Stands (with_unit h k u) m) (sym (feeds.taken none)) (record {
+        written = st.written;
+        streams = streams_fed laws.fed old.schedule h old.capacity k u old.queues rules (sym first ∙ none) st.streams;
+        tables = st.tables;
+      });
+      before = λ none. bytes_kept laws.later old.schedule h old.capacity k u (sym first ∙ none);
+      same_schedule = feeds.same_schedule;
+      same_capacity = feeds.same_capacity;
+    }

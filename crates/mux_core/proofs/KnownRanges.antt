@@ -1,0 +1,54 @@
+-- What the ranges of a description say of its streams and tables.
+use Rattle.std.specs.Prelude.{ℕ, ◌<◌, ◌≤◌, Some, length, slice_get, IsTrue}
+use Rattle.std.proofs.Common.{◌≡◌, inl, inr, refl, arith}
+use Rattle.std.proofs.lemmas.Bool.{lt-ltb}
+use Rattle.std.proofs.lemmas.List.Elements.{All-get_or}
+use Rattle.std.proofs.lemmas.Option.{get_or_from_slice_get, slice_get_within}
+use Rattle.pes_packet.specs.StreamIds.{is_unit_id, greatest_size}
+use Rattle.description.specs.Described.{Described, DescribedStream}
+use Rattle.description.specs.Ranges.{IsInRange, IsStream, IsStreamId}
+use Rattle.description.specs.Tables.{table_kinds}
+use Rattle.description.specs.declared.table_kind.TableKind.{TableKind}
+use Rattle.table_rounds.specs.Laws.{IsSourceOf}
+use Rattle.mux_core.specs.Scheduled.{Scheduled}
+use Rattle.unit_queue.specs.Queues.{ParametersInRange}
+use Rattle.mux_core.specs.Histories.{parameters_of, table_of}
+use Rattle.mux_core.specs.SlotSteps.{section_bytes}
+use Rattle.description.specs.Pids.{SectionsLaw}
+use Rattle.mux_core.proofs.FedUnits.{ParametersKnown}
+use Rattle.mux_core.proofs.SlotSteps.{TablesKnown}
+
+-- the numbers of a stream are in their ranges
+pub stream_range : (d : Described) (k : ℕ) (s : DescribedStream) → IsInRange d → slice_get d.streams k ≡ Some s → IsStream s
+stream_range d k s ranges is =
+    rw (get_or_from_slice_get d.streams k s s is) at (All-get_or IsStream d.streams k s (slice_get_within d.streams k s is) ranges.streams)
+
+unit_id : (id : ℕ) → IsStreamId id → IsTrue (is_unit_id id)
+unit_id id (inl e) = rw e refl
+unit_id id (inr r) = grind (arith, r.0, r.1)
+
+size_fits : (id size : ℕ) → IsStreamId id → size ≤ 4000000 → (id < 224 → size ≤ 65522) → size ≤ greatest_size id
+size_fits id size (inl e) most bounded = let few = bounded (omega (arith, e)) in grind (arith, few)
+size_fits id size (inr r) most bounded = grind (arith, r.1, most, bounded)
+
+pub parameters_fit : (d : Described) (s : DescribedStream) → IsInRange d → IsStream s → ParametersInRange (parameters_of d s)
+parameters_fit d s ranges r = record {
+  pid = omega (arith, r.pid.high);
+  base0 = ranges.base0;
+  stream_id = unit_id s.stream_id r.stream_id;
+  size = size_fits s.stream_id s.size r.stream_id r.most_size r.bounded_size;
+  group = r.some_group;
+}
+
+pub parameters_known : (d : Scheduled) → IsInRange d.description → ParametersKnown d
+parameters_known d ranges k s is = parameters_fit d.description s ranges (stream_range d.description k s ranges is)
+
+pub sources_known : (d : Scheduled) (t : ℕ) (kind : TableKind) → slice_get (table_kinds d.description) t ≡ Some kind →
+    IsSourceOf (table_of d t) (section_bytes d.description t)
+sources_known d t kind is j moment lt = rw (lt-ltb t (length (table_kinds d.description)) (slice_get_within (table_kinds d.description) t kind is), lt-ltb j _ lt) refl
+
+pub tables_known : SectionsLaw → (d : Scheduled) → IsInRange d.description → TablesKnown d
+tables_known law d ranges = record {
+  places = λ t kind is. (law d.description t ranges (slice_get_within (table_kinds d.description) t kind is)).2;
+  sources = λ t kind is. sources_known d t kind is;
+}

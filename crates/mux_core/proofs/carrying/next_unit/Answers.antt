@@ -1,6 +1,0 @@
-use Rattle.std.proofs.Common.{sym}
-use Rattle.mux_core.proofs.Accepting.{is_accepted}
-use Rattle.mux_core.proofs.carrying.next_unit.Goals as goal
-
-pub returns-in-None-clause-accepted : goal.returns-in-None-clause-accepted
-returns-in-None-clause-accepted g c = is_accepted c.args.id c.args.earliest c.in-Ok-Some.stream c.in-Ok-Some.unit (sym c.in-None.ensures)

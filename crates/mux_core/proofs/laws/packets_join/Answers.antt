@@ -1,5 +1,0 @@
-use Rattle.mux_core.proofs.laws.packets_join.Goals as goal
-use Rattle.mux_core.proofs.RunLengths.{packets_join}
-
-pub returns : goal.returns
-returns c = packets_join

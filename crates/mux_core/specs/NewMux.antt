@@ -1,0 +1,49 @@
+-- A multiplexer that is made, and why none is.
+use Rattle.std.specs.Prelude.{◌≡◌, ◌⊎◌, zero, suc, [], ◌∷◌, ◌*◌, ◌^◌, ◌&&◌, ℕ, nat_le, Bool, if◌then◌else◌, Option, Some, None, Result, Ok, Err, List}
+use Rattle.description.specs.Described.{Described, DescribedStream}
+use Rattle.description.specs.Tables.{table_pid, section_lengths}
+use Rattle.unit_queue.specs.Queues.{Queue}
+use Rattle.unit_queue.specs.QueueSteps.{empty_queue}
+use Rattle.table_rounds.specs.Carousels.{Carousel, first_carousel as table_carousel}
+use Rattle.mux_core.specs.Histories.{parameters_of}
+use Rattle.mux_core.specs.declared.done.NewError.{NewError}
+use Rattle.mux_core.specs.declared.done.NewError.TheVariants.{Capacity, Periods, Memory}
+
+-- 1 to 1,048,576 units
+abbrev pub is_capacity : ℕ → Bool
+is_capacity n = nat_le 1 n && nat_le n 1048576
+
+-- the first plan of a switch runs for a period or more, and for 2^40 slots at most
+abbrev pub is_periods : ℕ → ℕ → Bool
+is_periods period periods = nat_le 1 periods && nat_le (periods * period) (2 ^ 40)
+
+-- why no multiplexer over a plan is made, except out of memory
+abbrev pub plan_cause : ℕ → Option NewError
+plan_cause capacity = if is_capacity capacity then None else Some Capacity
+
+-- nor over a switch whose first plan has this period
+abbrev pub switch_cause : ℕ → ℕ → ℕ → Option NewError
+switch_cause period periods capacity =
+    if is_capacity capacity then (if is_periods period periods then None else Some Periods) else Some Capacity
+
+-- what was answered
+abbrev pub new_refusal : {V W : Type 0} → Result V (NewError × W) → Option NewError
+new_refusal (Ok mux) = None
+new_refusal (Err e) = Some e.0
+
+-- if there is a cause it is answered; if there is none, at most out of memory is
+abbrev pub Judges : Option NewError → Option NewError → Type 0
+Judges (Some cause) refused = refused ≡ Some cause
+Judges None refused = (refused ≡ None) ⊎ (refused ≡ Some Memory)
+
+-- a queue and a carousel before slot 0
+abbrev pub first_queue : Described → ℕ → DescribedStream → Queue
+first_queue d capacity s = empty_queue (parameters_of d s) capacity
+
+abbrev pub first_carousel : Described → ℕ → Carousel
+first_carousel d t = table_carousel (table_pid d t) d.rate d.start (section_lengths d t)
+
+-- those of the first n tables
+unfoldable pub first_carousels : Described → ℕ → ℕ → List Carousel
+first_carousels d t zero = []
+first_carousels d t (suc n) = first_carousel d t ∷ first_carousels d (suc t) n

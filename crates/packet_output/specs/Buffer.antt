@@ -1,0 +1,34 @@
+-- Bytes on their way to a writer: some are written, the rest waits.
+use Rattle.std.specs.Prelude.{◌≡◌, ◌≤◌, ℕ, ◌+◌, ◌-◌, ◌^◌, min, Bool, List, ◌++◌, length, take, Option}
+use Rattle.std.specs.Io.KnownBytes.{Appends}
+
+-- what waits, the number of bytes written, and whether packets are written as lines of digits
+pub record Buffered : Type 0 where
+  pub waiting : List ℕ
+  pub sent : ℕ
+  pub hex : Bool
+
+-- a number of bytes as it is answered: it stops at 2^64 - 1
+abbrev pub byte_count : ℕ → ℕ
+byte_count n = min n (2 ^ 64 - 1)
+
+-- of the output `all`, after what the writer held at the start, the writer holds the front and the rest waits
+pub record IsOutput (start now : Option (List ℕ)) (buffer : Buffered) (all : List ℕ) : Type 0 where
+  pub written : List ℕ
+  pub taken : Appends start now written
+  pub is : all ≡ written ++ buffer.waiting
+  pub sent : buffer.sent ≡ byte_count (length written)
+
+-- the writer took exactly the first bytes of `all`, and `sent` counts them
+pub record Took (start now : Option (List ℕ)) (sent : ℕ) (all : List ℕ) : Type 0 where
+  pub count : ℕ
+  pub within : count ≤ length all
+  pub taken : Appends start now (take count all)
+  pub sent_is : sent ≡ byte_count count
+
+-- of a part after `before` bytes that were counted, the writer took the first bytes, and `sent` counts these too
+pub record TookPart (old new : Option (List ℕ)) (part : List ℕ) (before sent : ℕ) : Type 0 where
+  pub count : ℕ
+  pub within : count ≤ length part
+  pub taken : Appends old new (take count part)
+  pub sent_is : sent ≡ byte_count (before + count)

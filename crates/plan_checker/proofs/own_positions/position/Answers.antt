@@ -1,0 +1,18 @@
+use Rattle.std.proofs.Common.{◌≡◌, ℕ, ◌+◌, ◌*◌, ◌/◌, ◌%◌, ◌<◌, List, length, ap, sym, ◌∙◌}
+use Rattle.own_slots.specs.Period.{per_period, position}
+use Rattle.slot_plan.specs.declared.slot.Slot.{Slot}
+use Rattle.slot_plan.specs.declared.slot.Item.{Item}
+use Rattle.slot_plan.specs.Items.{marks}
+use Rattle.plan_checker.proofs.own_positions.position.Goals as goal
+use Rattle.plan_checker.proofs.OwnMarks.{position_split}
+
+-- own slot number i is that of the first period, as many periods on
+split : (item : Item) (slots : List Slot) (i count first : ℕ) → count ≡ per_period (marks item slots) → 0 < per_period (marks item slots) →
+    first ≡ position (marks item slots) (i % count) → first + i / count * length slots ≡ position (marks item slots) i
+split item slots i count first e pos f =
+    ap (λ (n : ℕ). n + i / count * length slots) f
+    ∙ ap (λ (c : ℕ). position (marks item slots) (i % c) + i / c * length slots) e
+    ∙ sym (position_split item slots i pos)
+
+pub returns : goal.returns
+returns c = split c.args.item c.args.slots.now c.args.number c.own_count-count.result c.own_slot.result c.own_count-count.ensures.count c.requires.owned c.own_slot.ensures.slot

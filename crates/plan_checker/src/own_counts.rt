@@ -1,0 +1,39 @@
+//! The slots of a period that an item owns: their number, and which they are.
+
+ghost use Rattle.std.specs.Prelude.{◌≡◌, ◌<◌, ◌≤◌, length};
+ghost use Rattle.own_slots.specs.Period.{per_period, position};
+ghost use Rattle.slot_plan.specs.Items.{marks};
+
+use slot_plan::{Item, Slot};
+
+/// The number of the item's own slots in a period.
+pub fn own_count(slots: &[Slot], item: Item) -> u64
+    ensures count { result ≡ per_period (marks item slots.now) }
+    ensures bound { result ≤ length slots.now }
+{
+    let mut count: u64 = 0;
+    for slot in slots {
+        if item.owns(*slot) {
+            count += 1;
+        }
+    }
+    count
+}
+
+/// The slot of the item's own slot number `number`, from 0, in a period.
+pub fn own_slot(slots: &[Slot], item: Item, number: u64) -> u64
+    requires { number < per_period (marks item slots.now) }
+    ensures slot { result ≡ position (marks item slots.now) number }
+    ensures within { result < length slots.now }
+{
+    let mut count: u64 = 0;
+    for (at, slot) in slots.iter().enumerate() {
+        if item.owns(*slot) {
+            if count == number {
+                return at as u64;
+            }
+            count += 1;
+        }
+    }
+    0
+}

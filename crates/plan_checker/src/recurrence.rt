@@ -1,0 +1,70 @@
+//! PCRs and sections recur in time.
+
+ghost use Rattle.std.specs.Prelude.{◌∷◌, []};
+ghost use Rattle.description.specs.Tables.{table_kinds};
+ghost use Rattle.slot_plan.specs.Conditions.{pcr_gap_entry, table_gap_entry};
+
+use crate::comparison::at_most;
+use crate::conditions::ItemCondition;
+use crate::gap::greatest_gap;
+use crate::plans::ShapedPlan;
+use crate::refusal::Refusal;
+use clock27::SLOT_MS_AT_1BPS;
+use slot_plan::{Condition, Item, ProgramDescription, TableKind};
+use std::alloc::Allocator;
+
+/// The PCRs of each program recur within its limit.
+pub struct PcrGaps;
+
+impl<A: Allocator> ItemCondition<ShapedPlan<'_, A>> for PcrGaps {
+    type Item = ProgramDescription;
+
+    ghost items = { λ s. s.description.now.programs };
+
+    ghost entries = { λ s i program. pcr_gap_entry s.description.now s.plan.now i program ∷ [] };
+
+    fn count(plans: &ShapedPlan<'_, A>) -> usize {
+        plans.description.programs().len()
+    }
+
+    fn check_item(plans: &ShapedPlan<'_, A>, i: usize) -> Result<(), Refusal> {
+        let gap = greatest_gap(plans.plan.slots(), Item::Pcr(i as u8), 1);
+        let limit = plans.description.programs()[i].pcr_limit();
+        at_most(
+            Condition::PcrGap,
+            0,
+            i as u32,
+            gap as u128 * SLOT_MS_AT_1BPS,
+            limit as u128 * plans.description.rate().bits_per_second() as u128,
+        )
+    }
+}
+
+/// The sections of each table recur within its limit.
+pub struct TableGaps;
+
+impl<A: Allocator> ItemCondition<ShapedPlan<'_, A>> for TableGaps {
+    type Item = TableKind;
+
+    ghost items = { λ s. table_kinds s.description.now };
+
+    ghost entries = { λ s t _. table_gap_entry s.description.now s.plan.now t ∷ [] };
+
+    fn count(plans: &ShapedPlan<'_, A>) -> usize {
+        plans.description.tables()
+    }
+
+    fn check_item(plans: &ShapedPlan<'_, A>, i: usize) -> Result<(), Refusal> {
+        plans.description.keeps_ranges();
+        let places = plans.description.round_packets(i) as u64;
+        let gap = greatest_gap(plans.plan.slots(), Item::Table(i as u8), places);
+        let limit = plans.description.table_limit(i);
+        at_most(
+            Condition::TableGap,
+            0,
+            i as u32,
+            gap as u128 * SLOT_MS_AT_1BPS,
+            limit as u128 * plans.description.rate().bits_per_second() as u128,
+        )
+    }
+}

@@ -1,0 +1,10 @@
+pub mod FirstNumbers
+pub mod GivenSlots
+pub mod GrowingLists
+pub mod SpacingOrder
+pub mod SpacingBound
+pub mod PlanParts
+pub mod OwnSlotCounts
+pub mod LeastShares
+pub mod LoadSums
+pub mod ReasonProofs

@@ -1,0 +1,21 @@
+//! Plans looked for, and the reasons why there is none, for a service description.
+//!
+//! - [`period_plan`]: a plan of a period of a given length, by the earliest deadline first. Whether it serves the
+//!   description is for the plan checker to say.
+//! - [`plain_plan`]: the plan with the slots of each item evenly spaced (`specs/PlainPlan`).
+//! - [`reasons`]: numbers of the description that no plan can keep (`specs/Reasons`); [`no_plan_serves`] is the law.
+//!
+//! The certificate of either plan is the least that its slots can claim (`specs/Certificates`).
+#![tactic(auto)]
+
+mod certificates;
+mod free_slots;
+mod item_order;
+mod plain;
+mod reason;
+mod search;
+mod spacing;
+
+pub use plain::plain_plan;
+pub use reason::{Reason, no_plan_serves, reasons};
+pub use search::period_plan;

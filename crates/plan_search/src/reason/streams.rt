@@ -1,0 +1,111 @@
+//! Streams whose units can't leave the transport buffer in time, or find no room in the main buffer.
+
+ghost use Rattle.std.specs.Prelude.{◌≡◌, ◌+◌, ◌<◌, ◌≤◌};
+ghost use Rattle.std.specs.Option.{option_to_list};
+ghost use Rattle.description.specs.Ranges.{IsStream};
+ghost use Rattle.plan_search.specs.Reasons.{least_drain, units_lead, least_lead, least_main};
+ghost use Rattle.plan_search.specs.Reasons.{drain_reason, lead_reason, main_reason};
+
+use crate::reason::Reason;
+use clock27::SLOT_UNITS_AT_1BPS;
+use plan_checker::{bytes_by_units, packets_in_row, waiting_slots};
+use slot_plan::{Description, StreamDescription};
+
+/// The least drain of a stream's transport buffer, in bits/s.
+fn least_drain(stream: &StreamDescription) -> u64
+    requires { IsStream stream.now }
+    ensures { result ≡ least_drain stream.now }
+{
+    let interval = stream.group as u64 * stream.interval as u64;
+    (stream.group_packets as u64 * SLOT_UNITS_AT_1BPS as u64).div_ceil(interval)
+}
+
+/// Of stream number `i`: whether its transport buffer is drained slower than its units come.
+pub fn drain_reason(i: usize, stream: &StreamDescription) -> Option<Reason>
+    requires small { i < 256 }
+    requires ranges { IsStream stream.now }
+    ensures { option_to_list result ≡ drain_reason i stream.now }
+{
+    let given = stream.group as u64 * stream.interval as u64 * stream.rx as u64;
+    if given < stream.group_packets as u64 * SLOT_UNITS_AT_1BPS as u64 {
+        Some(Reason::SlowDrain(i as u8, least_drain(stream)))
+    } else {
+        None
+    }
+}
+
+/// The least lead of a stream for `units` units in a row.
+fn units_lead(description: &Description, stream: &StreamDescription, units: u8) -> u64
+    requires ranges { IsStream stream.now }
+    requires positive { 0 < units }
+    requires group { units ≤ stream.now.group }
+    ensures lead { result ≡ units_lead description.now stream.now units }
+{
+    let rate = description.rate().bits_per_second() as u128;
+    let drain = stream.rx as u128;
+    let packets = packets_in_row(stream, units) as u128;
+    let time = (packets * rate.max(drain) + drain + rate) * SLOT_UNITS_AT_1BPS;
+    let before = (units as u64 - 1) * stream.interval as u64;
+    (time.div_ceil(rate * drain) as u64).saturating_sub(before)
+}
+
+/// The least lead of a stream.
+fn least_lead(description: &Description, stream: &StreamDescription) -> u64
+    requires ranges { IsStream stream.now }
+    ensures lead { result ≡ least_lead description.now stream.now }
+{
+    let mut least = 0;
+    for before in 0..stream.group {
+        least = least.max(units_lead(description, stream, before + 1));
+    }
+    least
+}
+
+/// Of stream number `i`: whether its lead is too short for its units.
+pub fn lead_reason(
+    description: &Description,
+    i: usize,
+    stream: &StreamDescription,
+) -> Option<Reason>
+    requires small { i < 256 }
+    requires ranges { IsStream stream.now }
+    ensures { option_to_list result ≡ lead_reason description.now i stream.now }
+{
+    let least = least_lead(description, stream);
+    if (stream.lead as u64) < least {
+        Some(Reason::ShortLead(i as u8, least))
+    } else {
+        None
+    }
+}
+
+/// The least main buffer of a stream, in bytes.
+fn least_main(description: &Description, stream: &StreamDescription) -> u64
+    requires ranges { IsStream stream.now }
+    ensures main { result ≡ least_main description.now stream.now }
+{
+    let window = waiting_slots(description, stream) as u128 - 1;
+    let rate = description.rate().bits_per_second() as u128;
+    let needed = stream.group_packets as u128 * SLOT_UNITS_AT_1BPS;
+    let packets = window * needed / (stream.group as u128 * stream.interval as u128 * rate);
+    let by_slots = 184 * (packets + 1);
+    (bytes_by_units(stream) as u128).min(by_slots) as u64
+}
+
+/// Of stream number `i`: whether its main buffer is too small for its lead.
+pub fn main_reason(
+    description: &Description,
+    i: usize,
+    stream: &StreamDescription,
+) -> Option<Reason>
+    requires small { i < 256 }
+    requires ranges { IsStream stream.now }
+    ensures { option_to_list result ≡ main_reason description.now i stream.now }
+{
+    let least = least_main(description, stream);
+    if (stream.main as u64) < least {
+        Some(Reason::SmallMain(i as u8, least))
+    } else {
+        None
+    }
+}

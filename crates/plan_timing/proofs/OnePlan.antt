@@ -1,0 +1,154 @@
+-- One plan: from its conditions to the premises of the timing laws.
+use Rattle.std.specs.Prelude.{ℕ, ◌+◌, ◌-◌, ◌*◌, ◌<◌, ◌≤◌, Bool, List, [], ◌∷◌, Some, length, slice_get, get_or, sum_by, take, map}
+use Rattle.std.proofs.Common.{◌≡◌, sym, subst, arith}
+use Rattle.std.proofs.lemmas.List.{length-map}
+use Rattle.std.proofs.lemmas.List.Elements.{All-get_or}
+use Rattle.std.proofs.lemmas.List.Sums.{sum_by_more_le}
+use Rattle.std.proofs.lemmas.Option.{get_or_from_slice_get, slice_get_within}
+use Rattle.clock27.specs.Recurrence.{Recur}
+use Rattle.clock27.specs.Units.{slot_ms_at_1bps}
+use Rattle.own_slots.specs.Slots.{own_slots}
+use Rattle.own_slots.specs.Period.{own}
+use Rattle.own_slots.specs.Gaps.{gap}
+use Rattle.own_slots.specs.Spread.{spread}
+use Rattle.own_slots.specs.Rounds.{starts}
+use Rattle.own_slots.proofs.Gaps.{gap_law}
+use Rattle.own_slots.proofs.Recurrence.{pcr_law, table_law}
+use Rattle.unit_timing.specs.Buffers.{tb_size, system_tb_drain, bsys_size, bsys_drain}
+use Rattle.unit_timing.specs.Plans.{StreamServed, ProgramServed}
+use Rattle.unit_timing.specs.Conditions.{IsProper, StreamClaim, ProgramClaim, rate_needed, rate_given, lead_needed, time_given, bytes_waiting, StreamConditions, ProgramConditions}
+use Rattle.unit_timing.proofs.PlanLemmas.{stream_law, program_law}
+use Rattle.description.specs.Described.{Described, DescribedProgram, DescribedStream}
+use Rattle.description.specs.Ranges.{IsInRange, IsStream}
+use Rattle.description.specs.Tables.{table_kinds, table_count, table_limit, round_packets, section_count, section_lengths, packets_of_section}
+use Rattle.slot_plan.specs.declared.slot.Slot.{Slot}
+use Rattle.slot_plan.specs.declared.slot.Item.{Item}
+use Rattle.slot_plan.specs.declared.slot.Item.TheVariants.{Stream, Pcr, Table, System}
+use Rattle.slot_plan.specs.Planned.{Planned}
+use Rattle.slot_plan.specs.Items.{is_own, marks}
+use Rattle.slot_plan.specs.declared.condition.Condition.TheVariants.{PcrGap, TableGap, Spread, StreamRate, TransportBuffer, StreamLead, MainBuffer, SystemBuffer}
+use Rattle.slot_plan.specs.Claims.{declaration, stream_claim, program_claim, stream_share}
+use Rattle.slot_plan.specs.Conditions.{entries_from, group_part, pcr_gap_entry, table_gap_entry, spread_entry, stream_rate_entry, stream_buffer_entries, transport_buffer_entries, stream_lead_entry, main_buffer_entry, system_buffer_entries}
+use Rattle.slot_plan.specs.Schedule.{OwnedLaw}
+use Rattle.slot_plan.specs.TableRounds.{first_packet}
+use Rattle.slot_plan.proofs.HeldConditions.{holds_item, at_most_holds}
+use Rattle.slot_plan.proofs.ConditionLists.{Hold, ServingConditions, serves}
+use Rattle.slot_plan.proofs.ItemConditions.{holds_element, holds_count, holds_work}
+use Rattle.plan_timing.specs.Promised.{PlanLaw}
+
+pub length_marks : (item : Item) (slots : List Slot) → length (marks item slots) ≡ length slots
+length_marks item slots = length-map slots (is_own item)
+
+-- the numbers of a stream are in their ranges
+stream_ranges : (d : Described) (i : ℕ) (s : DescribedStream) → IsInRange d → slice_get d.streams i ≡ Some s → IsStream s
+stream_ranges d i s ranges is =
+    rw (get_or_from_slice_get d.streams i s s is) at (All-get_or IsStream d.streams i s (slice_get_within d.streams i s is) ranges.streams)
+
+pub proper : (d : Described) (i : ℕ) (s : DescribedStream) → IsInRange d → slice_get d.streams i ≡ Some s → IsProper d.rate (declaration s)
+proper d i s ranges is = let r = stream_ranges d i s ranges is in record {
+  some_rate = omega (arith, ranges.least_rate);
+  some_interval = omega (arith, r.some_interval);
+  some_lead = omega (arith, r.some_lead);
+  some_drain = omega (arith, r.least_rx);
+  some_group = omega (arith, r.some_group);
+}
+
+-- ---- the slots of a stream
+
+-- what a plan claims of a stream, and of the slots of a program's tables
+abbrev pub claim_of : Planned → ℕ → StreamClaim
+claim_of p i = let claim = stream_claim p i in record { spread = claim.spread; start = claim.start; peak = claim.peak }
+
+abbrev pub program_claim_of : Planned → ℕ → ProgramClaim
+program_claim_of p i = let claim = program_claim p i in record {
+  transport_start = claim.transport_start;
+  transport_peak = claim.transport_peak;
+  system_start = claim.system_start;
+  system_peak = claim.system_peak;
+}
+
+lead_holds : (d : Described) (p : Planned) (i : ℕ) (s : DescribedStream) → Hold (entries_from (stream_lead_entry d p i s) 1 s.group) → (m : ℕ) → 0 < m → m ≤ s.group →
+    lead_needed (declaration s) (stream_share p i) m ≤ time_given d.rate (declaration s) (stream_share p i).count m
+lead_holds d p i s hold m some below =
+    let e : 1 + (m - 1) ≡ m = omega arith in
+    at_most_holds StreamLead (group_part s m) i (lead_needed (declaration s) (stream_share p i) m) (time_given d.rate (declaration s) (stream_share p i).count m)
+    (rw e at (holds_count (stream_lead_entry d p i s) 1 s.group (m - 1) (omega arith) hold))
+
+pub stream_holds : (d : Described) (p : Planned) (i : ℕ) (s : DescribedStream) → ServingConditions d p → slice_get d.streams i ≡ Some s →
+    StreamConditions d.rate (declaration s) (claim_of p i) (marks (Stream i) p.slots)
+stream_holds d p i s serves is =
+    let lt : i < length d.streams = slice_get_within d.streams i s is in
+    let own = stream_share p i in let claim = stream_claim p i in
+    let rate = at_most_holds StreamRate 0 i (rate_needed (declaration s) own) (rate_given d.rate (declaration s) own)
+    (holds_element (λ j t. stream_rate_entry d p j t ∷ []) d.streams i s serves.rates is) in
+    let main = at_most_holds MainBuffer 0 i (bytes_waiting d.rate (declaration s) own) s.main
+    (holds_element (λ j t. main_buffer_entry d p j t ∷ []) d.streams i s serves.main_buffers is) in
+    let lead = lead_holds d p i s (holds_element (λ k t. entries_from (stream_lead_entry d p k t) 1 t.group) d.streams i s serves.leads is) in
+    record {
+      owned = serves.shape.streams_own i lt;
+      spread_claimed = at_most_holds Spread 0 i (spread (marks (Stream i) p.slots)) claim.spread (holds_item (λ j. spread_entry p j ∷ []) d.streams i serves.spreads lt);
+      rate_serves = rw (length_marks (Stream i) p.slots) rate;
+      work = holds_work TransportBuffer i d.rate s.rx tb_size claim.start claim.peak (marks (Stream i) p.slots)
+          (holds_element (stream_buffer_entries d p) d.streams i s serves.stream_buffers is);
+      lead_serves = λ m some below. rw (length_marks (Stream i) p.slots) (lead m some below);
+      main_fits = rw (length_marks (Stream i) p.slots) main;
+    }
+
+-- ---- the slots of a program's tables
+
+pub program_holds : (d : Described) (p : Planned) (i : ℕ) → ServingConditions d p → i < length d.programs →
+    ProgramConditions d.rate (program_claim_of p i) (marks (System i) p.slots)
+program_holds d p i serves lt = let claim = program_claim p i in record {
+  transport = holds_work TransportBuffer (length d.streams + i) d.rate system_tb_drain tb_size claim.transport_start claim.transport_peak (marks (System i) p.slots)
+      (holds_item (transport_buffer_entries d p) d.programs i serves.transport_buffers lt);
+  system = holds_work SystemBuffer i d.rate bsys_drain bsys_size claim.system_start claim.system_peak (marks (System i) p.slots)
+      (holds_item (system_buffer_entries d p) d.programs i serves.system_buffers lt);
+}
+
+-- ---- PCRs and sections
+
+pub pcr_gap_holds : (d : Described) (p : Planned) (i : ℕ) (program : DescribedProgram) → ServingConditions d p → slice_get d.programs i ≡ Some program →
+    gap (marks (Pcr i) p.slots) 1 * slot_ms_at_1bps ≤ program.pcr_limit * d.rate
+pcr_gap_holds d p i program serves is = at_most_holds PcrGap 0 i (gap (marks (Pcr i) p.slots) 1 * slot_ms_at_1bps) (program.pcr_limit * d.rate)
+    (holds_element (λ j q. pcr_gap_entry d p j q ∷ []) d.programs i program serves.pcr_gaps is)
+
+pub table_gap_holds : (d : Described) (p : Planned) (t : ℕ) → ServingConditions d p → t < table_count d →
+    gap (marks (Table t) p.slots) (round_packets d t) * slot_ms_at_1bps ≤ table_limit d t * d.rate
+table_gap_holds d p t serves lt = at_most_holds TableGap 0 t (gap (marks (Table t) p.slots) (round_packets d t) * slot_ms_at_1bps) (table_limit d t * d.rate)
+    (holds_item (λ j. table_gap_entry d p j ∷ []) (table_kinds d) t serves.table_gaps lt)
+
+-- a section begins within the round
+place_below : (ls : List ℕ) (j : ℕ) → j < length ls → sum_by packets_of_section (take j ls) < sum_by packets_of_section ls
+place_below ls j lt =
+    let one : 1 ≤ packets_of_section (get_or ls j 0) = omega arith in
+    omega (arith, one, sum_by_more_le packets_of_section ls j 0 lt)
+
+pub first_packet_below : (d : Described) (t j : ℕ) → j < section_count d t → first_packet d t j < round_packets d t
+first_packet_below d t j lt = place_below (section_lengths d t) j lt
+
+-- ---- the promises
+
+pub plan_law : OwnedLaw → PlanLaw
+plan_law law d p ranges serving =
+    let k = serves d p serving in
+    record {
+      streams = λ i s units is keeps. subst (λ (o : ℕ → Bool). StreamServed o d.rate (declaration s) units) (sym (law.alone p.slots (Stream i)))
+          (stream_law d.rate (declaration s) (claim_of p i) (marks (Stream i) p.slots) units (proper d i s ranges is) (stream_holds d p i s k is) keeps);
+      programs = λ i lt. subst (λ (o : ℕ → Bool). ProgramServed o d.rate) (sym (law.alone p.slots (System i)))
+          (program_law d.rate (program_claim_of p i) (marks (System i) p.slots)
+          (omega (arith, ranges.least_rate)) (some_slots (System i)) (program_holds d p i k lt));
+      pcrs = λ i program slots is. let own_marks = marks (Pcr i) p.slots in
+          let lt : i < length d.programs = slice_get_within d.programs i program is in
+          subst (λ (o : ℕ → Bool). Recur d.rate program.pcr_limit 0 (map (λ s. 188 * s + 10) (own_slots o 0 slots)) (188 * slots)) (sym (law.alone p.slots (Pcr i)))
+          (pcr_law (own own_marks) (gap own_marks 1) d.rate program.pcr_limit slots
+          (gap_law own_marks 1 (gap own_marks 1) (k.shape.programs_own i lt) (omega arith)) (pcr_gap_holds d p i program k is));
+      sections = λ t j slots lt within. let own_marks = marks (Table t) p.slots in
+          subst (λ (o : ℕ → Bool). Recur d.rate (table_limit d t) 0 (map (λ s. 188 * s) (own_slots (starts o (round_packets d t) (first_packet d t j)) 0 slots)) (188 * slots))
+          (sym (law.alone p.slots (Table t)))
+          (table_law (own own_marks) (round_packets d t) (first_packet d t j) (gap own_marks (round_packets d t)) d.rate (table_limit d t) slots
+          (first_packet_below d t j within) (gap_law own_marks (round_packets d t) (gap own_marks (round_packets d t)) (k.shape.tables_own t lt) (omega arith))
+          (table_gap_holds d p t k lt));
+    }
+  where
+    some_slots : (item : Item) → 0 < length (marks item p.slots)
+    some_slots item = omega (arith, length_marks item p.slots, (serves d p serving).shape.some_slots)

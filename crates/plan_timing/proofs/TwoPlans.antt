@@ -1,0 +1,131 @@
+-- Two plans: from the conditions on both to the premises of the timing laws.
+use Rattle.std.specs.Prelude.{ℕ, zero, suc, ◌+◌, ◌-◌, ◌*◌, ◌<◌, ◌≤◌, max, Bool, List, [], ◌∷◌, Some, length, slice_get, map}
+use Rattle.std.proofs.Common.{◌≡◌, sym, ap, ◌∙◌, subst, arith}
+use Rattle.std.proofs.lemmas.Option.{slice_get_within}
+use Rattle.clock27.specs.Recurrence.{Recur}
+use Rattle.clock27.specs.Units.{slot_ms_at_1bps}
+use Rattle.own_slots.specs.Slots.{AtLeastPerWindow, own_slots}
+use Rattle.own_slots.specs.Period.{own, per_period, position, back}
+use Rattle.own_slots.specs.Gaps.{gap}
+use Rattle.own_slots.specs.Work.{work_left}
+use Rattle.own_slots.specs.Rounds.{starts}
+use Rattle.own_slots.specs.Switch.{joined, shift}
+use Rattle.own_slots.proofs.Extremes.{at_most_greatest}
+use Rattle.own_slots.proofs.SwitchLemmas.{switch_gap_law}
+use Rattle.own_slots.proofs.Recurrence.{pcr_law, table_law}
+use Rattle.unit_timing.specs.Buffers.{system_tb_drain, bsys_drain}
+use Rattle.unit_timing.specs.Plans.{StreamServed, ProgramServed}
+use Rattle.unit_timing.specs.Conditions.{lead_across, time_given, bytes_across, StreamSwitchConditions, ProgramSwitchConditions}
+use Rattle.unit_timing.proofs.PlanLemmas.{stream_switch_law, program_switch_law}
+use Rattle.description.specs.Described.{Described, DescribedStream}
+use Rattle.description.specs.Tables.{table_kinds, table_limit, round_packets}
+use Rattle.slot_plan.specs.declared.slot.Item.{Item}
+use Rattle.slot_plan.specs.declared.slot.Item.TheVariants.{Stream, Pcr, Table, System}
+use Rattle.slot_plan.specs.Planned.{Planned}
+use Rattle.slot_plan.specs.Items.{marks}
+use Rattle.slot_plan.specs.declared.condition.Condition.TheVariants.{PcrSwitch, TableSwitch, WorkSwitch, LeadSwitch, MainSwitch}
+use Rattle.slot_plan.specs.Claims.{declaration, stream_claim, program_claim, stream_share}
+use Rattle.slot_plan.specs.Conditions.{entries_from, group_part}
+use Rattle.slot_plan.specs.SwitchConditions.{gap_across, pcr_switch_entry, table_switch_entry, stream_work_entry, transport_work_entry, system_work_entry, lead_switch_entry, main_switch_entry}
+use Rattle.slot_plan.specs.Schedule.{OwnedLaw, switched, owned}
+use Rattle.slot_plan.specs.TableRounds.{first_packet}
+use Rattle.slot_plan.proofs.HeldConditions.{holds_item, at_most_holds}
+use Rattle.slot_plan.proofs.ConditionLists.{Hold, serves, FollowingConditions, follows}
+use Rattle.slot_plan.proofs.ItemConditions.{holds_element, holds_count}
+use Rattle.plan_timing.specs.Promised.{SwitchLaw}
+use Rattle.plan_timing.proofs.OnePlan.{length_marks, proper, claim_of, program_claim_of, stream_holds, program_holds, pcr_gap_holds, table_gap_holds, first_packet_below}
+
+lead_joins : (d : Described) (first second : Planned) (i : ℕ) (s : DescribedStream) → Hold (entries_from (lead_switch_entry d first second i s) 1 s.group) →
+    (m : ℕ) → 0 < m → m ≤ s.group →
+    lead_across (declaration s) (stream_share first i) (stream_share second i) (shift (marks (Stream i) first.slots) (marks (Stream i) second.slots)) m
+    ≤ time_given d.rate (declaration s) ((stream_share first i).count * (stream_share second i).count) m
+lead_joins d first second i s hold m some below =
+    let e : 1 + (m - 1) ≡ m = omega arith in
+    at_most_holds LeadSwitch (group_part s m) i
+    (lead_across (declaration s) (stream_share first i) (stream_share second i) (shift (marks (Stream i) first.slots) (marks (Stream i) second.slots)) m)
+    (time_given d.rate (declaration s) ((stream_share first i).count * (stream_share second i).count) m)
+    (rw e at (holds_count (lead_switch_entry d first second i s) 1 s.group (m - 1) (omega arith) hold))
+
+stream_joins : (d : Described) (first second : Planned) (i : ℕ) (s : DescribedStream) → FollowingConditions d first second → slice_get d.streams i ≡ Some s →
+    StreamSwitchConditions d.rate (declaration s) (claim_of first i) (marks (Stream i) first.slots) (claim_of second i) (marks (Stream i) second.slots)
+stream_joins d first second i s follows is =
+    let lead = lead_joins d first second i s (holds_element (λ k t. entries_from (lead_switch_entry d first second k t) 1 t.group) d.streams i s follows.leads is) in
+    let main = at_most_holds MainSwitch 0 i (bytes_across d.rate (declaration s) (stream_share first i) (stream_share second i)) s.main
+    (holds_element (λ j t. main_switch_entry d first second j t ∷ []) d.streams i s follows.main_buffers is) in
+    record {
+      work = at_most_holds WorkSwitch 0 i (work_left d.rate s.rx (stream_claim first i).start (marks (Stream i) first.slots)) (stream_claim second i).start
+          (holds_element (λ j t. stream_work_entry d first second j t ∷ []) d.streams i s follows.stream_works is);
+      lead_serves = λ m some below.
+          let shorter = rw (length_marks (Stream i) first.slots, length_marks (Stream i) second.slots) at (lead m some below) in
+          rw (length_marks (Stream i) first.slots, length_marks (Stream i) second.slots) shorter;
+      main_fits = rw (length_marks (Stream i) first.slots, length_marks (Stream i) second.slots) main;
+    }
+
+program_joins : (d : Described) (first second : Planned) (i : ℕ) → FollowingConditions d first second → i < length d.programs →
+    ProgramSwitchConditions d.rate (program_claim_of first i) (marks (System i) first.slots) (program_claim_of second i)
+program_joins d first second i follows lt = let claim = program_claim first i in let next = program_claim second i in record {
+  transport = at_most_holds WorkSwitch 0 (length d.streams + i) (work_left d.rate system_tb_drain claim.transport_start (marks (System i) first.slots)) next.transport_start
+      (holds_item (λ j. transport_work_entry d first second j ∷ []) d.programs i follows.transport_works lt);
+  system = at_most_holds WorkSwitch 0 (length d.streams + length d.programs + i) (work_left d.rate bsys_drain claim.system_start (marks (System i) first.slots)) next.system_start
+      (holds_item (λ j. system_work_entry d first second j ∷ []) d.programs i follows.system_works lt);
+}
+
+-- ---- gaps across the switch
+
+within_limit : (a b c limit : ℕ) → a * slot_ms_at_1bps ≤ limit → b * slot_ms_at_1bps ≤ limit → c * slot_ms_at_1bps ≤ limit → max a (max b c) * slot_ms_at_1bps ≤ limit
+within_limit a b c limit f g h = omega arith
+
+gap_below : (first second : List Bool) (k x : ℕ) → 1 ≤ x → x ≤ k → position second (k - x) + back first x ≤ gap_across first second k
+gap_below first second k zero low high = absurd (omega arith)
+gap_below first second k (suc x) low high = at_most_greatest k (λ y. position second (k - suc y) + back first (suc y)) x (omega arith)
+
+gaps_join : (first second : List Bool) (periods k : ℕ) → 0 < per_period first → 0 < per_period second →
+    AtLeastPerWindow (joined (own first) (own second) (periods * length first)) (max (gap first k) (max (gap second k) (gap_across first second k))) k
+gaps_join first second periods k some next_some =
+    switch_gap_law first second periods k (max (gap first k) (max (gap second k) (gap_across first second k))) some next_some (omega arith) (omega arith)
+    (λ x low high. omega (arith, gap_below first second k x low high))
+
+-- ---- the promises
+
+module _ (law : OwnedLaw) (first second : Planned) (periods : ℕ) where
+  -- the own slots over the two plans, by the marks of both periods
+  owned_over : (item : Item) → joined (own (marks item first.slots)) (own (marks item second.slots)) (periods * length (marks item first.slots))
+      ≡ owned (switched first.slots periods second.slots) item
+  owned_over item =
+      ap (λ (n : ℕ). joined (own (marks item first.slots)) (own (marks item second.slots)) (periods * n)) (length_marks item first.slots)
+      ∙ sym (law.in_turn first.slots second.slots periods item)
+
+pub switch_law : OwnedLaw → SwitchLaw
+switch_law law d first second periods ranges serving switchable =
+    let k = serves d first serving in
+    let f = follows d first second switchable in
+    record {
+      streams = λ i s units is keeps. subst (λ (o : ℕ → Bool). StreamServed o d.rate (declaration s) units) (owned_over law first second periods (Stream i))
+          (stream_switch_law d.rate (declaration s) (claim_of first i) (marks (Stream i) first.slots) (claim_of second i) (marks (Stream i) second.slots) periods units
+          (proper d i s ranges is) (stream_holds d first i s k is) (stream_holds d second i s f.serves is) (stream_joins d first second i s f is) keeps);
+      programs = λ i lt. subst (λ (o : ℕ → Bool). ProgramServed o d.rate) (owned_over law first second periods (System i))
+          (program_switch_law d.rate (program_claim_of first i) (marks (System i) first.slots) (program_claim_of second i) (marks (System i) second.slots) periods
+          (omega (arith, ranges.least_rate)) (omega (arith, length_marks (System i) first.slots, k.shape.some_slots))
+          (omega (arith, length_marks (System i) second.slots, f.serves.shape.some_slots))
+          (program_holds d first i k lt) (program_holds d second i f.serves lt) (program_joins d first second i f lt));
+      pcrs = λ i program slots is. let a = marks (Pcr i) first.slots in let b = marks (Pcr i) second.slots in
+          let lt : i < length d.programs = slice_get_within d.programs i program is in
+          let across = at_most_holds PcrSwitch 0 i (gap_across a b 1 * slot_ms_at_1bps) (program.pcr_limit * d.rate)
+          (holds_element (λ j q. pcr_switch_entry d first second j q ∷ []) d.programs i program f.pcrs is) in
+          subst (λ (o : ℕ → Bool). Recur d.rate program.pcr_limit 0 (map (λ s. 188 * s + 10) (own_slots o 0 slots)) (188 * slots))
+          (owned_over law first second periods (Pcr i))
+          (pcr_law (joined (own a) (own b) (periods * length a)) (max (gap a 1) (max (gap b 1) (gap_across a b 1))) d.rate program.pcr_limit slots
+          (gaps_join a b periods 1 (k.shape.programs_own i lt) (f.serves.shape.programs_own i lt))
+          (within_limit (gap a 1) (gap b 1) (gap_across a b 1) (program.pcr_limit * d.rate)
+          (pcr_gap_holds d first i program k is) (pcr_gap_holds d second i program f.serves is) across));
+      sections = λ t j slots lt within. let a = marks (Table t) first.slots in let b = marks (Table t) second.slots in let places = round_packets d t in
+          let across = at_most_holds TableSwitch 0 t (gap_across a b places * slot_ms_at_1bps) (table_limit d t * d.rate)
+          (holds_item (λ j. table_switch_entry d first second j ∷ []) (table_kinds d) t f.tables lt) in
+          subst (λ (o : ℕ → Bool). Recur d.rate (table_limit d t) 0 (map (λ s. 188 * s) (own_slots (starts o places (first_packet d t j)) 0 slots)) (188 * slots))
+          (owned_over law first second periods (Table t))
+          (table_law (joined (own a) (own b) (periods * length a)) places (first_packet d t j) (max (gap a places) (max (gap b places) (gap_across a b places)))
+          d.rate (table_limit d t) slots (first_packet_below d t j within)
+          (gaps_join a b periods places (k.shape.tables_own t lt) (f.serves.shape.tables_own t lt))
+          (within_limit (gap a places) (gap b places) (gap_across a b places) (table_limit d t * d.rate)
+          (table_gap_holds d first t k lt) (table_gap_holds d second t f.serves lt) across));
+    }

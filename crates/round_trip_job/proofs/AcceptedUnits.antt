@@ -1,0 +1,110 @@
+-- No unit of a job is refused.
+use Rattle.std.proofs.Common.{◌≡◌, ◌≤◌, ◌<◌, ℕ, zero, suc, ◌+◌, ◌==◌, Bool, true, false, if◌then◌else◌, List, [], ◌∷◌, ◌++◌, length, map, Option, Some, None, slice_get, All, refl, sym, ap, ◌∙◌, subst, arith, append_assoc}
+use Rattle.std.proofs.lemmas.List.{length-append}
+use Rattle.std.proofs.lemmas.List.Elements.{All-nil, All-cons, All-head, All-tail}
+use Rattle.pes_packet.specs.AccessUnits.{AccessUnit}
+use Rattle.pes_packet.specs.Units.{units_of}
+use Rattle.description.specs.Described.{DescribedStream}
+use Rattle.description.specs.Ranges.{IsInRange}
+use Rattle.demux.specs.Views.{FindingView}
+use Rattle.unit_queue.specs.Queues.{Kept}
+use Rattle.unit_queue.specs.declared.refusal.FeedError.{FeedError}
+use Rattle.mux_core.specs.Scheduled.{Scheduled}
+use Rattle.mux_core.specs.Histories.{owned_stream}
+use Rattle.mux_core.specs.MuxStates.{feed_cause}
+use Rattle.mux_core.specs.Headline.{UnitsKept}
+use Rattle.mux_core.specs.WholeJobs.{or_cause, unit_refused, cause_after, first_refused}
+use Rattle.mux_core.specs.declared.multiplexing.MuxError.{MuxError}
+use Rattle.mux_core.proofs.KnownRanges.{parameters_known}
+use Rattle.mux_core.proofs.UnitCounts.{own_units, units_append}
+use Rattle.stream_units.specs.CarriedUnits.{RoleView, Ignored, Start, Continuation, Interruption, CarriedUnit, role_of, continuation, with_more, units_from, carried_units, wire_units}
+use Rattle.stream_units.specs.Laws.{UnitsAreKept, TakenOneByOne, Declares as LaneDeclares}
+use Rattle.stream_jobs.specs.Jobs.{IsStream, AreUnits}
+use Rattle.stream_jobs.specs.FoundUnits.{source_of}
+
+-- 1. Units have bytes
+
+abbrev HasBytes : AccessUnit → Type 0
+HasBytes u = 1 ≤ length u.bytes
+
+-- a unit in front, unless it is empty
+some_or : (u : CarriedUnit) (later : List CarriedUnit) (b : Bool) → length u.unit.bytes == 0 ≡ b → All HasBytes (map (λ x. x.unit) later) →
+    All HasBytes (map (λ x. x.unit) (if b then later else u ∷ later))
+some_or u later true e all = all
+some_or u later false e all = All-cons HasBytes u.unit (map (λ x. x.unit) later) (grind (arith, e)) all
+
+by_have_bytes : (b : RoleView) (more : List ℕ) (later : List CarriedUnit) → All HasBytes (map (λ x. x.unit) later) → All HasBytes (map (λ x. x.unit) (units_from b more later))
+unfolding units_from
+by_have_bytes Ignored more later all = all
+by_have_bytes (Continuation body) more later all = all
+by_have_bytes Interruption more later all = all
+by_have_bytes (Start u) more later all = some_or (with_more u more) later (length (with_more u more).unit.bytes == 0) refl all
+
+pub have_bytes : (pid : ℕ) (findings : List FindingView) → All HasBytes (wire_units pid findings)
+unfolding carried_units
+have_bytes pid [] = All-nil HasBytes
+have_bytes pid (f ∷ fs) = by_have_bytes (role_of pid f) (continuation pid fs) (carried_units pid fs) (have_bytes pid fs)
+
+-- 2. The units of a stream keep what it declares
+
+found_kept : UnitsAreKept → (line : Scheduled) (findings : List FindingView) (k : ℕ) (s : DescribedStream) (us : List AccessUnit) → IsStream false findings line.description s us →
+    Kept (owned_stream line k s) us
+unfolding source_of
+found_kept law line findings k s us is =
+    let m = is.found.moved in
+    let n = is.declares in
+    let declares : LaneDeclares (owned_stream line k s) us = record { interval = n.interval; size = n.size; lead = n.lead; group = n.group } in
+    subst (λ (x : List AccessUnit). Kept (owned_stream line k s) x) (sym m.are)
+    (law (owned_stream line k s) is.found.base (wire_units s.pid findings) m.sound (have_bytes s.pid findings)
+    (subst (λ (x : List AccessUnit). LaneDeclares (owned_stream line k s) x) m.are declares))
+
+pub all_kept : UnitsAreKept → (line : Scheduled) (findings : List FindingView) (units : List (ℕ × AccessUnit)) → IsInRange line.description → AreUnits false findings line.description units →
+    UnitsKept line (λ k. units_of k units)
+all_kept law line findings units ranges are = record {
+  parameters = parameters_known line ranges;
+  kept = λ k s is. found_kept law line findings k s (units_of k units) (are.streams k s is);
+}
+
+-- 3. One after another
+
+-- what the streams of a line have: rules in their ranges, and few units that are kept
+record AllFit (line : Scheduled) (all : List (ℕ × AccessUnit)) : Type 0 where
+  kept : UnitsKept line (λ k. units_of k all)
+  few : (k : ℕ) (s : DescribedStream) → slice_get line.description.streams k ≡ Some s → length (units_of k all) ≤ 1048576
+
+one_taken : TakenOneByOne → (line : Scheduled) (fed rest : List (ℕ × AccessUnit)) (entry : ℕ × AccessUnit) (s : DescribedStream) → AllFit line (fed ++ (entry ∷ rest)) →
+    slice_get line.description.streams entry.0 ≡ Some s → cause_after line 1048576 fed entry ≡ None
+unfolding feed_cause
+one_taken law line fed rest entry s fit is =
+    let parts : units_of entry.0 (fed ++ (entry ∷ rest)) ≡ units_of entry.0 fed ++ (entry.1 ∷ units_of entry.0 rest) =
+    units_append entry.0 fed (entry ∷ rest) ∙ ap (λ (us : List AccessUnit). units_of entry.0 fed ++ us) (own_units entry.0 entry rest refl) in
+    let size : length (units_of entry.0 (fed ++ (entry ∷ rest))) ≡ length (units_of entry.0 fed) + suc (length (units_of entry.0 rest)) =
+    ap (length {A = AccessUnit}) parts ∙ length-append (units_of entry.0 fed) (entry.1 ∷ units_of entry.0 rest) in
+    let kept = subst (λ (us : List AccessUnit). Kept (owned_stream line entry.0 s) us) parts (fit.kept.kept entry.0 s is) in
+    rw is (law (owned_stream line entry.0 s) 1048576 (units_of entry.0 fed) entry.1 (units_of entry.0 rest) (fit.kept.parameters entry.0 s is).group kept
+    (omega (arith, size, fit.few entry.0 s is)))
+
+none_then : (index : ℕ) (cause : Option FeedError) (next : Option MuxError) → cause ≡ None → next ≡ None → or_cause (unit_refused index cause) next ≡ None
+unfolding or_cause unit_refused
+none_then index cause next e none = rw (e, none) refl
+
+-- a number below the count of streams is that of one
+stream_there : (streams : List DescribedStream) (k : ℕ) → k < length streams → (s : DescribedStream) × (slice_get streams k ≡ Some s)
+stream_there [] k lt = absurd (omega (arith, lt))
+stream_there (s ∷ streams) zero lt = (s, refl)
+stream_there (s ∷ streams) (suc k) lt = stream_there streams k (omega (arith, lt))
+
+all_taken : TakenOneByOne → (line : Scheduled) (fed rest : List (ℕ × AccessUnit)) → AllFit line (fed ++ rest) → All (λ e. e.0 < length line.description.streams) rest →
+    first_refused line 1048576 fed rest ≡ None
+unfolding first_refused
+all_taken law line fed [] fit below = refl
+all_taken law line fed (entry ∷ rest) fit below =
+    let s = stream_there line.description.streams entry.0 (All-head (λ e. e.0 < length line.description.streams) entry rest below) in
+    none_then (length fed) (cause_after line 1048576 fed entry) (first_refused line 1048576 (fed ++ (entry ∷ [])) rest) (one_taken law line fed rest entry s.0 fit s.1)
+    (all_taken law line (fed ++ (entry ∷ [])) rest (subst (λ (all : List (ℕ × AccessUnit)). AllFit line all) (sym (append_assoc fed (entry ∷ []) rest)) fit)
+    (All-tail (λ e. e.0 < length line.description.streams) entry rest below))
+
+pub none_refused : UnitsAreKept → TakenOneByOne → (line : Scheduled) (findings : List FindingView) (units : List (ℕ × AccessUnit)) → IsInRange line.description →
+    AreUnits false findings line.description units → first_refused line 1048576 [] units ≡ None
+none_refused keeping taking line findings units ranges are =
+    all_taken taking line [] units (record { kept = all_kept keeping line findings units ranges are; few = λ k s is. (are.streams k s is).fits }) are.numbered

@@ -1,0 +1,5 @@
+pub mod AcceptedUnits
+pub mod JobUnits
+pub mod SentWhole
+pub mod WholeUnits
+pub mod FoundUnits

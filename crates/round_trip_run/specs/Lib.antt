@@ -1,0 +1,9 @@
+pub mod Placed
+pub mod Distinguishable
+pub mod GivenBack
+pub mod Clean
+pub mod CarriedBack
+pub mod Jobs
+pub mod Monitored
+pub mod Reported
+pub mod PtsSpacing

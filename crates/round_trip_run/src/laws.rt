@@ -1,0 +1,80 @@
+//! What a demultiplexer finds in the finished bytes of a run. Each function does nothing: its contract is
+//! the law.
+ghost use Rattle.round_trip_run.specs.GivenBack.{GivenBackLaw, StandingLaw, DrivenLaw};
+ghost use Rattle.round_trip_run.specs.Clean.{CleanLaw, StandingCleanLaw, DrivenCleanLaw};
+ghost use Rattle.round_trip_run.specs.Jobs.{JobLaw, JobCleanLaw};
+ghost use Rattle.round_trip_run.specs.Monitored.{SoundLaw, StandingSoundLaw, JobSoundLaw};
+ghost use Rattle.round_trip_run.specs.Monitored.{InTimeLaw, StandingInTimeLaw, JobInTimeLaw};
+ghost use Rattle.round_trip_run.specs.Reported.{ReportedLaw, StandingReportedLaw, JobReportedLaw};
+ghost use Rattle.round_trip_run.specs.PtsSpacing.{PtsSpacingLaw, StandingPtsSpacingLaw, JobPtsSpacingLaw};
+ghost use Rattle.round_trip_run.specs.CarriedBack.{CarriedBackLaw, AcceptedUnitsFit};
+
+/// The bytes of a run, demultiplexed with their end, give back on each stream's PID exactly its units,
+/// in order: each that was sent whole with its stream_id, its stamps as on the wire and its data, then
+/// the one under way as truncated, or as a PES packet that did not end if it has no PES_packet_length
+/// (ISO/IEC 13818-1, 2.4.3.7); on each table's PID exactly its sections as of their moments; and
+/// nothing else on any PID. Left open are PIDs with a ready-made section that is taken for a PES packet
+/// or for stuffing. For one plan and for two in turn; of units and slots in any order, accepted or
+/// refused.
+pub fn given_back()
+    ensures whole { GivenBackLaw }
+    ensures standing { StandingLaw }
+    ensures driven { DrivenLaw }
+{}
+
+/// Nor is anything wrong with these bytes: no packet is refused, flagged in error, scrambled or
+/// repeated, each continuity_counter follows, and no section is refused (ETSI TR 101 290, 5.2.1).
+pub fn clean()
+    ensures whole { CleanLaw }
+    ensures standing { StandingCleanLaw }
+    ensures driven { DrivenCleanLaw }
+{}
+
+/// So of what `mux_core::multiplex` and `multiplex_switch` write for a whole job.
+pub fn jobs()
+    ensures given_back { JobLaw }
+    ensures clean { JobCleanLaw }
+{}
+
+/// What `carry::carry` writes, a stream's units on a PID of their own, gives back exactly these units;
+/// and each unit that it accepts is one of which this is said.
+pub fn carried_back()
+    ensures whole { CarriedBackLaw }
+    ensures accepted { AcceptedUnitsFit }
+{}
+
+/// A monitor reports nothing of what packets and findings fail by themselves (ETSI TR 101 290, 5.2.1
+/// and 5.2.2): each packet has its sync byte, can be read and is not marked in error, the last one is
+/// whole, each continuity_counter follows on its PID, and no section is refused. In the definitions of
+/// `monitor`.
+pub fn monitored()
+    ensures whole { SoundLaw }
+    ensures standing { StandingSoundLaw }
+    ensures jobs { JobSoundLaw }
+{}
+
+/// Nor, at the description's rate, of what comes too late: clock references, if the limit given to the
+/// monitor, in milliseconds, is at least each program's (ISO/IEC 13818-1, 2.7.2), and sections of the
+/// PAT, of the PMTs that it names, of the NIT, SDT, EIT and TDT (ETSI TR 101 290, 5.2.1 and 5.2.3). For
+/// one plan that keeps its conditions and for two, whatever sections are ready-made.
+pub fn monitored_times()
+    ensures whole { InTimeLaw }
+    ensures standing { StandingInTimeLaw }
+    ensures jobs { JobInTimeLaw }
+{}
+
+/// So, at the description's rate, all faults by all fifteen rules of a monitor are those of PTS (ETSI
+/// TR 101 290, 5.2.2), which come as the units come.
+pub fn monitored_whole()
+    ensures whole { ReportedLaw }
+    ensures standing { StandingReportedLaw }
+    ensures jobs { JobReportedLaw }
+{}
+
+/// And there is no fault at all if each unit's DTS is at most 700 ms less the stream's lead after that
+/// of the one before, and no ready-made section is taken for a PES packet or for stuffing.
+pub fn monitored_pts_spacing()
+    ensures whole { PtsSpacingLaw }
+    ensures standing { StandingPtsSpacingLaw }
+    ensures jobs { JobPtsSpacingLaw }
+{}

@@ -1,0 +1,42 @@
+-- From lists of conditions to the conditions of one item.
+use Rattle.std.specs.Prelude.{ℕ, zero, suc, ◌+◌, ◌*◌, ◌<◌, Bool, List, [], ◌∷◌, Some, slice_get}
+use Rattle.std.proofs.Common.{◌≡◌, arith}
+use Rattle.std.proofs.lemmas.Option.{get_or_from_slice_get, slice_get_within}
+use Rattle.own_slots.specs.Work.{HoldsWork, most_before, most_after, work_left}
+use Rattle.slot_plan.specs.declared.condition.Condition.{Condition}
+use Rattle.slot_plan.specs.Numbered.{numbered}
+use Rattle.slot_plan.specs.Entries.{Entry, at_most}
+use Rattle.slot_plan.specs.Conditions.{buffer_entries, entries_from}
+use Rattle.slot_plan.proofs.HeldConditions.{holds_both, holds_at, at_most_holds}
+use Rattle.slot_plan.proofs.ConditionLists.{Hold}
+
+-- those of the element of that number
+pub holds_element : {A : Type 0} (part : ℕ → A → List Entry) (xs : List A) (i : ℕ) (x : A) → Hold (numbered part 0 xs) → slice_get xs i ≡ Some x → Hold (part i x)
+holds_element part xs i x hold is =
+    let zero_on : 0 + i ≡ i = omega arith in
+    let here = holds_at part 0 xs i x hold (slice_get_within xs i x is) in
+    rw (zero_on, get_or_from_slice_get xs i x x is) at here
+
+-- of conditions on m, m + 1, .. units that on m + j
+pub holds_count : (f : ℕ → Entry) (m n j : ℕ) → j < n → Hold (entries_from f m n) → Hold (f (m + j) ∷ [])
+holds_count f m zero j lt hold = absurd (omega arith)
+holds_count f m (suc n) zero lt hold =
+    let e : m + zero ≡ m = omega arith in rw e ((holds_both (f m ∷ []) (entries_from f (suc m) n) hold).0)
+holds_count f m (suc n) (suc j) lt hold =
+    let e : suc m + j ≡ m + suc j = omega arith in
+    rw (← e) (holds_count f (suc m) n j (omega arith) ((holds_both (f m ∷ []) (entries_from f (suc m) n) hold).1))
+
+-- the three parts of a buffer are its claims
+pub holds_work : (condition : Condition) (item rate drain room start peak : ℕ) (marks : List Bool) → Hold (buffer_entries condition item rate drain room start peak marks) →
+    HoldsWork rate drain room start peak marks
+holds_work condition item rate drain room start peak marks hold =
+    let fits = at_most condition 1 item (most_before rate drain start marks) (room * rate) in
+    let peaks = at_most condition 2 item (most_after rate drain start marks) peak in
+    let carries = at_most condition 3 item (work_left rate drain start marks) start in
+    let one = holds_both (fits ∷ []) (peaks ∷ carries ∷ []) hold in
+    let two = holds_both (peaks ∷ []) (carries ∷ []) one.1 in
+    record {
+      fits = at_most_holds condition 1 item (most_before rate drain start marks) (room * rate) one.0;
+      peaks = at_most_holds condition 2 item (most_after rate drain start marks) peak two.0;
+      carries = at_most_holds condition 3 item (work_left rate drain start marks) start two.1;
+    }

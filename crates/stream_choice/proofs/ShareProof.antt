@@ -1,0 +1,74 @@
+-- Own slots of a stream's share serve it.
+use Rattle.std.proofs.Common.{◌≡◌, ℕ, zero, suc, zero-mul, ◌+◌, ◌-◌, ◌*◌, ◌<◌, ◌≤◌, arith, sym, subst, mul-le-mul_left, mul-le-mul_right}
+use Rattle.std.specs.Int.{div_ceil}
+use Rattle.clock27.specs.Units.{slot_units_at_1bps}
+use Rattle.clock27.specs.Units.{byte_units_at_1bps}
+use Rattle.unit_timing.specs.Buffers.{tb_size}
+use Rattle.unit_timing.specs.Shares.{parts}
+use Rattle.stream_choice.specs.Shares.{packets_in_row, share_for_time, packet_distance, transport_delay}
+use Rattle.stream_choice.specs.ShareLaws.{ShareLaw}
+use Rattle.stream_choice.proofs.ShareTimes.{IsFree, is_free, freer, held_by, group_held, row_held}
+
+-- packets in a time, and own slots of that share
+sent : (w s x n c r : ℕ) → parts * w ≤ s * x → s * slot_units_at_1bps * n ≤ parts * (c * r) → w * n * slot_units_at_1bps ≤ c * r * x
+sent w s x n c r packets enough = omega (arith, mul-le-mul_right n packets, mul-le-mul_right x enough)
+
+-- three slots
+slots : (w a r : ℕ) → 3 * parts ≤ w * a → a * slot_units_at_1bps ≤ parts * r → 3 * slot_units_at_1bps ≤ w * r
+slots w a r three fast = omega (arith, three, mul-le-mul_left w fast)
+
+-- one distance of own slots
+distance : (g s s' n c r : ℕ) → parts ≤ g * s → s ≤ s' → s' * slot_units_at_1bps * n ≤ parts * (c * r) → n * slot_units_at_1bps ≤ g * (c * r)
+distance g s s' n c r one le enough =
+    omega (arith, mul-le-mul_right n one, mul-le-mul_right n (mul-le-mul_left g le), mul-le-mul_left g enough)
+
+-- a whole buffer
+buffer : (w x r p : ℕ) → tb_size * byte_units_at_1bps ≤ w * x → p ≤ tb_size * r → p * byte_units_at_1bps ≤ w * x * r
+buffer w x r p one room = omega (arith, mul-le-mul_right r one, room)
+
+-- all of them together
+together : (a w n c p x d e f g r : ℕ) → a ≤ 2 * c + n → w * n * slot_units_at_1bps ≤ c * r * f → 3 * slot_units_at_1bps ≤ e * r → n * slot_units_at_1bps ≤ g * (c * r) →
+    p * byte_units_at_1bps ≤ d * x * r → (a + w * n + c) * slot_units_at_1bps * x + c * p * byte_units_at_1bps ≤ c * (f + (d + e + g)) * r * x
+together a w n c p x d e f g r even row three one room = omega (
+  arith,
+  mul-le-mul_right x even,
+  mul-le-mul_right x row,
+  mul-le-mul_left c (mul-le-mul_right x three),
+  mul-le-mul_right x one,
+  mul-le-mul_left c room,
+)
+
+pub share_law : ShareLaw
+share_law needs group packets lead share all rate own ranges units some found has =
+    let w : ℕ = transport_delay needs.rx all in
+    let h : IsFree needs group packets w lead share = is_free needs group packets w lead share found in
+    let interval : 0 < group * needs.interval = positive group needs.interval units.some_units ranges.some_interval in
+    let first : ℕ = share_for_time needs group packets h.first in
+    let d : ℕ = div_ceil (tb_size * byte_units_at_1bps) needs.rx in
+    let e : ℕ = div_ceil (3 * parts) all in
+    let group_share : parts * packets ≤ share * (group * needs.interval) = subst (λ (s : ℕ). parts * packets ≤ s * (group * needs.interval)) (sym h.same) (group_held needs group packets h.free interval) in
+    let grown : first ≤ share = subst (λ (s : ℕ). first ≤ s) (sym h.same) (freer needs group packets h.free h.first h.some_free h.order) in
+    let one : own.period * slot_units_at_1bps ≤ packet_distance first * (own.count * rate) =
+    distance (packet_distance first) first share own.period own.count rate (held_by parts first (some_of packets first (group * needs.interval) units.some_packets (group_held needs group packets h.first interval))) grown has.enough in
+    let three : 3 * slot_units_at_1bps ≤ e * rate = slots e all rate (held_by (3 * parts) all some) has.fast in
+    let room : own.peak * byte_units_at_1bps ≤ d * needs.rx * rate = buffer d needs.rx rate own.peak (held_by (tb_size * byte_units_at_1bps) needs.rx (omega (arith, ranges.least_rx))) has.room in
+    record {
+      rate_serves = omega (arith, sent packets share (group * needs.interval) own.period own.count rate group_share has.enough);
+      lead_serves = λ m pos le.
+          let free : ℕ = h.free + (m - 1) * needs.interval in
+          let packets_row : parts * packets_in_row needs packets m ≤ share * free = subst (λ (s : ℕ). parts * packets_in_row needs packets m ≤ s * free) (sym h.same) (row_held needs group packets h.free m h.some_free pos le) in
+          let row = sent (packets_in_row needs packets m) share free own.period own.count rate packets_row has.enough in
+          let sum : lead + (m - 1) * needs.interval ≡ free + (d + e + packet_distance first) = omega (arith, h.whole) in
+          let all = together own.spread (packets_in_row needs packets m) own.period own.count own.peak needs.rx d e free (packet_distance first) rate has.even row three one room in
+          rw sum (all);
+    }
+  where
+    positive : (a b : ℕ) → 1 ≤ a → 1 ≤ b → 0 < a * b
+    positive a b p q = omega (arith, mul-le-mul_right b p, q)
+
+    some_of : (p s x : ℕ) → 1 ≤ p → parts * p ≤ s * x → 0 < s
+    some_of p zero x pos le = absurd (none (rw (zero-mul x) at le))
+      where
+        none : parts * p ≤ 0 → ⊥
+        none le = omega (arith, le, pos)
+    some_of p (suc s) x pos le = omega arith

@@ -1,0 +1,74 @@
+//! Whether a stream's buffers hold what comes.
+
+ghost use Rattle.std.specs.Prelude.{◌≡◌, ◌≤◌, ◌<◌, ◌^◌};
+ghost use Rattle.stream_choice.specs.Ranges.{IsNeeds, IsGroup};
+ghost use Rattle.stream_choice.specs.Choices as spec;
+ghost use Rattle.stream_choice.specs.Shares as shares;
+ghost use Rattle.unit_timing.specs.PesPacket.{grouped};
+
+use crate::needs::{Needs, packets_of_unit};
+use clock27::SLOT_UNITS_AT_1BPS;
+use unit_timing::shares::PARTS;
+
+/// Whether the transport buffer is drained no slower than packets of that share come.
+pub fn drains(needs: Needs, share: u64) -> bool
+    ensures { result ≡ spec.drains needs share }
+{
+    u128::from(share) * SLOT_UNITS_AT_1BPS <= u128::from(needs.rx) * u128::from(PARTS)
+}
+
+/// The most packets of `units` units in a row, in groups and a rest.
+fn grouped_packets(needs: Needs, group: u64, packets: u32, units: u64) -> u64
+    requires ranges { IsNeeds needs }
+    requires group { IsGroup group packets }
+    requires units { units ≤ 90000 }
+    ensures value { result ≡ grouped group packets (shares.packets_of_unit needs) units }
+    ensures upper { result ≤ 2 ^ 38 }
+{
+    let packets = u64::from(packets);
+    let rest = units % group * packets_of_unit(needs);
+    let rest = if packets < rest { packets } else { rest };
+    units / group * packets + rest
+}
+
+/// The most packets that come within a lead.
+fn packets_within(lead: u32, share: u64) -> u128
+    requires lead { lead ≤ 90000 }
+    ensures value { result ≡ spec.packets_within lead share }
+    ensures upper { result ≤ 2 ^ 42 }
+{
+    u128::from(lead) * u128::from(share) / u128::from(PARTS) + 2
+}
+
+/// The most bytes that wait for their decoding at once.
+fn waiting_bytes(needs: Needs, group: u64, packets: u32, lead: u32, share: u64) -> u128
+    requires ranges { IsNeeds needs }
+    requires group { IsGroup group packets }
+    requires lead { lead ≤ 90000 }
+    ensures { result ≡ spec.waiting_bytes needs group packets lead share }
+{
+    let units = u64::from(lead).div_ceil(u64::from(needs.interval));
+    let sizes = u128::from(units * (19 + u64::from(needs.size)));
+    let by_units = u128::from(grouped_packets(needs, group, packets, units));
+    let by_share = packets_within(lead, share);
+    let packets = if by_units < by_share {
+        by_units
+    } else {
+        by_share
+    };
+    if sizes < 184 * packets {
+        sizes
+    } else {
+        184 * packets
+    }
+}
+
+/// Whether the main buffer holds them.
+pub fn holds(needs: Needs, group: u64, packets: u32, lead: u32, share: u64) -> bool
+    requires ranges { IsNeeds needs }
+    requires group { IsGroup group packets }
+    requires lead { lead ≤ 90000 }
+    ensures { result ≡ spec.holds needs group packets lead share }
+{
+    waiting_bytes(needs, group, packets, lead, share) <= u128::from(needs.main)
+}

@@ -1,0 +1,99 @@
+//! The choice of a group and a lead.
+
+ghost use Rattle.std.specs.Prelude.{◌≡◌, ◌≤◌, ◌<◌, IfSome, IsNone};
+ghost use Rattle.stream_choice.specs.Ranges.{IsNeeds, IsGroup, AreMaxPackets};
+ghost use Rattle.stream_choice.specs.Choices as spec;
+ghost use Rattle.stream_choice.specs.Leads as leads;
+
+use crate::buffers::{drains, holds};
+use crate::choice::{Choice, better};
+use crate::leads::{LEADS, numbered_lead, sufficient_lead};
+use crate::needs::Needs;
+use crate::shares::lead_share;
+
+/// The choice of a group and a lead; None where the lead is too short or a buffer does not hold what comes.
+fn choice_of(needs: Needs, group: u8, packets: u32, delay: u32, lead: u32) -> Option<Choice>
+    requires ranges { IsNeeds needs }
+    requires group { IsGroup group packets }
+    requires lead { lead ≤ 90000 }
+    ensures { result ≡ spec.choice_of needs group packets delay lead }
+{
+    let share = lead_share(needs, u64::from(group), packets, delay, lead)?;
+    if drains(needs, share) && holds(needs, u64::from(group), packets, lead, share) {
+        Some(Choice {
+            group,
+            group_packets: packets,
+            lead,
+            share,
+        })
+    } else {
+        None
+    }
+}
+
+/// The choice of a lead by its number, where it is not above the sufficient one or the greatest.
+fn numbered_choice(
+    needs: Needs,
+    delay: u32,
+    max_lead: u32,
+    group: u8,
+    packets: u32,
+    sufficient: u64,
+    number: u64,
+) -> Option<Choice>
+    requires ranges { IsNeeds needs }
+    requires group { IsGroup group packets }
+    requires lead { max_lead ≤ 90000 }
+    requires sufficient { sufficient ≡ leads.sufficient_lead needs group packets delay }
+    requires number { number < 129 }
+    ensures { result ≡ spec.numbered_choice needs delay max_lead group packets number }
+{
+    let lead = numbered_lead(needs, sufficient, max_lead, number);
+    if lead <= sufficient && lead <= u64::from(max_lead) {
+        choice_of(needs, group, packets, delay, lead as u32)
+    } else {
+        None
+    }
+}
+
+/// The best of one group.
+fn group_choice(needs: Needs, delay: u32, max_lead: u32, group: u8, packets: u32) -> Option<Choice>
+    requires ranges { IsNeeds needs }
+    requires group { IsGroup group packets }
+    requires lead { max_lead ≤ 90000 }
+    ensures { result ≡ spec.group_choice needs delay max_lead group packets }
+{
+    let sufficient = sufficient_lead(needs, u64::from(group), packets, delay);
+    let mut best = None;
+    for number in 0..LEADS {
+        best = better(
+            best,
+            numbered_choice(needs, delay, max_lead, group, packets, sufficient, number),
+        );
+    }
+    best
+}
+
+/// The group and the lead, at most `max_lead`, with which a stream asks for the least share, of those that its buffers
+/// hold; None where none does. `max_packets[g - 1]` are the most packets of `g` units in a row, and `delay` is the
+/// longest time from a packet's slot to its end in the transport buffer; times are in units of 90 kHz.
+///
+/// Up to 129 leads of up to 64 groups are tried, with as many divisions each as the group has units, twice.
+pub fn choose(needs: Needs, max_packets: &[u32], delay: u32, max_lead: u32) -> Option<Choice>
+    requires ranges { IsNeeds needs }
+    requires max_packets { AreMaxPackets max_packets.now }
+    requires lead { max_lead ≤ 90000 }
+    ensures value { result ≡ spec.choice needs max_packets.now delay max_lead }
+    ensures holds { IfSome result (spec.IsChoice needs max_packets.now delay max_lead) }
+    ensures best { IfSome result (spec.IsBest needs max_packets.now delay max_lead) }
+    ensures refused { IsNone result → spec.IsRefused needs max_packets.now delay max_lead }
+{
+    let mut best = None;
+    for i in 0..max_packets.len() {
+        best = better(
+            best,
+            group_choice(needs, delay, max_lead, i as u8 + 1, max_packets[i]),
+        );
+    }
+    best
+}

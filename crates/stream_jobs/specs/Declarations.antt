@@ -1,0 +1,101 @@
+-- What a description declares of the streams of a job.
+use Rattle.std.specs.Prelude.{ℕ, ◌+◌, ◌-◌, ◌^◌, ◌==◌, ◌&&◌, min, max, nat_lt, Bool, if◌then◌else◌, List, [], ◌∷◌, length, map, find, zip, sum_by, unwrap_or, ok_or, Option, Some, None, option_map, Result, Ok}
+use Rattle.std.specs.List.{range_with_len}
+use Rattle.pes_packet.specs.AccessUnits.{AccessUnit}
+use Rattle.pes_packet.specs.StreamIds.{greatest_size}
+use Rattle.stream_choice.specs.Choices.{choice}
+use Rattle.stream_choice.specs.Ranges.{is_needs, are_max_packets}
+use Rattle.stream_choice.specs.Shares.{least_share, transport_delay}
+use Rattle.stream_choice.specs.declared.choice.Choice.{Choice}
+use Rattle.stream_choice.specs.declared.needs.Needs.{Needs}
+use Rattle.stream_coding.specs.Buffers.{buffers_of}
+use Rattle.stream_coding.specs.Codings.{coding_of}
+use Rattle.stream_coding.specs.declared.buffers.Buffers.{Buffers}
+use Rattle.stream_units.specs.Declaration.{min_interval, max_unit_size, group_packets}
+use Rattle.stream_jobs.specs.declared.refusal.JobRefusal.{JobRefusal}
+use Rattle.stream_jobs.specs.declared.refusal.JobRefusal.TheVariants as refusals
+use Rattle.stream_jobs.specs.declared.job_options.PidBuffers.{PidBuffers}
+use Rattle.stream_jobs.specs.Answers.{unless, each}
+use Rattle.stream_jobs.specs.JobStreams.{TimedStreamView}
+
+-- 1. What a description can't hold
+
+unfoldable pub too_many : ℕ → ℕ → Option JobRefusal
+too_many programs streams =
+    if streams == 0 then Some refusals.NoStream
+    else (if nat_lt 16 programs then Some (refusals.Programs programs)
+    else (if nat_lt 32 streams then Some (refusals.Streams streams) else None))
+
+-- the first stream of more units than a multiplexer may hold
+unfoldable pub is_too_long : TimedStreamView → Bool
+is_too_long s = nat_lt 1_048_576 (length s.units)
+
+unfoldable pub units_refusal : TimedStreamView → JobRefusal
+units_refusal s = refusals.Units s.pid (length s.units)
+
+unfoldable pub too_long : List TimedStreamView → Option JobRefusal
+too_long streams = option_map units_refusal (find is_too_long streams)
+
+-- 2. Buffers: those that are asked for, else those of the coding and its level
+
+unfoldable pub first_bytes : List AccessUnit → List ℕ
+first_bytes [] = []
+first_bytes (u ∷ us) = u.bytes
+
+unfoldable pub given_buffers : List PidBuffers → ℕ → Option Buffers
+given_buffers given pid = option_map (λ one. one.buffers) (find (λ one. one.pid == pid) given)
+
+unfoldable pub buffers_for : List PidBuffers → TimedStreamView → Buffers
+buffers_for given s = unwrap_or (given_buffers given s.pid) (buffers_of (coding_of s.stream_type s.descriptors (first_bytes s.units)))
+
+-- 3. What is counted of a stream's units: what they need, and the greatest number of packets of 1, 2, .. of them in a row
+
+pub record UnitCountsView : Type 0 where
+  pub needs : Needs
+  pub max_group_packets : List ℕ
+
+unfoldable pub needs_of : List PidBuffers → TimedStreamView → Needs
+needs_of given s = record {
+  interval = min_interval s.units;
+  size = max_unit_size s.units;
+  rx = (buffers_for given s).rx;
+  main = (buffers_for given s).main;
+}
+
+-- of groups of up to 64 units, as numbers of 32 bits
+unfoldable pub packets_of_group : List AccessUnit → ℕ → ℕ
+packets_of_group units group = min (group_packets 0 0 group units) (2 ^ 32 - 1)
+
+unfoldable pub max_group_packets : TimedStreamView → List ℕ
+max_group_packets s = map (λ before. packets_of_group s.units (before + 1)) (range_with_len 0 (min (length s.units) 64))
+
+unfoldable pub size_refusal : TimedStreamView → Option JobRefusal
+size_refusal s = if nat_lt (greatest_size s.stream_id) (max_unit_size s.units) then Some (refusals.Size s.pid (max_unit_size s.units)) else None
+
+unfoldable pub unit_counts : List PidBuffers → TimedStreamView → Result UnitCountsView JobRefusal
+unit_counts given s = unless (size_refusal s) (Ok (record { needs = needs_of given s; max_group_packets = max_group_packets s }))
+
+abbrev pub all_unit_counts : List PidBuffers → List TimedStreamView → Result (List UnitCountsView) JobRefusal
+all_unit_counts given streams = each (unit_counts given) streams
+
+-- 4. What each stream declares: the best of what is tried
+
+-- a group and a lead can be looked for
+unfoldable pub is_countable : UnitCountsView → Bool
+is_countable c = is_needs c.needs && are_max_packets c.max_group_packets
+
+unfoldable pub share_of : UnitCountsView → ℕ
+share_of c = if is_countable c then least_share c.needs c.max_group_packets else 0
+
+-- the least share of the multiplex that all take together, at least 2^17 as one does, as a number of 64 bits
+unfoldable pub shares_of : List UnitCountsView → ℕ
+shares_of all = max (min (sum_by share_of all) (2 ^ 64 - 1)) (2 ^ 17)
+
+unfoldable pub choice_of : ℕ → ℕ → UnitCountsView → Option Choice
+choice_of lead sum c = if is_countable c then choice c.needs c.max_group_packets (transport_delay c.needs.rx sum) (min lead 90_000) else None
+
+unfoldable pub chosen : ℕ → ℕ → TimedStreamView × UnitCountsView → Result Choice JobRefusal
+chosen lead sum s = ok_or (choice_of lead sum s.1) (refusals.Buffers s.0.pid s.1.needs.size s.1.needs.rx s.1.needs.main)
+
+unfoldable pub choices : ℕ → List TimedStreamView → List UnitCountsView → Result (List Choice) JobRefusal
+choices lead streams all = each (chosen lead (shares_of all)) (zip streams all)

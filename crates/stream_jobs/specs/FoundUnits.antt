@@ -1,0 +1,33 @@
+-- The units of a stream at the moments of a run.
+use Rattle.std.specs.Prelude.{◌≡◌, ◌≤◌, ◌<◌, ℕ, ◌^◌, Bool, true, false, None, List, map}
+use Rattle.pes_packet.specs.AccessUnits.{AccessUnit}
+use Rattle.demux.specs.Views.{FindingView}
+use Rattle.stream_units.specs.CarriedUnits.{CarriedUnit, carried_units}
+use Rattle.stream_units.specs.MadeDts.{made_units}
+use Rattle.stream_units.specs.Declaration.{min_interval, max_unit_size, group_packets}
+use Rattle.stream_units.specs.Laws.{FirstDue}
+use Rattle.stream_units.specs.Stamps.{moved, first_fault}
+use Rattle.description.specs.Described.{Described, DescribedStream}
+
+-- units as on the wire, at the moments that they have where the clock shows `base` at moment 0
+pub record AreMoved (wire : List AccessUnit) (base : ℕ) (us : List AccessUnit) : Type 0 where
+  pub range : base < 2 ^ 33
+  pub sound : first_fault base None 0 wire ≡ None
+  pub are : us ≡ moved base None wire
+
+-- the units that are found of a PID, with DTS that are made from their PTS where that is asked for
+unfoldable pub source_of : Bool → ℕ → List FindingView → List CarriedUnit
+source_of false pid findings = carried_units pid findings
+source_of true pid findings = made_units (carried_units pid findings)
+
+-- these at moments by one constant
+pub record AreFound (made : Bool) (findings : List FindingView) (pid : ℕ) (us : List AccessUnit) : Type 0 where
+  pub base : ℕ
+  pub moved : AreMoved (map (λ w. w.unit) (source_of made pid findings)) base us
+
+-- a description declares of a stream what these units need
+pub record Declares (d : Described) (s : DescribedStream) (us : List AccessUnit) : Type 0 where
+  pub interval : s.interval ≤ min_interval us
+  pub size : max_unit_size us ≤ s.size
+  pub lead : FirstDue s.lead us
+  pub group : group_packets s.stream_id d.base0 s.group us ≤ s.group_packets

@@ -1,0 +1,106 @@
+-- What a job is made of: the programs and streams of a transport stream, and what is declared of their units.
+use Rattle.std.specs.Prelude.{ℕ, ◌==◌, if◌then◌else◌, List, ◌++◌, length, map, filter, flat_map, ok_or, Some, None, Result, Ok}
+use Rattle.psi_tables.specs.declared.pat.programs.Program.{Program}
+use Rattle.demux.specs.Views.{FindingView}
+use Rattle.stream_choice.specs.declared.choice.Choice.{Choice}
+use Rattle.stream_programs.specs.Association.{AssociationView, association}
+use Rattle.stream_programs.specs.PidAssignment.{assigned_pids}
+use Rattle.stream_programs.specs.Programs.{FoundProgramsView, programs_of}
+use Rattle.stream_programs.specs.declared.pid_assignment.ProgramPids.{ProgramPids}
+use Rattle.stream_jobs.specs.declared.refusal.JobRefusal.{JobRefusal}
+use Rattle.stream_jobs.specs.declared.refusal.JobRefusal.TheVariants as refusals
+use Rattle.stream_jobs.specs.declared.warning.Warning.{Warning}
+use Rattle.stream_jobs.specs.declared.warning.Warning.TheVariants as warnings
+use Rattle.stream_jobs.specs.Answers.{and_then, unless}
+use Rattle.stream_jobs.specs.Declarations.{UnitCountsView, too_many, too_long, all_unit_counts, choices}
+use Rattle.stream_jobs.specs.JobPrograms.{JobProgramView, job_programs, all_program_warnings}
+use Rattle.stream_jobs.specs.Moments.{earliest, first_base, moved_streams}
+use Rattle.stream_jobs.specs.Packets.{no_packets}
+use Rattle.stream_jobs.specs.Warnings.{packet_warnings, association_warnings, all_map_warnings, pid_warnings}
+use Rattle.stream_jobs.specs.WireStreams.{wire_streams, all_empty_stream_warnings}
+use Rattle.stream_jobs.specs.JobOptions.{JobOptionsView, is_selected_program}
+use Rattle.stream_jobs.specs.JobStreams.{TimedStreamView, WireStreamView}
+
+-- base0 is what the clock of the first stream's program shows at moment 0; each stream has what is counted of it and what it
+-- declares; the warnings say what is not taken as it stands
+pub record JobInputView : Type 0 where
+  pub transport_stream_id : ℕ
+  pub base0 : ℕ
+  pub programs : List JobProgramView
+  pub streams : List TimedStreamView
+  pub unit_counts : List UnitCountsView
+  pub choices : List Choice
+  pub warnings : List Warning
+
+-- 1. Warnings
+
+-- about packets, and tables that change
+unfoldable pub change_warnings : AssociationView → List Program → List FindingView → List Warning
+change_warnings a named findings =
+    (packet_warnings findings ++ association_warnings a.version_number findings) ++ all_map_warnings findings named
+
+-- and about what is left out of the tables
+unfoldable pub table_warnings : AssociationView → List Program → List FindingView → FoundProgramsView → List Warning
+table_warnings a named findings found = change_warnings a named findings ++ map warnings.Table found.left_out
+
+-- and about streams that have no units
+unfoldable pub stream_warnings : JobOptionsView → ℕ → List FindingView → AssociationView → List Program → FoundProgramsView → List Warning
+stream_warnings options count findings a named found =
+    table_warnings a named findings found ++ all_empty_stream_warnings count options.without findings found.streams
+
+-- and about programs, and what of the streams is in no unit
+unfoldable pub job_warnings : JobOptionsView → ℕ → List FindingView → AssociationView → List Program → FoundProgramsView → List ProgramPids → List WireStreamView → List Warning
+job_warnings options count findings a named found assigned streams =
+    (stream_warnings options count findings a named found ++ all_program_warnings streams found.programs assigned)
+    ++ flat_map (λ s. pid_warnings count findings s.pid) streams
+
+-- 2. What it is made of, step by step
+
+-- streams with their units at moments, and the counts of their units
+unfoldable pub with_unit_counts : JobOptionsView → (List UnitCountsView → List Choice → JobInputView) → List TimedStreamView → Result JobInputView JobRefusal
+with_unit_counts options finish streams =
+    and_then (λ all. and_then (λ chosen. Ok (finish all chosen)) (choices options.lead streams all)) (all_unit_counts options.buffers streams)
+
+unfoldable pub with_moved : JobOptionsView → ℕ → ℕ → List JobProgramView → List Warning → List TimedStreamView → Result JobInputView JobRefusal
+with_moved options id base programs all_warnings streams =
+    unless (too_many (length programs) (length streams))
+    (unless (too_long streams)
+    (with_unit_counts options (λ all chosen. record {
+      transport_stream_id = id;
+      base0 = base;
+      programs = programs;
+      streams = streams;
+      unit_counts = all;
+      choices = chosen;
+      warnings = all_warnings;
+    }) streams))
+
+-- streams with their units as on the wire
+unfoldable pub with_streams : JobOptionsView → List FindingView → ℕ → List JobProgramView → List Warning → List WireStreamView → Result JobInputView JobRefusal
+with_streams options findings id programs all_warnings streams =
+    and_then (with_moved options id (first_base (earliest programs streams) streams) programs all_warnings)
+    (moved_streams findings (earliest programs streams) streams)
+
+-- programs, and the PIDs that they are given
+unfoldable pub with_pids : JobOptionsView → ℕ → List FindingView → AssociationView → List Program → FoundProgramsView → List ProgramPids → Result JobInputView JobRefusal
+with_pids options count findings a named found assigned =
+    and_then (λ streams. with_streams options findings a.transport_stream_id (job_programs streams found.programs assigned)
+    (job_warnings options count findings a named found assigned streams) streams)
+    (wire_streams options.make_dts options.without findings found.streams)
+
+unfoldable pub with_programs : JobOptionsView → ℕ → List FindingView → AssociationView → List Program → FoundProgramsView → Result JobInputView JobRefusal
+with_programs options count findings a named found =
+    unless (if length found.programs == 0 then Some refusals.NoProgram else None)
+    (and_then (with_pids options count findings a named found) (ok_or (assigned_pids found) refusals.Pids))
+
+-- an association: of its programs those that are asked for
+abbrev pub named_of : JobOptionsView → AssociationView → List Program
+named_of options a = filter (is_selected_program options.programs) a.programs
+
+unfoldable pub with_association : JobOptionsView → ℕ → List FindingView → AssociationView → Result JobInputView JobRefusal
+with_association options count findings a = with_programs options count findings a (named_of options a) (programs_of (named_of options a) findings)
+
+-- what a stream of `count` whole packets gives
+unfoldable pub job_input : JobOptionsView → ℕ → List FindingView → Result JobInputView JobRefusal
+job_input options count findings =
+    unless (no_packets count findings) (and_then (with_association options count findings) (ok_or (association findings) refusals.NoAssociation))

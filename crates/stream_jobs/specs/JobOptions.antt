@@ -1,0 +1,29 @@
+-- The options of a job.
+use Rattle.std.specs.Prelude.{ℕ, ◌==◌, ◌||◌, not, Bool, List, length, Option}
+use Rattle.std.specs.List.{list_any}
+use Rattle.psi_tables.specs.declared.pat.programs.Program.{Program}
+use Rattle.stream_programs.specs.Streams.{FoundStreamView}
+use Rattle.stream_jobs.specs.declared.job_options.PidBuffers.{PidBuffers}
+
+-- the rate in bits a second, if one is asked for; the moment of the first slot as its characters; limits in ms and in units
+-- of 90 kHz; the programs that are taken, none for all; PIDs that are left out; and buffers in place of those by coding
+pub record JobOptionsView : Type 0 where
+  pub rate : Option ℕ
+  pub start : List ℕ
+  pub pcr_limit : ℕ
+  pub lead : ℕ
+  pub make_dts : Bool
+  pub programs : List ℕ
+  pub without : List ℕ
+  pub buffers : List PidBuffers
+
+unfoldable pub is_among : ℕ → List ℕ → Bool
+is_among number numbers = list_any (λ other. other == number) numbers
+
+-- a program is taken
+unfoldable pub is_selected_program : List ℕ → Program → Bool
+is_selected_program programs p = length programs == 0 || is_among p.program_number programs
+
+-- a stream is not left out
+unfoldable pub is_selected_stream : List ℕ → FoundStreamView → Bool
+is_selected_stream without s = not (is_among s.pid without)

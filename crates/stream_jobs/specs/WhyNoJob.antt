@@ -1,0 +1,89 @@
+-- Why there is no job of this input: each definition says whether an error is a cause.
+use Rattle.std.specs.Prelude.{◌≡◌, ◌⊎◌, ⊤, ℕ, List, Option, Some, None, Err}
+use Rattle.demux.specs.Views.{FindingView}
+use Rattle.description.specs.Described.{Described}
+use Rattle.description.specs.Reading.{description_of}
+use Rattle.description.specs.declared.fault.DescFault.{DescFault}
+use Rattle.description.specs.declared.fault.DescError.TheVariants as read
+use Rattle.slot_plan.specs.Conditions.{IsServing}
+use Rattle.slot_plan.specs.Planned.{Planned}
+use Rattle.toml.specs.Parse.{parse_document}
+use Rattle.stream_jobs.specs.declared.refusal.JobRefusal.TheVariants.{Declaration, Description, Plan}
+use Rattle.stream_jobs.specs.declared.refusal.JobError.{JobError}
+use Rattle.stream_jobs.specs.declared.refusal.JobError.TheVariants.{Memory, Refused}
+use Rattle.stream_jobs.specs.Jobs.{disagreeing}
+use Rattle.stream_jobs.specs.JobInput.{JobInputView}
+use Rattle.stream_jobs.specs.Rates.{HasNoPlan, HasNoFirstRate, IsFirstRate, IsRate, IsText, IsTried, greatest_rate}
+use Rattle.stream_jobs.specs.Texts.{description_text}
+use Rattle.stream_jobs.specs.JobOptions.{JobOptionsView}
+
+-- a text is refused as a description
+abbrev pub IsFault : DescFault → List ℕ → Type 0
+IsFault fault text = Err (read.Refused fault) ≡ description_of (parse_document text)
+
+-- a text is not read: out of memory, or this is its fault
+abbrev pub IsWhyNotRead : List ℕ → JobError → Type 0
+IsWhyNotRead text Memory = ⊤
+IsWhyNotRead text (Refused (Description fault)) = IsFault fault text
+IsWhyNotRead text (Refused _) = ⊥
+
+-- the same of the description that is written at a rate
+abbrev pub IsWhyNotReadAt : JobOptionsView → List FindingView → JobInputView → ℕ → JobError → Type 0
+IsWhyNotReadAt options findings input rate error = IsWhyNotRead (description_text options findings input rate) error
+
+-- 1. At which rate
+
+-- the one that is asked for; else the greatest, by which what recurs is known, or one that is tried
+abbrev pub IsReadFor : Option ℕ → JobOptionsView → List FindingView → JobInputView → ℕ → Type 0
+IsReadFor (Some asked) options findings input rate = rate ≡ asked
+IsReadFor None options findings input rate = (rate ≡ greatest_rate) ⊎ IsTried options findings input rate
+
+-- where reasons are looked for: the greatest, or the first
+abbrev pub IsGreatestOrFirst : JobOptionsView → List FindingView → JobInputView → ℕ → Type 0
+IsGreatestOrFirst options findings input rate = (rate ≡ greatest_rate) ⊎ IsFirstRate options findings input rate
+
+-- the description that is written at one of these rates is not read
+pub record IsWhyNotReadAtOne (IsRead : ℕ → Type 0) (options : JobOptionsView) (findings : List FindingView) (input : JobInputView) (error : JobError) : Type 0 where
+  pub rate : ℕ
+  pub is_read : IsRead rate
+  pub unread : IsWhyNotReadAt options findings input rate error
+
+-- 2. Why there is no ..
+
+-- first rate
+abbrev pub IsWhyNoRate : JobOptionsView → List FindingView → JobInputView → JobError → Type 0
+IsWhyNoRate options findings input (Refused (Plan rate)) = (rate ≡ greatest_rate) × HasNoFirstRate options findings input
+IsWhyNoRate options findings input error = IsWhyNotReadAt options findings input greatest_rate error
+
+-- reasons: at the rate that is asked for, else at the first one, the description is not read, or there is no first rate
+abbrev pub IsWhyNoReasons : Option ℕ → JobOptionsView → List FindingView → JobInputView → JobError → Type 0
+IsWhyNoReasons (Some asked) options findings input error = IsWhyNotReadAt options findings input asked error
+IsWhyNoReasons None options findings input Memory = ⊤
+IsWhyNoReasons None options findings input (Refused (Plan rate)) = (rate ≡ greatest_rate) × HasNoFirstRate options findings input
+IsWhyNoReasons None options findings input error = IsWhyNotReadAtOne (IsGreatestOrFirst options findings input) options findings input error
+
+-- plan, with this rate asked for or none
+abbrev pub IsWhyNoPlan : Option ℕ → JobOptionsView → List FindingView → JobInputView → JobError → Type 0
+IsWhyNoPlan asked options findings input Memory = ⊤
+IsWhyNoPlan asked options findings input (Refused (Plan rate)) = HasNoPlan asked options findings input rate
+IsWhyNoPlan asked options findings input error = IsWhyNotReadAtOne (IsReadFor asked options findings input) options findings input error
+
+-- description: if a rate is asked for, only because memory runs out
+abbrev pub IsWhyNoDescription : Option ℕ → JobOptionsView → List FindingView → JobInputView → JobError → Type 0
+IsWhyNoDescription (Some asked) options findings input error = error ≡ Memory
+IsWhyNoDescription None options findings input error = IsWhyNoPlan None options findings input error
+
+-- the description that a plan serves at its rate does not declare what the units of a stream need
+pub record Disagrees (options : JobOptionsView) (findings : List FindingView) (input : JobInputView) (pid : ℕ) : Type 0 where
+  pub rate : ℕ
+  pub rate_is : IsRate options.rate options findings input rate
+  pub description : Described
+  pub plan : Planned
+  pub read : IsText description (description_text options findings input rate)
+  pub serving : IsServing description plan
+  pub disagree : disagreeing description input.streams ≡ Some pid
+
+-- job
+abbrev pub IsWhyNoJob : JobOptionsView → List FindingView → JobInputView → JobError → Type 0
+IsWhyNoJob options findings input (Refused (Declaration pid)) = Disagrees options findings input pid
+IsWhyNoJob options findings input error = IsWhyNoPlan options.rate options findings input error

@@ -1,0 +1,85 @@
+-- The streams of a job, their units with the stamps on the wire.
+use Rattle.std.specs.Prelude.{ℕ, ◌==◌, not, Bool, true, false, if◌then◌else◌, List, [], ◌∷◌, length, slice_get, filter, flat_map, ok_or, Option, Some, None, option_map, option_and_then, Result, Ok, Err}
+use Rattle.demux.specs.Views.{FindingView}
+use Rattle.stream_coding.specs.Codings.{is_ac3}
+use Rattle.stream_programs.specs.Streams.{FoundStreamView}
+use Rattle.stream_units.specs.CarriedUnits.{CarriedUnit, carried_units}
+use Rattle.stream_units.specs.MadeDts.{dts_fault, made_units, pts_of}
+use Rattle.stream_units.specs.StreamIds.{first_other_at, written_id}
+use Rattle.stream_jobs.specs.declared.refusal.JobRefusal.{JobRefusal}
+use Rattle.stream_jobs.specs.declared.refusal.JobRefusal.TheVariants as refusals
+use Rattle.stream_jobs.specs.declared.warning.Warning.{Warning}
+use Rattle.stream_jobs.specs.declared.warning.Warning.TheVariants as warnings
+use Rattle.stream_jobs.specs.Answers.{and_then, unless, each}
+use Rattle.stream_jobs.specs.Warnings.{pid_warnings}
+use Rattle.stream_jobs.specs.JobOptions.{is_selected_stream}
+use Rattle.stream_jobs.specs.JobStreams.{WireStreamView}
+
+-- 1. The stream_id: that of the first unit, if it can be written and all have it
+
+unfoldable pub other_id_refusal : ℕ → ℕ → List CarriedUnit → Option JobRefusal
+other_id_refusal pid first units =
+    option_map (λ u. refusals.OtherStreamId u.packet pid u.stream_id first) (option_and_then (slice_get units) (first_other_at first 0 units))
+
+unfoldable pub id_of : ℕ → Bool → CarriedUnit → Result ℕ JobRefusal
+id_of pid ac3 u = ok_or (written_id u.stream_id ac3) (refusals.StreamId u.packet pid u.stream_id)
+
+unfoldable pub common_id : ℕ → Bool → List CarriedUnit → Result ℕ JobRefusal
+common_id pid ac3 [] = Err refusals.NoStream
+common_id pid ac3 (u ∷ us) = unless (other_id_refusal pid u.stream_id (u ∷ us)) (id_of pid ac3 u)
+
+-- 2. The stamps: those of the stream, or DTS that are made from PTS
+
+unfoldable pub dts_refusal : ℕ → List CarriedUnit → Option JobRefusal
+dts_refusal pid units = option_map (refusals.Dts pid) (dts_fault (pts_of units))
+
+unfoldable pub with_stamps : Bool → ℕ → List CarriedUnit → Result (List CarriedUnit) JobRefusal
+with_stamps false pid units = Ok units
+with_stamps true pid units = unless (dts_refusal pid units) (Ok (made_units units))
+
+-- 3. A stream
+
+unfoldable pub with_units : FoundStreamView → ℕ → List CarriedUnit → WireStreamView
+with_units s id units = record {
+  program = s.program;
+  pid = s.pid;
+  stream_type = s.stream_type;
+  stream_id = id;
+  descriptors = s.descriptors;
+  units = units;
+}
+
+-- with these units
+unfoldable pub stream_of : Bool → FoundStreamView → List CarriedUnit → Result WireStreamView JobRefusal
+stream_of made s units =
+    and_then (λ id. and_then (λ us. Ok (with_units s id us)) (with_stamps made s.pid units)) (common_id s.pid (is_ac3 s.stream_type s.descriptors) units)
+
+-- with those of its PID
+unfoldable pub wire_stream : Bool → List FindingView → FoundStreamView → Result WireStreamView JobRefusal
+wire_stream made findings s = stream_of made s (carried_units s.pid findings)
+
+-- 4. All streams of the tables: those that are not to be left out and have units
+
+unfoldable pub has_units : List FindingView → FoundStreamView → Bool
+has_units findings s = not (length (carried_units s.pid findings) == 0)
+
+-- a stream with its units, if it has any
+unfoldable pub stream_if_any : Bool → List FindingView → FoundStreamView → Result (Option WireStreamView) JobRefusal
+stream_if_any made findings s = if has_units findings s then and_then (λ w. Ok (Some w)) (wire_stream made findings s) else Ok None
+
+abbrev pub selected : List ℕ → List FoundStreamView → List FoundStreamView
+selected without streams = filter (is_selected_stream without) streams
+
+-- those that have units
+unfoldable pub carried_streams : Bool → List FindingView → List FoundStreamView → Result (List WireStreamView) JobRefusal
+carried_streams made findings streams = each (wire_stream made findings) (filter (has_units findings) streams)
+
+abbrev pub wire_streams : Bool → List ℕ → List FindingView → List FoundStreamView → Result (List WireStreamView) JobRefusal
+wire_streams made without findings streams = carried_streams made findings (selected without streams)
+
+-- the warnings about those that have none
+unfoldable pub empty_stream_warnings : ℕ → List FindingView → FoundStreamView → List Warning
+empty_stream_warnings count findings s = if has_units findings s then [] else warnings.NoUnit s.program s.pid ∷ pid_warnings count findings s.pid
+
+abbrev pub all_empty_stream_warnings : ℕ → List ℕ → List FindingView → List FoundStreamView → List Warning
+all_empty_stream_warnings count without findings streams = flat_map (empty_stream_warnings count findings) (selected without streams)

@@ -1,0 +1,96 @@
+//! Whether a description declares what the units of its streams need.
+
+ghost use Rattle.std.specs.Prelude.{◌≡◌, ◌≤◌, ◌==◌, ◌&&◌, nat_le, IfNone, IsTrue};
+ghost use Rattle.stream_units.specs.Declaration.{group_packets};
+ghost use Rattle.stream_units.specs.Laws.{FirstDue};
+ghost use Rattle.stream_jobs.specs.Jobs.{AgreeInTurn, Agrees, AllAgree};
+ghost use Rattle.stream_jobs.specs.Jobs as spec;
+ghost use Rattle.stream_jobs.specs.FoundUnits.{Declares};
+
+use crate::job_stream::TimedStream;
+use description::{Description, StreamDescription};
+use pes_packet::Unit;
+use stream_units::{group_packets, max_unit_size, min_interval};
+
+// Whether the first unit is due no earlier than a moment.
+#[tactic(auto, unfolding(stream_units::specs::Laws::FirstDue, crate::specs::Jobs::first_due))]
+fn first_due(from: u64, units: &[Unit]) -> bool
+    ensures due { IsTrue result → FirstDue from units.now }
+    ensures value { result ≡ spec.first_due from units.now }
+{
+    match units.first() {
+        Some(unit) => from <= unit.dts,
+        None => true,
+    }
+}
+
+// Whether the packets of units are as declared.
+fn groups_fit(base0: u64, declared: &StreamDescription, units: &[Unit]) -> bool
+    ensures value { result ≡ (nat_le declared.now.group 64
+        && nat_le (group_packets declared.now.stream_id base0 declared.now.group units.now)
+        declared.now.group_packets) }
+    ensures fit { IsTrue result → group_packets declared.now.stream_id base0 declared.now.group units.now
+        ≤ declared.now.group_packets }
+{
+    declared.group <= 64
+        && group_packets(base0, units, declared.group) <= u64::from(declared.group_packets)
+}
+
+// Whether a description declares what units need.
+#[tactic(auto, unfolding(crate::specs::Jobs::keeps))]
+fn declares(description: &Description, declared: &StreamDescription, units: &[Unit]) -> bool
+    ensures value { result ≡ spec.keeps description.now declared.now units.now }
+    ensures declares { IsTrue result → Declares description.now declared.now units.now }
+{
+    let size = max_unit_size(units) <= declared.size as usize;
+    let interval = declared.interval <= min_interval(units);
+    let lead = first_due(u64::from(declared.lead), units);
+    interval && size && lead && groups_fit(description.base0(), declared, units)
+}
+
+// Whether a stream is the declared one.
+fn agrees(description: &Description, declared: &StreamDescription, stream: &TimedStream) -> bool
+    ensures value { result ≡ (declared.now.pid == stream.now.pid
+        && spec.keeps description.now declared.now stream.now.units) }
+    ensures agrees { IsTrue result → Agrees description.now declared.now stream.now }
+{
+    declared.pid == stream.pid && declares(description, declared, &stream.units)
+}
+
+// The PID of the first stream that is not the declared one in its place.
+#[tactic(auto, unfolding(crate::specs::Jobs::AgreeInTurn, crate::specs::Jobs::first_disagreeing))]
+fn first_disagreeing(
+    description: &Description,
+    declared: &[StreamDescription],
+    streams: &[TimedStream],
+) -> Option<u16>
+    ensures value { result ≡ spec.first_disagreeing description.now declared.now streams.now }
+    ensures agree { IfNone result (AgreeInTurn description.now declared.now streams.now) }
+{
+    let mut ones = declared;
+    let mut rest = streams;
+    'streams: while let Some((one, later_ones)) = ones.split_first() {
+        let Some((stream, later)) = rest.split_first() else {
+            return None;
+        };
+        if !agrees(description, one, stream) {
+            return Some(stream.pid);
+        }
+        ones = later_ones;
+        rest = later;
+    }
+    None
+}
+
+/// The PID of the first stream of whose units the description does not declare what they need.
+#[tactic(auto, using(crate::proofs::Agreement::in_turn), unfolding(crate::specs::Jobs::disagreeing))]
+pub(crate) fn disagreeing(description: &Description, streams: &[TimedStream]) -> Option<u16>
+    ensures value { result ≡ spec.disagreeing description.now streams.now }
+    ensures agree { IfNone result (AllAgree description.now streams.now) }
+{
+    let declared = description.streams();
+    if declared.len() != streams.len() {
+        return Some(0);
+    }
+    first_disagreeing(description, declared, streams)
+}

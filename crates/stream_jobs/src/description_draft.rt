@@ -1,0 +1,206 @@
+//! The description of a job.
+
+ghost use Rattle.std.specs.Prelude.{◌≡◌, ◌++◌, IfOk, IfErr, OnOk, Ok, map, string_bytes};
+ghost use Rattle.demux.specs.Shown.{finding_view};
+ghost use Rattle.job_text.specs.Texts.{heading_text, program_text, stream_text};
+ghost use Rattle.stream_jobs.specs.Rates.{IsText};
+ghost use Rattle.stream_jobs.specs.Texts as spec;
+ghost use Rattle.stream_jobs.specs.WhyNoJob.{IsWhyNotRead};
+
+use crate::declarations::UnitCounts;
+use crate::input::JobInput;
+use crate::job_options::JobOptions;
+use crate::job_programs::JobProgram;
+use crate::job_stream::TimedStream;
+use crate::named_service::{NamedService, has_services, service_of};
+use crate::refusal::{JobError, JobRefusal};
+use demux::Finding;
+use description::{DescError, Description};
+use job_text::{Heading, ProgramPart, StreamPart};
+use std::alloc::{AllocError, Global};
+use stream_choice::Choice;
+use stream_programs::original_network;
+
+/// original_network_id where a stream has no service description (ETSI TS 101 162: 0xFF00 to 0xFFFF are for private
+/// use).
+const PRIVATE_NETWORK: u16 = 0xff01;
+
+/// All that the description of a job says but for its rate.
+#[derive(Clone, Copy)]
+pub(crate) struct DescriptionDraft<'a, 'f> {
+    pub options: &'a JobOptions<'a>,
+    pub findings: &'a [Finding<'f>],
+    pub input: &'a JobInput,
+}
+
+impl<'a, 'f> DescriptionDraft<'a, 'f> {
+    #[tactic(auto, unfolding(crate::specs::Texts::heading_of))]
+    fn write_heading(&self, rate: u64, text: &mut String) -> Result<(), AllocError>
+        ensures { OnOk result (string_bytes text.new ≡ string_bytes text.old
+            ++ heading_text (spec.heading_of self.now.options.now (map finding_view self.now.findings.now)
+            self.now.input.now rate)) }
+    {
+        let options = self.options;
+        let input = self.input;
+        let heading = Heading {
+            rate: rate.min(u64::from(u32::MAX)) as u32,
+            start: options.start,
+            base0: input.base0,
+            transport_stream_id: input.transport_stream_id,
+            original_network_id: original_network(self.findings).unwrap_or(PRIVATE_NETWORK),
+            sdt: has_services(self.findings, &input.programs),
+            tdt: false,
+        };
+        heading.write_text(text)
+    }
+
+    /// The text of the description at a rate in bits a second.
+    #[tactic(auto, unfolding(crate::specs::Texts::description_text))]
+    pub fn text(&self, alloc: Global, rate: u64) -> Result<String, AllocError>
+        ensures { IfOk result (λ text. string_bytes text
+            ≡ spec.description_text self.now.options.now (map finding_view self.now.findings.now) self.now.input.now
+            rate) }
+    {
+        let input = self.input;
+        let mut text = String::new(alloc);
+        self.write_heading(rate, &mut text)?;
+        write_programs(
+            alloc,
+            self.options,
+            self.findings,
+            &input.programs,
+            &mut text,
+        )?;
+        write_streams(
+            &input.streams,
+            &input.unit_counts,
+            &input.choices,
+            &mut text,
+        )?;
+        Ok(text)
+    }
+}
+
+// The lines of a program with what is said of its service.
+#[tactic(auto, unfolding(crate::specs::Texts::program_with))]
+fn write_program(
+    pcr_limit: u8,
+    program: &JobProgram,
+    service: &NamedService,
+    text: &mut String,
+) -> Result<(), AllocError>
+    ensures { OnOk result (string_bytes text.new ≡ string_bytes text.old
+        ++ program_text (spec.program_with pcr_limit program.now service.now)) }
+{
+    let entry = ProgramPart {
+        number: program.number,
+        pmt_pid: program.map_pid,
+        pcr_pid: program.pcr_pid,
+        pcr_limit,
+        descriptors: &program.descriptors,
+        service_type: service.service_type,
+        provider: &service.provider,
+        name: &service.name,
+    };
+    entry.write_text(text)
+}
+
+// The lines of a program, its service from what is found.
+#[tactic(auto, unfolding(crate::specs::Texts::program_part))]
+fn write_found_program(
+    alloc: Global,
+    options: &JobOptions<'_>,
+    findings: &[Finding<'_>],
+    program: &JobProgram,
+    text: &mut String,
+) -> Result<(), AllocError>
+    ensures { OnOk result (string_bytes text.new ≡ string_bytes text.old
+        ++ spec.program_lines options.now (map finding_view findings.now) program.now) }
+{
+    let service = service_of(alloc, program.number, findings)?;
+    write_program(options.pcr_limit, program, &service, text)
+}
+
+// The lines of all programs.
+fn write_programs(
+    alloc: Global,
+    options: &JobOptions<'_>,
+    findings: &[Finding<'_>],
+    programs: &[JobProgram],
+    text: &mut String,
+) -> Result<(), AllocError>
+    ensures { OnOk result (string_bytes text.new ≡ string_bytes text.old
+        ++ spec.programs_text options.now (map finding_view findings.now) programs.now) }
+{
+    for program in programs {
+        write_found_program(alloc, options, findings, program, text)?;
+    }
+    Ok(())
+}
+
+#[tactic(auto, unfolding(crate::specs::Texts::stream_part))]
+fn write_stream(
+    stream: &TimedStream,
+    unit_counts: &UnitCounts,
+    choice: Choice,
+    text: &mut String,
+) -> Result<(), AllocError>
+    ensures { OnOk result (string_bytes text.new ≡ string_bytes text.old
+        ++ stream_text (spec.stream_part (stream.now, (unit_counts.now, choice)))) }
+{
+    let entry = StreamPart {
+        program: stream.program,
+        pid: stream.pid,
+        stream_id: stream.stream_id,
+        stream_type: stream.stream_type,
+        interval: unit_counts.needs.interval,
+        size: unit_counts.needs.size,
+        lead: choice.lead,
+        rx: unit_counts.needs.rx,
+        main: unit_counts.needs.main,
+        descriptors: &stream.descriptors,
+        group: choice.group,
+        group_packets: choice.group_packets,
+    };
+    entry.write_text(text)
+}
+
+// The lines of all streams.
+fn write_streams(
+    streams: &[TimedStream],
+    unit_counts: &[UnitCounts],
+    choices: &[Choice],
+    text: &mut String,
+) -> Result<(), AllocError>
+    ensures { OnOk result (string_bytes text.new ≡ string_bytes text.old
+        ++ spec.streams_text streams.now unit_counts.now choices.now) }
+{
+    let mut streams = streams;
+    let mut unit_counts = unit_counts;
+    let mut choices = choices;
+    'streams: while let Some((stream, later_streams)) = streams.split_first() {
+        let Some((count, later_counted)) = unit_counts.split_first() else {
+            return Ok(());
+        };
+        let Some((choice, later_choices)) = choices.split_first() else {
+            return Ok(());
+        };
+        write_stream(stream, count, *choice, text)?;
+        streams = later_streams;
+        unit_counts = later_counted;
+        choices = later_choices;
+    }
+    Ok(())
+}
+
+/// The description that a text says.
+pub(crate) fn described(alloc: Global, text: &str) -> Result<Description, JobError>
+    ensures read { IfOk result (λ d. IsText d text.now) }
+    ensures refused { IfErr result (IsWhyNotRead text.now) }
+{
+    match Description::read(alloc, text) {
+        Ok(description) => Ok(description),
+        Err(DescError::Refused(fault)) => Err(JobError::Refused(JobRefusal::Description(fault))),
+        Err(DescError::Memory) => Err(JobError::Memory),
+    }
+}

@@ -1,0 +1,275 @@
+//! What a job is made of: the programs and streams of a transport stream, and what is declared of their units.
+
+ghost use Rattle.std.specs.Prelude.{◌≡◌, ◌≤◌, IfOk, All, filter, length, map};
+ghost use Rattle.demux.specs.Shown.{finding_view};
+ghost use Rattle.stream_jobs.specs.Answers.{Answers};
+ghost use Rattle.stream_jobs.specs.Jobs.{AreStreams, IsCarried, FitsQueue};
+ghost use Rattle.stream_jobs.specs.JobInput as spec;
+ghost use Rattle.stream_jobs.specs.JobOptions.{is_selected_program};
+
+use crate::declarations::{UnitCounts, choices, count_units, too_long, too_many};
+use crate::earliest::earliest_of;
+use crate::job_options::{JobOptions, is_among};
+use crate::job_programs::{JobProgram, job_programs};
+use crate::job_stream::{TimedStream, WireStream};
+use crate::moved_streams::{first_base, moved_streams};
+use crate::packets::no_packets;
+use crate::refusal::{JobError, JobRefusal};
+use crate::warning::Warning;
+use crate::warnings::{
+    push_association_warning, push_map_warnings, push_packet_warnings, push_stream_warnings,
+    push_table_warnings,
+};
+use crate::wire_streams::wire_streams;
+use demux::Finding;
+use psi_tables::Program;
+use std::alloc::{AllocError, Global};
+use std::marker::Model;
+use stream_choice::Choice;
+use stream_programs::{
+    Association, FoundPrograms, ProgramPids, assigned_pids, found_programs, named_programs,
+};
+
+/// What a job is made of.
+#[derive(Drop)]
+pub struct JobInput {
+    pub(crate) transport_stream_id: u16,
+    pub(crate) base0: u64,
+    pub(crate) programs: Vec<JobProgram>,
+    pub(crate) streams: Vec<TimedStream>,
+    pub(crate) unit_counts: Vec<UnitCounts>,
+    pub(crate) choices: Vec<Choice>,
+    /// The warnings about the stream.
+    pub warnings: Vec<Warning>,
+}
+
+// A contract sees its parts as lists.
+impl Model for JobInput {
+    ghost use Rattle.stream_jobs.specs.JobInput.{JobInputView};
+
+    ghost Value = { JobInputView };
+
+    ghost view = { λ i. record {
+      transport_stream_id = i.transport_stream_id;
+      base0 = i.base0;
+      programs = i.programs.items;
+      streams = i.streams.items;
+      unit_counts = i.unit_counts.items;
+      choices = i.choices.items;
+      warnings = i.warnings.items;
+    } };
+}
+
+// Whether a program is taken.
+#[tactic(auto, unfolding(crate::specs::JobOptions::is_selected_program))]
+fn is_selected_program(selected: &[u16], program: &Program) -> bool
+    ensures { result ≡ is_selected_program selected.now program.now }
+{
+    selected.is_empty() || is_among(program.program_number, selected)
+}
+
+// The programs that are taken.
+fn selected_programs(
+    alloc: Global,
+    selected: &[u16],
+    named: &[Program],
+) -> Result<Vec<Program>, AllocError>
+    ensures { IfOk result (λ taken. taken.items ≡ filter (is_selected_program selected.now) named.now) }
+{
+    named
+        .iter()
+        .filter(|program| is_selected_program(selected, program))
+        .copied()
+        .collect(alloc)
+}
+
+// The warnings about packets and about tables that change.
+#[tactic(auto, unfolding(crate::specs::JobInput::change_warnings))]
+fn change_warnings(
+    alloc: Global,
+    association: &Association,
+    named: &[Program],
+    findings: &[Finding<'_>],
+) -> Result<Vec<Warning>, AllocError>
+    ensures { IfOk result (λ warnings. warnings.items
+        ≡ spec.change_warnings association.now named.now (map finding_view findings.now)) }
+{
+    let mut warnings = Vec::new(alloc);
+    push_packet_warnings(findings, &mut warnings)?;
+    push_association_warning(association, findings, &mut warnings)?;
+    push_map_warnings(named, findings, &mut warnings)?;
+    Ok(warnings)
+}
+
+// With what is declared of streams whose units have their moments.
+#[tactic(auto, unfolding(crate::specs::JobInput::with_moved, crate::specs::JobInput::with_unit_counts, crate::specs::Answers::unless, crate::specs::Answers::and_then, crate::specs::Answers::Answers, crate::specs::Answers::Refuses), using(crate::proofs::AndThen::then_refuses))]
+fn with_moved(
+    alloc: Global,
+    options: &JobOptions<'_>,
+    transport_stream_id: u16,
+    base0: u64,
+    programs: Vec<JobProgram>,
+    warnings: Vec<Warning>,
+    streams: Vec<TimedStream>,
+) -> Result<JobInput, JobError>
+    ensures value { Answers (spec.with_moved options.now transport_stream_id base0 programs.items warnings.items
+        streams.items) result }
+    ensures same { IfOk result (λ i. i.streams ≡ streams.items) }
+    ensures fits { IfOk result (λ i. All FitsQueue i.streams) }
+    ensures stream_count { IfOk result (λ i. length i.streams ≤ 32) }
+{
+    if let Some(refusal) = too_many(programs.len(), streams.len()) {
+        return Err(JobError::Refused(refusal));
+    }
+    if let Some(refusal) = too_long(&streams) {
+        return Err(JobError::Refused(refusal));
+    }
+    let unit_counts = count_units(alloc, options.buffers, &streams)?;
+    let choices = choices(alloc, options.lead, &streams, &unit_counts)?;
+    Ok(JobInput {
+        transport_stream_id,
+        base0,
+        programs,
+        streams,
+        unit_counts,
+        choices,
+        warnings,
+    })
+}
+
+// With the moments of streams whose units are as on the wire.
+#[tactic(auto, unfolding(crate::specs::JobInput::with_streams, crate::specs::Answers::and_then, crate::specs::Answers::Answers, crate::specs::Answers::Refuses), using(crate::proofs::AndThen::then_refuses))]
+fn with_streams(
+    alloc: Global,
+    options: &JobOptions<'_>,
+    findings: &[Finding<'_>],
+    transport_stream_id: u16,
+    programs: Vec<JobProgram>,
+    warnings: Vec<Warning>,
+    streams: Vec<WireStream>,
+) -> Result<JobInput, JobError>
+    requires { All (IsCarried options.now.make_dts (map finding_view findings.now)) streams.items }
+    ensures value { Answers (spec.with_streams options.now (map finding_view findings.now) transport_stream_id
+        programs.items warnings.items streams.items) result }
+    ensures streams { IfOk result (AreStreams options.now.make_dts (map finding_view findings.now)) }
+{
+    let earliest = earliest_of(&programs, &streams);
+    let base0 = first_base(alloc, earliest, &streams)?;
+    let moved = moved_streams(alloc, options.make_dts, earliest, streams, findings)?;
+    with_moved(
+        alloc,
+        options,
+        transport_stream_id,
+        base0,
+        programs,
+        warnings,
+        moved,
+    )
+}
+
+// With the streams of programs that are given PIDs.
+#[tactic(auto, unfolding(crate::specs::JobInput::with_pids, crate::specs::JobInput::job_warnings, crate::specs::JobInput::stream_warnings, crate::specs::JobInput::table_warnings, crate::specs::Answers::and_then, crate::specs::Answers::Answers, crate::specs::Answers::Refuses), using(crate::proofs::AndThen::then_refuses))]
+fn with_pids(
+    alloc: Global,
+    options: &JobOptions<'_>,
+    count: u64,
+    findings: &[Finding<'_>],
+    association: &Association,
+    named: &[Program],
+    found: FoundPrograms,
+    assigned: Vec<ProgramPids>,
+) -> Result<JobInput, JobError>
+    ensures value { Answers (spec.with_pids options.now count (map finding_view findings.now) association.now
+        named.now found assigned.items) result }
+    ensures streams { IfOk result (AreStreams options.now.make_dts (map finding_view findings.now)) }
+{
+    let mut warnings = change_warnings(alloc, association, named, findings)?;
+    push_table_warnings(&found.left_out, &mut warnings)?;
+    let streams = wire_streams(
+        alloc,
+        options.make_dts,
+        count,
+        options.without,
+        found.streams,
+        findings,
+        &mut warnings,
+    )?;
+    let programs = job_programs(alloc, &streams, found.programs, assigned, &mut warnings)?;
+    push_stream_warnings(alloc, count, &streams, findings, &mut warnings)?;
+    let id = association.transport_stream_id;
+    with_streams(alloc, options, findings, id, programs, warnings, streams)
+}
+
+// With the PIDs of programs that are found.
+#[tactic(auto, unfolding(crate::specs::JobInput::with_programs, crate::specs::Answers::and_then, crate::specs::Answers::unless, crate::specs::Answers::Answers, crate::specs::Answers::Refuses))]
+fn with_programs(
+    alloc: Global,
+    options: &JobOptions<'_>,
+    count: u64,
+    findings: &[Finding<'_>],
+    association: &Association,
+    named: &[Program],
+    found: FoundPrograms,
+) -> Result<JobInput, JobError>
+    ensures value { Answers (spec.with_programs options.now count (map finding_view findings.now) association.now
+        named.now found) result }
+    ensures streams { IfOk result (AreStreams options.now.make_dts (map finding_view findings.now)) }
+{
+    if found.programs.is_empty() {
+        return Err(JobError::Refused(JobRefusal::NoProgram));
+    }
+    let Some(assigned) = assigned_pids(alloc, &found)? else {
+        return Err(JobError::Refused(JobRefusal::Pids));
+    };
+    with_pids(
+        alloc,
+        options,
+        count,
+        findings,
+        association,
+        named,
+        found,
+        assigned,
+    )
+}
+
+// With the programs of an association.
+#[tactic(auto, unfolding(crate::specs::JobInput::with_association, crate::specs::Answers::Answers, crate::specs::Answers::Refuses))]
+fn with_association(
+    alloc: Global,
+    options: &JobOptions<'_>,
+    count: u64,
+    findings: &[Finding<'_>],
+    association: &Association,
+) -> Result<JobInput, JobError>
+    ensures value { Answers (spec.with_association options.now count (map finding_view findings.now) association.now)
+        result }
+    ensures streams { IfOk result (AreStreams options.now.make_dts (map finding_view findings.now)) }
+{
+    let named = selected_programs(alloc, options.programs, &association.programs)?;
+    let found = found_programs(alloc, &named, findings)?;
+    with_programs(alloc, options, count, findings, association, &named, found)
+}
+
+/// What a job of these findings is made of; `count` is the number of whole packets of the stream. Refusals, the first
+/// one that holds: more than half of the packets are none, no program association table, no program with a map, no PID
+/// left; of a stream two stream_ids, one that can't be written, DTS that can't be made; stamps that are no moments; too
+/// many programs, streams, or units of a stream; a unit that is too large, and buffers in which units can't wait.
+#[tactic(auto, unfolding(crate::specs::JobInput::job_input, crate::specs::Answers::unless, crate::specs::Answers::and_then, crate::specs::Answers::Answers, crate::specs::Answers::Refuses))]
+pub fn job_input(
+    alloc: Global,
+    options: &JobOptions<'_>,
+    count: u64,
+    findings: &[Finding<'_>],
+) -> Result<JobInput, JobError>
+    ensures value { Answers (spec.job_input options.now count (map finding_view findings.now)) result }
+    ensures streams { IfOk result (AreStreams options.now.make_dts (map finding_view findings.now)) }
+{
+    if let Some(refusal) = no_packets(count, findings) {
+        return Err(JobError::Refused(refusal));
+    }
+    match named_programs(alloc, findings)? {
+        Some(association) => with_association(alloc, options, count, findings, &association),
+        None => Err(JobError::Refused(JobRefusal::NoAssociation)),
+    }
+}

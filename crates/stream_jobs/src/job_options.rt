@@ -1,0 +1,61 @@
+//! The options of a job.
+
+ghost use Rattle.std.specs.Prelude.{◌≡◌};
+ghost use Rattle.stream_jobs.specs.JobOptions.{is_among};
+
+use std::marker::Model;
+use stream_coding::Buffers;
+
+/// Buffers for the stream of a PID.
+#[derive(Clone, Copy)]
+pub struct PidBuffers {
+    pub pid: u16,
+    pub buffers: Buffers,
+}
+
+/// The options of a job; the rest is taken from the stream.
+#[derive(Drop)]
+pub struct JobOptions<'a> {
+    /// The rate of the new stream in bits a second; without it the least at which a plan is found.
+    pub rate: Option<u64>,
+    /// The moment of its first slot, as a description has it.
+    pub start: &'a str,
+    /// The greatest time between two clock references, 1 to 100 ms.
+    pub pcr_limit: u8,
+    /// The longest time from the arrival of a unit to its decoding, 1 to 90,000 units of 90 kHz.
+    pub lead: u32,
+    /// Whether DTS are made from the PTS.
+    pub make_dts: bool,
+    /// The programs that are taken; none: all.
+    pub programs: &'a [u16],
+    /// The PIDs that are left out.
+    pub without: &'a [u16],
+    /// Buffers in place of those by coding and level.
+    pub buffers: &'a [PidBuffers],
+}
+
+// A contract sees its texts and lists.
+impl<'a> Model for JobOptions<'a> {
+    ghost use Rattle.stream_jobs.specs.JobOptions.{JobOptionsView};
+
+    ghost Value = { JobOptionsView };
+
+    ghost view = { λ o. record {
+      rate = o.rate;
+      start = o.start.now;
+      pcr_limit = o.pcr_limit;
+      lead = o.lead;
+      make_dts = o.make_dts;
+      programs = o.programs.now;
+      without = o.without.now;
+      buffers = o.buffers.now;
+    } };
+}
+
+/// Whether a number is one of these.
+#[tactic(auto, unfolding(crate::specs::JobOptions::is_among))]
+pub(crate) fn is_among(number: u16, numbers: &[u16]) -> bool
+    ensures { result ≡ is_among number numbers.now }
+{
+    numbers.iter().any(|other| *other == number)
+}

@@ -1,0 +1,229 @@
+//! The units of streams at the moments of a run.
+
+ghost use Rattle.std.specs.Prelude.{◌≡◌, ◌<◌, ◌^◌, IfOk, IfErr, Ok, All, map};
+ghost use Rattle.demux.specs.Shown.{finding_view};
+ghost use Rattle.stream_jobs.specs.Answers.{Answers, Refuses, each};
+ghost use Rattle.stream_jobs.specs.Jobs.{IsCarried, IsMoved};
+ghost use Rattle.stream_jobs.specs.Moments as spec;
+
+use crate::job_stream::{TimedStream, WireStream};
+use crate::refusal::{JobError, JobRefusal};
+use clock27::STAMP_MODULUS;
+use demux::Finding;
+use std::alloc::{AllocError, Global};
+use stream_units::{StampError, StampFault, carried_units, constant, moved_units};
+
+/// The first DTS of a stream, as on the wire.
+#[derive(Clone, Copy)]
+pub(crate) struct FirstDts {
+    pub program: u16,
+    pub dts: u64,
+}
+
+// The first DTS of a stream.
+#[tactic(auto, unfolding(crate::specs::Moments::first_dts, crate::specs::Moments::first_dts_of))]
+fn first_dts_of(stream: &WireStream) -> FirstDts
+    ensures { result ≡ spec.first_dts_of stream.now }
+{
+    let dts = match stream.units.first() {
+        Some(unit) => unit.unit.dts,
+        None => 0,
+    };
+    FirstDts {
+        program: stream.program,
+        dts,
+    }
+}
+
+// The first DTS of each stream.
+fn firsts_of(alloc: Global, streams: &[WireStream]) -> Result<Vec<FirstDts>, AllocError>
+    ensures { IfOk result (λ firsts. firsts.items ≡ spec.firsts streams.now) }
+{
+    streams
+        .iter()
+        .map(|stream| first_dts_of(stream))
+        .collect(alloc)
+}
+
+// Whether it is the first DTS of one of a program's streams.
+#[tactic(auto, unfolding(crate::specs::Moments::is_in_program))]
+fn is_in_program(program: u16, first: &FirstDts) -> bool
+    ensures { result ≡ spec.is_in_program program first.now }
+{
+    first.program == program
+}
+
+// The first DTS of each stream of a program.
+fn stamps_of(alloc: Global, program: u16, firsts: &[FirstDts]) -> Result<Vec<u64>, AllocError>
+    ensures { IfOk result (λ stamps. stamps.items ≡ spec.stamps_of program firsts.now) }
+{
+    let mut stamps = Vec::new(alloc);
+    for first in firsts {
+        if is_in_program(program, first) {
+            stamps.push(first.dts)?;
+        }
+    }
+    Ok(stamps)
+}
+
+// What the clock of a program shows at moment 0, if the first of its units is due at `earliest`.
+#[tactic(auto, unfolding(crate::specs::Moments::base_for, crate::specs::Moments::base_of))]
+fn base_of(
+    alloc: Global,
+    earliest: u64,
+    program: u16,
+    firsts: &[FirstDts],
+) -> Result<u64, AllocError>
+    ensures value { IfOk result (λ base. base ≡ spec.base_of earliest firsts.now program) }
+    ensures bound { IfOk result (λ base. base < 2 ^ 33) }
+{
+    let stamps = stamps_of(alloc, program, firsts)?;
+    match stamps.first() {
+        Some(first) => Ok(constant(earliest, *first % STAMP_MODULUS, &stamps)),
+        None => Ok(0),
+    }
+}
+
+// The packet in which a unit of a PID begins.
+#[tactic(auto, unfolding(crate::specs::Moments::packet_of))]
+fn packet_of(
+    alloc: Global,
+    pid: u16,
+    index: usize,
+    findings: &[Finding<'_>],
+) -> Result<u64, AllocError>
+    ensures { IfOk result (λ packet. packet ≡ spec.packet_of (map finding_view findings.now) pid index) }
+{
+    let units = carried_units(alloc, pid, findings)?;
+    match units.get(index) {
+        Some(unit) => Ok(unit.packet),
+        None => Ok(0),
+    }
+}
+
+// The refusal of a stream: the stamps of this unit can't be moments.
+#[tactic(auto, unfolding(crate::specs::Moments::stamps_refusal))]
+fn stamps_refusal(
+    alloc: Global,
+    pid: u16,
+    index: usize,
+    fault: StampFault,
+    findings: &[Finding<'_>],
+) -> Result<JobRefusal, AllocError>
+    ensures { IfOk result (λ refusal. refusal ≡ spec.stamps_refusal (map finding_view findings.now) pid
+        (index, fault)) }
+{
+    let packet = packet_of(alloc, pid, index, findings)?;
+    Ok(JobRefusal::Stamps { packet, pid, fault })
+}
+
+// A stream with its units at their moments.
+#[tactic(auto, unfolding(crate::specs::Moments::moved_stream, crate::specs::Moments::with_moments, crate::specs::Answers::unless, crate::specs::Answers::Answers, crate::specs::Answers::Refuses))]
+fn moved_stream(
+    alloc: Global,
+    make_dts: bool,
+    base: u64,
+    stream: WireStream,
+    findings: &[Finding<'_>],
+) -> Result<TimedStream, JobError>
+    requires base { base < 2 ^ 33 }
+    requires carried { IsCarried make_dts (map finding_view findings.now) stream }
+    ensures value { Answers (spec.moved_stream (map finding_view findings.now) base stream) result }
+    ensures moved { IfOk result (IsMoved make_dts (map finding_view findings.now)) }
+{
+    let pid = stream.pid;
+    match moved_units(alloc, base, stream.units) {
+        Ok(units) => Ok(TimedStream {
+            program: stream.program,
+            pid,
+            stream_type: stream.stream_type,
+            stream_id: stream.stream_id,
+            descriptors: stream.descriptors,
+            units,
+        }),
+        Err(StampError::Memory) => Err(JobError::Memory),
+        Err(StampError::Unit { index, fault }) => {
+            let refusal = stamps_refusal(alloc, pid, index, fault, findings)?;
+            Err(JobError::Refused(refusal))
+        }
+    }
+}
+
+// A stream with its units at moments by the constant of its program.
+#[tactic(auto, unfolding(crate::specs::Moments::moved_by, crate::specs::Answers::Answers, crate::specs::Answers::Refuses))]
+fn moved_by(
+    alloc: Global,
+    make_dts: bool,
+    earliest: u64,
+    firsts: &[FirstDts],
+    stream: WireStream,
+    findings: &[Finding<'_>],
+) -> Result<TimedStream, JobError>
+    requires { IsCarried make_dts (map finding_view findings.now) stream }
+    ensures value { Answers (spec.moved_by (map finding_view findings.now) earliest firsts.now stream) result }
+    ensures moved { IfOk result (IsMoved make_dts (map finding_view findings.now)) }
+{
+    let base = base_of(alloc, earliest, stream.program, firsts)?;
+    moved_stream(alloc, make_dts, base, stream, findings)
+}
+
+// All streams with their units at moments.
+#[tactic(auto, unfolding(crate::specs::Answers::Refuses))]
+fn each_moved(
+    alloc: Global,
+    make_dts: bool,
+    earliest: u64,
+    firsts: &[FirstDts],
+    streams: Vec<WireStream>,
+    findings: &[Finding<'_>],
+) -> Result<Vec<TimedStream>, JobError>
+    requires { All (IsCarried make_dts (map finding_view findings.now)) streams.items }
+    ensures streams { IfOk result (λ moved. each (spec.moved_by (map finding_view findings.now) earliest firsts.now)
+        streams.items ≡ Ok moved.items) }
+    ensures refused { IfErr result (Refuses (each (spec.moved_by (map finding_view findings.now) earliest firsts.now)
+        streams.items)) }
+    ensures moved { IfOk result (λ moved. All (IsMoved make_dts (map finding_view findings.now)) moved.items) }
+{
+    let mut moved = Vec::new(alloc);
+    for stream in streams {
+        let next = moved_by(alloc, make_dts, earliest, firsts, stream, findings)?;
+        moved.push(next)?;
+    }
+    Ok(moved)
+}
+
+/// What the clock of the first stream's program shows at moment 0, if the first of its units is due at `earliest`.
+#[tactic(auto, unfolding(crate::specs::Moments::first_base, crate::specs::Moments::base_of_first))]
+pub(crate) fn first_base(
+    alloc: Global,
+    earliest: u64,
+    streams: &[WireStream],
+) -> Result<u64, AllocError>
+    ensures { IfOk result (λ base. base ≡ spec.first_base earliest streams.now) }
+{
+    let firsts = firsts_of(alloc, streams)?;
+    match firsts.first() {
+        Some(first) => base_of(alloc, earliest, first.program, &firsts),
+        None => Ok(0),
+    }
+}
+
+/// The streams with their units at moments, by which the first unit of each program is due at `earliest`.
+#[tactic(auto, unfolding(crate::specs::Moments::moved_streams, crate::specs::Answers::Refuses))]
+pub(crate) fn moved_streams(
+    alloc: Global,
+    make_dts: bool,
+    earliest: u64,
+    streams: Vec<WireStream>,
+    findings: &[Finding<'_>],
+) -> Result<Vec<TimedStream>, JobError>
+    requires { All (IsCarried make_dts (map finding_view findings.now)) streams.items }
+    ensures streams { IfOk result (λ moved. spec.moved_streams (map finding_view findings.now) earliest streams.items
+        ≡ Ok moved.items) }
+    ensures refused { IfErr result (Refuses (spec.moved_streams (map finding_view findings.now) earliest
+        streams.items)) }
+    ensures moved { IfOk result (λ moved. All (IsMoved make_dts (map finding_view findings.now)) moved.items) }
+{
+    let firsts = firsts_of(alloc, &streams)?;
+    each_moved(alloc, make_dts, earliest, &firsts, streams, findings)
+}

@@ -1,0 +1,168 @@
+//! The warnings about the packets and the streams of a job.
+
+ghost use Rattle.std.specs.Prelude.{◌≡◌, ◌++◌, OnOk, map, flat_map, option_to_list};
+ghost use Rattle.demux.specs.Shown.{finding_view};
+ghost use Rattle.stream_jobs.specs.Warnings as spec;
+ghost use Rattle.stream_jobs.specs.declared.warning.Warning.TheVariants.{Table, Units};
+
+use crate::job_stream::WireStream;
+use crate::warning::Warning;
+use demux::{Finding, What};
+use psi_tables::Program;
+use std::alloc::{AllocError, Global};
+use stream_programs::{Association, TableOmission, association_change, map_change};
+use stream_units::{UnitWarning, unit_warnings};
+
+// The warning about a finding on no PID.
+#[tactic(auto, unfolding(crate::specs::Warnings::packet_warning, crate::specs::Warnings::packet_warning_of))]
+fn packet_warning(finding: &Finding<'_>) -> Option<Warning>
+    ensures { option_to_list result ≡ spec.packet_warning (finding_view finding.now) }
+{
+    if finding.pid.is_some() {
+        return None;
+    }
+    let packet = finding.packet;
+    match &finding.what {
+        What::BadPacket(_) => Some(Warning::BadPacket { packet }),
+        What::Errored => Some(Warning::Errored { packet }),
+        What::Truncated(part) => Some(Warning::TrailingBytes {
+            size: part.bytes().len(),
+        }),
+        _ => None,
+    }
+}
+
+// Appends the warning about a finding on no PID.
+fn push_packet_warning(finding: &Finding<'_>, warnings: &mut Vec<Warning>) -> Result<(), AllocError>
+    ensures { OnOk result (warnings.new.items ≡ warnings.old.items ++ spec.packet_warning (finding_view finding.now)) }
+{
+    if let Some(warning) = packet_warning(finding) {
+        warnings.push(warning)?;
+    }
+    Ok(())
+}
+
+/// Appends the warnings about packets that could not be read.
+pub(crate) fn push_packet_warnings(
+    findings: &[Finding<'_>],
+    warnings: &mut Vec<Warning>,
+) -> Result<(), AllocError>
+    ensures { OnOk result (warnings.new.items ≡ warnings.old.items
+        ++ spec.packet_warnings (map finding_view findings.now)) }
+{
+    for finding in findings {
+        push_packet_warning(finding, warnings)?;
+    }
+    Ok(())
+}
+
+/// Appends the warning that the programs change.
+pub(crate) fn push_association_warning(
+    association: &Association,
+    findings: &[Finding<'_>],
+    warnings: &mut Vec<Warning>,
+) -> Result<(), AllocError>
+    ensures { OnOk result (warnings.new.items ≡ warnings.old.items
+        ++ spec.association_warnings association.now.version_number (map finding_view findings.now)) }
+{
+    if let Some(packet) = association_change(association.version_number, findings) {
+        warnings.push(Warning::AssociationChanges { packet })?;
+    }
+    Ok(())
+}
+
+// Appends the warning that the streams of a program change.
+#[tactic(auto, unfolding(crate::specs::Warnings::map_warnings))]
+fn push_map_warning(
+    program: Program,
+    findings: &[Finding<'_>],
+    warnings: &mut Vec<Warning>,
+) -> Result<(), AllocError>
+    ensures { OnOk result (warnings.new.items ≡ warnings.old.items
+        ++ spec.map_warnings (map finding_view findings.now) program) }
+{
+    if let Some(packet) = map_change(program, findings) {
+        warnings.push(Warning::MapChanges {
+            program: program.program_number,
+            packet,
+        })?;
+    }
+    Ok(())
+}
+
+/// Appends the warnings that the streams of programs change.
+pub(crate) fn push_map_warnings(
+    programs: &[Program],
+    findings: &[Finding<'_>],
+    warnings: &mut Vec<Warning>,
+) -> Result<(), AllocError>
+    ensures { OnOk result (warnings.new.items ≡ warnings.old.items
+        ++ spec.all_map_warnings (map finding_view findings.now) programs.now) }
+{
+    for program in programs {
+        push_map_warning(*program, findings, warnings)?;
+    }
+    Ok(())
+}
+
+/// Appends the warnings about what is left out of the tables.
+pub(crate) fn push_table_warnings(
+    found: &[TableOmission],
+    warnings: &mut Vec<Warning>,
+) -> Result<(), AllocError>
+    ensures { OnOk result (warnings.new.items ≡ warnings.old.items ++ map Table found.now) }
+{
+    for left_out in found {
+        warnings.push(Warning::Table(*left_out))?;
+    }
+    Ok(())
+}
+
+// Appends the warnings about the units of a PID.
+fn push_unit_warnings(
+    pid: u16,
+    found: &[UnitWarning],
+    warnings: &mut Vec<Warning>,
+) -> Result<(), AllocError>
+    ensures { OnOk result (warnings.new.items ≡ warnings.old.items ++ map (Units pid) found.now) }
+{
+    for warning in found {
+        warnings.push(Warning::Units {
+            pid,
+            warning: *warning,
+        })?;
+    }
+    Ok(())
+}
+
+/// Appends the warnings about the units of a PID.
+#[tactic(auto, unfolding(crate::specs::Warnings::pid_warnings))]
+pub(crate) fn push_pid_warnings(
+    alloc: Global,
+    pid: u16,
+    count: u64,
+    findings: &[Finding<'_>],
+    warnings: &mut Vec<Warning>,
+) -> Result<(), AllocError>
+    ensures { OnOk result (warnings.new.items ≡ warnings.old.items
+        ++ spec.pid_warnings count (map finding_view findings.now) pid) }
+{
+    push_unit_warnings(pid, &unit_warnings(alloc, pid, count, findings)?, warnings)
+}
+
+/// Appends the warnings about the units of streams.
+pub(crate) fn push_stream_warnings(
+    alloc: Global,
+    count: u64,
+    streams: &[WireStream],
+    findings: &[Finding<'_>],
+    warnings: &mut Vec<Warning>,
+) -> Result<(), AllocError>
+    ensures { OnOk result (warnings.new.items ≡ warnings.old.items
+        ++ flat_map (λ s. spec.pid_warnings count (map finding_view findings.now) s.pid) streams.now) }
+{
+    for stream in streams {
+        push_pid_warnings(alloc, stream.pid, count, findings, warnings)?;
+    }
+    Ok(())
+}

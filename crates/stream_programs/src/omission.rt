@@ -1,0 +1,35 @@
+//! What is left out of the tables of a stream.
+
+/// A part of a stream's tables that is left out.
+#[derive(Clone, Copy, PartialEq, Eq)]
+pub enum TableOmission {
+    /// The program has no program map table.
+    NoMap {
+        program: u16,
+    },
+    /// The program has CA descriptors: they are left out.
+    ConditionalAccess {
+        program: u16,
+    },
+    /// The stream of this PID has sections, and no PES packets.
+    NoPes {
+        program: u16,
+        pid: u16,
+        stream_type: u8,
+    },
+    /// No elementary stream may have the PID.
+    Reserved {
+        program: u16,
+        pid: u16,
+    },
+    /// The PID is that of a stream of the program `holder` already, which may be the same program.
+    Taken {
+        program: u16,
+        pid: u16,
+        holder: u16,
+    },
+    /// The program has no stream that is kept.
+    NoStream {
+        program: u16,
+    },
+}

@@ -1,0 +1,124 @@
+//! PIDs for the program maps and the PCRs of programs.
+//!
+//! A PID of a multiplex has the packets of one table, one stream or one program's PCR. Streams as they come may have
+//! their PCR on a stream's PID, two programs one PID of maps, or a map one below 32.
+
+ghost use Rattle.std.specs.Prelude.{◌≡◌, ◌++◌, [], IfOk, map, option_map};
+ghost use Rattle.stream_programs.specs.PidAssignment as spec;
+
+use crate::free_pids::{free_pid, is_taken};
+use crate::programs::{FoundProgram, FoundPrograms};
+use crate::streams::{FoundStream, is_reserved};
+use std::alloc::{AllocError, Allocator};
+
+/// The PIDs of a program that no stream and no other program has, 32 to 8,190.
+#[derive(Clone, Copy, PartialEq, Eq)]
+pub struct ProgramPids {
+    /// Of its program map table.
+    pub map_pid: u16,
+    /// Of packets with its PCR alone.
+    pub pcr_pid: u16,
+}
+
+fn stream_pids<A: Allocator>(
+    alloc: A,
+    streams: &[FoundStream<A>],
+) -> Result<Vec<u16, A>, AllocError>
+    ensures { IfOk result (λ pids. pids.items ≡ map (λ s. s.pid) streams.now) }
+{
+    streams.iter().map(|stream| stream.pid).collect(alloc)
+}
+
+fn map_pids<A: Allocator>(alloc: A, programs: &[FoundProgram<A>]) -> Result<Vec<u16, A>, AllocError>
+    ensures { IfOk result (λ pids. pids.items ≡ map (λ p. p.map_pid) programs.now) }
+{
+    programs
+        .iter()
+        .map(|program| program.map_pid)
+        .collect(alloc)
+}
+
+// These PIDs and those.
+fn joined<A: Allocator>(alloc: A, one: &[u16], other: &[u16]) -> Result<Vec<u16, A>, AllocError>
+    ensures { IfOk result (λ pids. pids.items ≡ one.now ++ other.now) }
+{
+    let mut pids = Vec::from_slice(alloc, one)?;
+    pids.extend_from_slice(other)?;
+    Ok(pids)
+}
+
+// The PID of a map, which is none of the streams' and none assigned before; a new one is none of those taken.
+#[tactic(auto, unfolding(crate::specs::PidAssignment::assigned_map_pid))]
+fn assigned_map_pid(streams: &[u16], given: &[u16], taken: &[u16], pid: u16) -> Option<u16>
+    ensures { result ≡ spec.assigned_map_pid streams.now given.now taken.now pid }
+{
+    if is_reserved(pid) || is_taken(pid, streams) || is_taken(pid, given) {
+        free_pid(32, taken)
+    } else {
+        Some(pid)
+    }
+}
+
+// The PIDs of maps one after another.
+fn assigned_map_pids<A: Allocator + Copy>(
+    alloc: A,
+    streams: &[u16],
+    maps: &[u16],
+) -> Result<Option<Vec<u16, A>>, AllocError>
+    ensures { IfOk result (λ places. option_map (λ pids. pids.items) places
+        ≡ spec.assigned_map_pids streams.now maps.now [] maps.now) }
+{
+    let mut taken = joined(alloc, streams, maps)?;
+    let mut given = Vec::new(alloc);
+    for pid in maps {
+        let Some(place) = assigned_map_pid(streams, &given, &taken, *pid) else {
+            return Ok(None);
+        };
+        given.push(place)?;
+        taken.push(place)?;
+    }
+    Ok(Some(given))
+}
+
+// Maps on these PIDs, each with a PID for the PCR of its program.
+fn with_pcr_pids<A: Allocator + Copy>(
+    alloc: A,
+    streams: &[u16],
+    maps: &[u16],
+) -> Result<Option<Vec<ProgramPids, A>>, AllocError>
+    ensures { IfOk result (λ places. option_map (λ given. given.items) places ≡ spec.with_pcr_pids
+        (streams.now ++ maps.now) [] maps.now) }
+{
+    let mut used = joined(alloc, streams, maps)?;
+    let mut given = Vec::new(alloc);
+    for map_pid in maps {
+        let Some(pcr_pid) = free_pid(256, &used) else {
+            return Ok(None);
+        };
+        used.push(pcr_pid)?;
+        given.push(ProgramPids {
+            map_pid: *map_pid,
+            pcr_pid,
+        })?;
+    }
+    Ok(Some(given))
+}
+
+/// For each program in order a PID of its map and one of its PCR, so that no two of these and the streams' PIDs are
+/// equal (`pids_are_distinct`). A map stays on its PID where that is 32 to 8,190 and neither a stream's nor an earlier
+/// program's map's; else it gets the least PID from 32 on that no stream and no map has. Each PCR gets the least one
+/// from 256 on that is left. `None` where there is none left.
+#[tactic(auto, unfolding(crate::specs::PidAssignment::assigned_pids))]
+pub fn assigned_pids<A: Allocator + Copy>(
+    alloc: A,
+    found: &FoundPrograms<A>,
+) -> Result<Option<Vec<ProgramPids, A>>, AllocError>
+    ensures { IfOk result (λ places. option_map (λ given. given.items) places ≡ spec.assigned_pids found.now) }
+{
+    let streams = stream_pids(alloc, &found.streams)?;
+    let maps = map_pids(alloc, &found.programs)?;
+    match assigned_map_pids(alloc, &streams, &maps)? {
+        None => Ok(None),
+        Some(maps) => with_pcr_pids(alloc, &streams, &maps),
+    }
+}

@@ -1,0 +1,127 @@
+-- Units that keep a declaration are taken one by one.
+use Rattle.std.proofs.Common.{◌≡◌, ◌≤◌, ◌<◌, ℕ, ◌+◌, ◌-◌, ◌^◌, ◌==◌, ◌++◌, nat_lt, false, None, List, [], ◌∷◌, length, map, refl, sym, subst, arith, All, inl, inr}
+use Rattle.std.proofs.lemmas.Bool.{cases_Bool, le-ltb, lt-leb}
+use Rattle.std.proofs.lemmas.Bool.Decides.{nat_tests}
+use Rattle.std.proofs.lemmas.List.{append_assoc, append-nil, map-append}
+use Rattle.std.proofs.lemmas.List.Elements.{All-nil, All-cons, All-head, All-tail}
+use Rattle.clock27.specs.Release.{release}
+use Rattle.own_slots.specs.Slots.{own_before}
+use Rattle.pes_packet.specs.AccessUnits.{AccessUnit}
+use Rattle.unit_timing.specs.PesPacket.{PesPacket, Spaced, Sized, GroupsWithin, next_due, last_packets}
+use Rattle.unit_timing.proofs.OneMoreUnit.{spaced_more_law, sized_more_law, group_more_law}
+use Rattle.unit_queue.specs.OwnedStreams.{OwnedStream, timed, packet_count, end_slot}
+use Rattle.unit_queue.specs.Places.{left_at, left_before}
+use Rattle.unit_queue.specs.Causes.{or_cause, own_cause, time_cause, room_cause, is_late, is_full, exceeds_group, min_next_dts_of}
+use Rattle.unit_queue.specs.Queues.{IsUnit, Kept, max_packets_per_unit}
+use Rattle.unit_queue.specs.declared.parameters.StreamParameters.{StreamParameters}
+use Rattle.stream_units.specs.Laws.{TakenOneByOne}
+
+-- 1. No cause of a refusal
+
+pub not_none : (n : ℕ) → 1 ≤ n → (n == 0) ≡ false
+not_none n le = grind (arith, nat_tests, le)
+
+own_none : (r : StreamParameters) (earliest : ℕ) (u : AccessUnit) → IsUnit r u → earliest ≤ u.dts → own_cause r.size earliest u ≡ None
+unfolding own_cause
+own_none r earliest u unit due =
+    rw (
+      not_none (length u.bytes) unit.some,
+      le-ltb r.size (length u.bytes) unit.most,
+      le-ltb u.dts earliest due,
+      le-ltb u.pts u.dts unit.later,
+      le-ltb (u.dts + 90_000) u.pts unit.soon,
+    ) refl
+
+time_none : (l : OwnedStream) (u : AccessUnit) → l.parameters.lead ≤ u.dts → u.dts ≤ 2 ^ 52 → time_cause (is_late l 0 u) u.dts ≡ None
+unfolding time_cause
+time_none l u due last =
+    rw (le-ltb u.dts l.parameters.lead due, le-ltb (release l.parameters.rate l.parameters.lead u.dts) 0 (omega arith), le-ltb (2 ^ 52) u.dts last) refl
+
+few_left : (l : OwnedStream) (p free number : ℕ) (us : List AccessUnit) → length (left_at l p free number us).units ≤ length us
+unfolding left_at
+few_left l p free number [] = omega arith
+few_left l p free number (u ∷ us) = elim (cases_Bool (nat_lt p (end_slot l free u))) [
+  | inl y ↦ rw y (omega arith)
+  | inr n ↦ rw n (omega (arith, few_left l p (end_slot l free u) (number + packet_count l u) us))
+]
+
+room_none : (l : OwnedStream) (capacity : ℕ) (us : List AccessUnit) (u : AccessUnit) → length us < capacity →
+    last_packets (l.parameters.group - 1) (map (timed l) us) + packet_count l u ≤ l.parameters.group_packets → room_cause (is_full l 0 capacity us) (exceeds_group l us u) ≡ None
+unfolding room_cause
+room_none l capacity us u room group =
+    let few : length (left_before l 0 us).units < capacity = omega (arith, few_left l (own_before l.own 0) 0 0 us, room) in
+    rw (
+      lt-leb capacity (length (left_before l 0 us).units) few,
+      le-ltb l.parameters.group_packets (last_packets (l.parameters.group - 1) (map (timed l) us) + packet_count l u) group,
+    ) refl
+
+-- 2. The units before it, and it
+
+next_least : (apart from d : ℕ) (texts : List PesPacket) → next_due apart from texts ≤ d → next_due apart 0 texts ≤ d
+unfolding next_due
+next_least apart from d [] le = omega arith
+next_least apart from d (text ∷ texts) le = le
+
+from_next : (apart from : ℕ) (texts : List PesPacket) → Spaced apart from texts → from ≤ next_due apart from texts
+unfolding Spaced next_due
+from_next apart from [] spaced = omega arith
+from_next apart from (text ∷ texts) spaced = omega (arith, spaced.0, from_next apart (text.dts + apart) texts spaced.1)
+
+last_unit : (r : StreamParameters) (us : List AccessUnit) (u : AccessUnit) → All (IsUnit r) (us ++ u ∷ []) → IsUnit r u
+last_unit r [] u all = All-head (IsUnit r) u [] all
+last_unit r (first ∷ us) u all = last_unit r us u (All-tail (IsUnit r) first (us ++ u ∷ []) all)
+
+units_front : (r : StreamParameters) (us : List AccessUnit) (u : AccessUnit) → All (IsUnit r) (us ++ u ∷ []) → All (IsUnit r) us
+units_front r [] u all = All-nil (IsUnit r)
+units_front r (first ∷ us) u all =
+    All-cons (IsUnit r) first us (All-head (IsUnit r) first (us ++ u ∷ []) all) (units_front r us u (All-tail (IsUnit r) first (us ++ u ∷ []) all))
+
+record Last (l : OwnedStream) (us : List AccessUnit) (u : AccessUnit) : Type 0 where
+  pub kept : Kept l us
+  pub unit : IsUnit l.parameters u
+  pub due : next_due l.parameters.interval l.parameters.lead (map (timed l) us) ≤ u.dts
+  pub group : last_packets (l.parameters.group - 1) (map (timed l) us) + packet_count l u ≤ l.parameters.group_packets
+
+last_of : (l : OwnedStream) (us : List AccessUnit) (u : AccessUnit) → 1 ≤ l.parameters.group → Kept l (us ++ u ∷ []) → Last l us u
+last_of l us u some kept =
+    let r = l.parameters in
+    let texts = map (timed l) us in
+    let more : map (timed l) (us ++ u ∷ []) ≡ map (timed l) us ++ timed l u ∷ [] = map-append (timed l) us (u ∷ []) in
+    let spaced = spaced_more_law.back r.interval r.lead texts (timed l u) (subst (λ (t : List PesPacket). Spaced r.interval r.lead t) more kept.spaced) in
+    let sized = sized_more_law.back (19 + r.size) texts (timed l u) (subst (λ (t : List PesPacket). Sized (19 + r.size) t) more kept.sized) in
+    let g : l.parameters.group ≡ (l.parameters.group - 1) + 1 = omega (arith, some) in
+    let grouped : GroupsWithin ((l.parameters.group - 1) + 1) l.parameters.group_packets (max_packets_per_unit l.parameters) (map (timed l) us ++ timed l u ∷ []) =
+    subst (λ (n : ℕ). GroupsWithin n l.parameters.group_packets (max_packets_per_unit l.parameters) (map (timed l) us ++ timed l u ∷ [])) g
+    (subst (λ (t : List PesPacket). GroupsWithin l.parameters.group l.parameters.group_packets (max_packets_per_unit l.parameters) t) more kept.grouped) in
+    let groups = group_more_law.back (r.group - 1) r.group_packets (max_packets_per_unit r) texts (timed l u) grouped in
+    record {
+      kept = record {
+        units = units_front r us u kept.units;
+        spaced = spaced.0;
+        sized = sized.0;
+        grouped = subst (λ (n : ℕ). GroupsWithin n l.parameters.group_packets (max_packets_per_unit l.parameters) (map (timed l) us)) (sym g) groups.0;
+      };
+      unit = last_unit r us u kept.units;
+      due = spaced.1;
+      group = groups.2;
+    }
+
+-- 3. One by one
+
+kept_front : (l : OwnedStream) (us more : List AccessUnit) → 1 ≤ l.parameters.group → Kept l (us ++ more) → Kept l us
+kept_front l us [] some kept = subst (λ (x : List AccessUnit). Kept l x) (append-nil us) kept
+kept_front l us (u ∷ more) some kept =
+    let on = kept_front l (us ++ u ∷ []) more some (subst (λ (x : List AccessUnit). Kept l x) (sym (append_assoc us (u ∷ []) more)) kept) in
+    (last_of l us u some on).kept
+
+pub taken_one_by_one : TakenOneByOne
+unfolding or_cause
+taken_one_by_one l capacity us u more some kept room =
+    let on = kept_front l (us ++ u ∷ []) more some (subst (λ (x : List AccessUnit). Kept l x) (sym (append_assoc us (u ∷ []) more)) kept) in
+    let last = last_of l us u some on in
+    let lead : l.parameters.lead ≤ u.dts = omega (arith, from_next l.parameters.interval l.parameters.lead (map (timed l) us) last.kept.spaced, last.due) in
+    rw (
+      own_none l.parameters (min_next_dts_of l us) u last.unit (next_least l.parameters.interval l.parameters.lead u.dts (map (timed l) us) last.due),
+      time_none l u lead last.unit.last,
+      room_none l capacity us u room last.group,
+    ) refl

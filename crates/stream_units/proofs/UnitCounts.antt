@@ -1,0 +1,63 @@
+-- Counting over units from their front.
+use Rattle.std.proofs.Common.{◌≡◌, ◌≤◌, ◌<◌, ℕ, ◌+◌, ◌∙◌, ap, ◌-◌, min, max, List, [], ◌∷◌, length, take, drop, get_or, refl, sym, arith, add-one}
+use Rattle.std.proofs.Math.Seq.{drop-cons}
+use Rattle.std.proofs.lemmas.List.{drop_all, take-map}
+use Rattle.pes_packet.specs.AccessUnits.{AccessUnit}
+use Rattle.stream_units.specs.Stamps.{distance, min_distance}
+use Rattle.unit_timing.specs.PesPacket.{packets_of_units}
+use Rattle.stream_units.specs.Declaration.{interval_after, min_interval, max_unit_size, max_group, timed_units}
+
+pub size_more : (i : ℕ) (us : List AccessUnit) (u : AccessUnit) → i < length us → u ≡ get_or us i u →
+    max_unit_size (drop i us) ≡ max (length u.bytes) (max_unit_size (drop (i + 1) us))
+unfolding max_unit_size
+size_more i us u below at = rw (drop-cons us i u below, add-one i, sym at) refl
+
+pub size_end : (i : ℕ) (us : List AccessUnit) → length us ≤ i → max_unit_size (drop i us) ≡ 0
+unfolding max_unit_size
+size_end i us over = rw (drop_all i us over) refl
+
+pub interval_more : (i last : ℕ) (us : List AccessUnit) (u : AccessUnit) → i < length us → u ≡ get_or us i u →
+    interval_after last (drop i us) ≡ min (u.dts - last) (interval_after u.dts (drop (i + 1) us))
+unfolding interval_after
+interval_more i last us u below at = rw (drop-cons us i u below, add-one i, sym at) refl
+
+pub interval_end : (i last : ℕ) (us : List AccessUnit) → length us ≤ i → interval_after last (drop i us) ≡ 90_000
+unfolding interval_after
+interval_end i last us over = rw (drop_all i us over) refl
+
+pub interval_most : (last : ℕ) (us : List AccessUnit) → interval_after last us ≤ 90_000
+unfolding interval_after
+interval_most last [] = omega arith
+interval_most last (u ∷ us) = omega (arith, interval_most u.dts us)
+
+pub after_more : (from least i stamp : ℕ) (stamps : List ℕ) → i < length stamps → stamp ≡ get_or stamps i 0 →
+    min_distance from least (drop i stamps) ≡ min_distance from (min least (distance from stamp)) (drop (i + 1) stamps)
+unfolding min_distance
+after_more from least i stamp stamps below at = rw (drop-cons stamps i 0 below, add-one i, sym at) refl
+
+pub after_end : (from least i : ℕ) (stamps : List ℕ) → length stamps ≤ i → min_distance from least (drop i stamps) ≡ least
+unfolding min_distance
+after_end from least i stamps over = rw (drop_all i stamps over) refl
+
+pub least_none : (us : List AccessUnit) → length us ≡ 0 → min_interval us ≡ 90_000
+unfolding min_interval
+least_none [] is = refl
+least_none (u ∷ us) is = absurd (let no : ⊥ = omega (arith, is) in no)
+
+pub least_some : (us rest : List AccessUnit) (u : AccessUnit) → us ≡ u ∷ rest → min_interval us ≡ interval_after u.dts rest
+unfolding min_interval
+least_some us rest u is = rw is refl
+
+pub group_more : (id base0 group most total : ℕ) (units rest : List AccessUnit) (u : AccessUnit) → units ≡ u ∷ rest →
+    total ≡ packets_of_units (timed_units id base0 (take group units)) →
+    max most (max_group group (timed_units id base0 units)) ≡ max (max most total) (max_group group (timed_units id base0 rest))
+unfolding max_group
+group_more id base0 group most total units rest u is counted =
+    let front : packets_of_units (timed_units id base0 (take group (u ∷ rest))) ≡ packets_of_units (take group (timed_units id base0 (u ∷ rest))) = ap packets_of_units (sym (take-map _ group (u ∷ rest))) in
+    let all : total ≡ packets_of_units (take group (timed_units id base0 (u ∷ rest))) = rw is at counted ∙ front in
+    rw is (omega (arith, all))
+
+pub group_end : (id base0 group : ℕ) (units : List AccessUnit) → length units ≡ 0 → max_group group (timed_units id base0 units) ≡ 0
+unfolding max_group
+group_end id base0 group [] is = refl
+group_end id base0 group (u ∷ us) is = absurd (let no : ⊥ = omega (arith, is) in no)

@@ -1,0 +1,83 @@
+//! The role of a finding among the units of a PID.
+
+ghost use Rattle.std.specs.Prelude.{◌≡◌};
+ghost use Rattle.demux.specs.Shown.{finding_view};
+ghost use Rattle.stream_units.specs.CarriedUnits as spec;
+ghost use Rattle.stream_units.specs.Shown.{role_view};
+
+use demux::{Finding, Kind, What};
+use pes_packet::Stamps;
+use std::alloc::Allocator;
+
+/// The first PES packet of a unit.
+#[derive(Clone, Copy)]
+pub(crate) struct UnitStart<'f> {
+    pub packet: u64,
+    pub stream_id: u8,
+    pub dts: u64,
+    pub pts: u64,
+    pub body: &'f [u8],
+}
+
+/// The role of a finding among the units of a PID.
+#[derive(Clone, Copy)]
+pub(crate) enum PesRole<'f> {
+    /// A duplicate packet, or a finding of another PID.
+    Ignored,
+    /// A PES packet with a PTS: the first of a unit.
+    Start(UnitStart<'f>),
+    /// A PES packet without a PTS: more bytes of the unit.
+    Continuation(&'f [u8]),
+    /// Anything else: the unit ends.
+    Interruption,
+}
+
+// The role of a PES packet with these stamps.
+#[tactic(auto, unfolding(crate::specs::CarriedUnits::pes_role))]
+fn pes_role<'f>(packet: u64, stream_id: u8, stamps: Stamps, body: &'f [u8]) -> PesRole<'f>
+    ensures { role_view result ≡ spec.pes_role packet stream_id stamps body.now }
+{
+    let (dts, pts) = match stamps {
+        Stamps::Absent => return PesRole::Continuation(body),
+        Stamps::Pts(pts) => (pts, pts),
+        Stamps::PtsDts { pts, dts } => (dts, pts),
+    };
+    PesRole::Start(UnitStart {
+        packet,
+        stream_id,
+        dts,
+        pts,
+        body,
+    })
+}
+
+/// The packet of the finding's first byte.
+#[tactic(auto, unfolding(crate::specs::CarriedUnits::first_packet))]
+pub(crate) fn first_packet(packet: u64, begun: Option<(u64, Kind)>) -> u64
+    ensures { result ≡ spec.first_packet packet begun }
+{
+    match begun {
+        None => packet,
+        Some((first, _)) => first,
+    }
+}
+
+/// The role of a finding among the units of a PID.
+#[tactic(auto, unfolding(crate::specs::CarriedUnits::role_of, crate::specs::CarriedUnits::role_of_what))]
+pub(crate) fn role_of<'f, A: Allocator>(pid: u16, finding: &'f Finding<'_, A>) -> PesRole<'f>
+    ensures { role_view result ≡ spec.role_of pid (finding_view finding.now) }
+{
+    if finding.pid != Some(pid) {
+        return PesRole::Ignored;
+    }
+    match &finding.what {
+        What::Duplicate => PesRole::Ignored,
+        What::Pes { header, body, .. } => pes_role(
+            first_packet(finding.packet, finding.begun),
+            header.id,
+            header.stamps,
+            body.bytes(),
+        ),
+        _ => PesRole::Interruption,
+    }
+}

@@ -1,7 +1,0 @@
-use Rattle.std.proofs.Common.{◌≡◌, drop, map}
-use Rattle.demux.specs.Shown.{finding_view}
-use Rattle.subcommands.specs.FindingLines.{has_fault}
-use Rattle.subcommands.proofs.finding_lines.has_fault.Given as goal
-
-abbrev pub invariant-loop-finding : goal.invariant-loop-finding
-invariant-loop-finding l = has_fault (map finding_view (drop l.finding-index l.found)) ≡ has_fault (map finding_view l.found)

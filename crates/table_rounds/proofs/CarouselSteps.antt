@@ -1,0 +1,262 @@
+-- From own slot to own slot the state gives what the table carries by its slots' numbers.
+use Rattle.std.proofs.Common.{◌≡◌, ℕ, suc, ◌+◌, ◌*◌, ◌/◌, ◌%◌, ◌<◌, ◌==◌, Bool, true, false, cond, nat_lt, List, [], ◌∷◌, length, take, map, sum_by, slice_index_or, Option, Some, None, is_some, refl, ap, sym, subst, ◌∙◌, arith, inl, inr, eq-eqb, lt-ltb, le-ltb}
+use Rattle.std.proofs.lemmas.Bool.{cases_lt, ne_eqb}
+use Rattle.std.proofs.lemmas.List.{length-map}
+use Rattle.std.proofs.lemmas.Nat.{mod_below}
+use Rattle.std.proofs.Math.Nat.{mod-eq_of_lt, mod_self, mod-add-mod}
+use Rattle.clock27.specs.Units.{slot_seconds_at_1bps}
+use Rattle.own_slots.specs.Slots.{own_before}
+use Rattle.own_slots.proofs.Counts.{own_before_own, own_before_other}
+use Rattle.slot_contents.specs.Contents.{packet_of, Piece}
+use Rattle.table_rounds.specs.Parts.{places_of, part_of, part_content}
+use Rattle.table_rounds.specs.Tables.{Table, SectionPlace, round_places, place_in, place_at, round_before, moment_of, moment_before, bytes_at, part_at, one_if_some, payloads_before}
+use Rattle.table_rounds.specs.Carousels.{Carousel, CarouselHolds, moment_now, begun, section_advanced, advanced, counted}
+use Rattle.table_rounds.specs.Laws.{HasPlaces, IsSourceOf, FirstCarouselLaw, TableSlotLaw, OtherTableSlotLaw}
+use Rattle.table_rounds.proofs.Places.{Stands, stands, place_first}
+
+round_at : (own : ℕ → Bool) (k s : ℕ) → own s ≡ true → own_before own s % k ≡ 0 → round_before own k (suc s) ≡ s
+unfolding round_before
+round_at own k s y z = let e : (own_before own s % k == 0) ≡ true = eq-eqb (own_before own s % k) 0 z in rw (y, e) refl
+
+not_zero : (n : ℕ) → 0 < n → (n == 0) ≡ false
+not_zero n some = ne_eqb n 0 (λ e. omega (arith, some, e))
+
+round_stays : (own : ℕ → Bool) (k s : ℕ) → own s ≡ true → 0 < own_before own s % k → round_before own k (suc s) ≡ round_before own k s
+unfolding round_before
+round_stays own k s y some = let e : (own_before own s % k == 0) ≡ false = not_zero (own_before own s % k) some in rw (y, e) refl
+
+round_other : (own : ℕ → Bool) (k s : ℕ) → own s ≡ false → round_before own k (suc s) ≡ round_before own k s
+unfolding round_before
+round_other own k s n = rw n refl
+
+-- a round that has a place has a section
+has_section : (ls : List ℕ) → 0 < round_places ls → 0 < length ls
+has_section [] some = absurd (omega (arith, some))
+has_section (l ∷ ls) some = omega arith
+
+-- before slot 0
+pub first_carousel_holds : FirstCarouselLaw
+unfolding own_before payloads_before
+first_carousel_holds table some = record {
+  pid = refl;
+  rate = refl;
+  start = refl;
+  packets_per_section = refl;
+  place = ap (place_in 0 table.lengths) zero_place ∙ place_first 0 table.lengths (has_section table.lengths some);
+  moment = λ lt. absurd (omega (arith, lt, zero_place));
+  bytes = λ lt. absurd (omega (arith, lt));
+  counter = refl;
+}
+  where
+    zero_place : 0 % round_places table.lengths ≡ 0
+    zero_place = mod-eq_of_lt some
+
+-- in another slot
+pub other_slot : OtherTableSlotLaw
+unfolding payloads_before
+other_slot table s carousel n h =
+    let before : own_before table.own (suc s) ≡ own_before table.own s = own_before_other table.own s n in
+    let round : round_before table.own (round_places table.lengths) (suc s) ≡ round_before table.own (round_places table.lengths) s =
+    round_other table.own (round_places table.lengths) s n in
+    let count : payloads_before table (suc s) ≡ payloads_before table s =
+    ap (λ (b : Bool). payloads_before table s + cond b (one_if_some (part_at table s)) 0) n ∙ (omega arith) in
+    record {
+      pid = h.pid;
+      rate = h.rate;
+      start = h.start;
+      packets_per_section = h.packets_per_section;
+      place = ap (λ (i : ℕ). place_in 0 table.lengths (i % round_places table.lengths)) before ∙ h.place;
+      moment = λ lt. h.moment (subst (λ (i : ℕ). 0 < i % round_places table.lengths) before lt) ∙ ap (moment_of table) (sym round);
+      bytes = λ lt. h.bytes lt ∙ ap (λ (r : ℕ). table.bytes carousel.section (moment_of table r)) (sym round);
+      counter = h.counter ∙ ap (λ (i : ℕ). i % 256) (sym count);
+    }
+
+-- at an own slot, before its place is counted: the place, the round's moment, the section's bytes, and the payloads with that of the slot
+record Ready (table : Table) (s : ℕ) (b : Carousel) : Type 0 where
+  pid : b.pid ≡ table.pid
+  rate : b.rate ≡ table.rate
+  start : b.start ≡ table.start
+  packets_per_section : b.packets_per_section ≡ map places_of table.lengths
+  place : place_at table s ≡ record { section = b.section; part = b.part }
+  moment : b.moment ≡ moment_before table (suc s)
+  bytes : b.bytes ≡ table.bytes b.section (moment_before table (suc s))
+  counter : b.counter ≡ payloads_before table (suc s) % 256
+
+-- the state at the place that comes next
+placed : (table : Table) (s section part : ℕ) (b : Carousel) → Ready table s b → place_at table (suc s) ≡ record { section = section; part = part } → (0 < part → section ≡ b.section)
+    → CarouselHolds table (suc s) (record b { section = section; part = part })
+placed table s section part b r place same = record {
+  pid = r.pid;
+  rate = r.rate;
+  start = r.start;
+  packets_per_section = r.packets_per_section;
+  place = place;
+  moment = λ lt. r.moment;
+  bytes = λ lt. r.bytes ∙ ap (λ (j : ℕ). table.bytes j (moment_before table (suc s))) (sym (same lt));
+  counter = r.counter;
+}
+
+next_holds : (table : Table) (s : ℕ) (b : Carousel) → HasPlaces table → table.own s ≡ true → Ready table s b → CarouselHolds table (suc s) (advanced b)
+unfolding advanced section_advanced
+next_holds table s b some y r = elim (cases_lt (b.part + 1) (slice_index_or b.packets_per_section b.section 0)) [
+  | inl m ↦
+      let e : nat_lt (b.part + 1) (slice_index_or b.packets_per_section b.section 0) ≡ true = lt-ltb (b.part + 1) (slice_index_or b.packets_per_section b.section 0) m in
+      let n = st.more (omega (arith, m, size, part)) in
+      let f : advanced b ≡ record b { section = b.section; part = b.part + 1 } = rw e refl in
+      subst (CarouselHolds table (suc s)) (sym f) (placed table s b.section (b.part + 1) b r
+      (onward (st.q + 1) (0 + st.i) n.0 n.1 ∙ ap (λ (j : ℕ). record { section = j; part = st.q + 1 }) section ∙ ap (λ (q : ℕ). record { section = b.section; part = q + 1 }) part) (λ lt. refl))
+  | inr done ↦
+      let e : nat_lt (b.part + 1) (slice_index_or b.packets_per_section b.section 0) ≡ false = le-ltb (b.part + 1) (slice_index_or b.packets_per_section b.section 0) done in
+      elim (cases_lt (b.section + 1) (length b.packets_per_section)) [
+        | inl m ↦
+            let g : nat_lt (b.section + 1) (length b.packets_per_section) ≡ true = lt-ltb (b.section + 1) (length b.packets_per_section) m in
+            let n = st.next (omega (arith, done, size, part)) (omega (arith, m, sections, section)) in
+            let f : advanced b ≡ record b { section = b.section + 1; part = 0 } = rw (e, g) refl in
+            subst (CarouselHolds table (suc s)) (sym f) (placed table s (b.section + 1) 0 b r
+            (onward 0 (0 + st.i + 1) n.0 n.1 ∙ ap (λ (j : ℕ). record { section = j + 1; part = 0 }) section) (λ lt. absurd (omega (arith, lt))))
+        | inr end ↦
+            let g : nat_lt (b.section + 1) (length b.packets_per_section) ≡ false = le-ltb (b.section + 1) (length b.packets_per_section) end in
+            let n = st.last (omega (arith, done, size, part)) (omega (arith, end, sections, section)) in
+            let f : advanced b ≡ record b { section = 0; part = 0 } = rw (e, g) refl in
+            subst (CarouselHolds table (suc s)) (sym f) (placed table s 0 0 b r (around n) (λ lt. absurd (omega (arith, lt))))
+      ]
+]
+  where
+    k : ℕ
+    k = round_places table.lengths
+
+    i : ℕ
+    i = own_before table.own s
+
+    st : Stands 0 table.lengths (i % k)
+    st = stands 0 table.lengths (i % k) (mod_below i k some)
+
+    section : 0 + st.i ≡ b.section
+    section = ap (λ (p : SectionPlace). p.section) (sym st.place ∙ r.place)
+
+    part : st.q ≡ b.part
+    part = ap (λ (p : SectionPlace). p.part) (sym st.place ∙ r.place)
+
+    index : st.i ≡ b.section
+    index = omega (arith, section)
+
+    size : slice_index_or (map places_of table.lengths) st.i 0 ≡ slice_index_or b.packets_per_section b.section 0
+    size = ap (λ (j : ℕ). slice_index_or (map places_of table.lengths) j 0) index ∙ ap (λ (ps : List ℕ). slice_index_or ps b.section 0) (sym r.packets_per_section)
+
+    sections : length b.packets_per_section ≡ length table.lengths
+    sections = ap (length {A = ℕ}) r.packets_per_section ∙ length-map table.lengths places_of
+
+    count : own_before table.own (suc s) ≡ i + 1
+    count = own_before_own table.own s y
+
+    onward : (q j : ℕ) → i % k + 1 < k → place_in 0 table.lengths (i % k + 1) ≡ record { section = j; part = q } → place_at table (suc s) ≡ record { section = j; part = q }
+    onward q j lt e = ap (λ (n : ℕ). place_in 0 table.lengths (n % k)) count ∙ ap (place_in 0 table.lengths) (sym (mod-add-mod i k 1) ∙ mod-eq_of_lt lt) ∙ e
+
+    around : i % k + 1 ≡ k → place_at table (suc s) ≡ record { section = 0; part = 0 }
+    around e = ap (λ (n : ℕ). place_in 0 table.lengths (n % k)) count ∙ ap (place_in 0 table.lengths) (sym (mod-add-mod i k 1) ∙ ap (λ (n : ℕ). n % k) e ∙ mod_self k) ∙ place_first 0 table.lengths (has_section table.lengths some)
+
+-- a state with this moment and bytes
+abbrev made : Carousel → ℕ → List ℕ → Carousel
+made carousel moment bytes = record carousel { moment = moment; bytes = bytes }
+
+-- at an own slot the round's moment and the section's bytes are as the table has them
+begun_is : (table : Table) (s : ℕ) (source : ℕ → ℕ → List ℕ) (carousel : Carousel) → HasPlaces table → IsSourceOf table source → table.own s ≡ true → CarouselHolds table s carousel
+    → begun source s carousel ≡ made carousel (moment_before table (suc s)) (table.bytes carousel.section (moment_before table (suc s)))
+unfolding begun
+begun_is table s source carousel some is y h = elim (cases_lt 0 carousel.part) [
+  | inl later ↦
+      let e : (carousel.part == 0) ≡ false = not_zero carousel.part later in
+      let f : begun source s carousel ≡ carousel = rw e refl in
+      let n : 0 < i % k = inside later in
+      f ∙ remade (h.moment n ∙ ap (moment_of table) (sym (round_stays table.own k s y n)))
+      (h.bytes later ∙ ap (λ (r : ℕ). table.bytes carousel.section (moment_of table r)) (sym (round_stays table.own k s y n)))
+  | inr first ↦
+      let z : carousel.part ≡ 0 = omega (arith, first) in
+      let e : (carousel.part == 0) ≡ true = eq-eqb carousel.part 0 z in
+      let f : begun source s carousel ≡ made carousel (moment_now s carousel) (source carousel.section (moment_now s carousel)) = rw e refl in
+      f ∙ ap (λ (m : ℕ). made carousel m (source carousel.section m)) (moment z) ∙ ap (made carousel (moment_before table (suc s))) (is carousel.section (moment_before table (suc s)) within)
+]
+  where
+    k : ℕ
+    k = round_places table.lengths
+
+    i : ℕ
+    i = own_before table.own s
+
+    st : Stands 0 table.lengths (i % k)
+    st = stands 0 table.lengths (i % k) (mod_below i k some)
+
+    section : 0 + st.i ≡ carousel.section
+    section = ap (λ (p : SectionPlace). p.section) (sym st.place ∙ h.place)
+
+    part : st.q ≡ carousel.part
+    part = ap (λ (p : SectionPlace). p.part) (sym st.place ∙ h.place)
+
+    within : carousel.section < length table.lengths
+    within = omega (arith, section, st.section)
+
+    remade : {m : ℕ} {t : List ℕ} → carousel.moment ≡ m → carousel.bytes ≡ t → carousel ≡ made carousel m t
+    remade {m} {t} a b = ap (λ (x : ℕ). made carousel x carousel.bytes) a ∙ ap (made carousel m) b
+
+    first_place_zero : i % k ≡ 0 → (carousel.section ≡ 0) × (carousel.part ≡ 0)
+    first_place_zero z =
+        let e : record { section = carousel.section; part = carousel.part } ≡ record { section = 0; part = 0 } =
+        sym h.place ∙ ap (place_in 0 table.lengths) z ∙ place_first 0 table.lengths (has_section table.lengths some) in
+        (ap (λ (p : SectionPlace). p.section) e, ap (λ (p : SectionPlace). p.part) e)
+
+    inside : 0 < carousel.part → 0 < i % k
+    inside later = elim (cases_lt 0 (i % k)) [ inl n ↦ n | inr z ↦ absurd (omega (arith, later, (first_place_zero (omega (arith, z))).1)) ]
+
+    at_first : carousel.section ≡ 0 → carousel.part ≡ 0 → i % k ≡ 0
+    at_first a b =
+        let c : st.i ≡ 0 = omega (arith, section, a) in
+        let d : sum_by places_of (take st.i table.lengths) ≡ 0 = ap (λ (j : ℕ). sum_by places_of (take j table.lengths)) c in
+        omega (arith, st.number, d, part, b)
+
+    moment : carousel.part ≡ 0 → moment_now s carousel ≡ moment_before table (suc s)
+    moment z = elim (cases_lt 0 (i % k)) [
+      | inl n ↦
+          let e : (carousel.section == 0) ≡ false = not_zero carousel.section (elim (cases_lt 0 carousel.section) [ inl x ↦ x | inr x ↦ absurd (omega (arith, n, at_first (omega (arith, x)) z)) ]) in
+          ap (λ (b : Bool). cond b (carousel.start + s * slot_seconds_at_1bps / carousel.rate) carousel.moment) e ∙ h.moment n ∙ ap (moment_of table) (sym (round_stays table.own k s y n))
+      | inr n ↦
+          let zero_place : i % k ≡ 0 = omega (arith, n) in
+          let e : (carousel.section == 0) ≡ true = eq-eqb carousel.section 0 (first_place_zero zero_place).0 in
+          ap (λ (b : Bool). cond b (carousel.start + s * slot_seconds_at_1bps / carousel.rate) carousel.moment) e
+          ∙ ap (λ (a : ℕ). a + s * slot_seconds_at_1bps / carousel.rate) h.start ∙ ap (λ (a : ℕ). table.start + s * slot_seconds_at_1bps / a) h.rate
+          ∙ ap (moment_of table) (sym (round_at table.own k s y zero_place))
+    ]
+
+-- the slot's payload is counted
+ready : (table : Table) (s : ℕ) (carousel : Carousel) (o : Option Piece) → table.own s ≡ true → CarouselHolds table s carousel → part_at table s ≡ o
+    → Ready table s (counted (is_some o) (made carousel (moment_before table (suc s)) (table.bytes carousel.section (moment_before table (suc s)))))
+unfolding payloads_before
+ready table s carousel None y h e =
+    let more : payloads_before table (suc s) ≡ payloads_before table s + 0 =
+    ap (λ (b : Bool). payloads_before table s + cond b (one_if_some (part_at table s)) 0) y ∙ ap (λ (p : Option Piece). payloads_before table s + one_if_some p) e in
+    record { pid = h.pid; rate = h.rate; start = h.start; packets_per_section = h.packets_per_section; place = h.place; moment = refl; bytes = refl; counter = omega (arith, h.counter, more) }
+ready table s carousel (Some p) y h e =
+    let more : payloads_before table (suc s) ≡ payloads_before table s + 1 =
+    ap (λ (b : Bool). payloads_before table s + cond b (one_if_some (part_at table s)) 0) y ∙ ap (λ (p : Option Piece). payloads_before table s + one_if_some p) e in
+    record { pid = h.pid; rate = h.rate; start = h.start; packets_per_section = h.packets_per_section; place = h.place; moment = refl; bytes = refl; counter = omega (arith, h.counter, more) }
+
+-- a number and its counter modulo 256 make one packet
+same_packet : (pid number counter : ℕ) (o : Option Piece) → counter ≡ number % 256 → packet_of (part_content pid counter o) ≡ packet_of (part_content pid number o)
+unfolding part_content packet_of
+same_packet pid number counter None e = refl
+same_packet pid number counter (Some p) e = let f : counter % 16 ≡ number % 16 = omega arith in rw f refl
+
+pub own_slot : TableSlotLaw
+own_slot table s source carousel some is y h =
+    let b : begun source s carousel ≡ made carousel (moment_before table (suc s)) (table.bytes carousel.section (moment_before table (suc s))) = begun_is table s source carousel some is y h in
+    let bytes : bytes_at table s ≡ table.bytes carousel.section (moment_before table (suc s)) =
+    ap (λ (p : SectionPlace). table.bytes p.section (moment_before table (suc s))) h.place in
+    let part : part_at table s ≡ part_of (table.bytes carousel.section (moment_before table (suc s))) carousel.part =
+    ap (λ (l : List ℕ). part_of l (place_at table s).part) bytes ∙ ap (λ (p : SectionPlace). part_of (table.bytes carousel.section (moment_before table (suc s))) p.part) h.place in
+    record {
+      packet = ap (λ (t : Carousel). packet_of (part_content t.pid t.counter (part_of t.bytes t.part))) b
+          ∙ ap (λ (o : Option Piece). packet_of (part_content carousel.pid carousel.counter o)) (sym part)
+          ∙ ap (λ (p : ℕ). packet_of (part_content p carousel.counter (part_at table s))) h.pid
+          ∙ same_packet table.pid (payloads_before table s) carousel.counter (part_at table s) h.counter;
+      holds = subst (λ (t : Carousel). CarouselHolds table (suc s) (advanced (counted (is_some (part_of t.bytes t.part)) t))) (sym b)
+          (next_holds table s _ some y (ready table s carousel _ y h part));
+    }

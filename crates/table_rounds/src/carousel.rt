@@ -1,0 +1,194 @@
+//! A table from slot to slot.
+
+ghost use Rattle.std.specs.Prelude.{◌≡◌, ◌<◌, ◌≤◌, ◌^◌, ◌+◌, ◌*◌, ◌/◌, length, map, slice_index_or};
+ghost use Rattle.clock27.specs.Units.{slot_seconds_at_1bps};
+ghost use Rattle.slot_contents.specs.Contents.{packet_of};
+ghost use Rattle.table_rounds.specs.Parts.{places_of};
+ghost use Rattle.table_rounds.specs.Carousels as spec;
+
+use crate::parts::write_section_packet;
+use crate::section_source::SectionSource;
+use arrayvec::ArrayVec;
+use clock27::{Rate, SLOT_SECONDS_AT_1BPS};
+use std::marker::Model;
+
+/// A table between two of its own slots: the place that comes next, the moment of the round, and the section under way.
+#[derive(Drop)]
+pub struct TableCarousel {
+    pid: u16,
+    rate: Rate,
+    start: u32,
+    packets_per_section: ArrayVec<u16, 32>,
+    section: u8,
+    part: u16,
+    moment: u64,
+    counter: u8,
+    bytes: ArrayVec<u8, 4096>,
+}
+
+impl Model for TableCarousel {
+    ghost use Rattle.std.specs.Prelude.{◌<◌, ◌^◌};
+    ghost use Rattle.table_rounds.specs.Carousels.{Carousel};
+
+    ghost Value = { Carousel };
+
+    ghost view = { λ t. record {
+      pid = t.pid;
+      rate = t.rate;
+      start = t.start;
+      packets_per_section = t.packets_per_section.items;
+      section = t.section;
+      part = t.part;
+      moment = t.moment;
+      counter = t.counter;
+      bytes = t.bytes.items;
+    } };
+
+    ghost invariant = { λ t. t.pid < 2 ^ 13 };
+}
+
+// The packets of a section of that length.
+fn places_of(length: u16) -> u16
+    ensures { result ≡ places_of length }
+{
+    ((1 + length as u32 + 183) / 184) as u16
+}
+
+// The packets of each section of these lengths.
+fn places_of_each(lengths: &[u16]) -> ArrayVec<u16, 32>
+    requires { length lengths.now ≤ 32 }
+    ensures { result.items ≡ map places_of lengths.now }
+{
+    let mut places = ArrayVec::new();
+    for length in lengths {
+        places.push(places_of(*length));
+    }
+    places
+}
+
+// The moment at which a slot begins.
+fn moment_at(rate: Rate, start: u32, slot: u64) -> u64
+    requires { slot < 2 ^ 40 }
+    ensures { result ≡ start + slot * slot_seconds_at_1bps / rate }
+{
+    start as u64 + slot * SLOT_SECONDS_AT_1BPS / rate.bits_per_second()
+}
+
+impl TableCarousel {
+    /// A table before slot 0 of an output of this rate, which begins at the moment `start`, in seconds since
+    /// 1970-01-01T00:00:00 UTC. `lengths` has the greatest length of each section over all moments, in bytes.
+    pub fn new(pid: u16, rate: Rate, start: u32, lengths: &[u16]) -> TableCarousel
+        requires pid { pid < 2 ^ 13 }
+        requires sections { length lengths.now ≤ 32 }
+        ensures { result ≡ spec.first_carousel pid rate start lengths.now }
+    {
+        TableCarousel {
+            pid,
+            rate,
+            start,
+            packets_per_section: places_of_each(lengths),
+            section: 0,
+            part: 0,
+            moment: 0,
+            counter: 0,
+            bytes: ArrayVec::new(),
+        }
+    }
+
+    /// The packet of an own slot: a part of the section under way, or the null packet where the section is shorter than
+    /// its places.
+    pub fn next<T: SectionSource>(&mut self, source: &T, slot: u64) -> [u8; 188]
+        requires { slot < 2 ^ 40 }
+        ensures packet { result ≡ packet_of (spec.carousel_content (T.bytes source.now) slot self.old) }
+        ensures state { self.new ≡ spec.carousel_after (T.bytes source.now) slot self.old }
+    {
+        let mut packet = [0; 188];
+        self.write_next(source, slot, &mut packet);
+        packet
+    }
+
+    /// The same, written over the bytes of `packet`.
+    pub fn write_next<T: SectionSource>(&mut self, source: &T, slot: u64, packet: &mut [u8; 188])
+        requires { slot < 2 ^ 40 }
+        ensures packet { packet.new ≡ packet_of (spec.carousel_content (T.bytes source.now) slot self.old) }
+        ensures state { self.new ≡ spec.carousel_after (T.bytes source.now) slot self.old }
+    {
+        self.begin(source, slot);
+        let sent = write_section_packet(
+            packet,
+            self.pid,
+            self.counter,
+            &self.bytes,
+            self.part as usize,
+        );
+        self.count(sent);
+        self.advance();
+    }
+
+    #[tactic(auto, unfolding(crate::specs::Carousels::begun))]
+    // At the first place of a round its moment is taken, and at that of a section its bytes are made.
+    fn begin<T: SectionSource>(&mut self, source: &T, slot: u64)
+        requires { slot < 2 ^ 40 }
+        ensures { self.new ≡ spec.begun (T.bytes source.now) slot self.old }
+    {
+        if self.part == 0 {
+            self.moment = self.moment_now(slot);
+            source.write_section(self.section as usize, self.moment, &mut self.bytes);
+        }
+    }
+
+    // A round's moment is that of its first slot.
+    fn moment_now(&self, slot: u64) -> u64
+        requires { slot < 2 ^ 40 }
+        ensures { result ≡ spec.moment_now slot self.now }
+    {
+        if self.section == 0 {
+            moment_at(self.rate, self.start, slot)
+        } else {
+            self.moment
+        }
+    }
+
+    fn count(&mut self, sent: bool)
+        ensures { self.new ≡ spec.counted sent self.old }
+    {
+        if sent {
+            self.counter = self.counter.wrapping_add(1);
+        }
+    }
+
+    // The packets of the section under way.
+    fn section_packets(&self) -> u16
+        ensures { result ≡ slice_index_or self.now.packets_per_section self.now.section 0 }
+    {
+        match self.packets_per_section.get(self.section as usize) {
+            None => 0,
+            Some(packets) => *packets,
+        }
+    }
+
+    #[tactic(auto, unfolding(crate::specs::Carousels::advanced))]
+    fn advance(&mut self)
+        ensures { self.new ≡ spec.advanced self.old }
+    {
+        let next = self.part as u32 + 1;
+        if next < self.section_packets() as u32 {
+            self.part = next as u16;
+        } else {
+            self.advance_section();
+        }
+    }
+
+    #[tactic(auto, unfolding(crate::specs::Carousels::section_advanced))]
+    fn advance_section(&mut self)
+        ensures { self.new ≡ spec.section_advanced self.old }
+    {
+        let next = self.section as usize + 1;
+        self.part = 0;
+        self.section = if next < self.packets_per_section.len() {
+            next as u8
+        } else {
+            0
+        };
+    }
+}

@@ -1,0 +1,41 @@
+-- The command line is one of which `clap` says what it reads.
+use Rattle.std.proofs.Common.{◌≡◌, true, List, [], ◌∷◌, ap, refl, sym, subst, ◌∙◌, Option, None, Result, Ok, Err}
+use Rattle.std.specs.Prelude.{IfOk}
+use Rattle.clap.specs.Words.{App, FailsBy, HasMatchesOf, IsAmong, Kinds, Row, Text, fault_of, found_of, is_simple, is_simple_and_free, matches_of, rows_of}
+use Rattle.clap.specs.declared.error.Error.{Error}
+use Rattle.clap.specs.declared.error.kind.ErrorKind.{ErrorKind}
+use Rattle.clap.specs.declared.parser.matches.ArgMatches.{ArgMatches}
+use Rattle.tsjob_cli.specs.Arguments.{JobArgumentsView, arguments_of, unless_faulty}
+use Rattle.tsjob_cli.specs.CommandLine.{tsjob_app}
+
+pub simple : is_simple tsjob_app ≡ true
+unfolding tsjob_app
+simple = refl
+
+pub simple_and_free : is_simple_and_free tsjob_app ≡ true
+unfolding tsjob_app
+simple_and_free = refl
+
+pub matched : {E : Type 0} (app : App) (words : List Text) (r : Result ArgMatches E) → is_simple app ≡ true → IfOk r (HasMatchesOf app words) →
+    IfOk r (λ m. rows_of (found_of m) ≡ matches_of app words)
+matched app words (Ok m) s h = (h s).0
+matched app words (Err e) s h = tt
+
+pub faulty : {T : Type 0} (app : App) (words : List Text) (r : Result T Error) → app ≡ tsjob_app → (is_simple_and_free app ≡ true → FailsBy (fault_of app words) r) →
+    FailsBy (fault_of tsjob_app words) r
+faulty app words r e h = subst (λ (a : App). FailsBy (fault_of a words) r) e (h (subst (λ (a : App). is_simple_and_free a ≡ true) (sym e) simple_and_free))
+
+-- words without a fault, and with one
+faultless : (faults : Kinds) (arguments : Option JobArgumentsView) → faults ≡ [] → unless_faulty faults arguments ≡ arguments
+unfolding unless_faulty
+faultless faults arguments e = rw e refl
+
+pub accepted : {E : Type 0} (faults : Kinds) (rows found : List Row) (r : Result (Option JobArgumentsView) E) → rows ≡ found → faults ≡ [] → IfOk r (λ a. a ≡ arguments_of rows) →
+    IfOk r (λ a. a ≡ unless_faulty faults (arguments_of found))
+accepted faults rows found (Ok a) e f h = h ∙ ap arguments_of e ∙ sym (faultless faults (arguments_of found) f)
+accepted faults rows found (Err x) e f h = tt
+
+pub refused : (k : ErrorKind) (faults : Kinds) (arguments : Option JobArgumentsView) → IsAmong k faults → unless_faulty faults arguments ≡ None
+unfolding unless_faulty
+refused k [] arguments i = absurd i
+refused k (f ∷ faults) arguments i = refl

@@ -1,0 +1,129 @@
+-- What is written of an answer, and what the input that was read leads to.
+use Rattle.std.proofs.Common.{◌≡◌, ◌∙◌, ◌++◌, ◌/◌, ℕ, List, [], length, refl, sym, ap, subst, append-nil, Option, Some, None, Result, Ok, Err, inl, inr}
+use Rattle.pes_packet.specs.AccessUnits.{AccessUnit}
+use Rattle.description.specs.Described.{Described}
+use Rattle.slot_plan.specs.Conditions.{IsServing}
+use Rattle.slot_plan.specs.Planned.{Planned}
+use Rattle.slot_plan.specs.Text.{plan_text}
+use Rattle.stream_jobs.specs.Answers.{Answers, Refuses}
+use Rattle.stream_jobs.specs.Jobs.{AreUnits, IsJob}
+use Rattle.stream_jobs.specs.JobInput.{JobInputView, job_input}
+use Rattle.stream_jobs.specs.WhyNoJob.{IsWhyNoDescription, IsWhyNoReasons}
+use Rattle.stream_jobs.specs.JobOptions.{JobOptionsView}
+use Rattle.stream_jobs.specs.declared.refusal.JobError.{JobError}
+use Rattle.stream_jobs.specs.declared.refusal.JobError.TheVariants.{Memory, Refused}
+use Rattle.stream_jobs.specs.declared.refusal.JobRefusal.{JobRefusal}
+use Rattle.demux.specs.Views.{FindingView}
+use Rattle.demux.specs.Stream.{StreamState}
+use Rattle.devices.specs.Devices.{Device, IsUntouched, Port}
+use Rattle.devices.specs.Outcomes.{halt_line, Outcome}
+use Rattle.devices.specs.Lines.{Reports}
+use Rattle.devices.specs.Runs.{Performs}
+use Rattle.devices.specs.WholeInput.{ReadsInput}
+use Rattle.devices.specs.declared.halt.Halt.TheVariants as halt
+use Rattle.devices.proofs.Performances.{no_room, performed, unwritten}
+use Rattle.tsjob_cli.specs.declared.arguments.Subcommand.{Subcommand}
+use Rattle.tsjob_cli.specs.declared.arguments.Subcommand.TheVariants.{Whole, Describe, Units, Why}
+use Rattle.tsjob_cli.specs.Arguments.{JobArgumentsView}
+use Rattle.tsjob_cli.specs.Outcomes.{FindingsLead, GivesJob, IsWritten, Leads, InputLeads, ReportsWhy, Withholds}
+use Rattle.tsjob_cli.specs.Records.{written}
+use Rattle.tsjob_cli.specs.Streams.{TakesWhole, findings_of}
+
+-- 1. What a subcommand gives
+
+-- a text without a plan and without units
+pub text_alone : (text plan : List ℕ) (units : List (ℕ × AccessUnit)) → plan ≡ [] → units ≡ [] → written text plan units ≡ text
+text_alone text plan units p u =
+    ap (λ (x : List ℕ). written text x units) p ∙ (ap (λ (x : List (ℕ × AccessUnit)). written text [] x) u ∙ (append-nil (text ++ []) ∙ append-nil text))
+
+pub given_job : (w : JobOptionsView) (findings : List FindingView) (m : JobInputView) (text plan : List ℕ) (d : Described) (p q : Planned) (units : List (ℕ × AccessUnit)) →
+    IsJob w findings m d text units → AreUnits w.make_dts findings d units → IsServing d p → plan ≡ plan_text q → q ≡ p →
+    GivesJob w findings m (written text plan units)
+given_job w findings m text plan d p q units j u s e f = record {
+  description = d;
+  text = text;
+  plan = p;
+  units = units;
+  job = j;
+  found = u;
+  serving = s;
+  is = ap (λ (x : List ℕ). written text x units) (e ∙ ap plan_text f);
+}
+
+-- 2. What a job input leads to
+
+undescribed : (rate : Option ℕ) (w : JobOptionsView) (findings : List FindingView) (m : JobInputView) → IsWhyNoDescription rate w findings m Memory
+undescribed (Some arguments) w findings m = refl
+undescribed None w findings m = tt
+
+unreasoned : (rate : Option ℕ) (w : JobOptionsView) (findings : List FindingView) (m : JobInputView) → IsWhyNoReasons rate w findings m Memory
+unreasoned (Some arguments) w findings m = tt
+unreasoned None w findings m = tt
+
+-- there is no memory for what a subcommand gives
+pub no_memory : (subcommand : Subcommand) (w : JobOptionsView) (findings : List FindingView) (m : JobInputView) (error : JobError) → error ≡ Memory → Withholds subcommand w findings m error
+no_memory Whole w findings m error e = subst (λ (x : JobError). Withholds Whole w findings m x) (sym e) tt
+no_memory Describe w findings m error e = subst (λ (x : JobError). Withholds Describe w findings m x) (sym e) (undescribed w.rate w findings m)
+no_memory Units w findings m error e = e
+no_memory Why w findings m error e = subst (λ (x : JobError). Withholds Why w findings m x) (sym e) (unreasoned w.rate w findings m)
+
+pub withheld : (arguments : JobArgumentsView) (findings : List FindingView) (m : JobInputView) (error : JobError) (o : Outcome) →
+    Withholds arguments.subcommand arguments.options findings m error → ReportsWhy error o → InputLeads arguments findings (Ok m) o
+withheld arguments findings m Memory o h t = absurd t
+withheld arguments findings m (Refused refusal) o h t = inr (record { refusal = refusal; holds = h; is = t })
+
+-- there is a job input
+answered : (r : Result JobInputView JobRefusal) (m : JobInputView) → Answers r (Ok m) → r ≡ Ok m
+unfolding Answers
+answered r m a = a
+
+pub with_input : (arguments : JobArgumentsView) (count : ℕ) (findings : List FindingView) (m : JobInputView) (o : Outcome) →
+    Answers (job_input arguments.options count findings) (Ok m) → InputLeads arguments findings (Ok m) o → FindingsLead arguments count findings o
+with_input arguments count findings m o a l =
+    subst (λ (r : Result JobInputView JobRefusal). InputLeads arguments findings r o) (sym (answered (job_input arguments.options count findings) m a)) l
+
+-- there is none
+refused : (arguments : JobArgumentsView) (findings : List FindingView) (r : Result JobInputView JobRefusal) (error : JobError) (o : Outcome) →
+    Answers r (Err error) → ReportsWhy error o → InputLeads arguments findings r o
+unfolding Answers Refuses
+refused arguments findings r Memory o a t = absurd t
+refused arguments findings r (Refused refusal) o a t = subst (λ (r : Result JobInputView JobRefusal). InputLeads arguments findings r o) (sym a) t
+
+pub without_input : (arguments : JobArgumentsView) (count : ℕ) (findings : List FindingView) (error : JobError) (o : Outcome) →
+    Answers (job_input arguments.options count findings) (Err error) → ReportsWhy error o → FindingsLead arguments count findings o
+without_input arguments count findings error o a t = refused arguments findings (job_input arguments.options count findings) error o a t
+
+-- 3. What was read leads to it
+
+leads_to : (arguments : JobArgumentsView) (bytes : List ℕ) (size : ℕ) (findings : List FindingView) (demux : StreamState) (o : Outcome) → size ≡ length bytes → findings ≡ demux.found →
+    demux.found ≡ findings_of bytes → FindingsLead arguments (size / 188) findings o → Leads arguments bytes o
+leads_to arguments bytes size findings demux o s f d l =
+    subst (λ (x : List FindingView). FindingsLead arguments (length bytes / 188) x o) (f ∙ d)
+    (subst (λ (x : ℕ). FindingsLead arguments (x / 188) findings o) s l)
+
+led : (arguments : JobArgumentsView) (bytes : List ℕ) (o : Outcome) (input output faults : Device) (status : ℕ) → ReadsInput input (Ok bytes) → Leads arguments bytes o →
+    IsWritten o output faults status → Performs (Leads arguments) input output faults status
+led arguments bytes o input output faults status r l (inl w) = performed (Leads arguments) bytes o input output faults status r l w.0 w.1 w.2 w.3
+led arguments bytes o input output faults status r l (inr w) = unwritten (Leads arguments) bytes o input output faults status r l w.0 w.1 w.2 w.3
+
+pub outcome_written : (arguments : JobArgumentsView) (size : ℕ) (findings : List FindingView) (demux : StreamState) (o : Outcome) (input output faults : Device) (status : ℕ) →
+    TakesWhole input demux size → findings ≡ demux.found → FindingsLead arguments (size / 188) findings o → IsWritten o output faults status →
+    Performs (Leads arguments) input output faults status
+outcome_written arguments size findings demux o input output faults status t f l w =
+    led arguments t.bytes o input output faults status t.read (leads_to arguments t.bytes size findings demux o t.size_is f t.found l) w
+
+pub no_memory_left : (arguments : JobArgumentsView) (size : ℕ) (demux : StreamState) (input output faults : Device) (status : ℕ) →
+    TakesWhole input demux size → IsUntouched output → Reports faults (halt_line halt.Memory) → status ≡ 3 → Performs (Leads arguments) input output faults status
+no_memory_left arguments size demux input output faults status t u m s = no_room (Leads arguments) t.bytes input output faults status t.read u m s
+
+-- 4. What the words lead to
+
+pub job_for_arguments : (x : Option JobArgumentsView) (a b : JobArgumentsView) (input output faults : Device) (status : ℕ) → Some a ≡ x → x ≡ Some b →
+    Performs (Leads a) input output faults status → Performs (Leads b) input output faults status
+job_for_arguments x a b input output faults status e f p =
+    let same : a ≡ b = (let both : Some a ≡ Some b = e ∙ f in cc) in subst (λ (y : JobArgumentsView). Performs (Leads y) input output faults status) same p
+
+pub no_memory_for_words : (Leads : List ℕ → Outcome → Type 0) (input output faults : Device) (status : ℕ) → IsUntouched input → IsUntouched output →
+    Reports faults (halt_line halt.Memory) → status ≡ 3 → Performs Leads input output faults status
+no_memory_for_words Leads input output faults status i o t s =
+    inr (inr (inl (record { clean = ap (λ (p : Port). p.failed) i; unwritten = o; reports = t; status_is = s })))

@@ -1,0 +1,11 @@
+use Rattle.std.proofs.Common.{append_assoc}
+use Rattle.tsjob_cli.specs.WarningLines.{warning_line}
+use Rattle.tsjob_cli.proofs.warning_lines.write_warning.Goals as goal
+
+pub returns-in-NoUnit : goal.returns-in-NoUnit
+unfolding warning_line
+returns-in-NoUnit c = rw c.in-NoUnit.is (simp append_assoc c.write-in-NoUnit.ensures.bytes)
+
+pub returns-in-MapMoved : goal.returns-in-MapMoved
+unfolding warning_line
+returns-in-MapMoved c = rw c.in-MapMoved.is (simp append_assoc c.write-in-MapMoved.ensures.bytes)

@@ -1,0 +1,83 @@
+-- What the command line asks for.
+use Rattle.std.specs.Prelude.{ℕ, ◌==◌, ◌||◌, Bool, List, [], ◌∷◌, Option, Some, None, if◌then◌else◌, codes, map}
+use Rattle.std.specs.Borrow.{Bor}
+use Rattle.std.specs.Char.{is_ascii_digit}
+use Rattle.std.specs.List.{list_all}
+use Rattle.std.specs.Str.{bytes_eq}
+use Rattle.clap.specs.Words.{Kinds, Row, Text, fault_of, first_of, matches_of}
+use Rattle.stream_jobs.specs.JobOptions.{JobOptionsView}
+use Rattle.stream_jobs.specs.declared.job_options.PidBuffers.{PidBuffers}
+use Rattle.devices.specs.Options.{is_given, number_if_given, number_option}
+use Rattle.tsjob_cli.specs.declared.arguments.Subcommand.{Subcommand}
+use Rattle.tsjob_cli.specs.declared.arguments.Subcommand.TheVariants.{Whole, Describe, Units, Why}
+use Rattle.tsjob_cli.specs.CommandLine.{tsjob_app}
+use Rattle.tsjob_cli.specs.Lists.{buffer_list, given, number_list}
+
+-- 1. One value each
+
+-- without a subcommand, the whole job
+unfoldable pub subcommand_of : Option Text → Option Subcommand
+subcommand_of None = Some Whole
+subcommand_of (Some text) =
+    if bytes_eq text (codes "describe") then Some Describe
+    else (if bytes_eq text (codes "units") then Some Units
+    else (if bytes_eq text (codes "why") then Some Why else None))
+
+-- digits, `-`, `:` and `T`
+abbrev pub is_of_time : ℕ → Bool
+is_of_time byte = is_ascii_digit byte || byte == 45 || byte == 58 || byte == 84
+
+-- the moment of the first slot, as it is given
+unfoldable pub start_of : Option Text → Option Text
+start_of None = Some (codes "2000-01-01T00:00:00")
+start_of (Some text) = if list_all is_of_time text then Some text else None
+
+-- 2. All of them
+
+-- what is written, and the options of the job
+pub record JobArgumentsView : Type 0 where
+  pub subcommand : Subcommand
+  pub options : JobOptionsView
+
+-- with empty lists
+abbrev pub plain : Subcommand → Option ℕ → Text → ℕ → ℕ → Bool → JobArgumentsView
+plain subcommand rate start pcr_limit lead make_dts = record {
+  subcommand = subcommand;
+  options = record { rate = rate; start = start; pcr_limit = pcr_limit; lead = lead; make_dts = make_dts; programs = []; without = []; buffers = [] };
+}
+
+-- the options that are one value each: a rate in bits a second, a limit in milliseconds, a lead in units of 90 kHz
+unfoldable pub values_of : List Row → Option JobArgumentsView
+values_of rows =
+    given (subcommand_of (first_of (codes "subcommand") rows)) (λ subcommand.
+    given (number_if_given 100000 100000000 (first_of (codes "rate") rows)) (λ rate.
+    given (start_of (first_of (codes "start") rows)) (λ start.
+    given (number_option 1 100 40 (first_of (codes "pcr") rows)) (λ pcr_limit.
+    given (number_option 1 90000 90000 (first_of (codes "lead") rows)) (λ lead.
+    Some (plain subcommand rate start pcr_limit lead (is_given (first_of (codes "make-dts") rows))))))))
+
+-- with lists
+abbrev pub with_lists : List ℕ → List ℕ → List PidBuffers → JobArgumentsView → JobArgumentsView
+with_lists programs without buffers arguments = record arguments { options = record arguments.options { programs = programs; without = without; buffers = buffers } }
+
+unfoldable pub arguments_of : List Row → Option JobArgumentsView
+arguments_of rows =
+    given (values_of rows) (λ values.
+    given (number_list 65535 (first_of (codes "program") rows)) (λ programs.
+    given (number_list 8191 (first_of (codes "without") rows)) (λ without.
+    given (buffer_list (first_of (codes "buffers") rows)) (λ buffers.
+    Some (with_lists programs without buffers values)))))
+
+-- 3. From words
+
+unfoldable pub unless_faulty : Kinds → Option JobArgumentsView → Option JobArgumentsView
+unless_faulty [] arguments = arguments
+unless_faulty (k ∷ ks) arguments = None
+
+-- what the words ask for, none where they are a usage error
+abbrev pub arguments_in : List Text → Option JobArgumentsView
+arguments_in words = unless_faulty (fault_of tsjob_app words) (arguments_of (matches_of tsjob_app words))
+
+-- the same of words in memory
+abbrev pub arguments : List (Bor (List ℕ)) → Option JobArgumentsView
+arguments words = arguments_in (map (λ s. s.now) words)

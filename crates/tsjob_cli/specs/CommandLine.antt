@@ -1,0 +1,19 @@
+-- The command line as it is declared to `clap`: a subcommand, and options.
+use Rattle.std.specs.Prelude.{true, codes}
+use Rattle.clap.specs.Words.{App, new_app, new_rule, with_rule}
+use Rattle.devices.specs.Options.{flag_rule, option_rule}
+
+abbrev pub top_app : App
+top_app = record (new_app (codes "tsjob")) { top = record (new_app (codes "tsjob")).top { no_binary_name = true } }
+
+-- [SUBCOMMAND] [--rate R] [--start TIME]
+abbrev pub rate_app : App
+rate_app = with_rule (with_rule (with_rule top_app (new_rule (codes "subcommand"))) (option_rule (codes "rate"))) (option_rule (codes "start"))
+
+-- and [--pcr MS] [--lead T] [--make-dts]
+abbrev pub times_app : App
+times_app = with_rule (with_rule (with_rule rate_app (option_rule (codes "pcr"))) (option_rule (codes "lead"))) (flag_rule (codes "make-dts"))
+
+-- and [--program N,..] [--without PID,..] [--buffers PID:RX:MAIN,..]
+unfoldable pub tsjob_app : App
+tsjob_app = with_rule (with_rule (with_rule times_app (option_rule (codes "program"))) (option_rule (codes "without"))) (option_rule (codes "buffers"))

@@ -1,0 +1,9 @@
+pub mod CommandLine
+pub mod Lists
+pub mod Arguments
+pub mod WarningLines
+pub mod RefusalLine
+pub mod ReasonLines
+pub mod Streams
+pub mod Records
+pub mod Outcomes

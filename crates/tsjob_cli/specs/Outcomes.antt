@@ -1,0 +1,110 @@
+-- The outcome for a transport stream.
+use Rattle.std.specs.Prelude.{◌≡◌, ◌⊎◌, ℕ, ◌/◌, List, length, map, if◌then◌else◌, Result, Ok, Err}
+use Rattle.pes_packet.specs.AccessUnits.{AccessUnit}
+use Rattle.demux.specs.Views.{FindingView}
+use Rattle.description.specs.Described.{Described}
+use Rattle.plan_search.specs.declared.reason.Reason.{Reason}
+use Rattle.slot_plan.specs.Conditions.{IsServing}
+use Rattle.slot_plan.specs.Planned.{Planned}
+use Rattle.slot_plan.specs.Text.{plan_text}
+use Rattle.unit_order.specs.Merging.{AreMerged}
+use Rattle.stream_jobs.specs.Jobs.{AreReasons, AreUnits, IsDescription, IsJob}
+use Rattle.stream_jobs.specs.JobInput.{JobInputView, job_input}
+use Rattle.stream_jobs.specs.Warnings.{are_damaged}
+use Rattle.stream_jobs.specs.WhyNoJob.{IsWhyNoDescription, IsWhyNoJob, IsWhyNoReasons}
+use Rattle.stream_jobs.specs.JobOptions.{JobOptionsView}
+use Rattle.stream_jobs.specs.declared.refusal.JobError.{JobError}
+use Rattle.stream_jobs.specs.declared.refusal.JobError.TheVariants.{Memory, Refused}
+use Rattle.stream_jobs.specs.declared.refusal.JobRefusal.{JobRefusal}
+use Rattle.devices.specs.Devices.{Device, HasFailed, IsClean, Takes}
+use Rattle.devices.specs.Outcomes.{halt_line, Outcome, reported}
+use Rattle.devices.specs.Lines.{Reports, Stopped}
+use Rattle.devices.specs.declared.halt.Halt.TheVariants.{Write}
+use Rattle.tsjob_cli.specs.declared.arguments.Subcommand.{Subcommand}
+use Rattle.tsjob_cli.specs.declared.arguments.Subcommand.TheVariants.{Whole, Describe, Units, Why}
+use Rattle.tsjob_cli.specs.Arguments.{JobArgumentsView}
+use Rattle.tsjob_cli.specs.ReasonLines.{reason_lines}
+use Rattle.tsjob_cli.specs.Records.{records_of, written}
+use Rattle.tsjob_cli.specs.RefusalLine.{refusal_line}
+use Rattle.tsjob_cli.specs.Streams.{findings_of}
+use Rattle.tsjob_cli.specs.WarningLines.{warning_lines}
+
+-- 1. What is written
+
+-- a job: the text of its description, that of a plan that serves it, and the records of its units, which are the units of
+-- the stream, with their DTS or with DTS made from the PTS
+pub record GivesJob (w : JobOptionsView) (findings : List FindingView) (m : JobInputView) (output : List ℕ) : Type 0 where
+  pub description : Described
+  pub text : List ℕ
+  pub plan : Planned
+  pub units : List (ℕ × AccessUnit)
+  pub job : IsJob w findings m description text units
+  pub found : AreUnits w.make_dts findings description units
+  pub serving : IsServing description plan
+  pub is : output ≡ written text (plan_text plan) units
+
+-- the records of the units of all streams by their DTS
+pub record GivesUnits (m : JobInputView) (output : List ℕ) : Type 0 where
+  pub units : List (ℕ × AccessUnit)
+  pub merged : AreMerged (map (λ s. s.units) m.streams) units
+  pub is : output ≡ records_of units
+
+-- a line for each reason why no plan serves
+pub record GivesReasons (w : JobOptionsView) (findings : List FindingView) (m : JobInputView) (output : List ℕ) : Type 0 where
+  pub reasons : List Reason
+  pub are : AreReasons w findings m reasons
+  pub is : output ≡ reason_lines reasons
+
+-- the output of a subcommand
+abbrev pub Gives : Subcommand → JobOptionsView → List FindingView → JobInputView → List ℕ → Type 0
+Gives Whole w findings m output = GivesJob w findings m output
+Gives Describe w findings m output = IsDescription w findings m output
+Gives Units w findings m output = GivesUnits m output
+Gives Why w findings m output = GivesReasons w findings m output
+
+-- why a subcommand has no output; for units, only out of memory
+abbrev pub Withholds : Subcommand → JobOptionsView → List FindingView → JobInputView → JobError → Type 0
+Withholds Whole w findings m error = IsWhyNoJob w findings m error
+Withholds Describe w findings m error = IsWhyNoDescription w.rate w findings m error
+Withholds Units w findings m error = error ≡ Memory
+Withholds Why w findings m error = IsWhyNoReasons w.rate w findings m error
+
+-- 2. The outcome for a stream
+
+-- the output, a line for each warning, and the status 1 where a warning is of damage
+pub record IsGiven (arguments : JobArgumentsView) (findings : List FindingView) (m : JobInputView) (o : Outcome) : Type 0 where
+  pub gives : Gives arguments.subcommand arguments.options findings m o.output
+  pub report_is : o.report ≡ warning_lines m.warnings
+  pub status_is : o.status ≡ (if are_damaged m.warnings then 1 else 0)
+
+-- nothing is written but the line of the refusal, and the status is 1
+pub record IsRefused (arguments : JobArgumentsView) (findings : List FindingView) (m : JobInputView) (o : Outcome) : Type 0 where
+  pub refusal : JobRefusal
+  pub holds : Withholds arguments.subcommand arguments.options findings m (Refused refusal)
+  pub is : o ≡ reported (refusal_line refusal)
+
+-- for the job input of a stream, or for a stream that is refused
+abbrev pub InputLeads : JobArgumentsView → List FindingView → Result JobInputView JobRefusal → Outcome → Type 0
+InputLeads arguments findings (Ok m) o = IsGiven arguments findings m o ⊎ IsRefused arguments findings m o
+InputLeads arguments findings (Err refusal) o = o ≡ reported (refusal_line refusal)
+
+-- for the findings in a stream of `count` whole packets
+abbrev pub FindingsLead : JobArgumentsView → ℕ → List FindingView → Outcome → Type 0
+FindingsLead arguments count findings o = InputLeads arguments findings (job_input arguments.options count findings) o
+
+-- for the bytes of a stream
+abbrev pub Leads : JobArgumentsView → List ℕ → Outcome → Type 0
+Leads arguments bytes o = FindingsLead arguments (length bytes / 188) (findings_of bytes) o
+
+-- the line of the refusal, unless the error is out of memory
+abbrev pub ReportsWhy : JobError → Outcome → Type 0
+ReportsWhy Memory o = ⊥
+ReportsWhy (Refused refusal) o = o ≡ reported (refusal_line refusal)
+
+-- 3. How it is written
+
+-- whole, and then the report; or the writer failed, and that is reported
+abbrev pub IsWritten : Outcome → Device → Device → ℕ → Type 0
+IsWritten o output faults status =
+    (Takes output o.output × IsClean output × Reports faults o.report × (status ≡ o.status))
+    ⊎ (Stopped o.output output × HasFailed output × Reports faults (halt_line Write) × (status ≡ 3))

@@ -1,0 +1,17 @@
+-- The lines for the reasons why no plan serves a description.
+use Rattle.std.specs.Prelude.{ℕ, List, ◌++◌, Some, None, codes, decimal}
+use Rattle.std.specs.List.{flat_map}
+use Rattle.plan_search.specs.declared.reason.Reason.{Reason}
+use Rattle.plan_search.specs.declared.reason.Reason.TheVariants.{PcrLimit, TableLimit, SlowDrain, ShortLead, SmallMain, Overload}
+
+unfoldable pub reason_line : Reason → List ℕ
+reason_line (PcrLimit program least) = codes "program " ++ decimal program ++ codes " pcr_limit is less than " ++ decimal least ++ codes "\n"
+reason_line (TableLimit table least) = codes "table " ++ decimal table ++ codes " limit is less than " ++ decimal least ++ codes "\n"
+reason_line (SlowDrain stream least) = codes "stream " ++ decimal stream ++ codes " rx is less than " ++ decimal least ++ codes "\n"
+reason_line (ShortLead stream least) = codes "stream " ++ decimal stream ++ codes " lead is less than " ++ decimal least ++ codes "\n"
+reason_line (SmallMain stream least) = codes "stream " ++ decimal stream ++ codes " main is less than " ++ decimal least ++ codes "\n"
+reason_line (Overload (Some least)) = codes "rate is less than " ++ decimal least ++ codes "\n"
+reason_line (Overload None) = codes "no rate is enough\n"
+
+abbrev pub reason_lines : List Reason → List ℕ
+reason_lines reasons = flat_map reason_line reasons

@@ -1,0 +1,77 @@
+-- The lines of warnings: what of a stream is left out or changed.
+use Rattle.std.specs.Prelude.{ℕ, ◌==◌, Bool, true, false, List, [], ◌∷◌, ◌++◌, Option, Some, None, if◌then◌else◌, codes, decimal}
+use Rattle.stream_programs.specs.declared.omission.TableOmission.{TableOmission}
+use Rattle.stream_programs.specs.declared.omission.TableOmission.TheVariants as table
+use Rattle.stream_units.specs.declared.unit_warning.UnitWarning.{UnitWarning}
+use Rattle.stream_units.specs.declared.unit_warning.UnitWarningCause.{UnitWarningCause}
+use Rattle.stream_units.specs.declared.unit_warning.UnitWarningCause.TheVariants as unit
+use Rattle.stream_jobs.specs.declared.warning.Warning.{Warning}
+use Rattle.stream_jobs.specs.declared.warning.Warning.TheVariants as warning
+
+-- 1. A line each
+
+-- what is left out of the tables
+unfoldable pub table_line : TableOmission → List ℕ
+table_line (table.NoMap program) = codes "program " ++ decimal program ++ codes " has no PMT: left out\n"
+table_line (table.ConditionalAccess program) = codes "CA descriptors of program " ++ decimal program ++ codes " left out\n"
+table_line (table.NoPes program pid stream_type) = codes "pid " ++ decimal pid ++ codes " of program " ++ decimal program ++ codes " stream_type " ++ decimal stream_type ++ codes " has no PES: left out\n"
+table_line (table.Reserved program pid) = codes "pid " ++ decimal pid ++ codes " of program " ++ decimal program ++ codes " is none of a stream: left out\n"
+table_line (table.Taken program pid holder) = codes "pid " ++ decimal pid ++ codes " of program " ++ decimal program ++ codes " stands in program " ++ decimal holder ++ codes " already: left out\n"
+table_line (table.NoStream program) = codes "program " ++ decimal program ++ codes " has no stream: left out\n"
+
+-- why a finding on a PID is in no unit
+unfoldable pub reason_text : UnitWarningCause → List ℕ
+reason_text (unit.Counter expected found) = codes "counter " ++ decimal found ++ codes " in place of " ++ decimal expected ++ codes "\n"
+reason_text unit.Scrambled = codes "scrambled\n"
+reason_text (unit.Truncated size) = codes "truncated " ++ decimal size ++ codes "\n"
+reason_text (unit.TruncatedByEnd size) = codes "truncated " ++ decimal size ++ codes " by the end\n"
+reason_text unit.Section = codes "section\n"
+reason_text (unit.BadSection error) = codes "bad-section\n"
+reason_text (unit.BadPes error) = codes "bad-pes\n"
+reason_text (unit.NoUnitBefore size) = codes "no stamp and no unit before: " ++ decimal size ++ codes " bytes left out\n"
+reason_text unit.EmptyUnit = codes "unit without bytes left out\n"
+reason_text unit.OpenEnded = codes "last PES packet has neither length nor end: taken\n"
+
+-- a finding on a PID
+abbrev pub unit_line : ℕ → UnitWarning → List ℕ
+unit_line pid left_out = codes "packet " ++ decimal left_out.packet ++ codes " pid " ++ decimal pid ++ codes " " ++ reason_text left_out.cause
+
+unfoldable pub warning_line : Warning → List ℕ
+warning_line (warning.BadPacket packet) = codes "packet " ++ decimal packet ++ codes " bad-packet\n"
+warning_line (warning.Errored packet) = codes "packet " ++ decimal packet ++ codes " errored\n"
+warning_line (warning.TrailingBytes size) = codes "rest of " ++ decimal size ++ codes " bytes\n"
+warning_line (warning.AssociationChanges packet) = codes "packet " ++ decimal packet ++ codes " PAT changes: the first one stands\n"
+warning_line (warning.MapChanges program packet) = codes "packet " ++ decimal packet ++ codes " PMT of program " ++ decimal program ++ codes " names other streams: the last one stands\n"
+warning_line (warning.Table left_out) = table_line left_out
+warning_line (warning.Units pid left_out) = unit_line pid left_out
+warning_line (warning.NoUnit program pid) = codes "pid " ++ decimal pid ++ codes " of program " ++ decimal program ++ codes " has no unit: left out\n"
+warning_line (warning.NoStream program) = codes "program " ++ decimal program ++ codes " has no stream with units: left out\n"
+warning_line (warning.MapMoved program from to) = codes "PMT of program " ++ decimal program ++ codes " moved from pid " ++ decimal from ++ codes " to " ++ decimal to ++ codes "\n"
+
+-- 2. All of them
+
+abbrev pub is_scrambled : UnitWarningCause → Bool
+is_scrambled unit.Scrambled = true
+is_scrambled _ = false
+
+-- the PID of a scrambled packet
+abbrev pub scrambled_pid : Warning → Option ℕ
+scrambled_pid (warning.Units pid left_out) = if is_scrambled left_out.cause then Some pid else None
+scrambled_pid _ = None
+
+-- a scrambled packet with the same PID as the one in the warning before
+abbrev pub goes_on : Option ℕ → Option ℕ → Bool
+goes_on None now = false
+goes_on (Some pid) None = false
+goes_on (Some pid) (Some now) = pid == now
+
+abbrev pub line_after : Option ℕ → Warning → List ℕ
+line_after before w = if goes_on before (scrambled_pid w) then [] else warning_line w
+
+-- a line each, and one for each run of scrambled packets of a PID
+unfoldable pub lines_after : Option ℕ → List Warning → List ℕ
+lines_after before [] = []
+lines_after before (w ∷ warnings) = line_after before w ++ lines_after (scrambled_pid w) warnings
+
+abbrev pub warning_lines : List Warning → List ℕ
+warning_lines warnings = lines_after None warnings

@@ -1,0 +1,198 @@
+//! What the command line asks for.
+
+ghost use Rattle.std.specs.Prelude.{◌≡◌, IfOk, option_map};
+ghost use Rattle.std.specs.List.{list_all};
+ghost use Rattle.clap.specs.Words.{found_of, rows_of};
+ghost use Rattle.tsjob_cli.specs.Arguments as spec;
+
+use crate::command_line::matches_for;
+use crate::lists::{buffer_list, number_list};
+use clap::ArgMatches;
+use clap::error::ErrorKind;
+use devices::{is_given, number_if_given, number_option, text_of};
+use std::alloc::{AllocError, Global};
+use std::marker::Model;
+use stream_jobs::{JobOptions, PidBuffers};
+
+/// The moment of the first slot without `--start`.
+const DEFAULT_START: &str = "2000-01-01T00:00:00";
+
+/// What is written to the output.
+#[derive(Clone, Copy, Debug, PartialEq, Eq)]
+pub enum Subcommand {
+    /// The whole job.
+    Whole,
+    /// Its description.
+    Describe,
+    /// Its unit records.
+    Units,
+    /// Why no plan serves its description.
+    Why,
+}
+
+/// The subcommand and the options of a command line.
+#[derive(Drop)]
+pub struct JobArguments<'a> {
+    pub subcommand: Subcommand,
+    /// The rate in bits a second, 100,000 to 100,000,000; none: the least rate at which a plan is found.
+    pub rate: Option<u64>,
+    /// The moment of the first slot.
+    pub start: &'a str,
+    /// The greatest time between two clock references, 1 to 100 ms.
+    pub pcr_limit: u8,
+    /// The longest time from a unit's arrival to its decoding, 1 to 90,000 units of 90 kHz.
+    pub lead: u32,
+    /// Whether DTS are made from PTS.
+    pub make_dts: bool,
+    /// The programs that are taken; none: all.
+    pub programs: Vec<u16>,
+    /// The PIDs that are left out.
+    pub without: Vec<u16>,
+    /// Buffers in place of those by coding and level.
+    pub buffers: Vec<PidBuffers>,
+}
+
+// A contract sees its lists and its text.
+impl<'a> Model for JobArguments<'a> {
+    ghost use Rattle.tsjob_cli.specs.Arguments.{JobArgumentsView};
+
+    ghost Value = { JobArgumentsView };
+
+    ghost view = { λ a. record {
+      subcommand = a.subcommand;
+      options = record {
+        rate = a.rate;
+        start = a.start.now;
+        pcr_limit = a.pcr_limit;
+        lead = a.lead;
+        make_dts = a.make_dts;
+        programs = a.programs.items;
+        without = a.without.items;
+        buffers = a.buffers.items;
+      };
+    } };
+}
+
+impl JobArguments<'_> {
+    /// The options of the job.
+    pub fn options(&self) -> JobOptions<'_>
+        ensures { result ≡ self.now.options }
+    {
+        JobOptions {
+            rate: self.rate,
+            start: self.start,
+            pcr_limit: self.pcr_limit,
+            lead: self.lead,
+            make_dts: self.make_dts,
+            programs: &self.programs,
+            without: &self.without,
+            buffers: &self.buffers,
+        }
+    }
+}
+
+// The subcommand of this name; without a name, the whole job.
+#[tactic(auto, unfolding(crate::specs::Arguments::subcommand_of))]
+fn subcommand_of(text: Option<&str>) -> Option<Subcommand>
+    ensures { result ≡ spec.subcommand_of (option_map (λ s. s.now) text.entry) }
+{
+    match text {
+        None => Some(Subcommand::Whole),
+        Some("describe") => Some(Subcommand::Describe),
+        Some("units") => Some(Subcommand::Units),
+        Some("why") => Some(Subcommand::Why),
+        Some(_) => None,
+    }
+}
+
+// Whether a byte may stand in a moment.
+fn is_of_time(byte: u8) -> bool
+    ensures { result ≡ spec.is_of_time byte }
+{
+    byte.is_ascii_digit() || byte == b'-' || byte == b':' || byte == b'T'
+}
+
+// Whether each byte of a text may stand in a moment.
+fn is_moment(text: &str) -> bool
+    ensures { result ≡ list_all spec.is_of_time text.now }
+{
+    text.bytes().all(|byte| is_of_time(byte))
+}
+
+// The moment of the first slot, as it is given; none where a character can't stand in a moment.
+#[tactic(auto, unfolding(crate::specs::Arguments::start_of))]
+fn start_of<'a>(text: Option<&'a str>) -> Option<&'a str>
+    ensures { option_map (λ s. s.now) result ≡ spec.start_of (option_map (λ s. s.now) text.entry) }
+{
+    let Some(text) = text else {
+        return Some(DEFAULT_START);
+    };
+    if is_moment(text) { Some(text) } else { None }
+}
+
+// The options with one value each.
+#[tactic(auto, unfolding(crate::specs::Arguments::values_of))]
+fn values_of<'a>(alloc: Global, matches: &ArgMatches<'a>) -> Option<JobArguments<'a>>
+    ensures { result ≡ spec.values_of (rows_of (found_of matches.now)) }
+{
+    let subcommand = subcommand_of(text_of(matches, "subcommand"))?;
+    let rate = number_if_given(text_of(matches, "rate"), 100_000, 100_000_000)?;
+    let start = start_of(text_of(matches, "start"))?;
+    let pcr_limit = number_option(text_of(matches, "pcr"), 1, 100, 40)?;
+    let lead = number_option(text_of(matches, "lead"), 1, 90_000, 90_000)?;
+    Some(JobArguments {
+        subcommand,
+        rate,
+        start,
+        pcr_limit: pcr_limit as u8,
+        lead: lead as u32,
+        make_dts: is_given(text_of(matches, "make-dts")),
+        programs: Vec::new(alloc),
+        without: Vec::new(alloc),
+        buffers: Vec::new(alloc),
+    })
+}
+
+// With the options that are lists.
+#[tactic(auto, unfolding(crate::specs::Arguments::arguments_of))]
+fn arguments_of<'a>(
+    alloc: Global,
+    matches: &ArgMatches<'a>,
+) -> Result<Option<JobArguments<'a>>, AllocError>
+    ensures { IfOk result (λ r. r ≡ spec.arguments_of (rows_of (found_of matches.now))) }
+{
+    let Some(values) = values_of(alloc, matches) else {
+        return Ok(None);
+    };
+    let Some(programs) = number_list(alloc, 65_535, text_of(matches, "program"))? else {
+        return Ok(None);
+    };
+    let Some(without) = number_list(alloc, 8_191, text_of(matches, "without"))? else {
+        return Ok(None);
+    };
+    let Some(buffers) = buffer_list(alloc, text_of(matches, "buffers"))? else {
+        return Ok(None);
+    };
+    Ok(Some(JobArguments {
+        programs,
+        without,
+        buffers,
+        ..values
+    }))
+}
+
+/// What the words ask for; none where they are a usage error.
+pub fn read_arguments<'a>(
+    alloc: Global,
+    words: &'a [&'a str],
+) -> Result<Option<JobArguments<'a>>, AllocError>
+    ensures { IfOk result (λ r. r ≡ spec.arguments words.entry.now) }
+{
+    match matches_for(alloc, words) {
+        Ok(matches) => arguments_of(alloc, &matches),
+        Err(error) => match error.kind() {
+            ErrorKind::OutOfMemory => Err(AllocError),
+            _ => Ok(None),
+        },
+    }
+}

@@ -1,0 +1,49 @@
+//! The command line as `clap` reads it.
+
+ghost use Rattle.std.specs.Prelude.{◌≡◌, IfOk, map};
+ghost use Rattle.clap.specs.Words.{FailsBy, app_of, fault_of, found_of, matches_of, rows_of};
+ghost use Rattle.tsjob_cli.specs.CommandLine.{rate_app, times_app, tsjob_app};
+
+use clap::{Arg, ArgMatches, Command, Error};
+use devices::{flag, option};
+use std::alloc::{AllocError, Global};
+
+// The subcommand, the rate and the start of the new stream.
+fn with_rate<'a>(alloc: Global) -> Result<Command<'a>, AllocError>
+    ensures { IfOk result (λ c. app_of c ≡ rate_app) }
+{
+    Command::new(alloc, "tsjob")
+        .no_binary_name(true)
+        .arg(Arg::new(alloc, "subcommand"))?
+        .arg(option(alloc, "rate"))?
+        .arg(option(alloc, "start"))
+}
+
+// With the options for clock references, leads and DTS.
+fn with_times<'a>(alloc: Global) -> Result<Command<'a>, AllocError>
+    ensures { IfOk result (λ c. app_of c ≡ times_app) }
+{
+    with_rate(alloc)?
+        .arg(option(alloc, "pcr"))?
+        .arg(option(alloc, "lead"))?
+        .arg(flag(alloc, "make-dts"))
+}
+
+// The program's command line.
+#[tactic(auto, unfolding(crate::specs::CommandLine::tsjob_app))]
+fn tsjob<'a>(alloc: Global) -> Result<Command<'a>, AllocError>
+    ensures { IfOk result (λ c. app_of c ≡ tsjob_app) }
+{
+    with_times(alloc)?
+        .arg(option(alloc, "program"))?
+        .arg(option(alloc, "without"))?
+        .arg(option(alloc, "buffers"))
+}
+
+/// The values of the options in the words.
+pub(crate) fn matches_for<'a>(alloc: Global, words: &'a [&'a str]) -> Result<ArgMatches<'a>, Error>
+    ensures ok { IfOk result (λ m. rows_of (found_of m) ≡ matches_of tsjob_app (map (λ s. s.now) words.entry.now)) }
+    ensures fault { FailsBy (fault_of tsjob_app (map (λ s. s.now) words.entry.now)) result }
+{
+    tsjob(alloc)?.try_get_matches_from(words)
+}

@@ -1,0 +1,109 @@
+//! The program over any reader and two writers.
+
+ghost use Rattle.std.specs.Prelude.{◌≡◌, ◌⊎◌, None, Some};
+ghost use Rattle.devices.specs.Devices.{reads, writes};
+ghost use Rattle.devices.specs.Lines.{Reports};
+ghost use Rattle.devices.specs.Runs.{LacksMemory, Performs};
+ghost use Rattle.devices.specs.Usage.{IsUsage};
+ghost use Rattle.tsjob_cli.specs.Arguments.{JobArgumentsView, arguments};
+ghost use Rattle.tsjob_cli.specs.Outcomes as spec;
+
+use crate::arguments::{JobArguments, read_arguments};
+use crate::outcome::{JobOutcome, JobText, findings_outcome};
+use crate::reading::take_stream;
+use crate::records::write_job;
+use counted_io::{Sink, Source, write_part};
+use devices::{Halt, report_halt};
+use std::alloc::Global;
+
+/// The usage, written to the second writer on a usage error.
+const USAGE: &str = "usage: tsjob [describe|units|why] [OPTIONS] < PACKETS > JOB
+  --rate 100000..100000000       bits a second; else the least at which a plan is found
+  --program N,..                 the programs that are taken
+  --without PID,..               PIDs that are left out
+  --buffers PID:RX:MAIN,..       buffers of a PID, in bits a second and bytes
+  --lead 1..90000                the greatest lead of a unit, in units of 90 kHz
+  --pcr 1..100                   the greatest time between clock references, in ms
+  --start YYYY-MM-DDThh:mm:ss    the moment of the first packet
+  --make-dts                     DTS are made from PTS
+";
+
+/// Writes the usage, and returns the status.
+pub fn report_usage<E: Sink>(faults: &mut E) -> u8
+    ensures { result ≡ 2 }
+{
+    let _ = write_part(faults, USAGE.as_bytes());
+    2
+}
+
+// Writes a text, as far as the writer takes it.
+fn report_text<E: Sink>(faults: &mut E, text: &str)
+    ensures { Reports (writes E.Sink faults.old faults.new) text.now }
+{
+    let _ = write_part(faults, text.as_bytes());
+}
+
+// Writes an outcome, and returns the status.
+fn write_outcome<W: Sink, E: Sink>(outcome: &JobOutcome, output: &mut W, faults: &mut E) -> u8
+    ensures { spec.IsWritten outcome.now (writes W.Sink output.old output.new)
+        (writes E.Sink faults.old faults.new) result }
+{
+    let JobText { text, plan, units } = &outcome.output;
+    match write_job(output, text.as_bytes(), plan.as_bytes(), units) {
+        Ok(()) => {
+            report_text(faults, outcome.report.as_str());
+            outcome.status
+        }
+        Err(halt) => report_halt(faults, halt),
+    }
+}
+
+// Writes the outcome for the stream in the input, and returns the status.
+#[tactic(auto, using(crate::proofs::JobOutcomes::outcome_written, crate::proofs::JobOutcomes::no_memory_left))]
+fn perform<R: Source, W: Sink, E: Sink>(
+    alloc: Global,
+    arguments: &JobArguments<'_>,
+    input: &mut R,
+    output: &mut W,
+    faults: &mut E,
+) -> u8
+    ensures { Performs (spec.Leads arguments.now) (reads R.Source input.old input.new)
+        (writes W.Sink output.old output.new) (writes E.Sink faults.old faults.new) result }
+{
+    let (demux, size) = match take_stream(alloc, input) {
+        Ok(taken) => taken,
+        Err(halt) => return report_halt(faults, halt),
+    };
+    match findings_outcome(alloc, arguments, size as u64 / 188, demux.findings()) {
+        Ok(outcome) => write_outcome(&outcome, output, faults),
+        Err(_) => report_halt(faults, Halt::Memory),
+    }
+}
+
+/// The whole program: it reads the input, writes the output, writes warnings or the refusal to the second writer, and
+/// returns the exit status: 0 good, 1 refused or a warning of damage, 2 a usage error, 3 a device failed or out of
+/// memory.
+#[tactic(auto, using(crate::proofs::JobOutcomes::job_for_arguments, crate::proofs::JobOutcomes::no_memory_for_words))]
+pub fn run<R: Source, W: Sink, E: Sink>(
+    alloc: Global,
+    words: &[&str],
+    input: &mut R,
+    output: &mut W,
+    faults: &mut E,
+) -> u8
+    // A transport stream to what the command line asks for.
+    ensures job { (a : JobArgumentsView) → arguments words.now ≡ Some a →
+        Performs (spec.Leads a) (reads R.Source input.old input.new) (writes W.Sink output.old output.new)
+        (writes E.Sink faults.old faults.new) result }
+    // Anything else.
+    ensures usage { arguments words.now ≡ None →
+        IsUsage (reads R.Source input.old input.new) (writes W.Sink output.old output.new) result
+        ⊎ LacksMemory (reads R.Source input.old input.new) (writes W.Sink output.old output.new)
+        (writes E.Sink faults.old faults.new) result }
+{
+    match read_arguments(alloc, words) {
+        Ok(Some(arguments)) => perform(alloc, &arguments, input, output, faults),
+        Ok(None) => report_usage(faults),
+        Err(_) => report_halt(faults, Halt::Memory),
+    }
+}

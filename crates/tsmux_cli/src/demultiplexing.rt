@@ -1,0 +1,122 @@
+//! `demux`: a line for each finding in a transport stream, which is read piece by piece.
+ghost use Rattle.std.specs.Prelude.{◌≡◌, ◌++◌, IfOk, IfErr, OnOk, Err, map, string_bytes};
+ghost use Rattle.demux.specs.Shown.{finding_view};
+ghost use Rattle.demux.specs.Stream as stream;
+ghost use Rattle.devices.specs.Devices.{reads, writes};
+ghost use Rattle.devices.specs.Runs.{Performs};
+ghost use Rattle.devices.specs.WholeInput.{ReadsInput};
+ghost use Rattle.tsmux_cli.specs.Demultiplexing.{Demultiplexes, ListsPiece, ListsSome, ListsWhole};
+ghost use Rattle.tsmux_cli.specs.FindingLines.{finding_lines, has_fault};
+
+use crate::finding_lines::{has_fault, write_findings};
+use counted_io::{Sink, Source};
+use demux::{Demux, Finding};
+use devices::{Halt, PieceTaker, report_halt, take_input, write_text};
+use std::alloc::Global;
+
+/// The size of a piece in bytes.
+const PIECE: usize = 1 << 18;
+
+/// Appends the lines of findings, and returns whether one is a fault.
+fn list(found: &[Finding<'_>], text: &mut String) -> Result<bool, Halt>
+    ensures lines { OnOk result
+        (string_bytes text.new ≡ string_bytes text.old ++ finding_lines (map finding_view found.now)) }
+    ensures fault { IfOk result (λ faulty. faulty ≡ has_fault (map finding_view found.now)) }
+    ensures memory { IfErr result (λ halt. halt ≡ Halt.Memory) }
+{
+    let Ok(()) = write_findings(text, found) else {
+        return Err(Halt::Memory);
+    };
+    Ok(has_fault(found))
+}
+
+/// Appends the lines of the findings in the next piece of a stream, and returns whether one is a fault.
+fn list_piece(piece: &[u8], demux: &mut Demux, text: &mut String) -> Result<bool, Halt>
+    ensures { ListsPiece piece.now demux.old demux.new (string_bytes text.old) (string_bytes text.new) result }
+{
+    let Ok(()) = demux.push(piece) else {
+        return Err(Halt::Memory);
+    };
+    let faulty = list(demux.findings(), text)?;
+    demux.forget_findings();
+    Ok(faulty)
+}
+
+/// The lines of the findings in a stream that is taken piece by piece, and whether one is a fault.
+#[derive(Drop)]
+struct FindingList {
+    demux: Demux,
+    text: String,
+    faulty: bool,
+}
+
+impl PieceTaker for FindingList {
+    ghost unit = { 1 };
+
+    ghost has_taken = { λ first bytes now. ListsSome bytes now.demux now.faulty (string_bytes now.text) };
+
+    fn take_piece(&mut self, piece: &[u8]) -> Result<(), Halt> {
+        let faulty = list_piece(piece, &mut self.demux, &mut self.text)?;
+        self.faulty |= faulty;
+        Ok(())
+    }
+}
+
+/// Lists the findings at the end of the stream, and returns whether there is a fault.
+fn list_end(demux: &mut Demux, text: &mut String) -> Result<bool, Halt>
+    ensures lines { OnOk result
+        (string_bytes text.new ≡ string_bytes text.old ++ finding_lines (stream.finished demux.old).found) }
+    ensures fault { IfOk result (λ faulty. faulty ≡ has_fault (stream.finished demux.old).found) }
+    ensures memory { IfErr result (λ halt. halt ≡ Halt.Memory) }
+{
+    let Ok(()) = demux.finish() else {
+        return Err(Halt::Memory);
+    };
+    list(demux.findings(), text)
+}
+
+/// The lines of all findings in the input, and whether there is a fault.
+fn list_input<R: Source>(alloc: Global, input: &mut R) -> Result<(String, bool), Halt>
+    ensures ok { IfOk result (λ listed. ListsWhole (reads R.Source input.old input.new)
+        (string_bytes listed.0) listed.1) }
+    ensures err { IfErr result (λ halt. ReadsInput (reads R.Source input.old input.new) (Err halt)) }
+{
+    let demux = Demux::new(alloc);
+    let text = String::new(alloc);
+    let mut found = FindingList {
+        demux,
+        text,
+        faulty: false,
+    };
+    take_input(alloc, input, PIECE, &mut found)?;
+    let FindingList {
+        mut demux,
+        mut text,
+        faulty,
+    } = found;
+    let ended = list_end(&mut demux, &mut text)?;
+    Ok((text, faulty | ended))
+}
+
+/// Writes a line for each finding, and returns the status.
+pub fn demultiplex<R: Source, W: Sink, E: Sink>(
+    alloc: Global,
+    input: &mut R,
+    output: &mut W,
+    faults: &mut E,
+) -> u8
+    ensures { Performs Demultiplexes
+        (reads R.Source input.old input.new)
+        (writes W.Sink output.old output.new)
+        (writes E.Sink faults.old faults.new)
+        result }
+{
+    let (text, faulty) = match list_input(alloc, input) {
+        Ok(listed) => listed,
+        Err(halt) => return report_halt(faults, halt),
+    };
+    match write_text(&text, output) {
+        Ok(()) => { if faulty { 1 } else { 0 } }
+        Err(halt) => report_halt(faults, halt),
+    }
+}

@@ -1,0 +1,101 @@
+//! The program over any reader and writers.
+ghost use Rattle.std.specs.Prelude.{◌≡◌, ◌⊎◌, Bool, None, Some};
+ghost use Rattle.tsmux_cli.specs.Carrying.{Carries};
+ghost use Rattle.tsmux_cli.specs.Checking.{Checks};
+ghost use Rattle.tsmux_cli.specs.Demultiplexing.{Demultiplexes};
+ghost use Rattle.devices.specs.Devices.{reads, writes};
+ghost use Rattle.tsmux_cli.specs.Monitoring.{Monitors};
+ghost use Rattle.tsmux_cli.specs.Multiplexing.{Muxes};
+ghost use Rattle.devices.specs.Runs.{LacksMemory, Performs};
+ghost use Rattle.tsmux_cli.specs.Planning.{MakesPlan};
+ghost use Rattle.devices.specs.Usage.{IsUsage};
+ghost use Rattle.tsmux_cli.specs.Request.{asked};
+ghost use Rattle.tsmux_cli.specs.declared.request.CarryOptions.{CarryOptions};
+ghost use Rattle.tsmux_cli.specs.declared.request.MonitorOptions.{MonitorOptions};
+ghost use Rattle.tsmux_cli.specs.declared.request.MuxOptions.{MuxOptions};
+ghost use Rattle.tsmux_cli.specs.declared.request.Request.TheVariants.{Carry, Check, Demux, Monitor, Mux, Plan};
+
+use crate::carrying::carry_records;
+use crate::checking::check_job;
+use crate::demultiplexing::demultiplex;
+use crate::monitoring::monitor_stream;
+use crate::multiplexing::multiplex_job;
+use crate::planning::make_plan;
+use crate::request::{Request, requested};
+use counted_io::{Sink, Source, write_part};
+use devices::{Halt, report_halt};
+use std::alloc::Global;
+
+/// The usage, written to the second writer on a usage error.
+const USAGE: &str =
+    "usage: tsmux carry [--hex] [--pid 32..8190] [--id 189|192..239] < RECORDS > PACKETS
+       tsmux plan < DESCRIPTION > PLAN
+       tsmux demux < PACKETS > FINDINGS
+       tsmux check [--switch] < JOB
+       tsmux mux [--hex] [--slots N] [--switch Q] < JOB > PACKETS
+       tsmux monitor --rate 100000..100000000 [--pcr 1..100] < PACKETS > REPORT
+with no words: tsmux carry --hex
+";
+
+/// Writes the usage, and returns the status.
+pub fn report_usage<E: Sink>(faults: &mut E) -> u8
+    ensures { result ≡ 2 }
+{
+    let _ = write_part(faults, USAGE.as_bytes());
+    2
+}
+
+/// The whole program: it reads the input, writes the output, reports faults on the second writer, and returns the exit
+/// status: 0 good, 1 refused or a fault found, 2 a usage error, 3 a device failed or out of memory.
+pub fn run<R: Source, W: Sink, E: Sink>(
+    alloc: Global,
+    words: &[&str],
+    input: &mut R,
+    output: &mut W,
+    faults: &mut E,
+) -> u8
+    // `carry`: unit records to packets.
+    ensures carry { (c : CarryOptions) → asked words.now ≡ Some (Carry c) →
+        Carries c (reads R.Source input.old input.new) (writes W.Sink output.old output.new)
+        (writes E.Sink faults.old faults.new) result
+        ⊎ LacksMemory (reads R.Source input.old input.new) (writes W.Sink output.old output.new)
+        (writes E.Sink faults.old faults.new) result }
+    // `plan`: a description to the text of a plan that serves it.
+    ensures plan { asked words.now ≡ Some Plan →
+        Performs MakesPlan (reads R.Source input.old input.new) (writes W.Sink output.old output.new)
+        (writes E.Sink faults.old faults.new) result }
+    // `demux`: packets to a line for each finding.
+    ensures demux { asked words.now ≡ Some Demux →
+        Performs Demultiplexes (reads R.Source input.old input.new) (writes W.Sink output.old output.new)
+        (writes E.Sink faults.old faults.new) result }
+    // `check`: a job to the verdict on it.
+    ensures check { (switch : Bool) → asked words.now ≡ Some (Check switch) →
+        Performs (Checks switch) (reads R.Source input.old input.new) (writes W.Sink output.old output.new)
+        (writes E.Sink faults.old faults.new) result }
+    // `mux`: a job with its units to the packets of its plan.
+    ensures mux { (options : MuxOptions) → asked words.now ≡ Some (Mux options) →
+        Performs (Muxes options) (reads R.Source input.old input.new) (writes W.Sink output.old output.new)
+        (writes E.Sink faults.old faults.new) result }
+    // `monitor`: packets to the report on them.
+    ensures monitor { (options : MonitorOptions) → asked words.now ≡ Some (Monitor options) →
+        Performs (Monitors options) (reads R.Source input.old input.new) (writes W.Sink output.old output.new)
+        (writes E.Sink faults.old faults.new) result }
+    // Anything else.
+    ensures usage { asked words.now ≡ None →
+        IsUsage (reads R.Source input.old input.new) (writes W.Sink output.old output.new) result
+        ⊎ LacksMemory (reads R.Source input.old input.new) (writes W.Sink output.old output.new)
+        (writes E.Sink faults.old faults.new) result }
+{
+    match requested(alloc, words) {
+        Ok(Some(Request::Carry(options))) => carry_records(alloc, options, input, output, faults),
+        Ok(Some(Request::Plan)) => make_plan(alloc, input, output, faults),
+        Ok(Some(Request::Demux)) => demultiplex(alloc, input, output, faults),
+        Ok(Some(Request::Check { switch })) => check_job(alloc, switch, input, output, faults),
+        Ok(Some(Request::Mux(options))) => multiplex_job(alloc, options, input, output, faults),
+        Ok(Some(Request::Monitor(options))) => {
+            monitor_stream(alloc, options, input, output, faults)
+        }
+        Ok(None) => report_usage(faults),
+        Err(_) => report_halt(faults, Halt::Memory),
+    }
+}

@@ -1,0 +1,2 @@
+pub mod EntryPeaks
+pub mod UnitBytes

@@ -1,0 +1,8 @@
+-- When bytes leave a main buffer.
+use Rattle.std.specs.Prelude.{ℕ, ◌+◌, ◌-◌, ◌*◌, ◌/◌}
+use Rattle.clock27.specs.Units.{byte_units_at_1bps}
+
+-- the first moment, in units of 8 / (rate * rx) seconds, at which the bytes of a unit due at `due` units of 90 kHz are
+-- removed
+abbrev pub removal_time : ℕ → ℕ → ℕ → ℕ
+removal_time rate rx due = (due * rate * rx + (byte_units_at_1bps - 1)) / byte_units_at_1bps

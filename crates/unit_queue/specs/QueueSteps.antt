@@ -1,0 +1,69 @@
+-- One slot, and one unit more, as a queue takes them.
+use Rattle.std.specs.Prelude.{ℕ, ◌+◌, ◌-◌, ◌%◌, ◌==◌, ◌||◌, nat_lt, nat_le, Bool, if◌then◌else◌, Option, List, [], ◌∷◌, ◌++◌, length, take, drop, sum}
+use Rattle.circular_buffer.specs.Buffer.{keep_last}
+use Rattle.clock27.specs.Release.{release}
+use Rattle.pes_packet.specs.AccessUnits.{AccessUnit}
+use Rattle.pes_packet.specs.Encoding.{pes_packet_bytes}
+use Rattle.pes_packet.specs.Payloads.{piece_count}
+use Rattle.slot_contents.specs.Contents.{Content, PayloadContent, NullContent}
+use Rattle.unit_queue.specs.Causes.{first_cause}
+use Rattle.unit_queue.specs.Queues.{Queued, Queue, queued}
+use Rattle.unit_queue.specs.declared.parameters.StreamParameters.{StreamParameters}
+use Rattle.unit_queue.specs.declared.refusal.FeedError.{FeedError}
+
+-- what of a waiting unit is not sent
+abbrev pub rest_of : Queued → ℕ → List ℕ
+rest_of u sent = drop sent (u.header ++ u.bytes)
+
+-- a payload, where there are bytes for it
+unfoldable pub payload_or_null : ℕ → ℕ → Bool → List ℕ → Content
+payload_or_null pid number start bytes = if length bytes == 0 then NullContent else PayloadContent pid number start bytes
+
+-- what the queue puts into slot s, an own slot
+unfoldable pub front_content : ℕ → Queue → List Queued → Content
+front_content s q [] = NullContent
+front_content s q (u ∷ us) = if nat_lt s u.release then NullContent else payload_or_null q.parameters.pid q.counter (q.sent == 0) (take 184 (rest_of u q.sent))
+
+abbrev pub queue_content : ℕ → Queue → Content
+queue_content s q = front_content s q q.units
+
+-- the queue when a piece of its first unit is sent, and further ones follow it or not
+abbrev pub stepped : Bool → Queue → Queue
+stepped more q =
+    if more then record q { sent = q.sent + 184; counter = (q.counter + 1) % 256 }
+    else record q { units = drop 1 q.units; sent = 0; counter = (q.counter + 1) % 256 }
+
+unfoldable pub front_sent : ℕ → Queue → List Queued → Queue
+front_sent s q [] = q
+front_sent s q (u ∷ us) = if nat_lt s u.release then q else stepped (nat_lt 184 (length (rest_of u q.sent))) q
+
+-- the queue after slot s, an own slot
+abbrev pub sent_in : ℕ → Queue → Queue
+sent_in s q = front_sent s q q.units
+
+-- a queue in which no unit has been
+abbrev pub empty_queue : StreamParameters → ℕ → Queue
+empty_queue r capacity = record { parameters = r; units = []; capacity = capacity; sent = 0; counter = 0; min_next_dts = 0; recent = []; span = r.group - 1 }
+
+-- the unit is late for a queue when `slots` slots are written
+abbrev pub late_at : StreamParameters → ℕ → ℕ → Bool
+late_at r slots dts = nat_lt dts r.lead || nat_lt (release r.rate r.lead dts) slots
+
+-- this number of packets is too large for the group
+abbrev pub exceeds : Queue → ℕ → Bool
+exceeds q packets = nat_lt q.parameters.group_packets (sum q.recent + packets)
+
+-- the packets of a unit
+abbrev pub packets_in : StreamParameters → AccessUnit → ℕ
+packets_in r u = piece_count (length (pes_packet_bytes r.stream_id r.base0 u))
+
+-- why the queue refuses a unit
+abbrev pub state_cause : ℕ → Queue → AccessUnit → Option FeedError
+state_cause slots q u = first_cause q.parameters.size q.min_next_dts (late_at q.parameters slots u.dts) (nat_le q.capacity (length q.units)) (exceeds q (packets_in q.parameters u)) u
+
+-- the queue with one unit more at its end, of this DTS and number of packets
+abbrev pub joined : Queue → ℕ → ℕ → Queued → Queue
+joined q dts packets u = record q { units = q.units ++ u ∷ []; min_next_dts = dts + q.parameters.interval; recent = keep_last q.span (q.recent ++ packets ∷ []) }
+
+abbrev pub accepted : Queue → AccessUnit → Queue
+accepted q u = joined q u.dts (packets_in q.parameters u) (queued q.parameters u)

@@ -1,0 +1,52 @@
+//! What a stream declares of its units.
+
+ghost use Rattle.std.specs.Prelude.{◌≡◌, ◌+◌, ◌<◌, ◌^◌, length, IsTrue};
+ghost use Rattle.pes_packet.specs.StreamIds.{fits_packet};
+ghost use Rattle.pes_packet.specs.Encoding.{pes_header_bytes};
+
+use arrayvec::ArrayVec;
+use clock27::Rate;
+use pes_packet::{Unit, write_header};
+use std::alloc::Allocator;
+
+/// What a stream declares, and the numbers of the output that it is sent in. Times are in units of 90 kHz.
+#[derive(Clone, Copy, Debug, PartialEq, Eq)]
+pub struct StreamParameters {
+    /// The rate of the output.
+    pub rate: Rate,
+    /// The clock's value at slot 0, by which stamps are moved: below 2^33.
+    pub base0: u64,
+    /// The PID of its packets.
+    pub pid: u16,
+    /// stream_id of its PES packets: 189, or 192 to 239.
+    pub stream_id: u8,
+    /// The maximum time before its DTS at which a unit may be sent.
+    pub lead: u32,
+    /// The minimum time from one DTS to the next.
+    pub interval: u32,
+    /// The maximum size of a unit in bytes.
+    pub size: u32,
+    /// The number of consecutive units whose packets are counted together, 1 or more.
+    pub group: u8,
+    /// The maximum number of packets of that many units.
+    pub group_packets: u32,
+}
+
+impl StreamParameters {
+    // The PES header of a unit.
+    pub(crate) fn header<A: Allocator>(&self, unit: &Unit<A>) -> ArrayVec<u8, 19>
+        requires base0 { self.now.base0 < 2 ^ 33 }
+        requires fits { IsTrue (fits_packet self.now.stream_id (length unit.now.bytes)) }
+        requires dts { unit.now.dts < 2 ^ 63 }
+        requires pts { unit.now.pts < 2 ^ 63 }
+        ensures { result.items ≡ pes_header_bytes self.now.stream_id (length unit.now.bytes)
+            (unit.now.pts + self.now.base0) (unit.now.dts + self.now.base0) }
+    {
+        write_header(
+            self.stream_id,
+            unit.bytes.len(),
+            unit.pts + self.base0,
+            unit.dts + self.base0,
+        )
+    }
+}

@@ -1,0 +1,2 @@
+pub mod RecordReading
+pub mod RecordBytes

@@ -1,0 +1,4 @@
+pub mod Records
+pub mod RecordParts
+pub mod Codes
+pub mod Laws

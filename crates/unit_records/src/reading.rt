@@ -1,0 +1,152 @@
+//! Records of access units, read one by one from a device.
+
+ghost use Rattle.std.specs.Prelude.{◌≡◌, ◌≤◌, ◌<◌, ℕ, List, Some};
+ghost use Rattle.std.specs.Result.{result_map_both};
+ghost use Rattle.unit_records.specs.Codes.{file_code};
+ghost use Rattle.unit_records.specs.Records.{ReadsRecord, NamesReader};
+ghost use Rattle.unit_records.specs.RecordParts.{FillsWhole, ReadsBytes, ReadsStart, ReadsStamps};
+
+use byteorder::{BigEndian, ByteOrder};
+use counted_io::{Source, read_part};
+use pes_packet::Unit;
+use std::alloc::Allocator;
+use thiserror::Error;
+
+/// Why no record was read.
+#[derive(Clone, Copy, Debug, PartialEq, Eq, Error)]
+pub enum UnitFileError {
+    /// The input ends inside a record.
+    #[error("the input ends inside a record")]
+    Cut,
+    /// The record names a size over 4,000,000 bytes.
+    #[error("the record names a size over 4,000,000 bytes")]
+    Size,
+    /// A call of the reader failed.
+    #[error("a call of the reader failed")]
+    Device,
+    /// No memory was left for the bytes of the unit.
+    #[error("no memory was left for the unit")]
+    Memory,
+}
+
+impl UnitFileError {
+    /// The number of this refusal in fault lines.
+    pub fn code(self) -> u8
+        ensures { result ≡ file_code self }
+    {
+        match self {
+            UnitFileError::Cut => 1,
+            UnitFileError::Size => 2,
+            UnitFileError::Device => 3,
+            UnitFileError::Memory => 4,
+        }
+    }
+}
+
+// The maximum size of a unit in a record, in bytes.
+const MAX_UNIT_SIZE: usize = 4_000_000;
+
+/// Reads the record at the front of the input: the number of its stream and its unit, or `None` where no byte is left.
+/// A record is stream (1 byte), size (4), DTS (8) and PTS (8), the highest byte first, then the unit's bytes. After a
+/// refusal the reader stands inside the record.
+pub fn read_unit<A: Allocator, R: Source>(
+    alloc: A,
+    from: &mut R,
+) -> Result<Option<(u8, Unit<A>)>, UnitFileError>
+    // Of an input whose bytes are known: which answer, and what is left.
+    ensures known { (xs : List ℕ) → R.remaining from.old ≡ Some xs → ReadsRecord xs (R.remaining from.new) result }
+
+    // Of any input.
+    ensures fault { NamesReader result (R.fault_count from.old) (R.fault_count from.new) }
+    ensures later { R.fault_count from.old ≤ R.fault_count from.new }
+{
+    let (stream, size) = match read_start(from) {
+        Ok(Some(start)) => start,
+        Ok(None) => return Ok(None),
+        Err(refusal) => return Err(refusal),
+    };
+    let (dts, pts) = match read_stamps(from) {
+        Ok(stamps) => stamps,
+        Err(refusal) => return Err(refusal),
+    };
+    match read_bytes(alloc, from, size) {
+        Ok(bytes) => Ok(Some((stream, Unit { dts, pts, bytes }))),
+        Err(refusal) => Err(refusal),
+    }
+}
+
+// Fills the whole part.
+fn fill<R: Source>(from: &mut R, part: &mut [u8]) -> Result<(), UnitFileError>
+    ensures known { (xs : List ℕ) → R.remaining from.old ≡ Some xs →
+        FillsWhole xs (R.remaining from.new) part.new result }
+    ensures fault { NamesReader result (R.fault_count from.old) (R.fault_count from.new) }
+    ensures later { R.fault_count from.old ≤ R.fault_count from.new }
+{
+    match read_part(from, part) {
+        Ok(n) => if n < part.len() {
+            Err(UnitFileError::Cut)
+        } else {
+            Ok(())
+        },
+        Err(_) => Err(UnitFileError::Device),
+    }
+}
+
+// The stream and the size, or None where no byte is left.
+fn read_start<R: Source>(from: &mut R) -> Result<Option<(u8, usize)>, UnitFileError>
+    ensures known { (xs : List ℕ) → R.remaining from.old ≡ Some xs → ReadsStart xs (R.remaining from.new) result }
+    ensures fault { NamesReader result (R.fault_count from.old) (R.fault_count from.new) }
+    ensures later { R.fault_count from.old ≤ R.fault_count from.new }
+{
+    let mut start = [0u8; 5];
+    match read_part(from, &mut start) {
+        Ok(0) => Ok(None),
+        Ok(n) => {
+            if n < 5 {
+                return Err(UnitFileError::Cut);
+            }
+            let size = BigEndian::read_u32(&start[1..]) as usize;
+            if size > MAX_UNIT_SIZE {
+                return Err(UnitFileError::Size);
+            }
+            Ok(Some((start[0], size)))
+        }
+        Err(_) => Err(UnitFileError::Device),
+    }
+}
+
+// The DTS and the PTS.
+fn read_stamps<R: Source>(from: &mut R) -> Result<(u64, u64), UnitFileError>
+    ensures known { (xs : List ℕ) → R.remaining from.old ≡ Some xs → ReadsStamps xs (R.remaining from.new) result }
+    ensures fault { NamesReader result (R.fault_count from.old) (R.fault_count from.new) }
+    ensures later { R.fault_count from.old ≤ R.fault_count from.new }
+{
+    let mut stamps = [0u8; 16];
+    match fill(from, &mut stamps) {
+        Ok(()) => Ok((
+            BigEndian::read_u64(&stamps),
+            BigEndian::read_u64(&stamps[8..]),
+        )),
+        Err(refusal) => Err(refusal),
+    }
+}
+
+// The bytes of a unit of this size, in memory of their own.
+fn read_bytes<A: Allocator, R: Source>(
+    alloc: A,
+    from: &mut R,
+    size: usize,
+) -> Result<Vec<u8, A>, UnitFileError>
+    ensures known { (xs : List ℕ) → R.remaining from.old ≡ Some xs →
+        ReadsBytes xs size (R.remaining from.new) (result_map_both (λ bytes. bytes.items) (λ refusal. refusal) result) }
+    ensures fault { NamesReader result (R.fault_count from.old) (R.fault_count from.new) }
+    ensures later { R.fault_count from.old ≤ R.fault_count from.new }
+{
+    let Ok(mut bytes) = vec![in alloc; 0u8; size] else {
+        return Err(UnitFileError::Memory);
+    };
+    match fill(from, &mut bytes) {
+        Ok(()) => Ok(bytes),
+        Err(refusal) => Err(refusal),
+    }
+}
