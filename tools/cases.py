@@ -28,6 +28,20 @@ def given(case, name, program=None):
     return next((bytes_of(path, program) for path in (case / name, case / f"{name}.parts") if path.exists()), None)
 
 
+def rows(case, program=None):
+    """Of each row of a case its input, and the status, the output and the fault lines that are the answer."""
+    path = case / "rows"
+    for line in path.read_text().splitlines() if path.exists() else []:
+        if line and line[0] != "#":
+            answer, *parts = line.split(" | ")
+            status, where, text = answer.split(" ", 2)
+            if where not in ("output", "fault"):
+                raise ValueError(f"a row's answer is on output or fault, not on {where}")
+            told = lines(text).encode() + b"\n"
+            data = b"".join(part(case, *one.split(" ", 1), program) for one in parts)
+            yield data, int(status), told if where == "output" else b"", told if where == "fault" else b""
+
+
 def bytes_of(path, program=None):
     """The bytes of a file; of one with parts those that its lines say, where the program makes what is to be made."""
     if path.suffix != ".parts":
@@ -59,13 +73,23 @@ def part(folder, word, rest, program):
         return record(int(stream), int(dts), int(pts), joined(body))
     if word == "made":
         return made(folder, rest, program)
+    if word == "text":
+        return lines(rest).encode()
+    if word == "times":
+        count, again, rest = rest.split(" ", 2)
+        return part(folder, again, rest, program) * int(count)
     raise ValueError(f"no part begins with {word}")
+
+
+def lines(text):
+    """Text with line feeds for \\n, and carriage returns for \\r."""
+    return text.replace("\\n", "\n").replace("\\r", "\r")
 
 
 def changed(folder, rest):
     """A file with one place changed: FILE: OLD -> NEW."""
     name, _, change = rest.partition(": ")
-    old, _, new = (text.encode() for text in change.partition(" -> "))
+    old, _, new = (lines(text).encode() for text in change.partition(" -> "))
     data = (folder / name).read_bytes()
     if data.count(old) != 1:
         raise ValueError(f"{old.decode()} does not stand in {name} once")
