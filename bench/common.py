@@ -70,7 +70,7 @@ def built(work, name, uses):
     """The program of bench/NAME.txt, made in a scratch copy of this repository with what earlier checks kept; what they did not
     keep is proved there first (of a whole repository that is never checked: up to half an hour)."""
     root = Path(__file__).resolve().parent.parent
-    below = dict(line.split(":") for line in (root / "crates.txt").read_text().strip().split("\n"))
+    below = dict(line.split(":") for line in (root / "crates.txt").read_text().split("\n") if ":" in line and not line.startswith("#"))
     wanted = [crate for crate in uses if crate in below]
     for crate in wanted:
         wanted += [other for other in below[crate].split() if other in below and other not in wanted]
