@@ -53,7 +53,7 @@ unfolding source_of
 found_kept law line findings k s us is =
     let m = is.found.moved in
     let n = is.declares in
-    let declares : LaneDeclares (owned_stream line k s) us = record { interval = n.interval; size = n.size; lead = n.lead; group = n.group } in
+    let declares : LaneDeclares (owned_stream line k s) us = record { interval = n.interval; size = n.size; lead = n.lead; allowance = n.allowance } in
     subst (λ (x : List AccessUnit). Kept (owned_stream line k s) x) (sym m.are)
     (law (owned_stream line k s) is.found.base (wire_units s.pid findings) m.sound (have_bytes s.pid findings)
     (subst (λ (x : List AccessUnit). LaneDeclares (owned_stream line k s) x) m.are declares))
@@ -81,7 +81,7 @@ one_taken law line fed rest entry s fit is =
     let size : length (units_of entry.0 (fed ++ (entry ∷ rest))) ≡ length (units_of entry.0 fed) + suc (length (units_of entry.0 rest)) =
     ap (length {A = AccessUnit}) parts ∙ length-append (units_of entry.0 fed) (entry.1 ∷ units_of entry.0 rest) in
     let kept = subst (λ (us : List AccessUnit). Kept (owned_stream line entry.0 s) us) parts (fit.kept.kept entry.0 s is) in
-    rw is (law (owned_stream line entry.0 s) 1048576 (units_of entry.0 fed) entry.1 (units_of entry.0 rest) (fit.kept.parameters entry.0 s is).group kept
+    rw is (law (owned_stream line entry.0 s) 1048576 (units_of entry.0 fed) entry.1 (units_of entry.0 rest) (fit.kept.parameters entry.0 s is).rows kept
     (omega (arith, size, fit.few entry.0 s is)))
 
 none_then : (index : ℕ) (cause : Option FeedError) (next : Option MuxError) → cause ≡ None → next ≡ None → or_cause (unit_refused index cause) next ≡ None

@@ -59,7 +59,7 @@ job_warnings options count findings a named found assigned streams =
 -- streams with their units at moments, and the counts of their units
 unfoldable pub with_unit_counts : JobOptionsView → (List UnitCountsView → List Choice → JobInputView) → List TimedStreamView → Result JobInputView JobRefusal
 with_unit_counts options finish streams =
-    and_then (λ all. and_then (λ chosen. Ok (finish all chosen)) (choices options.lead streams all)) (all_unit_counts options.buffers streams)
+    and_then (λ all. and_then (λ chosen. Ok (finish all chosen)) (choices options.declare_by options.lead streams all)) (all_unit_counts options.buffers streams)
 
 unfoldable pub with_moved : JobOptionsView → ℕ → ℕ → List JobProgramView → List Warning → List TimedStreamView → Result JobInputView JobRefusal
 with_moved options id base programs all_warnings streams =

@@ -7,7 +7,8 @@ ghost use Rattle.stream_jobs.specs.Jobs.{AreStreams, IsCarried, FitsQueue};
 ghost use Rattle.stream_jobs.specs.JobInput as spec;
 ghost use Rattle.stream_jobs.specs.JobOptions.{is_selected_program};
 
-use crate::declarations::{UnitCounts, choices, count_units, too_long, too_many};
+use crate::choices::choices;
+use crate::declarations::{UnitCounts, count_units, too_long, too_many};
 use crate::earliest::earliest_of;
 use crate::job_options::{JobOptions, is_among};
 use crate::job_programs::{JobProgram, job_programs};
@@ -125,7 +126,13 @@ fn with_moved(
         return Err(JobError::Refused(refusal));
     }
     let unit_counts = count_units(alloc, options.buffers, &streams)?;
-    let choices = choices(alloc, options.lead, &streams, &unit_counts)?;
+    let choices = choices(
+        alloc,
+        options.declare_by,
+        options.lead,
+        &streams,
+        &unit_counts,
+    )?;
     Ok(JobInput {
         transport_stream_id,
         base0,

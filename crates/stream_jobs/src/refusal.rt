@@ -56,7 +56,7 @@ pub enum JobRefusal {
         pid: u16,
         size: usize,
     },
-    /// No lead and no group let units of up to `size` bytes into these buffers.
+    /// No lead lets units of up to `size` bytes into these buffers, by groups or by pace.
     Buffers {
         pid: u16,
         size: u32,

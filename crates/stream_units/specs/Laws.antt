@@ -2,6 +2,7 @@
 use Rattle.std.specs.Prelude.{◌≡◌, ◌≤◌, ◌<◌, ℕ, ◌+◌, ◌-◌, ◌^◌, ◌++◌, Option, None, List, [], ◌∷◌, length, map, All}
 use Rattle.pes_packet.specs.AccessUnits.{AccessUnit}
 use Rattle.pes_packet.specs.Encoding.{on_wire}
+use Rattle.unit_timing.specs.Allowances.{allowance_rows}
 use Rattle.unit_queue.specs.OwnedStreams.{OwnedStream}
 use Rattle.unit_queue.specs.Causes.{unit_cause}
 use Rattle.unit_queue.specs.Queues.{Kept}
@@ -9,7 +10,7 @@ use Rattle.stream_units.specs.Stamps.{distance, moved, first_fault, min_distance
 use Rattle.demux.specs.Views.{FindingView}
 use Rattle.demux.specs.Laws.{found_of}
 use Rattle.stream_units.specs.CarriedUnits.{carried_units}
-use Rattle.stream_units.specs.Declaration.{min_interval, max_unit_size, group_packets}
+use Rattle.stream_units.specs.Declaration.{min_interval, max_unit_size, AllowsUnits}
 
 -- the units of a PID are those of its findings alone
 abbrev pub FindingsOfThePid : Type 0
@@ -43,7 +44,7 @@ pub record Declares (l : OwnedStream) (us : List AccessUnit) : Type 0 where
   pub interval : l.parameters.interval ≤ min_interval us
   pub size : max_unit_size us ≤ l.parameters.size
   pub lead : FirstDue l.parameters.lead us
-  pub group : group_packets l.parameters.stream_id l.parameters.base0 l.parameters.group us ≤ l.parameters.group_packets
+  pub allowance : AllowsUnits l.parameters.allowance l.parameters.stream_id l.parameters.base0 us
 
 -- units that have bytes, and stamps that can be moments, keep what is declared of them
 abbrev pub UnitsAreKept : Type 0
@@ -52,5 +53,5 @@ UnitsAreKept = (l : OwnedStream) (base : ℕ) (wire : List AccessUnit) → first
 
 -- each of them is then taken after those before it while no slot is written, if there is room for one
 abbrev pub TakenOneByOne : Type 0
-TakenOneByOne = (l : OwnedStream) (capacity : ℕ) (us : List AccessUnit) (u : AccessUnit) (more : List AccessUnit) → 1 ≤ l.parameters.group →
+TakenOneByOne = (l : OwnedStream) (capacity : ℕ) (us : List AccessUnit) (u : AccessUnit) (more : List AccessUnit) → 0 < allowance_rows l.parameters.allowance →
     Kept l (us ++ u ∷ more) → length us < capacity → unit_cause l 0 capacity us u ≡ None

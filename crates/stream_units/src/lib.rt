@@ -22,7 +22,7 @@ mod warnings;
 mod wire_unit;
 
 pub use carried::carried_units;
-pub use declaration::{group_packets, max_unit_size, min_interval};
+pub use declaration::{burst_packets, group_packets, max_unit_size, min_interval};
 pub use dts_from_pts::{DtsError, DtsFault, made_dts};
 pub use laws::{
     constant_is_least, findings_of_the_pid, moved_by_one_constant, taken_one_by_one, units_are_kept,

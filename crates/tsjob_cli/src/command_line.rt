@@ -19,13 +19,14 @@ fn with_rate<'a>(alloc: Global) -> Result<Command<'a>, AllocError>
         .arg(option(alloc, "start"))
 }
 
-// With the options for clock references, leads and DTS.
+// With the options for clock references, leads, DTS, and by what packets are declared.
 fn with_times<'a>(alloc: Global) -> Result<Command<'a>, AllocError>
     ensures { IfOk result (λ c. app_of c ≡ times_app) }
 {
     with_rate(alloc)?
         .arg(option(alloc, "pcr"))?
         .arg(option(alloc, "lead"))?
+        .arg(option(alloc, "declare"))?
         .arg(flag(alloc, "make-dts"))
 }
 

@@ -1,3 +1,7 @@
+pub mod Allowing
+pub mod Bursting
+pub mod Levels
+pub mod PaidAllowances
 pub mod OneMoreUnit
 pub mod ArrivalLemmas
 pub mod MainBufferBytes

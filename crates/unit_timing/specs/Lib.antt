@@ -1,4 +1,6 @@
 pub mod PesPacket
+pub mod Allowances
+pub mod Levels
 pub mod Schedule
 pub mod Shares
 pub mod Buffers

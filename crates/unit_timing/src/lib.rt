@@ -2,11 +2,13 @@
 //! (ISO/IEC 13818-1, 2.4.2), over the definitions alone.
 //!
 //! A stream's own slots are a function `own : ℕ → Bool` of the slot number, for one plan or for two;
-//! its units are a list of PES packets, each with its size and its decoding time stamp. The definitions in
-//! `specs/` say which own slot carries which part of which unit, when its bytes leave the transport
-//! buffer, and the fullness of each buffer. Each function here is a law: it does nothing, and
-//! its contract says what holds of the definitions.
+//! its units are a list of PES packets, each with its size and its decoding time stamp. What is declared of
+//! their packets is an allowance, a function of time. The definitions in `specs/` say which own slot carries
+//! which part of which unit, when its bytes leave the transport buffer, and the fullness of each buffer. Each
+//! function of a module here is a law: it does nothing, and its contract says what holds of the definitions.
 //!
+//! - [`allowance`]: what a stream declares of its packets.
+//! - [`allowances`]: that as a function of time, and as the level of a leaky bucket.
 //! - [`buffers`]: the buffers that have one size for all.
 //! - [`transport`]: the transport buffer never overflows, and each packet leaves in time.
 //! - [`deadlines`]: from the pace of the own slots to the deadline of each unit.
@@ -19,6 +21,8 @@
 //! - [`plans`]: all of this for one plan and for two, from the conditions on their slots.
 #![tactic(auto)]
 
+pub mod allowance;
+pub mod allowances;
 pub mod arrived;
 pub mod buffers;
 pub mod deadlines;
