@@ -10,3 +10,4 @@ pub mod SystemBuffer
 pub mod Plans
 pub mod Conditions
 pub mod PlanLaws
+pub mod FinerMoments
