@@ -10,9 +10,10 @@ top_app = record (new_app (codes "tsjob")) { top = record (new_app (codes "tsjob
 abbrev pub rate_app : App
 rate_app = with_rule (with_rule (with_rule top_app (new_rule (codes "subcommand"))) (option_rule (codes "rate"))) (option_rule (codes "start"))
 
--- and [--pcr MS] [--lead T] [--make-dts]
+-- and [--pcr MS] [--lead T] [--make-dts] [--whole]
 abbrev pub times_app : App
-times_app = with_rule (with_rule (with_rule rate_app (option_rule (codes "pcr"))) (option_rule (codes "lead"))) (flag_rule (codes "make-dts"))
+times_app =
+    with_rule (with_rule (with_rule (with_rule rate_app (option_rule (codes "pcr"))) (option_rule (codes "lead"))) (flag_rule (codes "make-dts"))) (flag_rule (codes "whole"))
 
 -- and [--program N,..] [--without PID,..] [--buffers PID:RX:MAIN,..]
 unfoldable pub tsjob_app : App

@@ -19,14 +19,15 @@ fn with_rate<'a>(alloc: Global) -> Result<Command<'a>, AllocError>
         .arg(option(alloc, "start"))
 }
 
-// With the options for clock references, leads and DTS.
+// With the options for clock references, leads, DTS and the end of the input.
 fn with_times<'a>(alloc: Global) -> Result<Command<'a>, AllocError>
     ensures { IfOk result (λ c. app_of c ≡ times_app) }
 {
     with_rate(alloc)?
         .arg(option(alloc, "pcr"))?
         .arg(option(alloc, "lead"))?
-        .arg(flag(alloc, "make-dts"))
+        .arg(flag(alloc, "make-dts"))?
+        .arg(flag(alloc, "whole"))
 }
 
 // The program's command line.
