@@ -1,5 +1,5 @@
 -- No unit of a job is refused.
-use Rattle.std.proofs.Common.{◌≡◌, ◌≤◌, ◌<◌, ℕ, zero, suc, ◌+◌, ◌==◌, Bool, true, false, if◌then◌else◌, List, [], ◌∷◌, ◌++◌, length, map, Option, Some, None, slice_get, All, refl, sym, ap, ◌∙◌, subst, arith, append_assoc}
+use Rattle.std.proofs.Common.{◌≡◌, ◌≤◌, ◌<◌, ℕ, zero, suc, ◌+◌, ◌==◌, ◌&&◌, Bool, true, false, if◌then◌else◌, List, [], ◌∷◌, ◌++◌, length, map, Option, Some, None, slice_get, All, refl, sym, ap, ◌∙◌, subst, arith, append_assoc}
 use Rattle.std.proofs.lemmas.List.{length-append}
 use Rattle.std.proofs.lemmas.List.Elements.{All-nil, All-cons, All-head, All-tail}
 use Rattle.pes_packet.specs.AccessUnits.{AccessUnit}
@@ -17,7 +17,7 @@ use Rattle.mux_core.specs.WholeJobs.{or_cause, unit_refused, cause_after, first_
 use Rattle.mux_core.specs.declared.multiplexing.MuxError.{MuxError}
 use Rattle.mux_core.proofs.KnownRanges.{parameters_known}
 use Rattle.mux_core.proofs.UnitCounts.{own_units, units_append}
-use Rattle.stream_units.specs.CarriedUnits.{RoleView, Ignored, Start, Continuation, Interruption, CarriedUnit, role_of, continuation, with_more, units_from, carried_units, wire_units}
+use Rattle.stream_units.specs.CarriedUnits.{RoleView, Ignored, Start, Continuation, Interruption, CarriedUnit, role_of, continuation, is_cut, is_split, with_more, whole_unit, units_from, units_in, wire_units}
 use Rattle.stream_units.specs.Laws.{UnitsAreKept, TakenOneByOne, Declares as LaneDeclares}
 use Rattle.stream_jobs.specs.Jobs.{IsStream, AreUnits}
 use Rattle.stream_jobs.specs.FoundUnits.{source_of}
@@ -33,17 +33,26 @@ some_or : (u : CarriedUnit) (later : List CarriedUnit) (b : Bool) → length u.u
 some_or u later true e all = all
 some_or u later false e all = All-cons HasBytes u.unit (map (λ x. x.unit) later) (grind (arith, e)) all
 
-by_have_bytes : (b : RoleView) (more : List ℕ) (later : List CarriedUnit) → All HasBytes (map (λ x. x.unit) later) → All HasBytes (map (λ x. x.unit) (units_from b more later))
+whole_or : (u : CarriedUnit) (later : List CarriedUnit) (lost : Bool) → All HasBytes (map (λ x. x.unit) later) → All HasBytes (map (λ x. x.unit) (whole_unit lost u later))
+whole_or u later true all = all
+whole_or u later false all = some_or u later (length u.unit.bytes == 0) refl all
+
+by_have_bytes : (split : Bool) (pid : ℕ) (b : RoleView) (fs : List FindingView) (later : List CarriedUnit) → All HasBytes (map (λ x. x.unit) later) →
+    All HasBytes (map (λ x. x.unit) (units_from split pid b fs later))
 unfolding units_from
-by_have_bytes Ignored more later all = all
-by_have_bytes (Continuation body) more later all = all
-by_have_bytes Interruption more later all = all
-by_have_bytes (Start u) more later all = some_or (with_more u more) later (length (with_more u more).unit.bytes == 0) refl all
+by_have_bytes split pid Ignored fs later all = all
+by_have_bytes split pid (Continuation id body) fs later all = all
+by_have_bytes split pid (Interruption unstamped) fs later all = all
+by_have_bytes split pid (Start u) fs later all =
+    whole_or (with_more u (continuation u.stream_id pid fs)) later (split && is_cut u.stream_id pid fs) all
+
+each_has_bytes : (split : Bool) (pid : ℕ) (findings : List FindingView) → All HasBytes (map (λ x. x.unit) (units_in split pid findings))
+unfolding units_in
+each_has_bytes split pid [] = All-nil HasBytes
+each_has_bytes split pid (f ∷ fs) = by_have_bytes split pid (role_of pid f) fs (units_in split pid fs) (each_has_bytes split pid fs)
 
 pub have_bytes : (pid : ℕ) (findings : List FindingView) → All HasBytes (wire_units pid findings)
-unfolding carried_units
-have_bytes pid [] = All-nil HasBytes
-have_bytes pid (f ∷ fs) = by_have_bytes (role_of pid f) (continuation pid fs) (carried_units pid fs) (have_bytes pid fs)
+have_bytes pid findings = each_has_bytes (is_split pid findings) pid findings
 
 -- 2. The units of a stream keep what it declares
 

@@ -20,6 +20,8 @@ mod job_programs;
 mod job_stream;
 mod moved_streams;
 mod named_service;
+mod nothing_carried;
+mod option_warnings;
 mod packets;
 mod rates;
 mod refusal;

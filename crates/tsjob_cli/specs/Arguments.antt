@@ -43,15 +43,17 @@ start_of (Some text) = if list_all is_of_time text then Some text else None
 
 -- 2. All of them
 
--- what is written, and the options of the job
+-- what is written, whether the input is said to be whole, and the options of the job
 pub record JobArgumentsView : Type 0 where
   pub subcommand : Subcommand
+  pub whole : Bool
   pub options : JobOptionsView
 
 -- with empty lists
-abbrev pub plain : Subcommand → Option ℕ → Text → ℕ → ℕ → DeclareBy → Bool → JobArgumentsView
-plain subcommand rate start pcr_limit lead declare_by make_dts = record {
+abbrev pub plain : Subcommand → Bool → Option ℕ → Text → ℕ → ℕ → DeclareBy → Bool → JobArgumentsView
+plain subcommand whole rate start pcr_limit lead declare_by make_dts = record {
   subcommand = subcommand;
+  whole = whole;
   options = record {
     rate = rate;
     start = start;
@@ -74,7 +76,7 @@ values_of rows =
     given (number_option 1 100 40 (first_of (codes "pcr") rows)) (λ pcr_limit.
     given (number_option 1 90000 90000 (first_of (codes "lead") rows)) (λ lead.
     given (declare_by_of (first_of (codes "declare") rows)) (λ declare_by.
-    Some (plain subcommand rate start pcr_limit lead declare_by (is_given (first_of (codes "make-dts") rows)))))))))
+    Some (plain subcommand (is_given (first_of (codes "whole") rows)) rate start pcr_limit lead declare_by (is_given (first_of (codes "make-dts") rows)))))))))
 
 -- with lists
 abbrev pub with_lists : List ℕ → List ℕ → List PidBuffers → JobArgumentsView → JobArgumentsView

@@ -10,11 +10,11 @@ top_app = record (new_app (codes "tsjob")) { top = record (new_app (codes "tsjob
 abbrev pub rate_app : App
 rate_app = with_rule (with_rule (with_rule top_app (new_rule (codes "subcommand"))) (option_rule (codes "rate"))) (option_rule (codes "start"))
 
--- and [--pcr MS] [--lead T] [--declare groups|time] [--make-dts]
+-- and [--pcr MS] [--lead T] [--declare groups|time] [--make-dts] [--whole]
 abbrev pub times_app : App
 times_app =
-    with_rule (with_rule (with_rule (with_rule rate_app (option_rule (codes "pcr"))) (option_rule (codes "lead"))) (option_rule (codes "declare")))
-    (flag_rule (codes "make-dts"))
+    with_rule (with_rule (with_rule (with_rule (with_rule rate_app (option_rule (codes "pcr"))) (option_rule (codes "lead"))) (option_rule (codes "declare")))
+    (flag_rule (codes "make-dts"))) (flag_rule (codes "whole"))
 
 -- and [--program N,..] [--without PID,..] [--buffers PID:RX:MAIN,..]
 unfoldable pub tsjob_app : App

@@ -34,6 +34,8 @@ pub enum Subcommand {
 #[derive(Drop)]
 pub struct JobArguments<'a> {
     pub subcommand: Subcommand,
+    /// Whether the input is said to end with its last PES packets: then it is no warning that an end is not known.
+    pub whole: bool,
     /// The rate in bits a second, 100,000 to 100,000,000; none: the least rate at which a plan is found.
     pub rate: Option<u64>,
     /// The moment of the first slot.
@@ -62,6 +64,7 @@ impl<'a> Model for JobArguments<'a> {
 
     ghost view = { λ a. record {
       subcommand = a.subcommand;
+      whole = a.whole;
       options = record {
         rate = a.rate;
         start = a.start.now;
@@ -160,6 +163,7 @@ fn values_of<'a>(alloc: Global, matches: &ArgMatches<'a>) -> Option<JobArguments
     let declare_by = declare_by_of(text_of(matches, "declare"))?;
     Some(JobArguments {
         subcommand,
+        whole: is_given(text_of(matches, "whole")),
         rate,
         start,
         pcr_limit: pcr_limit as u8,

@@ -19,7 +19,7 @@ fn with_rate<'a>(alloc: Global) -> Result<Command<'a>, AllocError>
         .arg(option(alloc, "start"))
 }
 
-// With the options for clock references, leads, DTS, and by what packets are declared.
+// With the options for clock references, leads, what packets are declared by, DTS and the end of the input.
 fn with_times<'a>(alloc: Global) -> Result<Command<'a>, AllocError>
     ensures { IfOk result (λ c. app_of c ≡ times_app) }
 {
@@ -27,7 +27,8 @@ fn with_times<'a>(alloc: Global) -> Result<Command<'a>, AllocError>
         .arg(option(alloc, "pcr"))?
         .arg(option(alloc, "lead"))?
         .arg(option(alloc, "declare"))?
-        .arg(flag(alloc, "make-dts"))
+        .arg(flag(alloc, "make-dts"))?
+        .arg(flag(alloc, "whole"))
 }
 
 // The program's command line.

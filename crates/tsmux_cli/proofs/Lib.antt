@@ -5,6 +5,7 @@ pub mod JobReaders
 pub mod PlanOutcomes
 pub mod UnitLists
 pub mod LongerJobs
+pub mod JobTaking
 pub mod MuxJobs
 pub mod MuxOutcomes
 pub mod Monitored

@@ -16,11 +16,9 @@ use Rattle.slot_plan.specs.Text.{plan_text}
 use Rattle.slot_plan.proofs.TextPlans.{plan-complete, plan-sound}
 use Rattle.tsmux_cli.specs.Jobs.{BadLine, BadSecondLine, Fails, HasNoPlan, JobFaultView, JobView, SecondFails, described, fault_of, job, job_of, of_parts, first_plan_line, plan_offset, planned, second_fault_of, unless_failed, with_description, with_plan, with_rest, with_second}
 use Rattle.tsmux_cli.specs.JobFaults.{is_final, plans_view}
-use Rattle.tsmux_cli.specs.MuxJobs.{IsMuxJob, IsJobAtFront, MuxFaultView, MuxJobView, mux_job_of, with_records}
+use Rattle.tsmux_cli.specs.JobTaking.{IsJobAtFront}
 use Rattle.tsmux_cli.specs.declared.jobs.JobPlans.{JobPlans}
 use Rattle.tsmux_cli.specs.declared.jobs.JobPlans.TheVariants.{One, Two}
-use Rattle.tsmux_cli.specs.declared.mux_jobs.MuxJob.{MuxJob}
-use Rattle.tsmux_cli.specs.declared.mux_jobs.MuxJobError.{MuxJobError}
 
 -- with more bytes after the plans
 abbrev pub longer : JobView → List ℕ → JobView
@@ -271,10 +269,9 @@ job_at_front switch xs rest plans place p e =
     let left : drop place xs ≡ rest = ap₂ (λ (n : ℕ) (x : List ℕ). drop n x) at k.1 ∙ drop-append_seam k.0 rest in
     (omega (arith, at, size, both), ap (λ (x : List ℕ). Ok (plans_view plans x)) left ∙ e)
 
--- with pieces after the bytes
-pub piece_job : (switch : Bool) (xs more : List ℕ) (plans : JobPlans) (place : ℕ) (result : Result MuxJob MuxJobError) → IsJobAtFront (job_of switch xs) xs (Ok (plans, place)) →
-    IsMuxJob (with_records (Ok (plans_view plans (drop place xs ++ more)))) result → IsMuxJob (mux_job_of switch (xs ++ more)) result
-piece_job switch xs more plans place result p m =
+-- the plans stay where more bytes come after them
+pub plans_stay : (switch : Bool) (xs more : List ℕ) (plans : JobPlans) (place : ℕ) → IsJobAtFront (job_of switch xs) xs (Ok (plans, place)) →
+    Ok (plans_view plans (drop place xs ++ more)) ≡ job_of switch (xs ++ more)
+plans_stay switch xs more plans place p =
     let k = job_kept switch xs (plans_view plans (drop place xs)) (sym p.1) in
-    subst (λ (w : Result MuxJobView MuxFaultView). IsMuxJob w result)
-    (ap (λ (j : JobView). with_records (Ok j)) (sym (view_longer plans (drop place xs) more)) ∙ ap with_records (sym (k.more more))) m
+    ap Ok (sym (view_longer plans (drop place xs) more)) ∙ sym (k.more more)

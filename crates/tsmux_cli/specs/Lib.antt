@@ -7,6 +7,7 @@ pub mod Demultiplexing
 pub mod Jobs
 pub mod JobFaults
 pub mod Checking
+pub mod JobTaking
 pub mod UnitList
 pub mod MuxJobs
 pub mod Multiplexing

@@ -14,7 +14,7 @@ use crate::jobs::JobPlans;
 use crate::mux_jobs::{MuxJob, MuxJobError, read_mux_job, report_mux_fault};
 use crate::request::MuxOptions;
 use counted_io::{Sink, Source};
-use devices::{Halt, read_pieces, report_halt};
+use devices::{Halt, report_halt};
 use mux_core::{MuxError, multiplex_as, multiplex_switch_as};
 use std::alloc::Global;
 
@@ -90,14 +90,10 @@ pub fn multiplex_job<R: Source, W: Sink, E: Sink>(
     ensures { Performs (spec.Muxes options) (reads R.Source input.old input.new)
         (writes W.Sink output.old output.new) (writes E.Sink faults.old faults.new) result }
 {
-    let pieces = match read_pieces(alloc, input) {
-        Ok(pieces) => pieces,
-        Err(halt) => return report_halt(faults, halt),
-    };
-    let job = match read_mux_job(alloc, options.periods.is_some(), pieces) {
+    let job = match read_mux_job(alloc, options.periods.is_some(), input) {
         Ok(job) => job,
         Err(MuxJobError::Fault(fault)) => return report_mux_fault(faults, fault),
-        Err(MuxJobError::Memory) => return report_halt(faults, Halt::Memory),
+        Err(MuxJobError::Stopped(halt)) => return report_halt(faults, halt),
     };
     match write_packets(alloc, options, job, output) {
         Ok(_) => 0,

@@ -16,3 +16,4 @@ pub mod PacketsInSlots
 pub mod DeadlineLemmas
 pub mod LateUnits
 pub mod MainBufferPeak
+pub mod MomentLemmas

@@ -12,3 +12,4 @@ pub mod SystemBuffer
 pub mod Plans
 pub mod Conditions
 pub mod PlanLaws
+pub mod FinerMoments

@@ -14,6 +14,7 @@
 //! - [`deadlines`]: from the pace of the own slots to the deadline of each unit.
 //! - [`arrived`]: each due unit has left the transport buffer whole by its stamp.
 //! - [`main_buffer`]: the fullness of the main buffer.
+//! - [`moments`]: moments that are not whole.
 //! - [`system_buffers`]: the two buffers of a program's tables.
 //! - [`schedule`]: slot by slot is unit by unit.
 //! - [`units`]: one unit more within the declaration.
@@ -27,6 +28,7 @@ pub mod arrived;
 pub mod buffers;
 pub mod deadlines;
 pub mod main_buffer;
+pub mod moments;
 pub mod plans;
 pub mod schedule;
 pub mod shares;
