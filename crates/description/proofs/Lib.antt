@@ -20,4 +20,5 @@ pub mod SectionBounds
 pub mod Places
 pub mod PidCounts
 pub mod Pids
+pub mod Allowed
 pub mod SectionCounts

@@ -5,9 +5,10 @@ use Rattle.std.proofs.lemmas.List.Elements.{All-nil, All-cons, All-map, All-weak
 use Rattle.std.specs.Option.{option_to_list}
 use Rattle.std.specs.List.{filter_map}
 use Rattle.toml.specs.Data.{Data, get}
-use Rattle.description.specs.Ranges.{IsPid, IsBytes, IsNetwork, IsEvent, IsProgram, IsStreamId, IsStream, IsTable}
+use Rattle.unit_timing.specs.declared.allowance.Allowance.{Allowance}
+use Rattle.description.specs.Ranges.{IsPid, IsBytes, IsNetwork, IsEvent, IsProgram, IsStreamId, IsGroups, IsPace, IsAllowance, IsStream, IsTable}
 use Rattle.description.specs.Values.{integer_in, integer_at, elements, is_one_section, section_in}
-use Rattle.description.specs.StreamKeys.{is_stream_id, stream_id, is_video_id, id_or_private, greatest_size, leaves_out_buffers, stream_rx, stream_main, stream_tag, stream_group, unit_packets, greatest_group_packets, stream_group_packets}
+use Rattle.description.specs.StreamKeys.{is_stream_id, stream_id, is_video_id, id_or_private, greatest_size, leaves_out_buffers, stream_rx, stream_main, stream_size, stream_tag, stream_group, unit_packets, greatest_group_packets, stream_group_packets, is_paced, stream_burst_packets, stream_pace, stream_allowance}
 use Rattle.description.specs.Contents.{described_network, described_event, is_owned_by, described_number, described_program, described_stream, described_sections, described_table}
 use Rattle.description.specs.Refusals.{events_of}
 use Rattle.description.proofs.KeyRanges.{Within, holds_of, at_key-all, map_all, integer_in-within, integer_at-within, integer_or-within, moment_at-within}
@@ -89,11 +90,25 @@ if_some : {X : Type 0} (P : X → Type 0) (b : Bool) (x : X) → P x → IfSome 
 if_some P true x h = h
 if_some P false x h = tt
 
-packets_within : (d : Data) → Within (unit_packets d) (greatest_group_packets d) (unwrap_or (stream_group_packets d) (unit_packets d))
-packets_within d =
+groups_are : (d : Data) → IsGroups (unit_packets d) (unwrap_or (stream_group d) 1) (unwrap_or (stream_group_packets d) (unit_packets d))
+groups_are d =
     let group = integer_or-within (codes "group") 1 64 1 1 d (omega arith) (omega arith) (omega arith) (omega arith) in
     let more = group_most (unwrap_or (stream_group d) 1) (unit_packets d) group.least in
-    integer_or-within (codes "group_packets") (unit_packets d) (greatest_group_packets d) (greatest_group_packets d) (unit_packets d) d more (omega arith) (omega arith) more
+    let packets = integer_or-within (codes "group_packets") (unit_packets d) (greatest_group_packets d) (greatest_group_packets d) (unit_packets d) d more (omega arith) (omega arith) more in
+    record { some_units = group.least; most_units = group.most; some_packets = packets.least; most_packets = packets.most }
+
+pace_is : (d : Data) → unit_packets d ≤ 100000 → IsPace (unit_packets d) (unwrap_or (stream_burst_packets d) (unit_packets d)) (unwrap_or (stream_pace d) 1)
+pace_is d few =
+    let burst = integer_at-within (codes "burst_packets") (unit_packets d) 100000 (unit_packets d) d (omega arith) few in
+    let pace = integer_at-within (codes "pace") 1 100000000 1 d (omega arith) (omega arith) in
+    record { some_burst = burst.least; most_burst = burst.most; some_pace = pace.least; most_pace = pace.most }
+
+either_is : (n : ℕ) (b : Bool) (p g : Allowance) → IsAllowance n p → IsAllowance n g → IsAllowance n (if b then p else g)
+either_is n true p g hp hg = hp
+either_is n false p g hp hg = hg
+
+allowance_is : (d : Data) → unwrap_or (stream_size d) 1 ≤ 4000000 → IsAllowance (unit_packets d) (stream_allowance d)
+allowance_is d small = either_is (unit_packets d) (is_paced d) _ _ (pace_is d (omega (arith, small))) (groups_are d)
 
 tag_is : (d : Data) → All (λ t. t ≤ 255) (option_to_list (unwrap_or (stream_tag d) None))
 tag_is d =
@@ -128,8 +143,7 @@ stream_is d =
     let size = integer_at-within (codes "size") 1 (greatest_size d) 1 d (omega arith) bounds.some in
     let rx = rx_within d in
     let main = main_within d in
-    let group = integer_or-within (codes "group") 1 64 1 1 d (omega arith) (omega arith) (omega arith) (omega arith) in
-    let packets = packets_within d in
+    let small = within_trans size.most bounds.any in
     record {
       pid = pid_is (codes "pid") d;
       stream_id = id_is d;
@@ -137,7 +151,7 @@ stream_is d =
       some_interval = interval.least;
       most_interval = interval.most;
       some_size = size.least;
-      most_size = within_trans size.most bounds.any;
+      most_size = small;
       bounded_size = λ low. within_trans size.most (bounds.bounded low);
       some_lead = lead.least;
       most_lead = lead.most;
@@ -148,10 +162,7 @@ stream_is d =
       tag = tag_is d;
       language = optional_language-is (codes "language") d;
       descriptors = descriptors-is (codes "descriptors") d;
-      some_group = group.least;
-      most_group = group.most;
-      some_packets = packets.least;
-      most_packets = packets.most;
+      allowance = allowance_is d small;
     }
 
 pub table_is : (d : Data) → HasLength 1 8 (length (described_sections d)) → IsTable (described_table d)

@@ -54,6 +54,8 @@ stream_code stream.Language = 51
 stream_code stream.Descriptors = 52
 stream_code stream.Group = 53
 stream_code stream.GroupPackets = 54
+stream_code stream.BurstPackets = 55
+stream_code stream.Pace = 56
 
 abbrev pub event_code : EventKey → ℕ
 event_code event.Program = 61

@@ -8,7 +8,7 @@ use Rattle.description.specs.Values.{elements, section_in}
 use Rattle.description.specs.TopKeys as top
 use Rattle.description.specs.NetworkKeys.{network_id, network_name, network_descriptors}
 use Rattle.description.specs.ProgramKeys.{program_number, program_pmt_pid, program_pcr_pid, program_pcr_limit, program_descriptors, program_service_type, program_provider, program_name}
-use Rattle.description.specs.StreamKeys.{owner_number, stream_pid, id_or_private, stream_type, stream_interval, stream_size, stream_lead, stream_rx, stream_main, stream_tag, stream_language, stream_descriptors, stream_group, unit_packets, stream_group_packets}
+use Rattle.description.specs.StreamKeys.{owner_number, stream_pid, id_or_private, stream_type, stream_interval, stream_size, stream_lead, stream_rx, stream_main, stream_tag, stream_language, stream_descriptors, stream_allowance}
 use Rattle.description.specs.EventKeys.{event_id, event_start, event_duration, event_language, event_name, event_text}
 use Rattle.description.specs.TableKeys.{private_pid, private_limit}
 use Rattle.description.specs.Refusals.{network_of, programs_of, streams_of, events_of, tables_of}
@@ -71,8 +71,7 @@ described_stream stream = record {
   tag = unwrap_or (stream_tag stream) None;
   language = unwrap_or (stream_language stream) None;
   descriptors = unwrap_or (stream_descriptors stream) [];
-  group = unwrap_or (stream_group stream) 1;
-  group_packets = unwrap_or (stream_group_packets stream) (unit_packets stream);
+  allowance = stream_allowance stream;
 }
 
 abbrev pub described_sections : Data → List (List ℕ)

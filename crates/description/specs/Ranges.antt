@@ -2,6 +2,8 @@
 use Rattle.std.specs.Prelude.{◌≡◌, ℕ, ◌*◌, ◌^◌, ◌<◌, ◌≤◌, ◌⊎◌, true, List, ◌++◌, length, map, sum_by, All, Contains, nat_eq, IsTrue}
 use Rattle.std.specs.List.{IsDistinct}
 use Rattle.std.specs.Option.{option_to_list}
+use Rattle.unit_timing.specs.declared.allowance.Allowance.{Allowance}
+use Rattle.unit_timing.specs.declared.allowance.Allowance.TheVariants.{Groups, Pace}
 use Rattle.description.specs.Described.{Described, DescribedNetwork, DescribedProgram, DescribedStream, DescribedEvent, DescribedTable}
 use Rattle.description.specs.Values.{is_one_section}
 use Rattle.description.specs.Tables.{pmt_length, nit_length, sdt_length, greatest_unit_packets}
@@ -56,6 +58,24 @@ pub record IsProgram (p : DescribedProgram) : Type 0 where
 abbrev pub IsStreamId : ℕ → Type 0
 IsStreamId id = (id ≡ 189) ⊎ ((192 ≤ id) × (id ≤ 239))
 
+-- what a stream may declare of its packets, of which its greatest unit has n: of so many units in a row, or by time,
+-- with a pace in bits a second of whole packets
+pub record IsGroups (n units packets : ℕ) : Type 0 where
+  pub some_units : 1 ≤ units
+  pub most_units : units ≤ 64
+  pub some_packets : n ≤ packets
+  pub most_packets : packets ≤ units * n
+
+pub record IsPace (n burst pace : ℕ) : Type 0 where
+  pub some_burst : n ≤ burst
+  pub most_burst : burst ≤ 100000
+  pub some_pace : 1 ≤ pace
+  pub most_pace : pace ≤ 100000000
+
+abbrev pub IsAllowance : ℕ → Allowance → Type 0
+IsAllowance n (Groups units packets) = IsGroups n units packets
+IsAllowance n (Pace burst pace) = IsPace n burst pace
+
 pub record IsStream (s : DescribedStream) : Type 0 where
   pub pid : IsPid s.pid
   pub stream_id : IsStreamId s.stream_id
@@ -74,10 +94,7 @@ pub record IsStream (s : DescribedStream) : Type 0 where
   pub tag : All (λ t. t ≤ 255) (option_to_list s.tag)
   pub language : All IsLanguage (option_to_list s.language)
   pub descriptors : IsBytes 700 s.descriptors
-  pub some_group : 1 ≤ s.group
-  pub most_group : s.group ≤ 64
-  pub some_packets : greatest_unit_packets s ≤ s.group_packets
-  pub most_packets : s.group_packets ≤ s.group * greatest_unit_packets s
+  pub allowance : IsAllowance (greatest_unit_packets s) s.allowance
 
 pub record IsTable (t : DescribedTable) : Type 0 where
   pub pid : IsPid t.pid

@@ -1,11 +1,13 @@
 -- The keys of a table of the array `stream`.
-use Rattle.std.specs.Prelude.{ℕ, pos, ◌+◌, ◌*◌, ◌/◌, ◌&&◌, ◌||◌, ◌==◌, not, nat_le, Bool, false, List, [], ◌∷◌, Option, None, Some, codes, is_none, unwrap_or, option_and_then, if◌then◌else◌}
+use Rattle.std.specs.Prelude.{ℕ, pos, ◌+◌, ◌*◌, ◌/◌, ◌&&◌, ◌||◌, ◌==◌, not, nat_le, Bool, false, List, [], ◌∷◌, Option, None, Some, codes, is_none, is_some, unwrap_or, option_and_then, if◌then◌else◌}
 use Rattle.std.specs.List.{list_any}
 use Rattle.toml.specs.Data.{Data, get}
+use Rattle.unit_timing.specs.declared.allowance.Allowance.{Allowance}
+use Rattle.unit_timing.specs.declared.allowance.Allowance.TheVariants as allowance
 use Rattle.description.specs.Values.{at_key, integer_in, integer_at, integer_or, optional_integer, optional_language, descriptors_or_none, elements}
 use Rattle.description.specs.ProgramKeys.{program_number}
 use Rattle.description.specs.declared.stream_keys.StreamKey.{StreamKey}
-use Rattle.description.specs.declared.stream_keys.StreamKey.TheVariants.{Program, Pid, StreamId, StreamType, Interval, Size, Lead, Rx, Main, Tag, Language, Descriptors, Group, GroupPackets}
+use Rattle.description.specs.declared.stream_keys.StreamKey.TheVariants.{Program, Pid, StreamId, StreamType, Interval, Size, Lead, Rx, Main, Tag, Language, Descriptors, Group, GroupPackets, BurstPackets, Pace}
 
 -- the number of the program that a stream or an event belongs to
 abbrev pub owner_number : Data → Option ℕ
@@ -96,10 +98,41 @@ greatest_group_packets stream = unwrap_or (stream_group stream) 1 * unit_packets
 abbrev pub stream_group_packets : Data → Option ℕ
 stream_group_packets stream = integer_or (greatest_group_packets stream) (codes "group_packets") (pos (unit_packets stream)) (pos (greatest_group_packets stream)) stream
 
+-- the packets are declared by time where one of these keys stands there, and else by groups
+abbrev pub is_paced : Data → Bool
+is_paced stream = is_some (get (codes "burst_packets") stream) || is_some (get (codes "pace") stream)
+
+-- by time: the packets that units in a row may have beyond those of the pace, in bits a second of whole packets
+abbrev pub stream_burst_packets : Data → Option ℕ
+stream_burst_packets stream = integer_at (codes "burst_packets") (pos (unit_packets stream)) (pos 100000) stream
+
+abbrev pub stream_pace : Data → Option ℕ
+stream_pace = integer_at (codes "pace") (pos 1) (pos 100000000)
+
+-- what is declared, with the least value of its range where a key is refused
+abbrev pub stream_allowance : Data → Allowance
+stream_allowance stream = if is_paced stream
+    then allowance.Pace (unwrap_or (stream_burst_packets stream) (unit_packets stream)) (unwrap_or (stream_pace stream) 1)
+    else allowance.Groups (unwrap_or (stream_group stream) 1) (unwrap_or (stream_group_packets stream) (unit_packets stream))
+
+-- where the packets are declared by time, no key of groups may stand there, and both keys of time have to
+abbrev pub refuses_group : Data → Bool
+refuses_group stream = if is_paced stream then is_some (get (codes "group") stream) else is_none (stream_group stream)
+
+abbrev pub refuses_group_packets : Data → Bool
+refuses_group_packets stream = if is_paced stream then is_some (get (codes "group_packets") stream) else is_none (stream_group_packets stream)
+
+abbrev pub refuses_burst_packets : Data → Bool
+refuses_burst_packets stream = is_paced stream && is_none (stream_burst_packets stream)
+
+abbrev pub refuses_pace : Data → Bool
+refuses_pace stream = is_paced stream && is_none (stream_pace stream)
+
 -- the names of the keys
 abbrev pub stream_key_names : List (List ℕ)
 stream_key_names = codes "program" ∷ codes "pid" ∷ codes "id" ∷ codes "type" ∷ codes "interval" ∷ codes "size" ∷ codes "lead"
-    ∷ codes "rx" ∷ codes "main" ∷ codes "tag" ∷ codes "language" ∷ codes "descriptors" ∷ codes "group" ∷ codes "group_packets" ∷ []
+    ∷ codes "rx" ∷ codes "main" ∷ codes "tag" ∷ codes "language" ∷ codes "descriptors" ∷ codes "group" ∷ codes "group_packets"
+    ∷ codes "burst_packets" ∷ codes "pace" ∷ []
 
 -- what each key refuses
 abbrev pub refuses_stream : StreamKey → Data → Data → Bool
@@ -115,5 +148,7 @@ refuses_stream Main document stream = is_none (stream_main stream)
 refuses_stream Tag document stream = is_none (stream_tag stream)
 refuses_stream Language document stream = is_none (stream_language stream)
 refuses_stream Descriptors document stream = is_none (stream_descriptors stream)
-refuses_stream Group document stream = is_none (stream_group stream)
-refuses_stream GroupPackets document stream = is_none (stream_group_packets stream)
+refuses_stream Group document stream = refuses_group stream
+refuses_stream GroupPackets document stream = refuses_group_packets stream
+refuses_stream BurstPackets document stream = refuses_burst_packets stream
+refuses_stream Pace document stream = refuses_pace stream

@@ -118,10 +118,7 @@ fn stream_of(stream: &Value) -> StreamDescription
         tag: stream_keys::tag(stream).unwrap_or(None),
         language: stream_keys::language(stream).unwrap_or(None),
         descriptors: stream_keys::descriptors(stream).unwrap_or(DescriptorLoop::none()),
-        group: stream_keys::group(stream).unwrap_or(1),
-        group_packets: stream_keys::group_packets(stream).unwrap_or(stream_keys::unit_packets(
-            stream,
-        )),
+        allowance: stream_keys::allowance(stream),
     }
 }
 

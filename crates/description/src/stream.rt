@@ -1,6 +1,7 @@
 //! An elementary stream of the description.
 
 use crate::descriptors::DescriptorLoop;
+use unit_timing::allowance::Allowance;
 
 /// An elementary stream and what it declares of its units (ISO/IEC 13818-1, 2.4.2 and 2.4.4.8).
 #[derive(Drop)]
@@ -24,8 +25,6 @@ pub struct StreamDescription {
     pub tag: Option<u8>,
     pub language: Option<[u8; 3]>,
     pub descriptors: DescriptorLoop,
-    /// How many successive units are counted together.
-    pub group: u8,
-    /// The most packets that this many units make together.
-    pub group_packets: u32,
+    /// The most packets of its units in a row.
+    pub allowance: Allowance,
 }

@@ -6,7 +6,9 @@ ghost use Rattle.description.specs.StreamKeys.{stream_pid, is_stream_id, stream_
 ghost use Rattle.description.specs.StreamKeys.{id_or_private, stream_type, stream_interval, greatest_size, stream_size};
 ghost use Rattle.description.specs.StreamKeys.{stream_lead, leaves_out_buffers, stream_rx, stream_main, stream_tag};
 ghost use Rattle.description.specs.StreamKeys.{stream_language, stream_descriptors, stream_group, unit_packets};
-ghost use Rattle.description.specs.StreamKeys.{greatest_group_packets, stream_group_packets};
+ghost use Rattle.description.specs.StreamKeys.{greatest_group_packets, stream_group_packets, is_paced};
+ghost use Rattle.description.specs.StreamKeys.{stream_burst_packets, stream_pace, stream_allowance};
+ghost use Rattle.description.specs.StreamKeys.{refuses_group, refuses_group_packets, refuses_burst_packets, refuses_pace};
 
 use crate::descriptors::{DescriptorLoop, descriptors_or_none};
 use crate::key::Key;
@@ -15,6 +17,7 @@ use crate::owner::has_owner;
 use crate::texts::optional_language;
 use crate::values::{integer_at, integer_in, integer_or, optional_integer};
 use toml::Value;
+use unit_timing::allowance::Allowance;
 
 /// A key of a stream.
 #[derive(Clone, Copy, Debug, PartialEq, Eq)]
@@ -33,6 +36,8 @@ pub enum StreamKey {
     Descriptors,
     Group,
     GroupPackets,
+    BurstPackets,
+    Pace,
 }
 
 pub fn pid(stream: &Value) -> Option<u16>
@@ -158,15 +163,15 @@ pub fn descriptors(stream: &Value) -> Option<DescriptorLoop>
     descriptors_or_none(stream, "descriptors")
 }
 
-pub fn group(stream: &Value) -> Option<u8>
+fn group(stream: &Value) -> Option<u8>
     ensures value { result ≡ stream_group (view stream.now) }
     ensures bound { IfSome result (λ n. n ≤ 64) }
 {
     Some(integer_or(1, stream, "group", 1, 64)? as u8)
 }
 
-/// The packets of a unit of the greatest size.
-pub fn unit_packets(stream: &Value) -> u32
+// The packets of a unit of the greatest size.
+fn unit_packets(stream: &Value) -> u32
     ensures value { result ≡ unit_packets (view stream.now) }
     ensures bound { result ≤ 21740 }
 {
@@ -181,7 +186,7 @@ fn greatest_group_packets(stream: &Value) -> u32
     group(stream).unwrap_or(1) as u32 * unit_packets(stream)
 }
 
-pub fn group_packets(stream: &Value) -> Option<u32>
+fn group_packets(stream: &Value) -> Option<u32>
     ensures { result ≡ stream_group_packets (view stream.now) }
 {
     let most = greatest_group_packets(stream);
@@ -194,11 +199,80 @@ pub fn group_packets(stream: &Value) -> Option<u32>
     )? as u32)
 }
 
+// Whether the packets are declared by time: one of the keys `burst_packets` and `pace` stands there.
+fn is_paced(stream: &Value) -> bool
+    ensures { result ≡ is_paced (view stream.now) }
+{
+    stream.get("burst_packets").is_some() || stream.get("pace").is_some()
+}
+
+fn burst_packets(stream: &Value) -> Option<u32>
+    ensures { result ≡ stream_burst_packets (view stream.now) }
+{
+    let least = unit_packets(stream) as i64;
+    Some(integer_at(stream, "burst_packets", least, 100_000)? as u32)
+}
+
+fn pace(stream: &Value) -> Option<u32>
+    ensures { result ≡ stream_pace (view stream.now) }
+{
+    Some(integer_at(stream, "pace", 1, 100_000_000)? as u32)
+}
+
+/// The most packets of units in a row, with the least value of its range where a key is refused.
+pub fn allowance(stream: &Value) -> Allowance
+    ensures { result ≡ stream_allowance (view stream.now) }
+{
+    if is_paced(stream) {
+        Allowance::Pace {
+            burst: burst_packets(stream).unwrap_or(unit_packets(stream)),
+            pace: pace(stream).unwrap_or(1),
+        }
+    } else {
+        Allowance::Groups {
+            units: group(stream).unwrap_or(1),
+            packets: group_packets(stream).unwrap_or(unit_packets(stream)),
+        }
+    }
+}
+
+fn refuses_group(stream: &Value) -> bool
+    ensures { result ≡ refuses_group (view stream.now) }
+{
+    if is_paced(stream) {
+        stream.get("group").is_some()
+    } else {
+        group(stream).is_none()
+    }
+}
+
+fn refuses_group_packets(stream: &Value) -> bool
+    ensures { result ≡ refuses_group_packets (view stream.now) }
+{
+    if is_paced(stream) {
+        stream.get("group_packets").is_some()
+    } else {
+        group_packets(stream).is_none()
+    }
+}
+
+fn refuses_burst_packets(stream: &Value) -> bool
+    ensures { result ≡ refuses_burst_packets (view stream.now) }
+{
+    is_paced(stream) && burst_packets(stream).is_none()
+}
+
+fn refuses_pace(stream: &Value) -> bool
+    ensures { result ≡ refuses_pace (view stream.now) }
+{
+    is_paced(stream) && pace(stream).is_none()
+}
+
 impl StreamKey {
     ghost use Rattle.description.specs.Codes.{stream_code};
 
     /// All of them, in the order of their numbers.
-    pub const ALL: [StreamKey; 14] = [
+    pub const ALL: [StreamKey; 16] = [
         StreamKey::Program,
         StreamKey::Pid,
         StreamKey::StreamId,
@@ -213,6 +287,8 @@ impl StreamKey {
         StreamKey::Descriptors,
         StreamKey::Group,
         StreamKey::GroupPackets,
+        StreamKey::BurstPackets,
+        StreamKey::Pace,
     ];
 
     /// The number of its refusal.
@@ -234,6 +310,8 @@ impl StreamKey {
             StreamKey::Descriptors => 52,
             StreamKey::Group => 53,
             StreamKey::GroupPackets => 54,
+            StreamKey::BurstPackets => 55,
+            StreamKey::Pace => 56,
         }
     }
 }
@@ -263,6 +341,8 @@ impl Key for StreamKey {
                 "descriptors",
                 "group",
                 "group_packets",
+                "burst_packets",
+                "pace",
             ],
         )
     }
@@ -281,8 +361,10 @@ impl Key for StreamKey {
             StreamKey::Tag => tag(part).is_none(),
             StreamKey::Language => language(part).is_none(),
             StreamKey::Descriptors => descriptors(part).is_none(),
-            StreamKey::Group => group(part).is_none(),
-            StreamKey::GroupPackets => group_packets(part).is_none(),
+            StreamKey::Group => refuses_group(part),
+            StreamKey::GroupPackets => refuses_group_packets(part),
+            StreamKey::BurstPackets => refuses_burst_packets(part),
+            StreamKey::Pace => refuses_pace(part),
         }
     }
 }

@@ -3,6 +3,10 @@ use Rattle.std.proofs.Common.{◌≡◌, ℕ, suc, pos, ◌≤◌, Bool, true, f
 use Rattle.std.proofs.lemmas.Bool.Decides.{nat_tests}
 use Rattle.std.specs.Prelude.{All}
 use Rattle.std.specs.List.{flat_map}
+use Rattle.std.specs.Ordering.{nat_cmp, is_lt}
+use Rattle.std.specs.Cmp.Lexicographic.{slice_cmp}
+use Rattle.unit_timing.specs.declared.allowance.Allowance.{Allowance}
+use Rattle.unit_timing.specs.declared.allowance.Allowance.TheVariants.{Groups, Pace}
 use Rattle.hex.specs.Hex.{encode_lower}
 use Rattle.toml_writer.specs.Text.{key_text}
 use Rattle.toml.specs.Data.{string, integer, boolean, Members, no_members, member, is_before, members_depth, members_have_valid_dates, members_are_sorted}
@@ -11,11 +15,11 @@ use Rattle.toml.specs.Tables.{Expression}
 use Rattle.toml.proofs.Lines.{IsLinesText-append, after}
 use Rattle.toml.proofs.ReadBack.{parse_document-printed}
 use Rattle.job_text.specs.DescriptionParts.{HeadingView, ProgramPartView, StreamPartView}
-use Rattle.job_text.specs.KeyLines.{with_numbers, with_hex, hex_line, key_line}
-use Rattle.job_text.specs.Fields.{program_numbers, stream_numbers}
-use Rattle.job_text.specs.Documents.{document, elements_of, with_tables, program_table, stream_table}
+use Rattle.job_text.specs.KeyLines.{with_numbers, with_hex, hex_line, key_line, number_lines}
+use Rattle.job_text.specs.Fields.{program_numbers, burst_numbers, group_numbers, time_numbers, pace_numbers, last_numbers}
+use Rattle.job_text.specs.Documents.{document, elements_of, with_tables, program_table, stream_rest, stream_members, stream_table}
 use Rattle.job_text.specs.Texts.{heading_text, program_text, stream_text}
-use Rattle.job_text.specs.Laws.{Fits, FitsHeading, FitsProgram, FitsStream, TextsAreRead}
+use Rattle.job_text.specs.Laws.{Fits, FitsHeading, FitsProgram, FitsAllowance, FitsStream, TextsAreRead}
 use Rattle.job_text.proofs.Scalars.{AreScalars, IsScalar, scalar_lines, lines_are_text}
 use Rattle.job_text.proofs.TableArrays.{AreTables, element_lines, elements_are_text, pairs_past, sections_with, shallow, dated_past, sorted_past, before_tables}
 
@@ -54,6 +58,11 @@ hex_sorted : (bytes : List ℕ) (more : Members) → is_before (codes "descripto
 hex_sorted [] more first sorted = ap members_are_sorted (hex_none more) ∙ sorted
 hex_sorted (b ∷ bytes) more first sorted = ap members_are_sorted (hex_some b bytes more) ∙ rw (first, sorted)
 
+hex_after : (key : List ℕ) (bytes : List ℕ) (more : Members) → is_lt (slice_cmp nat_cmp key (codes "descriptors")) ≡ true → is_before key more ≡ true
+    → is_before key (with_hex (codes "descriptors") bytes more) ≡ true
+hex_after key [] more first last = ap (is_before key) (hex_none more) ∙ last
+hex_after key (b ∷ bytes) more first last = ap (is_before key) (hex_some b bytes more) ∙ first
+
 hex_lines : (bytes : List ℕ) (more : Members) → scalar_lines (with_hex (codes "descriptors") bytes more) ≡ hex_line (codes "descriptors") bytes ++ scalar_lines more
 hex_lines [] more = ap scalar_lines (hex_none more) ∙ ap (λ (l : List ℕ). l ++ scalar_lines more) (sym line_none)
 hex_lines (b ∷ bytes) more = ap scalar_lines (hex_some b bytes more) ∙ ap (λ (l : List ℕ). l ++ scalar_lines more) (sym (line_some b bytes))
@@ -84,22 +93,34 @@ unfolding program_rest
 program_lines p = rw (hex_lines p.descriptors (program_rest p)) (simp (append_assoc, append-nil))
 
 -- a stream
-stream_rest : StreamPartView → Members
-stream_rest s = with_numbers (stream_numbers s) no_members
+scalars_with : (a : Allowance) (s : StreamPartView) → FitsAllowance a → FitsStream s → AreScalars (stream_members a s)
+unfolding key_text
+scalars_with (Groups units packets) s f h =
+    hex_scalars s.descriptors (stream_rest (Groups units packets) s)
+    (refl, small units f.0, (refl, small packets f.1, (refl, small s.stream_id h.stream_id, (refl, small s.interval h.interval, (refl, small s.lead h.lead, (refl, small s.main h.main, (refl, small s.pid h.pid, (refl, small s.program h.program, (refl, small s.rx h.rx, (refl, small s.size h.size, (refl, small s.stream_type h.stream_type, tt)))))))))))
+scalars_with (Pace burst pace) s f h = (
+  refl,
+  small burst f.0,
+  hex_scalars s.descriptors (stream_rest (Pace burst pace) s)
+      (refl, small s.stream_id h.stream_id, (refl, small s.interval h.interval, (refl, small s.lead h.lead, (refl, small s.main h.main, (refl, small pace f.1, (refl, small s.pid h.pid, (refl, small s.program h.program, (refl, small s.rx h.rx, (refl, small s.size h.size, (refl, small s.stream_type h.stream_type, tt)))))))))),
+)
 
-stream_scalars : (s : StreamPartView) → FitsStream s → AreScalars (stream_table s)
-unfolding key_text stream_rest
-stream_scalars s h =
-    hex_scalars s.descriptors (stream_rest s)
-    (refl, small s.group h.group, (refl, small s.group_packets h.group_packets, (refl, small s.stream_id h.stream_id, (refl, small s.interval h.interval, (refl, small s.lead h.lead, (refl, small s.main h.main, (refl, small s.pid h.pid, (refl, small s.program h.program, (refl, small s.rx h.rx, (refl, small s.size h.size, (refl, small s.stream_type h.stream_type, tt)))))))))))
+sorted_with : (a : Allowance) (s : StreamPartView) → members_are_sorted (stream_members a s) ≡ true
+sorted_with (Groups units packets) s = hex_sorted s.descriptors (stream_rest (Groups units packets) s) refl refl
+sorted_with (Pace burst pace) s =
+    rw (
+      hex_after (codes "burst_packets") s.descriptors (stream_rest (Pace burst pace) s) refl refl,
+      hex_sorted s.descriptors (stream_rest (Pace burst pace) s) refl refl,
+    )
 
-stream_sorted : (s : StreamPartView) → members_are_sorted (stream_table s) ≡ true
-unfolding stream_rest
-stream_sorted s = hex_sorted s.descriptors (stream_rest s) refl refl
+lines_with : (a : Allowance) (s : StreamPartView) → scalar_lines (stream_members a s)
+    ≡ number_lines (burst_numbers a) ++ (hex_line (codes "descriptors") s.descriptors
+    ++ (number_lines (group_numbers a) ++ (number_lines (time_numbers s) ++ (number_lines (pace_numbers a) ++ number_lines (last_numbers s)))))
+lines_with (Groups units packets) s = rw (hex_lines s.descriptors (stream_rest (Groups units packets) s)) (simp (append_assoc, append-nil))
+lines_with (Pace burst pace) s = rw (hex_lines s.descriptors (stream_rest (Pace burst pace) s)) (simp (append_assoc, append-nil))
 
 stream_lines : (s : StreamPartView) → element_lines (codes "stream") (stream_table s) ≡ stream_text s
-unfolding stream_rest
-stream_lines s = rw (hex_lines s.descriptors (stream_rest s)) (simp (append_assoc, append-nil))
+stream_lines s = rw (lines_with s.allowance s) (simp append_assoc)
 
 -- lists of them
 each : {X : Type 0} (P : X → Type 0) (x : X) (xs : List X) → All P (x ∷ xs) → P x × All P xs
@@ -111,7 +132,7 @@ program_tables (p ∷ ps) h = let e = each FitsProgram p ps h in (program_scalar
 
 stream_tables : (ss : List StreamPartView) → All FitsStream ss → AreTables (map stream_table ss)
 stream_tables [] h = tt
-stream_tables (s ∷ ss) h = let e = each FitsStream s ss h in (stream_scalars s e.0, stream_sorted s, stream_tables ss e.1)
+stream_tables (s ∷ ss) h = let e = each FitsStream s ss h in (scalars_with s.allowance s e.0.allowance e.0, sorted_with s.allowance s, stream_tables ss e.1)
 
 programs_lines : (ps : List ProgramPartView) → flat_map (element_lines (codes "program")) (map program_table ps) ≡ flat_map program_text ps
 programs_lines [] = refl

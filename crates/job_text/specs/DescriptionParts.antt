@@ -1,5 +1,6 @@
 -- The parts of a service description: numbers, and texts and descriptors as lists.
 use Rattle.std.specs.Prelude.{ℕ, Bool, List}
+use Rattle.unit_timing.specs.declared.allowance.Allowance.{Allowance}
 use Rattle.job_text.specs.declared.heading.Heading.{Heading}
 use Rattle.job_text.specs.declared.program_part.ProgramPart.{ProgramPart}
 use Rattle.job_text.specs.declared.stream_part.StreamPart.{StreamPart}
@@ -34,8 +35,7 @@ pub record StreamPartView : Type 0 where
   pub rx : ℕ
   pub main : ℕ
   pub descriptors : List ℕ
-  pub group : ℕ
-  pub group_packets : ℕ
+  pub allowance : Allowance
 
 -- the parts of the code as lists and numbers
 abbrev pub heading_view : Heading → HeadingView
@@ -73,6 +73,5 @@ stream_view s = record {
   rx = s.rx;
   main = s.main;
   descriptors = s.descriptors.now;
-  group = s.group;
-  group_packets = s.group_packets;
+  allowance = s.allowance;
 }

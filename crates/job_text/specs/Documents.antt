@@ -1,9 +1,10 @@
 -- What the texts say, as tables of TOML.
 use Rattle.std.specs.Prelude.{ℕ, pos, List, [], ◌∷◌, codes}
 use Rattle.toml.specs.Data.{string, integer, boolean, array, table, Items, no_items, item, Members, no_members, member}
+use Rattle.unit_timing.specs.declared.allowance.Allowance.{Allowance}
 use Rattle.job_text.specs.DescriptionParts.{HeadingView, ProgramPartView, StreamPartView}
 use Rattle.job_text.specs.KeyLines.{with_numbers, with_hex}
-use Rattle.job_text.specs.Fields.{first_numbers, program_numbers, stream_numbers}
+use Rattle.job_text.specs.Fields.{first_numbers, program_numbers, burst_numbers, group_numbers, time_numbers, pace_numbers, last_numbers}
 
 -- tables as the elements of an array
 abbrev pub elements_of : List Members → Items
@@ -23,8 +24,15 @@ program_table p =
     (member (codes "provider") (string p.provider)
     (member (codes "service_type") (integer (pos p.service_type)) no_members))))
 
+-- of a stream: what stands after its descriptors, and the whole
+abbrev pub stream_rest : Allowance → StreamPartView → Members
+stream_rest a s = with_numbers (group_numbers a) (with_numbers (time_numbers s) (with_numbers (pace_numbers a) (with_numbers (last_numbers s) no_members)))
+
+abbrev pub stream_members : Allowance → StreamPartView → Members
+stream_members a s = with_numbers (burst_numbers a) (with_hex (codes "descriptors") s.descriptors (stream_rest a s))
+
 abbrev pub stream_table : StreamPartView → Members
-stream_table s = with_hex (codes "descriptors") s.descriptors (with_numbers (stream_numbers s) no_members)
+stream_table s = stream_members s.allowance s
 
 -- a description of this heading, with the tables of its programs and streams
 abbrev pub document : HeadingView → List Members → List Members → Members

@@ -1,5 +1,7 @@
 -- The numbers of a description's parts, each with its key, in the order of the keys.
 use Rattle.std.specs.Prelude.{ℕ, List, [], ◌∷◌, codes}
+use Rattle.unit_timing.specs.declared.allowance.Allowance.{Allowance}
+use Rattle.unit_timing.specs.declared.allowance.Allowance.TheVariants.{Groups, Pace}
 use Rattle.job_text.specs.DescriptionParts.{HeadingView, ProgramPartView, StreamPartView}
 
 -- of a heading, up to the array `program`
@@ -14,16 +16,32 @@ program_numbers p =
     ∷ (codes "pcr_pid", p.pcr_pid)
     ∷ (codes "pmt_pid", p.pmt_pid) ∷ []
 
--- of a stream, after its descriptors
-abbrev pub stream_numbers : StreamPartView → List (List ℕ × ℕ)
-stream_numbers s =
-    (codes "group", s.group)
-    ∷ (codes "group_packets", s.group_packets)
-    ∷ (codes "id", s.stream_id)
+-- of a stream, before its descriptors: the burst of a pace
+abbrev pub burst_numbers : Allowance → List (List ℕ × ℕ)
+burst_numbers (Groups units packets) = []
+burst_numbers (Pace burst pace) = (codes "burst_packets", burst) ∷ []
+
+-- after them: those of groups
+abbrev pub group_numbers : Allowance → List (List ℕ × ℕ)
+group_numbers (Groups units packets) = (codes "group", units) ∷ (codes "group_packets", packets) ∷ []
+group_numbers (Pace burst pace) = []
+
+-- the next, and the pace
+abbrev pub time_numbers : StreamPartView → List (List ℕ × ℕ)
+time_numbers s =
+    (codes "id", s.stream_id)
     ∷ (codes "interval", s.interval)
     ∷ (codes "lead", s.lead)
-    ∷ (codes "main", s.main)
-    ∷ (codes "pid", s.pid)
+    ∷ (codes "main", s.main) ∷ []
+
+abbrev pub pace_numbers : Allowance → List (List ℕ × ℕ)
+pace_numbers (Groups units packets) = []
+pace_numbers (Pace burst pace) = (codes "pace", pace) ∷ []
+
+-- and the last
+abbrev pub last_numbers : StreamPartView → List (List ℕ × ℕ)
+last_numbers s =
+    (codes "pid", s.pid)
     ∷ (codes "program", s.program)
     ∷ (codes "rx", s.rx)
     ∷ (codes "size", s.size)

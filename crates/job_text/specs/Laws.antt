@@ -2,6 +2,8 @@
 use Rattle.std.specs.Prelude.{◌≡◌, ◌<◌, ◌^◌, ℕ, List, ◌++◌, map, All, Some}
 use Rattle.std.specs.List.{flat_map}
 use Rattle.toml.specs.Parse.{parse_document}
+use Rattle.unit_timing.specs.declared.allowance.Allowance.{Allowance}
+use Rattle.unit_timing.specs.declared.allowance.Allowance.TheVariants.{Groups, Pace}
 use Rattle.job_text.specs.DescriptionParts.{HeadingView, ProgramPartView, StreamPartView}
 use Rattle.job_text.specs.Documents.{document, program_table, stream_table}
 use Rattle.job_text.specs.Texts.{heading_text, program_text, stream_text}
@@ -26,9 +28,12 @@ pub record FitsProgram (p : ProgramPartView) : Type 0 where
   pub service_type : Fits p.service_type
 
 -- those of a stream
+abbrev pub FitsAllowance : Allowance → Type 0
+FitsAllowance (Groups units packets) = Fits units × Fits packets
+FitsAllowance (Pace burst pace) = Fits burst × Fits pace
+
 pub record FitsStream (s : StreamPartView) : Type 0 where
-  pub group : Fits s.group
-  pub group_packets : Fits s.group_packets
+  pub allowance : FitsAllowance s.allowance
   pub stream_id : Fits s.stream_id
   pub interval : Fits s.interval
   pub lead : Fits s.lead

@@ -3,7 +3,7 @@ use Rattle.std.specs.Prelude.{ℕ, List, ◌++◌, codes}
 use Rattle.toml.specs.Data.{string, boolean}
 use Rattle.job_text.specs.DescriptionParts.{HeadingView, ProgramPartView, StreamPartView}
 use Rattle.job_text.specs.KeyLines.{key_line, number_line, number_lines, hex_line, header}
-use Rattle.job_text.specs.Fields.{first_numbers, program_numbers, stream_numbers}
+use Rattle.job_text.specs.Fields.{first_numbers, program_numbers, burst_numbers, group_numbers, time_numbers, pace_numbers, last_numbers}
 
 -- the keys of the document itself
 abbrev pub heading_text : HeadingView → List ℕ
@@ -26,7 +26,15 @@ program_service p = key_line (codes "provider") (string p.provider) ++ number_li
 abbrev pub program_text : ProgramPartView → List ℕ
 program_text p = program_front p ++ (number_lines (program_numbers p) ++ program_service p)
 
+-- of a stream: the lines up to its group, or its descriptors, and those up to its pace
+abbrev pub stream_front : StreamPartView → List ℕ
+stream_front s =
+    header (codes "stream")
+    ++ (number_lines (burst_numbers s.allowance) ++ (hex_line (codes "descriptors") s.descriptors ++ number_lines (group_numbers s.allowance)))
+
+abbrev pub stream_times : StreamPartView → List ℕ
+stream_times s = number_lines (time_numbers s) ++ number_lines (pace_numbers s.allowance)
+
 -- an element of the array `stream`
 abbrev pub stream_text : StreamPartView → List ℕ
-stream_text s =
-    (header (codes "stream") ++ hex_line (codes "descriptors") s.descriptors) ++ number_lines (stream_numbers s)
+stream_text s = stream_front s ++ (stream_times s ++ number_lines (last_numbers s))

@@ -1,6 +1,6 @@
 //! A key with its value, on a line.
 
-ghost use Rattle.std.specs.Prelude.{◌≡◌, ◌++◌, OnOk, codes, string_bytes};
+ghost use Rattle.std.specs.Prelude.{◌≡◌, ◌++◌, OnOk, string_bytes};
 ghost use Rattle.std.specs.List.{flat_map};
 ghost use Rattle.toml.specs.Data.{string, boolean};
 ghost use Rattle.job_text.specs.KeyLines.{key_line, number_line, field_line, header, hex_line};
@@ -81,9 +81,9 @@ pub(crate) fn write_string<A: Allocator>(
     write!(text, "{key} = {value}\n")
 }
 
-// Bytes as pairs of lower-case hexadecimal digits, and no line if there are none.
+/// Bytes as pairs of lower-case hexadecimal digits, and no line if there are none.
 #[tactic(auto, unfolding(crate::specs::KeyLines::hex_line))]
-fn write_hex<A: Allocator + Clone>(
+pub(crate) fn write_hex<A: Allocator + Clone>(
     text: &mut String<A>,
     key: &str,
     bytes: &[u8],
@@ -97,22 +97,10 @@ fn write_hex<A: Allocator + Clone>(
     write_string(text, key, digits.as_str())
 }
 
+/// The header of an element of an array of tables.
 #[tactic(auto, unfolding(crate::specs::KeyLines::header))]
-fn write_header<A: Allocator>(text: &mut String<A>, key: &str) -> Result<(), AllocError>
+pub(crate) fn write_header<A: Allocator>(text: &mut String<A>, key: &str) -> Result<(), AllocError>
     ensures { OnOk result (string_bytes text.new ≡ string_bytes text.old ++ header key.now) }
 {
     write!(text, "\n[[{key}]]\n")
-}
-
-/// The header of an element of an array of tables, and its descriptors.
-pub(crate) fn write_element<A: Allocator + Clone>(
-    text: &mut String<A>,
-    key: &str,
-    descriptors: &[u8],
-) -> Result<(), AllocError>
-    ensures { OnOk result (string_bytes text.new ≡ string_bytes text.old
-        ++ (header key.now ++ hex_line (codes "descriptors") descriptors.now)) }
-{
-    write_header(text, key)?;
-    write_hex(text, "descriptors", descriptors)
 }

@@ -4,7 +4,7 @@ ghost use Rattle.std.specs.Prelude.{◌≡◌, ◌++◌, OnOk, string_bytes};
 ghost use Rattle.job_text.specs.DescriptionParts.{program_view};
 ghost use Rattle.job_text.specs.Texts.{program_text, program_front, program_service};
 
-use crate::key_line::{write_element, write_number, write_numbers, write_string};
+use crate::key_line::{write_header, write_hex, write_number, write_numbers, write_string};
 use std::alloc::{AllocError, Allocator};
 
 /// What a description says of a program and its service (ISO/IEC 13818-1, 2.4.4.8; EN 300 468, 5.2.3 and 6.2.34).
@@ -45,7 +45,8 @@ impl ProgramPart<'_> {
     fn write_front<A: Allocator + Clone>(&self, text: &mut String<A>) -> Result<(), AllocError>
         ensures { OnOk result (string_bytes text.new ≡ string_bytes text.old ++ program_front (program_view self.now)) }
     {
-        write_element(text, "program", self.descriptors)?;
+        write_header(text, "program")?;
+        write_hex(text, "descriptors", self.descriptors)?;
         write_string(text, "name", self.name)
     }
 

@@ -2,10 +2,13 @@
 
 ghost use Rattle.std.specs.Prelude.{◌≡◌, ◌++◌, OnOk, string_bytes};
 ghost use Rattle.job_text.specs.DescriptionParts.{stream_view};
-ghost use Rattle.job_text.specs.Texts.{stream_text};
+ghost use Rattle.job_text.specs.Fields.{burst_numbers, group_numbers, last_numbers};
+ghost use Rattle.job_text.specs.KeyLines.{number_lines};
+ghost use Rattle.job_text.specs.Texts.{stream_text, stream_front, stream_times};
 
-use crate::key_line::{write_element, write_numbers};
+use crate::key_line::{write_header, write_hex, write_number, write_numbers};
 use std::alloc::{AllocError, Allocator};
+use unit_timing::allowance::Allowance;
 
 /// What a description says of an elementary stream and its units (ISO/IEC 13818-1, 2.4.2 and 2.4.4.8). It has no
 /// component_tag and no language of its own: their descriptors are among `descriptors`.
@@ -29,31 +32,88 @@ pub struct StreamPart<'a> {
     pub main: u32,
     /// Whole descriptors of the stream in its PMT.
     pub descriptors: &'a [u8],
-    /// How many successive units are counted together.
-    pub group: u8,
-    /// The most packets of that number of successive units.
-    pub group_packets: u32,
+    /// The most packets of successive units.
+    pub allowance: Allowance,
 }
 
 impl StreamPart<'_> {
-    /// Appends an empty line, `[[stream]]`, and its lines: every key, but `descriptors` only if there are any.
+    /// Appends an empty line, `[[stream]]`, and its lines: every key, but `descriptors` only if there are any, and of the
+    /// keys of its packets those by groups or those by pace.
     pub fn write_text<A: Allocator + Clone>(&self, text: &mut String<A>) -> Result<(), AllocError>
         ensures { OnOk result (string_bytes text.new ≡ string_bytes text.old ++ stream_text (stream_view self.now)) }
     {
+        self.write_front(text)?;
+        self.write_times(text)?;
+        self.write_back(text)
+    }
+
+    // The line of its burst, if it is declared by pace.
+    fn write_burst<A: Allocator>(&self, text: &mut String<A>) -> Result<(), AllocError>
+        ensures { OnOk result (string_bytes text.new ≡ string_bytes text.old
+            ++ number_lines (burst_numbers self.now.allowance)) }
+    {
+        match self.allowance {
+            Allowance::Groups { .. } => Ok(()),
+            Allowance::Pace { burst, .. } => {
+                let numbers = [("burst_packets", burst as u64)];
+                write_numbers(text, &numbers)
+            }
+        }
+    }
+
+    // The lines of its groups, if it is declared by groups.
+    fn write_groups<A: Allocator>(&self, text: &mut String<A>) -> Result<(), AllocError>
+        ensures { OnOk result (string_bytes text.new ≡ string_bytes text.old
+            ++ number_lines (group_numbers self.now.allowance)) }
+    {
+        match self.allowance {
+            Allowance::Groups { units, packets } => {
+                let numbers = [("group", units as u64), ("group_packets", packets as u64)];
+                write_numbers(text, &numbers)
+            }
+            Allowance::Pace { .. } => Ok(()),
+        }
+    }
+
+    // The lines up to its group, or up to its descriptors.
+    fn write_front<A: Allocator + Clone>(&self, text: &mut String<A>) -> Result<(), AllocError>
+        ensures { OnOk result (string_bytes text.new ≡ string_bytes text.old ++ stream_front (stream_view self.now)) }
+    {
+        write_header(text, "stream")?;
+        self.write_burst(text)?;
+        write_hex(text, "descriptors", self.descriptors)?;
+        self.write_groups(text)
+    }
+
+    // The lines from `id` to `main`, and its pace.
+    fn write_times<A: Allocator>(&self, text: &mut String<A>) -> Result<(), AllocError>
+        ensures { OnOk result (string_bytes text.new ≡ string_bytes text.old ++ stream_times (stream_view self.now)) }
+    {
         let numbers = [
-            ("group", self.group as u64),
-            ("group_packets", self.group_packets as u64),
             ("id", self.stream_id as u64),
             ("interval", self.interval as u64),
             ("lead", self.lead as u64),
             ("main", self.main as u64),
+        ];
+        write_numbers(text, &numbers)?;
+        match self.allowance {
+            Allowance::Groups { .. } => Ok(()),
+            Allowance::Pace { pace, .. } => write_number(text, "pace", pace as u64),
+        }
+    }
+
+    // The lines from `pid` on.
+    fn write_back<A: Allocator>(&self, text: &mut String<A>) -> Result<(), AllocError>
+        ensures { OnOk result (string_bytes text.new ≡ string_bytes text.old
+            ++ number_lines (last_numbers (stream_view self.now))) }
+    {
+        let numbers = [
             ("pid", self.pid as u64),
             ("program", self.program as u64),
             ("rx", self.rx as u64),
             ("size", self.size as u64),
             ("type", self.stream_type as u64),
         ];
-        write_element(text, "stream", self.descriptors)?;
         write_numbers(text, &numbers)
     }
 }

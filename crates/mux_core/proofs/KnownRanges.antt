@@ -8,6 +8,7 @@ use Rattle.pes_packet.specs.StreamIds.{is_unit_id, greatest_size}
 use Rattle.description.specs.Described.{Described, DescribedStream}
 use Rattle.description.specs.Ranges.{IsInRange, IsStream, IsStreamId}
 use Rattle.description.specs.Tables.{table_kinds}
+use Rattle.description.proofs.Allowed.{rows_some}
 use Rattle.description.specs.declared.table_kind.TableKind.{TableKind}
 use Rattle.table_rounds.specs.Laws.{IsSourceOf}
 use Rattle.mux_core.specs.Scheduled.{Scheduled}
@@ -37,7 +38,7 @@ parameters_fit d s ranges r = record {
   base0 = ranges.base0;
   stream_id = unit_id s.stream_id r.stream_id;
   size = size_fits s.stream_id s.size r.stream_id r.most_size r.bounded_size;
-  group = r.some_group;
+  rows = rows_some s r;
 }
 
 pub parameters_known : (d : Scheduled) → IsInRange d.description → ParametersKnown d

@@ -29,7 +29,7 @@ stream_kept d k s units content n is alone kept promised =
     let rate = d.description.rate in
     let pes = timed_pes_packets s.stream_id d.description.base0 units in
     let keeps : KeepsDeclaration (declaration s) (timed_pes_packets s.stream_id d.description.base0 units) =
-    record { spaced = kept.spaced; sized = kept.sized; grouped = kept.grouped } in
+    record { spaced = kept.spaced; sized = kept.sized; allowed = kept.allowed } in
     let served = promised.streams k s pes is keeps in
     let packets : run_packets (owned d.schedule (StreamItem k)) d.description.rate (declaration s) (timed_pes_packets s.stream_id d.description.base0 units) n
     ≡ packets_on s.pid (run_bytes content 0 n) = sym carried.packets in

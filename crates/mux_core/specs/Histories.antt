@@ -32,8 +32,7 @@ parameters_of d s = record {
   lead = s.lead;
   interval = s.interval;
   size = s.size;
-  group = s.group;
-  group_packets = s.group_packets;
+  allowance = s.allowance;
 }
 
 -- the stream on its own slots

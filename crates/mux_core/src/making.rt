@@ -135,8 +135,7 @@ fn parameters_of(description: &Description, stream: &StreamDescription) -> Strea
         lead: stream.lead,
         interval: stream.interval,
         size: stream.size,
-        group: stream.group,
-        group_packets: stream.group_packets,
+        allowance: stream.allowance,
     }
 }
 

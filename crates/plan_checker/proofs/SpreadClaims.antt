@@ -6,9 +6,11 @@ use Rattle.std.proofs.lemmas.Grind.{common_steps}
 use Rattle.std.proofs.lemmas.List.Elements.{All-get_or}
 use Rattle.clock27.specs.Units.{slot_units_at_1bps}
 use Rattle.own_slots.specs.Period.{per_period}
+use Rattle.unit_timing.specs.Allowances.{allowance_rows}
 use Rattle.unit_timing.specs.Conditions.{packets_in_row, lead_needed, time_given}
 use Rattle.description.specs.Described.{Described, DescribedStream}
 use Rattle.description.specs.Ranges.{IsInRange, IsStream}
+use Rattle.description.proofs.Allowed.{rows_some}
 use Rattle.slot_plan.specs.declared.slot.Item.TheVariants.{Stream}
 use Rattle.slot_plan.specs.declared.condition.Condition.TheVariants.{StreamLead}
 use Rattle.slot_plan.specs.Planned.{Planned}
@@ -36,9 +38,9 @@ pub spread_small : (d : Described) (p : Planned) (i : ℕ) (s : DescribedStream)
 spread_small d p i s ranges is lt few none =
     let stream : IsStream s = rw (← is) at (All-get_or IsStream d.streams i s lt ranges.streams) in
     let zero_on : 0 + i ≡ i = omega arith in
-    let all = holds_at (λ j t. entries_from (stream_lead_entry d p j t) 1 t.group) 0 d.streams i s none lt in
-    let here : first_failing (entries_from (stream_lead_entry d p i s) 1 s.group) ≡ None = rw (zero_on, ← is) at all in
-    let one = holds_count (stream_lead_entry d p i s) 1 s.group 0 (omega (arith, stream.some_group)) here in
+    let all = holds_at (λ j t. entries_from (stream_lead_entry d p j t) 1 (allowance_rows t.allowance)) 0 d.streams i s none lt in
+    let here : first_failing (entries_from (stream_lead_entry d p i s) 1 (allowance_rows s.allowance)) ≡ None = rw (zero_on, ← is) at all in
+    let one = holds_count (stream_lead_entry d p i s) 1 (allowance_rows s.allowance) 0 (omega (arith, rows_some s stream)) here in
     let claim = stream_claim p i in let c = per_period (marks (Stream i) p.slots) in
     let holds = at_most_holds StreamLead (group_part s 1) i (lead_needed (declaration s) (stream_share p i) 1) (time_given d.rate (declaration s) c 1) one in
     claim_bound claim.spread (packets_in_row (declaration s) 1) (length p.slots) c s.rx claim.peak s.lead s.interval d.rate

@@ -6,24 +6,22 @@ ghost use Rattle.own_slots.specs.Spread.{most_within};
 
 use clock27::{BYTE_UNITS_AT_1BPS, SLOT_UNITS_AT_1BPS};
 
-/// The time that `packets` packets one after another take, at `period` slots a period.
+/// What the packets that come in the long run take of a period of `period` slots.
 pub fn rate_needed(packets: u64, period: u64) -> u128
-    requires packets { packets ≤ 2 ^ 21 }
     requires period { period ≤ 65536 }
-    ensures { result ≡ packets * period * slot_units_at_1bps }
+    ensures { result ≡ packets * period }
 {
-    packets as u128 * period as u128 * SLOT_UNITS_AT_1BPS
+    packets as u128 * period as u128
 }
 
-/// The time that `count` own slots a period give to a group of `group` units.
-pub fn rate_given(count: u64, group: u64, interval: u64, rate: u64) -> u128
+/// What `count` own slots a period give to them, in `time` units of 90 kHz.
+pub fn rate_given(count: u64, time: u64, rate: u64) -> u128
     requires count { count ≤ 65536 }
-    requires group { group ≤ 64 }
-    requires interval { interval ≤ 90000 }
+    requires time { time ≤ 5760000 }
     requires rate { rate ≤ 100000000 }
-    ensures { result ≡ count * group * interval * rate }
+    ensures { result ≡ count * time * rate }
 {
-    count as u128 * group as u128 * interval as u128 * rate as u128
+    count as u128 * time as u128 * rate as u128
 }
 
 /// The latest time at which the last of the packets that take `slots` slots has left the transport buffer, where

@@ -1,9 +1,10 @@
 //! The units of a stream have left its transport buffer by their decoding times.
 
-ghost use Rattle.std.specs.Prelude.{◌≡◌, ◌<◌, ◌≤◌, ◌∷◌, [], length};
+ghost use Rattle.std.specs.Prelude.{◌≡◌, ◌^◌, ◌<◌, ◌≤◌, ◌∷◌, [], length};
 ghost use Rattle.own_slots.specs.Period.{per_period};
 ghost use Rattle.description.specs.Ranges.{IsStream};
 ghost use Rattle.description.specs.Tables.{greatest_unit_packets};
+ghost use Rattle.unit_timing.specs.Allowances.{allowance_rows};
 ghost use Rattle.unit_timing.specs.Conditions.{packets_in_row};
 ghost use Rattle.slot_plan.specs.Claims.{declaration};
 ghost use Rattle.slot_plan.specs.Items.{marks};
@@ -20,30 +21,39 @@ use crate::plans::ShapedPlan;
 use crate::refusal::Refusal;
 use slot_plan::{Condition, Item, StreamDescription};
 use std::alloc::Allocator;
+use unit_timing::allowance::Allowance;
 
 /// The packets of a stream's greatest unit, with the longest PES header of 19 bytes (ISO/IEC 13818-1, 2.4.3.7).
 pub fn packets_of_unit(stream: &StreamDescription) -> u64
-    requires { IsStream stream.now }
     ensures packets { result ≡ greatest_unit_packets stream.now }
-    ensures bound { result ≤ 21741 }
+    ensures bound { result < 2 ^ 32 }
 {
     (19 + stream.size as u64).div_ceil(184)
 }
 
-/// The most packets of `units` units in a row, at most those of a group.
+/// The most packets of `units` units in a row: at most those of a group. By pace it is the burst.
+#[tactic(auto, using(description::proofs::Allowed::at_once_few))]
 pub fn packets_in_row(stream: &StreamDescription, units: u8) -> u64
-    requires ranges { IsStream stream.now }
     ensures packets { result ≡ packets_in_row (declaration stream.now) units }
-    ensures bound { result ≤ stream.now.group_packets }
+    ensures bound { IsStream stream.now → result ≤ 1391360 }
 {
-    (units as u64 * packets_of_unit(stream)).min(stream.group_packets as u64)
+    match stream.allowance {
+        Allowance::Groups { packets, .. } => {
+            (units as u64 * packets_of_unit(stream)).min(packets as u64)
+        }
+        Allowance::Pace { burst, .. } => burst as u64,
+    }
 }
 
 /// The part of a condition on `units` units in a row: 0 where the stream has no groups.
 pub fn group_part(stream: &StreamDescription, units: u8) -> u8
     ensures { result ≡ group_part stream.now units }
 {
-    if stream.group == 1 { 0 } else { units }
+    if stream.allowance.rows() == 1 {
+        0
+    } else {
+        units
+    }
 }
 
 /// The units of each stream, one and up to a group in a row.
@@ -55,7 +65,7 @@ impl<A: Allocator> ItemCondition<ShapedPlan<'_, A>> for StreamLeads {
     ghost items = { λ s. s.description.now.streams };
 
     ghost entries = { λ s i stream.
-        entries_from (stream_lead_entry s.description.now s.plan.now i stream) 1 stream.group };
+        entries_from (stream_lead_entry s.description.now s.plan.now i stream) 1 (allowance_rows stream.allowance) };
 
     fn count(plans: &ShapedPlan<'_, A>) -> usize {
         plans.description.streams().len()
@@ -76,16 +86,18 @@ fn stream_lead<A: Allocator>(
     requires small { i < 256 }
     requires ranges { IsStream stream.now }
     ensures { failed result ≡ first_failing (entries_from
-        (stream_lead_entry plans.now.description.now plans.now.plan.now i stream.now) 1 stream.now.group) }
+        (stream_lead_entry plans.now.description.now plans.now.plan.now i stream.now) 1
+        (allowance_rows stream.now.allowance)) }
 {
     let count = own_count(plans.plan.slots(), Item::Stream(i as u8));
-    for before in 0..stream.group {
+    for before in 0..stream.allowance.rows() {
         units_lead(plans, i, stream, count, before + 1)?;
     }
     Ok(())
 }
 
 /// `units` units in a row of stream number `i`, which has `count` own slots a period.
+#[tactic(auto, using(description::proofs::Allowed::rows_most))]
 fn units_lead<A: Allocator>(
     plans: &ShapedPlan<'_, A>,
     i: usize,
@@ -99,7 +111,7 @@ fn units_lead<A: Allocator>(
     requires counted { count ≡ per_period (marks (Item.Stream i) plans.now.plan.now.slots) }
     requires bound { count ≤ 65536 }
     requires positive { 0 < units }
-    requires group { units ≤ stream.now.group }
+    requires rows { units ≤ allowance_rows stream.now.allowance }
     ensures { failed result ≡ first_failing
         (stream_lead_entry plans.now.description.now plans.now.plan.now i stream.now units ∷ []) }
 {

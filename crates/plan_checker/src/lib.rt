@@ -5,7 +5,8 @@
 //! - [`check_switch`]: a second plan after a checked one, to a [`CheckedSwitch`] or a [`Refusal`].
 //! - [`own_count`], [`spread_of`], [`work_of`]: the numbers of an item's own slots that the conditions compare, each in
 //!   one walk over a period.
-//! - [`packets_in_row`], [`waiting_slots`], [`bytes_by_units`]: those of what a stream declares.
+//! - [`steady_packets`], [`steady_time`], [`packets_in_row`], [`waiting_slots`], [`bytes_by_units`]: those of what a
+//!   stream declares.
 #![tactic(auto)]
 
 mod buffers;
@@ -40,5 +41,6 @@ pub use own_counts::own_count;
 pub use refusal::Refusal;
 pub use slot_plan::{Condition, Relation};
 pub use spread::spread_of;
+pub use stream_slots::{steady_packets, steady_time};
 pub use switch::succession::check_switch;
 pub use work::{Work, work_of};

@@ -2,7 +2,7 @@
 
 ghost use Rattle.std.specs.Prelude.{◌≡◌, ◌^◌, ◌<◌, ◌≤◌, ◌∷◌, [], length};
 ghost use Rattle.description.specs.Ranges.{IsStream};
-ghost use Rattle.unit_timing.specs.Conditions.{grouped_packets, waiting_units, waiting_slots};
+ghost use Rattle.unit_timing.specs.Conditions.{waiting_units, waiting_packets, waiting_slots};
 ghost use Rattle.unit_timing.specs.Conditions.{bytes_by_units, bytes_by_slots};
 ghost use Rattle.slot_plan.specs.Claims.{declaration, stream_share};
 ghost use Rattle.slot_plan.specs.Conditions.{main_buffer_entry};
@@ -19,18 +19,7 @@ use crate::refusal::Refusal;
 use clock27::SLOT_UNITS_AT_1BPS;
 use slot_plan::{Condition, Description, Item, Plan, StreamDescription};
 use std::alloc::Allocator;
-
-/// The most packets of `units` units in a row: whole groups, and a rest.
-pub fn grouped_packets(stream: &StreamDescription, units: u64) -> u64
-    requires ranges { IsStream stream.now }
-    requires units { units ≤ 90000 }
-    ensures packets { result ≡ grouped_packets (declaration stream.now) units }
-    ensures bound { result < 2 ^ 50 }
-{
-    let group = stream.group as u64;
-    let most = stream.group_packets as u64;
-    units / group * most + (units % group * packets_of_unit(stream)).min(most)
-}
+use unit_timing::allowance::Allowance;
 
 /// The units that can wait for their decoding time at once, rounded up.
 pub fn waiting_units(stream: &StreamDescription) -> u64
@@ -39,6 +28,25 @@ pub fn waiting_units(stream: &StreamDescription) -> u64
     ensures bound { result ≤ 90000 }
 {
     (stream.lead as u64).div_ceil(stream.interval as u64)
+}
+
+/// The most packets of these units: whole groups, and a rest. By pace it is the burst, and what comes within the lead.
+#[tactic(auto, using(description::proofs::Allowed::within_few))]
+fn waiting_packets(stream: &StreamDescription) -> u64
+    requires ranges { IsStream stream.now }
+    ensures packets { result ≡ waiting_packets (declaration stream.now) }
+    ensures bound { result < 2 ^ 40 }
+{
+    match stream.allowance {
+        Allowance::Groups { units, packets } => {
+            let (group, most) = (units as u64, packets as u64);
+            let waiting = waiting_units(stream);
+            waiting / group * most + (waiting % group * packets_of_unit(stream)).min(most)
+        }
+        Allowance::Pace { burst, pace } => {
+            burst as u64 + pace as u64 * stream.lead as u64 / SLOT_UNITS_AT_1BPS as u64
+        }
+    }
 }
 
 /// The slots in which the packets of these units come.
@@ -56,8 +64,8 @@ pub fn bytes_by_units(stream: &StreamDescription) -> u64
     requires ranges { IsStream stream.now }
     ensures bytes { result ≡ bytes_by_units (declaration stream.now) }
 {
-    let units = waiting_units(stream);
-    (units * (19 + stream.size as u64)).min(184 * grouped_packets(stream, units))
+    let sizes = waiting_units(stream) * (19 + stream.size as u64);
+    sizes.min(184 * waiting_packets(stream))
 }
 
 /// The bytes that can wait at once, by the slots in which they come.

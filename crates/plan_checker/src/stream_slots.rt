@@ -1,6 +1,8 @@
 //! The slots of a stream: spread as claimed, and enough for its units.
 
-ghost use Rattle.std.specs.Prelude.{◌∷◌, []};
+ghost use Rattle.std.specs.Prelude.{◌≡◌, ◌*◌, ◌≤◌, ◌∷◌, []};
+ghost use Rattle.unit_timing.specs.Allowances.{steady_packets, steady_time};
+ghost use Rattle.description.specs.Ranges.{IsStream};
 ghost use Rattle.slot_plan.specs.Conditions.{spread_entry, stream_rate_entry};
 
 use crate::claims::claim_of_stream;
@@ -11,8 +13,10 @@ use crate::own_counts::own_count;
 use crate::plans::ShapedPlan;
 use crate::refusal::Refusal;
 use crate::spread::spread_of;
+use clock27::SLOT_UNITS_AT_1BPS;
 use slot_plan::{Condition, Item, StreamDescription};
 use std::alloc::Allocator;
+use unit_timing::allowance::Allowance;
 
 /// The own slots of each stream stray from even spacing by no more than claimed.
 pub struct Spreads;
@@ -42,7 +46,34 @@ impl<A: Allocator> ItemCondition<ShapedPlan<'_, A>> for Spreads {
     }
 }
 
-/// Each stream has slots enough for group after group of its units.
+/// The packets of a stream that come in the time of [`steady_time`] in the long run, each counted as 135,360,000: those
+/// of a group of units. By pace it is the pace, in bits a second.
+#[tactic(auto, using(description::proofs::Allowed::steady_some, description::proofs::Allowed::steady_few))]
+pub fn steady_packets(stream: &StreamDescription) -> u64
+    ensures packets { result ≡ steady_packets stream.now.allowance }
+    ensures some { IsStream stream.now → 1 ≤ result }
+    ensures bound { IsStream stream.now → result ≤ 1391360 * 135360000 }
+{
+    match stream.allowance {
+        Allowance::Groups { packets, .. } => packets as u64 * SLOT_UNITS_AT_1BPS as u64,
+        Allowance::Pace { pace, .. } => pace as u64,
+    }
+}
+
+/// The time in which they come, in units of 90 kHz: that of a group of units. By pace it is 1.
+#[tactic(auto, using(description::proofs::Allowed::time_some, description::proofs::Allowed::time_few))]
+pub fn steady_time(stream: &StreamDescription) -> u64
+    ensures time { result ≡ steady_time stream.now.allowance stream.now.interval }
+    ensures some { IsStream stream.now → 1 ≤ result }
+    ensures bound { IsStream stream.now → result ≤ 5760000 }
+{
+    match stream.allowance {
+        Allowance::Groups { units, .. } => units as u64 * stream.interval as u64,
+        Allowance::Pace { .. } => 1,
+    }
+}
+
+/// Each stream has slots enough for what its units have in the long run.
 pub struct StreamRates;
 
 impl<A: Allocator> ItemCondition<ShapedPlan<'_, A>> for StreamRates {
@@ -61,8 +92,8 @@ impl<A: Allocator> ItemCondition<ShapedPlan<'_, A>> for StreamRates {
         let slots = plans.plan.slots();
         let count = own_count(slots, Item::Stream(i as u8));
         let rate = plans.description.rate().bits_per_second();
-        let needed = rate_needed(stream.group_packets as u64, slots.len() as u64);
-        let given = rate_given(count, stream.group as u64, stream.interval as u64, rate);
+        let needed = rate_needed(steady_packets(stream), slots.len() as u64);
+        let given = rate_given(count, steady_time(stream), rate);
         at_most(Condition::StreamRate, 0, i as u32, needed, given)
     }
 }

@@ -67,7 +67,7 @@ recurring_kept n c (suc k') (suc h') g' w some near le =
     let m : w * (n * k) ≤ w * (g * c) = mul-le-mul_left w near in
     le_of_mul-le-mul_right {k = g} (omega (arith, h, m)) (omega arith)
 
--- a stream: m slots of its groups, t the time of a group, both on the scale of the rate
+-- a stream: m its packets in the long run, t the time in which they come, on the scale of the rate
 pub stream_kept : (n c m t w : ℕ) → 0 < n → m * n ≤ c * t → n * (w * m / t) ≤ w * c
 stream_kept n c m zero w pos le = rw div-zero (omega arith)
 stream_kept n c m (suc t') w pos le =

@@ -6,13 +6,14 @@ use Rattle.std.proofs.Math.Nat.{mul-le-mul_left, div-mul-le_self, zero-mul}
 use Rattle.std.proofs.lemmas.Nat.{le-div}
 use Rattle.std.proofs.lemmas.Bool.Decides.{nat_tests}
 use Rattle.std.proofs.lemmas.List.Sums.{sum_by-append, sum_by-cons}
-use Rattle.clock27.specs.Units.{slot_units_at_1bps, slot_ms_at_1bps}
+use Rattle.clock27.specs.Units.{slot_ms_at_1bps}
 use Rattle.clock27.specs.LeastRate.{IsLeastRate, HasNoRate}
 use Rattle.clock27.specs.declared.rate.TheConstants.{GREATEST_RATE}
 use Rattle.description.specs.Described.{Described}
 use Rattle.description.specs.Tables.{table_kinds, table_limit, round_packets}
 use Rattle.slot_plan.specs.Numbered.{numbered}
 use Rattle.slot_plan.proofs.NumberedLists.{numbered-more}
+use Rattle.unit_timing.specs.Allowances.{steady_packets, steady_time}
 use Rattle.unit_timing.specs.Shares.{parts}
 use Rattle.plan_search.specs.Loads.{stream_load, recurring_load, total, load, has_slots, least_rate}
 use Rattle.plan_search.proofs.FirstNumbers.{first_fails, first_here}
@@ -63,7 +64,7 @@ recurring_less r r' limit k le =
 pub load_less : (d : Described) (r r' : ℕ) → 0 < r → r ≤ r' → load d r' ≤ load d r
 load_less d r r' pos le =
     let streams = each_at_most (λ _ s. stream_load r' s) (λ _ s. stream_load r s) 1 1 0 d.streams
-    (λ i s is. omega (arith, stream_less (parts * (s.group_packets * slot_units_at_1bps)) (s.group * s.interval) r r' pos le)) in
+    (λ i s is. omega (arith, stream_less (parts * steady_packets s.allowance) (steady_time s.allowance s.interval) r r' pos le)) in
     let pcrs = each_at_most (λ _ p. recurring_load r' p.pcr_limit 1) (λ _ p. recurring_load r p.pcr_limit 1) 1 1 0 d.programs
     (λ i p is. omega (arith, recurring_less r r' p.pcr_limit 1 le)) in
     let tables = each_at_most (λ t _. recurring_load r' (table_limit d t) (round_packets d t)) (λ t _. recurring_load r (table_limit d t) (round_packets d t)) 1 1 0 (table_kinds d)

@@ -17,6 +17,7 @@ use Rattle.own_slots.proofs.Extremes.{greatest_at_most}
 use Rattle.own_slots.proofs.Counts.{own_before_own, own_before_other}
 use Rattle.own_slots.proofs.PositionLemmas.{own_before_period, per_period_le}
 use Rattle.own_slots.proofs.WorkLemmas.{work_more, work_begin}
+use Rattle.unit_timing.specs.Allowances.{allowance_rows, steady_packets, steady_time}
 use Rattle.unit_timing.specs.Conditions.{StreamConditions, packets_in_row, waiting_slots}
 use Rattle.description.specs.Described.{Described, DescribedProgram, DescribedStream}
 use Rattle.description.specs.Tables.{table_kinds, table_count, table_limit, round_packets}
@@ -124,38 +125,38 @@ module _ (d : Described) (p : Planned) (i : ℕ) (s : DescribedStream) (holds : 
   pace : per_period (marks (Stream i) p.slots) * d.rate ≤ length (marks (Stream i) p.slots) * s.rx
   pace = drains d.rate s.rx (claim_of p i).start (marks (Stream i) p.slots) holds.work.carries
 
-  -- the own slots are enough for the groups
-  enough : s.group_packets * slot_units_at_1bps * length (marks (Stream i) p.slots) ≤ per_period (marks (Stream i) p.slots) * (s.group * s.interval * d.rate)
+  -- the own slots are enough in the long run
+  enough : steady_packets s.allowance * length (marks (Stream i) p.slots) ≤ per_period (marks (Stream i) p.slots) * (steady_time s.allowance s.interval * d.rate)
   enough = omega (arith, holds.rate_serves)
 
   drain_kept : (j : ℕ) → drain_reason j s ≡ []
-  drain_kept j = rw (not_less (s.group * s.interval * s.rx) (s.group_packets * slot_units_at_1bps)
-      (divided (length (marks (Stream i) p.slots)) s.group_packets (per_period (marks (Stream i) p.slots)) (s.group * s.interval) d.rate s.rx some_slots (omega (arith, enough)) pace)) refl
+  drain_kept j = rw (not_less (steady_time s.allowance s.interval * s.rx) (steady_packets s.allowance)
+      (divided (length (marks (Stream i) p.slots)) (steady_packets s.allowance) (per_period (marks (Stream i) p.slots)) (steady_time s.allowance s.interval) d.rate s.rx some_slots enough pace)) refl
     where
-      divided : (n m c t r x : ℕ) → 1 ≤ n → m * n * slot_units_at_1bps ≤ c * t * r → c * r ≤ n * x → m * slot_units_at_1bps ≤ t * x
-      divided n m c t r x some rate pace = elim (cases_lt (t * x) (m * slot_units_at_1bps)) [
+      divided : (n m c t r x : ℕ) → 1 ≤ n → m * n ≤ c * (t * r) → c * r ≤ n * x → m ≤ t * x
+      divided n m c t r x some rate pace = elim (cases_lt (t * x) m) [
         | inl less ↦ absurd (let a = mul-le-mul_left t pace in let b = mul-le-mul_left n less in omega (arith, rate, a, b, some))
         | inr le ↦ le
       ]
 
-  units_kept : (m : ℕ) → 0 < m → m ≤ s.group → units_lead d s m ≤ s.lead
-  units_kept m some group =
+  units_kept : (m : ℕ) → 0 < m → m ≤ allowance_rows s.allowance → units_lead d s m ≤ s.lead
+  units_kept m some rows =
       let peak = least_peak d.rate s.rx (claim_of p i).start (marks (Stream i) p.slots) holds.owned in
       let needed = lead_kept (per_period (marks (Stream i) p.slots)) (length (marks (Stream i) p.slots)) d.rate s.rx (packets_in_row (declaration s) m)
       (claim_of p i).spread (claim_of p i).peak (s.lead + (m - 1) * s.interval)
-      holds.owned (per_period_le (marks (Stream i) p.slots)) pace (omega (arith, peak, holds.work.peaks)) (holds.lead_serves m some group) in
+      holds.owned (per_period_le (marks (Stream i) p.slots)) pace (omega (arith, peak, holds.work.peaks)) (holds.lead_serves m some rows) in
       omega (arith, ceil_at_most ((packets_in_row (declaration s) m * max d.rate s.rx + s.rx + d.rate) * slot_units_at_1bps) (d.rate * s.rx) (s.lead + (m - 1) * s.interval) needed)
 
   lead_reason_kept : (j : ℕ) → lead_reason d j s ≡ []
   lead_reason_kept j =
-      let most : least_lead d s ≤ s.lead = greatest_at_most s.group (λ before. units_lead d s (before + 1)) s.lead (λ before lt. units_kept (before + 1) (omega arith) (omega (arith, lt))) in
+      let most : least_lead d s ≤ s.lead = greatest_at_most (allowance_rows s.allowance) (λ before. units_lead d s (before + 1)) s.lead (λ before lt. units_kept (before + 1) (omega arith) (omega (arith, lt))) in
       rw (not_less s.lead (least_lead d s) most) refl
 
   main_kept : (j : ℕ) → main_reason d j s ≡ []
   main_kept j =
       let c : ℕ = per_period (marks (Stream i) p.slots) in
       let window : ℕ = waiting_slots d.rate (declaration s) - 1 in
-      let few = window_kept (length (marks (Stream i) p.slots)) c (s.group_packets * slot_units_at_1bps) (s.group * s.interval * d.rate) window
+      let few = window_kept (length (marks (Stream i) p.slots)) c (steady_packets s.allowance) (steady_time s.allowance s.interval * d.rate) window
       (window * c + (claim_of p i).spread) some_slots enough (omega arith) in
       let most : least_main d s ≤ s.main = omega (arith, few, holds.main_fits) in
       rw (not_less s.main (least_main d s) most) refl
@@ -173,7 +174,7 @@ module _ (d : Described) (p : Planned) (k : ServingConditions d p) where
       share i s is =
           let e : 0 + i ≡ i = omega arith in
           let holds = stream_holds d p i s k is in
-          let kept = stream_kept (length (marks (Stream i) p.slots)) (per_period (marks (Stream i) p.slots)) (s.group_packets * slot_units_at_1bps) (s.group * s.interval * d.rate) parts
+          let kept = stream_kept (length (marks (Stream i) p.slots)) (per_period (marks (Stream i) p.slots)) (steady_packets s.allowance) (steady_time s.allowance s.interval * d.rate) parts
           (some_slots d p i s holds) (enough d p i s holds) in
           rw e (rw (length_marks (Stream i) p.slots) at kept)
 

@@ -2,17 +2,18 @@
 -- down.
 use Rattle.std.specs.Prelude.{ℕ, ◌+◌, ◌-◌, ◌*◌, ◌/◌, max, Bool, List, [], ◌∷◌, Option, option_map, nat_le}
 use Rattle.std.specs.List.{sum_by}
-use Rattle.clock27.specs.Units.{slot_ms_at_1bps, slot_units_at_1bps}
+use Rattle.clock27.specs.Units.{slot_ms_at_1bps}
 use Rattle.clock27.specs.declared.rate.TheConstants.{GREATEST_RATE}
+use Rattle.unit_timing.specs.Allowances.{steady_packets, steady_time}
 use Rattle.unit_timing.specs.Shares.{parts}
 use Rattle.description.specs.Described.{Described, DescribedStream}
 use Rattle.description.specs.Tables.{table_kinds, table_limit, round_packets}
 use Rattle.slot_plan.specs.Numbered.{numbered}
 use Rattle.plan_search.specs.FirstNumbers.{first_of}
 
--- of a stream: the packets of a group of its units come in the time of a group
+-- of a stream: its packets come in the long run as it declares, those of a group of units in the time of a group
 abbrev pub stream_load : ℕ → DescribedStream → ℕ
-stream_load rate s = parts * (s.group_packets * slot_units_at_1bps) / (s.group * s.interval * rate)
+stream_load rate s = parts * steady_packets s.allowance / (steady_time s.allowance s.interval * rate)
 
 -- of what comes k packets at a time, each time within a limit in ms
 abbrev pub recurring_load : ℕ → ℕ → ℕ → ℕ

@@ -3,6 +3,7 @@ use Rattle.std.specs.Prelude.{◌≡◌, ℕ, ◌+◌, ◌-◌, ◌*◌, ◌/◌
 use Rattle.std.specs.Int.{div_ceil}
 use Rattle.clock27.specs.Units.{slot_ms_at_1bps, slot_units_at_1bps}
 use Rattle.own_slots.specs.Extremes.{greatest}
+use Rattle.unit_timing.specs.Allowances.{allowance_rows, steady_packets, steady_time}
 use Rattle.unit_timing.specs.Conditions.{packets_in_row, waiting_slots, bytes_by_units}
 use Rattle.description.specs.Described.{Described, DescribedProgram, DescribedStream}
 use Rattle.description.specs.Tables.{table_kinds, table_limit, round_packets}
@@ -30,22 +31,22 @@ table_reason d t = if nat_lt (table_limit d t * d.rate) (round_packets d t * slo
 
 -- ---- streams (their transport and main buffers: ISO/IEC 13818-1, 2.4.2.3)
 
--- the least drain of a stream's transport buffer in bits a second, for whole packets of its groups of units
+-- the least drain of a stream's transport buffer in bits a second, for its whole packets in the long run
 abbrev pub least_drain : DescribedStream → ℕ
-least_drain s = div_ceil (s.group_packets * slot_units_at_1bps) (s.group * s.interval)
+least_drain s = div_ceil (steady_packets s.allowance) (steady_time s.allowance s.interval)
 
 -- its transport buffer is drained only where it is not slower than that
 abbrev pub drain_reason : ℕ → DescribedStream → List Reason
-drain_reason i s = if nat_lt (s.group * s.interval * s.rx) (s.group_packets * slot_units_at_1bps) then SlowDrain i (least_drain s) ∷ [] else []
+drain_reason i s = if nat_lt (steady_time s.allowance s.interval * s.rx) (steady_packets s.allowance) then SlowDrain i (least_drain s) ∷ [] else []
 
 -- the least lead in units of 90 kHz for m units in a row: their packets come neither faster than slots do nor faster
 -- than the transport buffer is drained, one slot is lost until the first, and the last packet is drained in its turn
 abbrev pub units_lead : Described → DescribedStream → ℕ → ℕ
 units_lead d s m = div_ceil ((packets_in_row (declaration s) m * max d.rate s.rx + s.rx + d.rate) * slot_units_at_1bps) (d.rate * s.rx) - (m - 1) * s.interval
 
--- for one and up to a group
+-- for one and up to a group of units
 abbrev pub least_lead : Described → DescribedStream → ℕ
-least_lead d s = greatest s.group (λ before. units_lead d s (before + 1))
+least_lead d s = greatest (allowance_rows s.allowance) (λ before. units_lead d s (before + 1))
 
 -- units leave the transport buffer by their decoding times only with that lead
 abbrev pub lead_reason : Described → ℕ → DescribedStream → List Reason
@@ -55,7 +56,7 @@ lead_reason d i s = if nat_lt s.lead (least_lead d s) then ShortLead i (least_le
 -- where the stream has no more slots than its units ask for
 abbrev pub least_main : Described → DescribedStream → ℕ
 least_main d s = min (bytes_by_units (declaration s))
-    (184 * ((waiting_slots d.rate (declaration s) - 1) * (s.group_packets * slot_units_at_1bps) / (s.group * s.interval * d.rate) + 1))
+    (184 * ((waiting_slots d.rate (declaration s) - 1) * steady_packets s.allowance / (steady_time s.allowance s.interval * d.rate) + 1))
 
 -- units find room until their decoding times only in such a buffer
 abbrev pub main_reason : Described → ℕ → DescribedStream → List Reason

@@ -1,8 +1,9 @@
 -- The distances at which the plain plan sets the slots of each item: the greatest power of two that the item's own
 -- condition lets evenly spaced slots be apart.
 use Rattle.std.specs.Prelude.{ℕ, ◌*◌, ◌/◌, ◌^◌, List, [], ◌∷◌, ◌++◌, nat_le, if◌then◌else◌}
-use Rattle.clock27.specs.Units.{slot_ms_at_1bps, slot_units_at_1bps}
+use Rattle.clock27.specs.Units.{slot_ms_at_1bps}
 use Rattle.own_slots.specs.Extremes.{greatest}
+use Rattle.unit_timing.specs.Allowances.{steady_packets, steady_time}
 use Rattle.description.specs.Described.{Described, DescribedProgram, DescribedStream}
 use Rattle.description.specs.Tables.{table_kinds, table_limit, round_packets}
 use Rattle.slot_plan.specs.declared.slot.Slot.TheVariants.{Stream, Pcr, Table}
@@ -17,9 +18,9 @@ within room slots = if nat_le slots room then slots else 0
 abbrev pub spacing : ℕ → ℕ
 spacing room = greatest 17 (λ e. within room (2 ^ e))
 
--- the slots in which a stream's group of units needs a packet (the condition on a stream's rate)
+-- the slots in which a stream needs a packet in the long run (the condition on a stream's rate)
 abbrev pub stream_room : Described → DescribedStream → ℕ
-stream_room d s = s.group * s.interval * d.rate / (s.group_packets * slot_units_at_1bps)
+stream_room d s = steady_time s.allowance s.interval * d.rate / steady_packets s.allowance
 
 -- the slots within which a program needs a PCR (ISO/IEC 13818-1, 2.7.2); a slot is 1,504 bits, the limit in ms
 abbrev pub pcr_room : Described → DescribedProgram → ℕ

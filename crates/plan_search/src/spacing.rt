@@ -6,7 +6,8 @@ ghost use Rattle.description.specs.Tables.{table_count};
 ghost use Rattle.plan_search.specs.Spacings.{within, spacing, stream_room, pcr_room, table_room};
 ghost use Rattle.plan_search.specs.Spacings.{spaced_streams, spaced_pcrs, spaced_tables, spaced_items};
 
-use clock27::{SLOT_MS_AT_1BPS, SLOT_UNITS_AT_1BPS};
+use clock27::SLOT_MS_AT_1BPS;
+use plan_checker::{steady_packets, steady_time};
 use slot_plan::{Description, ProgramDescription, Slot, StreamDescription};
 use std::alloc::{AllocError, Allocator};
 
@@ -39,14 +40,12 @@ pub fn spacing_of(room: u64) -> u64
     spacing
 }
 
-/// The slots in which a stream's group of units needs a packet.
+/// The slots in which a stream needs a packet in the long run.
 fn stream_room(description: &Description, stream: &StreamDescription) -> u64
     requires { IsStream stream.now }
     ensures { result ≡ stream_room description.now stream.now }
 {
-    let rate = description.rate().bits_per_second();
-    let given = stream.group as u64 * stream.interval as u64 * rate;
-    given / (stream.group_packets as u64 * SLOT_UNITS_AT_1BPS as u64)
+    steady_time(stream) * description.rate().bits_per_second() / steady_packets(stream)
 }
 
 /// The slots within which a program needs a PCR.

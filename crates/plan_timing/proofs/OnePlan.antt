@@ -15,12 +15,14 @@ use Rattle.own_slots.specs.Rounds.{starts}
 use Rattle.own_slots.proofs.Gaps.{gap_law}
 use Rattle.own_slots.proofs.Recurrence.{pcr_law, table_law}
 use Rattle.unit_timing.specs.Buffers.{tb_size, system_tb_drain, bsys_size, bsys_drain}
+use Rattle.unit_timing.specs.Allowances.{allowance_rows}
 use Rattle.unit_timing.specs.Plans.{StreamServed, ProgramServed}
 use Rattle.unit_timing.specs.Conditions.{IsProper, StreamClaim, ProgramClaim, rate_needed, rate_given, lead_needed, time_given, bytes_waiting, StreamConditions, ProgramConditions}
 use Rattle.unit_timing.proofs.PlanLemmas.{stream_law, program_law}
 use Rattle.description.specs.Described.{Described, DescribedProgram, DescribedStream}
 use Rattle.description.specs.Ranges.{IsInRange, IsStream}
 use Rattle.description.specs.Tables.{table_kinds, table_count, table_limit, round_packets, section_count, section_lengths, packets_of_section}
+use Rattle.description.proofs.Allowed.{rows_some}
 use Rattle.slot_plan.specs.declared.slot.Slot.{Slot}
 use Rattle.slot_plan.specs.declared.slot.Item.{Item}
 use Rattle.slot_plan.specs.declared.slot.Item.TheVariants.{Stream, Pcr, Table, System}
@@ -50,7 +52,7 @@ proper d i s ranges is = let r = stream_ranges d i s ranges is in record {
   some_interval = omega (arith, r.some_interval);
   some_lead = omega (arith, r.some_lead);
   some_drain = omega (arith, r.least_rx);
-  some_group = omega (arith, r.some_group);
+  some_rows = omega (arith, rows_some s r);
 }
 
 -- ---- the slots of a stream
@@ -67,12 +69,13 @@ program_claim_of p i = let claim = program_claim p i in record {
   system_peak = claim.system_peak;
 }
 
-lead_holds : (d : Described) (p : Planned) (i : ℕ) (s : DescribedStream) → Hold (entries_from (stream_lead_entry d p i s) 1 s.group) → (m : ℕ) → 0 < m → m ≤ s.group →
+lead_holds : (d : Described) (p : Planned) (i : ℕ) (s : DescribedStream) → Hold (entries_from (stream_lead_entry d p i s) 1 (allowance_rows s.allowance)) →
+    (m : ℕ) → 0 < m → m ≤ allowance_rows s.allowance →
     lead_needed (declaration s) (stream_share p i) m ≤ time_given d.rate (declaration s) (stream_share p i).count m
 lead_holds d p i s hold m some below =
     let e : 1 + (m - 1) ≡ m = omega arith in
     at_most_holds StreamLead (group_part s m) i (lead_needed (declaration s) (stream_share p i) m) (time_given d.rate (declaration s) (stream_share p i).count m)
-    (rw e at (holds_count (stream_lead_entry d p i s) 1 s.group (m - 1) (omega arith) hold))
+    (rw e at (holds_count (stream_lead_entry d p i s) 1 (allowance_rows s.allowance) (m - 1) (omega arith) hold))
 
 pub stream_holds : (d : Described) (p : Planned) (i : ℕ) (s : DescribedStream) → ServingConditions d p → slice_get d.streams i ≡ Some s →
     StreamConditions d.rate (declaration s) (claim_of p i) (marks (Stream i) p.slots)
@@ -83,7 +86,7 @@ stream_holds d p i s serves is =
     (holds_element (λ j t. stream_rate_entry d p j t ∷ []) d.streams i s serves.rates is) in
     let main = at_most_holds MainBuffer 0 i (bytes_waiting d.rate (declaration s) own) s.main
     (holds_element (λ j t. main_buffer_entry d p j t ∷ []) d.streams i s serves.main_buffers is) in
-    let lead = lead_holds d p i s (holds_element (λ k t. entries_from (stream_lead_entry d p k t) 1 t.group) d.streams i s serves.leads is) in
+    let lead = lead_holds d p i s (holds_element (λ k t. entries_from (stream_lead_entry d p k t) 1 (allowance_rows t.allowance)) d.streams i s serves.leads is) in
     record {
       owned = serves.shape.streams_own i lt;
       spread_claimed = at_most_holds Spread 0 i (spread (marks (Stream i) p.slots)) claim.spread (holds_item (λ j. spread_entry p j ∷ []) d.streams i serves.spreads lt);

@@ -14,6 +14,7 @@ use Rattle.own_slots.proofs.Extremes.{at_most_greatest}
 use Rattle.own_slots.proofs.SwitchLemmas.{switch_gap_law}
 use Rattle.own_slots.proofs.Recurrence.{pcr_law, table_law}
 use Rattle.unit_timing.specs.Buffers.{system_tb_drain, bsys_drain}
+use Rattle.unit_timing.specs.Allowances.{allowance_rows}
 use Rattle.unit_timing.specs.Plans.{StreamServed, ProgramServed}
 use Rattle.unit_timing.specs.Conditions.{lead_across, time_given, bytes_across, StreamSwitchConditions, ProgramSwitchConditions}
 use Rattle.unit_timing.proofs.PlanLemmas.{stream_switch_law, program_switch_law}
@@ -35,8 +36,8 @@ use Rattle.slot_plan.proofs.ItemConditions.{holds_element, holds_count}
 use Rattle.plan_timing.specs.Promised.{SwitchLaw}
 use Rattle.plan_timing.proofs.OnePlan.{length_marks, proper, claim_of, program_claim_of, stream_holds, program_holds, pcr_gap_holds, table_gap_holds, first_packet_below}
 
-lead_joins : (d : Described) (first second : Planned) (i : ℕ) (s : DescribedStream) → Hold (entries_from (lead_switch_entry d first second i s) 1 s.group) →
-    (m : ℕ) → 0 < m → m ≤ s.group →
+lead_joins : (d : Described) (first second : Planned) (i : ℕ) (s : DescribedStream) → Hold (entries_from (lead_switch_entry d first second i s) 1 (allowance_rows s.allowance)) →
+    (m : ℕ) → 0 < m → m ≤ allowance_rows s.allowance →
     lead_across (declaration s) (stream_share first i) (stream_share second i) (shift (marks (Stream i) first.slots) (marks (Stream i) second.slots)) m
     ≤ time_given d.rate (declaration s) ((stream_share first i).count * (stream_share second i).count) m
 lead_joins d first second i s hold m some below =
@@ -44,12 +45,12 @@ lead_joins d first second i s hold m some below =
     at_most_holds LeadSwitch (group_part s m) i
     (lead_across (declaration s) (stream_share first i) (stream_share second i) (shift (marks (Stream i) first.slots) (marks (Stream i) second.slots)) m)
     (time_given d.rate (declaration s) ((stream_share first i).count * (stream_share second i).count) m)
-    (rw e at (holds_count (lead_switch_entry d first second i s) 1 s.group (m - 1) (omega arith) hold))
+    (rw e at (holds_count (lead_switch_entry d first second i s) 1 (allowance_rows s.allowance) (m - 1) (omega arith) hold))
 
 stream_joins : (d : Described) (first second : Planned) (i : ℕ) (s : DescribedStream) → FollowingConditions d first second → slice_get d.streams i ≡ Some s →
     StreamSwitchConditions d.rate (declaration s) (claim_of first i) (marks (Stream i) first.slots) (claim_of second i) (marks (Stream i) second.slots)
 stream_joins d first second i s follows is =
-    let lead = lead_joins d first second i s (holds_element (λ k t. entries_from (lead_switch_entry d first second k t) 1 t.group) d.streams i s follows.leads is) in
+    let lead = lead_joins d first second i s (holds_element (λ k t. entries_from (lead_switch_entry d first second k t) 1 (allowance_rows t.allowance)) d.streams i s follows.leads is) in
     let main = at_most_holds MainSwitch 0 i (bytes_across d.rate (declaration s) (stream_share first i) (stream_share second i)) s.main
     (holds_element (λ j t. main_switch_entry d first second j t ∷ []) d.streams i s follows.main_buffers is) in
     record {

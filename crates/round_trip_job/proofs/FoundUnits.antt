@@ -32,7 +32,7 @@ some_bytes r (u ∷ us) all =
 whole : (line : Scheduled) (k n : ℕ) (s : DescribedStream) (us : List AccessUnit) → Promised line.description line.schedule → slice_get line.description.streams k ≡ Some s →
     Kept (owned_stream line k s) us → AllDue line.description.rate n us → All (IsWhole (owned_stream line k s)) (sent_units (owned_stream line k s) n us)
 whole line k n s us promised is kept due =
-    let keeps : KeepsDeclaration (declaration s) (map (timed (owned_stream line k s)) us) = record { spaced = kept.spaced; sized = kept.sized; grouped = kept.grouped } in
+    let keeps : KeepsDeclaration (declaration s) (map (timed (owned_stream line k s)) us) = record { spaced = kept.spaced; sized = kept.sized; allowed = kept.allowed } in
     sent_whole (owned_stream line k s) s.rx n us due ((promised.streams k s (map (timed (owned_stream line k s)) us) is keeps).arrived n)
 
 -- on their PID they are found

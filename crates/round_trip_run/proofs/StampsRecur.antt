@@ -145,7 +145,7 @@ stream_in_time : (d : Scheduled) (units : ℕ → List AccessUnit) (n k : ℕ) (
 stream_in_time d units n k s r promised kept often is =
     let texts = timed_pes_packets s.stream_id d.description.base0 (units k) in
     let own = kept.kept k s is in
-    let keeps : KeepsDeclaration (declaration s) (timed_pes_packets s.stream_id d.description.base0 (units k)) = record { spaced = own.spaced; sized = own.sized; grouped = own.grouped } in
+    let keeps : KeepsDeclaration (declaration s) (timed_pes_packets s.stream_id d.description.base0 (units k)) = record { spaced = own.spaced; sized = own.sized; allowed = own.allowed } in
     let served = promised.streams k s texts is keeps in
     let range = stream_range d.description k s r is in
     heads_often (owned_stream d k s) n (units k) often

@@ -1,5 +1,6 @@
 -- A small service and its plan, with what the conditions give for it and for changes of it.
 use Rattle.std.specs.Prelude.{ℕ, true, List, [], ◌∷◌, ◌++◌, None, Some, codes}
+use Rattle.unit_timing.specs.declared.allowance.Allowance.TheVariants.{Groups}
 use Rattle.description.specs.Described.{Described, DescribedStream}
 use Rattle.slot_plan.specs.declared.slot.Slot.{Slot}
 use Rattle.slot_plan.specs.declared.slot.Slot.TheVariants.{Stream, Pcr, Table, Null}
@@ -20,8 +21,7 @@ base_stream = record {
   tag = None;
   language = None;
   descriptors = [];
-  group = 1;
-  group_packets = 4;
+  allowance = Groups 1 4;
 }
 
 abbrev pub base : Described

@@ -5,11 +5,12 @@ use Rattle.own_slots.specs.Extremes.{greatest}
 use Rattle.own_slots.specs.Work.{work_at}
 use Rattle.slot_plan.specs.declared.slot.Slot.{Slot}
 use Rattle.slot_plan.specs.declared.slot.Slot.TheVariants.{Stream, Pcr, Table, Null}
-use Rattle.slot_plan.specs.declared.condition.Condition.TheVariants.{Shape, PcrGap, Spread, StreamRate, TransportBuffer, StreamLead, SystemBuffer, LeadSwitch}
+use Rattle.slot_plan.specs.declared.condition.Condition.TheVariants.{Shape, PcrGap, Spread, StreamRate, TransportBuffer, StreamLead, MainBuffer, SystemBuffer, LeadSwitch}
 use Rattle.slot_plan.specs.Planned.{Planned, Certified}
 use Rattle.slot_plan.specs.Entries.{Entry, at_most, equal_counts, first_failing}
 use Rattle.slot_plan.specs.Conditions.{entries}
 use Rattle.slot_plan.specs.SwitchConditions.{switch_entries}
+use Rattle.unit_timing.specs.declared.allowance.Allowance.TheVariants.{Groups, Pace}
 use Rattle.description.specs.Described.{Described, DescribedStream}
 use Rattle.slot_plan.proofs.BaseService.{base, base_stream, base_plan, base_slots, claims}
 
@@ -91,7 +92,7 @@ ownerless = refl
 
 -- units 720 apart, and groups of them
 close : ℕ → ℕ → ℕ → Described
-close lead group packets = with_stream (record base_stream { interval = 720; lead = lead; group = group; group_packets = packets })
+close lead group packets = with_stream (record base_stream { interval = 720; lead = lead; allowance = Groups group packets })
 
 alone : answer (close 1600 1 4) base_plan ≡ Some (at_most StreamRate 0 0 64972800000 32486400000)
 unfolding answer close with_stream
@@ -113,6 +114,38 @@ fours_ahead : answer (close 2318 4 8) base_plan ≡ None
 unfolding answer close with_stream
 fours_ahead = refl
 
+-- by time: a burst of packets, and a pace
+paced : ℕ → ℕ → Described
+paced burst pace = with_stream (record base_stream { interval = 1; allowance = Pace burst pace })
+
+pace_of_four : answer (paced 4 376000) base_plan ≡ None
+unfolding answer paced with_stream
+pace_of_four = refl
+
+pace_too_great : answer (paced 4 376001) base_plan ≡ Some (at_most StreamRate 0 0 45120120 45120000)
+unfolding answer paced with_stream
+pace_too_great = refl
+
+burst_of_five : answer (paced 5 376000) base_plan ≡ Some (at_most StreamLead 0 0 176661043200000000 144384000000000000)
+unfolding answer paced with_stream
+burst_of_five = refl
+
+-- what waits in the main buffer is no more than the burst, and what the pace carries within the lead
+paced_into : ℕ → ℕ → Described
+paced_into main pace = with_stream (record base_stream { interval = 1; main = main; allowance = Pace 4 pace })
+
+burst_fits : answer (paced_into 736 84599) base_plan ≡ None
+unfolding answer paced_into with_stream
+burst_fits = refl
+
+burst_waits : answer (paced_into 735 84599) base_plan ≡ Some (at_most MainBuffer 0 0 736 735)
+unfolding answer paced_into with_stream
+burst_waits = refl
+
+pace_waits : answer (paced_into 736 84600) base_plan ≡ Some (at_most MainBuffer 0 0 920 736)
+unfolding answer paced_into with_stream
+pace_waits = refl
+
 -- each slot one place later, the last one first
 turned : Planned
 turned = with_slots (drop 119 base_slots ++ take 119 base_slots)
@@ -132,6 +165,10 @@ to_turned_1688 = refl
 to_turned_1687 : switch_answer (with_stream (record base_stream { lead = 1687 })) base_plan turned ≡ Some (at_most LeadSwitch 0 0 4568887296000000000 4567046400000000000)
 unfolding switch_answer turned with_slots with_stream
 to_turned_1687 = refl
+
+paced_to_turned : switch_answer (paced 4 376000) base_plan turned ≡ Some (at_most LeadSwitch 0 0 4568887296000000000 4331520000000000000)
+unfolding switch_answer paced turned with_slots with_stream
+paced_to_turned = refl
 
 from_turned : switch_answer base turned base_plan ≡ None
 unfolding switch_answer turned with_slots

@@ -20,8 +20,7 @@ declaration s = record {
   main = s.main;
   largest = 19 + s.size;
   unit_packets = greatest_unit_packets s;
-  group = s.group;
-  group_packets = s.group_packets;
+  allowance = s.allowance;
 }
 
 -- what a plan claims of stream number i, of program number i

@@ -7,6 +7,7 @@ use Rattle.own_slots.specs.Gaps.{gap}
 use Rattle.own_slots.specs.Spread.{spread}
 use Rattle.own_slots.specs.Work.{most_before, most_after, work_left}
 use Rattle.unit_timing.specs.Buffers.{tb_size, system_tb_drain, bsys_size, bsys_drain}
+use Rattle.unit_timing.specs.Allowances.{allowance_rows}
 use Rattle.unit_timing.specs.Conditions.{rate_needed, rate_given, lead_needed, time_given, bytes_waiting}
 use Rattle.description.specs.Described.{Described, DescribedProgram, DescribedStream}
 use Rattle.description.specs.Tables.{table_kinds, table_count, table_limit, round_packets}
@@ -76,7 +77,7 @@ table_gap_entry d p t = at_most TableGap 0 t (gap (marks (TableItem t) p.slots) 
 abbrev pub spread_entry : Planned → ℕ → Entry
 spread_entry p i = at_most Spread 0 i (spread (marks (StreamItem i) p.slots)) (stream_claim p i).spread
 
--- code 5: a stream has slots enough for group after group of its units
+-- code 5: a stream has slots enough for what its units have in the long run
 abbrev pub stream_rate_entry : Described → Planned → ℕ → DescribedStream → Entry
 stream_rate_entry d p i s = let own = stream_share p i in
     at_most StreamRate 0 i (rate_needed (declaration s) own) (rate_given d.rate (declaration s) own)
@@ -99,9 +100,9 @@ abbrev pub transport_buffer_entries : Described → Planned → ℕ → List Ent
 transport_buffer_entries d p i = let claim = program_claim p i in
     buffer_entries TransportBuffer (length d.streams + i) d.rate system_tb_drain tb_size claim.transport_start claim.transport_peak (marks (System i) p.slots)
 
--- the part of a condition on m units in a row: 0 where a stream has no groups
+-- the part of a condition on m units in a row: 0 where it is asked of one unit alone
 abbrev pub group_part : DescribedStream → ℕ → ℕ
-group_part s m = if s.group == 1 then 0 else m
+group_part s m = if allowance_rows s.allowance == 1 then 0 else m
 
 -- code 7: the last of m units in a row has left the transport buffer by its decoding time
 abbrev pub stream_lead_entry : Described → Planned → ℕ → DescribedStream → ℕ → Entry
@@ -142,7 +143,7 @@ abbrev pub transport_buffers : Described → Planned → List Entry
 transport_buffers d p = numbered (λ i _. transport_buffer_entries d p i) 0 d.programs
 
 abbrev pub stream_leads : Described → Planned → List Entry
-stream_leads d p = numbered (λ i s. entries_from (stream_lead_entry d p i s) 1 s.group) 0 d.streams
+stream_leads d p = numbered (λ i s. entries_from (stream_lead_entry d p i s) 1 (allowance_rows s.allowance)) 0 d.streams
 
 abbrev pub main_buffers : Described → Planned → List Entry
 main_buffers d p = numbered (λ i s. main_buffer_entry d p i s ∷ []) 0 d.streams

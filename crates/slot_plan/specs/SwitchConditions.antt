@@ -7,6 +7,7 @@ use Rattle.own_slots.specs.Extremes.{greatest}
 use Rattle.own_slots.specs.Work.{work_left}
 use Rattle.own_slots.specs.Switch.{shift}
 use Rattle.unit_timing.specs.Buffers.{system_tb_drain, bsys_drain}
+use Rattle.unit_timing.specs.Allowances.{allowance_rows}
 use Rattle.unit_timing.specs.Conditions.{lead_across, time_given, bytes_across}
 use Rattle.description.specs.Described.{Described, DescribedProgram, DescribedStream}
 use Rattle.description.specs.Tables.{table_kinds, table_limit, round_packets}
@@ -79,7 +80,7 @@ abbrev pub system_works : Described → Planned → Planned → List Entry
 system_works d first second = numbered (λ i _. system_work_entry d first second i ∷ []) 0 d.programs
 
 abbrev pub lead_switches : Described → Planned → Planned → List Entry
-lead_switches d first second = numbered (λ i s. entries_from (lead_switch_entry d first second i s) 1 s.group) 0 d.streams
+lead_switches d first second = numbered (λ i s. entries_from (lead_switch_entry d first second i s) 1 (allowance_rows s.allowance)) 0 d.streams
 
 abbrev pub main_switches : Described → Planned → Planned → List Entry
 main_switches d first second = numbered (λ i s. main_switch_entry d first second i s ∷ []) 0 d.streams

@@ -5,3 +5,5 @@ pub mod ChoiceFacts
 pub mod SlowerOutputs
 pub mod ShareTimes
 pub mod ShareProof
+pub mod Halving
+pub mod PaceFacts

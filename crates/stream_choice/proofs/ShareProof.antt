@@ -1,12 +1,14 @@
 -- Own slots of a stream's share serve it.
-use Rattle.std.proofs.Common.{◌≡◌, ℕ, zero, suc, zero-mul, ◌+◌, ◌-◌, ◌*◌, ◌<◌, ◌≤◌, arith, sym, subst, mul-le-mul_left, mul-le-mul_right}
+use Rattle.std.proofs.Common.{◌≡◌, ℕ, zero-mul, ◌+◌, ◌-◌, ◌*◌, ◌<◌, ◌≤◌, arith, sym, subst, mul-le-mul_left, mul-le-mul_right}
 use Rattle.std.specs.Int.{div_ceil}
 use Rattle.clock27.specs.Units.{slot_units_at_1bps}
 use Rattle.clock27.specs.Units.{byte_units_at_1bps}
 use Rattle.unit_timing.specs.Buffers.{tb_size}
 use Rattle.unit_timing.specs.Shares.{parts}
-use Rattle.stream_choice.specs.Shares.{packets_in_row, share_for_time, packet_distance, transport_delay}
+use Rattle.unit_timing.specs.declared.allowance.Allowance.TheVariants.{Groups, Pace}
+use Rattle.stream_choice.specs.Shares.{packets_in_row, share_for_time, packet_distance, lateness, transport_delay}
 use Rattle.stream_choice.specs.ShareLaws.{ShareLaw}
+use Rattle.stream_choice.proofs.Quotients.{some_of}
 use Rattle.stream_choice.proofs.ShareTimes.{IsFree, is_free, freer, held_by, group_held, row_held}
 
 -- packets in a time, and own slots of that share
@@ -38,8 +40,15 @@ together a w n c p x d e f g r even row three one room = omega (
   mul-le-mul_left c room,
 )
 
+-- packets come at the pace of the share
+paced : (p s k n c r : ℕ) → parts * p ≤ s * k → s * k * n ≤ parts * (c * r) → p * n ≤ c * 1 * r
+paced p s k n c r pace enough = omega (arith, mul-le-mul_right n pace, enough)
+
+positive : (a b : ℕ) → 1 ≤ a → 1 ≤ b → 0 < a * b
+positive a b p q = omega (arith, mul-le-mul_right b p, q)
+
 pub share_law : ShareLaw
-share_law needs group packets lead share all rate own ranges units some found has =
+share_law needs (Groups group packets) lead share all rate own ranges units some found has =
     let w : ℕ = transport_delay needs.rx all in
     let h : IsFree needs group packets w lead share = is_free needs group packets w lead share found in
     let interval : 0 < group * needs.interval = positive group needs.interval units.some_units ranges.some_interval in
@@ -62,13 +71,31 @@ share_law needs group packets lead share all rate own ranges units some found ha
           let all = together own.spread (packets_in_row needs packets m) own.period own.count own.peak needs.rx d e free (packet_distance first) rate has.even row three one room in
           rw sum (all);
     }
+share_law needs (Pace burst pace) lead share all rate own ranges within some asks has =
+    let d : ℕ = div_ceil (tb_size * byte_units_at_1bps) needs.rx in
+    let e : ℕ = div_ceil (3 * parts) all in
+    let late : ℕ = lateness (transport_delay needs.rx all) share in
+    let pays : parts * pace ≤ share * slot_units_at_1bps = subst (λ (s : ℕ). parts * pace ≤ s * slot_units_at_1bps) (sym asks.0) (held_by (parts * pace) slot_units_at_1bps (omega arith)) in
+    let pos : 0 < share = some_of pace share slot_units_at_1bps within.some_pace pays in
+    let one : own.period * slot_units_at_1bps ≤ packet_distance share * (own.count * rate) =
+    distance (packet_distance share) share share own.period own.count rate (held_by parts share pos) (omega arith) has.enough in
+    let three : 3 * slot_units_at_1bps ≤ e * rate = slots e all rate (held_by (3 * parts) all some) has.fast in
+    let room : own.peak * byte_units_at_1bps ≤ d * needs.rx * rate = buffer d needs.rx rate own.peak (held_by (tb_size * byte_units_at_1bps) needs.rx (omega (arith, ranges.least_rx))) has.room in
+    let free : 0 < lead - late = some_time burst share (lead - late) within.some_burst asks.1 in
+    let row = sent burst share (lead - late) own.period own.count rate asks.1 has.enough in
+    let all = together own.spread burst own.period own.count own.peak needs.rx d e (lead - late) (packet_distance share) rate has.even row three one room in
+    record {
+      rate_serves = paced pace share slot_units_at_1bps own.period own.count rate pays has.enough;
+      lead_serves = λ m pos le.
+          let sum : lead + (m - 1) * needs.interval ≡ (lead - late) + (d + e + packet_distance share) = alone lead m needs.interval ((lead - late) + (d + e + packet_distance share)) pos le (omega (arith, free)) in
+          rw sum (all);
+    }
   where
-    positive : (a b : ℕ) → 1 ≤ a → 1 ≤ b → 0 < a * b
-    positive a b p q = omega (arith, mul-le-mul_right b p, q)
+    some_time : (p s x : ℕ) → 1 ≤ p → parts * p ≤ s * x → 0 < x
+    some_time p s x pos le = some_of p x s pos (omega (arith, le))
 
-    some_of : (p s x : ℕ) → 1 ≤ p → parts * p ≤ s * x → 0 < s
-    some_of p zero x pos le = absurd (none (rw (zero-mul x) at le))
+    alone : (a m x b : ℕ) → 0 < m → m ≤ 1 → a ≡ b → a + (m - 1) * x ≡ b
+    alone a m x b pos le e = rw (one m pos le) (omega (arith, zero-mul x, e))
       where
-        none : parts * p ≤ 0 → ⊥
-        none le = omega (arith, le, pos)
-    some_of p (suc s) x pos le = omega arith
+        one : (m : ℕ) → 0 < m → m ≤ 1 → m - 1 ≡ 0
+        one m pos le = omega (arith, pos, le)

@@ -1,6 +1,8 @@
 -- The ranges of the numbers that a choice is made from.
 use Rattle.std.specs.Prelude.{ℕ, ◌^◌, ◌≤◌, ◌&&◌, nat_le, Bool, List, length, All}
 use Rattle.std.specs.List.{list_all}
+use Rattle.unit_timing.specs.declared.allowance.Allowance.{Allowance}
+use Rattle.unit_timing.specs.declared.allowance.Allowance.TheVariants.{Groups, Pace}
 use Rattle.stream_choice.specs.declared.needs.Needs.{Needs}
 
 -- what a description can declare of a stream
@@ -20,6 +22,17 @@ pub record IsGroup (group packets : ℕ) : Type 0 where
   pub most_units : group ≤ 64
   pub some_packets : 1 ≤ packets
   pub most_packets : packets ≤ 2 ^ 21
+
+-- a burst, and a pace in bits a second of whole packets
+pub record IsPace (burst pace : ℕ) : Type 0 where
+  pub some_burst : 1 ≤ burst
+  pub most_burst : burst ≤ 100000
+  pub some_pace : 1 ≤ pace
+  pub most_pace : pace ≤ 100000000
+
+abbrev pub IsAllowance : Allowance → Type 0
+IsAllowance (Groups group packets) = IsGroup group packets
+IsAllowance (Pace burst pace) = IsPace burst pace
 
 -- the most packets of 1, 2, .. units in a row
 pub record AreMaxPackets (max_packets : List ℕ) : Type 0 where

@@ -1,7 +1,7 @@
 -- The packets that a stream asks for in a unit of 90 kHz, in parts of 2^40 of a packet, rounded up.
 use Rattle.std.specs.Prelude.{ℕ, ◌+◌, ◌-◌, ◌*◌, ◌/◌, ◌^◌, min, max, nat_lt, if◌then◌else◌, List, length, slice_index, Option, Some, None}
 use Rattle.std.specs.Int.{div_ceil}
-use Rattle.clock27.specs.Units.{byte_units_at_1bps}
+use Rattle.clock27.specs.Units.{byte_units_at_1bps, slot_units_at_1bps}
 use Rattle.own_slots.specs.Extremes.{greatest, least}
 use Rattle.unit_timing.specs.Buffers.{tb_size}
 use Rattle.unit_timing.specs.Shares.{parts}
@@ -36,14 +36,23 @@ share_for_time needs group packets free = max (group_share needs group packets) 
 abbrev pub packet_distance : ℕ → ℕ
 packet_distance share = div_ceil parts share
 
+-- how long the last packet of a unit may take beyond the time that its packets ask for: the transport delay, and one
+-- distance of packets of the share
+abbrev pub lateness : ℕ → ℕ → ℕ
+lateness delay share = delay + packet_distance share
+
 -- with a lead: free is what is left of it after the transport delay, and then also one distance of packets of the share
 -- that this asks for
 abbrev pub lead_share : Needs → ℕ → ℕ → ℕ → ℕ → Option ℕ
 lead_share needs group packets delay lead =
     if nat_lt delay lead then
-    (let late = delay + packet_distance (share_for_time needs group packets (lead - delay)) in
+    (let late = lateness delay (share_for_time needs group packets (lead - delay)) in
     if nat_lt late lead then Some (share_for_time needs group packets (lead - late)) else None)
     else None
+
+-- packets come at a pace, in bits a second of whole packets
+abbrev pub pace_share : ℕ → ℕ
+pace_share pace = share_in slot_units_at_1bps pace
 
 -- the least that any group asks for, whatever the lead
 abbrev pub least_share : Needs → List ℕ → ℕ

@@ -1,13 +1,15 @@
 //! Whether a stream's buffers hold what comes.
 
 ghost use Rattle.std.specs.Prelude.{◌≡◌, ◌≤◌, ◌<◌, ◌^◌};
-ghost use Rattle.stream_choice.specs.Ranges.{IsNeeds, IsGroup};
-ghost use Rattle.stream_choice.specs.Choices as spec;
+ghost use Rattle.stream_choice.specs.Ranges.{IsNeeds, IsGroup, IsAllowance};
+ghost use Rattle.stream_choice.specs.Buffers as spec;
 ghost use Rattle.stream_choice.specs.Shares as shares;
 ghost use Rattle.unit_timing.specs.PesPacket.{grouped};
+ghost use Rattle.unit_timing.specs.Allowances.{packets_within};
 
 use crate::needs::{Needs, packets_of_unit};
 use clock27::SLOT_UNITS_AT_1BPS;
+use unit_timing::allowance::Allowance;
 use unit_timing::shares::PARTS;
 
 /// Whether the transport buffer is drained no slower than packets of that share come.
@@ -31,26 +33,46 @@ fn grouped_packets(needs: Needs, group: u64, packets: u32, units: u64) -> u64
     units / group * packets + rest
 }
 
-/// The most packets that come within a lead.
-fn packets_within(lead: u32, share: u64) -> u128
+/// The most packets of units that wait at once: of so many, within a lead.
+fn packets_within(needs: Needs, allowance: Allowance, units: u64, lead: u32) -> u128
+    requires ranges { IsNeeds needs }
+    requires allowance { IsAllowance allowance }
+    requires units { units ≤ 90000 }
     requires lead { lead ≤ 90000 }
-    ensures value { result ≡ spec.packets_within lead share }
+    ensures value { result ≡ packets_within allowance (shares.packets_of_unit needs) units lead }
+    ensures upper { result ≤ 2 ^ 38 }
+{
+    match allowance {
+        Allowance::Groups {
+            units: group,
+            packets,
+        } => u128::from(grouped_packets(needs, u64::from(group), packets, units)),
+        Allowance::Pace { burst, pace } => {
+            u128::from(burst) + u128::from(pace) * u128::from(lead) / SLOT_UNITS_AT_1BPS
+        }
+    }
+}
+
+/// The most packets of that share that come within a lead.
+fn packets_of_share(lead: u32, share: u64) -> u128
+    requires lead { lead ≤ 90000 }
+    ensures value { result ≡ spec.packets_of_share lead share }
     ensures upper { result ≤ 2 ^ 42 }
 {
     u128::from(lead) * u128::from(share) / u128::from(PARTS) + 2
 }
 
 /// The most bytes that wait for their decoding at once.
-fn waiting_bytes(needs: Needs, group: u64, packets: u32, lead: u32, share: u64) -> u128
+fn waiting_bytes(needs: Needs, allowance: Allowance, lead: u32, share: u64) -> u128
     requires ranges { IsNeeds needs }
-    requires group { IsGroup group packets }
+    requires allowance { IsAllowance allowance }
     requires lead { lead ≤ 90000 }
-    ensures { result ≡ spec.waiting_bytes needs group packets lead share }
+    ensures { result ≡ spec.waiting_bytes needs allowance lead share }
 {
     let units = u64::from(lead).div_ceil(u64::from(needs.interval));
     let sizes = u128::from(units * (19 + u64::from(needs.size)));
-    let by_units = u128::from(grouped_packets(needs, group, packets, units));
-    let by_share = packets_within(lead, share);
+    let by_units = packets_within(needs, allowance, units, lead);
+    let by_share = packets_of_share(lead, share);
     let packets = if by_units < by_share {
         by_units
     } else {
@@ -64,11 +86,11 @@ fn waiting_bytes(needs: Needs, group: u64, packets: u32, lead: u32, share: u64) 
 }
 
 /// Whether the main buffer holds them.
-pub fn holds(needs: Needs, group: u64, packets: u32, lead: u32, share: u64) -> bool
+pub fn holds(needs: Needs, allowance: Allowance, lead: u32, share: u64) -> bool
     requires ranges { IsNeeds needs }
-    requires group { IsGroup group packets }
+    requires allowance { IsAllowance allowance }
     requires lead { lead ≤ 90000 }
-    ensures { result ≡ spec.holds needs group packets lead share }
+    ensures { result ≡ spec.holds needs allowance lead share }
 {
-    waiting_bytes(needs, group, packets, lead, share) <= u128::from(needs.main)
+    waiting_bytes(needs, allowance, lead, share) <= u128::from(needs.main)
 }

@@ -3,13 +3,13 @@
 ghost use Rattle.std.specs.Prelude.{◌≡◌, ◌<◌};
 ghost use Rattle.stream_choice.specs.Choices as spec;
 
-/// A group, a lead, and the share of an output that they ask for.
+use unit_timing::allowance::Allowance;
+
+/// What is declared of the packets of units in a row, a lead, and the share of an output that they ask for.
 #[derive(Clone, Copy)]
 pub struct Choice {
-    /// The units of a group.
-    pub group: u8,
-    /// The most packets of a group.
-    pub group_packets: u32,
+    /// The most packets of units in a row.
+    pub allowance: Allowance,
     /// How long before its DTS a unit may be sent, in units of 90 kHz.
     pub lead: u32,
     /// Packets in a unit of 90 kHz, in parts of 2^40 of a packet, rounded up.
@@ -21,7 +21,7 @@ fn rank(choice: Choice) -> u128
     ensures { result ≡ spec.rank choice }
 {
     (u128::from(choice.share) * (1 << 17) + u128::from(choice.lead)) * (1 << 7)
-        + u128::from(choice.group)
+        + u128::from(choice.allowance.rows())
 }
 
 /// The first of two choices, where the second is not better.
@@ -30,6 +30,18 @@ pub fn better(one: Option<Choice>, other: Option<Choice>) -> Option<Choice>
 {
     match (one, other) {
         (Some(first), Some(second)) if rank(second) < rank(first) => Some(second),
+        (Some(first), _) => Some(first),
+        (None, second) => second,
+    }
+}
+
+/// Of a choice by groups and one by pace, that by groups where it asks for at most a 64th more.
+pub fn preferred(groups: Option<Choice>, pace: Option<Choice>) -> Option<Choice>
+    ensures { result ≡ spec.preferred groups pace }
+{
+    match (groups, pace) {
+        (Some(first), Some(second))
+            if u128::from(second.share) * 65 < u128::from(first.share) * 64 => Some(second),
         (Some(first), _) => Some(first),
         (None, second) => second,
     }

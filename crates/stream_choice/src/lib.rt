@@ -1,13 +1,16 @@
-//! What a stream declares beside what is counted of its units: the group, the group's packets and the lead; and the
-//! least rate that its multiplex needs.
+//! What a stream declares beside what is counted of its units: the most packets of units in a row, by groups or by pace,
+//! and the lead; and the least rate that its multiplex needs.
 //!
 //! A stream's share is the packets that it asks for in a unit of 90 kHz (`specs/Shares`): those of its groups, one
 //! after another, and those of a few units in a row, which must have left the transport buffer by their decoding
-//! times. A longer lead asks for a smaller share and for a greater main buffer. Of the groups and leads that are tried
-//! (`specs/Leads`) the one with the least share is chosen that the stream's buffers hold (`specs/Choices`). The shares
-//! of all streams, PCRs and tables give the least rate of an output that has slots enough for them (`specs/Rates`). A
-//! law says what a share is for: own slots of that share, even enough, keep the conditions on groups and on units in a
-//! row (`specs/ShareLaws`).
+//! times; or those of a pace, at which a burst must have come by then. A longer lead asks for a smaller share and for
+//! a greater main buffer (`specs/Buffers`). Of the groups and leads that are tried (`specs/Leads`) the one with the
+//! least share is chosen that the stream's buffers hold (`specs/Choices`). A pace is found by halving the range of
+//! paces (`specs/Paces`); how many packets the units have over a pace is asked of them through `PacedUnits`. Of both
+//! choices that by groups is preferred where it asks for little more. The shares of all streams, PCRs and tables give
+//! the least rate of an output that has slots enough for them (`specs/Rates`). A law says what a share is for: own
+//! slots of that share, even enough, keep the conditions on packets in the long run and on units in a row
+//! (`specs/ShareLaws`).
 //!
 //! Everything is in plain numbers, and nothing here takes memory.
 #![tactic(auto)]
@@ -17,16 +20,18 @@ mod choice;
 pub mod laws;
 mod leads;
 mod needs;
+mod pace_selection;
 mod ranges;
 mod rates;
 mod recurring;
 mod selection;
 mod shares;
 
-pub use choice::Choice;
+pub use choice::{Choice, preferred};
 pub use needs::Needs;
+pub use pace_selection::{PacedUnits, choose_pace};
 pub use ranges::are_max_packets;
 pub use rates::least_rate;
 pub use recurring::Recurring;
-pub use selection::choose;
+pub use selection::choose_groups;
 pub use shares::{least_share, transport_delay};

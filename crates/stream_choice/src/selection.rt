@@ -10,6 +10,7 @@ use crate::choice::{Choice, better};
 use crate::leads::{LEADS, numbered_lead, sufficient_lead};
 use crate::needs::Needs;
 use crate::shares::lead_share;
+use unit_timing::allowance::Allowance;
 
 /// The choice of a group and a lead; None where the lead is too short or a buffer does not hold what comes.
 fn choice_of(needs: Needs, group: u8, packets: u32, delay: u32, lead: u32) -> Option<Choice>
@@ -19,10 +20,13 @@ fn choice_of(needs: Needs, group: u8, packets: u32, delay: u32, lead: u32) -> Op
     ensures { result ≡ spec.choice_of needs group packets delay lead }
 {
     let share = lead_share(needs, u64::from(group), packets, delay, lead)?;
-    if drains(needs, share) && holds(needs, u64::from(group), packets, lead, share) {
+    let allowance = Allowance::Groups {
+        units: group,
+        packets,
+    };
+    if drains(needs, share) && holds(needs, allowance, lead, share) {
         Some(Choice {
-            group,
-            group_packets: packets,
+            allowance,
             lead,
             share,
         })
@@ -79,12 +83,13 @@ fn group_choice(needs: Needs, delay: u32, max_lead: u32, group: u8, packets: u32
 /// longest time from a packet's slot to its end in the transport buffer; times are in units of 90 kHz.
 ///
 /// Up to 129 leads of up to 64 groups are tried, with as many divisions each as the group has units, twice.
-pub fn choose(needs: Needs, max_packets: &[u32], delay: u32, max_lead: u32) -> Option<Choice>
+pub fn choose_groups(needs: Needs, max_packets: &[u32], delay: u32, max_lead: u32) -> Option<Choice>
     requires ranges { IsNeeds needs }
     requires max_packets { AreMaxPackets max_packets.now }
     requires lead { max_lead ≤ 90000 }
-    ensures value { result ≡ spec.choice needs max_packets.now delay max_lead }
-    ensures holds { IfSome result (spec.IsChoice needs max_packets.now delay max_lead) }
+    ensures value { result ≡ spec.groups_choice needs max_packets.now delay max_lead }
+    ensures holds { IfSome result (spec.IsChoice needs max_lead) }
+    ensures groups { IfSome result (spec.IsGroupsChoice needs max_packets.now delay) }
     ensures best { IfSome result (spec.IsBest needs max_packets.now delay max_lead) }
     ensures refused { IsNone result → spec.IsRefused needs max_packets.now delay max_lead }
 {

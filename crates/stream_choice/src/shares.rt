@@ -5,7 +5,7 @@ ghost use Rattle.stream_choice.specs.Ranges.{IsNeeds, IsGroup, AreMaxPackets};
 ghost use Rattle.stream_choice.specs.Shares as spec;
 
 use crate::needs::{Needs, packets_in_row};
-use clock27::BYTE_UNITS_AT_1BPS;
+use clock27::{BYTE_UNITS_AT_1BPS, SLOT_UNITS_AT_1BPS};
 use unit_timing::buffers::TB_SIZE;
 use unit_timing::shares::PARTS;
 
@@ -64,11 +64,32 @@ fn share_for_time(needs: Needs, group: u64, packets: u32, free: u64) -> u64
 
 /// The distance of two packets of that share, in units of 90 kHz.
 fn packet_distance(share: u64) -> u64
-    requires positive { 2 ^ 17 ≤ share }
+    requires positive { 1 ≤ share }
     ensures value { result ≡ spec.packet_distance share }
-    ensures upper { result ≤ 2 ^ 23 }
+    ensures upper { result ≤ 2 ^ 40 }
 {
     PARTS.div_ceil(share)
+}
+
+/// The time, in units of 90 kHz, that the last packet of a unit may take beyond what its packets ask for: the transport
+/// delay, and one distance of packets of the share.
+pub fn lateness(delay: u32, share: u64) -> u64
+    requires positive { 1 ≤ share }
+    ensures value { result ≡ spec.lateness delay share }
+    ensures upper { result ≤ 2 ^ 41 }
+{
+    u64::from(delay) + packet_distance(share)
+}
+
+/// The share of packets that come at a pace, in bits/s of whole packets.
+pub fn pace_share(pace: u32) -> u64
+    requires some { 1 ≤ pace }
+    requires most { pace ≤ 100000000 }
+    ensures value { result ≡ spec.pace_share pace }
+    ensures lower { 1 ≤ result }
+    ensures upper { result ≤ 2 ^ 40 }
+{
+    (u128::from(PARTS) * u128::from(pace)).div_ceil(SLOT_UNITS_AT_1BPS) as u64
 }
 
 /// The share with a lead; None where the lead is too short.
@@ -79,12 +100,12 @@ pub fn lead_share(needs: Needs, group: u64, packets: u32, delay: u32, lead: u32)
     ensures value { result ≡ spec.lead_share needs group packets delay lead }
     ensures upper { IfSome result (λ share. share ≤ 2 ^ 61) }
 {
-    let delay = u64::from(delay);
     let lead = u64::from(lead);
-    if lead <= delay {
+    if lead <= u64::from(delay) {
         return None;
     }
-    let late = delay + packet_distance(share_for_time(needs, group, packets, lead - delay));
+    let first = share_for_time(needs, group, packets, lead - u64::from(delay));
+    let late = lateness(delay, first);
     if lead <= late {
         return None;
     }

@@ -1,9 +1,13 @@
 -- What a description declares of the streams of a job.
-use Rattle.std.specs.Prelude.{ℕ, ◌+◌, ◌-◌, ◌^◌, ◌==◌, ◌&&◌, min, max, nat_lt, Bool, if◌then◌else◌, List, [], ◌∷◌, length, map, find, zip, sum_by, unwrap_or, ok_or, Option, Some, None, option_map, Result, Ok}
+use Rattle.std.specs.Prelude.{ℕ, ◌+◌, ◌-◌, ◌*◌, ◌/◌, ◌^◌, ◌==◌, ◌&&◌, min, max, nat_lt, Bool, if◌then◌else◌, List, [], ◌∷◌, length, map, find, zip, sum_by, unwrap_or, ok_or, Option, Some, None, option_map, Result, Ok}
 use Rattle.std.specs.List.{range_with_len}
+use Rattle.clock27.specs.Units.{slot_units_at_1bps}
+use Rattle.clock27.specs.declared.rate.TheConstants.{LEAST_RATE}
 use Rattle.pes_packet.specs.AccessUnits.{AccessUnit}
 use Rattle.pes_packet.specs.StreamIds.{greatest_size}
-use Rattle.stream_choice.specs.Choices.{choice}
+use Rattle.unit_timing.specs.Shares.{parts}
+use Rattle.stream_choice.specs.Choices.{groups_choice, preferred}
+use Rattle.stream_choice.specs.Paces.{pace_choice}
 use Rattle.stream_choice.specs.Ranges.{is_needs, are_max_packets}
 use Rattle.stream_choice.specs.Shares.{least_share, transport_delay}
 use Rattle.stream_choice.specs.declared.choice.Choice.{Choice}
@@ -11,9 +15,11 @@ use Rattle.stream_choice.specs.declared.needs.Needs.{Needs}
 use Rattle.stream_coding.specs.Buffers.{buffers_of}
 use Rattle.stream_coding.specs.Codings.{coding_of}
 use Rattle.stream_coding.specs.declared.buffers.Buffers.{Buffers}
-use Rattle.stream_units.specs.Declaration.{min_interval, max_unit_size, group_packets}
+use Rattle.stream_units.specs.Declaration.{min_interval, max_unit_size, group_packets, burst_packets}
 use Rattle.stream_jobs.specs.declared.refusal.JobRefusal.{JobRefusal}
 use Rattle.stream_jobs.specs.declared.refusal.JobRefusal.TheVariants as refusals
+use Rattle.stream_jobs.specs.declared.job_options.DeclareBy.{DeclareBy}
+use Rattle.stream_jobs.specs.declared.job_options.DeclareBy.TheVariants as by
 use Rattle.stream_jobs.specs.declared.job_options.PidBuffers.{PidBuffers}
 use Rattle.stream_jobs.specs.Answers.{unless, each}
 use Rattle.stream_jobs.specs.JobStreams.{TimedStreamView}
@@ -87,15 +93,34 @@ is_countable c = is_needs c.needs && are_max_packets c.max_group_packets
 unfoldable pub share_of : UnitCountsView → ℕ
 share_of c = if is_countable c then least_share c.needs c.max_group_packets else 0
 
--- the least share of the multiplex that all take together, at least 2^17 as one does, as a number of 64 bits
+-- the share of an output of the least rate, in whole parts
+abbrev pub least_output : ℕ
+least_output = parts * LEAST_RATE / slot_units_at_1bps
+
+-- the least share of the multiplex that all take together by groups, as a number of 64 bits, and no less than that
 unfoldable pub shares_of : List UnitCountsView → ℕ
-shares_of all = max (min (sum_by share_of all) (2 ^ 64 - 1)) (2 ^ 17)
+shares_of all = max (min (sum_by share_of all) (2 ^ 64 - 1)) least_output
 
-unfoldable pub choice_of : ℕ → ℕ → UnitCountsView → Option Choice
-choice_of lead sum c = if is_countable c then choice c.needs c.max_group_packets (transport_delay c.needs.rx sum) (min lead 90_000) else None
+-- by groups, and by pace
+unfoldable pub groups_of : ℕ → ℕ → UnitCountsView → Option Choice
+groups_of lead sum c =
+    if is_countable c then groups_choice c.needs c.max_group_packets (transport_delay c.needs.rx sum) (min lead 90_000) else None
 
-unfoldable pub chosen : ℕ → ℕ → TimedStreamView × UnitCountsView → Result Choice JobRefusal
-chosen lead sum s = ok_or (choice_of lead sum s.1) (refusals.Buffers s.0.pid s.1.needs.size s.1.needs.rx s.1.needs.main)
+-- the burst of units at a pace, as a number of 64 bits
+abbrev pub burst_of : List AccessUnit → ℕ → ℕ
+burst_of units pace = min (burst_packets 0 0 pace units) (2 ^ 64 - 1)
 
-unfoldable pub choices : ℕ → List TimedStreamView → List UnitCountsView → Result (List Choice) JobRefusal
-choices lead streams all = each (chosen lead (shares_of all)) (zip streams all)
+unfoldable pub pace_of : ℕ → ℕ → List AccessUnit → UnitCountsView → Option Choice
+pace_of lead sum units c = if is_needs c.needs then pace_choice c.needs (burst_of units) (transport_delay c.needs.rx sum) (min lead 90_000) else None
+
+-- the one that is asked for, else the preferred of both
+abbrev pub choice_of : DeclareBy → ℕ → ℕ → List AccessUnit → UnitCountsView → Option Choice
+choice_of by.Groups lead sum units c = groups_of lead sum c
+choice_of by.Pace lead sum units c = pace_of lead sum units c
+choice_of by.Either lead sum units c = preferred (groups_of lead sum c) (pace_of lead sum units c)
+
+unfoldable pub chosen : DeclareBy → ℕ → ℕ → TimedStreamView × UnitCountsView → Result Choice JobRefusal
+chosen declare_by lead sum s = ok_or (choice_of declare_by lead sum s.0.units s.1) (refusals.Buffers s.0.pid s.1.needs.size s.1.needs.rx s.1.needs.main)
+
+unfoldable pub choices : DeclareBy → ℕ → List TimedStreamView → List UnitCountsView → Result (List Choice) JobRefusal
+choices declare_by lead streams all = each (chosen declare_by lead (shares_of all)) (zip streams all)

@@ -4,7 +4,7 @@ use Rattle.pes_packet.specs.AccessUnits.{AccessUnit}
 use Rattle.demux.specs.Views.{FindingView}
 use Rattle.stream_units.specs.CarriedUnits.{CarriedUnit, carried_units}
 use Rattle.stream_units.specs.MadeDts.{made_units}
-use Rattle.stream_units.specs.Declaration.{min_interval, max_unit_size, group_packets}
+use Rattle.stream_units.specs.Declaration.{min_interval, max_unit_size, AllowsUnits}
 use Rattle.stream_units.specs.Laws.{FirstDue}
 use Rattle.stream_units.specs.Stamps.{moved, first_fault}
 use Rattle.description.specs.Described.{Described, DescribedStream}
@@ -30,4 +30,4 @@ pub record Declares (d : Described) (s : DescribedStream) (us : List AccessUnit)
   pub interval : s.interval ≤ min_interval us
   pub size : max_unit_size us ≤ s.size
   pub lead : FirstDue s.lead us
-  pub group : group_packets s.stream_id d.base0 s.group us ≤ s.group_packets
+  pub allowance : AllowsUnits s.allowance s.stream_id d.base0 us

@@ -6,7 +6,9 @@ use Rattle.demux.specs.Views.{FindingView}
 use Rattle.description.specs.Described.{Described, DescribedStream}
 use Rattle.plan_search.specs.Reasons.{reasons_of}
 use Rattle.plan_search.specs.declared.reason.Reason.{Reason}
-use Rattle.stream_units.specs.Declaration.{min_interval, max_unit_size, group_packets}
+use Rattle.unit_timing.specs.declared.allowance.Allowance.{Allowance}
+use Rattle.unit_timing.specs.declared.allowance.Allowance.TheVariants.{Groups, Pace}
+use Rattle.stream_units.specs.Declaration.{min_interval, max_unit_size, group_packets, burst_packets}
 use Rattle.unit_order.specs.Merging.{AreMerged}
 use Rattle.stream_jobs.specs.JobInput.{JobInputView}
 use Rattle.stream_jobs.specs.FoundUnits.{AreFound, Declares, source_of}
@@ -56,13 +58,17 @@ unfoldable pub first_due : ℕ → List AccessUnit → Bool
 first_due from [] = true
 first_due from (u ∷ us) = nat_le from u.dts
 
--- the same as a test
+-- the same as tests; a group has at most 64 units
+abbrev pub allows_units : Allowance → ℕ → ℕ → List AccessUnit → Bool
+allows_units (Groups group most) id base0 us = nat_le group 64 && nat_le (group_packets id base0 group us) most
+allows_units (Pace burst pace) id base0 us = nat_le (burst_packets id base0 pace us) burst
+
 unfoldable pub keeps : Described → DescribedStream → List AccessUnit → Bool
 keeps d s us =
     nat_le s.interval (min_interval us)
     && (nat_le (max_unit_size us) s.size
     && (first_due s.lead us
-    && (nat_le s.group 64 && nat_le (group_packets s.stream_id d.base0 s.group us) s.group_packets)))
+    && allows_units s.allowance s.stream_id d.base0 us))
 
 -- the PID of the first stream that is not the declared one in its place, and 0 if there are not as many
 unfoldable pub first_disagreeing : Described → List DescribedStream → List TimedStreamView → Option ℕ

@@ -69,8 +69,7 @@ stream_part s = record {
   rx = s.1.0.needs.rx;
   main = s.1.0.needs.main;
   descriptors = s.0.descriptors;
-  group = s.1.1.group;
-  group_packets = s.1.1.group_packets;
+  allowance = s.1.1.allowance;
 }
 
 -- 4. The whole

@@ -1,7 +1,7 @@
 //! Whether a description declares what the units of its streams need.
 
-ghost use Rattle.std.specs.Prelude.{◌≡◌, ◌≤◌, ◌==◌, ◌&&◌, nat_le, IfNone, IsTrue};
-ghost use Rattle.stream_units.specs.Declaration.{group_packets};
+ghost use Rattle.std.specs.Prelude.{◌≡◌, ◌==◌, ◌&&◌, IfNone, IsTrue};
+ghost use Rattle.stream_units.specs.Declaration.{AllowsUnits};
 ghost use Rattle.stream_units.specs.Laws.{FirstDue};
 ghost use Rattle.stream_jobs.specs.Jobs.{AgreeInTurn, Agrees, AllAgree};
 ghost use Rattle.stream_jobs.specs.Jobs as spec;
@@ -10,7 +10,8 @@ ghost use Rattle.stream_jobs.specs.FoundUnits.{Declares};
 use crate::job_stream::TimedStream;
 use description::{Description, StreamDescription};
 use pes_packet::Unit;
-use stream_units::{group_packets, max_unit_size, min_interval};
+use stream_units::{burst_packets, group_packets, max_unit_size, min_interval};
+use unit_timing::allowance::Allowance;
 
 // Whether the first unit is due no earlier than a moment.
 #[tactic(auto, unfolding(stream_units::specs::Laws::FirstDue, crate::specs::Jobs::first_due))]
@@ -25,15 +26,17 @@ fn first_due(from: u64, units: &[Unit]) -> bool
 }
 
 // Whether the packets of units are as declared.
-fn groups_fit(base0: u64, declared: &StreamDescription, units: &[Unit]) -> bool
-    ensures value { result ≡ (nat_le declared.now.group 64
-        && nat_le (group_packets declared.now.stream_id base0 declared.now.group units.now)
-        declared.now.group_packets) }
-    ensures fit { IsTrue result → group_packets declared.now.stream_id base0 declared.now.group units.now
-        ≤ declared.now.group_packets }
+fn packets_fit(base0: u64, declared: &StreamDescription, units: &[Unit]) -> bool
+    ensures value { result ≡ spec.allows_units declared.now.allowance declared.now.stream_id base0 units.now }
+    ensures fit { IsTrue result → AllowsUnits declared.now.allowance declared.now.stream_id base0 units.now }
 {
-    declared.group <= 64
-        && group_packets(base0, units, declared.group) <= u64::from(declared.group_packets)
+    match declared.allowance {
+        Allowance::Groups {
+            units: group,
+            packets,
+        } => group <= 64 && group_packets(base0, units, group) <= u64::from(packets),
+        Allowance::Pace { burst, pace } => { burst_packets(base0, units, pace) <= u64::from(burst) }
+    }
 }
 
 // Whether a description declares what units need.
@@ -45,7 +48,7 @@ fn declares(description: &Description, declared: &StreamDescription, units: &[Un
     let size = max_unit_size(units) <= declared.size as usize;
     let interval = declared.interval <= min_interval(units);
     let lead = first_due(u64::from(declared.lead), units);
-    interval && size && lead && groups_fit(description.base0(), declared, units)
+    interval && size && lead && packets_fit(description.base0(), declared, units)
 }
 
 // Whether a stream is the declared one.

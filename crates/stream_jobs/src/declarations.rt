@@ -1,9 +1,8 @@
-//! What a description declares of a stream's units.
+//! What is counted of a stream's units.
 
-ghost use Rattle.std.specs.Prelude.{◌≡◌, ◌≤◌, ◌-◌, ◌^◌, min, sum_by, zip, IfErr, IfNone, IfOk, IsTrue, Ok, All};
-ghost use Rattle.stream_choice.specs.Ranges.{IsNeeds, AreMaxPackets};
+ghost use Rattle.std.specs.Prelude.{◌≡◌, ◌≤◌, IfErr, IfNone, IfOk, Ok, All};
 ghost use Rattle.stream_units.specs.Declaration.{max_unit_size};
-ghost use Rattle.stream_jobs.specs.Answers.{Answers, Refuses, each};
+ghost use Rattle.stream_jobs.specs.Answers.{Answers, Refuses};
 ghost use Rattle.stream_jobs.specs.Declarations as spec;
 ghost use Rattle.stream_jobs.specs.Jobs.{FitsQueue};
 
@@ -13,7 +12,7 @@ use crate::refusal::{JobError, JobRefusal};
 use pes_packet::greatest_size;
 use std::alloc::{AllocError, Global};
 use std::marker::Model;
-use stream_choice::{Choice, Needs, are_max_packets, choose, least_share, transport_delay};
+use stream_choice::Needs;
 use stream_coding::{Buffers, buffers_of, coding_of};
 use stream_units::{group_packets, max_unit_size, min_interval};
 
@@ -208,131 +207,4 @@ pub(crate) fn count_units(
         left = later;
     }
     Ok(all)
-}
-
-// Whether a stream can be declared with some group.
-#[tactic(auto, unfolding(crate::specs::Declarations::is_countable))]
-fn is_countable(unit_counts: &UnitCounts) -> bool
-    ensures value { result ≡ spec.is_countable unit_counts.now }
-    ensures needs { IsTrue result → IsNeeds unit_counts.now.needs }
-    ensures packets { IsTrue result → AreMaxPackets unit_counts.now.max_group_packets }
-{
-    unit_counts.needs.is_in_range() && are_max_packets(&unit_counts.max_group_packets)
-}
-
-// The least share that a stream needs.
-#[tactic(auto, unfolding(crate::specs::Declarations::share_of))]
-fn share_of(unit_counts: &UnitCounts) -> u64
-    ensures { result ≡ spec.share_of unit_counts.now }
-{
-    if is_countable(unit_counts) {
-        least_share(unit_counts.needs, &unit_counts.max_group_packets)
-    } else {
-        0
-    }
-}
-
-// The sum of the shares, or the greatest number if they are more.
-fn shares_sum(all: &[UnitCounts]) -> u64
-    ensures { result ≡ min (sum_by spec.share_of all.now) (2 ^ 64 - 1) }
-{
-    let mut sum: u64 = 0;
-    for unit_counts in all {
-        sum = sum.saturating_add(share_of(unit_counts));
-    }
-    sum
-}
-
-/// The least share of the multiplex that these streams take together, at least 2^17 as one stream does.
-#[tactic(auto, unfolding(crate::specs::Declarations::shares_of))]
-pub(crate) fn shares_of(all: &[UnitCounts]) -> u64
-    ensures value { result ≡ spec.shares_of all.now }
-    ensures least { 2 ^ 17 ≤ result }
-{
-    shares_sum(all).max(1 << 17)
-}
-
-// What a stream of these units declares.
-#[tactic(auto, unfolding(crate::specs::Declarations::choice_of))]
-fn choice_of(greatest_lead: u32, sum: u64, unit_counts: &UnitCounts) -> Option<Choice>
-    requires { 2 ^ 17 ≤ sum }
-    ensures { result ≡ spec.choice_of greatest_lead sum unit_counts.now }
-{
-    if is_countable(unit_counts) {
-        let needs = unit_counts.needs;
-        let lead = greatest_lead.min(90_000);
-        choose(
-            needs,
-            &unit_counts.max_group_packets,
-            transport_delay(needs.rx, sum),
-            lead,
-        )
-    } else {
-        None
-    }
-}
-
-// What a stream declares; refused if nothing fits its buffers.
-#[tactic(auto, unfolding(crate::specs::Declarations::chosen, crate::specs::Answers::Answers, crate::specs::Answers::Refuses))]
-fn chosen(
-    greatest_lead: u32,
-    sum: u64,
-    stream: &TimedStream,
-    unit_counts: &UnitCounts,
-) -> Result<Choice, JobError>
-    requires { 2 ^ 17 ≤ sum }
-    ensures { Answers (spec.chosen greatest_lead sum (stream.now, unit_counts.now)) result }
-{
-    match choice_of(greatest_lead, sum, unit_counts) {
-        Some(choice) => Ok(choice),
-        None => Err(JobError::Refused(JobRefusal::Buffers {
-            pid: stream.pid,
-            size: unit_counts.needs.size,
-            rx: unit_counts.needs.rx,
-            main: unit_counts.needs.main,
-        })),
-    }
-}
-
-// What all streams declare at this sum of shares.
-#[tactic(auto, unfolding(crate::specs::Answers::Refuses))]
-fn each_choice(
-    alloc: Global,
-    greatest_lead: u32,
-    sum: u64,
-    streams: &[TimedStream],
-    all: &[UnitCounts],
-) -> Result<Vec<Choice>, JobError>
-    requires { 2 ^ 17 ≤ sum }
-    ensures chosen { IfOk result (λ chosen. each (spec.chosen greatest_lead sum) (zip streams.now all.now)
-        ≡ Ok chosen.items) }
-    ensures refused { IfErr result (Refuses (each (spec.chosen greatest_lead sum) (zip streams.now all.now))) }
-{
-    let mut choices = Vec::new(alloc);
-    let mut left = streams;
-    let mut others = all;
-    while let Some((stream, later)) = left.split_first() {
-        let Some((unit_counts, more)) = others.split_first() else {
-            return Ok(choices);
-        };
-        let next = chosen(greatest_lead, sum, stream, unit_counts)?;
-        choices.push(next)?;
-        left = later;
-        others = more;
-    }
-    Ok(choices)
-}
-
-/// What each stream declares.
-#[tactic(auto, unfolding(crate::specs::Declarations::choices))]
-pub(crate) fn choices(
-    alloc: Global,
-    greatest_lead: u32,
-    streams: &[TimedStream],
-    all: &[UnitCounts],
-) -> Result<Vec<Choice>, JobError>
-    ensures chosen { IfOk result (λ chosen. spec.choices greatest_lead streams.now all.now ≡ Ok chosen.items) }
-    ensures refused { IfErr result (Refuses (spec.choices greatest_lead streams.now all.now)) }
-{
-    each_choice(alloc, greatest_lead, shares_of(all), streams, all)
 }

@@ -159,8 +159,7 @@ fn write_stream(
         rx: unit_counts.needs.rx,
         main: unit_counts.needs.main,
         descriptors: &stream.descriptors,
-        group: choice.group,
-        group_packets: choice.group_packets,
+        allowance: choice.allowance,
     };
     entry.write_text(text)
 }

@@ -13,6 +13,17 @@ pub struct PidBuffers {
     pub buffers: Buffers,
 }
 
+/// By what the packets of a stream's units are declared.
+#[derive(Clone, Copy, Debug, PartialEq, Eq)]
+pub enum DeclareBy {
+    /// By groups where that asks for at most a 64th more of the multiplex than by pace, else by pace.
+    Either,
+    /// By groups of units.
+    Groups,
+    /// By time: a burst and a pace.
+    Pace,
+}
+
 /// The options of a job; the rest is taken from the stream.
 #[derive(Drop)]
 pub struct JobOptions<'a> {
@@ -24,6 +35,8 @@ pub struct JobOptions<'a> {
     pub pcr_limit: u8,
     /// The longest time from the arrival of a unit to its decoding, 1 to 90,000 units of 90 kHz.
     pub lead: u32,
+    /// By what the packets of units are declared.
+    pub declare_by: DeclareBy,
     /// Whether DTS are made from the PTS.
     pub make_dts: bool,
     /// The programs that are taken; none: all.
@@ -45,6 +58,7 @@ impl<'a> Model for JobOptions<'a> {
       start = o.start.now;
       pcr_limit = o.pcr_limit;
       lead = o.lead;
+      declare_by = o.declare_by;
       make_dts = o.make_dts;
       programs = o.programs.now;
       without = o.without.now;

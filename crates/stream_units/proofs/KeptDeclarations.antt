@@ -6,14 +6,20 @@ use Rattle.std.proofs.lemmas.List.Elements.{All-nil, All-cons, All-head, All-tai
 use Rattle.pes_packet.specs.AccessUnits.{AccessUnit}
 use Rattle.pes_packet.specs.Encoding.{pes_packet_bytes, pes_header_bytes, on_wire, header_size}
 use Rattle.pes_packet.proofs.Written.{header_sizes}
+use Rattle.unit_timing.specs.declared.allowance.Allowance.{Allowance}
+use Rattle.unit_timing.specs.declared.allowance.Allowance.TheVariants.{Groups, Pace}
 use Rattle.unit_timing.specs.PesPacket.{Spaced, Sized, GroupsWithin}
+use Rattle.unit_timing.specs.Allowances.{KeepsAllowance}
+use Rattle.unit_timing.specs.Levels.{greatest_level}
+use Rattle.unit_timing.proofs.Bursting.{burst_law}
 use Rattle.unit_queue.specs.OwnedStreams.{OwnedStream, timed}
 use Rattle.unit_queue.specs.Queues.{IsUnit, max_packets_per_unit}
 use Rattle.unit_queue.specs.declared.parameters.StreamParameters.{StreamParameters}
 use Rattle.stream_units.specs.Stamps.{distance, dts_at, unit_at, moved, unit_fault, first_fault}
-use Rattle.stream_units.specs.Declaration.{interval_after, min_interval, max_unit_size, max_group}
+use Rattle.stream_units.specs.Declaration.{interval_after, min_interval, max_unit_size, max_group, AllowsUnits}
 use Rattle.stream_units.specs.Laws.{FirstDue, UnitsAreKept}
 use Rattle.stream_units.proofs.StampFaults.{place_none, timely}
+use Rattle.stream_units.proofs.UnitCounts.{within_burst}
 
 -- 1. Each by itself
 
@@ -72,24 +78,33 @@ unfolding Sized max_unit_size
 sized_all l [] le = tt
 sized_all l (u ∷ us) le = (text_most l u l.parameters.size (omega (arith, le)), sized_all l us (omega (arith, le)))
 
--- 4. Their groups
+-- 4. The number of their packets
 
-declared_all : (l : OwnedStream) (most : ℕ) (us : List AccessUnit) → max_unit_size us ≤ l.parameters.size → max_group l.parameters.group (map (timed l) us) ≤ most →
-    GroupsWithin l.parameters.group most (max_packets_per_unit l.parameters) (map (timed l) us)
+grouped_all : (l : OwnedStream) (group most : ℕ) (us : List AccessUnit) → max_unit_size us ≤ l.parameters.size → max_group group (map (timed l) us) ≤ most →
+    GroupsWithin group most (max_packets_per_unit l.parameters) (map (timed l) us)
 unfolding GroupsWithin max_unit_size max_group
-declared_all l most [] size le = tt
-declared_all l most (u ∷ us) size le = (
+grouped_all l group most [] size le = tt
+grouped_all l group most (u ∷ us) size le = (
   omega (arith, text_most l u l.parameters.size (omega (arith, size))),
   omega (arith, le),
-  declared_all l most us (omega (arith, size)) (omega (arith, le)),
+  grouped_all l group most us (omega (arith, size)) (omega (arith, le)),
 )
+
+allowed_all : (a : Allowance) (l : OwnedStream) (us : List AccessUnit) → max_unit_size us ≤ l.parameters.size → Spaced l.parameters.interval l.parameters.lead (map (timed l) us) →
+    AllowsUnits a l.parameters.stream_id l.parameters.base0 us → KeepsAllowance a (max_packets_per_unit l.parameters) (map (timed l) us)
+allowed_all (Groups group most) l us size spaced allows = grouped_all l group most us size (omega (arith, allows))
+allowed_all (Pace burst pace) l us size spaced allows =
+    burst_law.more burst pace l.parameters.interval l.parameters.lead (map (timed l) us) spaced
+    (within_burst (greatest_level pace (map (timed l) us)) burst (omega (arith, allows)))
 
 -- 5. All together
 
 pub units_kept : UnitsAreKept
-units_kept l base wire none some declares = record {
-  units = units_each l.parameters base 0 None wire none some declares.size;
-  spaced = spaced_all l base wire declares.interval declares.lead;
-  sized = sized_all l (moved base None wire) declares.size;
-  grouped = declared_all l l.parameters.group_packets (moved base None wire) declares.size (omega (arith, declares.group));
-}
+units_kept l base wire none some declares =
+    let spaced = spaced_all l base wire declares.interval declares.lead in
+    record {
+      units = units_each l.parameters base 0 None wire none some declares.size;
+      spaced = spaced;
+      sized = sized_all l (moved base None wire) declares.size;
+      allowed = allowed_all l.parameters.allowance l (moved base None wire) declares.size spaced declares.allowance;
+    }

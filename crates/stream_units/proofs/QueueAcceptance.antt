@@ -1,5 +1,5 @@
 -- Units that keep a declaration are taken one by one.
-use Rattle.std.proofs.Common.{◌≡◌, ◌≤◌, ◌<◌, ℕ, ◌+◌, ◌-◌, ◌^◌, ◌==◌, ◌++◌, nat_lt, false, None, List, [], ◌∷◌, length, map, refl, sym, subst, arith, All, inl, inr}
+use Rattle.std.proofs.Common.{◌≡◌, ◌≤◌, ◌<◌, ℕ, ◌+◌, ◌-◌, ◌^◌, ◌==◌, ◌++◌, nat_lt, Bool, false, None, List, [], ◌∷◌, length, map, refl, sym, subst, arith, All, inl, inr}
 use Rattle.std.proofs.lemmas.Bool.{cases_Bool, le-ltb, lt-leb}
 use Rattle.std.proofs.lemmas.Bool.Decides.{nat_tests}
 use Rattle.std.proofs.lemmas.List.{append_assoc, append-nil, map-append}
@@ -7,11 +7,16 @@ use Rattle.std.proofs.lemmas.List.Elements.{All-nil, All-cons, All-head, All-tai
 use Rattle.clock27.specs.Release.{release}
 use Rattle.own_slots.specs.Slots.{own_before}
 use Rattle.pes_packet.specs.AccessUnits.{AccessUnit}
-use Rattle.unit_timing.specs.PesPacket.{PesPacket, Spaced, Sized, GroupsWithin, next_due, last_packets}
-use Rattle.unit_timing.proofs.OneMoreUnit.{spaced_more_law, sized_more_law, group_more_law}
+use Rattle.unit_timing.specs.declared.allowance.Allowance.{Allowance}
+use Rattle.unit_timing.specs.declared.allowance.Allowance.TheVariants.{Groups, Pace}
+use Rattle.unit_timing.specs.PesPacket.{PesPacket, Spaced, Sized, next_due}
+use Rattle.unit_timing.specs.Allowances.{KeepsAllowance, allowance_rows}
+use Rattle.unit_timing.specs.Levels.{is_over}
+use Rattle.unit_timing.proofs.OneMoreUnit.{spaced_more_law, sized_more_law}
+use Rattle.unit_timing.proofs.Levels.{allowance_more_law}
 use Rattle.unit_queue.specs.OwnedStreams.{OwnedStream, timed, packet_count, end_slot}
 use Rattle.unit_queue.specs.Places.{left_at, left_before}
-use Rattle.unit_queue.specs.Causes.{or_cause, own_cause, time_cause, room_cause, is_late, is_full, exceeds_group, min_next_dts_of}
+use Rattle.unit_queue.specs.Causes.{or_cause, own_cause, time_cause, packets_cause, room_cause, is_late, is_full, over_cause, min_next_dts_of}
 use Rattle.unit_queue.specs.Queues.{IsUnit, Kept, max_packets_per_unit}
 use Rattle.unit_queue.specs.declared.parameters.StreamParameters.{StreamParameters}
 use Rattle.stream_units.specs.Laws.{TakenOneByOne}
@@ -45,15 +50,16 @@ few_left l p free number (u ∷ us) = elim (cases_Bool (nat_lt p (end_slot l fre
   | inr n ↦ rw n (omega (arith, few_left l p (end_slot l free u) (number + packet_count l u) us))
 ]
 
+packets_none : (a : Allowance) (over : Bool) → over ≡ false → packets_cause a over ≡ None
+packets_none (Groups group most) over e = rw e refl
+packets_none (Pace burst pace) over e = rw e refl
+
 room_none : (l : OwnedStream) (capacity : ℕ) (us : List AccessUnit) (u : AccessUnit) → length us < capacity →
-    last_packets (l.parameters.group - 1) (map (timed l) us) + packet_count l u ≤ l.parameters.group_packets → room_cause (is_full l 0 capacity us) (exceeds_group l us u) ≡ None
+    is_over l.parameters.allowance (map (timed l) us) (timed l u) ≡ false → room_cause (is_full l 0 capacity us) (over_cause l us u) ≡ None
 unfolding room_cause
-room_none l capacity us u room group =
+room_none l capacity us u room over =
     let few : length (left_before l 0 us).units < capacity = omega (arith, few_left l (own_before l.own 0) 0 0 us, room) in
-    rw (
-      lt-leb capacity (length (left_before l 0 us).units) few,
-      le-ltb l.parameters.group_packets (last_packets (l.parameters.group - 1) (map (timed l) us) + packet_count l u) group,
-    ) refl
+    rw (lt-leb capacity (length (left_before l 0 us).units) few) (packets_none l.parameters.allowance (is_over l.parameters.allowance (map (timed l) us) (timed l u)) over)
 
 -- 2. The units before it, and it
 
@@ -80,35 +86,28 @@ record Last (l : OwnedStream) (us : List AccessUnit) (u : AccessUnit) : Type 0 w
   pub kept : Kept l us
   pub unit : IsUnit l.parameters u
   pub due : next_due l.parameters.interval l.parameters.lead (map (timed l) us) ≤ u.dts
-  pub group : last_packets (l.parameters.group - 1) (map (timed l) us) + packet_count l u ≤ l.parameters.group_packets
+  pub over : is_over l.parameters.allowance (map (timed l) us) (timed l u) ≡ false
 
-last_of : (l : OwnedStream) (us : List AccessUnit) (u : AccessUnit) → 1 ≤ l.parameters.group → Kept l (us ++ u ∷ []) → Last l us u
+last_of : (l : OwnedStream) (us : List AccessUnit) (u : AccessUnit) → 0 < allowance_rows l.parameters.allowance → Kept l (us ++ u ∷ []) → Last l us u
 last_of l us u some kept =
     let r = l.parameters in
     let texts = map (timed l) us in
     let more : map (timed l) (us ++ u ∷ []) ≡ map (timed l) us ++ timed l u ∷ [] = map-append (timed l) us (u ∷ []) in
-    let spaced = spaced_more_law.back r.interval r.lead texts (timed l u) (subst (λ (t : List PesPacket). Spaced r.interval r.lead t) more kept.spaced) in
+    let spaced_on : Spaced r.interval r.lead (texts ++ timed l u ∷ []) = subst (λ (t : List PesPacket). Spaced r.interval r.lead t) more kept.spaced in
+    let spaced = spaced_more_law.back r.interval r.lead texts (timed l u) spaced_on in
     let sized = sized_more_law.back (19 + r.size) texts (timed l u) (subst (λ (t : List PesPacket). Sized (19 + r.size) t) more kept.sized) in
-    let g : l.parameters.group ≡ (l.parameters.group - 1) + 1 = omega (arith, some) in
-    let grouped : GroupsWithin ((l.parameters.group - 1) + 1) l.parameters.group_packets (max_packets_per_unit l.parameters) (map (timed l) us ++ timed l u ∷ []) =
-    subst (λ (n : ℕ). GroupsWithin n l.parameters.group_packets (max_packets_per_unit l.parameters) (map (timed l) us ++ timed l u ∷ [])) g
-    (subst (λ (t : List PesPacket). GroupsWithin l.parameters.group l.parameters.group_packets (max_packets_per_unit l.parameters) t) more kept.grouped) in
-    let groups = group_more_law.back (r.group - 1) r.group_packets (max_packets_per_unit r) texts (timed l u) grouped in
+    let allowed = allowance_more_law.back r.allowance (max_packets_per_unit r) r.interval r.lead texts (timed l u) some spaced_on
+    (subst (λ (t : List PesPacket). KeepsAllowance r.allowance (max_packets_per_unit r) t) more kept.allowed) in
     record {
-      kept = record {
-        units = units_front r us u kept.units;
-        spaced = spaced.0;
-        sized = sized.0;
-        grouped = subst (λ (n : ℕ). GroupsWithin n l.parameters.group_packets (max_packets_per_unit l.parameters) (map (timed l) us)) (sym g) groups.0;
-      };
+      kept = record { units = units_front r us u kept.units; spaced = spaced.0; sized = sized.0; allowed = allowed.0 };
       unit = last_unit r us u kept.units;
       due = spaced.1;
-      group = groups.2;
+      over = allowed.1;
     }
 
 -- 3. One by one
 
-kept_front : (l : OwnedStream) (us more : List AccessUnit) → 1 ≤ l.parameters.group → Kept l (us ++ more) → Kept l us
+kept_front : (l : OwnedStream) (us more : List AccessUnit) → 0 < allowance_rows l.parameters.allowance → Kept l (us ++ more) → Kept l us
 kept_front l us [] some kept = subst (λ (x : List AccessUnit). Kept l x) (append-nil us) kept
 kept_front l us (u ∷ more) some kept =
     let on = kept_front l (us ++ u ∷ []) more some (subst (λ (x : List AccessUnit). Kept l x) (sym (append_assoc us (u ∷ []) more)) kept) in
@@ -123,5 +122,5 @@ taken_one_by_one l capacity us u more some kept room =
     rw (
       own_none l.parameters (min_next_dts_of l us) u last.unit (next_least l.parameters.interval l.parameters.lead u.dts (map (timed l) us) last.due),
       time_none l u lead last.unit.last,
-      room_none l capacity us u room last.group,
+      room_none l capacity us u room last.over,
     ) refl

@@ -1,11 +1,15 @@
 -- Counting over units from their front.
-use Rattle.std.proofs.Common.{◌≡◌, ◌≤◌, ◌<◌, ℕ, ◌+◌, ◌∙◌, ap, ◌-◌, min, max, List, [], ◌∷◌, length, take, drop, get_or, refl, sym, arith, add-one}
+use Rattle.std.proofs.Common.{◌≡◌, ◌≤◌, ◌<◌, ℕ, ◌+◌, ◌*◌, ◌∙◌, ap, ◌-◌, min, max, List, [], ◌∷◌, length, take, drop, get_or, refl, sym, arith, add-one}
+use Rattle.std.specs.Int.{div_ceil}
 use Rattle.std.proofs.Math.Seq.{drop-cons}
+use Rattle.std.proofs.lemmas.Grind.{div_ceil_times}
 use Rattle.std.proofs.lemmas.List.{drop_all, take-map}
 use Rattle.pes_packet.specs.AccessUnits.{AccessUnit}
 use Rattle.stream_units.specs.Stamps.{distance, min_distance}
+use Rattle.clock27.specs.Units.{slot_units_at_1bps}
 use Rattle.unit_timing.specs.PesPacket.{packets_of_units}
-use Rattle.stream_units.specs.Declaration.{interval_after, min_interval, max_unit_size, max_group, timed_units}
+use Rattle.unit_timing.specs.Levels.{next_level, greatest_level, greatest_after}
+use Rattle.stream_units.specs.Declaration.{interval_after, min_interval, max_unit_size, max_group, timed_unit, timed_units}
 
 pub size_more : (i : ℕ) (us : List AccessUnit) (u : AccessUnit) → i < length us → u ≡ get_or us i u →
     max_unit_size (drop i us) ≡ max (length u.bytes) (max_unit_size (drop (i + 1) us))
@@ -53,7 +57,7 @@ pub group_more : (id base0 group most total : ℕ) (units rest : List AccessUnit
     max most (max_group group (timed_units id base0 units)) ≡ max (max most total) (max_group group (timed_units id base0 rest))
 unfolding max_group
 group_more id base0 group most total units rest u is counted =
-    let front : packets_of_units (timed_units id base0 (take group (u ∷ rest))) ≡ packets_of_units (take group (timed_units id base0 (u ∷ rest))) = ap packets_of_units (sym (take-map _ group (u ∷ rest))) in
+    let front : packets_of_units (timed_units id base0 (take group (u ∷ rest))) ≡ packets_of_units (take group (timed_units id base0 (u ∷ rest))) = ap packets_of_units (sym (take-map (timed_unit id base0) group (u ∷ rest))) in
     let all : total ≡ packets_of_units (take group (timed_units id base0 (u ∷ rest))) = rw is at counted ∙ front in
     rw is (omega (arith, all))
 
@@ -61,3 +65,34 @@ pub group_end : (id base0 group : ℕ) (units : List AccessUnit) → length unit
 unfolding max_group
 group_end id base0 group [] is = refl
 group_end id base0 group (u ∷ us) is = absurd (let no : ⊥ = omega (arith, is) in no)
+
+-- ---- levels
+
+pub level_more : (id base0 pace i level last : ℕ) (us : List AccessUnit) (u : AccessUnit) → i < length us → u ≡ get_or us i u →
+    greatest_after pace level last (timed_units id base0 (drop i us))
+    ≡ max (next_level pace level last (timed_unit id base0 u)) (greatest_after pace (next_level pace level last (timed_unit id base0 u)) u.dts (timed_units id base0 (drop (i + 1) us)))
+unfolding greatest_after
+level_more id base0 pace i level last us u below at = rw (drop-cons us i u below, add-one i, sym at) refl
+
+pub level_end : (id base0 pace i level last : ℕ) (us : List AccessUnit) → length us ≤ i → greatest_after pace level last (timed_units id base0 (drop i us)) ≡ 0
+unfolding greatest_after
+level_end id base0 pace i level last us over = rw (drop_all i us over) refl
+
+-- the same with what a step gives
+pub level_step : (id base0 pace i level last greatest level' last' greatest' : ℕ) (all us : List AccessUnit) (u : AccessUnit) → i < length us → u ≡ get_or us i u →
+    level' ≡ next_level pace level last (timed_unit id base0 u) → last' ≡ u.dts → greatest' ≡ max greatest level' →
+    greatest_level pace (timed_units id base0 all) ≡ max greatest (greatest_after pace level last (timed_units id base0 (drop i us))) →
+    greatest_level pace (timed_units id base0 all) ≡ max greatest' (greatest_after pace level' last' (timed_units id base0 (drop (i + 1) us)))
+level_step id base0 pace i level last greatest level' last' greatest' all us u below at l d g before =
+    rw (g, l, d) (omega (arith, before, level_more id base0 pace i level last us u below at))
+
+-- a level of more than so many packets has more
+pub over_most : (level most : ℕ) → most * slot_units_at_1bps < level → most < div_ceil level slot_units_at_1bps
+over_most level most lt = omega (arith, lt, (div_ceil_times level slot_units_at_1bps (omega arith)).0)
+
+pub at_most : (level most : ℕ) → level ≤ most * slot_units_at_1bps → div_ceil level slot_units_at_1bps ≤ most
+at_most level most le = omega (arith, le, (div_ceil_times level slot_units_at_1bps (omega arith)).1)
+
+-- and one of at most so many is at most theirs
+pub within_burst : (level burst : ℕ) → div_ceil level slot_units_at_1bps ≤ burst → level ≤ burst * slot_units_at_1bps
+within_burst level burst le = omega (arith, le, (div_ceil_times level slot_units_at_1bps (omega arith)).0)

@@ -1,8 +1,13 @@
 -- The least that a stream declares so that its units keep it.
-use Rattle.std.specs.Prelude.{ℕ, ◌+◌, ◌-◌, ◌/◌, min, max, List, [], ◌∷◌, length, map, take}
+use Rattle.std.specs.Prelude.{ℕ, ◌+◌, ◌-◌, ◌/◌, ◌≤◌, min, max, List, [], ◌∷◌, length, map, take}
+use Rattle.std.specs.Int.{div_ceil}
+use Rattle.clock27.specs.Units.{slot_units_at_1bps}
 use Rattle.pes_packet.specs.AccessUnits.{AccessUnit}
 use Rattle.pes_packet.specs.Encoding.{pes_packet_bytes}
+use Rattle.unit_timing.specs.declared.allowance.Allowance.{Allowance}
+use Rattle.unit_timing.specs.declared.allowance.Allowance.TheVariants.{Groups, Pace}
 use Rattle.unit_timing.specs.PesPacket.{PesPacket, packets_of_units}
+use Rattle.unit_timing.specs.Levels.{greatest_level}
 
 -- the least time from one DTS to the next, at most a second
 unfoldable pub interval_after : ℕ → List AccessUnit → ℕ
@@ -28,9 +33,21 @@ max_group group [] = 0
 max_group group (unit ∷ units) = max (packets_of_units (take group (unit ∷ units))) (max_group group units)
 
 -- the PES packets of units, whose sizes do not depend on the stream_id
-abbrev pub timed_units : ℕ → ℕ → List AccessUnit → List PesPacket
-timed_units id base0 us = map (λ u. record { dts = u.dts; size = length (pes_packet_bytes id base0 u) }) us
+abbrev pub timed_unit : ℕ → ℕ → AccessUnit → PesPacket
+timed_unit id base0 u = record { dts = u.dts; size = length (pes_packet_bytes id base0 u) }
 
--- what is declared of them: at least as many as the largest unit may have
+abbrev pub timed_units : ℕ → ℕ → List AccessUnit → List PesPacket
+timed_units id base0 us = map (timed_unit id base0) us
+
+-- what is declared of them by groups, and by a pace in bits a second of whole packets: at least as many as the largest
+-- unit may have
 abbrev pub group_packets : ℕ → ℕ → ℕ → List AccessUnit → ℕ
 group_packets id base0 group us = max (max_unit_packets (max_unit_size us)) (max_group group (timed_units id base0 us))
+
+abbrev pub burst_packets : ℕ → ℕ → ℕ → List AccessUnit → ℕ
+burst_packets id base0 pace us = max (max_unit_packets (max_unit_size us)) (div_ceil (greatest_level pace (timed_units id base0 us)) slot_units_at_1bps)
+
+-- no more than is declared
+abbrev pub AllowsUnits : Allowance → ℕ → ℕ → List AccessUnit → Type 0
+AllowsUnits (Groups group most) id base0 us = group_packets id base0 group us ≤ most
+AllowsUnits (Pace burst pace) id base0 us = burst_packets id base0 pace us ≤ burst

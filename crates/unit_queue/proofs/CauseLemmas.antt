@@ -1,5 +1,5 @@
 -- What is known of a unit that no cause refuses.
-use Rattle.std.proofs.Common.{◌≡◌, ℕ, zero, suc, ◌+◌, ◌^◌, ◌<◌, ◌≤◌, ◌==◌, ◌||◌, nat_lt, nat_le, Bool, true, false, if◌then◌else◌, Option, Some, None, List, length, IsTrue, refl, sym, inl, inr, arith}
+use Rattle.std.proofs.Common.{◌≡◌, ℕ, zero, suc, ◌+◌, ◌^◌, ◌<◌, ◌≤◌, ◌==◌, ◌||◌, nat_lt, nat_le, Bool, true, false, if◌then◌else◌, Option, Some, None, List, length, IsTrue, refl, sym, ◌∙◌, inl, inr, arith}
 use Rattle.std.proofs.lemmas.Bool.{cases_Bool, cases_lt, lt-ltb, le-leb}
 use Rattle.std.proofs.lemmas.List.{length-append}
 use Rattle.pes_packet.specs.AccessUnits.{AccessUnit}
@@ -7,11 +7,14 @@ use Rattle.pes_packet.specs.Encoding.{pes_packet_bytes, pes_header_bytes}
 use Rattle.pes_packet.specs.StreamIds.{is_video, greatest_size, fits_packet}
 use Rattle.unit_queue.specs.declared.parameters.StreamParameters.{StreamParameters}
 use Rattle.unit_queue.specs.declared.refusal.FeedError.{FeedError}
-use Rattle.unit_queue.specs.declared.refusal.FeedError.TheVariants.{Empty, TooLarge, TooSoon, BadPts, Late, TooFar, Full, Group}
-use Rattle.unit_queue.specs.Causes.{or_cause, is_bad_pts, own_cause, time_cause, room_cause}
+use Rattle.unit_queue.specs.declared.refusal.FeedError.TheVariants.{Empty, TooLarge, TooSoon, BadPts, Late, TooFar, Full, Group, Pace as OverPace}
+use Rattle.unit_timing.specs.declared.allowance.Allowance.{Allowance}
+use Rattle.unit_timing.specs.declared.allowance.Allowance.TheVariants.{Groups, Pace}
+use Rattle.unit_timing.specs.PesPacket.{PesPacket}
+use Rattle.unit_queue.specs.Causes.{or_cause, is_bad_pts, own_cause, time_cause, packets_cause, room_cause}
 use Rattle.clock27.specs.Release.{release}
 use Rattle.unit_queue.specs.Queues.{ParametersInRange, IsUnit, Queued, Queue, queued}
-use Rattle.unit_queue.specs.QueueSteps.{packets_in, joined, accepted}
+use Rattle.unit_queue.specs.QueueSteps.{late_at, timed_by, is_over_for, state_cause, joined, accepted}
 
 -- causes in turn
 pub or_first : (a b c : Option FeedError) (e : FeedError) → Some e ≡ or_cause a b → Some e ≡ or_cause a (or_cause b c)
@@ -79,12 +82,13 @@ time_facts late dts is =
     let b = test_none (nat_lt (2 ^ 52) dts) TooFar None a.1 in
     (a.0, not_lt (2 ^ 52) dts b.0)
 
-pub room_facts : (full over : Bool) → room_cause full over ≡ None → (full ≡ false) × (over ≡ false)
+packets_none : (a : Allowance) (over : Bool) → packets_cause a over ≡ None → over ≡ false
+packets_none (Groups g most) over is = (test_none over Group None is).0
+packets_none (Pace burst pace) over is = (test_none over OverPace None is).0
+
+pub room_facts : (a : Allowance) (full over : Bool) → room_cause full (packets_cause a over) ≡ None → (full ≡ false) × (over ≡ false)
 unfolding room_cause
-room_facts full over is =
-    let a = test_none full Full _ is in
-    let b = test_none over Group None a.1 in
-    (a.0, b.0)
+room_facts a full over is = let b = test_none full Full (packets_cause a over) is in (b.0, packets_none a over b.1)
 
 pub unit_is : (r : StreamParameters) (min_next_dts : ℕ) (late : Bool) (u : AccessUnit) → None ≡ or_cause (own_cause r.size min_next_dts u) (time_cause late u.dts) → IsUnit r u
 unit_is r min_next_dts late u is =
@@ -93,16 +97,14 @@ unit_is r min_next_dts late u is =
     record { some = own.some; most = own.most; later = own.later; soon = own.soon; last = (time_facts late u.dts both.1).1 }
 
 -- it may be a PES packet of its stream
-pub greatest_most : (id : ℕ) → greatest_size id ≤ 4_000_000
+greatest_most : (id : ℕ) → greatest_size id ≤ 4_000_000
 greatest_most id = elim (cases_Bool (is_video id)) [ inl v ↦ rw v (omega arith) | inr o ↦ rw o (omega arith) ]
 
 pub fits_unit : (r : StreamParameters) (u : AccessUnit) → ParametersInRange r → IsUnit r u → IsTrue (fits_packet r.stream_id (length u.bytes))
 fits_unit r u rules unit = search (rules, arith)
 
-pub pes_size : (r : StreamParameters) (u : AccessUnit) (header : List ℕ) →
-    header ≡ pes_header_bytes r.stream_id (length u.bytes) (u.pts + r.base0) (u.dts + r.base0) → length header + length u.bytes ≡ length (pes_packet_bytes r.stream_id r.base0 u)
-unfolding pes_packet_bytes
-pes_size r u header is = rw is (sym (length-append (pes_header_bytes r.stream_id (length u.bytes) (u.pts + r.base0) (u.dts + r.base0)) u.bytes))
+pub size_few : (r : StreamParameters) (u : AccessUnit) (header : ℕ) → ParametersInRange r → IsUnit r u → header ≤ 19 → header + length u.bytes < 2 ^ 63
+size_few r u header rules unit few = omega (arith, few, unit.most, rules.size, greatest_most r.stream_id)
 
 pub not_le : (a b : ℕ) → nat_le a b ≡ false → b < a
 not_le a b is = elim (cases_lt b a) [
@@ -110,11 +112,22 @@ not_le a b is = elim (cases_lt b a) [
   | inr le ↦ absurd (let t = le-leb a b le in let no : ⊥ = cc in no)
 ]
 
--- a unit is taken with what was found of it
-pub queued_is : (r : StreamParameters) (u : AccessUnit) (slot : ℕ) (header : List ℕ) → slot ≡ release r.rate r.lead u.dts →
-    header ≡ pes_header_bytes r.stream_id (length u.bytes) (u.pts + r.base0) (u.dts + r.base0) → record { release = slot; header = header; bytes = u.bytes } ≡ queued r u
-queued_is r u slot header a b = rw (a, b) refl
+-- what is found of a unit is its DTS and size, and why it is refused
+pub timed_is : (r s : StreamParameters) (u : AccessUnit) (d size : ℕ) (header : List ℕ) → s ≡ r → d ≡ u.dts → size ≡ length header + length u.bytes →
+    header ≡ pes_header_bytes s.stream_id (length u.bytes) (u.pts + s.base0) (u.dts + s.base0) → record { dts = d; size = size } ≡ timed_by r u
+unfolding pes_packet_bytes
+timed_is r s u d size header same due parts is =
+    rw (due, parts, is, same, length-append (pes_header_bytes r.stream_id (length u.bytes) (u.pts + r.base0) (u.dts + r.base0)) u.bytes) refl
 
-pub accepted_is : (q : Queue) (u : AccessUnit) (dts packets : ℕ) (x : Queued) → dts ≡ u.dts → packets ≡ packets_in q.parameters u → x ≡ queued q.parameters u →
-    joined q dts packets x ≡ accepted q u
-accepted_is q u dts packets x a b c = rw (a, b, c) refl
+pub room_is : (q : Queue) (slots : ℕ) (u : AccessUnit) (unit : PesPacket) (cause : Option FeedError) → unit ≡ timed_by q.parameters u →
+    None ≡ or_cause (own_cause q.parameters.size q.min_next_dts u) (time_cause (late_at q.parameters slots u.dts) u.dts) →
+    cause ≡ room_cause (nat_le q.capacity (length q.units)) (packets_cause q.parameters.allowance (is_over_for q unit)) → cause ≡ state_cause slots q u
+room_is q slots u unit cause timed none is = (rw timed at is) ∙ sym (or_rest _ _ _ none)
+
+-- with which it is taken
+pub queued_is : (r s : StreamParameters) (u : AccessUnit) (slot : ℕ) (header : List ℕ) → s ≡ r → slot ≡ release r.rate r.lead u.dts →
+    header ≡ pes_header_bytes s.stream_id (length u.bytes) (u.pts + s.base0) (u.dts + s.base0) → record { release = slot; header = header; bytes = u.bytes } ≡ queued r u
+queued_is r s u slot header same a b = rw (a, b, same) refl
+
+pub accepted_is : (q : Queue) (u : AccessUnit) (unit : PesPacket) (x : Queued) → unit ≡ timed_by q.parameters u → x ≡ queued q.parameters u → joined q unit x ≡ accepted q u
+accepted_is q u unit x a b = rw (a, b) refl

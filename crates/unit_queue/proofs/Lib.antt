@@ -1,6 +1,7 @@
 pub mod PieceBytes
 pub mod Leftover
 pub mod QueueSteps
+pub mod Tallies
 pub mod CauseLemmas
 pub mod QueueStates
 pub mod SentPlaces

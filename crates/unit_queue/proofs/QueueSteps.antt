@@ -10,27 +10,28 @@ use Rattle.pes_packet.specs.Encoding.{pes_packet_bytes}
 use Rattle.slot_contents.specs.Contents.{PayloadContent, packet_of}
 use Rattle.unit_queue.specs.OwnedStreams.{OwnedStream, pes_bytes, packet_count, first_slot, end_slot}
 use Rattle.unit_queue.specs.Places.{place_at, content_of, left_at, begun}
+use Rattle.unit_queue.specs.Tallies.{Tally}
 use Rattle.unit_queue.specs.Queues.{queue_at}
 use Rattle.unit_queue.specs.QueueSteps.{payload_or_null, front_content, front_sent, queue_content, sent_in, stepped}
 use Rattle.unit_queue.proofs.Leftover.{count_some, first_free, first_released, first_least, left_stop, left_on, place_before, place_in, Unfinished}
 
 -- what an own slot makes of the queue, and the packet in it
-pub record Steps (l : OwnedStream) (slots p free number : ℕ) (us : List AccessUnit) (capacity min_next_dts : ℕ) (recent : List ℕ) : Type 0 where
-  pub packet : packet_of (queue_content slots (queue_at l number (begun l p free us) us capacity min_next_dts recent)) ≡ packet_of (content_of l (place_at l free number us p))
-  pub state : sent_in slots (queue_at l number (begun l p free us) us capacity min_next_dts recent)
+pub record Steps (l : OwnedStream) (slots p free number : ℕ) (us : List AccessUnit) (capacity min_next_dts : ℕ) (tally : Tally) : Type 0 where
+  pub packet : packet_of (queue_content slots (queue_at l number (begun l p free us) us capacity min_next_dts tally)) ≡ packet_of (content_of l (place_at l free number us p))
+  pub state : sent_in slots (queue_at l number (begun l p free us) us capacity min_next_dts tally)
       ≡ queue_at l (left_at l (suc p) free number us).number (begun l (suc p) (left_at l (suc p) free number us).free (left_at l (suc p) free number us).units)
-      (left_at l (suc p) free number us).units capacity min_next_dts recent
+      (left_at l (suc p) free number us).units capacity min_next_dts tally
 
 -- nothing waits
-step_none : (l : OwnedStream) (slots p free number capacity min_next_dts : ℕ) (recent : List ℕ) → Steps l slots p free number [] capacity min_next_dts recent
+step_none : (l : OwnedStream) (slots p free number capacity min_next_dts : ℕ) (tally : Tally) → Steps l slots p free number [] capacity min_next_dts tally
 unfolding front_content front_sent left_at place_at begun
-step_none l slots p free number capacity min_next_dts recent = record { packet = refl; state = refl }
+step_none l slots p free number capacity min_next_dts tally = record { packet = refl; state = refl }
 
 -- the first unit is not released
-step_idle : (l : OwnedStream) (slots p free number : ℕ) (u : AccessUnit) (us : List AccessUnit) (capacity min_next_dts : ℕ) (recent : List ℕ) →
-    slots < release l.parameters.rate l.parameters.lead u.dts → suc p ≤ first_slot l free u → Steps l slots p free number (u ∷ us) capacity min_next_dts recent
+step_idle : (l : OwnedStream) (slots p free number : ℕ) (u : AccessUnit) (us : List AccessUnit) (capacity min_next_dts : ℕ) (tally : Tally) →
+    slots < release l.parameters.rate l.parameters.lead u.dts → suc p ≤ first_slot l free u → Steps l slots p free number (u ∷ us) capacity min_next_dts tally
 unfolding front_content front_sent begun
-step_idle l slots p free number u us capacity min_next_dts recent early before =
+step_idle l slots p free number u us capacity min_next_dts tally early before =
     let none : p - first_slot l free u ≡ 0 = omega arith in
     let still : suc p - first_slot l free u ≡ 0 = omega arith in
     let stop = left_stop l (suc p) free number u us (omega (arith, before, count_some l u)) in
@@ -69,15 +70,15 @@ piece_packet l u number b inside =
     rw (some_is l.parameters.pid ((number + b) % 256) (184 * b == 0) (take 184 (drop (184 * b) pes)) some, start_same b, counter_same (number + b)) refl
 
 -- the queue when one more piece is sent, of a unit that goes on or ends
-step_more : (l : OwnedStream) (number b : ℕ) (u : AccessUnit) (us : List AccessUnit) (capacity min_next_dts : ℕ) (recent : List ℕ) →
-    stepped true (queue_at l number b (u ∷ us) capacity min_next_dts recent) ≡ queue_at l number (b + 1) (u ∷ us) capacity min_next_dts recent
-step_more l number b u us capacity min_next_dts recent =
+step_more : (l : OwnedStream) (number b : ℕ) (u : AccessUnit) (us : List AccessUnit) (capacity min_next_dts : ℕ) (tally : Tally) →
+    stepped true (queue_at l number b (u ∷ us) capacity min_next_dts tally) ≡ queue_at l number (b + 1) (u ∷ us) capacity min_next_dts tally
+step_more l number b u us capacity min_next_dts tally =
     let size : 184 * b + 184 ≡ 184 * (b + 1) = omega arith in
     rw (size, counter_next number b) refl
 
-step_last : (l : OwnedStream) (number b : ℕ) (u : AccessUnit) (us : List AccessUnit) (capacity min_next_dts : ℕ) (recent : List ℕ) → b + 1 ≡ packet_count l u →
-    stepped false (queue_at l number b (u ∷ us) capacity min_next_dts recent) ≡ queue_at l (number + packet_count l u) 0 us capacity min_next_dts recent
-step_last l number b u us capacity min_next_dts recent ends =
+step_last : (l : OwnedStream) (number b : ℕ) (u : AccessUnit) (us : List AccessUnit) (capacity min_next_dts : ℕ) (tally : Tally) → b + 1 ≡ packet_count l u →
+    stepped false (queue_at l number b (u ∷ us) capacity min_next_dts tally) ≡ queue_at l (number + packet_count l u) 0 us capacity min_next_dts tally
+step_last l number b u us capacity min_next_dts tally ends =
     let count : number + packet_count l u + 0 ≡ number + (b + 1) = omega (arith, ends) in
     rw (counter_next number b, count) refl
 
@@ -92,10 +93,10 @@ fresh_begun l p [] = refl
 fresh_begun l p (u ∷ us) = omega (arith, first_free l p u)
 
 -- the first unit is released
-step_busy : (l : OwnedStream) (slots p free number : ℕ) (u : AccessUnit) (us : List AccessUnit) (capacity min_next_dts : ℕ) (recent : List ℕ) →
-    release l.parameters.rate l.parameters.lead u.dts ≤ slots → first_slot l free u ≤ p → p < end_slot l free u → Steps l slots p free number (u ∷ us) capacity min_next_dts recent
+step_busy : (l : OwnedStream) (slots p free number : ℕ) (u : AccessUnit) (us : List AccessUnit) (capacity min_next_dts : ℕ) (tally : Tally) →
+    release l.parameters.rate l.parameters.lead u.dts ≤ slots → first_slot l free u ≤ p → p < end_slot l free u → Steps l slots p free number (u ∷ us) capacity min_next_dts tally
 unfolding front_content front_sent begun pes_packet_bytes
-step_busy l slots p free number u us capacity min_next_dts recent released from below =
+step_busy l slots p free number u us capacity min_next_dts tally released from below =
     let b = p - first_slot l free u in
     let pes = pes_bytes l u in
     let inside : 184 * (p - first_slot l free u) < length (pes_bytes l u) = omega arith in
@@ -107,25 +108,25 @@ step_busy l slots p free number u us capacity min_next_dts recent released from 
       state = elim (cases_lt (suc p) (end_slot l free u)) [
         | inl on ↦
             let more : 184 < length (drop (184 * (p - first_slot l free u)) (pes_bytes l u)) = omega (arith, left) in
-            rw (left_stop l (suc p) free number u us on, sent, lt-ltb 184 (length (drop (184 * b) pes)) more, next) (step_more l number b u us capacity min_next_dts recent)
+            rw (left_stop l (suc p) free number u us on, sent, lt-ltb 184 (length (drop (184 * b) pes)) more, next) (step_more l number b u us capacity min_next_dts tally)
         | inr end ↦
             let last : length (drop (184 * (p - first_slot l free u)) (pes_bytes l u)) ≤ 184 = omega (arith, left) in
             let ends : (p - first_slot l free u) + 1 ≡ packet_count l u = omega arith in
             let here : end_slot l free u ≡ suc p = omega arith in
             rw (left_on l (suc p) free number u us end, here, fresh_left l (suc p) (number + packet_count l u) us, fresh_begun l (suc p) us, sent, le-ltb 184 (length (drop (184 * b) pes)) last)
-            (step_last l number b u us capacity min_next_dts recent ends)
+            (step_last l number b u us capacity min_next_dts tally ends)
       ];
     }
 
-pub step : (l : OwnedStream) (slots free number : ℕ) (us : List AccessUnit) (capacity min_next_dts : ℕ) (recent : List ℕ) → l.own slots ≡ true →
-    free ≤ own_before l.own slots → Unfinished l (own_before l.own slots) free us → Steps l slots (own_before l.own slots) free number us capacity min_next_dts recent
+pub step : (l : OwnedStream) (slots free number : ℕ) (us : List AccessUnit) (capacity min_next_dts : ℕ) (tally : Tally) → l.own slots ≡ true →
+    free ≤ own_before l.own slots → Unfinished l (own_before l.own slots) free us → Steps l slots (own_before l.own slots) free number us capacity min_next_dts tally
 unfolding Unfinished
-step l slots free number [] capacity min_next_dts recent mine le open' = step_none l slots (own_before l.own slots) free number capacity min_next_dts recent
-step l slots free number (u ∷ us) capacity min_next_dts recent mine le open' =
+step l slots free number [] capacity min_next_dts tally mine le open' = step_none l slots (own_before l.own slots) free number capacity min_next_dts tally
+step l slots free number (u ∷ us) capacity min_next_dts tally mine le open' =
     let r = release l.parameters.rate l.parameters.lead u.dts in
     elim (cases_lt slots r) [
-      | inl early ↦ step_idle l slots (own_before l.own slots) free number u us capacity min_next_dts recent early
+      | inl early ↦ step_idle l slots (own_before l.own slots) free number u us capacity min_next_dts tally early
           (omega (arith, own_before_own l.own slots mine, own_before_le l.own (suc slots) r early, first_released l free u))
-      | inr released ↦ step_busy l slots (own_before l.own slots) free number u us capacity min_next_dts recent released
+      | inr released ↦ step_busy l slots (own_before l.own slots) free number u us capacity min_next_dts tally released
           (first_least l free (own_before l.own slots) u le (own_before_le l.own r slots released)) open'
     ]

@@ -1,12 +1,15 @@
 -- Why a unit is refused: one ordered list, of which the first cause is given.
-use Rattle.std.specs.Prelude.{ℕ, ◌+◌, ◌-◌, ◌^◌, ◌==◌, ◌||◌, nat_lt, nat_le, Bool, if◌then◌else◌, Option, Some, None, Result, Ok, Err, List, length, map}
+use Rattle.std.specs.Prelude.{ℕ, ◌+◌, ◌^◌, ◌==◌, ◌||◌, nat_lt, nat_le, Bool, if◌then◌else◌, Option, Some, None, Result, Ok, Err, List, length, map}
 use Rattle.clock27.specs.Release.{release}
 use Rattle.pes_packet.specs.AccessUnits.{AccessUnit}
-use Rattle.unit_timing.specs.PesPacket.{next_due, last_packets}
-use Rattle.unit_queue.specs.OwnedStreams.{OwnedStream, timed, packet_count}
+use Rattle.unit_timing.specs.declared.allowance.Allowance.{Allowance}
+use Rattle.unit_timing.specs.declared.allowance.Allowance.TheVariants.{Groups, Pace}
+use Rattle.unit_timing.specs.PesPacket.{next_due}
+use Rattle.unit_timing.specs.Levels.{is_over}
+use Rattle.unit_queue.specs.OwnedStreams.{OwnedStream, timed}
 use Rattle.unit_queue.specs.Places.{left_before}
 use Rattle.unit_queue.specs.declared.refusal.FeedError.{FeedError}
-use Rattle.unit_queue.specs.declared.refusal.FeedError.TheVariants.{Empty, TooLarge, TooSoon, BadPts, Late, TooFar, Full, Group}
+use Rattle.unit_queue.specs.declared.refusal.FeedError.TheVariants.{Empty, TooLarge, TooSoon, BadPts, Late, TooFar, Full, Group, Pace as OverPace}
 
 -- the first of two causes
 unfoldable pub or_cause : Option FeedError → Option FeedError → Option FeedError
@@ -30,12 +33,17 @@ own_cause largest min_next_dts u =
 unfoldable pub time_cause : Bool → ℕ → Option FeedError
 time_cause late dts = if late then Some Late else (if nat_lt (2 ^ 52) dts then Some TooFar else None)
 
--- of the room for it, and of its group
-unfoldable pub room_cause : Bool → Bool → Option FeedError
-room_cause full over = if full then Some Full else (if over then Some Group else None)
+-- of its packets: more than its stream declares, by groups or by pace
+abbrev pub packets_cause : Allowance → Bool → Option FeedError
+packets_cause (Groups g most) over = if over then Some Group else None
+packets_cause (Pace burst pace) over = if over then Some OverPace else None
+
+-- of the room for it, and of its packets
+unfoldable pub room_cause : Bool → Option FeedError → Option FeedError
+room_cause full over = if full then Some Full else over
 
 -- the whole list
-abbrev pub first_cause : ℕ → ℕ → Bool → Bool → Bool → AccessUnit → Option FeedError
+abbrev pub first_cause : ℕ → ℕ → Bool → Bool → Option FeedError → AccessUnit → Option FeedError
 first_cause largest min_next_dts late full over u = or_cause (own_cause largest min_next_dts u) (or_cause (time_cause late u.dts) (room_cause full over))
 
 -- the DTS is before the lead, or the slot of the unit's release is written
@@ -46,9 +54,9 @@ is_late l slots u = nat_lt u.dts l.parameters.lead || nat_lt (release l.paramete
 abbrev pub is_full : OwnedStream → ℕ → ℕ → List AccessUnit → Bool
 is_full l slots capacity us = nat_le capacity (length (left_before l slots us).units)
 
--- its packets and those of the units before it in its group are more than the stream declares
-abbrev pub exceeds_group : OwnedStream → List AccessUnit → AccessUnit → Bool
-exceeds_group l us u = nat_lt l.parameters.group_packets (last_packets (l.parameters.group - 1) (map (timed l) us) + packet_count l u)
+-- its packets after those of the units before are more than the stream declares
+abbrev pub over_cause : OwnedStream → List AccessUnit → AccessUnit → Option FeedError
+over_cause l us u = packets_cause l.parameters.allowance (is_over l.parameters.allowance (map (timed l) us) (timed l u))
 
 -- the minimum DTS of the next unit
 abbrev pub min_next_dts_of : OwnedStream → List AccessUnit → ℕ
@@ -56,7 +64,7 @@ min_next_dts_of l us = next_due l.parameters.interval 0 (map (timed l) us)
 
 -- why a stream that has accepted these units, with `slots` slots written, refuses a further one
 abbrev pub unit_cause : OwnedStream → ℕ → ℕ → List AccessUnit → AccessUnit → Option FeedError
-unit_cause l slots capacity us u = first_cause l.parameters.size (min_next_dts_of l us) (is_late l slots u) (is_full l slots capacity us) (exceeds_group l us u) u
+unit_cause l slots capacity us u = first_cause l.parameters.size (min_next_dts_of l us) (is_late l slots u) (is_full l slots capacity us) (over_cause l us u) u
 
 -- why a call refused a unit, none where it accepted it
 abbrev pub refusal : {V W : Type 0} → Result V (FeedError × W) → Option FeedError

@@ -2,6 +2,7 @@ pub mod OwnedStreams
 pub mod Places
 pub mod Causes
 pub mod Codes
+pub mod Tallies
 pub mod Queues
 pub mod QueueSteps
 pub mod Payloads

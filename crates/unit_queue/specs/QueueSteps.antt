@@ -1,12 +1,12 @@
 -- One slot, and one unit more, as a queue takes them.
-use Rattle.std.specs.Prelude.{ℕ, ◌+◌, ◌-◌, ◌%◌, ◌==◌, ◌||◌, nat_lt, nat_le, Bool, if◌then◌else◌, Option, List, [], ◌∷◌, ◌++◌, length, take, drop, sum}
-use Rattle.circular_buffer.specs.Buffer.{keep_last}
+use Rattle.std.specs.Prelude.{ℕ, ◌+◌, ◌-◌, ◌%◌, ◌==◌, ◌||◌, nat_lt, nat_le, Bool, if◌then◌else◌, Option, List, [], ◌∷◌, ◌++◌, length, take, drop}
 use Rattle.clock27.specs.Release.{release}
 use Rattle.pes_packet.specs.AccessUnits.{AccessUnit}
 use Rattle.pes_packet.specs.Encoding.{pes_packet_bytes}
-use Rattle.pes_packet.specs.Payloads.{piece_count}
 use Rattle.slot_contents.specs.Contents.{Content, PayloadContent, NullContent}
-use Rattle.unit_queue.specs.Causes.{first_cause}
+use Rattle.unit_timing.specs.PesPacket.{PesPacket}
+use Rattle.unit_queue.specs.Causes.{first_cause, packets_cause}
+use Rattle.unit_queue.specs.Tallies.{empty_tally, exceeds, counted}
 use Rattle.unit_queue.specs.Queues.{Queued, Queue, queued}
 use Rattle.unit_queue.specs.declared.parameters.StreamParameters.{StreamParameters}
 use Rattle.unit_queue.specs.declared.refusal.FeedError.{FeedError}
@@ -43,27 +43,33 @@ sent_in s q = front_sent s q q.units
 
 -- a queue in which no unit has been
 abbrev pub empty_queue : StreamParameters → ℕ → Queue
-empty_queue r capacity = record { parameters = r; units = []; capacity = capacity; sent = 0; counter = 0; min_next_dts = 0; recent = []; span = r.group - 1 }
+empty_queue r capacity = record { parameters = r; units = []; capacity = capacity; sent = 0; counter = 0; min_next_dts = 0; tally = empty_tally r.allowance }
 
 -- the unit is late for a queue when `slots` slots are written
 abbrev pub late_at : StreamParameters → ℕ → ℕ → Bool
 late_at r slots dts = nat_lt dts r.lead || nat_lt (release r.rate r.lead dts) slots
 
--- this number of packets is too large for the group
-abbrev pub exceeds : Queue → ℕ → Bool
-exceeds q packets = nat_lt q.parameters.group_packets (sum q.recent + packets)
+-- when the unit before is due, 0 where there is none
+abbrev pub last_dts : Queue → ℕ
+last_dts q = q.min_next_dts - q.parameters.interval
 
--- the packets of a unit
-abbrev pub packets_in : StreamParameters → AccessUnit → ℕ
-packets_in r u = piece_count (length (pes_packet_bytes r.stream_id r.base0 u))
+-- a unit has more packets than are allowed after those that the queue counted
+abbrev pub is_over_for : Queue → PesPacket → Bool
+is_over_for q unit = exceeds q.parameters.allowance q.tally (last_dts q) unit
+
+-- a unit as timing sees it
+abbrev pub timed_by : StreamParameters → AccessUnit → PesPacket
+timed_by r u = record { dts = u.dts; size = length (pes_packet_bytes r.stream_id r.base0 u) }
 
 -- why the queue refuses a unit
 abbrev pub state_cause : ℕ → Queue → AccessUnit → Option FeedError
-state_cause slots q u = first_cause q.parameters.size q.min_next_dts (late_at q.parameters slots u.dts) (nat_le q.capacity (length q.units)) (exceeds q (packets_in q.parameters u)) u
+state_cause slots q u = first_cause q.parameters.size q.min_next_dts (late_at q.parameters slots u.dts) (nat_le q.capacity (length q.units))
+    (packets_cause q.parameters.allowance (is_over_for q (timed_by q.parameters u))) u
 
--- the queue with one unit more at its end, of this DTS and number of packets
-abbrev pub joined : Queue → ℕ → ℕ → Queued → Queue
-joined q dts packets u = record q { units = q.units ++ u ∷ []; min_next_dts = dts + q.parameters.interval; recent = keep_last q.span (q.recent ++ packets ∷ []) }
+-- the queue with one unit more at its end
+abbrev pub joined : Queue → PesPacket → Queued → Queue
+joined q unit u =
+    record q { units = q.units ++ u ∷ []; min_next_dts = unit.dts + q.parameters.interval; tally = counted q.parameters.allowance q.tally (last_dts q) unit }
 
 abbrev pub accepted : Queue → AccessUnit → Queue
-accepted q u = joined q u.dts (packets_in q.parameters u) (queued q.parameters u)
+accepted q u = joined q (timed_by q.parameters u) (queued q.parameters u)

@@ -1,15 +1,16 @@
 -- The state of a queue, and the history that it stands for.
-use Rattle.std.specs.Prelude.{◌≡◌, ◌≤◌, ◌<◌, ℕ, ◌+◌, ◌-◌, ◌*◌, ◌%◌, ◌/◌, ◌^◌, List, length, map, All, IsTrue}
-use Rattle.circular_buffer.specs.Buffer.{keep_last}
+use Rattle.std.specs.Prelude.{◌≡◌, ◌≤◌, ◌<◌, ℕ, ◌+◌, ◌*◌, ◌%◌, ◌/◌, ◌^◌, List, length, map, All, IsTrue}
 use Rattle.clock27.specs.Release.{release}
 use Rattle.pes_packet.specs.AccessUnits.{AccessUnit}
 use Rattle.pes_packet.specs.Encoding.{pes_header_bytes}
 use Rattle.pes_packet.specs.StreamIds.{is_unit_id, greatest_size}
-use Rattle.unit_timing.specs.PesPacket.{Spaced, Sized, GroupsWithin}
+use Rattle.unit_timing.specs.PesPacket.{Spaced, Sized}
+use Rattle.unit_timing.specs.Allowances.{KeepsAllowance, allowance_rows}
 use Rattle.unit_queue.specs.declared.parameters.StreamParameters.{StreamParameters}
-use Rattle.unit_queue.specs.OwnedStreams.{OwnedStream, timed, packet_count}
+use Rattle.unit_queue.specs.OwnedStreams.{OwnedStream, timed}
 use Rattle.unit_queue.specs.Places.{left_before, begun_before}
 use Rattle.unit_queue.specs.Causes.{min_next_dts_of}
+use Rattle.unit_queue.specs.Tallies.{Tally, tally_of}
 
 -- numbers that a stream can declare
 pub record ParametersInRange (r : StreamParameters) : Type 0 where
@@ -17,13 +18,13 @@ pub record ParametersInRange (r : StreamParameters) : Type 0 where
   pub base0 : r.base0 < 2 ^ 33
   pub stream_id : IsTrue (is_unit_id r.stream_id)
   pub size : r.size ≤ greatest_size r.stream_id
-  pub group : 1 ≤ r.group
+  pub rows : 0 < allowance_rows r.allowance
 
 -- the maximum number of packets of a unit, whose header has at most 19 bytes
 abbrev pub max_packets_per_unit : StreamParameters → ℕ
 max_packets_per_unit r = (19 + r.size + 183) / 184
 
--- the units that a stream accepts: each by itself, their distances, their sizes and their groups
+-- the units that a stream accepts: each by itself, their distances, their sizes and the number of their packets
 pub record IsUnit (r : StreamParameters) (u : AccessUnit) : Type 0 where
   pub some : 1 ≤ length u.bytes
   pub most : length u.bytes ≤ r.size
@@ -35,7 +36,7 @@ pub record Kept (l : OwnedStream) (us : List AccessUnit) : Type 0 where
   pub units : All (IsUnit l.parameters) us
   pub spaced : Spaced l.parameters.interval l.parameters.lead (map (timed l) us)
   pub sized : Sized (19 + l.parameters.size) (map (timed l) us)
-  pub grouped : GroupsWithin l.parameters.group l.parameters.group_packets (max_packets_per_unit l.parameters) (map (timed l) us)
+  pub allowed : KeepsAllowance l.parameters.allowance (max_packets_per_unit l.parameters) (map (timed l) us)
 
 -- a waiting unit: the slot of its release, its PES header and its bytes
 pub record Queued : Type 0 where
@@ -43,8 +44,8 @@ pub record Queued : Type 0 where
   pub header : List ℕ
   pub bytes : List ℕ
 
--- a queue: the units not sent whole, and of the first the bytes that are sent; the packets of the last `span` units accepted; the minimum DTS of
--- the next; the number of packets sent, modulo 256
+-- a queue: the units not sent whole, and of the first the bytes that are sent; the number of packets sent, modulo 256; the minimum DTS of the next
+-- unit; what is counted of the packets of all units accepted
 pub record Queue : Type 0 where
   pub parameters : StreamParameters
   pub units : List Queued
@@ -52,8 +53,7 @@ pub record Queue : Type 0 where
   pub sent : ℕ
   pub counter : ℕ
   pub min_next_dts : ℕ
-  pub recent : List ℕ
-  pub span : ℕ
+  pub tally : Tally
 
 -- a unit as it waits
 abbrev pub queued : StreamParameters → AccessUnit → Queued
@@ -64,22 +64,21 @@ queued r u = record {
 }
 
 -- a queue for these units, which are not sent whole, when `begun` packets of the first, which is packet `number` of the stream, are sent
-abbrev pub queue_at : OwnedStream → ℕ → ℕ → List AccessUnit → ℕ → ℕ → List ℕ → Queue
-queue_at l number begun us capacity min_next_dts recent = record {
+abbrev pub queue_at : OwnedStream → ℕ → ℕ → List AccessUnit → ℕ → ℕ → Tally → Queue
+queue_at l number begun us capacity min_next_dts tally = record {
   parameters = l.parameters;
   units = map (queued l.parameters) us;
   capacity = capacity;
   sent = 184 * begun;
   counter = (number + begun) % 256;
   min_next_dts = min_next_dts;
-  recent = recent;
-  span = l.parameters.group - 1;
+  tally = tally;
 }
 
 -- the queue of this capacity for a stream that has accepted these units, with `slots` slots written
 abbrev pub queue_of : OwnedStream → ℕ → ℕ → List AccessUnit → Queue
 queue_of l slots capacity us = queue_at l (left_before l slots us).number (begun_before l slots us) (left_before l slots us).units capacity
-    (min_next_dts_of l us) (keep_last (l.parameters.group - 1) (map (packet_count l) us))
+    (min_next_dts_of l us) (tally_of l.parameters.allowance (map (timed l) us))
 
 -- a queue stands for that history
 pub record QueueHolds (l : OwnedStream) (slots capacity : ℕ) (us : List AccessUnit) (q : Queue) : Type 0 where

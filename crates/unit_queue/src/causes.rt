@@ -1,11 +1,12 @@
 //! The causes of a refusal, in their order.
 
 ghost use Rattle.std.specs.Prelude.{◌≡◌};
-ghost use Rattle.unit_queue.specs.Causes.{is_bad_pts, own_cause, time_cause, room_cause};
+ghost use Rattle.unit_queue.specs.Causes.{is_bad_pts, own_cause, time_cause, packets_cause, room_cause};
 
 use crate::refusal::FeedError;
 use pes_packet::Unit;
 use std::alloc::Allocator;
+use unit_timing::allowance::Allowance;
 
 // No DTS over this is accepted.
 const MAX_DTS: u64 = 1 << 52;
@@ -48,18 +49,23 @@ pub fn time_cause(late: bool, dts: u64) -> Option<FeedError>
     }
 }
 
-/// The first cause that lies in the room for it: the queue is full, or the unit's group has too many packets.
+/// The cause that lies in its packets: they are over what its stream declares by groups or by pace.
+pub(crate) fn packets_cause(allowance: Allowance, over: bool) -> Option<FeedError>
+    ensures { result ≡ packets_cause allowance over }
+{
+    match allowance {
+        Allowance::Groups { .. } if over => Some(FeedError::Group),
+        Allowance::Pace { .. } if over => Some(FeedError::Pace),
+        _ => None,
+    }
+}
+
+/// The first cause that lies in the room for it: the queue is full, or that of its packets.
 #[tactic(auto, unfolding(crate::specs::Causes::room_cause))]
-pub(crate) fn room_cause(full: bool, over: bool) -> Option<FeedError>
+pub(crate) fn room_cause(full: bool, over: Option<FeedError>) -> Option<FeedError>
     ensures { result ≡ room_cause full over }
 {
-    if full {
-        Some(FeedError::Full)
-    } else if over {
-        Some(FeedError::Group)
-    } else {
-        None
-    }
+    if full { Some(FeedError::Full) } else { over }
 }
 
 // Whether the PTS is before the DTS, or more than a second after it.

@@ -5,10 +5,10 @@
 //! its memory once; feeding a unit and sending a packet take none.
 //!
 //! Definitions stand in `specs/`: `OwnedStreams` is a stream with its own slots, `Places` says which own slot carries
-//! which piece of which unit, `Causes` why a unit is refused, `Queues` what the state of a queue stands for, `Payloads`
-//! what is then found in the finished bytes. None but `QueueSteps` speaks of the queue's fields. The modules in
-//! reading order: what a stream declares, why a unit is refused, the pieces of a PES packet, a waiting unit, the queue,
-//! the laws.
+//! which piece of which unit, `Causes` why a unit is refused, `Queues` what the state of a queue stands for, `Tallies`
+//! what it counts of the units accepted, `Payloads` what is then found in the finished bytes. None but `QueueSteps`
+//! speaks of the queue's fields. The modules in reading order: what a stream declares, why a unit is refused, the pieces
+//! of a PES packet, a waiting unit, what is counted of accepted units, the queue, the laws.
 #![tactic(auto)]
 
 mod causes;
@@ -18,6 +18,7 @@ mod pieces;
 mod queue;
 mod queued;
 mod refusal;
+mod tally;
 
 pub use causes::{own_cause, time_cause};
 pub use parameters::StreamParameters;

@@ -8,6 +8,7 @@ use arrayvec::ArrayVec;
 use clock27::Rate;
 use pes_packet::{Unit, write_header};
 use std::alloc::Allocator;
+use unit_timing::allowance::Allowance;
 
 /// What a stream declares, and the numbers of the output that it is sent in. Times are in units of 90 kHz.
 #[derive(Clone, Copy, Debug, PartialEq, Eq)]
@@ -26,10 +27,8 @@ pub struct StreamParameters {
     pub interval: u32,
     /// The maximum size of a unit in bytes.
     pub size: u32,
-    /// The number of consecutive units whose packets are counted together, 1 or more.
-    pub group: u8,
-    /// The maximum number of packets of that many units.
-    pub group_packets: u32,
+    /// The most packets of units in a row: of groups of 1 unit or more, or by pace.
+    pub allowance: Allowance,
 }
 
 impl StreamParameters {

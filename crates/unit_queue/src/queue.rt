@@ -1,22 +1,23 @@
 //! The queue of a stream.
 
-ghost use Rattle.std.specs.Prelude.{◌≡◌, ◌≤◌, ◌<◌, ◌+◌, ◌-◌, ◌^◌, [], ◌∷◌, ◌++◌, nat_le, true, ℕ};
+ghost use Rattle.std.specs.Prelude.{◌≡◌, ◌≤◌, ◌<◌, ◌+◌, ◌-◌, ◌^◌, [], ◌∷◌, ◌++◌, nat_le, true, false, ℕ};
 ghost use Rattle.std.specs.Prelude.{List, Some, None, length, suc, IfOk, IfErr, OnOk};
 ghost use Rattle.clock27.specs.Release.{release};
 ghost use Rattle.pes_packet.specs.AccessUnits.{AccessUnit};
 ghost use Rattle.slot_contents.specs.Contents.{packet_of};
 ghost use Rattle.unit_queue.specs.OwnedStreams.{OwnedStream};
 ghost use Rattle.unit_queue.specs.Places.{stream_content};
-ghost use Rattle.unit_queue.specs.Causes.{refusal, unit_cause, or_cause, own_cause, time_cause, room_cause, error_of};
+ghost use Rattle.unit_queue.specs.Causes.{refusal, unit_cause, or_cause, own_cause, time_cause, packets_cause, room_cause};
+ghost use Rattle.unit_queue.specs.Causes.{error_of};
 ghost use Rattle.unit_queue.specs.Queues.{ParametersInRange, QueueHolds};
-ghost use Rattle.unit_queue.specs.QueueSteps.{queue_content, sent_in, stepped, late_at, state_cause, exceeds, accepted};
-ghost use Rattle.unit_queue.specs.QueueSteps.{joined, empty_queue};
+ghost use Rattle.unit_queue.specs.QueueSteps.{queue_content, sent_in, stepped, late_at, state_cause, accepted, joined};
+ghost use Rattle.unit_queue.specs.QueueSteps.{is_over_for, last_dts, empty_queue};
 
-use crate::causes::{own_cause, room_cause, time_cause};
+use crate::causes::{own_cause, packets_cause, room_cause, time_cause};
 use crate::parameters::StreamParameters;
-use crate::pieces::packet_count;
 use crate::queued::QueuedUnit;
 use crate::refusal::FeedError;
+use crate::tally::PacketTally;
 use circular_buffer::HeapCircularBuffer;
 use clock27::release_slot;
 use pes_packet::Unit;
@@ -36,8 +37,8 @@ pub struct UnitQueue<A: Allocator = Global> {
     counter: u8,
     // The minimum DTS of the next unit.
     min_next_dts: u64,
-    // The number of packets of each unit in the same group as the next.
-    recent: HeapCircularBuffer<u64, A>,
+    // What is counted of the packets of the units accepted.
+    tally: PacketTally<A>,
 }
 
 impl<A: Allocator> Model for UnitQueue<A> {
@@ -52,8 +53,7 @@ impl<A: Allocator> Model for UnitQueue<A> {
       sent = q.sent;
       counter = q.counter;
       min_next_dts = q.min_next_dts;
-      recent = q.recent.items;
-      span = q.recent.capacity;
+      tally = q.tally;
     } };
 
     ghost invariant = { λ q. ParametersInRange q.parameters };
@@ -70,14 +70,14 @@ impl<A: Allocator + Clone> UnitQueue<A> {
         ensures state { IfOk result (λ q. q ≡ empty_queue parameters capacity) }
     {
         let waiting = HeapCircularBuffer::with_capacity(alloc.clone()?, capacity)?;
-        let recent = HeapCircularBuffer::with_capacity(alloc, parameters.group as usize - 1)?;
+        let tally = PacketTally::new(alloc, parameters.allowance)?;
         Ok(UnitQueue {
             parameters,
             waiting,
             sent: 0,
             counter: 0,
             min_next_dts: 0,
-            recent,
+            tally,
         })
     }
 }
@@ -103,11 +103,11 @@ impl<A: Allocator> UnitQueue<A> {
         };
         let dts = unit.dts;
         let header = self.parameters.header(&unit);
-        let packets = packet_count(header.len() + unit.bytes.len());
-        match self.room(packets) {
+        let size = header.len() + unit.bytes.len();
+        match self.room(dts, size) {
             Some(cause) => Err((cause, unit)),
             None => {
-                self.push(dts, packets, QueuedUnit::new(slot, header, unit));
+                self.push(dts, size, QueuedUnit::new(slot, header, unit));
                 Ok(())
             }
         }
@@ -137,39 +137,38 @@ impl<A: Allocator> UnitQueue<A> {
         }
     }
 
-    // The first cause that lies in the room for a unit of this number of packets.
-    fn room(&self, packets: u64) -> Option<FeedError>
-        ensures { result ≡ room_cause (nat_le self.now.capacity (length self.now.units)) (exceeds self.now packets) }
+    // The first cause that lies in the room for a unit of this DTS and size in bytes, or in its packets.
+    fn room(&self, dts: u64, size: usize) -> Option<FeedError>
+        requires { size < 2 ^ 63 }
+        ensures { result ≡ room_cause (nat_le self.now.capacity (length self.now.units))
+            (packets_cause self.now.parameters.allowance (is_over_for self.now (record { dts = dts; size = size }))) }
     {
         let full = self.waiting.capacity() <= self.waiting.len();
-        room_cause(full, self.exceeds_group(packets))
-    }
-
-    // Whether a unit of this number of packets is too large for its group.
-    fn exceeds_group(&self, packets: u64) -> bool
-        ensures { result ≡ exceeds self.now packets }
-    {
-        let Some(mut left) = u64::from(self.parameters.group_packets).checked_sub(packets) else {
-            return true;
-        };
-        for before in self.recent.iter() {
-            let Some(rest) = left.checked_sub(*before) else {
-                return true;
-            };
-            left = rest;
-        }
-        false
+        let allowance = self.parameters.allowance;
+        let over = self.tally.exceeds(allowance, self.last_dts(), dts, size);
+        room_cause(full, packets_cause(allowance, over))
     }
 
     // Adds a unit for which there is room.
-    fn push(&mut self, dts: u64, packets: u64, unit: QueuedUnit<A>)
+    fn push(&mut self, dts: u64, size: usize, unit: QueuedUnit<A>)
         requires dts { dts ≤ 2 ^ 52 }
+        requires size { size < 2 ^ 63 }
         requires room { length self.old.units < self.old.capacity }
-        ensures { self.new ≡ joined self.old dts packets unit }
+        requires within { is_over_for self.old (record { dts = dts; size = size }) ≡ false }
+        ensures { self.new ≡ joined self.old (record { dts = dts; size = size }) unit }
     {
+        let last = self.last_dts();
+        self.tally.add(self.parameters.allowance, last, dts, size);
         self.min_next_dts = dts + u64::from(self.parameters.interval);
-        let _ = self.recent.push_back(packets);
         let _ = self.waiting.try_push_back(unit);
+    }
+
+    // When the unit before is due, 0 where there is none.
+    fn last_dts(&self) -> u64
+        ensures { result ≡ last_dts self.now }
+    {
+        self.min_next_dts
+            .saturating_sub(u64::from(self.parameters.interval))
     }
 
     /// The packet of an own slot: the next piece of the unit under way, else the first of the next unit, where the slot

@@ -35,6 +35,9 @@ pub enum FeedError {
     /// A group of units has more packets than its stream declares.
     #[error("a group of units has more packets than its stream declares")]
     Group,
+    /// Units in a row have more packets than the burst and the pace that their stream declares.
+    #[error("units in a row have more packets than the burst and the pace of their stream")]
+    Pace,
 }
 
 impl FeedError {
@@ -52,6 +55,7 @@ impl FeedError {
             FeedError::TooFar => 7,
             FeedError::Full => 8,
             FeedError::Group => 9,
+            FeedError::Pace => 10,
         }
     }
 }

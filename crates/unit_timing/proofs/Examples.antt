@@ -1,15 +1,21 @@
 -- Numbers of small runs, as theorems: a wrong number fails the check.
-use Rattle.std.proofs.Common.{◌≡◌, ℕ, Bool, nat_eq, ◌%◌, Some, None, List, [], ◌∷◌, take, drop, refl}
+use Rattle.std.proofs.Common.{◌≡◌, ℕ, Bool, true, false, nat_eq, ◌%◌, Some, None, List, [], ◌∷◌, ◌++◌, take, drop, refl}
 use Rattle.clock27.specs.Arrival.{bytes_from, arrivals}
 use Rattle.clock27.specs.Departure.{departures}
 use Rattle.clock27.specs.Fullness.{fullness}
 use Rattle.own_slots.specs.Slots.{own_before, own_slots}
+use Rattle.unit_timing.specs.declared.allowance.Allowance.{Allowance}
+use Rattle.unit_timing.specs.declared.allowance.Allowance.TheVariants.{Groups, Pace}
 use Rattle.unit_timing.specs.PesPacket.{PesPacket, grouped}
+use Rattle.unit_timing.specs.Allowances.{group_curve, pace_curve}
+use Rattle.unit_timing.specs.Levels.{level_after, last_due, greatest_after, level, greatest_level, is_over}
 use Rattle.unit_timing.specs.Schedule.{Packet, first_slot, cut, packets_in_slots}
 use Rattle.unit_timing.specs.Transport.{of_payloads, pes_left}
 use Rattle.unit_timing.specs.Arrived.{first_late}
 use Rattle.unit_timing.specs.MainBuffer.{mb_fullness}
 use Rattle.unit_timing.specs.SystemBuffer.{system_tb_fullness, bsys_fullness}
+use Rattle.unit_timing.specs.Plans.{Declaration}
+use Rattle.unit_timing.specs.Conditions.{Share, rate_needed, rate_given}
 
 -- the PAT in slot 2 and the PMT in slot 3 at 1,504,000 bits a second: at the last byte's arrival the transport buffer
 -- holds 127 bytes
@@ -66,5 +72,63 @@ unfolding first_late run_of every_fourth one_unit packets_in_slots first_slot cu
 not_due = refl
 
 -- ---- groups of two units with at most three packets, each with at most two: five in a row have at most eight
+
 five_units : grouped 2 3 2 5 ≡ 8
 five_units = refl
+
+-- due 3,600 apart, they are due within 14,400; a little less is the time of four, which have six
+five_in_time : group_curve 2 3 2 3600 14400 ≡ 8
+five_in_time = refl
+
+four_in_time : group_curve 2 3 2 3600 14399 ≡ 6
+four_in_time = refl
+
+-- ---- a burst of four packets, and then 250 a second, 376,000 bits: in 3,600 units of 90 kHz ten, and not quite in 3,599
+
+four_and_ten : pace_curve 4 376000 3600 ≡ 14
+four_and_ten = refl
+
+four_and_nine : pace_curve 4 376000 3599 ≡ 13
+four_and_nine = refl
+
+-- a unit of four packets fills the bucket, of which a packet is 135,360,000; the pace empties it in 1,440, and after
+-- 1,439 a second such unit is over by one 360th of a packet
+one_full : greatest_level 376000 (one_unit 1600) ≡ 541440000
+unfolding one_unit greatest_after
+one_full = refl
+
+two_full : level 376000 (one_unit 1600 ++ one_unit 3040) ≡ 541440000
+unfolding one_unit level_after
+two_full = refl
+
+too_full : level 376000 (one_unit 1600 ++ one_unit 3039) ≡ 541816000
+unfolding one_unit level_after
+too_full = refl
+
+-- so the one unit after the other is refused at 3,039, and taken at 3,040
+refused : is_over (Pace 4 376000) (one_unit 1600) (record { dts = 3039; size = 590 }) ≡ true
+unfolding one_unit level_after last_due
+refused = refl
+
+taken : is_over (Pace 4 376000) (one_unit 1600) (record { dts = 3040; size = 590 }) ≡ false
+unfolding one_unit level_after last_due
+taken = refl
+
+-- thirty own slots of 120 at 1,504,000 bits a second carry no more than that pace; of the groups they carry more than six times as many
+declared : Allowance → Declaration
+declared a = record { interval = 3600; lead = 3600; drain = 2000000; main = 4000; largest = 590; unit_packets = 4; allowance = a }
+
+quarter : Share
+quarter = record { count = 30; period = 120; spread = 0; peak = 0 }
+
+pace_needs : rate_needed (declared (Pace 4 376000)) quarter ≡ rate_given 1504000 (declared (Pace 4 376000)) quarter
+unfolding declared quarter
+pace_needs = refl
+
+groups_need : rate_needed (declared (Groups 2 3)) quarter ≡ 48729600000
+unfolding declared quarter
+groups_need = refl
+
+groups_get : rate_given 1504000 (declared (Groups 2 3)) quarter ≡ 324864000000
+unfolding declared quarter
+groups_get = refl

@@ -1,10 +1,11 @@
--- Packets of units in a row, by declared groups.
-use Rattle.std.proofs.Common.{◌≡◌, ℕ, zero, suc, ◌+◌, ◌*◌, ◌/◌, ◌%◌, ◌<◌, ◌≤◌, min, List, [], ◌∷◌, take, drop, arith}
-use Rattle.std.proofs.Math.Nat.{div-add-mod}
-use Rattle.std.proofs.lemmas.Nat.{mod_below}
+-- Packets of units in a row by declared groups, and bytes by their sizes.
+use Rattle.std.proofs.Common.{◌≡◌, ℕ, zero, suc, ◌+◌, ◌*◌, ◌/◌, ◌%◌, ◌<◌, ◌≤◌, min, List, [], ◌∷◌, take, drop, inl, inr, arith, sum_by}
+use Rattle.std.proofs.Math.Nat.{le_trans, mul-le-mul_right, div-mul-le_self, div-add-mod}
+use Rattle.std.proofs.lemmas.Bool.{cases_lt}
+use Rattle.std.proofs.lemmas.Nat.{le-div, mod_below}
 use Rattle.std.proofs.lemmas.List.Sums.{sum_by-cons, sum_by-append}
 use Rattle.std.proofs.Math.Seq.{take-add}
-use Rattle.unit_timing.specs.PesPacket.{PesPacket, packets_of_unit, packets_of_units, Paced, GroupsWithin, grouped, GroupLaw}
+use Rattle.unit_timing.specs.PesPacket.{PesPacket, packets_of_unit, packets_of_units, GroupsWithin, Sized, grouped}
 
 -- each of the next k units has at most n packets
 each_few : (g most n k : ℕ) (units : List PesPacket) → GroupsWithin g most n units → packets_of_units (take k units) ≤ k * n
@@ -50,14 +51,55 @@ groups_few g most n rest (suc q) units le d =
     rw (e, take-add g (q * g + rest) units, sum_by-append packets_of_unit (take g units) (take (q * g + rest) (drop g units)))
     (omega (arith, more, group_few g most n units d))
 
-one_group : (g most n m : ℕ) (units : List PesPacket) → 0 < g → GroupsWithin g most n units → packets_of_units (take m units) ≤ grouped g most n m
-one_group g most n m units pos d =
-    let below = mod_below m g pos in
-    let few = groups_few g most n (m % g) (m / g) units (omega (arith, below)) d in
-    let e : m / g * g + m % g ≡ m = omega (arith, div-add-mod m g) in
+-- ---- m + 1 units in a row: whole groups, and the last one filled by one unit to all
+
+abbrev pub filled : ℕ → ℕ → ℕ → ℕ → ℕ
+filled g most n m = m / g * most + min (suc (m % g) * n) most
+
+pub filled_few : (g most n : ℕ) (units : List PesPacket) → 0 < g → GroupsWithin g most n units → (m : ℕ) → packets_of_units (take (suc m) units) ≤ filled g most n m
+filled_few g most n units pos d m =
+    let below : suc (m % g) ≤ g = omega (arith, mod_below m g pos) in
+    let few = groups_few g most n (suc (m % g)) (m / g) units below d in
+    let e : m / g * g + suc (m % g) ≡ suc m = omega (arith, div-add-mod m g) in
     rw e at few
 
-pub group_law : GroupLaw
-unfolding Paced GroupsWithin
-group_law g most n [] pos d = tt
-group_law g most n (unit ∷ units) pos d = ((λ k. one_group g most n k (unit ∷ units) pos d), group_law g most n units pos d.2)
+pub div_rises : (m k d : ℕ) → 0 < d → m ≤ k → m / d ≤ k / d
+div_rises m k d pos le = le-div (m / d) k d pos (le_trans (div-mul-le_self m d) le)
+
+-- more units, where a last group of as many whole groups has no fewer packets
+last_rises : (g most m k x y : ℕ) → 0 < g → m ≤ k → (m / g ≡ k / g → x ≤ y) → m / g * most + min x most ≤ k / g * most + min y most
+last_rises g most m k x y pos le rest = elim (cases_lt (m / g) (k / g)) [
+  | inl lt ↦ omega (arith, mul-le-mul_right most lt)
+  | inr ge ↦
+      let e : m / g ≡ k / g = omega (arith, ge, div_rises m k g pos le) in
+      rw e (omega (arith, rest e))
+]
+
+-- of as many whole groups
+same_groups : (g m k : ℕ) → m ≤ k → m / g ≡ k / g → m % g ≤ k % g
+same_groups g m k le e =
+    let first : g * (m / g) + m % g ≡ m = div-add-mod m g in
+    let second : g * (k / g) + k % g ≡ k = div-add-mod k g in
+    omega (arith, le, rw e at first, second)
+
+pub filled_rises : (g most n m k : ℕ) → 0 < g → m ≤ k → filled g most n m ≤ filled g most n k
+filled_rises g most n m k pos le = last_rises g most m k (suc (m % g) * n) (suc (k % g) * n) pos le
+    (λ e. let le' : suc (m % g) ≤ suc (k % g) = omega (arith, same_groups g m k le e) in mul-le-mul_right n le')
+
+-- no more than any larger number of units has
+pub filled_grouped : (g most n m k : ℕ) → 0 < g → m < k → filled g most n m ≤ grouped g most n k
+filled_grouped g most n m k pos lt = last_rises g most m k (suc (m % g) * n) (k % g * n) pos (omega arith)
+    (λ e.
+    let first : g * (m / g) + m % g ≡ m = div-add-mod m g in
+    let second : g * (k / g) + k % g ≡ k = div-add-mod k g in
+    let le : suc (m % g) ≤ k % g = omega (arith, lt, rw e at first, second) in
+    mul-le-mul_right n le)
+
+-- ---- bytes by sizes
+
+pub sized_few : (largest k : ℕ) (units : List PesPacket) → Sized largest units → sum_by (λ t. t.size) (take k units) ≤ k * largest
+unfolding Sized
+sized_few largest zero units sized = omega arith
+sized_few largest (suc k) [] sized = omega arith
+sized_few largest (suc k) (unit ∷ units) sized =
+    rw (sum_by-cons (λ t. t.size) unit (take k units)) (omega (arith, sized.0, sized_few largest k units sized.1))

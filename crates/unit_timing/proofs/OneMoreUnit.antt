@@ -61,7 +61,7 @@ fewer_last m first units = elim (cases_lt (length units) m) [
   | inr le ↦ omega (arith, last_rest m first units le)
 ]
 
-declared_more : (m most n : ℕ) (units : List PesPacket) (unit : PesPacket) → GroupsWithin (suc m) most n units → packets_of_unit unit ≤ n →
+pub declared_more : (m most n : ℕ) (units : List PesPacket) (unit : PesPacket) → GroupsWithin (suc m) most n units → packets_of_unit unit ≤ n →
     last_packets m units + packets_of_unit unit ≤ most → GroupsWithin (suc m) most n (units ++ unit ∷ [])
 unfolding GroupsWithin
 declared_more m most n [] unit d few fits =
@@ -76,7 +76,7 @@ declared_more m most n (first ∷ units) unit d few fits = (
   declared_more m most n units unit d.2 few (omega (arith, fewer_last m first units, fits)),
 )
 
-declared_back : (m most n : ℕ) (units : List PesPacket) (unit : PesPacket) → GroupsWithin (suc m) most n (units ++ unit ∷ []) →
+pub declared_back : (m most n : ℕ) (units : List PesPacket) (unit : PesPacket) → GroupsWithin (suc m) most n (units ++ unit ∷ []) →
     GroupsWithin (suc m) most n units × (packets_of_unit unit ≤ n) × (last_packets m units + packets_of_unit unit ≤ most)
 unfolding GroupsWithin
 declared_back m most n [] unit d =

@@ -1,8 +1,8 @@
 -- One plan and two plans in turn.
-use Rattle.std.proofs.Common.{◌≡◌, ℕ, suc, ◌+◌, ◌-◌, ◌*◌, ◌<◌, ◌≤◌, max, min, Bool, List, length, inl, inr, arith}
-use Rattle.std.proofs.Math.Nat.{le_trans, mul-le-mul_right, mul-pos, lt-mul-div-succ}
+use Rattle.std.proofs.Common.{◌≡◌, ℕ, ◌+◌, ◌-◌, ◌*◌, ◌<◌, ◌≤◌, max, min, Bool, List, length, inl, inr, arith}
+use Rattle.std.proofs.Math.Nat.{mul-le-mul_right, mul-pos, lt-mul-div-succ}
 use Rattle.std.proofs.lemmas.Bool.{cases_lt}
-use Rattle.own_slots.specs.Slots.{AtMostPerWindow}
+use Rattle.own_slots.specs.Slots.{AtMostPerWindow, HasPace}
 use Rattle.own_slots.specs.Period.{own, per_period}
 use Rattle.own_slots.specs.Spread.{most_within}
 use Rattle.own_slots.specs.Work.{BoundsWork}
@@ -11,19 +11,23 @@ use Rattle.own_slots.proofs.PositionLemmas.{per_period_le}
 use Rattle.own_slots.proofs.Spread.{rate_law, share_law}
 use Rattle.own_slots.proofs.WorkLemmas.{work_law, switch_work_law}
 use Rattle.own_slots.proofs.SwitchLemmas.{switch_rate_law, switch_spare_law}
-use Rattle.unit_timing.specs.PesPacket.{PesPacket}
+use Rattle.unit_timing.specs.PesPacket.{PesPacket, packets_of_unit}
+use Rattle.unit_timing.specs.Allowances.{size_curve, curve, allowance_rows, steady_packets, steady_time}
 use Rattle.unit_timing.specs.Deadline.{InTime}
 use Rattle.unit_timing.specs.Plans.{Declaration, KeepsDeclaration, StreamServed, run_packets}
-use Rattle.unit_timing.specs.Conditions.{StreamClaim, share_of, IsProper, lead_needed, time_given, waiting_units, waiting_slots, bytes_by_units}
+use Rattle.unit_timing.specs.Conditions.{IsProper, packets_in_row, waiting_units, waiting_slots, bytes_by_units}
 use Rattle.unit_timing.specs.PlanLaws.{in_turn, StreamLaw, DeadlineSwitchLaw, MainSwitchLaw, StreamSwitchLaw, ProgramLaw, ProgramSwitchLaw}
 use Rattle.unit_timing.specs.Transport.{slots_of, pes_left}
 use Rattle.unit_timing.specs.MainBuffer.{mb_fullness}
 use Rattle.unit_timing.proofs.TransportBuffer.{transport_room}
+use Rattle.unit_timing.proofs.Allowing.{allowance_law, curve_within, sizes_within}
+use Rattle.unit_timing.proofs.PaidAllowances.{paid_law}
 use Rattle.unit_timing.proofs.DeadlineLemmas.{deadline_law}
 use Rattle.unit_timing.proofs.ArrivalLemmas.{arrived_law}
 use Rattle.unit_timing.proofs.ScheduleLemmas.{system_law}
 use Rattle.unit_timing.proofs.PacketsInSlots.{rising_run}
-use Rattle.unit_timing.proofs.MainBufferByUnits.{kept_law}
+use Rattle.unit_timing.proofs.MainBufferBySlots.{by_slots}
+use Rattle.unit_timing.proofs.MainBufferByUnits.{by_curve}
 
 -- enough units and slots to wait in
 enough_units : (s : Declaration) → 0 < s.interval → s.lead ≤ waiting_units s * s.interval
@@ -45,10 +49,10 @@ served rate s own peak W units proper work in_time main = record {
   main = main;
 }
 
--- the slower of two plans still pays for its groups
-slower : (most n1 n2 c1 c2 g interval rate : ℕ) → most * n1 * 135360000 ≤ c1 * g * interval * rate → most * n2 * 135360000 ≤ c2 * g * interval * rate →
-    most * max (n1 * c2) (n2 * c1) * 135360000 ≤ c1 * c2 * g * interval * rate
-slower most n1 n2 c1 c2 g interval rate first second = elim (cases_lt (n1 * c2) (n2 * c1)) [
+-- the slower of two plans still has slots enough in the long run
+slower : (most n1 n2 c1 c2 time rate : ℕ) → most * n1 ≤ c1 * time * rate → most * n2 ≤ c2 * time * rate →
+    most * max (n1 * c2) (n2 * c1) ≤ c1 * c2 * time * rate
+slower most n1 n2 c1 c2 time rate first second = elim (cases_lt (n1 * c2) (n2 * c1)) [
   | inl lt ↦ let m : max (n1 * c2) (n2 * c1) ≡ n2 * c1 = omega arith in rw m (omega (arith, mul-le-mul_right c1 second))
   | inr le ↦ let m : max (n1 * c2) (n2 * c1) ≡ n1 * c2 = omega arith in rw m (omega (arith, mul-le-mul_right c2 first))
 ]
@@ -59,39 +63,64 @@ lead_form : (a b c1 c2 few cost e k d late : ℕ) →
     (a * c2 + b * c1 + c1 * c2 * e + few * cost + c1 * c2) * 135360000 * d + c1 * c2 * late * 720000 ≤ k
 lead_form a b c1 c2 few cost e k d late h = omega (arith, h)
 
--- counted from 0
-lead_from_one : (rate : ℕ) (s : Declaration) (claim : StreamClaim) (marks : List Bool) →
-    ((m : ℕ) → 0 < m → m ≤ s.group → lead_needed s (share_of claim marks) m ≤ time_given rate s (per_period marks) m) → (j : ℕ) → j < s.group →
-    (claim.spread + min (suc j * s.unit_packets) s.group_packets * length marks + per_period marks) * 135360000 * s.drain + per_period marks * claim.peak * 720000
-    ≤ per_period marks * (s.lead + j * s.interval) * rate * s.drain
-lead_from_one rate s claim marks serves j below =
-    let e : suc j - 1 ≡ j = omega arith in
-    rw e at (serves (suc j) (omega arith) (omega arith))
+-- from a pace that pays for the declaration to the deadlines
+in_time : (rate : ℕ) (s : Declaration) (own : ℕ → Bool) (share cost base late : ℕ) (units : List PesPacket) → 0 < allowance_rows s.allowance → 0 < s.interval →
+    HasPace own share cost base → 0 < share → steady_packets s.allowance * cost ≤ share * steady_time s.allowance s.interval * rate →
+    ((m : ℕ) → 0 < m → m ≤ allowance_rows s.allowance → (base + packets_in_row s m * cost + share) * 135360000 * s.drain + share * late * 720000
+    ≤ share * (s.lead + (m - 1) * s.interval) * rate * s.drain) →
+    KeepsDeclaration s units → InTime own rate s.lead s.drain late 0 units
+in_time rate s own share cost base late units rows pos serves some fast soon keeps =
+    deadline_law own share cost base (curve s.allowance s.unit_packets s.interval) rate s.lead s.interval s.drain late units serves some
+    (paid_law s.allowance s.unit_packets share cost base rate s.lead s.interval s.drain late rows pos fast soon)
+    keeps.spaced (allowance_law.kept s.allowance s.unit_packets s.interval s.lead units rows pos keeps.spaced keeps.allowed)
 
 pub deadline_switch_law : DeadlineSwitchLaw
-deadline_switch_law rate s claim first next second periods units some one two near next_near rate_one rate_two lead keeps =
+deadline_switch_law rate s claim first next second periods units rows pos one two near next_near rate_one rate_two lead keeps =
     let c1 = per_period first in
     let c2 = per_period second in
     let late = max claim.peak next.peak in
     let cost = max (length first * c2) (length second * c1) in
-    deadline_law (in_turn first periods second) (c1 * c2) cost (claim.spread * c2 + next.spread * c1 + c1 * c2 * shift first second)
-    s.group s.group_packets s.unit_packets rate s.lead s.interval s.drain late units
-    (switch_rate_law first second periods claim.spread next.spread one two near next_near) (mul-pos one two) some
-    (slower s.group_packets (length first) (length second) c1 c2 s.group s.interval rate rate_one rate_two)
-    (λ j below.
-    let e : suc j - 1 ≡ j = omega arith in
-    lead_form claim.spread next.spread c1 c2 (min (suc j * s.unit_packets) s.group_packets) cost (shift first second)
-    (c1 * c2 * (s.lead + j * s.interval) * rate * s.drain) s.drain late (rw e at (lead (suc j) (omega arith) (omega arith))))
-    keeps.spaced keeps.grouped
+    in_time rate s (in_turn first periods second) (c1 * c2) cost (claim.spread * c2 + next.spread * c1 + c1 * c2 * shift first second) late units rows pos
+    (switch_rate_law first second periods claim.spread next.spread one two near next_near) (mul-pos one two)
+    (slower (steady_packets s.allowance) (length first) (length second) c1 c2 (steady_time s.allowance s.interval) rate rate_one rate_two)
+    (λ m some most. lead_form claim.spread next.spread c1 c2 (packets_in_row s m) cost (shift first second)
+    (c1 * c2 * (s.lead + (m - 1) * s.interval) * rate * s.drain) s.drain late (lead m some most))
+    keeps
+
+-- the bytes of a unit, by their number and by its packets
+all_bytes : (unit : PesPacket) → unit.size ≤ 1 * unit.size
+all_bytes unit = omega arith
+
+packed_bytes : (unit : PesPacket) → unit.size ≤ 184 * packets_of_unit unit
+packed_bytes unit = omega arith
+
+by_units : (rate : ℕ) (s : Declaration) (own : ℕ → Bool) (units : List PesPacket) (n x : ℕ) → IsProper rate s → KeepsDeclaration s units →
+    mb_fullness rate s.drain x units (pes_left rate s.drain 0 (run_packets own rate s units n)) ≤ bytes_by_units s
+by_units rate s own units n x proper keeps =
+    let pos = proper.some_interval in
+    let size = size_curve s.largest s.interval in
+    let most = curve s.allowance s.unit_packets s.interval in
+    let wide = enough_units s pos in
+    let sizes = by_curve own rate s.lead s.drain 1 (λ unit. unit.size) size units n x proper.some_rate proper.some_drain all_bytes
+    (allowance_law.sizes_rise s.largest s.interval pos)
+    (allowance_law.sized s.largest s.interval s.lead units pos keeps.spaced keeps.sized) in
+    let packets = by_curve own rate s.lead s.drain 184 packets_of_unit most units n x proper.some_rate proper.some_drain packed_bytes
+    (allowance_law.rises s.allowance s.unit_packets s.interval proper.some_rows pos)
+    (allowance_law.kept s.allowance s.unit_packets s.interval s.lead units proper.some_rows pos keeps.spaced keeps.allowed) in
+    omega (
+      arith,
+      sizes,
+      sizes_within s.largest s.interval s.lead (waiting_units s) pos proper.some_lead wide,
+      packets,
+      curve_within s.allowance s.unit_packets s.interval s.lead (waiting_units s) proper.some_rows pos proper.some_lead wide,
+    )
 
 main_fits : (rate : ℕ) (s : Declaration) (own : ℕ → Bool) (m : ℕ) (units : List PesPacket) (n x : ℕ) → IsProper rate s → KeepsDeclaration s units →
     AtMostPerWindow own (waiting_slots rate s) m → min (bytes_by_units s) (184 * m) ≤ s.main →
     mb_fullness rate s.drain x units (pes_left rate s.drain 0 (run_packets own rate s units n)) ≤ s.main
 main_fits rate s own m units n x proper keeps spares fits =
-    le_trans
-    (kept_law own rate s.lead s.drain s.interval s.largest s.group s.group_packets s.unit_packets (waiting_units s) (waiting_slots rate s) m units n x
-    proper.some_rate proper.some_drain proper.some_group (enough_slots rate s) spares (enough_units s proper.some_interval) keeps.spaced keeps.sized keeps.grouped)
-    fits
+    let slots = by_slots own rate s.lead s.drain (waiting_slots rate s) m units n x proper.some_rate proper.some_drain (enough_slots rate s) spares in
+    omega (arith, slots, by_units rate s own units n x proper keeps, fits)
 
 pub main_switch_law : MainSwitchLaw
 main_switch_law rate s claim first next second periods units n x proper one two near next_near fits keeps =
@@ -110,7 +139,7 @@ stream_switch_law rate s claim first next second periods units proper one two jo
     served rate s (in_turn first periods second) (max claim.peak next.peak) _ units proper
     (switch_work_law rate s.drain 512 claim.start claim.peak first next.start next.peak second periods (omega (arith, one.owned, per_period_le first))
     (omega (arith, two.owned, per_period_le second)) one.work two.work joins.work)
-    (deadline_switch_law rate s claim first next second periods units proper.some_group one.owned two.owned
+    (deadline_switch_law rate s claim first next second periods units proper.some_rows proper.some_interval one.owned two.owned
     one.spread_claimed two.spread_claimed one.rate_serves two.rate_serves joins.lead_serves keeps)
     (λ n x. main_switch_law rate s claim first next second periods units n x proper one.owned two.owned one.spread_claimed two.spread_claimed joins.main_fits keeps)
 
@@ -118,9 +147,8 @@ pub stream_law : StreamLaw
 stream_law rate s claim marks units proper holds keeps =
     served rate s (own marks) claim.peak _ units proper
     (work_law rate s.drain 512 claim.start claim.peak marks (omega (arith, holds.owned, per_period_le marks)) holds.work)
-    (deadline_law (own marks) (per_period marks) (length marks) claim.spread s.group s.group_packets s.unit_packets rate s.lead s.interval s.drain claim.peak units
-    (rate_law marks claim.spread holds.owned holds.spread_claimed) holds.owned proper.some_group holds.rate_serves
-    (lead_from_one rate s claim marks holds.lead_serves) keeps.spaced keeps.grouped)
+    (in_time rate s (own marks) (per_period marks) (length marks) claim.spread claim.peak units proper.some_rows proper.some_interval
+    (rate_law marks claim.spread holds.owned holds.spread_claimed) holds.owned holds.rate_serves holds.lead_serves keeps)
     (λ n x. main_fits rate s (own marks) (most_within (per_period marks) (length marks) claim.spread (waiting_slots rate s)) units n x proper keeps
     (share_law marks claim.spread (waiting_slots rate s) holds.owned holds.spread_claimed (some_slots rate s proper.some_rate proper.some_lead)) holds.main_fits)
 

@@ -8,7 +8,7 @@ use Rattle.own_slots.specs.Spread.{spread, most_within}
 use Rattle.own_slots.specs.Work.{HoldsWork, work_left}
 use Rattle.own_slots.specs.Switch.{shift}
 use Rattle.unit_timing.specs.Buffers.{tb_size, system_tb_drain, bsys_size, bsys_drain}
-use Rattle.unit_timing.specs.PesPacket.{grouped}
+use Rattle.unit_timing.specs.Allowances.{allowance_rows, packets_at_once, steady_packets, steady_time, packets_within}
 use Rattle.unit_timing.specs.Plans.{Declaration}
 
 -- numbers that are not 0
@@ -17,7 +17,7 @@ pub record IsProper (rate : ℕ) (s : Declaration) : Type 0 where
   pub some_interval : 0 < s.interval
   pub some_lead : 0 < s.lead
   pub some_drain : 0 < s.drain
-  pub some_group : 0 < s.group
+  pub some_rows : 0 < allowance_rows s.allowance
 
 -- ---- what a plan claims
 
@@ -44,20 +44,21 @@ pub record Share : Type 0 where
 abbrev pub share_of : StreamClaim → List Bool → Share
 share_of claim marks = record { count = per_period marks; period = length marks; spread = claim.spread; peak = claim.peak }
 
--- ---- groups of units on end have slots enough
+-- ---- in the long run there are slots enough
 
--- the slots that the packets of a group take, and those in the time of a group
+-- the slots that the packets of a group take, or those of the pace, and those in the time of a group, or in one unit of
+-- 90 kHz
 abbrev pub rate_needed : Declaration → Share → ℕ
-rate_needed s own = s.group_packets * own.period * slot_units_at_1bps
+rate_needed s own = steady_packets s.allowance * own.period
 
 abbrev pub rate_given : ℕ → Declaration → Share → ℕ
-rate_given rate s own = own.count * s.group * s.interval * rate
+rate_given rate s own = own.count * steady_time s.allowance s.interval * rate
 
 -- ---- the last of m units on end has left the transport buffer by its stamp
 
--- the most packets of m units in a row, at most a group of them
+-- the most packets of m units in a row, at most a group of them; by pace the burst
 abbrev pub packets_in_row : Declaration → ℕ → ℕ
-packets_in_row s m = min (m * s.unit_packets) s.group_packets
+packets_in_row s m = packets_at_once s.allowance s.unit_packets m
 
 -- when it has left at the latest, times the number of own slots: its slots, and the work after the last
 abbrev pub time_needed : Declaration → ℕ → ℕ → ℕ → ℕ
@@ -94,13 +95,13 @@ waiting_units s = (s.lead + (s.interval - 1)) / s.interval
 abbrev pub waiting_slots : ℕ → Declaration → ℕ
 waiting_slots rate s = (s.lead * rate + (slot_units_at_1bps - 1)) / slot_units_at_1bps
 
--- the most packets of m units in a row, any number of them: whole groups, and a rest
-abbrev pub grouped_packets : Declaration → ℕ → ℕ
-grouped_packets s m = grouped s.group s.group_packets s.unit_packets m
+-- their packets at most
+abbrev pub waiting_packets : Declaration → ℕ
+waiting_packets s = packets_within s.allowance s.unit_packets (waiting_units s) s.lead
 
 -- the bytes that can wait at once: by the sizes of the units or by their packets, and by the slots of one plan
 abbrev pub bytes_by_units : Declaration → ℕ
-bytes_by_units s = min (waiting_units s * s.largest) (184 * grouped_packets s (waiting_units s))
+bytes_by_units s = min (waiting_units s * s.largest) (184 * waiting_packets s)
 
 abbrev pub bytes_by_slots : ℕ → Declaration → Share → ℕ
 bytes_by_slots rate s own = 184 * most_within own.count own.period own.spread (waiting_slots rate s)
@@ -119,13 +120,13 @@ pub record StreamConditions (rate : ℕ) (s : Declaration) (claim : StreamClaim)
   pub spread_claimed : spread marks ≤ claim.spread
   pub rate_serves : rate_needed s (share_of claim marks) ≤ rate_given rate s (share_of claim marks)
   pub work : HoldsWork rate s.drain tb_size claim.start claim.peak marks
-  pub lead_serves : (m : ℕ) → 0 < m → m ≤ s.group → lead_needed s (share_of claim marks) m ≤ time_given rate s (per_period marks) m
+  pub lead_serves : (m : ℕ) → 0 < m → m ≤ allowance_rows s.allowance → lead_needed s (share_of claim marks) m ≤ time_given rate s (per_period marks) m
   pub main_fits : bytes_waiting rate s (share_of claim marks) ≤ s.main
 
 -- the further conditions on two plans in turn
 pub record StreamSwitchConditions (rate : ℕ) (s : Declaration) (claim : StreamClaim) (first : List Bool) (next : StreamClaim) (second : List Bool) : Type 0 where
   pub work : work_left rate s.drain claim.start first ≤ next.start
-  pub lead_serves : (m : ℕ) → 0 < m → m ≤ s.group →
+  pub lead_serves : (m : ℕ) → 0 < m → m ≤ allowance_rows s.allowance →
       lead_across s (share_of claim first) (share_of next second) (shift first second) m ≤ time_given rate s (per_period first * per_period second) m
   pub main_fits : bytes_across rate s (share_of claim first) (share_of next second) ≤ s.main
 

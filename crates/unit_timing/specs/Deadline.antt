@@ -7,7 +7,8 @@ use Rattle.std.specs.Prelude.{ℕ, suc, ◌+◌, ◌*◌, ◌<◌, ◌≤◌, mi
 use Rattle.clock27.specs.Units.{slot_units_at_1bps}
 use Rattle.clock27.specs.Units.{byte_units_at_1bps}
 use Rattle.own_slots.specs.Slots.{own_before, AtLeastPerWindow, HasPace}
-use Rattle.unit_timing.specs.PesPacket.{PesPacket, packets_of_unit, Spaced, Paced, GroupsWithin}
+use Rattle.unit_timing.specs.PesPacket.{PesPacket, packets_of_unit, Spaced}
+use Rattle.unit_timing.specs.Allowances.{group_curve, pace_curve, Allows}
 use Rattle.unit_timing.specs.Schedule.{first_slot}
 
 -- there is a slot before which `number` own slots stand, and which begins at least `late` before the stamp `due`
@@ -23,23 +24,39 @@ InTime own rate lead r late free (unit ∷ units) =
     EndsInTime own rate r late (first_slot own rate lead free unit + packets_of_unit unit) unit.dts
     × InTime own rate lead r late (first_slot own rate lead free unit + packets_of_unit unit) units
 
--- m + 1 units that are sent on end, the first as soon as it is released, come in time: their packets fit a window of
--- own slots that ends `late` before the last of them is due
-pub record FitsLead (own : ℕ → Bool) (q : ℕ → ℕ) (rate lead apart r late m : ℕ) : Type 0 where
+-- units that are sent on end, the first as soon as it is released and the last due `time` after it, come in time: as
+-- many packets as are allowed fit a window of own slots that ends `late` before the last of them is due
+pub record FitsLead (own : ℕ → Bool) (allowed : ℕ → ℕ) (rate lead r late time : ℕ) : Type 0 where
   pub window : ℕ
-  pub serves : AtLeastPerWindow own window (q (suc m))
-  pub in_time : (window + 1) * slot_units_at_1bps * r + late * byte_units_at_1bps ≤ (lead + m * apart) * rate * r
+  pub serves : AtLeastPerWindow own window (allowed time)
+  pub in_time : (window + 1) * slot_units_at_1bps * r + late * byte_units_at_1bps ≤ (lead + time) * rate * r
 
 -- it is enough to look at units that are sent on end
 abbrev pub StretchLaw : Type 0
-StretchLaw = (own : ℕ → Bool) (q : ℕ → ℕ) (rate lead apart r late : ℕ) (units : List PesPacket) →
-    ((m : ℕ) → FitsLead own q rate lead apart r late m) → Spaced apart lead units → Paced q units →
+StretchLaw = (own : ℕ → Bool) (allowed : ℕ → ℕ) (rate lead apart r late : ℕ) (units : List PesPacket) →
+    ((time : ℕ) → FitsLead own allowed rate lead r late time) → Spaced apart lead units → Allows packets_of_unit allowed units →
     InTime own rate lead r late 0 units
 
--- and of these at groups: g units take no longer than g times their distance, and up to g units come in time
+-- a pace of own slots, `share` for `cost` slots after the first `base`, and a lead pay for what is allowed in any time
+abbrev pub IsPaid : ℕ → ℕ → ℕ → (ℕ → ℕ) → ℕ → ℕ → ℕ → ℕ → Type 0
+IsPaid share cost base allowed rate lead r late = (time : ℕ) →
+    (base + allowed time * cost + share) * slot_units_at_1bps * r + share * late * byte_units_at_1bps ≤ share * (lead + time) * rate * r
+
+-- and then each unit is sent in time
 abbrev pub DeadlineLaw : Type 0
-DeadlineLaw = (own : ℕ → Bool) (share cost base g most n rate lead apart r late : ℕ) (units : List PesPacket) →
-    HasPace own share cost base → 0 < share → 0 < g → most * cost * slot_units_at_1bps ≤ share * g * apart * rate →
+DeadlineLaw = (own : ℕ → Bool) (share cost base : ℕ) (allowed : ℕ → ℕ) (rate lead apart r late : ℕ) (units : List PesPacket) →
+    HasPace own share cost base → 0 < share → IsPaid share cost base allowed rate lead r late →
+    Spaced apart lead units → Allows packets_of_unit allowed units → InTime own rate lead r late 0 units
+
+-- groups are paid for where g units take no longer than g times their distance, and up to g units come in time
+abbrev pub GroupsPaidLaw : Type 0
+GroupsPaidLaw = (share cost base g most n rate lead apart r late : ℕ) → 0 < g → 0 < apart →
+    most * cost * slot_units_at_1bps ≤ share * g * apart * rate →
     ((j : ℕ) → j < g → (base + min (suc j * n) most * cost + share) * slot_units_at_1bps * r + share * late * byte_units_at_1bps ≤ share * (lead + j * apart) * rate * r) →
-    Spaced apart lead units → GroupsWithin g most n units →
-    InTime own rate lead r late 0 units
+    IsPaid share cost base (group_curve g most n apart) rate lead r late
+
+-- and a pace where its packets come no faster than the own slots, and the burst comes in time
+abbrev pub PacePaidLaw : Type 0
+PacePaidLaw = (share cost base burst pace rate lead r late : ℕ) → pace * cost ≤ share * rate →
+    (base + burst * cost + share) * slot_units_at_1bps * r + share * late * byte_units_at_1bps ≤ share * lead * rate * r →
+    IsPaid share cost base (pace_curve burst pace) rate lead r late

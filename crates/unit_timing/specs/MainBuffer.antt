@@ -1,11 +1,12 @@
 -- The main buffer of a stream: the bytes of its units enter it as they leave the transport buffer, and leave it at
 -- their unit's stamp (ISO/IEC 13818-1, 2.4.2.3; one main buffer for each stream is this profile's).
-use Rattle.std.specs.Prelude.{ℕ, ◌+◌, ◌*◌, ◌<◌, ◌≤◌, min, Bool, nat_le, nat_lt, ◌&&◌, List, [], ◌∷◌, take, drop, count_by}
+use Rattle.std.specs.Prelude.{ℕ, ◌+◌, ◌-◌, ◌*◌, ◌<◌, ◌≤◌, Bool, nat_le, nat_lt, ◌&&◌, List, [], ◌∷◌, take, drop, count_by}
 use Rattle.clock27.specs.Peak.{IsPeak, greatest_at}
 use Rattle.clock27.specs.Units.{slot_units_at_1bps}
 use Rattle.clock27.specs.Units.{byte_units_at_1bps}
 use Rattle.own_slots.specs.Slots.{AtMostPerWindow, own_slots}
-use Rattle.unit_timing.specs.PesPacket.{PesPacket, Spaced, GroupsWithin, Sized, grouped}
+use Rattle.unit_timing.specs.PesPacket.{PesPacket}
+use Rattle.unit_timing.specs.Allowances.{IsRising, Allows}
 use Rattle.unit_timing.specs.Schedule.{packets_in_slots}
 use Rattle.unit_timing.specs.Transport.{pes_left}
 
@@ -26,25 +27,12 @@ BySlots = (own : ℕ → Bool) (rate lead r w m : ℕ) (units : List PesPacket) 
     lead * rate ≤ w * slot_units_at_1bps → AtMostPerWindow own w m →
     mb_fullness rate r x units (pes_left rate r 0 (packets_in_slots own rate lead 0 units (own_slots own 0 n))) ≤ 184 * m
 
--- and of units that are due within `lead` of one another: u of them at most, where u times their distance is at least
--- `lead`
-abbrev pub BySizes : Type 0
-BySizes = (own : ℕ → Bool) (rate lead r apart largest u : ℕ) (units : List PesPacket) (n x : ℕ) → 0 < rate → 0 < r →
-    lead ≤ u * apart → Spaced apart lead units → Sized largest units →
-    mb_fullness rate r x units (pes_left rate r 0 (packets_in_slots own rate lead 0 units (own_slots own 0 n))) ≤ u * largest
-
-abbrev pub ByGroups : Type 0
-ByGroups = (own : ℕ → Bool) (rate lead r apart g most each u : ℕ) (units : List PesPacket) (n x : ℕ) → 0 < rate → 0 < r → 0 < g →
-    lead ≤ u * apart → Spaced apart lead units → GroupsWithin g most each units →
-    mb_fullness rate r x units (pes_left rate r 0 (packets_in_slots own rate lead 0 units (own_slots own 0 n))) ≤ 184 * grouped g most each u
-
--- so it never holds more than the least of the three numbers
-abbrev pub MainBufferLaw : Type 0
-MainBufferLaw = (own : ℕ → Bool) (rate lead r apart largest g most each u w m : ℕ) (units : List PesPacket) (n x : ℕ) → 0 < rate → 0 < r → 0 < g →
-    lead * rate ≤ w * slot_units_at_1bps → AtMostPerWindow own w m → lead ≤ u * apart →
-    Spaced apart lead units → Sized largest units → GroupsWithin g most each units →
-    mb_fullness rate r x units (pes_left rate r 0 (packets_in_slots own rate lead 0 units (own_slots own 0 n)))
-    ≤ min (min (u * largest) (184 * grouped g most each u)) (184 * m)
+-- and of units that are due within less than `lead` of one another, of which no more than is allowed come in that time;
+-- a unit has at most `each` bytes for each that it counts
+abbrev pub ByCurve : Type 0
+ByCurve = (own : ℕ → Bool) (rate lead r each : ℕ) (f : PesPacket → ℕ) (allowed : ℕ → ℕ) (units : List PesPacket) (n x : ℕ) → 0 < rate → 0 < r →
+    ((unit : PesPacket) → unit.size ≤ each * f unit) → IsRising allowed → Allows f allowed units →
+    mb_fullness rate r x units (pes_left rate r 0 (packets_in_slots own rate lead 0 units (own_slots own 0 n))) ≤ each * allowed (lead - 1)
 
 -- the greatest fullness over all moments is found at the departures from the transport buffer, whatever the order of
 -- the stamps

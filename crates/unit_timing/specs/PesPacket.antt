@@ -1,5 +1,5 @@
 -- The units of a stream, as far as their timing goes.
-use Rattle.std.specs.Prelude.{ℕ, ◌+◌, ◌-◌, ◌*◌, ◌/◌, ◌%◌, ◌<◌, ◌≤◌, min, List, [], ◌∷◌, ◌++◌, length, take, drop, sum_by}
+use Rattle.std.specs.Prelude.{ℕ, ◌+◌, ◌-◌, ◌*◌, ◌/◌, ◌%◌, ◌≤◌, min, List, [], ◌∷◌, ◌++◌, length, take, drop, sum_by}
 
 -- the unit of a unit is its PES packet, header and data (ISO/IEC 13818-1, 2.4.3.6): its bytes, and when it is due, the
 -- decoding time stamp counted in units of 90 kHz from the start of the run
@@ -19,11 +19,6 @@ unfoldable pub Spaced : ℕ → ℕ → List PesPacket → Type 0
 Spaced apart from [] = Unit {0}
 Spaced apart from (unit ∷ units) = (from ≤ unit.dts) × Spaced apart (unit.dts + apart) units
 
--- from each unit on, the next k units have at most q k packets
-unfoldable pub Paced : (ℕ → ℕ) → List PesPacket → Type 0
-Paced q [] = Unit {0}
-Paced q (unit ∷ units) = ((k : ℕ) → packets_of_units (take k (unit ∷ units)) ≤ q k) × Paced q units
-
 -- each unit has at most n packets, and any g units in a row (all that are left, where they are fewer) have at most
 -- `most`
 unfoldable pub GroupsWithin : ℕ → ℕ → ℕ → List PesPacket → Type 0
@@ -33,9 +28,6 @@ GroupsWithin g most n (unit ∷ units) = (packets_of_unit unit ≤ n) × (packet
 -- the most packets that m units in a row then have
 abbrev pub grouped : ℕ → ℕ → ℕ → ℕ → ℕ
 grouped g most n m = m / g * most + min (m % g * n) most
-
-abbrev pub GroupLaw : Type 0
-GroupLaw = (g most n : ℕ) (units : List PesPacket) → 0 < g → GroupsWithin g most n units → Paced (grouped g most n) units
 
 -- each unit has at most `largest` bytes
 unfoldable pub Sized : ℕ → List PesPacket → Type 0

@@ -4,6 +4,7 @@ use Rattle.own_slots.specs.Period.{own, per_period}
 use Rattle.own_slots.specs.Spread.{spread}
 use Rattle.own_slots.specs.Switch.{joined, shift}
 use Rattle.unit_timing.specs.PesPacket.{PesPacket}
+use Rattle.unit_timing.specs.Allowances.{allowance_rows}
 use Rattle.unit_timing.specs.Transport.{pes_left}
 use Rattle.unit_timing.specs.Deadline.{InTime}
 use Rattle.unit_timing.specs.MainBuffer.{mb_fullness}
@@ -23,14 +24,14 @@ StreamSwitchLaw = (rate : ℕ) (s : Declaration) (claim : StreamClaim) (first : 
     (periods : ℕ) (units : List PesPacket) → IsProper rate s → StreamConditions rate s claim first → StreamConditions rate s next second →
     StreamSwitchConditions rate s claim first next second → KeepsDeclaration s units → StreamServed (in_turn first periods second) rate s units
 
--- the deadlines alone: both plans pay for their groups, and the lead covers both spreads and the shift
+-- the deadlines alone: both plans have slots enough in the long run, and the lead covers both spreads and the shift
 abbrev pub DeadlineSwitchLaw : Type 0
 DeadlineSwitchLaw = (rate : ℕ) (s : Declaration) (claim : StreamClaim) (first : List Bool) (next : StreamClaim) (second : List Bool)
-    (periods : ℕ) (units : List PesPacket) → 0 < s.group → 0 < per_period first → 0 < per_period second →
+    (periods : ℕ) (units : List PesPacket) → 0 < allowance_rows s.allowance → 0 < s.interval → 0 < per_period first → 0 < per_period second →
     spread first ≤ claim.spread → spread second ≤ next.spread →
     rate_needed s (share_of claim first) ≤ rate_given rate s (share_of claim first) →
     rate_needed s (share_of next second) ≤ rate_given rate s (share_of next second) →
-    ((m : ℕ) → 0 < m → m ≤ s.group →
+    ((m : ℕ) → 0 < m → m ≤ allowance_rows s.allowance →
     lead_across s (share_of claim first) (share_of next second) (shift first second) m ≤ time_given rate s (per_period first * per_period second) m) →
     KeepsDeclaration s units → InTime (in_turn first periods second) rate s.lead s.drain (max claim.peak next.peak) 0 units
 

@@ -3,7 +3,9 @@
 use Rattle.std.specs.Prelude.{ℕ, ◌≤◌, Bool, List}
 use Rattle.own_slots.specs.Slots.{Rises, own_slots}
 use Rattle.unit_timing.specs.Buffers.{tb_size, bsys_size}
-use Rattle.unit_timing.specs.PesPacket.{PesPacket, Spaced, Sized, GroupsWithin}
+use Rattle.unit_timing.specs.declared.allowance.Allowance.{Allowance}
+use Rattle.unit_timing.specs.PesPacket.{PesPacket, Spaced, Sized}
+use Rattle.unit_timing.specs.Allowances.{KeepsAllowance}
 use Rattle.unit_timing.specs.Schedule.{Packet, packets_in_slots}
 use Rattle.unit_timing.specs.Transport.{slots_of, tb_fullness, pes_left}
 use Rattle.unit_timing.specs.Arrived.{AllLeft}
@@ -18,14 +20,13 @@ pub record Declaration : Type 0 where
   pub main : ℕ  -- the size of the main buffer
   pub largest : ℕ  -- the size of the greatest unit, header and all
   pub unit_packets : ℕ  -- its number of packets
-  pub group : ℕ  -- the number of units of a group: any of them in a row
-  pub group_packets : ℕ  -- the greatest number of packets of a group
+  pub allowance : Allowance  -- the most packets of units in a row
 
 -- units within the declaration
 pub record KeepsDeclaration (s : Declaration) (units : List PesPacket) : Type 0 where
   pub spaced : Spaced s.interval s.lead units
   pub sized : Sized s.largest units
-  pub grouped : GroupsWithin s.group s.group_packets s.unit_packets units
+  pub allowed : KeepsAllowance s.allowance s.unit_packets units
 
 -- the packets of these units in a run of n slots
 abbrev pub run_packets : (ℕ → Bool) → ℕ → Declaration → List PesPacket → ℕ → List Packet

@@ -1,19 +1,22 @@
 //! Deadlines of units.
-ghost use Rattle.unit_timing.specs.PesPacket.{GroupLaw};
-ghost use Rattle.unit_timing.specs.Deadline.{StretchLaw, DeadlineLaw};
+ghost use Rattle.unit_timing.specs.Deadline.{StretchLaw, DeadlineLaw, GroupsPaidLaw, PacePaidLaw};
 
 /// Units that are sent on end come in time, so all do.
 pub fn stretches()
     ensures { StretchLaw }
 {}
 
-/// Declared groups bound the packets of any units in a row.
-pub fn groups()
-    ensures { GroupLaw }
+/// A pace of own slots that pays for what is allowed in any time keeps each deadline.
+pub fn paid()
+    ensures { DeadlineLaw }
 {}
 
-/// A pace of own slots and declared groups keep each deadline: the condition on the rate pays for
-/// whole groups, that on the lead for the rest.
-pub fn grouped()
-    ensures { DeadlineLaw }
+/// Groups are paid for: the condition on the rate pays for whole groups, that on the lead for the rest.
+pub fn groups_paid()
+    ensures { GroupsPaidLaw }
+{}
+
+/// A pace is paid for: the condition on the rate pays for what comes after the burst, that on the lead for the burst.
+pub fn pace_paid()
+    ensures { PacePaidLaw }
 {}

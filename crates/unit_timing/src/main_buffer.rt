@@ -1,13 +1,11 @@
 //! The main buffer.
-ghost use Rattle.unit_timing.specs.MainBuffer.{BySlots, BySizes, ByGroups, MainBufferLaw, MainPeakLaw};
+ghost use Rattle.unit_timing.specs.MainBuffer.{BySlots, ByCurve, MainPeakLaw};
 
-/// Bounds of the fullness of the main buffer at any moment: by slots, by the sizes of units and by the
-/// packets of groups. Units that are late count too.
+/// Bounds of the fullness of the main buffer at any moment: by slots, and by what is allowed of units, their bytes or their
+/// packets. Units that are late count too.
 pub fn fullness()
     ensures by_slots { BySlots }
-    ensures by_sizes { BySizes }
-    ensures by_groups { ByGroups }
-    ensures least { MainBufferLaw }
+    ensures by_curve { ByCurve }
 {}
 
 /// The greatest fullness of the main buffer over all moments is that at some byte's entry.

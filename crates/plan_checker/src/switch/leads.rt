@@ -2,6 +2,7 @@
 
 ghost use Rattle.std.specs.Prelude.{◌≡◌, ◌^◌, ◌<◌, ◌≤◌, ◌∷◌, [], length};
 ghost use Rattle.description.specs.Ranges.{IsStream};
+ghost use Rattle.unit_timing.specs.Allowances.{allowance_rows};
 ghost use Rattle.slot_plan.specs.Entries.{first_failing};
 ghost use Rattle.slot_plan.specs.Conditions.{entries_from};
 ghost use Rattle.slot_plan.specs.SwitchConditions.{lead_switch_entry};
@@ -21,7 +22,7 @@ use crate::switch::shares::{PlanShare, SwitchShares, slots_needed};
 use slot_plan::{Condition, Item, StreamDescription};
 use std::alloc::Allocator;
 
-/// The deadlines of all streams, of 1 to `group` units in a row.
+/// The deadlines of all streams, of one and up to a group of units in a row.
 pub struct LeadSwitches;
 
 impl<A: Allocator> ItemCondition<PlanPair<'_, A>> for LeadSwitches {
@@ -30,7 +31,8 @@ impl<A: Allocator> ItemCondition<PlanPair<'_, A>> for LeadSwitches {
     ghost items = { λ s. s.description.now.streams };
 
     ghost entries = { λ s i stream.
-        entries_from (lead_switch_entry s.description.now s.first.now s.second.now i stream) 1 stream.group };
+        entries_from (lead_switch_entry s.description.now s.first.now s.second.now i stream) 1
+        (allowance_rows stream.allowance) };
 
     fn count(plans: &PlanPair<'_, A>) -> usize {
         plans.description.streams().len()
@@ -85,15 +87,17 @@ fn lead_switch(
     requires spread { shares.first.spread < 2 ^ 33 }
     requires next_spread { shares.second.spread < 2 ^ 33 }
     ensures { failed result
-        ≡ first_failing (entries_from (deadline_entry rate shares i stream.now) 1 stream.now.group) }
+        ≡ first_failing (entries_from (deadline_entry rate shares i stream.now) 1
+        (allowance_rows stream.now.allowance)) }
 {
-    for before in 0..stream.group {
+    for before in 0..stream.allowance.rows() {
         deadline(rate, stream, i, shares, before + 1)?;
     }
     Ok(())
 }
 
 /// The deadline of the last of `units` units in a row.
+#[tactic(auto, using(description::proofs::Allowed::rows_most))]
 fn deadline(
     rate: u64,
     stream: &StreamDescription,
@@ -108,7 +112,7 @@ fn deadline(
     requires spread { shares.first.spread < 2 ^ 33 }
     requires next_spread { shares.second.spread < 2 ^ 33 }
     requires positive { 0 < units }
-    requires units { units ≤ stream.now.group }
+    requires units { units ≤ allowance_rows stream.now.allowance }
     ensures { failed result ≡ first_failing (deadline_entry rate shares i stream.now units ∷ []) }
 {
     let packets = packets_in_row(stream, units);

@@ -8,8 +8,9 @@ ghost use Rattle.plan_search.specs.Loads.{has_slots, least_rate};
 ghost use Rattle.plan_search.specs.Reasons.{load_reason};
 
 use crate::reason::Reason;
+use clock27::SLOT_MS_AT_1BPS;
 use clock27::rate_search::{self, Load};
-use clock27::{SLOT_MS_AT_1BPS, SLOT_UNITS_AT_1BPS};
+use plan_checker::{steady_packets, steady_time};
 use slot_plan::{Description, StreamDescription};
 use unit_timing::shares::PARTS;
 
@@ -21,8 +22,8 @@ fn stream_load(stream: &StreamDescription, rate: u64) -> u128
     ensures load { result ≡ stream_load rate stream.now }
     ensures bound { result ≤ 2 ^ 90 }
 {
-    let time = stream.group as u128 * stream.interval as u128 * rate as u128;
-    u128::from(PARTS) * (stream.group_packets as u128 * SLOT_UNITS_AT_1BPS) / time
+    let time = steady_time(stream) as u128 * rate as u128;
+    u128::from(PARTS) * steady_packets(stream) as u128 / time
 }
 
 /// The same of what comes in rounds of packets, each round within a limit in ms.

@@ -2,13 +2,14 @@
 
 ghost use Rattle.std.specs.Prelude.{◌≡◌, ◌+◌, ◌<◌, ◌≤◌};
 ghost use Rattle.std.specs.Option.{option_to_list};
+ghost use Rattle.unit_timing.specs.Allowances.{allowance_rows};
 ghost use Rattle.description.specs.Ranges.{IsStream};
 ghost use Rattle.plan_search.specs.Reasons.{least_drain, units_lead, least_lead, least_main};
 ghost use Rattle.plan_search.specs.Reasons.{drain_reason, lead_reason, main_reason};
 
 use crate::reason::Reason;
 use clock27::SLOT_UNITS_AT_1BPS;
-use plan_checker::{bytes_by_units, packets_in_row, waiting_slots};
+use plan_checker::{bytes_by_units, packets_in_row, steady_packets, steady_time, waiting_slots};
 use slot_plan::{Description, StreamDescription};
 
 /// The least drain of a stream's transport buffer, in bits/s.
@@ -16,8 +17,7 @@ fn least_drain(stream: &StreamDescription) -> u64
     requires { IsStream stream.now }
     ensures { result ≡ least_drain stream.now }
 {
-    let interval = stream.group as u64 * stream.interval as u64;
-    (stream.group_packets as u64 * SLOT_UNITS_AT_1BPS as u64).div_ceil(interval)
+    steady_packets(stream).div_ceil(steady_time(stream))
 }
 
 /// Of stream number `i`: whether its transport buffer is drained slower than its units come.
@@ -26,8 +26,7 @@ pub fn drain_reason(i: usize, stream: &StreamDescription) -> Option<Reason>
     requires ranges { IsStream stream.now }
     ensures { option_to_list result ≡ drain_reason i stream.now }
 {
-    let given = stream.group as u64 * stream.interval as u64 * stream.rx as u64;
-    if given < stream.group_packets as u64 * SLOT_UNITS_AT_1BPS as u64 {
+    if steady_time(stream) * (stream.rx as u64) < steady_packets(stream) {
         Some(Reason::SlowDrain(i as u8, least_drain(stream)))
     } else {
         None
@@ -38,7 +37,7 @@ pub fn drain_reason(i: usize, stream: &StreamDescription) -> Option<Reason>
 fn units_lead(description: &Description, stream: &StreamDescription, units: u8) -> u64
     requires ranges { IsStream stream.now }
     requires positive { 0 < units }
-    requires group { units ≤ stream.now.group }
+    requires rows { units ≤ allowance_rows stream.now.allowance }
     ensures lead { result ≡ units_lead description.now stream.now units }
 {
     let rate = description.rate().bits_per_second() as u128;
@@ -55,7 +54,7 @@ fn least_lead(description: &Description, stream: &StreamDescription) -> u64
     ensures lead { result ≡ least_lead description.now stream.now }
 {
     let mut least = 0;
-    for before in 0..stream.group {
+    for before in 0..stream.allowance.rows() {
         least = least.max(units_lead(description, stream, before + 1));
     }
     least
@@ -86,8 +85,8 @@ fn least_main(description: &Description, stream: &StreamDescription) -> u64
 {
     let window = waiting_slots(description, stream) as u128 - 1;
     let rate = description.rate().bits_per_second() as u128;
-    let needed = stream.group_packets as u128 * SLOT_UNITS_AT_1BPS;
-    let packets = window * needed / (stream.group as u128 * stream.interval as u128 * rate);
+    let given = steady_time(stream) as u128 * rate;
+    let packets = window * steady_packets(stream) as u128 / given;
     let by_slots = 184 * (packets + 1);
     (bytes_by_units(stream) as u128).min(by_slots) as u64
 }

@@ -98,7 +98,7 @@ fn push_streams<'a, A: Allocator>(
     let kind = description.streams().len();
     let rate = description.rate().bits_per_second();
     for (i, stream) in description.streams().iter().enumerate() {
-        let need = Need::Stream(StreamRate { stream, rate });
+        let need = Need::Stream(StreamRate::new(stream, rate));
         demands.push(demand_of(Slot::Stream(i as u8), need, i, kind, period))?;
     }
     Ok(())

@@ -1,7 +1,10 @@
 //! Streams: their rate, the deadlines of units in a row, their main buffer.
 
+ghost use Rattle.description.specs.Ranges.{IsStream};
+
 use crate::search::numbers::{narrowed, product, rounded_up};
 use clock27::{BYTE_UNITS_AT_1BPS, SLOT_UNITS_AT_1BPS};
+use plan_checker::{bytes_by_units, packets_in_row, steady_packets, steady_time};
 use slot_plan::StreamDescription;
 use unit_timing::buffers::TB_SIZE;
 
@@ -11,26 +14,28 @@ const JITTER: u128 = 3;
 /// The data bytes of a packet.
 const PACKET_BYTES: u64 = 184;
 
-/// A stream and the rate of its output, in bits/s.
+/// A stream, the bytes of its units that can wait for their decoding at once, and the rate of its output in bits/s.
 #[derive(Clone, Copy)]
 pub struct StreamRate<'a> {
-    pub stream: &'a StreamDescription,
-    pub rate: u64,
+    stream: &'a StreamDescription,
+    waiting_bytes: u64,
+    rate: u64,
+}
+
+impl<'a> StreamRate<'a> {
+    /// A stream on an output of that rate.
+    pub fn new(stream: &'a StreamDescription, rate: u64) -> StreamRate<'a>
+        requires { IsStream stream.now }
+    {
+        StreamRate {
+            stream,
+            waiting_bytes: bytes_by_units(stream),
+            rate,
+        }
+    }
 }
 
 impl StreamRate<'_> {
-    /// The packets of a greatest unit, with a PES header of 19 bytes.
-    fn unit_packets(self) -> u64 {
-        (self.stream.size as u64 + 19).div_ceil(PACKET_BYTES)
-    }
-
-    /// The most packets of `units` units in a row, at most those of a group.
-    fn packets(self, units: u8) -> u128 {
-        product(&[units as u128, self.unit_packets() as u128]).min(
-            self.stream.group_packets as u128,
-        )
-    }
-
     /// The time from the first of `units` units in a row to the last one's decoding, less the longest time that the
     /// last packet is in the transport buffer, on the scale of rate times drain.
     fn time(self, units: u8) -> u128 {
@@ -44,18 +49,10 @@ impl StreamRate<'_> {
     /// The least own slots of a period; None where none are enough.
     pub fn count(self, period: u64) -> Option<u64> {
         let stream = self.stream;
-        let needed = product(&[
-            stream.group_packets as u128,
-            period as u128,
-            SLOT_UNITS_AT_1BPS,
-        ]);
-        let group = product(&[
-            stream.group as u128,
-            stream.interval as u128,
-            self.rate as u128,
-        ]);
-        let mut count = rounded_up(needed, group)?;
-        for before in 0..stream.group {
+        let needed = product(&[steady_packets(stream) as u128, period as u128]);
+        let given = product(&[steady_time(stream) as u128, self.rate as u128]);
+        let mut count = rounded_up(needed, given)?;
+        for before in 0..stream.allowance.rows() {
             count = count.max(self.units_count(period, before.saturating_add(1))?);
         }
         let pace = product(&[count, self.rate as u128]);
@@ -69,13 +66,14 @@ impl StreamRate<'_> {
     fn units_count(self, period: u64, units: u8) -> Option<u128> {
         let slot = product(&[SLOT_UNITS_AT_1BPS, self.stream.rx as u128]);
         let time = self.time(units).checked_sub(product(&[JITTER, slot]))?;
-        rounded_up(product(&[self.packets(units), period as u128, slot]), time)
+        let packets = packets_in_row(self.stream, units) as u128;
+        rounded_up(product(&[packets, period as u128, slot]), time)
     }
 
     /// The most that the own slots may stray from even spacing, in slots times own slots; None where they are too few.
     pub fn width(self, period: u64, count: u64) -> Option<u64> {
         let mut width = self.main_width(period, count)?;
-        for before in 0..self.stream.group {
+        for before in 0..self.stream.allowance.rows() {
             width = width.min(self.units_width(period, count, before.saturating_add(1))?);
         }
         Some(narrowed(width))
@@ -85,13 +83,14 @@ impl StreamRate<'_> {
     fn units_width(self, period: u64, count: u64, units: u8) -> Option<u128> {
         let slot = product(&[SLOT_UNITS_AT_1BPS, self.stream.rx as u128]);
         let have = product(&[count as u128, self.time(units)]).checked_div(slot)?;
-        let sent = product(&[self.packets(units), period as u128]);
+        let packets = packets_in_row(self.stream, units) as u128;
+        let sent = product(&[packets, period as u128]);
         have.checked_sub(sent.saturating_add(count as u128))
     }
 
     /// The same for the main buffer alone: the greatest number where it holds all units that can wait at once.
     pub fn main_width(self, period: u64, count: u64) -> Option<u128> {
-        if self.waiting_bytes() <= self.stream.main as u128 {
+        if self.waiting_bytes <= self.stream.main as u64 {
             return Some(u128::MAX);
         }
         let packets = (self.stream.main as u64 / PACKET_BYTES) as u128;
@@ -102,17 +101,5 @@ impl StreamRate<'_> {
         let room = product(&[period as u128, packets]);
         let sent = product(&[window.saturating_sub(1), count as u128]);
         room.checked_sub(sent.saturating_add(1))
-    }
-
-    /// The bytes of the units that can wait for their decoding at once, by their sizes or by their packets.
-    fn waiting_bytes(self) -> u128 {
-        let stream = self.stream;
-        let units = (stream.lead as u64).div_ceil((stream.interval as u64).max(1));
-        let sizes = product(&[units as u128, (stream.size as u64 + 19) as u128]);
-        let group = (stream.group as u64).max(1);
-        let groups = product(&[(units / group) as u128, stream.group_packets as u128]);
-        let rest = product(&[(units % group) as u128, self.unit_packets() as u128]);
-        let packets = groups.saturating_add(rest.min(stream.group_packets as u128));
-        sizes.min(product(&[PACKET_BYTES as u128, packets]))
     }
 }

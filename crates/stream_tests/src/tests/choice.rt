@@ -1,8 +1,10 @@
 //! Values of a second reading of the rules, and values worked by hand.
 
 use stream_choice::{
-    Needs, Recurring, are_max_packets, choose, least_rate, least_share, transport_delay,
+    Choice, Needs, PacedUnits, Recurring, are_max_packets, choose_groups, choose_pace, least_rate,
+    least_share, preferred, transport_delay,
 };
+use unit_timing::allowance::Allowance;
 
 // What is known of a stream (interval, size, rx, main), its most packets, their least share, the wait and the greatest
 // lead; and the share, the lead and the group that are chosen.
@@ -131,6 +133,14 @@ static ROWS: [Row; 14] = [
     ),
 ];
 
+// The group of a choice, none by pace.
+fn group_of(choice: &Choice) -> u8 {
+    match choice.allowance {
+        Allowance::Groups { units, .. } => units,
+        Allowance::Pace { .. } => 0,
+    }
+}
+
 fn is_chosen(row: &Row) -> bool {
     let (known, most, share, wait, lead, wanted) = *row;
     let [interval, size, rx, main] = known;
@@ -147,8 +157,8 @@ fn is_chosen(row: &Row) -> bool {
     {
         return false;
     }
-    match choose(needs, most, wait, lead) {
-        Some(choice) => Some((choice.share, choice.lead, choice.group)) == wanted,
+    match choose_groups(needs, most, wait, lead) {
+        Some(choice) => Some((choice.share, choice.lead, group_of(&choice))) == wanted,
         None => wanted.is_none(),
     }
 }
@@ -158,6 +168,115 @@ fn chosen(rt: HostRuntime) {
     for row in &ROWS {
         assert!(rt; is_chosen(row));
     }
+}
+
+// Units that need one burst at every pace.
+#[derive(Drop)]
+struct Burst {
+    packets: u64,
+}
+
+impl PacedUnits for Burst {
+    ghost burst = { λ units pace. units.packets };
+
+    fn burst_at(&self, pace: u32) -> u64 {
+        self.packets
+    }
+}
+
+// What is known of a stream, its burst, the delay and the greatest lead; and the share, the lead and the pace that are
+// chosen. The first is video of main level, the second a page of subtitles a second.
+type PaceRow = ([u32; 4], u64, u32, u32, Option<(u64, u32, u32)>);
+
+static PACES: [PaceRow; 5] = [
+    (
+        [3_600, 120_000, 18_000_000, 239_376],
+        1_295,
+        60,
+        90_000,
+        Some((15_843_640_891, 90_000, 1_950_498)),
+    ),
+    (
+        [90_000, 100, 400_000, 24_576],
+        1,
+        300,
+        90_000,
+        Some((24_522_944, 89_974, 3_019)),
+    ),
+    (
+        [2_160, 576, 2_000_000, 3_584],
+        4,
+        1_805,
+        90_000,
+        Some((62_334_902, 90_000, 7_674)),
+    ),
+    ([90_000, 100, 400_000, 24_576], 1, 300, 300, None),
+    (
+        [3_600, 120_000, 18_000_000, 239_376],
+        100_001,
+        60,
+        90_000,
+        None,
+    ),
+];
+
+// The pace of a choice, none by groups.
+fn pace_of(choice: &Choice) -> u32 {
+    match choice.allowance {
+        Allowance::Groups { .. } => 0,
+        Allowance::Pace { pace, .. } => pace,
+    }
+}
+
+fn is_paced(row: &PaceRow) -> bool {
+    let (known, packets, delay, lead, wanted) = *row;
+    let [interval, size, rx, main] = known;
+    let needs = Needs {
+        interval,
+        size,
+        rx,
+        main,
+    };
+    if !needs.is_in_range() || lead > 90_000 {
+        return false;
+    }
+    match choose_pace(needs, &Burst { packets }, delay, lead) {
+        Some(choice) => Some((choice.share, choice.lead, pace_of(&choice))) == wanted,
+        None => wanted.is_none(),
+    }
+}
+
+// Groups are preferred up to a 64th more.
+fn are_preferred() -> bool {
+    let groups = |share| Choice {
+        allowance: Allowance::Groups {
+            units: 1,
+            packets: 4,
+        },
+        lead: 1,
+        share,
+    };
+    let pace = Choice {
+        allowance: Allowance::Pace { burst: 4, pace: 1 },
+        lead: 1,
+        share: 64,
+    };
+    let kinds = [
+        preferred(Some(groups(65)), Some(pace)),
+        preferred(Some(groups(66)), Some(pace)),
+        preferred(None, Some(pace)),
+        preferred(Some(groups(66)), None),
+    ];
+    let found = kinds.map(|kind| kind.map_or(9, |choice| group_of(&choice)));
+    found == [1, 0, 0, 1]
+}
+
+#[test]
+fn paces(rt: HostRuntime) {
+    for row in &PACES {
+        assert!(rt; is_paced(row));
+    }
+    assert!(rt; are_preferred());
 }
 
 // Shares, what recurs, and the least rate.

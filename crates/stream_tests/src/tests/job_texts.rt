@@ -4,6 +4,7 @@ use job_text::{Heading, ProgramPart, StreamPart, texts_are_read};
 use linked_list_allocator::LocalHeap;
 use std::alloc::{AllocError, Allocator, Global};
 use unit_records::records_are_read;
+use unit_timing::allowance::Allowance;
 
 const HEADING: Heading<'static> = Heading {
     rate: 8_000_000,
@@ -51,8 +52,10 @@ static STREAMS: [StreamPart<'static>; 2] = [
         rx: 2_000_000,
         main: 3_584,
         descriptors: &[0x0A, 0x04, 0x65, 0x6E, 0x67, 0x00],
-        group: 1,
-        group_packets: 4,
+        allowance: Allowance::Groups {
+            units: 1,
+            packets: 4,
+        },
     },
     StreamPart {
         program: 65_535,
@@ -65,8 +68,10 @@ static STREAMS: [StreamPart<'static>; 2] = [
         rx: 24_000_000,
         main: 3_766_000,
         descriptors: &[],
-        group: 10,
-        group_packets: 2_000,
+        allowance: Allowance::Pace {
+            burst: 2_000,
+            pace: 3_217_300,
+        },
     },
 ];
 
@@ -112,12 +117,12 @@ size = 576
 type = 3
 
 [[stream]]
-group = 10
-group_packets = 2000
+burst_packets = 2000
 id = 224
 interval = 3600
 lead = 45000
 main = 3766000
+pace = 3217300
 pid = 300
 program = 65535
 rx = 24000000

@@ -4,18 +4,19 @@ use demux::{Finding, Kind, Part, What};
 use pes_packet::{PesHeader, Stamps};
 use psi_tables::check_word;
 use std::alloc::{AllocError, Global};
-use stream_jobs::{JobInput, JobOptions, job_input};
+use stream_jobs::{DeclareBy, JobInput, JobOptions, job_input};
 
 /// Findings, one after another.
 pub type Found = Vec<Finding<'static>>;
 
-/// The options of a job at 2 Mbit/s.
+/// The options of a job at 2 Mbit/s, declared by groups.
 pub fn usual() -> JobOptions<'static> {
     JobOptions {
         rate: Some(2_000_000),
         start: "2026-03-29T00:59:50",
         pcr_limit: 40,
         lead: 90_000,
+        declare_by: DeclareBy::Groups,
         make_dts: false,
         programs: &[],
         without: &[],

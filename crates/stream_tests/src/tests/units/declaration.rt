@@ -4,8 +4,9 @@ use super::moments::moved;
 use clock27::Rate;
 use pes_packet::Unit;
 use std::alloc::Global;
-use stream_units::{group_packets, max_unit_size, min_interval};
+use stream_units::{burst_packets, group_packets, max_unit_size, min_interval};
 use unit_queue::{FeedError, StreamParameters, UnitQueue};
+use unit_timing::allowance::Allowance;
 
 // Four units of 1, 2, 1 and 1 packets.
 static FOUR: [(u64, u64, usize); 4] = [
@@ -15,16 +16,54 @@ static FOUR: [(u64, u64, usize); 4] = [
     (190_800, 190_800, 170),
 ];
 
-// Whether that is what a stream declares of them.
+// Whether that is what a stream declares of them. A packet takes 3,600 units of 90 kHz at 37,600 bits a second, and a little
+// less than 3,599 at 37,611.
 fn is_declared(units: &[Unit]) -> bool {
     min_interval(units) == 3_599
         && max_unit_size(units) == 340
         && group_packets(0, units, 1) == 2
         && group_packets(0, units, 3) == 4
+        && burst_packets(0, units, 37_600) == 3
+        && burst_packets(0, units, 37_611) == 2
 }
 
-// A queue that declares `packets` packets in a group of three.
-fn queue_of(alloc: Global, packets: u32) -> Option<UnitQueue<Global>> {
+// What is declared, and why a queue refuses one of the units: the third is due 3,599 after the second.
+static DECLARED: [(Allowance, Option<FeedError>); 4] = [
+    (
+        Allowance::Groups {
+            units: 3,
+            packets: 4,
+        },
+        None,
+    ),
+    (
+        Allowance::Groups {
+            units: 3,
+            packets: 3,
+        },
+        Some(FeedError::Group),
+    ),
+    (
+        Allowance::Pace {
+            burst: 3,
+            pace: 37_600,
+        },
+        None,
+    ),
+    (
+        Allowance::Pace {
+            burst: 2,
+            pace: 37_600,
+        },
+        Some(FeedError::Pace),
+    ),
+];
+
+// A queue that declares it.
+fn queue_of(alloc: Global, allowance: Allowance) -> Option<UnitQueue<Global>> {
+    if allowance.rows() == 0 {
+        return None;
+    }
     let rate = Rate::new(1_504_000).ok()?;
     let rules = StreamParameters {
         rate,
@@ -34,8 +73,7 @@ fn queue_of(alloc: Global, packets: u32) -> Option<UnitQueue<Global>> {
         lead: 90_000,
         interval: 3_599,
         size: 340,
-        group: 3,
-        group_packets: packets,
+        allowance,
     };
     UnitQueue::new(alloc, rules, 4).ok()
 }
@@ -56,9 +94,9 @@ fn refusal_of(queue: &mut UnitQueue<Global>, units: Vec<Unit>) -> Option<FeedErr
     refused
 }
 
-// Whether a queue that declares `packets` packets in a group of three gives this refusal of the units.
-fn is_fed(alloc: Global, packets: u32, wanted: Option<FeedError>) -> bool {
-    let (Some(mut queue), Some(Ok(units))) = (queue_of(alloc, packets), moved(alloc, 0, &FOUR))
+// Whether a queue that declares it gives this refusal of the units.
+fn is_fed(alloc: Global, allowance: Allowance, wanted: Option<FeedError>) -> bool {
+    let (Some(mut queue), Some(Ok(units))) = (queue_of(alloc, allowance), moved(alloc, 0, &FOUR))
     else {
         return false;
     };
@@ -77,10 +115,12 @@ fn are_few(alloc: Global) -> bool {
         && max_unit_size::<Global>(&[]) == 0
 }
 
-// What a stream declares of units, so that a queue takes each; with one packet less in a group of three it refuses the
-// third.
+// What a stream declares of units, so that a queue takes each; with one packet less in a group of three, or in a burst, it
+// refuses the third.
 #[test]
 fn a_declaration_that_units_keep(rt: HostRuntime) {
-    assert!(rt; is_fed(rt.alloc(), 4, None) && is_fed(rt.alloc(), 3, Some(FeedError::Group)));
+    for (allowance, wanted) in &DECLARED {
+        assert!(rt; is_fed(rt.alloc(), *allowance, *wanted));
+    }
     assert!(rt; are_few(rt.alloc()));
 }

@@ -1,9 +1,10 @@
 use Rattle.std.proofs.Common.{◌≡◌, ◌+◌, ◌-◌}
+use Rattle.unit_timing.specs.Allowances.{allowance_rows}
 use Rattle.slot_plan.specs.Entries.{first_failing}
 use Rattle.slot_plan.specs.Conditions.{entries_from}
 use Rattle.plan_checker.specs.SwitchShares.{deadline_entry}
 use Rattle.plan_checker.proofs.switch.leads.lead_switch.Given as goal
 
 abbrev pub invariant-loop-before : goal.invariant-loop-before
-invariant-loop-before l = first_failing (entries_from (deadline_entry l.rate l.shares l.i l.stream) 1 l.stream.group)
-    ≡ first_failing (entries_from (deadline_entry l.rate l.shares l.i l.stream) (l.before + 1) (l.stream.group - l.before))
+invariant-loop-before l = first_failing (entries_from (deadline_entry l.rate l.shares l.i l.stream) 1 (allowance_rows l.stream.allowance))
+    ≡ first_failing (entries_from (deadline_entry l.rate l.shares l.i l.stream) (l.before + 1) (allowance_rows l.stream.allowance - l.before))

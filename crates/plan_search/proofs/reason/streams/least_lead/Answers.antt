@@ -2,6 +2,7 @@ use Rattle.std.proofs.Common.{◌≡◌, ◌+◌, max, ℕ, arith, ap, ap₂, sy
 use Rattle.own_slots.specs.Extremes.{greatest}
 use Rattle.own_slots.proofs.Extremes.{greatest_none, greatest_more}
 use Rattle.clock27.proofs.MinMax.{max_is}
+use Rattle.unit_timing.specs.Allowances.{allowance_rows}
 use Rattle.plan_search.specs.Reasons.{units_lead}
 use Rattle.plan_search.proofs.reason.streams.least_lead.Goals as goal
 
@@ -16,5 +17,5 @@ loop-before-preserved c =
 
 pub returns : goal.returns
 returns c =
-    let end : c.loop-before.before ≡ c.args.stream.now.group = omega arith in
+    let end : c.loop-before.before ≡ allowance_rows c.args.stream.now.allowance = omega (arith, c.rows-before-end.ensures) in
     record { lead = c.loop-before.invariant ∙ ap (λ (n : ℕ). greatest n (λ before. units_lead c.args.description.now c.args.stream.now (before + 1))) end }

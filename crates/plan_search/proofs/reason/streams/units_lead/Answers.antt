@@ -2,7 +2,6 @@ use Rattle.std.proofs.Common.{ℕ, ◌+◌, ◌*◌, ◌/◌, ◌^◌, ◌<◌, 
 use Rattle.std.specs.Int.{div_ceil}
 use Rattle.std.proofs.Math.Nat.{mul-le-mul_left, div-mul-le_self}
 use Rattle.std.proofs.lemmas.Nat.{mul-le}
-use Rattle.description.specs.Tables.{greatest_unit_packets}
 use Rattle.clock27.proofs.MinMax.{max_is}
 use Rattle.plan_search.proofs.reason.streams.units_lead.Goals as goal
 
@@ -15,9 +14,8 @@ overflow_cast-div_ceil c =
     let s = c.args.stream.now in
     let r = c.requires.ranges in
     let rate : ℕ = c.bits_per_second-rate.result in
-    let few : s.group_packets ≤ 64 * 21741 = omega (arith, r.most_packets, mul-le s.group (greatest_unit_packets s) 64 21741 r.most_group (omega (arith, r.most_size))) in
     let high : c.max.result ≤ 200000000 = omega (arith, c.max.ensures, max_is rate s.rx, c.bits_per_second-rate.ensures.value, c.bits_per_second-rate.ensures.greatest, r.most_rx) in
-    let top = mul-le c.packets_in_row-packets.result c.max.result (64 * 21741) 200000000 (omega (arith, c.packets_in_row-packets.ensures.bound, few)) high in
+    let top = mul-le c.packets_in_row-packets.result c.max.result 1391360 200000000 (c.packets_in_row-packets.ensures.bound r) high in
     let slow : 100000 ≤ rate = omega (arith, c.bits_per_second-rate.ensures.value, c.bits_per_second-rate.ensures.least) in
     let fast : rate ≤ 100000000 = omega (arith, c.bits_per_second-rate.ensures.value, c.bits_per_second-rate.ensures.greatest) in
     let bottom = mul-le 100000 64000 rate s.rx slow r.least_rx in

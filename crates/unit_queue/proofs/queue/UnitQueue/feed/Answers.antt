@@ -1,12 +1,10 @@
-use Rattle.std.proofs.Common.{rules, ◌≡◌, ◌+◌, ◌++◌, ◌∷◌, [], ℕ, Some, length, nat_le, sym, ap, ◌∙◌, arith, subst}
-use Rattle.pes_packet.specs.Encoding.{pes_header_bytes}
-use Rattle.pes_packet.specs.Payloads.{piece_count}
+use Rattle.std.proofs.Common.{rules, ◌≡◌, ◌+◌, ◌++◌, ◌∷◌, [], Some, None, length, nat_le, sym, ◌∙◌, arith, subst}
 use Rattle.unit_queue.specs.declared.parameters.StreamParameters.{StreamParameters}
-use Rattle.unit_queue.specs.QueueSteps.{late_at, exceeds, packets_in}
-use Rattle.unit_queue.specs.Causes.{own_cause, time_cause, room_cause}
+use Rattle.unit_queue.specs.QueueSteps.{late_at, is_over_for, timed_by}
+use Rattle.unit_queue.specs.Causes.{own_cause, time_cause, packets_cause, room_cause}
 use Rattle.unit_queue.specs.Queues.{Queue, QueueHolds, ParametersInRange, IsUnit}
 use Rattle.unit_queue.proofs.QueueStates.{cause_law, fed_law}
-use Rattle.unit_queue.proofs.CauseLemmas.{or_first, or_rest, unit_is, fits_unit, greatest_most, pes_size, queued_is, accepted_is, room_facts, not_le}
+use Rattle.unit_queue.proofs.CauseLemmas.{or_first, unit_is, fits_unit, size_few, timed_is, room_is, queued_is, accepted_is, room_facts, not_le}
 use Rattle.unit_queue.proofs.queue.UnitQueue.feed.Goals as goal
 
 pub returns-in-Err-clause-cause : goal.returns-in-Err-clause-cause
@@ -14,8 +12,9 @@ returns-in-Err-clause-cause g c =
     let q = c.args.self.now in
     let u = c.args.unit in
     or_first (own_cause q.parameters.size q.min_next_dts u) (time_cause (late_at q.parameters c.args.slots u.dts) u.dts)
-    (room_cause (nat_le q.capacity (length q.units)) (exceeds q (packets_in q.parameters u))) c.in-Err.cause c.in-Err.ensures.cause
+    (room_cause (nat_le q.capacity (length q.units)) (packets_cause q.parameters.allowance (is_over_for q (timed_by q.parameters u)))) c.in-Err.cause c.in-Err.ensures.cause
 
+-- the unit is one that its stream accepts
 pub header-header-requires-clause-fits : goal.header-header-requires-clause-fits
 header-header-requires-clause-fits g c =
     let q = c.args.self.now in
@@ -35,29 +34,27 @@ header-header-requires-clause-pts g c =
     let unit = unit_is q.parameters q.min_next_dts (late_at q.parameters c.args.slots c.args.unit.dts) c.args.unit c.in-Ok.ensures.cause in
     omega (arith, unit.last, unit.soon)
 
-pub packet_count-packets-requires : goal.packet_count-packets-requires
-packet_count-packets-requires g c =
+pub room-requires : goal.room-requires
+room-requires g c =
     let q = c.args.self.now in
     let unit = unit_is q.parameters q.min_next_dts (late_at q.parameters c.args.slots c.args.unit.dts) c.args.unit c.in-Ok.ensures.cause in
-    let same : c.args.self.now.parameters.size ≡ c.self.inside.parameters.size = search rules in
+    let same : c.args.self.now.parameters ≡ c.self.inside.parameters = search rules in
     let bytes : c.len-2.result ≡ length c.args.unit.bytes = search rules in
-    omega (arith, unit.most, same, bytes, c.self.invariant.size, greatest_most c.self.inside.parameters.stream_id, c.len.ensures.fits)
+    let few = size_few c.self.inside.parameters c.args.unit c.len.result c.self.invariant (subst (λ (r : StreamParameters). IsUnit r c.args.unit) same unit) c.len.ensures.fits in
+    omega (arith, bytes, few)
 
 pub returns-in-Some-clause-cause : goal.returns-in-Some-clause-cause
 returns-in-Some-clause-cause g c =
     let q = c.args.self.now in
     let u = c.args.unit in
+    let size = c.len.result + c.len-2.result in
     let same : c.self.inside.parameters ≡ c.args.self.now.parameters = search rules in
-    let header : c.header-header.result.items ≡ pes_header_bytes c.args.self.now.parameters.stream_id (length c.args.unit.bytes) (c.args.unit.pts + c.args.self.now.parameters.base0) (c.args.unit.dts + c.args.self.now.parameters.base0) =
-    subst (λ (r : StreamParameters). c.header-header.result.items ≡ pes_header_bytes r.stream_id (length c.args.unit.bytes) (c.args.unit.pts + r.base0) (c.args.unit.dts + r.base0)) same c.header-header.ensures in
+    let dts : c.unit.inside.dts ≡ c.args.unit.dts = search rules in
     let parts : c.len.result + c.len-2.result ≡ length c.header-header.result.items + length c.args.unit.bytes = search rules in
-    let packets : c.packet_count-packets.result ≡ packets_in c.args.self.now.parameters c.args.unit =
-    c.packet_count-packets.ensures ∙ ap piece_count (parts ∙ pes_size q.parameters u c.header-header.result.items header) in
-    let room : Some c.in-Some.cause ≡ room_cause (nat_le c.args.self.now.capacity (length c.args.self.now.units)) (exceeds c.args.self.now (packets_in c.args.self.now.parameters c.args.unit)) =
-    c.in-Some.ensures ∙ ap (λ (n : ℕ). room_cause (nat_le q.capacity (length q.units)) (exceeds q n)) packets in
-    room ∙ sym (or_rest (own_cause q.parameters.size q.min_next_dts u) (time_cause (late_at q.parameters c.args.slots u.dts) u.dts)
-    (room_cause (nat_le q.capacity (length q.units)) (exceeds q (packets_in q.parameters u))) c.in-Ok.ensures.cause)
+    let timed = timed_is q.parameters c.self.inside.parameters u c.unit.inside.dts size c.header-header.result.items same dts parts c.header-header.ensures in
+    room_is q c.args.slots u (record { dts = c.unit.inside.dts; size = size }) (Some c.in-Some.cause) timed c.in-Ok.ensures.cause c.in-Some.ensures
 
+-- there is room for it, and it is within what is allowed
 pub push-requires-clause-dts : goal.push-requires-clause-dts
 push-requires-clause-dts g c =
     let q = c.args.self.now in
@@ -65,38 +62,47 @@ push-requires-clause-dts g c =
     let same : c.unit.inside.dts ≡ c.args.unit.dts = search rules in
     omega (arith, unit.last, same)
 
+pub push-requires-clause-size : goal.push-requires-clause-size
+push-requires-clause-size g c =
+    let q = c.args.self.now in
+    let unit = unit_is q.parameters q.min_next_dts (late_at q.parameters c.args.slots c.args.unit.dts) c.args.unit c.in-Ok.ensures.cause in
+    let same : c.args.self.now.parameters ≡ c.self.inside.parameters = search rules in
+    let bytes : c.len-2.result ≡ length c.args.unit.bytes = search rules in
+    let few = size_few c.self.inside.parameters c.args.unit c.len.result c.self.invariant (subst (λ (r : StreamParameters). IsUnit r c.args.unit) same unit) c.len.ensures.fits in
+    omega (arith, bytes, few)
+
 pub push-requires-clause-room : goal.push-requires-clause-room
 push-requires-clause-room g c =
     let q = c.args.self.now in
-    not_le q.capacity (length q.units) (room_facts (nat_le q.capacity (length q.units)) (exceeds q c.packet_count-packets.result) (sym c.in-None.ensures)).0
+    not_le q.capacity (length q.units) (room_facts q.parameters.allowance (nat_le q.capacity (length q.units)) _ (sym c.in-None.ensures)).0
+
+pub push-requires-clause-within : goal.push-requires-clause-within
+push-requires-clause-within g c =
+    let q = c.args.self.now in
+    (room_facts q.parameters.allowance (nat_le q.capacity (length q.units)) _ (sym c.in-None.ensures)).1
 
 pub returns-in-None-clause-cause : goal.returns-in-None-clause-cause
 returns-in-None-clause-cause g c =
     let q = c.args.self.now in
     let u = c.args.unit in
+    let size = c.len.result + c.len-2.result in
     let same : c.self.inside.parameters ≡ c.args.self.now.parameters = search rules in
-    let header : c.header-header.result.items ≡ pes_header_bytes c.args.self.now.parameters.stream_id (length c.args.unit.bytes) (c.args.unit.pts + c.args.self.now.parameters.base0) (c.args.unit.dts + c.args.self.now.parameters.base0) =
-    subst (λ (r : StreamParameters). c.header-header.result.items ≡ pes_header_bytes r.stream_id (length c.args.unit.bytes) (c.args.unit.pts + r.base0) (c.args.unit.dts + r.base0)) same c.header-header.ensures in
+    let dts : c.unit.inside.dts ≡ c.args.unit.dts = search rules in
     let parts : c.len.result + c.len-2.result ≡ length c.header-header.result.items + length c.args.unit.bytes = search rules in
-    let packets : c.packet_count-packets.result ≡ packets_in c.args.self.now.parameters c.args.unit =
-    c.packet_count-packets.ensures ∙ ap piece_count (parts ∙ pes_size q.parameters u c.header-header.result.items header) in
-    c.in-None.ensures ∙ ap (λ (n : ℕ). room_cause (nat_le q.capacity (length q.units)) (exceeds q n)) packets
-    ∙ sym (or_rest (own_cause q.parameters.size q.min_next_dts u) (time_cause (late_at q.parameters c.args.slots u.dts) u.dts)
-    (room_cause (nat_le q.capacity (length q.units)) (exceeds q (packets_in q.parameters u))) c.in-Ok.ensures.cause)
+    let timed = timed_is q.parameters c.self.inside.parameters u c.unit.inside.dts size c.header-header.result.items same dts parts c.header-header.ensures in
+    room_is q c.args.slots u (record { dts = c.unit.inside.dts; size = size }) None timed c.in-Ok.ensures.cause c.in-None.ensures
 
 pub returns-in-None-clause-state : goal.returns-in-None-clause-state
 returns-in-None-clause-state g c =
     let q = c.args.self.now in
     let u = c.args.unit in
+    let size = c.len.result + c.len-2.result in
     let same : c.self.inside.parameters ≡ c.args.self.now.parameters = search rules in
-    let header : c.header-header.result.items ≡ pes_header_bytes c.args.self.now.parameters.stream_id (length c.args.unit.bytes) (c.args.unit.pts + c.args.self.now.parameters.base0) (c.args.unit.dts + c.args.self.now.parameters.base0) =
-    subst (λ (r : StreamParameters). c.header-header.result.items ≡ pes_header_bytes r.stream_id (length c.args.unit.bytes) (c.args.unit.pts + r.base0) (c.args.unit.dts + r.base0)) same c.header-header.ensures in
-    let parts : c.len.result + c.len-2.result ≡ length c.header-header.result.items + length c.args.unit.bytes = search rules in
-    let packets : c.packet_count-packets.result ≡ packets_in c.args.self.now.parameters c.args.unit =
-    c.packet_count-packets.ensures ∙ ap piece_count (parts ∙ pes_size q.parameters u c.header-header.result.items header) in
     let dts : c.unit.inside.dts ≡ c.args.unit.dts = search rules in
-    c.push.ensures ∙ accepted_is q u c.unit.inside.dts c.packet_count-packets.result c.new.result dts packets
-    (c.new.ensures ∙ queued_is q.parameters u c.in-Ok.slot c.header-header.result.items c.in-Ok.ensures.slot header)
+    let parts : c.len.result + c.len-2.result ≡ length c.header-header.result.items + length c.args.unit.bytes = search rules in
+    let timed = timed_is q.parameters c.self.inside.parameters u c.unit.inside.dts size c.header-header.result.items same dts parts c.header-header.ensures in
+    let taken = queued_is q.parameters c.self.inside.parameters u c.in-Ok.slot c.header-header.result.items same c.in-Ok.ensures.slot c.header-header.ensures in
+    c.push.ensures ∙ accepted_is q u (record { dts = c.unit.inside.dts; size = size }) c.new.result timed (c.new.ensures ∙ taken)
 
 -- a queue refuses a unit for the cause that its history has, and with an accepted unit stands for one unit more
 pub returns-in-Err-clause-refused : goal.returns-in-Err-clause-refused

@@ -1,0 +1,206 @@
+//! What a description declares of the packets of a stream's units: by groups or by pace.
+
+ghost use Rattle.std.specs.Prelude.{◌≡◌, ◌≤◌, ◌-◌, ◌^◌, min, sum_by, zip, IfErr, IfOk, IsTrue, Ok};
+ghost use Rattle.stream_choice.specs.Ranges.{IsNeeds, AreMaxPackets};
+ghost use Rattle.stream_jobs.specs.Answers.{Answers, Refuses, each};
+ghost use Rattle.stream_jobs.specs.Declarations as spec;
+
+use crate::declarations::UnitCounts;
+use crate::job_options::DeclareBy;
+use crate::job_stream::TimedStream;
+use crate::refusal::{JobError, JobRefusal};
+use clock27::{LEAST_RATE, SLOT_UNITS_AT_1BPS};
+use pes_packet::Unit;
+use std::alloc::Global;
+use stream_choice::{
+    Choice, PacedUnits, are_max_packets, choose_groups, choose_pace, least_share, preferred,
+    transport_delay,
+};
+use stream_units::burst_packets;
+use unit_timing::shares::PARTS;
+
+/// The share of an output of the least rate.
+const LEAST_OUTPUT: u64 = (PARTS as u128 * LEAST_RATE as u128 / SLOT_UNITS_AT_1BPS) as u64;
+
+// Whether a stream can be declared with some group.
+#[tactic(auto, unfolding(crate::specs::Declarations::is_countable))]
+fn is_countable(unit_counts: &UnitCounts) -> bool
+    ensures value { result ≡ spec.is_countable unit_counts.now }
+    ensures needs { IsTrue result → IsNeeds unit_counts.now.needs }
+    ensures packets { IsTrue result → AreMaxPackets unit_counts.now.max_group_packets }
+{
+    unit_counts.needs.is_in_range() && are_max_packets(&unit_counts.max_group_packets)
+}
+
+// The least share that a stream needs.
+#[tactic(auto, unfolding(crate::specs::Declarations::share_of))]
+fn share_of(unit_counts: &UnitCounts) -> u64
+    ensures { result ≡ spec.share_of unit_counts.now }
+{
+    if is_countable(unit_counts) {
+        least_share(unit_counts.needs, &unit_counts.max_group_packets)
+    } else {
+        0
+    }
+}
+
+// The sum of the shares, or the greatest number if they are more.
+fn shares_sum(all: &[UnitCounts]) -> u64
+    ensures { result ≡ min (sum_by spec.share_of all.now) (2 ^ 64 - 1) }
+{
+    let mut sum: u64 = 0;
+    for unit_counts in all {
+        sum = sum.saturating_add(share_of(unit_counts));
+    }
+    sum
+}
+
+/// The least share of the multiplex that these streams take together by groups, at least that of an output of the least
+/// rate.
+#[tactic(auto, unfolding(crate::specs::Declarations::shares_of))]
+pub(crate) fn shares_of(all: &[UnitCounts]) -> u64
+    ensures value { result ≡ spec.shares_of all.now }
+    ensures least { 2 ^ 17 ≤ result }
+{
+    shares_sum(all).max(LEAST_OUTPUT)
+}
+
+// The units of a stream, whose bursts are known at any pace.
+#[derive(Clone, Copy)]
+struct StreamBursts<'a> {
+    units: &'a [Unit],
+}
+
+impl PacedUnits for StreamBursts<'_> {
+    ghost burst = { λ s. spec.burst_of s.units.now };
+
+    fn burst_at(&self, pace: u32) -> u64 {
+        burst_packets(0, self.units, pace)
+    }
+}
+
+// What a stream of these units declares by groups.
+#[tactic(auto, unfolding(crate::specs::Declarations::groups_of))]
+fn groups_of(greatest_lead: u32, sum: u64, unit_counts: &UnitCounts) -> Option<Choice>
+    requires { 2 ^ 17 ≤ sum }
+    ensures { result ≡ spec.groups_of greatest_lead sum unit_counts.now }
+{
+    if is_countable(unit_counts) {
+        let needs = unit_counts.needs;
+        let lead = greatest_lead.min(90_000);
+        choose_groups(
+            needs,
+            &unit_counts.max_group_packets,
+            transport_delay(needs.rx, sum),
+            lead,
+        )
+    } else {
+        None
+    }
+}
+
+// What it declares by pace.
+#[tactic(auto, unfolding(crate::specs::Declarations::pace_of))]
+fn pace_of(greatest_lead: u32, sum: u64, units: &[Unit], unit_counts: &UnitCounts) -> Option<Choice>
+    requires { 2 ^ 17 ≤ sum }
+    ensures { result ≡ spec.pace_of greatest_lead sum units.now unit_counts.now }
+{
+    let needs = unit_counts.needs;
+    if needs.is_in_range() {
+        let lead = greatest_lead.min(90_000);
+        let delay = transport_delay(needs.rx, sum);
+        choose_pace(needs, &StreamBursts { units }, delay, lead)
+    } else {
+        None
+    }
+}
+
+// What it declares.
+fn choice_of(
+    declare_by: DeclareBy,
+    greatest_lead: u32,
+    sum: u64,
+    units: &[Unit],
+    unit_counts: &UnitCounts,
+) -> Option<Choice>
+    requires { 2 ^ 17 ≤ sum }
+    ensures { result ≡ spec.choice_of declare_by greatest_lead sum units.now unit_counts.now }
+{
+    match declare_by {
+        DeclareBy::Groups => groups_of(greatest_lead, sum, unit_counts),
+        DeclareBy::Pace => pace_of(greatest_lead, sum, units, unit_counts),
+        DeclareBy::Either => preferred(
+            groups_of(greatest_lead, sum, unit_counts),
+            pace_of(greatest_lead, sum, units, unit_counts),
+        ),
+    }
+}
+
+// What a stream declares; refused if nothing fits its buffers.
+#[tactic(auto, unfolding(crate::specs::Declarations::chosen, crate::specs::Answers::Answers, crate::specs::Answers::Refuses))]
+fn chosen(
+    declare_by: DeclareBy,
+    greatest_lead: u32,
+    sum: u64,
+    stream: &TimedStream,
+    unit_counts: &UnitCounts,
+) -> Result<Choice, JobError>
+    requires { 2 ^ 17 ≤ sum }
+    ensures { Answers (spec.chosen declare_by greatest_lead sum (stream.now, unit_counts.now)) result }
+{
+    match choice_of(declare_by, greatest_lead, sum, &stream.units, unit_counts) {
+        Some(choice) => Ok(choice),
+        None => Err(JobError::Refused(JobRefusal::Buffers {
+            pid: stream.pid,
+            size: unit_counts.needs.size,
+            rx: unit_counts.needs.rx,
+            main: unit_counts.needs.main,
+        })),
+    }
+}
+
+// What all streams declare at this sum of shares.
+#[tactic(auto, unfolding(crate::specs::Answers::Refuses))]
+fn each_choice(
+    alloc: Global,
+    declare_by: DeclareBy,
+    greatest_lead: u32,
+    sum: u64,
+    streams: &[TimedStream],
+    all: &[UnitCounts],
+) -> Result<Vec<Choice>, JobError>
+    requires { 2 ^ 17 ≤ sum }
+    ensures chosen { IfOk result (λ chosen. each (spec.chosen declare_by greatest_lead sum) (zip streams.now all.now)
+        ≡ Ok chosen.items) }
+    ensures refused { IfErr result (Refuses (each (spec.chosen declare_by greatest_lead sum) (zip streams.now all.now))) }
+{
+    let mut choices = Vec::new(alloc);
+    let mut left = streams;
+    let mut others = all;
+    while let Some((stream, later)) = left.split_first() {
+        let Some((unit_counts, more)) = others.split_first() else {
+            return Ok(choices);
+        };
+        let next = chosen(declare_by, greatest_lead, sum, stream, unit_counts)?;
+        choices.push(next)?;
+        left = later;
+        others = more;
+    }
+    Ok(choices)
+}
+
+/// What each stream declares.
+#[tactic(auto, unfolding(crate::specs::Declarations::choices))]
+pub(crate) fn choices(
+    alloc: Global,
+    declare_by: DeclareBy,
+    greatest_lead: u32,
+    streams: &[TimedStream],
+    all: &[UnitCounts],
+) -> Result<Vec<Choice>, JobError>
+    ensures chosen { IfOk result (λ chosen. spec.choices declare_by greatest_lead streams.now all.now ≡ Ok chosen.items) }
+    ensures refused { IfErr result (Refuses (spec.choices declare_by greatest_lead streams.now all.now)) }
+{
+    let sum = shares_of(all);
+    each_choice(alloc, declare_by, greatest_lead, sum, streams, all)
+}

@@ -1,0 +1,104 @@
+//! What is counted of the packets of accepted units, by which those of the next unit are judged.
+
+ghost use Rattle.std.specs.Prelude.{◌≡◌, ◌<◌, ◌+◌, ◌^◌, nat_lt, false, sum, IfOk};
+ghost use Rattle.unit_timing.specs.Allowances.{allowance_rows};
+ghost use Rattle.unit_timing.specs.Levels.{next_level};
+ghost use Rattle.unit_queue.specs.Tallies.{empty_tally, exceeds, level_with, counted};
+
+use crate::pieces::packet_count;
+use circular_buffer::HeapCircularBuffer;
+use clock27::SLOT_UNITS_AT_1BPS;
+use std::alloc::{AllocError, Allocator};
+use std::marker::Model;
+use unit_timing::allowance::Allowance;
+
+/// The packets of the units before, as far as those of the next unit are judged by them: its memory is taken by `new`.
+#[derive(Drop)]
+pub(crate) struct PacketTally<A: Allocator> {
+    // By groups, the number of packets of each unit in the same group as the next; by pace nothing.
+    recent: HeapCircularBuffer<u64, A>,
+    // By pace, the packets so far less those that the pace took off, in parts of which a packet has 135,360,000; by
+    // groups 0.
+    level: u64,
+}
+
+impl<A: Allocator> Model for PacketTally<A> {
+    ghost use Rattle.unit_queue.specs.Tallies.{Tally};
+
+    ghost Value = { Tally };
+
+    ghost view = { λ tally. record { recent = tally.recent.items; span = tally.recent.capacity; level = tally.level } };
+}
+
+impl<A: Allocator> PacketTally<A> {
+    /// The tally of a stream with no unit.
+    pub fn new(alloc: A, allowance: Allowance) -> Result<PacketTally<A>, AllocError>
+        requires { 0 < allowance_rows allowance }
+        ensures { IfOk result (λ tally. tally ≡ empty_tally allowance) }
+    {
+        let recent = HeapCircularBuffer::with_capacity(alloc, allowance.rows() as usize - 1)?;
+        Ok(PacketTally { recent, level: 0 })
+    }
+
+    /// Whether a unit of this DTS and size in bytes has more packets than are allowed, where the unit before is due at
+    /// `last`.
+    pub fn exceeds(&self, allowance: Allowance, last: u64, dts: u64, size: usize) -> bool
+        requires { size < 2 ^ 63 }
+        ensures { result ≡ exceeds allowance self.now last (record { dts = dts; size = size }) }
+    {
+        match allowance {
+            Allowance::Groups { packets, .. } => self.exceeds_group(packets, packet_count(size)),
+            Allowance::Pace { burst, pace } => {
+                self.next_level(pace, last, dts, size) > u128::from(burst) * SLOT_UNITS_AT_1BPS
+            }
+        }
+    }
+
+    /// Counts a unit that is within what is allowed.
+    pub fn add(&mut self, allowance: Allowance, last: u64, dts: u64, size: usize)
+        requires size { size < 2 ^ 63 }
+        requires within { exceeds allowance self.old last (record { dts = dts; size = size }) ≡ false }
+        ensures { self.new ≡ counted allowance self.old last (record { dts = dts; size = size }) }
+    {
+        self.level = self.level_with(allowance, last, dts, size);
+        let _ = self.recent.push_back(packet_count(size));
+    }
+
+    // Whether a unit of this number of packets is too large for its group.
+    fn exceeds_group(&self, most: u32, packets: u64) -> bool
+        ensures { result ≡ nat_lt most (sum self.now.recent + packets) }
+    {
+        let Some(mut left) = u64::from(most).checked_sub(packets) else {
+            return true;
+        };
+        for before in self.recent.iter() {
+            let Some(rest) = left.checked_sub(*before) else {
+                return true;
+            };
+            left = rest;
+        }
+        false
+    }
+
+    // The level with a unit that is within what is allowed; by groups 0.
+    fn level_with(&self, allowance: Allowance, last: u64, dts: u64, size: usize) -> u64
+        requires size { size < 2 ^ 63 }
+        requires within { exceeds allowance self.now last (record { dts = dts; size = size }) ≡ false }
+        ensures { result ≡ level_with allowance self.now last (record { dts = dts; size = size }) }
+    {
+        match allowance {
+            Allowance::Groups { .. } => 0,
+            Allowance::Pace { pace, .. } => self.next_level(pace, last, dts, size) as u64,
+        }
+    }
+
+    // The level with a further unit: what the pace takes off until its DTS, no more than there is, and its packets.
+    fn next_level(&self, pace: u32, last: u64, dts: u64, size: usize) -> u128
+        requires { size < 2 ^ 63 }
+        ensures { result ≡ next_level pace self.now.level last (record { dts = dts; size = size }) }
+    {
+        let taken_off = u128::from(pace) * u128::from(dts.saturating_sub(last));
+        let added = u128::from(packet_count(size)) * SLOT_UNITS_AT_1BPS;
+        u128::from(self.level).saturating_sub(taken_off) + added
+    }
+}
