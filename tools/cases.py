@@ -1,6 +1,8 @@
 """What the files of a case say (cases/README.md): its command lines, and bytes, as they stand or as parts that are joined. The tools
 that run the programs take their inputs here."""
 
+import os
+import re
 import shlex
 import subprocess
 from pathlib import Path
@@ -20,7 +22,12 @@ def commands(case):
     lines = [shlex.split(line, comments=True) for line in (case / "commands").read_text().splitlines()]
     if any(words and words[0] != case.parent.name for words in lines):
         raise ValueError(f"each command line begins with {case.parent.name}")
-    return [words[1:] for words in lines if words]
+    return [list(map(word, words[1:])) for words in lines if words]
+
+
+def word(text):
+    """A word as a shell takes it: $'\\xFF' is the byte FF, which is no UTF-8."""
+    return re.sub(r"\$\\x(..)", lambda byte: os.fsdecode(bytes.fromhex(byte[1])), text)
 
 
 def given(case, name, program=None):
@@ -29,17 +36,17 @@ def given(case, name, program=None):
 
 
 def rows(case, program=None):
-    """Of each row of a case its input, and the status, the output and the fault lines that are the answer."""
+    """Of each row of a case its input, the status, the output and the fault lines that are the answer, and whether the output may go on."""
     path = case / "rows"
     for line in path.read_text().splitlines() if path.exists() else []:
         if line and line[0] != "#":
             answer, *parts = line.split(" | ")
             status, where, text = answer.split(" ", 2)
-            if where not in ("output", "fault"):
-                raise ValueError(f"a row's answer is on output or fault, not on {where}")
+            if where not in ("output", "begins", "fault"):
+                raise ValueError(f"a row's answer is on output, begins it, or is a fault, not {where}")
             told = lines(text).encode() + b"\n"
             data = b"".join(part(case, *one.split(" ", 1), program) for one in parts)
-            yield data, int(status), told if where == "output" else b"", told if where == "fault" else b""
+            yield data, int(status), b"" if where == "fault" else told, told if where == "fault" else b"", where == "begins"
 
 
 def bytes_of(path, program=None):
@@ -71,10 +78,17 @@ def part(folder, word, rest, program):
     if word == "record":
         stream, dts, pts, body = rest.split(" ", 3)
         return record(int(stream), int(dts), int(pts), joined(body))
+    if word == "records":
+        count, stream, dts, apart, body = rest.split(" ", 4)
+        times = range(int(dts), int(dts) + int(count) * int(apart), int(apart))
+        return b"".join(record(int(stream), time, time, joined(body)) for time in times)
     if word == "made":
         return made(folder, rest, program)
     if word == "text":
         return lines(rest).encode()
+    if word == "count":
+        first, last, text = rest.split(" ", 2)
+        return b"".join(lines(text.replace("#", str(n))).encode() for n in range(int(first), int(last) + 1))
     if word == "times":
         count, again, rest = rest.split(" ", 2)
         return part(folder, again, rest, program) * int(count)

@@ -45,9 +45,20 @@ content_pid_view (PayloadContent p number start payload) = refl
 content_pid_view (PcrContent p pcr) = refl
 content_pid_view NullContent = refl
 
--- a packet is on the null packets' PID, or on that of what its slot names
+-- no packet is marked as wrong
+pub content_unmarked : (c : Content) → (view_of c).header.transport_error_indicator ≡ false
+unfolding view_of
+content_unmarked (PayloadContent pid number start payload) = refl
+content_unmarked (PcrContent pid pcr) = refl
+content_unmarked NullContent = refl
+
+-- a packet is the null packet, or on the PID of what its slot names
 abbrev Speaks : Option ℕ → Content → Type 0
-Speaks o c = (content_pid c ≡ 8191) ⊎ (o ≡ Some (content_pid c))
+Speaks o c = (c ≡ NullContent) ⊎ (o ≡ Some (content_pid c))
+
+null_pid : (c : Content) → c ≡ NullContent → content_pid c ≡ 8191
+unfolding content_pid
+null_pid c e = ap content_pid e
 
 stream_speaks : (d : Scheduled) (units : ℕ → List AccessUnit) (s k : ℕ) (o : Option DescribedStream) → Speaks (option_map (λ x. x.pid) o) (stream_in d units s k o)
 unfolding stream_in content_pid
@@ -85,7 +96,7 @@ unfolding content_at
 names d units s pid below e =
     let same : content_pid (content_at d units s) ≡ pid = eqb-true (content_pid (content_at d units s)) pid (sym (is_content_pid pid (content_at d units s)) ∙ e) in
     elim (speaks d units s (slot_of d.schedule s)) [
-      | inl null ↦ absurd (omega (arith, null, same, below))
+      | inl null ↦ absurd (omega (arith, null_pid (content_at d units s) null, same, below))
       | inr named ↦ named ∙ ap Some same
     ]
 

@@ -18,6 +18,7 @@ use Rattle.mux_core.specs.Scheduled.{Scheduled}
 use Rattle.mux_core.specs.Histories.{content_at, bytes_of}
 use Rattle.mux_core.specs.MuxStates.{MuxState}
 use Rattle.mux_core.specs.Headline.{Headline}
+use Rattle.mux_core.specs.MeasuredRuns.{MeasuresWell}
 use Rattle.packet_output.specs.Formats.{formatted}
 use Rattle.packet_output.specs.Buffer.{Buffered, IsOutput}
 use Rattle.mux_core.specs.NewMux.{is_periods}
@@ -26,6 +27,7 @@ use Rattle.mux_core.specs.declared.multiplexing.MuxError.{MuxError}
 use Rattle.mux_core.specs.declared.multiplexing.MuxError.TheVariants.{TooManySlots, Periods, Feed, Device, Memory}
 use Rattle.mux_core.proofs.Whole.{contents_fit}
 use Rattle.mux_core.proofs.Accepted.{units_kept, standing}
+use Rattle.mux_core.proofs.MeasurableRuns.{accepted_declared, measures_well}
 
 -- ---- lengths
 
@@ -145,6 +147,13 @@ fed_headline old new units slots ranges promised fed =
     subst (λ (d : Scheduled). Headline d (λ k. units_of k units) slots (run_bytes (content_at d (λ k. units_of k units)) 0 slots)) fed.same_schedule
     (standing (job_history units 0) new slots (subst (λ (d : Scheduled). IsInRange d.description) (sym fed.same_schedule) ranges)
     (subst (λ (d : Scheduled). Promised d.description d.schedule) (sym fed.same_schedule) promised) fed.stands)
+
+-- so that it is measured, and no fault is found
+pub fed_measured : (old new : MuxState) (units : List (ℕ × AccessUnit)) (slots : ℕ) → IsInRange old.schedule.description → Promised old.schedule.description old.schedule.schedule →
+    AllFed old units new → MeasuresWell old.schedule units (bytes_of old.schedule (job_history units slots))
+fed_measured old new units slots ranges promised fed =
+    measures_well old.schedule units slots (bytes_of old.schedule (job_history units slots)) (fed_headline old new units slots ranges promised fed)
+    (accepted_declared old.schedule old.capacity [] units fed.none_refused)
 
 -- what was written of the multiplexer that was fed, as of the one before
 pub fed_writes : (old new : MuxState) (units : List (ℕ × AccessUnit)) (hex : Bool) (slots : ℕ) (before after : Option (List ℕ)) (result : Result ℕ MuxError) (kept : Bool) →

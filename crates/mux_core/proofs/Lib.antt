@@ -12,6 +12,11 @@ pub mod StreamsAlone
 pub mod StreamsKept
 pub mod Whole
 pub mod MeasuredRuns
+pub mod MeasurableRuns
+pub mod PutTogether
+pub mod PutUnits
+pub mod UnitBytes
+pub mod DecodedRuns
 pub mod Accepted
 pub mod FirstStates
 pub mod UnitCounts

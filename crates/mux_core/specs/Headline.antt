@@ -1,13 +1,15 @@
 -- What the finished bytes of a run keep, at every moment and in runs of any length: everything that was accepted, on its PID, in order and
 -- in time, and no buffer of the decoder model (ISO/IEC 13818-1, 2.4.2) ever too full.
-use Rattle.std.specs.Prelude.{◌≡◌, ◌⊎◌, ℕ, ◌+◌, ◌*◌, ◌%◌, ◌<◌, ◌≤◌, true, List, length, map, take, slice_get, Some, None, All}
+use Rattle.std.specs.Prelude.{◌≡◌, ◌⊎◌, ℕ, ◌+◌, ◌*◌, ◌%◌, ◌<◌, ◌≤◌, true, false, List, length, map, take, slice_get, Some, None, All}
 use Rattle.clock27.specs.Recurrence.{Recur}
 use Rattle.clock27.specs.Reference.{pcr_at}
 use Rattle.pes_packet.specs.AccessUnits.{AccessUnit}
-use Rattle.ts_packet.specs.Packets.{pcr_view}
-use Rattle.ts_packet.specs.PidList.{Entry, entries_of, pid_list}
+use Rattle.ts_packet.specs.Views.{PacketView}
+use Rattle.ts_packet.specs.Syntax.{IsPacket}
+use Rattle.ts_packet.specs.Packets.{pcr_view, null_view}
+use Rattle.ts_packet.specs.PidList.{Entry, cut_packets, entries_of, pid_list}
 use Rattle.slot_contents.specs.Contents.{run_bytes, payload_at}
-use Rattle.description.specs.Described.{DescribedProgram, DescribedStream}
+use Rattle.description.specs.Described.{Described, DescribedProgram, DescribedStream}
 use Rattle.description.specs.Tables.{table_count, table_limit, section_count}
 use Rattle.slot_plan.specs.declared.slot.Slot.{Slot}
 use Rattle.slot_plan.specs.SlotPids.{slot_pid}
@@ -67,12 +69,22 @@ pub record TableKept (d : Scheduled) (t slots : ℕ) (bytes : List ℕ) : Type 0
   pub sections_recur : (j : ℕ) → j < section_count d.description t →
       Recur d.description.rate (table_limit d.description t) 0 (map (λ s. 188 * s) (own_slots (section_starts d.description d.schedule t j) 0 slots)) (188 * slots)
 
+-- 188 bytes are a packet, by the standard's table of fields (ISO/IEC 13818-1, 2.4.3.2)
+abbrev pub IsTransportPacket : List ℕ → Type 0
+IsTransportPacket bytes = (packet : PacketView) × IsPacket bytes packet
+
+-- a packet is on the PID of something that a slot may carry, and has no transport_error_indicator
+abbrev pub IsNamed : Described → PacketView → Type 0
+IsNamed d packet = ((slot : Slot) × (slot_pid d slot ≡ Some packet.header.pid)) × (packet.header.transport_error_indicator ≡ false)
+
 -- of the whole
 pub record Headline (d : Scheduled) (units : ℕ → List AccessUnit) (slots : ℕ) (bytes : List ℕ) : Type 0 where
   -- 188 bytes a slot
   pub size : length bytes ≡ 188 * slots
-  -- each packet is on a PID of the description, or is a null packet
-  pub pids : All (λ e. (e.packet.header.pid ≡ 8191) ⊎ ((slot : Slot) × (slot_pid d.description slot ≡ Some e.packet.header.pid))) (entries_of bytes)
+  -- each 188 bytes are a packet
+  pub packets : All IsTransportPacket (cut_packets bytes)
+  -- each packet is the null packet, or is on a PID of the description and not marked as wrong
+  pub pids : All (λ e. (e.packet ≡ null_view) ⊎ IsNamed d.description e.packet) (entries_of bytes)
   pub streams : (k : ℕ) (s : DescribedStream) → slice_get d.description.streams k ≡ Some s → StreamKept d k s (units k) slots bytes
   pub programs : (i : ℕ) (p : DescribedProgram) → slice_get d.description.programs i ≡ Some p → ProgramKept d p slots bytes
   pub tables : (t : ℕ) → t < table_count d.description → TableKept d t slots bytes

@@ -5,6 +5,8 @@ pub mod MuxStates
 pub mod SlotSteps
 pub mod Headline
 pub mod MeasuredRuns
+pub mod Decoder
+pub mod DecodedRuns
 pub mod NewMux
 pub mod WholeJobs
 pub mod Events

@@ -1,9 +1,11 @@
--- What measuring the finished bytes finds: no late unit, and no buffer over its size.
-use Rattle.std.specs.Prelude.{◌≡◌, ℕ, ◌≤◌, List, slice_get, Some, None}
+-- What measuring the finished bytes finds: it is not refused, and finds no late unit and no buffer over its size.
+use Rattle.std.specs.Prelude.{◌≡◌, ℕ, ◌≤◌, true, List, slice_get, Some, None}
+use Rattle.std.specs.List.{list_all}
 use Rattle.pes_packet.specs.AccessUnits.{AccessUnit}
 use Rattle.pes_packet.specs.Units.{units_of}
 use Rattle.description.specs.Described.{Described, DescribedProgram, DescribedStream}
 use Rattle.tstd.specs.Measured.{Measured, StreamsMeasured, SystemsMeasured, late_unit}
+use Rattle.tstd.specs.Refusals.{is_declared, cause}
 use Rattle.tstd.specs.declared.fullness.StreamFullness.{StreamFullness}
 use Rattle.tstd.specs.declared.fullness.SystemFullness.{SystemFullness}
 use Rattle.mux_core.specs.Scheduled.{Scheduled}
@@ -22,3 +24,14 @@ abbrev pub MeasuredLaw : Type 0
 MeasuredLaw = (d : Scheduled) (units : List (ℕ × AccessUnit)) (slots : ℕ) (bytes : List ℕ) (found : Measured) → Headline d (λ k. units_of k units) slots bytes →
     StreamsMeasured d.description units bytes found.streams → SystemsMeasured d.description bytes found.programs → found.late ≡ late_unit d.description units bytes →
     FindsNoFault d.description found
+
+-- nor is it refused, where each unit names a stream and has from one byte to that stream's greatest size
+abbrev pub MeasurableLaw : Type 0
+MeasurableLaw = (d : Scheduled) (units : List (ℕ × AccessUnit)) (slots : ℕ) (bytes : List ℕ) → Headline d (λ k. units_of k units) slots bytes →
+    list_all (is_declared d.description) units ≡ true → cause d.description units bytes ≡ None
+
+-- `measure` of these bytes with these units is not refused, and finds no fault
+pub record MeasuresWell (d : Scheduled) (units : List (ℕ × AccessUnit)) (bytes : List ℕ) : Type 0 where
+  pub not_refused : cause d.description units bytes ≡ None
+  pub no_fault : (found : Measured) → StreamsMeasured d.description units bytes found.streams → SystemsMeasured d.description bytes found.programs →
+      found.late ≡ late_unit d.description units bytes → FindsNoFault d.description found

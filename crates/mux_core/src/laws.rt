@@ -2,7 +2,9 @@
 
 ghost use Rattle.plan_timing.specs.Promised.{Promised};
 ghost use Rattle.mux_core.specs.Headline.{HeadlineLaw, StandingLaw};
-ghost use Rattle.mux_core.specs.MeasuredRuns.{MeasuredLaw};
+ghost use Rattle.mux_core.specs.MeasuredRuns.{MeasuredLaw, MeasurableLaw};
+ghost use Rattle.mux_core.specs.Decoder.{PutLaw};
+ghost use Rattle.mux_core.specs.DecodedRuns.{DecodedLaw};
 ghost use Rattle.mux_core.specs.Events.{WrittenStays, OrderIsFree};
 ghost use Rattle.mux_core.specs.WholeJobs.{RoomForAll};
 ghost use Rattle.mux_core.specs.TimingLaws.{UnitsArrive, TransportFits, MainFits, SystemFits, PcrsRecur, SectionsRecur};
@@ -96,6 +98,18 @@ pub fn headline()
 /// Of bytes that keep every promise, `tstd::measure` finds no late unit and no buffer over its size.
 pub fn measured()
     ensures { MeasuredLaw }
+{}
+
+/// Nor does `tstd::measure` refuse such bytes, where each unit names a stream and has from one byte to its greatest size.
+pub fn measurable()
+    ensures { MeasurableLaw }
+{}
+
+/// Of such bytes, whoever wrote them, a decoder by ISO/IEC 13818-1 reads a packet in each slot, finds no counter that
+/// breaks, and puts together each unit that is due in the run, whole, and by its DTS.
+pub fn decoded()
+    ensures put { PutLaw }
+    ensures decoded { DecodedLaw }
 {}
 
 /// What was written stays, whatever units and slots follow.

@@ -2,8 +2,9 @@
 //!
 //! `specs/Histories` says what each slot carries, from the units that were accepted and the schedule alone,
 //! `specs/MuxStates` which history a multiplexer stands for, `specs/Headline` what is promised of the finished bytes,
-//! and `specs/SlotSteps` one slot and one unit of the state. `specs/WholeJobs` says what a whole job answers and
-//! writes, where all units are fed first, and `specs/Events` what units and slots in any order leave.
+//! `specs/MeasuredRuns` what measuring them finds, `specs/DecodedRuns` what a decoder gets of them, in the words of
+//! `specs/Decoder`, and `specs/SlotSteps` one slot and one unit of the state. `specs/WholeJobs` says what a whole job
+//! answers and writes, where all units are fed first, and `specs/Events` what units and slots in any order leave.
 //!
 //! The modules in reading order: by which plans slots are filled, where a run ends, how a multiplexer is made,
 //! its calls, the packet of a slot of each kind, a whole job, events in any order; the laws. Records of units and

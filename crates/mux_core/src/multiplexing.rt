@@ -4,6 +4,7 @@ ghost use Rattle.std.specs.Prelude.{◌≡◌, ◌≤◌, ◌*◌, ◌^◌, ℕ,
 ghost use Rattle.counted_io.specs.Device.{Failed};
 ghost use Rattle.pes_packet.specs.Units.{units_of};
 ghost use Rattle.mux_core.specs.Headline.{Headline};
+ghost use Rattle.mux_core.specs.MeasuredRuns.{MeasuresWell};
 ghost use Rattle.mux_core.specs.Histories.{History, content_at, bytes_of, empty_history};
 ghost use Rattle.mux_core.specs.MuxStates.{Stands};
 ghost use Rattle.packet_output.specs.Buffer.{IsOutput, Took};
@@ -59,6 +60,8 @@ pub fn multiplex<A: Allocator + Copy, W: Sink>(
     ensures sent { IfOk result (λ sent. sent ≡ 188 * slots) }
     ensures headline { OnWriting result (Headline (plan_schedule plan) (λ k. units_of k units.items) slots
         (bytes_of (plan_schedule plan) (job_history units.items slots))) }
+    ensures measured { OnWriting result (MeasuresWell (plan_schedule plan) units.items
+        (bytes_of (plan_schedule plan) (job_history units.items slots))) }
     ensures fault { NamesWriter result (W.fault_count to.old) (W.fault_count to.new) }
 {
     multiplex_as(alloc, plan, units, slots, false, to)
@@ -79,6 +82,8 @@ pub fn multiplex_as<A: Allocator + Copy, W: Sink>(
         (W.contents to.old) (W.contents to.new) result }
     ensures sent { IfOk result (λ sent. sent ≡ slot_size hex * slots) }
     ensures headline { OnWriting result (Headline (plan_schedule plan) (λ k. units_of k units.items) slots
+        (bytes_of (plan_schedule plan) (job_history units.items slots))) }
+    ensures measured { OnWriting result (MeasuresWell (plan_schedule plan) units.items
         (bytes_of (plan_schedule plan) (job_history units.items slots))) }
     ensures fault { NamesWriter result (W.fault_count to.old) (W.fault_count to.new) }
 {
@@ -111,6 +116,8 @@ pub fn multiplex_switch<A: Allocator + Copy, W: Sink>(
     ensures sent { IfOk result (λ sent. sent ≡ 188 * slots) }
     ensures headline { OnWriting result (Headline (switch_schedule switch periods) (λ k. units_of k units.items) slots
         (bytes_of (switch_schedule switch periods) (job_history units.items slots))) }
+    ensures measured { OnWriting result (MeasuresWell (switch_schedule switch periods) units.items
+        (bytes_of (switch_schedule switch periods) (job_history units.items slots))) }
     ensures fault { NamesWriter result (W.fault_count to.old) (W.fault_count to.new) }
 {
     multiplex_switch_as(alloc, switch, periods, units, slots, false, to)
@@ -132,6 +139,8 @@ pub fn multiplex_switch_as<A: Allocator + Copy, W: Sink>(
         (W.contents to.old) (W.contents to.new) result }
     ensures sent { IfOk result (λ sent. sent ≡ slot_size hex * slots) }
     ensures headline { OnWriting result (Headline (switch_schedule switch periods) (λ k. units_of k units.items) slots
+        (bytes_of (switch_schedule switch periods) (job_history units.items slots))) }
+    ensures measured { OnWriting result (MeasuresWell (switch_schedule switch periods) units.items
         (bytes_of (switch_schedule switch periods) (job_history units.items slots))) }
     ensures fault { NamesWriter result (W.fault_count to.old) (W.fault_count to.new) }
 {
@@ -192,6 +201,8 @@ fn write_job<A: Allocator + Copy, W: Sink>(
         (W.contents to.old) (W.contents to.new) result }
     ensures sent { IfOk result (λ sent. sent ≡ slot_size hex * slots) }
     ensures headline { OnWriting result (Headline mux.old.schedule (λ k. units_of k units.items) slots
+        (bytes_of mux.old.schedule (job_history units.items slots))) }
+    ensures measured { OnWriting result (MeasuresWell mux.old.schedule units.items
         (bytes_of mux.old.schedule (job_history units.items slots))) }
     ensures fault { NamesWriter result (W.fault_count to.old) (W.fault_count to.new) }
 {

@@ -1,5 +1,6 @@
 //! Jobs made of a stream, multiplexed and demultiplexed. Each function does nothing: its contract is the law.
 ghost use Rattle.round_trip_job.specs.Laws.{AcceptedLaw, CarriedLaw, FoundAgainLaw, SameAgainLaw};
+ghost use Rattle.round_trip_job.specs.FirstUnits.{FirstUnitsLaw, TablesFirstLaw};
 
 /// No unit of such a job is refused, in the job's order and before the first slot: each stream's units
 /// keep what its description declares, and have room.
@@ -32,4 +33,16 @@ pub fn found_again()
 {
     carried();
     plan_timing::laws::accepted_plan();
+}
+
+/// PAT and PMT come before the units of a job, where the streams of a program begin near one another: what stands before
+/// a packet of a stream tells a decoder that follows PAT and PMT (ISO/IEC 13818-1, 2.4.4.3 and 2.4.4.8) already of each
+/// program and its streams, since the units of each stream are due 2 s after the run's begin or later (`units`). So it
+/// is of any units that are due as late (`tables`).
+pub fn tables_first()
+    ensures units { FirstUnitsLaw }
+    ensures tables { TablesFirstLaw }
+{
+    plan_timing::laws::accepted_plan();
+    round_trip_run::laws::tables_first();
 }

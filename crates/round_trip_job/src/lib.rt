@@ -6,9 +6,11 @@
 //! `mux_core` which units a multiplexer refuses and what it promises, `round_trip_run` what is found in
 //! the bytes; here they are joined.
 //!
-//! Definitions stand in `specs/`: `Laws` says what is accepted, carried and found again.
+//! Definitions stand in `specs/`: `Laws` says what is accepted, carried and found again, `FirstUnits` when
+//! the first units are due and what comes before them.
 //!
-//! - [`laws`]: no unit of such a job is refused, its bytes give the units back, and these are the input's.
+//! - [`laws`]: no unit of such a job is refused, its bytes give the units back, and these are the input's;
+//!   PAT and PMT come before them.
 #![tactic(auto)]
 
 pub mod laws;

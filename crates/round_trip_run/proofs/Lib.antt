@@ -30,3 +30,9 @@ pub mod UnitsTimely
 pub mod StampsRecur
 pub mod LeftFaults
 pub mod NoFaults
+pub mod WorkedRanges
+pub mod WorkedRun
+pub mod PutSections
+pub mod TwoStarts
+pub mod FollowedTables
+pub mod TablesFirst

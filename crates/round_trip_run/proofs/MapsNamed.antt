@@ -86,14 +86,19 @@ pat_fits d r = record {
   room = omega (arith, entry_count d.network (map pat_entry d.programs), length-map d.programs pat_entry, r.most_programs);
 }
 
-pat_read : (d : Described) → IsInRange d → programs_in_section (section_at (section_bytes (pat_section (pat_says d)))) ≡ network_entries d ++ map pat_entry d.programs
+-- its section is read again, whatever follows it
+pub pat_read_before : (d : Described) (fill : List ℕ) → IsInRange d →
+    programs_in_section (section_at (section_bytes (pat_section (pat_says d)) ++ fill)) ≡ network_entries d ++ map pat_entry d.programs
 unfolding programs_in_section programs_by
-pat_read d r =
+pat_read_before d fill r =
     let table = pat_section (pat_says d) in
     let again = written (pat_says d) (pat_fits d r) in
-    let read : section_at (section_bytes (pat_section (pat_says d))) ≡ Ok (pat_section (pat_says d), length (section_bytes (pat_section (pat_says d)))) =
-    ap section_at (sym (append-nil (section_bytes table))) ∙ (section_written table again.writable).read [] in
+    let read : section_at (section_bytes (pat_section (pat_says d)) ++ fill) ≡ Ok (pat_section (pat_says d), length (section_bytes (pat_section (pat_says d)))) =
+    (section_written table again.writable).read fill in
     ap programs_in_section read ∙ ap programs_by again.read
+
+pat_read : (d : Described) → IsInRange d → programs_in_section (section_at (section_bytes (pat_section (pat_says d)))) ≡ network_entries d ++ map pat_entry d.programs
+pat_read d r = ap (λ (bytes : List ℕ). programs_in_section (section_at bytes)) (sym (append-nil (section_bytes (pat_section (pat_says d))))) ∙ pat_read_before d [] r
 
 -- each PID that something found names is that of a program's map
 abbrev Names : Described → WhatView → Type 0

@@ -27,11 +27,11 @@ use Rattle.round_trip_run.proofs.Since.{since_in_time}
 use Rattle.round_trip_run.proofs.MapsNamed.{IsMapPid, named_are_maps}
 
 -- a table that is the map of program number i
-record IsMap (d : Described) (t i pid : ℕ) : Type 0 where
-  kind : table_kind d t ≡ Some (Pmt i)
-  same : table_pid d t ≡ pid
+pub record IsMap (d : Described) (t i pid : ℕ) : Type 0 where
+  pub kind : table_kind d t ≡ Some (Pmt i)
+  pub same : table_pid d t ≡ pid
 
-map_table : (d : Described) (i : ℕ) (p : DescribedProgram) → slice_get d.programs i ≡ Some p → IsMap d (i + 1) i p.pmt_pid
+pub map_table : (d : Described) (i : ℕ) (p : DescribedProgram) → slice_get d.programs i ≡ Some p → IsMap d (i + 1) i p.pmt_pid
 map_table d i p is =
     let within : i < length d.programs = slice_get_within d.programs i p is in
     let less : i + 1 - 1 ≡ i = omega arith in

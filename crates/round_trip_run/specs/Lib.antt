@@ -7,3 +7,8 @@ pub mod Jobs
 pub mod Monitored
 pub mod Reported
 pub mod PtsSpacing
+pub mod WorkedService
+pub mod WorkedBytes
+pub mod WorkedRun
+pub mod FollowedTables
+pub mod TablesFirst

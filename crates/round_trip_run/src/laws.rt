@@ -8,6 +8,9 @@ ghost use Rattle.round_trip_run.specs.Monitored.{InTimeLaw, StandingInTimeLaw, J
 ghost use Rattle.round_trip_run.specs.Reported.{ReportedLaw, StandingReportedLaw, JobReportedLaw};
 ghost use Rattle.round_trip_run.specs.PtsSpacing.{PtsSpacingLaw, StandingPtsSpacingLaw, JobPtsSpacingLaw};
 ghost use Rattle.round_trip_run.specs.CarriedBack.{CarriedBackLaw, AcceptedUnitsFit};
+ghost use Rattle.round_trip_run.specs.FollowedTables.{FollowedLaw};
+ghost use Rattle.round_trip_run.specs.TablesFirst.{TablesFirstLaw};
+ghost use Rattle.round_trip_run.specs.WorkedRun.{WorkedRun};
 
 /// The bytes of a run, demultiplexed with their end, give back on each stream's PID exactly its units,
 /// in order: each that was sent whole with its stream_id, its stamps as on the wire and its data, then
@@ -78,3 +81,24 @@ pub fn monitored_pts_spacing()
     ensures standing { StandingPtsSpacingLaw }
     ensures jobs { JobPtsSpacingLaw }
 {}
+
+/// In a run of more than a second a decoder that follows PAT and PMT (ISO/IEC 13818-1, 2.4.4.3 and 2.4.4.8) is told of
+/// each program the PID of its map, and there the PIDs of its clock references and of its streams. With
+/// `mux_core::laws::decoded` it so gets each unit that is due, whole and in time.
+pub fn followed()
+    ensures { FollowedLaw }
+{}
+
+/// What stands before a packet of a stream whose units are due 2 s after the run's begin or later tells such a decoder
+/// already of each program and its streams.
+pub fn tables_first()
+    ensures { TablesFirstLaw }
+{}
+
+/// There is a run that meets every premise of the headline: a service of one stream, a plan of four slots that serves
+/// it, and a unit; its six packets are known byte by byte, and keep every promise.
+pub fn worked_run()
+    ensures { WorkedRun }
+{
+    plan_timing::laws::accepted_plan();
+}

@@ -10,10 +10,12 @@
 //! `Distinguishable` which ready-made sections are taken for something else, `GivenBack` what is found of
 //! all of them, `Clean` what is never found; `Jobs` says the same of a whole job, `CarriedBack` of what
 //! `carry` writes; `Monitored` says what a monitor never reports, `Reported` what is left of all its
-//! rules, `PtsSpacing` when nothing is.
+//! rules, `PtsSpacing` when nothing is; `FollowedTables` says what PAT and PMT tell a decoder,
+//! `TablesFirst` when they come before units; `WorkedService`, `WorkedBytes` and `WorkedRun` are a run
+//! that meets all premises.
 //!
 //! - [`laws`]: what is given back, that nothing is wrong with it, also by `monitor`'s rules, and the same
-//!   of whole jobs and of `carry`.
+//!   of whole jobs and of `carry`; what PAT and PMT tell, and when; a run that meets all premises.
 #![tactic(auto)]
 
 pub mod laws;

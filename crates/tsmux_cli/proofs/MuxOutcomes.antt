@@ -1,18 +1,32 @@
 -- What a job leads `mux` to.
 use Rattle.std.proofs.Common.{◌≡◌, ℕ, List, [], sym, ap, subst, ◌∙◌, Option, Some, None, Result, Ok, Err}
 use Rattle.std.specs.Prelude.{is_some}
+use Rattle.pes_packet.specs.Units.{units_of}
+use Rattle.mux_core.specs.Headline.{Headline}
+use Rattle.mux_core.specs.MeasuredRuns.{MeasuresWell}
 use Rattle.mux_core.specs.WholeJobs.{NamesWriter, OnWriting, Refuses, Writes}
 use Rattle.mux_core.specs.declared.multiplexing.MuxError.{MuxError}
 use Rattle.mux_core.specs.declared.multiplexing.MuxError.TheVariants.{TooManySlots, Periods, Feed, Device as AtWriter, Memory}
 use Rattle.devices.specs.Devices.{Device, IsUntouched}
 use Rattle.devices.specs.Lines.{Reports}
 use Rattle.tsmux_cli.specs.MuxJobs.{MuxFaultView, MuxJobView, mux_fault_line, mux_job_of}
-use Rattle.tsmux_cli.specs.Multiplexing.{IsKept, KeepsPromises, KeptUnlessRefused, Muxes, cause_of, error_outcome, packets_of, range_cause, unless_refused, with_job}
+use Rattle.tsmux_cli.specs.Multiplexing.{IsKept, KeepsPromises, KeptUnlessRefused, Muxes, cause_of, error_outcome, packets_of, range_cause, run_bytes_of, schedule_of, slots_of, unless_refused, with_job}
 use Rattle.devices.specs.Outcomes.{printed, reported}
 use Rattle.devices.specs.Runs.{Performs}
 use Rattle.devices.specs.WholeInput.{ReadsInput}
 use Rattle.tsmux_cli.specs.declared.request.MuxOptions.{MuxOptions}
 use Rattle.devices.proofs.Performances.{no_room, performed, reported_only, unwritten}
+
+-- what is promised, where some of it may have been written
+pub is_kept : (o : MuxOptions) (j : MuxJobView) (result : Result ℕ MuxError) →
+    OnWriting result (Headline (schedule_of o j) (λ k. units_of k j.units) (slots_of o j) (run_bytes_of o j)) →
+    OnWriting result (MeasuresWell (schedule_of o j) j.units (run_bytes_of o j)) → OnWriting result (IsKept o j)
+is_kept o j (Ok sent) headline measured = record { headline = headline; measured = measured }
+is_kept o j (Err (AtWriter sent)) headline measured = record { headline = headline; measured = measured }
+is_kept o j (Err TooManySlots) headline measured = tt
+is_kept o j (Err Periods) headline measured = tt
+is_kept o j (Err (Feed index cause)) headline measured = tt
+is_kept o j (Err Memory) headline measured = tt
 
 -- the bytes are read as this job
 abbrev pub IsReadAs : MuxOptions → List ℕ → MuxJobView → Type 0

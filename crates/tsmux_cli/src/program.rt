@@ -72,7 +72,7 @@ pub fn run<R: Source, W: Sink, E: Sink>(
     ensures check { (switch : Bool) → asked words.now ≡ Some (Check switch) →
         Performs (Checks switch) (reads R.Source input.old input.new) (writes W.Sink output.old output.new)
         (writes E.Sink faults.old faults.new) result }
-    // `mux`: a job with its units to the packets of its plan.
+    // `mux`: a job with its units to the packets of its plan, which keep every promise, and measuring them finds nothing.
     ensures mux { (options : MuxOptions) → asked words.now ≡ Some (Mux options) →
         Performs (Muxes options) (reads R.Source input.old input.new) (writes W.Sink output.old output.new)
         (writes E.Sink faults.old faults.new) result }

@@ -1,3 +1,7 @@
+pub mod Allowing
+pub mod Bursting
+pub mod Levels
+pub mod PaidAllowances
 pub mod OneMoreUnit
 pub mod ArrivalLemmas
 pub mod MainBufferBytes
@@ -12,3 +16,4 @@ pub mod PacketsInSlots
 pub mod DeadlineLemmas
 pub mod LateUnits
 pub mod MainBufferPeak
+pub mod MomentLemmas

@@ -1,4 +1,6 @@
 pub mod PesPacket
+pub mod Allowances
+pub mod Levels
 pub mod Schedule
 pub mod Shares
 pub mod Buffers
@@ -10,3 +12,4 @@ pub mod SystemBuffer
 pub mod Plans
 pub mod Conditions
 pub mod PlanLaws
+pub mod FinerMoments

@@ -2,16 +2,19 @@
 //! (ISO/IEC 13818-1, 2.4.2), over the definitions alone.
 //!
 //! A stream's own slots are a function `own : ℕ → Bool` of the slot number, for one plan or for two;
-//! its units are a list of PES packets, each with its size and its decoding time stamp. The definitions in
-//! `specs/` say which own slot carries which part of which unit, when its bytes leave the transport
-//! buffer, and the fullness of each buffer. Each function here is a law: it does nothing, and
-//! its contract says what holds of the definitions.
+//! its units are a list of PES packets, each with its size and its decoding time stamp. What is declared of
+//! their packets is an allowance, a function of time. The definitions in `specs/` say which own slot carries
+//! which part of which unit, when its bytes leave the transport buffer, and the fullness of each buffer. Each
+//! function of a module here is a law: it does nothing, and its contract says what holds of the definitions.
 //!
+//! - [`allowance`]: what a stream declares of its packets.
+//! - [`allowances`]: that as a function of time, and as the level of a leaky bucket.
 //! - [`buffers`]: the buffers that have one size for all.
 //! - [`transport`]: the transport buffer never overflows, and each packet leaves in time.
 //! - [`deadlines`]: from the pace of the own slots to the deadline of each unit.
 //! - [`arrived`]: each due unit has left the transport buffer whole by its stamp.
 //! - [`main_buffer`]: the fullness of the main buffer.
+//! - [`moments`]: moments that are not whole.
 //! - [`system_buffers`]: the two buffers of a program's tables.
 //! - [`schedule`]: slot by slot is unit by unit.
 //! - [`units`]: one unit more within the declaration.
@@ -19,10 +22,13 @@
 //! - [`plans`]: all of this for one plan and for two, from the conditions on their slots.
 #![tactic(auto)]
 
+pub mod allowance;
+pub mod allowances;
 pub mod arrived;
 pub mod buffers;
 pub mod deadlines;
 pub mod main_buffer;
+pub mod moments;
 pub mod plans;
 pub mod schedule;
 pub mod shares;

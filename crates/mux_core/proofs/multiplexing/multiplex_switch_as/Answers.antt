@@ -3,6 +3,7 @@ use Rattle.pes_packet.specs.Units.{units_of}
 use Rattle.mux_core.specs.Histories.{bytes_of}
 use Rattle.mux_core.specs.Scheduled.{Scheduled}
 use Rattle.mux_core.specs.Headline.{Headline}
+use Rattle.mux_core.specs.MeasuredRuns.{MeasuresWell}
 use Rattle.mux_core.specs.WholeJobs.{switch_schedule, or_cause, slots_cause, periods_cause, job_history, OnWriting}
 use Rattle.mux_core.proofs.JobDone.{early_is, early_first, early_next, wrong_periods, right_periods, refuses_as}
 use Rattle.mux_core.proofs.multiplexing.multiplex_switch_as.Goals as goal
@@ -31,3 +32,8 @@ pub returns-clause-headline : goal.returns-clause-headline
 returns-clause-headline g c =
     subst (λ (d : Scheduled). OnWriting c.write_job-written.result (Headline d (λ k. units_of k c.args.units.items) c.args.slots (bytes_of d (job_history c.args.units.items c.args.slots))))
     c.in-Ok.ensures.schedule c.write_job-written.ensures.headline
+
+pub returns-clause-measured : goal.returns-clause-measured
+returns-clause-measured g c =
+    subst (λ (d : Scheduled). OnWriting c.write_job-written.result (MeasuresWell d c.args.units.items (bytes_of d (job_history c.args.units.items c.args.slots))))
+    c.in-Ok.ensures.schedule c.write_job-written.ensures.measured

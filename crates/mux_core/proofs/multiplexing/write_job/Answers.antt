@@ -1,7 +1,7 @@
 use Rattle.std.proofs.Common.{refl, ap}
 use Rattle.packet_output.specs.Buffer.{Buffered}
 use Rattle.mux_core.specs.WholeJobs.{job_history}
-use Rattle.mux_core.proofs.JobDone.{cause_is, answers, writes, sends, on_writing, output_short, fed_size, fed_short, fed_headline, fed_writes}
+use Rattle.mux_core.proofs.JobDone.{cause_is, answers, writes, sends, on_writing, output_short, fed_size, fed_short, fed_headline, fed_measured, fed_writes}
 use Rattle.mux_core.proofs.multiplexing.write_job.Goals as goal
 
 pub returns-in-Err-clause-refused : goal.returns-in-Err-clause-refused
@@ -34,4 +34,9 @@ returns-clause-sent g c =
 pub returns-clause-headline : goal.returns-clause-headline
 returns-clause-headline g c =
     on_writing c.write_all.result (fed_headline c.args.mux.now c.feed_all.new.mux c.args.units.items c.args.slots c.keeps_promises.ensures.ranges c.keeps_promises.ensures.promised
+    (c.in-Ok.ensures.fed c.requires.stands))
+
+pub returns-clause-measured : goal.returns-clause-measured
+returns-clause-measured g c =
+    on_writing c.write_all.result (fed_measured c.args.mux.now c.feed_all.new.mux c.args.units.items c.args.slots c.keeps_promises.ensures.ranges c.keeps_promises.ensures.promised
     (c.in-Ok.ensures.fed c.requires.stands))

@@ -1,0 +1,92 @@
+-- Where the bytes of a unit stand among those of its stream, and when they leave the transport buffer.
+use Rattle.std.proofs.Common.{◌≡◌, ◌≤◌, ◌<◌, ℕ, zero, suc, ◌+◌, ◌-◌, ◌*◌, nat_eq, true, List, [], ◌∷◌, ◌++◌, length, map, take, drop, slice_get, Some, All, refl, sym, ap, subst, ◌∙◌, arith}
+use Rattle.std.specs.List.{concat, starts_with}
+use Rattle.std.proofs.lemmas.Bool.Decides.{Decides-eqb}
+use Rattle.std.proofs.Math.Seq.{take-append_seam}
+use Rattle.std.proofs.lemmas.List.{length-append, length-drop, length-take, take-append-le, drop-drop}
+use Rattle.std.proofs.lemmas.Slice.Eq.{starts_is}
+use Rattle.pes_packet.specs.AccessUnits.{AccessUnit}
+use Rattle.ts_packet.specs.PidList.{Entry, payload_of}
+use Rattle.slot_contents.specs.Contents.{payload_at}
+use Rattle.unit_queue.specs.Payloads.{piece_in}
+use Rattle.unit_timing.specs.Arrived.{AllLeft}
+use Rattle.unit_timing.specs.PesPacket.{PesPacket}
+use Rattle.unit_timing.specs.Schedule.{Packet}
+use Rattle.unit_timing.specs.Transport.{of_payloads}
+use Rattle.mux_core.proofs.PutUnits.{bytes_in}
+
+-- bytes within the first list are those of the two
+within : (xs ys : List ℕ) (a n : ℕ) → a + n ≤ length xs → take n (drop a (xs ++ ys)) ≡ take n (drop a xs)
+within xs ys zero n le = take-append-le n xs ys (omega (arith, le))
+within [] ys (suc a) n le = absurd (omega (arith, le))
+within (x ∷ xs) ys (suc a) n le = within xs ys a n (omega (arith, le))
+
+-- one among lists that are joined
+one_of : (xss : List (List ℕ)) (xs : List ℕ) (i : ℕ) → slice_get xss i ≡ Some xs → take (length xs) (drop (length (concat (take i xss))) (concat xss)) ≡ xs
+one_of [] xs i is = absurd (let no : ⊥ = cc in no)
+one_of (y ∷ yss) xs zero is =
+    let same : y ≡ xs = cc in
+    subst (λ (z : List ℕ). take (length z) (y ++ concat yss) ≡ z) same (take-append_seam y (concat yss))
+one_of (y ∷ yss) xs (suc i) is =
+    let before : length (y ++ concat (take i yss)) ≡ length y + length (concat (take i yss)) = length-append y (concat (take i yss)) in
+    ap (λ (n : ℕ). take (length xs) (drop n (y ++ concat yss))) before
+    ∙ ap (take (length xs)) (sym (drop-drop (length (concat (take i yss))) (length y) (y ++ concat yss)))
+    ∙ ap (λ (z : List ℕ). take (length xs) (drop (length (concat (take i yss))) z)) (dropped y (concat yss))
+    ∙ one_of yss xs i is
+  where
+    dropped : (ys zs : List ℕ) → drop (length ys) (ys ++ zs) ≡ zs
+    dropped [] zs = refl
+    dropped (x ∷ ys) zs = dropped ys zs
+
+-- of payloads that are a beginning of PES packets, joined
+pub unit_bytes : (pes : List (List ℕ)) (p payloads : List ℕ) (i : ℕ) → starts_with nat_eq (concat pes) payloads ≡ true → slice_get pes i ≡ Some p →
+    length (concat (take i pes)) + length p ≤ length payloads → take (length p) (drop (length (concat (take i pes))) payloads) ≡ p
+unit_bytes pes p payloads i carried is le =
+    let parts = (starts_is Decides-eqb (concat pes) payloads (starts_with nat_eq (concat pes) payloads) refl).0 carried in
+    sym (within payloads (drop (length payloads) (concat pes)) (length (concat (take i pes))) (length p) le)
+    ∙ ap (λ (z : List ℕ). take (length p) (drop (length (concat (take i pes))) z)) (sym parts)
+    ∙ one_of pes p i is
+
+-- ---- departures
+
+-- when the bytes of one unit leave
+pub unit_left : {X : Type 0} (dts : X → ℕ) (pes : X → List ℕ) (rate r n : ℕ) (us : List X) (u : X) (i : ℕ) (left : List ℕ) →
+    AllLeft rate r n (map (λ x. record { dts = dts x; size = length (pes x) }) us) left → slice_get us i ≡ Some u → dts u * rate ≤ n * 135360000 →
+    (length (pes u) ≤ length (drop (length (concat (take i (map pes us)))) left))
+    × All (λ d. d * 720000 ≤ dts u * rate * r) (take (length (pes u)) (drop (length (concat (take i (map pes us)))) left))
+unfolding AllLeft
+unit_left dts pes rate r n [] u i left all is due = absurd (let no : ⊥ = cc in no)
+unit_left {X} dts pes rate r n (x ∷ us) u zero left all is due =
+    let same : x ≡ u = cc in
+    subst (λ (y : X). (length (pes y) ≤ length left) × All (λ d. d * 720000 ≤ dts y * rate * r) (take (length (pes y)) left)) same
+    (all.0 (subst (λ (y : X). dts y * rate ≤ n * 135360000) (sym same) due))
+unit_left {X} dts pes rate r n (x ∷ us) u (suc i) left all is due =
+    let before : length (pes x ++ concat (take i (map pes us))) ≡ length (pes x) + length (concat (take i (map pes us))) = length-append (pes x) (concat (take i (map pes us))) in
+    let there : drop (length (pes x ++ concat (take i (map pes us)))) left ≡ drop (length (concat (take i (map pes us)))) (drop (length (pes x)) left) =
+    ap (λ (k : ℕ). drop k left) before ∙ sym (drop-drop (length (concat (take i (map pes us)))) (length (pes x)) left) in
+    subst (λ (l : List ℕ). (length (pes u) ≤ length l) × All (λ d. d * 720000 ≤ dts u * rate * r) (take (length (pes u)) l)) (sym there)
+    (unit_left dts pes rate r n us u i (drop (length (pes x)) left) all.1 is due)
+
+-- no more bytes leave than came
+pub left_few : (es : List Entry) (ds : List ℕ) →
+    length (of_payloads (map (λ entry. record { slot = entry.index; size = length (payload_of entry.packet) }) es) ds) ≤ length (concat (map (λ entry. payload_of entry.packet) es))
+unfolding of_payloads
+left_few [] ds = omega arith
+left_few (e ∷ es) ds =
+    let size = length (payload_of e.packet) in
+    let first = drop (188 - length (payload_of e.packet)) (take 188 ds) in
+    let rest = of_payloads (map (λ entry. record { slot = entry.index; size = length (payload_of entry.packet) }) es) (drop 188 ds) in
+    omega (
+      arith,
+      length-append first rest,
+      length-drop (188 - length (payload_of e.packet)) (take 188 ds),
+      length-take 188 ds,
+      left_few es (drop 188 ds),
+      length-append (payload_of e.packet) (concat (map (λ entry. payload_of entry.packet) es)),
+    )
+
+-- and as many as the payloads have
+pub piece_bytes : (es : List Entry) → bytes_in (map (λ e. piece_in (payload_at e)) es) ≡ length (concat (map (λ entry. payload_of entry.packet) es))
+unfolding bytes_in
+piece_bytes [] = refl
+piece_bytes (e ∷ es) = omega (arith, piece_bytes es, length-append (payload_of e.packet) (concat (map (λ entry. payload_of entry.packet) es)))

@@ -1,0 +1,20 @@
+//! Moments that are not whole.
+ghost use Rattle.unit_timing.specs.FinerMoments.{TransportMoments, LeftScaled};
+ghost use Rattle.unit_timing.specs.FinerMoments.{MainMoments, MainWholeMoments, MainPeakMoments};
+ghost use Rattle.unit_timing.specs.FinerMoments.{SystemTransportMoments, SystemBufferMoments};
+
+/// On a scale as fine as you like the transport buffer of a stream holds what it holds at the last whole moment, the
+/// main buffer no more, and at a whole moment as much: what bounds them at whole moments bounds them at all moments.
+pub fn streams()
+    ensures transport { TransportMoments }
+    ensures left { LeftScaled }
+    ensures main { MainMoments }
+    ensures whole { MainWholeMoments }
+    ensures peak { MainPeakMoments }
+{}
+
+/// So do both buffers of a program's tables.
+pub fn tables()
+    ensures transport { SystemTransportMoments }
+    ensures system { SystemBufferMoments }
+{}
