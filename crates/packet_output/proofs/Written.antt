@@ -51,18 +51,25 @@ took_part start now later old all sent h t = record {
   sent_is = t.sent_is ∙ ap (λ (n : ℕ). byte_count (n + t.count)) h.sent ∙ counts_on (length h.written) t.count;
 }
 
+-- all that waited was written
+pub flush_written : (start now later : Option (List ℕ)) (old : Buffered) (all waiting cleared : List ℕ) (before sent : ℕ) (hex : Bool)
+    → IsOutput start now old all → waiting ≡ old.waiting → before ≡ old.sent → hex ≡ old.hex
+    → Appends now later waiting → sent ≡ byte_count (before + length waiting) → cleared ≡ []
+    → IsOutput start later (record { waiting = cleared; sent = sent; hex = hex }) all
+flush_written start now later old all waiting cleared before sent hex h is same same_hex took counted none =
+    let appended : Appends now later old.waiting = subst (λ (x : List ℕ). Appends now later x) is took in
+    let count : sent ≡ byte_count (old.sent + length old.waiting) =
+    counted ∙ ap (λ (n : ℕ). byte_count (n + length waiting)) same ∙ ap (λ (x : List ℕ). byte_count (old.sent + length x)) is in
+    rw (none, same_hex) (holds_written start now later old all sent h appended count)
+
 -- more waited, and all that waited was written
-pub push_written : (start now later : Option (List ℕ)) (old : Buffered) (all part waiting written cleared : List ℕ) (before sent : ℕ) (hex : Bool)
-    → IsOutput start now old all → waiting ≡ old.waiting ++ part → written ≡ waiting → before ≡ old.sent → hex ≡ old.hex
-    → Appends now later written → sent ≡ byte_count (before + length written) → cleared ≡ []
+pub push_written : (start now later : Option (List ℕ)) (old : Buffered) (all part waiting cleared : List ℕ) (before sent : ℕ) (hex : Bool)
+    → IsOutput start now old all → waiting ≡ old.waiting ++ part → before ≡ old.sent → hex ≡ old.hex
+    → Appends now later waiting → sent ≡ byte_count (before + length waiting) → cleared ≡ []
     → IsOutput start later (record { waiting = cleared; sent = sent; hex = hex }) (all ++ part)
-push_written start now later old all part waiting written cleared before sent hex h more is same same_hex took counted none =
-    let waits : IsOutput start now (record { waiting = waiting; sent = old.sent; hex = old.hex }) (all ++ part) = holds_more start now old all part waiting h more in
-    let appended : Appends now later waiting = subst (λ (x : List ℕ). Appends now later x) is took in
-    let count : sent ≡ byte_count (old.sent + length waiting) =
-    counted ∙ ap (λ (n : ℕ). byte_count (n + length written)) same ∙ ap (λ (x : List ℕ). byte_count (old.sent + length x)) is in
-    rw (none, same_hex)
-    (holds_written start now later (record { waiting = waiting; sent = old.sent; hex = old.hex }) (all ++ part) sent waits appended count)
+push_written start now later old all part waiting cleared before sent hex h more same same_hex took counted none =
+    flush_written start now later (record { waiting = waiting; sent = old.sent; hex = old.hex }) (all ++ part) waiting cleared before sent hex
+    (holds_more start now old all part waiting h more) refl same same_hex took counted none
 
 -- a part of what waited was written
 pub took_all : (start now later : Option (List ℕ)) (old : Buffered) (all part : List ℕ) (before sent : ℕ)
@@ -73,12 +80,12 @@ took_all start now later old all part before sent h is same t =
     (subst (λ (x : List ℕ). TookPart now later x old.sent sent) is (subst (λ (n : ℕ). TookPart now later part n sent) same t))
 
 -- more waited, and a part of all was written
-pub push_failed : (start now later : Option (List ℕ)) (old : Buffered) (all part waiting written : List ℕ) (before sent : ℕ)
-    → IsOutput start now old all → waiting ≡ old.waiting ++ part → written ≡ waiting → before ≡ old.sent → TookPart now later written before sent
+pub push_failed : (start now later : Option (List ℕ)) (old : Buffered) (all part waiting : List ℕ) (before sent : ℕ)
+    → IsOutput start now old all → waiting ≡ old.waiting ++ part → before ≡ old.sent → TookPart now later waiting before sent
     → Took start later sent (all ++ part)
-push_failed start now later old all part waiting written before sent h more is same t =
-    took_all start now later (record { waiting = waiting; sent = old.sent; hex = old.hex }) (all ++ part) written before sent
-    (holds_more start now old all part waiting h more) is same t
+push_failed start now later old all part waiting before sent h more same t =
+    took_all start now later (record { waiting = waiting; sent = old.sent; hex = old.hex }) (all ++ part) waiting before sent
+    (holds_more start now old all part waiting h more) refl same t
 
 -- the writer took the first bytes of what goes on
 pub took_longer : (start now : Option (List ℕ)) (sent : ℕ) (all more : List ℕ) → Took start now sent all → Took start now sent (all ++ more)

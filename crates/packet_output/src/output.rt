@@ -74,9 +74,27 @@ impl<A: Allocator> PacketOutput<A> {
         if self.waiting.len() < PART {
             return Ok(());
         }
-        let result = write_after(to, &self.waiting, self.sent);
-        self.waiting.clear();
-        match result {
+        match write_waiting(to, &mut self.waiting, self.sent) {
+            Ok(sent) => {
+                self.sent = sent;
+                Ok(())
+            }
+            Err(fault) => Err(fault),
+        }
+    }
+
+    /// Writes what waits, by one write where the writer takes it whole. Nothing waits then.
+    pub fn flush<W: Sink>(&mut self, to: &mut W) -> Result<(), OutputFault>
+        ensures ok { (start : Option (List ℕ)) (all : List ℕ) → IsOutput start (W.contents to.old) self.old all →
+            OnOk result (IsOutput start (W.contents to.new) self.new all) }
+        ensures err { (start : Option (List ℕ)) (all : List ℕ) → IsOutput start (W.contents to.old) self.old all →
+            IfErr result (λ fault. Took start (W.contents to.new) fault.sent all) }
+        ensures empty { self.new.waiting ≡ [] }
+        ensures hex { self.new.hex ≡ self.old.hex }
+        ensures clean { OnOk result (W.fault_count to.new ≡ W.fault_count to.old) }
+        ensures fault { OnErr result (Failed (W.fault_count to.old) (W.fault_count to.new)) }
+    {
+        match write_waiting(to, &mut self.waiting, self.sent) {
             Ok(sent) => {
                 self.sent = sent;
                 Ok(())
@@ -147,4 +165,25 @@ fn write_after<W: Sink>(to: &mut W, part: &[u8], sent: u64) -> Result<u64, Outpu
             sent: sent.saturating_add(fault.taken as u64),
         }),
     }
+}
+
+// The same of all that waits; nothing waits then.
+fn write_waiting<A: Allocator, W: Sink>(
+    to: &mut W,
+    waiting: &mut Vec<u8, A>,
+    sent: u64,
+) -> Result<u64, OutputFault>
+    ensures ok { IfOk result (λ n. n ≡ byte_count (sent + length waiting.old.items)) }
+    ensures bytes { OnOk result (Appends (W.contents to.old) (W.contents to.new) waiting.old.items) }
+    ensures err { IfErr result (λ fault. TookPart (W.contents to.old) (W.contents to.new) waiting.old.items sent
+        fault.sent) }
+    ensures items { waiting.new.items ≡ [] }
+    ensures len { vec_len waiting.new ≡ 0 }
+    ensures capacity { vec_capacity waiting.old ≤ vec_capacity waiting.new }
+    ensures clean { OnOk result (W.fault_count to.new ≡ W.fault_count to.old) }
+    ensures fault { OnErr result (Failed (W.fault_count to.old) (W.fault_count to.new)) }
+{
+    let result = write_after(to, waiting, sent);
+    waiting.clear();
+    result
 }

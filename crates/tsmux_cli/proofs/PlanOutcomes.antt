@@ -5,8 +5,8 @@ use Rattle.description.specs.Described.{Described}
 use Rattle.description.specs.declared.fault.DescError.{DescError}
 use Rattle.description.specs.declared.fault.DescError.TheVariants.{Refused, Memory}
 use Rattle.plan_search.specs.PlainPlan.{plain_plan, serves}
-use Rattle.tsmux_cli.specs.Jobs.{BadDescription, described}
-use Rattle.tsmux_cli.specs.JobFaults.{fault_line}
+use Rattle.checked_jobs.specs.Jobs.{BadDescription, described}
+use Rattle.checked_jobs.specs.JobFaults.{fault_line}
 use Rattle.devices.specs.Lines.{line_text}
 use Rattle.devices.specs.Devices.{Device, IsUntouched}
 use Rattle.devices.specs.Outcomes.{Outcome, printed, reported}

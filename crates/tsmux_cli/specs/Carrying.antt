@@ -5,7 +5,7 @@ use Rattle.carry.specs.declared.carrying.CarryError.{CarryError}
 use Rattle.carry.specs.declared.carrying.CarryError.TheVariants.{Unit as AtUnit, File as AtRecord, Device as AtWriter, Memory as NoMemory}
 use Rattle.tsmux_cli.specs.declared.request.CarryOptions.{CarryOptions}
 use Rattle.devices.specs.Devices.{Device}
-use Rattle.tsmux_cli.specs.FaultLines.{record_outcome, unit_outcome}
+use Rattle.checked_jobs.specs.FaultLines.{record_outcome, unit_outcome}
 use Rattle.devices.specs.Lines.{Reports}
 use Rattle.devices.specs.Outcomes.{Outcome, printed, halted}
 use Rattle.devices.specs.declared.halt.Halt.TheVariants.{Write, Memory}

@@ -4,12 +4,14 @@ use Rattle.pes_packet.specs.Units.{units_of}
 use Rattle.slot_plan.specs.Planned.{Planned}
 use Rattle.plan_checker.specs.Served.{Served}
 use Rattle.mux_core.specs.Headline.{Headline}
+use Rattle.mux_core.specs.MeasuredRuns.{MeasuresWell}
 use Rattle.mux_core.specs.Histories.{bytes_of}
-use Rattle.mux_core.specs.WholeJobs.{job_cause, job_history, or_cause, output_of, periods_cause, plan_schedule, slots_cause, switch_schedule}
+use Rattle.mux_core.specs.WholeJobs.{job_cause, job_history, or_cause, output_of, periods_cause, slots_cause}
 use Rattle.mux_core.specs.Scheduled.{Scheduled}
 use Rattle.mux_core.specs.declared.multiplexing.MuxError.{MuxError}
 use Rattle.mux_core.specs.declared.multiplexing.MuxError.TheVariants.{TooManySlots, Periods, Feed, Device as AtWriter, Memory}
-use Rattle.tsmux_cli.specs.FaultLines.{unit_outcome}
+use Rattle.checked_jobs.specs.FaultLines.{unit_outcome}
+use Rattle.checked_jobs.specs.JobSchedules.{schedule_by}
 use Rattle.devices.specs.Lines.{line_text}
 use Rattle.tsmux_cli.specs.MuxJobs.{MuxFaultView, MuxJobView, mux_fault_line, mux_job_of, default_slots}
 use Rattle.devices.specs.Outcomes.{Outcome, printed, reported, halted}
@@ -28,11 +30,6 @@ periods_of o = unwrap_or o.periods 0
 
 abbrev pub first_of : MuxJobView → Served
 first_of j = record { description = j.description; plan = j.plan }
-
--- one plan over and over, or a second after the first
-abbrev pub schedule_by : Served → Option Planned → ℕ → Scheduled
-schedule_by first None periods = plan_schedule first
-schedule_by first (Some second) periods = switch_schedule (record { first = first; second = second }) periods
 
 abbrev pub schedule_of : MuxOptions → MuxJobView → Scheduled
 schedule_of o j = schedule_by (first_of j) j.second (periods_of o)
@@ -53,9 +50,15 @@ cause_of o j = job_cause (range_cause o j) (schedule_of o j) j.units
 abbrev pub packets_of : MuxOptions → MuxJobView → List ℕ
 packets_of o j = output_of o.hex (schedule_of o j) (job_history j.units (slots_of o j))
 
--- what is promised of the bytes of its packets: every promise of the multiplexer's slot call
-abbrev pub IsKept : MuxOptions → MuxJobView → Type 0
-IsKept o j = Headline (schedule_of o j) (λ k. units_of k j.units) (slots_of o j) (bytes_of (schedule_of o j) (job_history j.units (slots_of o j)))
+-- the bytes of its packets
+abbrev pub run_bytes_of : MuxOptions → MuxJobView → List ℕ
+run_bytes_of o j = bytes_of (schedule_of o j) (job_history j.units (slots_of o j))
+
+-- what is promised of them: every promise of the multiplexer's slot call, and that measuring them with these units is not refused and finds no late
+-- unit and no buffer over its size
+pub record IsKept (o : MuxOptions) (j : MuxJobView) : Type 0 where
+  pub headline : Headline (schedule_of o j) (λ k. units_of k j.units) (slots_of o j) (run_bytes_of o j)
+  pub measured : MeasuresWell (schedule_of o j) j.units (run_bytes_of o j)
 
 -- 2. What it leads to
 

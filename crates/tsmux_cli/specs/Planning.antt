@@ -7,8 +7,8 @@ use Rattle.slot_plan.specs.Conditions.{IsServing}
 use Rattle.slot_plan.specs.Planned.{Planned}
 use Rattle.slot_plan.specs.Text.{plan_text}
 use Rattle.plan_search.specs.PlainPlan.{plain_plan, serves}
-use Rattle.tsmux_cli.specs.Jobs.{BadDescription, described}
-use Rattle.tsmux_cli.specs.JobFaults.{fault_line}
+use Rattle.checked_jobs.specs.Jobs.{BadDescription, described}
+use Rattle.checked_jobs.specs.JobFaults.{fault_line}
 use Rattle.devices.specs.Devices.{Device}
 use Rattle.devices.specs.Outcomes.{halt_line, Outcome, printed, reported}
 use Rattle.devices.specs.Lines.{Reports, line_text}

@@ -5,9 +5,9 @@ ghost use Rattle.tsmux_cli.specs.Carrying.{Carries, carry_outcome};
 ghost use Rattle.devices.specs.Devices.{reads, writes};
 ghost use Rattle.devices.specs.Lines.{Reports};
 
-use crate::fault_lines::{report_record, report_unit};
 use crate::request::CarryOptions;
 use carry::{CarryError, carry};
+use checked_jobs::{report_record, report_unit};
 use counted_io::{Sink, Source};
 use devices::{Halt, report_halt};
 use std::alloc::Global;

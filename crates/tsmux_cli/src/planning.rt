@@ -5,9 +5,7 @@ ghost use Rattle.devices.specs.Devices.{reads, writes};
 ghost use Rattle.devices.specs.Runs.{Performs};
 ghost use Rattle.tsmux_cli.specs.Planning.{IsPlanText, ReportsUnread, MakesPlan};
 
-use crate::fault_lines::report_refusal;
-use crate::job_fault::{JobFault, report_fault};
-use crate::jobs::read_description;
+use checked_jobs::{JobFault, read_description, report_fault, report_refusal};
 use counted_io::{Sink, Source};
 use description::{DescError, Description};
 use devices::{Halt, read_whole, report_halt, write_text};

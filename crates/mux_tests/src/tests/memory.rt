@@ -4,8 +4,8 @@ use super::carrying::is_carried_in;
 use super::jobs::{DOUBLE, SINGLE, is_written_in};
 use super::making::{are_reasons_in, is_made_in};
 use super::measuring::is_measured_in;
-use super::plan_texts;
 use super::runs::{are_driven_in, is_begun_in};
+use super::{airing, plan_texts};
 use std::alloc::Global;
 
 enum Call {
@@ -20,6 +20,7 @@ enum Call {
     Drive,
     Multiplex,
     MultiplexSwitch,
+    Air,
 }
 
 /// Whether the call gives its answer in a heap of this size; None where it gives another.
@@ -36,12 +37,13 @@ fn is_answered(alloc: Global, call: &Call, room: usize) -> Option<bool> {
         Call::Drive => are_driven_in(alloc, room),
         Call::Multiplex => is_written_in(alloc, &SINGLE, room),
         Call::MultiplexSwitch => is_written_in(alloc, &DOUBLE, room),
+        Call::Air => airing::is_begun_in(alloc, room),
     }
 }
 
 /// A call, the least room, how much more each heap has, how many heaps there are, and the least and the most in which
 /// the call gives its answer.
-static ROOMS: [(Call, usize, usize, usize, usize, usize); 13] = [
+static ROOMS: [(Call, usize, usize, usize, usize, usize); 15] = [
     (Call::Carry, 65_600, 16, 64, 1, 63),
     (Call::ReadText, 16, 16, 255, 1, 249),
     (Call::WriteText, 16, 16, 255, 1, 249),
@@ -55,6 +57,8 @@ static ROOMS: [(Call, usize, usize, usize, usize, usize); 13] = [
     (Call::Multiplex, 0, 4_096, 64, 1, 62),
     (Call::MultiplexSwitch, 0, 16, 64, 0, 0),
     (Call::MultiplexSwitch, 0, 4_096, 64, 1, 62),
+    (Call::Air, 0, 16, 16, 0, 0),
+    (Call::Air, 0, 8_192, 24, 1, 23),
 ];
 
 /// In how many of these heaps the call gives its answer; None where another is given.

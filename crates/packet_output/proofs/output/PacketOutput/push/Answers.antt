@@ -6,17 +6,15 @@ use Rattle.packet_output.proofs.output.PacketOutput.push.Goals as goal
 
 pub returns-in-Ok-clause-ok : goal.returns-in-Ok-clause-ok
 returns-in-Ok-clause-ok g c = λ start all h.
-    push_written start _ _ c.args.self.now all _ _ _ _ _ _ _ h
+    push_written start _ _ c.args.self.now all _ _ _ _ _ _ h
     (c.append_formatted.ensures.items ∙ ap (λ (x : Buffered). x.waiting ++ formatted x.hex c.args.packet.now) c.self.view_is)
-    c.deref.ensures.value
     (ap (λ (x : Buffered). x.sent) c.self.view_is)
     (ap (λ (x : Buffered). x.hex) c.self.view_is)
-    c.in-Ok.ensures.bytes c.in-Ok.ensures.ok c.clear.ensures.items
+    c.in-Ok.ensures.bytes c.in-Ok.ensures.ok c.in-Ok.ensures.items
 
 pub returns-in-Err-clause-err : goal.returns-in-Err-clause-err
 returns-in-Err-clause-err g c = λ start all h.
-    push_failed start _ _ c.args.self.now all _ _ _ _ c.in-Err.fault.sent h
+    push_failed start _ _ c.args.self.now all _ _ _ c.in-Err.fault.sent h
     (c.append_formatted.ensures.items ∙ ap (λ (x : Buffered). x.waiting ++ formatted x.hex c.args.packet.now) c.self.view_is)
-    c.deref.ensures.value
     (ap (λ (x : Buffered). x.sent) c.self.view_is)
     c.in-Err.ensures.err

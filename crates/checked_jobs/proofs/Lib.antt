@@ -1,0 +1,2 @@
+pub mod JobReaders
+pub mod LongerJobs

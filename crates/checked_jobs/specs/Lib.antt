@@ -1,0 +1,4 @@
+pub mod FaultLines
+pub mod Jobs
+pub mod JobFaults
+pub mod JobSchedules

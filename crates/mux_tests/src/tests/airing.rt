@@ -1,0 +1,320 @@
+//! Records heard one by one: what each answers and how many slots are then written; and whole runs, beside jobs of the
+//! same units, to writers that fail, and in little memory.
+
+use super::services::{ONE, SMALL, Series, units};
+use counted_io::{Counted, Failing};
+use linked_list_allocator::LocalHeap;
+use mux_core::{NewError, multiplex_as};
+use on_air::{Ending, Heard, OnAir, Terms};
+use std::alloc::{Allocator, Global};
+
+/// Stream, size and DTS of a record of equal bytes, presented at its DTS.
+type Record = (u8, u32, u64);
+
+/// What hearing a record answers.
+enum Answer {
+    Taken,
+    Refused(u8),
+    Input,
+    Slots,
+}
+
+/// Records, and of each of them the answer and the number of slots that are then written; what the next call answers,
+/// and how many slots the whole run has.
+struct Run {
+    terms: Terms,
+    heard: &'static [(Record, Answer, u64)],
+    ending: Answer,
+    slots: u64,
+}
+
+/// A unit may lie ten seconds after the one before.
+const TERMS: Terms = Terms {
+    wait: 0,
+    ahead: 900_000,
+    slots: None,
+};
+
+/// At 1,504,000 bits a second a slot lasts 90 units. A unit that is due at 10,600 is released with slot 100, and the run
+/// ends with its DTS.
+static RUNS: [Run; 6] = [
+    Run {
+        terms: TERMS,
+        heard: &[
+            ((0, 576, 1_600), Answer::Taken, 0),
+            ((0, 576, 10_600), Answer::Taken, 100),
+        ],
+        ending: Answer::Input,
+        slots: 118,
+    },
+    // too soon, over ten seconds ahead, no such stream, a tick, a unit of its time, a tick too far ahead, a tick of the
+    // past, too large, a tick that is just near enough
+    Run {
+        terms: TERMS,
+        heard: &[
+            ((0, 576, 10_600), Answer::Taken, 100),
+            ((0, 576, 5_000), Answer::Refused(4), 100),
+            ((0, 100, 910_601), Answer::Refused(11), 100),
+            ((3, 10, 20_000), Answer::Refused(1), 100),
+            ((255, 0, 19_600), Answer::Taken, 200),
+            ((0, 100, 19_600), Answer::Taken, 200),
+            ((255, 0, 1_000_000), Answer::Refused(11), 200),
+            ((255, 0, 100), Answer::Taken, 200),
+            ((0, 4_000, 30_000), Answer::Refused(3), 200),
+            ((255, 0, 919_600), Answer::Taken, 10_200),
+        ],
+        ending: Answer::Input,
+        slots: 10_218,
+    },
+    // a tick makes the next unit late
+    Run {
+        terms: TERMS,
+        heard: &[
+            ((255, 0, 10_600), Answer::Taken, 100),
+            ((0, 100, 10_500), Answer::Refused(6), 100),
+        ],
+        ending: Answer::Input,
+        slots: 118,
+    },
+    // but not where it is waited for
+    Run {
+        terms: Terms {
+            wait: 9_000,
+            ..TERMS
+        },
+        heard: &[
+            ((255, 0, 10_600), Answer::Taken, 0),
+            ((0, 100, 10_500), Answer::Taken, 0),
+        ],
+        ending: Answer::Input,
+        slots: 118,
+    },
+    // fewer slots than the units need, and more
+    Run {
+        terms: Terms {
+            slots: Some(50),
+            ..TERMS
+        },
+        heard: &[
+            ((0, 576, 1_600), Answer::Taken, 0),
+            ((0, 576, 10_600), Answer::Taken, 50),
+        ],
+        ending: Answer::Slots,
+        slots: 50,
+    },
+    Run {
+        terms: Terms {
+            slots: Some(500),
+            ..TERMS
+        },
+        heard: &[
+            ((0, 576, 1_600), Answer::Taken, 0),
+            ((0, 576, 10_600), Answer::Taken, 100),
+        ],
+        ending: Answer::Input,
+        slots: 500,
+    },
+];
+
+fn push_record(bytes: &mut Vec<u8>, record: Record, byte: u8) -> Option<()> {
+    let (stream, size, dts) = record;
+    bytes.push(stream).ok()?;
+    bytes.extend_from_slice(&size.to_be_bytes()).ok()?;
+    bytes.extend_from_slice(&dts.to_be_bytes()).ok()?;
+    bytes.extend_from_slice(&dts.to_be_bytes()).ok()?;
+    let length = bytes.len().saturating_add(size as usize);
+    bytes.resize(length, byte).ok()
+}
+
+fn records(alloc: Global, heard: &[(Record, Answer, u64)]) -> Option<Vec<u8>> {
+    let mut bytes = Vec::new(alloc);
+    for (record, _, _) in heard {
+        push_record(&mut bytes, *record, 0xa5)?;
+    }
+    Some(bytes)
+}
+
+fn records_of(alloc: Global, series: &Series) -> Option<Vec<u8>> {
+    let mut bytes = Vec::new(alloc);
+    for number in 0..series.count {
+        let size = u32::from(series.size(number));
+        let record = (series.stream, size, series.dts(number));
+        push_record(&mut bytes, record, series.byte(number))?;
+    }
+    Some(bytes)
+}
+
+fn begun<A: Allocator + Copy>(
+    global: Global,
+    given: A,
+    alloc: A,
+    terms: Terms,
+    hex: bool,
+) -> Option<Result<OnAir<A>, NewError>> {
+    let plan = SMALL.checked(global, given)?;
+    Some(OnAir::new(alloc, plan, terms, hex))
+}
+
+fn is_answer(heard: Heard, wanted: &Answer) -> bool {
+    match (heard, wanted) {
+        (Heard::Taken, Answer::Taken) => true,
+        (Heard::Refused { cause, .. }, Answer::Refused(code)) => cause.code() == *code,
+        (Heard::Ended(Ending::Input), Answer::Input) => true,
+        (Heard::Ended(Ending::Slots), Answer::Slots) => true,
+        _ => false,
+    }
+}
+
+/// Whether the next record answers this, and this many slots are written after it.
+fn is_heard(
+    alloc: Global,
+    run: &mut OnAir,
+    input: &mut Counted<&[u8]>,
+    written: Vec<u8>,
+    wanted: (&Answer, u64),
+) -> Option<Vec<u8>> {
+    let (answer, slots) = wanted;
+    let mut output = Counted::new(written);
+    let heard = run.hear(alloc, input, &mut output).ok()?;
+    let written = output.into_inner();
+    let is_wanted = is_answer(heard, answer) && written.len() as u64 == slots.saturating_mul(188);
+    if is_wanted { Some(written) } else { None }
+}
+
+/// Whether each record of a run and its end answer what they have to.
+fn is_aired(alloc: Global, run: &Run) -> Option<bool> {
+    let bytes = records(alloc, run.heard)?;
+    let mut air = begun(alloc, alloc, alloc, run.terms, false)?.ok()?;
+    let mut input = Counted::new(bytes.as_slice());
+    let mut written = Vec::new(alloc);
+    let mut last = 0u64;
+    for (_, answer, slots) in run.heard {
+        written = is_heard(alloc, &mut air, &mut input, written, (answer, *slots))?;
+        last = *slots;
+    }
+    written = is_heard(alloc, &mut air, &mut input, written, (&run.ending, last))?;
+    let mut output = Counted::new(written);
+    air.end(&mut output).ok()?;
+    Some(output.into_inner().len() as u64 == run.slots.saturating_mul(188))
+}
+
+#[test]
+fn records_are_heard(rt: HostRuntime) {
+    for run in &RUNS {
+        assert!(rt; is_aired(rt.alloc(), run) == Some(true));
+    }
+}
+
+/// A whole run to a writer: the bytes that it reports, where it fails.
+fn aired_to(
+    alloc: Global,
+    series: &Series,
+    hex: bool,
+    to: Failing<Vec<u8>>,
+) -> Option<(Option<u64>, Vec<u8>)> {
+    let bytes = records_of(alloc, series)?;
+    let mut air = begun(alloc, alloc, alloc, TERMS, hex)?.ok()?;
+    let mut input = Counted::new(bytes.as_slice());
+    let mut output = Counted::new(to);
+    let sent = match air.hear_on(alloc, &mut input, &mut output) {
+        Err(fault) => Some(fault.sent),
+        Ok(_) => air.end(&mut output).err().map(|fault| fault.sent),
+    };
+    Some((sent, output.into_inner().into_inner()))
+}
+
+fn aired(alloc: Global, series: &Series, hex: bool) -> Option<Vec<u8>> {
+    let to = Failing::after_calls(Vec::new(alloc), u64::MAX);
+    match aired_to(alloc, series, hex, to)? {
+        (None, written) => Some(written),
+        (Some(_), _) => None,
+    }
+}
+
+/// Units, the slots that end with the last DTS, and whether packets are lines.
+static SAME: [(Series, u64, bool); 4] = [
+    (ONE, 18, false),
+    (
+        Series {
+            sizes: (100, 576),
+            count: 200,
+            ..ONE
+        },
+        4_794,
+        false,
+    ),
+    (
+        Series {
+            sizes: (1, 499),
+            first: 90_000,
+            interval: 2_161,
+            count: 100,
+            ..ONE
+        },
+        3_378,
+        true,
+    ),
+    (
+        Series {
+            first: 2_000,
+            interval: 90_000,
+            count: 30,
+            ..ONE
+        },
+        29_023,
+        false,
+    ),
+];
+
+/// Whether a run airs what a job of the same units has.
+fn is_same(alloc: Global, series: &Series, slots: u64, hex: bool) -> Option<bool> {
+    let one = aired(alloc, series, hex)?;
+    let plan = SMALL.checked(alloc, alloc)?;
+    let units = units(alloc, &[*series])?;
+    let mut output = Counted::new(Vec::new(alloc));
+    multiplex_as(alloc, plan, units, slots, hex, &mut output).ok()?;
+    let other = output.into_inner();
+    Some(one.len() > 188 && one.as_slice() == other.as_slice())
+}
+
+#[test]
+fn runs_air_what_jobs_have(rt: HostRuntime) {
+    for (series, slots, hex) in &SAME {
+        assert!(rt; is_same(rt.alloc(), series, *slots, *hex) == Some(true));
+    }
+}
+
+const TWENTY: Series = Series {
+    sizes: (100, 576),
+    count: 20,
+    ..ONE
+};
+
+/// Whether a writer that fails after this many bytes took just these of all.
+fn takes_front(alloc: Global, whole: &[u8], bytes: u64) -> Option<bool> {
+    let to = Failing::after_bytes(Vec::new(alloc), bytes);
+    let (sent, taken) = aired_to(alloc, &TWENTY, false, to)?;
+    Some(sent == Some(bytes) && taken.as_slice() == whole.get(..bytes as usize)?)
+}
+
+#[test]
+fn writers_fail(rt: HostRuntime) {
+    let whole = aired(rt.alloc(), &TWENTY, false).unwrap_or(Vec::new(rt.alloc()));
+    for part in 0..40u64 {
+        assert!(rt; takes_front(rt.alloc(), &whole, part * 2_111) == Some(true));
+    }
+}
+
+/// Whether a run is begun in a heap of this size beside its plan; None where the answer is neither that nor Memory.
+pub fn is_begun_in(global: Global, room: usize) -> Option<bool> {
+    let given = LocalHeap::new(global, 16_384).ok()?;
+    let heap = LocalHeap::new(global, room).ok()?;
+    match begun(global, &given, &heap, TERMS, false)? {
+        Ok(air) => {
+            drop(air);
+            Some(true)
+        }
+        Err(NewError::Memory) => Some(false),
+        Err(_) => None,
+    }
+}

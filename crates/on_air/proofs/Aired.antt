@@ -1,0 +1,196 @@
+-- What a record, and the end, leave of a run.
+use Rattle.std.proofs.Common.{◌≡◌, ℕ, ◌+◌, max, Bool, List, [], Option, Some, None, sym, ap, ◌∙◌, subst}
+use Rattle.description.specs.Ranges.{IsInRange}
+use Rattle.plan_timing.specs.Promised.{Promised}
+use Rattle.pes_packet.specs.AccessUnits.{AccessUnit}
+use Rattle.pes_packet.specs.Units.{units_of}
+use Rattle.slot_contents.specs.Contents.{run_bytes}
+use Rattle.packet_output.specs.Buffer.{Buffered, IsOutput, Took}
+use Rattle.mux_core.specs.Scheduled.{Scheduled}
+use Rattle.mux_core.specs.Headline.{Headline}
+use Rattle.mux_core.specs.Histories.{bytes_of, content_at, empty_history}
+use Rattle.mux_core.specs.MuxStates.{MuxState}
+use Rattle.mux_core.specs.WholeJobs.{job_history, run_output, output_of}
+use Rattle.mux_core.proofs.Accepted.{standing}
+use Rattle.mux_core.proofs.JobDone.{holds_empty}
+use Rattle.on_air.specs.declared.options.Terms.{Terms}
+use Rattle.on_air.specs.declared.refusals.AirRefusal.{AirRefusal}
+use Rattle.on_air.specs.Airing.{Run, Air, silence, job_of, air_output, lead_of, limit_of, settled, settled_at, last_of, last_at, on_to, air_cause, accepted_by, aired_by, aired, ended}
+use Rattle.on_air.specs.AirStates.{AirState, Carries, with_slots, WroteOn, Promises, Admits, IsOnAir, run_with}
+use Rattle.on_air.specs.Hearing.{Fails}
+
+-- of units that a multiplexer stands for, the bytes of any number of slots keep every promise
+keeps : (run : Run) (units : List (ℕ × AccessUnit)) (n slots : ℕ) (m : MuxState) → Promises run.scheduled → Carries run (job_history units n) m →
+    Headline run.scheduled (λ k. units_of k units) slots (bytes_of run.scheduled (job_history units slots))
+keeps run units n slots m promises c =
+    subst (λ (d : Scheduled). Headline d (λ k. units_of k units) slots (run_bytes (content_at d (λ k. units_of k units)) 0 slots)) c.scheduled
+    (standing (job_history units n) m slots (subst (λ (d : Scheduled). IsInRange d.description) (sym c.scheduled) promises.ranges)
+    (subst (λ (d : Scheduled). Promised d.description d.schedule) (sym c.scheduled) promises.promised) c.stands)
+
+-- two states that differ in what a record moves alone
+pub record Moves (old new : AirState) : Type 0 where
+  pub terms : new.terms ≡ old.terms
+  pub rate : new.rate ≡ old.rate
+  pub lead : new.lead ≡ old.lead
+
+-- a record was refused
+refused_by : (run : Run) (a : Air) (entry : ℕ × AccessUnit) (cause : AirRefusal) (start now : Option (List ℕ)) (old new : AirState) → IsOnAir run a start now old → Moves old new →
+    new.packets ≡ old.packets → new.greatest ≡ old.greatest → new.records ≡ old.records + 1 → Carries run (job_of a) new.mux → IsOnAir run (aired_by run a entry (Some cause)) start now new
+unfolding aired_by
+refused_by run a entry cause start now old new h moves packets greatest records mux = record {
+  mux = mux;
+  promises = h.promises;
+  terms = moves.terms ∙ h.terms;
+  hex = ap (λ (p : Buffered). p.hex) packets ∙ h.hex;
+  rate = moves.rate ∙ h.rate;
+  lead = moves.lead ∙ h.lead;
+  greatest = greatest ∙ h.greatest;
+  records = records ∙ ap (λ (n : ℕ). n + 1) h.records;
+  none_waits = ap (λ (p : Buffered). p.waiting) packets ∙ h.none_waits;
+  output = subst (λ (p : Buffered). IsOutput start now p (air_output run a)) (sym packets) h.output;
+  headline = h.headline;
+}
+
+pub refused_on : (run : Run) (a : Air) (entry : ℕ × AccessUnit) (cause : AirRefusal) (start now : Option (List ℕ)) (old new : AirState) → IsOnAir run a start now old → Moves old new →
+    new.packets ≡ old.packets → new.greatest ≡ old.greatest → new.records ≡ old.records + 1 → Admits run a entry (Some cause) new.mux →
+    (air_cause run a entry ≡ Some cause) × IsOnAir run (aired run a entry) start now new
+unfolding accepted_by
+refused_on run a entry cause start now old new h moves packets greatest records admits = (
+  sym admits.cause,
+  subst (λ (o : Option AirRefusal). IsOnAir run (aired_by run a entry o) start now new) admits.cause
+      (refused_by run a entry cause start now old new h moves packets greatest records admits.mux),
+)
+
+-- what is written before the slots that a record settles
+pub admitted_output : (run : Run) (a : Air) (entry : ℕ × AccessUnit) (refused : Option AirRefusal) (m : MuxState) (start now : Option (List ℕ)) (old : AirState) (hex : Bool) (packets : Buffered) →
+    IsOnAir run a start now old → packets ≡ old.packets → hex ≡ old.packets.hex → Admits run a entry refused m →
+    IsOutput start now packets (output_of hex run.scheduled (job_history (accepted_by a entry refused) a.slots))
+admitted_output run a entry refused m start now old hex packets h same like admits =
+    let before : air_output run a ≡ output_of hex run.scheduled (job_history (accepted_by a entry refused) a.slots) =
+    sym admits.before ∙ ap (λ (b : Bool). output_of b run.scheduled (job_history (accepted_by a entry refused) a.slots)) (sym (like ∙ h.hex)) in
+    subst (λ (l : List ℕ). IsOutput start now packets l) before (subst (λ (p : Buffered). IsOutput start now p (air_output run a)) (sym same) h.output)
+
+-- a record was taken, and the slots that it settles were written
+taken_by : (run : Run) (a : Air) (entry : ℕ × AccessUnit) (hex : Bool) (start now later : Option (List ℕ)) (m : MuxState) (old new : AirState) → IsOnAir run a start now old → Moves old new →
+    hex ≡ old.packets.hex → new.greatest ≡ max old.greatest entry.1.dts → new.records ≡ old.records + 1 → Carries run (job_history (accepted_by a entry None) a.slots) m →
+    WroteOn run (with_slots (job_history (accepted_by a entry None) a.slots) (on_to a.slots (settled_at run entry.1.dts))) hex start later new.mux new.packets →
+    IsOnAir run (aired_by run a entry None) start later new
+unfolding aired_by
+taken_by run a entry hex start now later m old new h moves like greatest records mux wrote =
+    let slots = on_to a.slots (settled_at run entry.1.dts) in
+    record {
+      mux = wrote.mux;
+      promises = h.promises;
+      terms = moves.terms ∙ h.terms;
+      hex = wrote.hex_is ∙ like ∙ h.hex;
+      rate = moves.rate ∙ h.rate;
+      lead = moves.lead ∙ h.lead;
+      greatest = greatest ∙ ap (λ (n : ℕ). max n entry.1.dts) h.greatest;
+      records = records ∙ ap (λ (n : ℕ). n + 1) h.records;
+      none_waits = wrote.none_waits;
+      output = subst (λ (b : Bool). IsOutput start later new.packets (output_of b run.scheduled (job_history (accepted_by a entry None) slots))) (like ∙ h.hex) wrote.output;
+      headline = keeps run (accepted_by a entry None) a.slots slots m h.promises mux;
+    }
+
+pub taken_on : (run : Run) (a : Air) (entry : ℕ × AccessUnit) (target : ℕ) (hex : Bool) (start now later : Option (List ℕ)) (m : MuxState) (old new : AirState) → IsOnAir run a start now old → Moves old new →
+    hex ≡ old.packets.hex → new.greatest ≡ max old.greatest entry.1.dts → new.records ≡ old.records + 1 → Admits run a entry None m → target ≡ settled_at run entry.1.dts →
+    WroteOn run (with_slots (job_history (accepted_by a entry None) a.slots) (on_to a.slots target)) hex start later new.mux new.packets →
+    (air_cause run a entry ≡ None) × IsOnAir run (aired run a entry) start later new
+taken_on run a entry target hex start now later m old new h moves like greatest records admits is wrote = (
+  sym admits.cause,
+  subst (λ (o : Option AirRefusal). IsOnAir run (aired_by run a entry o) start later new) admits.cause
+      (taken_by run a entry hex start now later m old new h moves like greatest records admits.mux
+      (subst (λ (n : ℕ). WroteOn run (with_slots (job_history (accepted_by a entry None) a.slots) (on_to a.slots n)) hex start later new.mux new.packets) is wrote)),
+)
+
+-- the writer failed
+fails_by : (run : Run) (a : Air) (entry : ℕ × AccessUnit) (start later : Option (List ℕ)) (sent : ℕ) (m : MuxState) → Promises run.scheduled →
+    Carries run (job_history (accepted_by a entry None) a.slots) m →
+    Took start later sent (output_of run.hex run.scheduled (with_slots (job_history (accepted_by a entry None) a.slots) (on_to a.slots (settled_at run entry.1.dts)))) →
+    Fails run (aired_by run a entry None) start later sent
+unfolding aired_by
+fails_by run a entry start later sent m promises mux took =
+    record { took = took; headline = keeps run (accepted_by a entry None) a.slots (on_to a.slots (settled_at run entry.1.dts)) m promises mux }
+
+pub fails_on : (run : Run) (a : Air) (entry : ℕ × AccessUnit) (target sent : ℕ) (hex : Bool) (start now later : Option (List ℕ)) (m : MuxState) (old : AirState) → IsOnAir run a start now old →
+    hex ≡ old.packets.hex → Admits run a entry None m → target ≡ settled_at run entry.1.dts →
+    Took start later sent (output_of hex run.scheduled (with_slots (job_history (accepted_by a entry None) a.slots) (on_to a.slots target))) →
+    (air_cause run a entry ≡ None) × Fails run (aired run a entry) start later sent
+fails_on run a entry target sent hex start now later m old h like admits is took =
+    let there : Took start later sent (output_of run.hex run.scheduled (with_slots (job_history (accepted_by a entry None) a.slots) (on_to a.slots (settled_at run entry.1.dts)))) =
+    subst (λ (b : Bool). Took start later sent (output_of b run.scheduled (with_slots (job_history (accepted_by a entry None) a.slots) (on_to a.slots (settled_at run entry.1.dts))))) (like ∙ h.hex)
+    (subst (λ (n : ℕ). Took start later sent (output_of hex run.scheduled (with_slots (job_history (accepted_by a entry None) a.slots) (on_to a.slots n)))) is took) in (
+      sym admits.cause,
+      subst (λ (o : Option AirRefusal). Fails run (aired_by run a entry o) start later sent) admits.cause (fails_by run a entry start later sent m h.promises admits.mux there),
+    )
+
+-- ---- the end
+
+pub end_output : (run : Run) (a : Air) (start now : Option (List ℕ)) (old : AirState) (packets : Buffered) → IsOnAir run a start now old → packets ≡ old.packets →
+    IsOutput start now packets (output_of packets.hex run.scheduled (job_of a))
+end_output run a start now old packets h same =
+    subst (λ (p : Buffered). IsOutput start now p (output_of p.hex run.scheduled (job_of a))) (sym same)
+    (subst (λ (b : Bool). IsOutput start now old.packets (output_of b run.scheduled (job_of a))) (sym h.hex) h.output)
+
+pub ended_on : (run : Run) (a : Air) (target : ℕ) (hex : Bool) (start now later : Option (List ℕ)) (old new : AirState) → IsOnAir run a start now old → Moves old new →
+    hex ≡ old.packets.hex → new.greatest ≡ old.greatest → new.records ≡ old.records → target ≡ last_at run a.greatest →
+    WroteOn run (with_slots (job_of a) (on_to a.slots target)) hex start later new.mux new.packets → IsOnAir run (ended run a) start later new
+ended_on run a target hex start now later old new h moves like greatest records is w =
+    let wrote = subst (λ (n : ℕ). WroteOn run (with_slots (job_of a) (on_to a.slots n)) hex start later new.mux new.packets) is w in
+    record {
+      mux = wrote.mux;
+      promises = h.promises;
+      terms = moves.terms ∙ h.terms;
+      hex = wrote.hex_is ∙ like ∙ h.hex;
+      rate = moves.rate ∙ h.rate;
+      lead = moves.lead ∙ h.lead;
+      greatest = greatest ∙ h.greatest;
+      records = records ∙ h.records;
+      none_waits = wrote.none_waits;
+      output = subst (λ (b : Bool). IsOutput start later new.packets (output_of b run.scheduled (job_of (ended run a)))) (like ∙ h.hex) wrote.output;
+      headline = keeps run a.accepted a.slots (ended run a).slots old.mux h.promises h.mux;
+    }
+
+pub end_fails : (run : Run) (a : Air) (target sent : ℕ) (hex : Bool) (start now later : Option (List ℕ)) (old : AirState) → IsOnAir run a start now old →
+    hex ≡ old.packets.hex → target ≡ last_at run a.greatest → Took start later sent (output_of hex run.scheduled (with_slots (job_of a) (on_to a.slots target))) →
+    Fails run (ended run a) start later sent
+end_fails run a target sent hex start now later old h like is took = record {
+  took =
+      subst (λ (b : Bool). Took start later sent (output_of b run.scheduled (job_of (ended run a)))) (like ∙ h.hex)
+      (subst (λ (n : ℕ). Took start later sent (output_of hex run.scheduled (with_slots (job_of a) (on_to a.slots n)))) is took);
+  headline = keeps run a.accepted a.slots (ended run a).slots old.mux h.promises h.mux;
+}
+
+-- ---- what the calls count by
+
+pub last_same : (run : Run) (a : Air) (start now : Option (List ℕ)) (old : AirState) (rate greatest : ℕ) (terms : Terms) → IsOnAir run a start now old →
+    rate ≡ old.rate → terms ≡ old.terms → greatest ≡ old.greatest → last_of rate terms greatest ≡ last_at run a.greatest
+last_same run a start now old rate greatest terms h r t g =
+    ap (λ (n : ℕ). last_of n terms greatest) (r ∙ h.rate) ∙ ap (λ (x : Terms). last_of run.scheduled.description.rate x greatest) (t ∙ h.terms)
+    ∙ ap (λ (n : ℕ). last_of run.scheduled.description.rate run.terms n) (g ∙ h.greatest)
+
+pub settled_same : (run : Run) (a : Air) (start now : Option (List ℕ)) (old : AirState) (rate lead limit due dts : ℕ) (terms : Terms) → IsOnAir run a start now old →
+    rate ≡ old.rate → lead ≡ old.lead → terms ≡ old.terms → limit ≡ limit_of terms → due ≡ dts → settled rate lead limit due ≡ settled_at run dts
+settled_same run a start now old rate lead limit due dts terms h r l t m e =
+    ap (λ (n : ℕ). settled n lead limit due) (r ∙ h.rate) ∙ ap (λ (n : ℕ). settled run.scheduled.description.rate n limit due) (l ∙ h.lead)
+    ∙ ap (λ (n : ℕ). settled run.scheduled.description.rate (lead_of run) n due) (m ∙ ap (λ (x : Terms). limit_of x) (t ∙ h.terms))
+    ∙ ap (λ (n : ℕ). settled run.scheduled.description.rate (lead_of run) (limit_of run.terms) n) e
+
+-- before the first record
+pub begins : (d : Scheduled) (terms : Terms) (hex : Bool) (start : Option (List ℕ)) (s : AirState) → Carries (run_with d terms hex) empty_history s.mux → Promises d →
+    s.packets ≡ record { waiting = []; sent = 0; hex = hex } → s.terms ≡ terms → s.rate ≡ d.description.rate → s.lead ≡ lead_of (run_with d terms hex) →
+    s.greatest ≡ 0 → s.records ≡ 0 → IsOnAir (run_with d terms hex) silence start start s
+unfolding run_output
+begins d terms hex start s carries promises packets t r l g n = record {
+  mux = carries;
+  promises = promises;
+  terms = t;
+  hex = ap (λ (p : Buffered). p.hex) packets;
+  rate = r;
+  lead = l;
+  greatest = g;
+  records = n;
+  none_waits = ap (λ (p : Buffered). p.waiting) packets;
+  output = holds_empty s.packets start (ap (λ (p : Buffered). p.waiting) packets) (ap (λ (p : Buffered). p.sent) packets);
+  headline = keeps (run_with d terms hex) [] 0 0 s.mux promises carries;
+}

@@ -1,0 +1,87 @@
+-- What one record after another leaves of a run and of its input.
+use Rattle.std.proofs.Common.{◌≡◌, ℕ, suc, List, [], ◌∷◌, ◌++◌, Option, Some, None, Result, Ok, Err, refl, sym, ap, ◌∙◌, subst}
+use Rattle.pes_packet.specs.AccessUnits.{AccessUnit}
+use Rattle.unit_records.specs.Records.{record_at}
+use Rattle.unit_records.specs.declared.reading.UnitFileError.{UnitFileError}
+use Rattle.carry.specs.RecordRuns.{after_records}
+use Rattle.on_air.specs.declared.refusals.AirRefusal.{AirRefusal}
+use Rattle.packet_output.specs.declared.output.OutputFault.{OutputFault}
+use Rattle.on_air.specs.declared.answers.Heard.{Heard}
+use Rattle.on_air.specs.declared.answers.Heard.TheVariants.{Taken, Refused, Ended}
+use Rattle.on_air.specs.declared.answers.Ending.{Ending}
+use Rattle.on_air.specs.Airing.{Run, Air, air_cause, aired_by, aired, with_record, heard}
+use Rattle.on_air.specs.AirStates.{AirState, IsOnAir}
+use Rattle.on_air.specs.Hearing.{HearsRecord, Hears, HasHeard, HearsOn, NamesDevice}
+
+with_one : (run : Run) (a : Air) (found : Result (Option (ℕ × AccessUnit)) UnitFileError) (entry : ℕ × AccessUnit) → found ≡ Ok (Some entry) → aired run a entry ≡ with_record run found a
+unfolding with_record
+with_one run a found entry is = rw is refl
+
+-- one record more
+pub one_more : (run : Run) (n : ℕ) (a : Air) (origin old left : Option (List ℕ)) (refused : Option AirRefusal) (h : HearsRecord run a old left refused) → HasHeard run n a origin old →
+    HasHeard run (suc n) (aired run a h.entry) origin left
+unfolding heard after_records
+one_more run n a origin old left refused h has xs is =
+    let before = has xs is in
+    let read = h.known (after_records n xs) before.1 in
+    (with_one run a (record_at (after_records n xs)) h.entry read.0 ∙ ap (with_record run (record_at (after_records n xs))) before.0, read.1)
+
+-- a record that is taken adds no refusal, and one that is refused its own
+pub taken_adds : (run : Run) (a : Air) (entry : ℕ × AccessUnit) (refused : Option AirRefusal) → refused ≡ None → (aired_by run a entry refused).refused ≡ a.refused
+unfolding aired_by
+taken_adds run a entry refused none = rw none refl
+
+pub refused_adds : (run : Run) (a : Air) (entry : ℕ × AccessUnit) (refused : Option AirRefusal) (cause : AirRefusal) → refused ≡ Some cause →
+    (aired_by run a entry refused).refused ≡ a.refused ++ ((a.records, cause) ∷ [])
+unfolding aired_by
+refused_adds run a entry refused cause some = rw some refl
+
+-- further records were taken
+pub record Midway (run : Run) (a : Air) (origin start left now : Option (List ℕ)) (s : AirState) : Type 0 where
+  pub so_far : Air
+  pub count : ℕ
+  pub heard_is : HasHeard run count so_far origin left
+  pub refused : so_far.refused ≡ a.refused
+  pub state : IsOnAir run so_far start now s
+
+pub midway_begins : (run : Run) (n : ℕ) (a : Air) (origin start left now : Option (List ℕ)) (s : AirState) → IsOnAir run a start now s → HasHeard run n a origin left →
+    Midway run a origin start left now s
+midway_begins run n a origin start left now s h has = record { so_far = a; count = n; heard_is = has; refused = refl; state = h }
+
+pub next_taken : (run : Run) (a : Air) (origin start mid left now later : Option (List ℕ)) (s new : AirState) (w : Midway run a origin start mid now s) →
+    Hears run w.so_far mid left start later (Ok Taken) new → Midway run a origin start left later new
+next_taken run a origin start mid left now later s new w (h, state) = record {
+  so_far = aired run w.so_far h.entry;
+  count = suc w.count;
+  heard_is = one_more run w.count w.so_far origin mid left None h w.heard_is;
+  refused = taken_adds run w.so_far h.entry (air_cause run w.so_far h.entry) h.cause ∙ w.refused;
+  state = state;
+}
+
+pub next_refused : (run : Run) (a : Air) (origin start mid left now later : Option (List ℕ)) (s new : AirState) (index : ℕ) (cause : AirRefusal) (w : Midway run a origin start mid now s) →
+    Hears run w.so_far mid left start later (Ok (Refused index cause)) new → HearsOn run a origin left start later (Ok (Refused index cause)) new
+next_refused run a origin start mid left now later s new index cause w (same, (h, state)) = (
+  aired run w.so_far h.entry,
+  record { count = suc w.count; heard_is = one_more run w.count w.so_far origin mid left (Some cause) h w.heard_is },
+  refused_adds run w.so_far h.entry (air_cause run w.so_far h.entry) cause h.cause ∙ ap (λ (l : List (ℕ × AirRefusal)). l ++ ((w.so_far.records, cause) ∷ [])) w.refused
+      ∙ ap (λ (i : ℕ). a.refused ++ ((i, cause) ∷ [])) (sym same),
+  state,
+)
+
+pub next_ended : (run : Run) (a : Air) (origin start mid left now later : Option (List ℕ)) (s new : AirState) (why : Ending) (w : Midway run a origin start mid now s) →
+    Hears run w.so_far mid left start later (Ok (Ended why)) new → HearsOn run a origin left start later (Ok (Ended why)) new
+next_ended run a origin start mid left now later s new why w (ends, state) =
+    (w.so_far, (mid, record { count = w.count; heard_is = w.heard_is }, ends), w.refused, state)
+
+pub next_failed : (run : Run) (a : Air) (origin start mid left now later : Option (List ℕ)) (s new : AirState) (fault : OutputFault) (w : Midway run a origin start mid now s) →
+    Hears run w.so_far mid left start later (Err fault) new → HearsOn run a origin left start later (Err fault) new
+next_failed run a origin start mid left now later s new fault w (h, fails) = (
+  aired run w.so_far h.entry,
+  record { count = suc w.count; heard_is = one_more run w.count w.so_far origin mid left None h w.heard_is },
+  taken_adds run w.so_far h.entry (air_cause run w.so_far h.entry) h.cause ∙ w.refused,
+  fails,
+)
+
+-- no device failed before the last record
+pub names_same : (result : Result Heard OutputFault) (r0 rm r1 w0 wm w1 : ℕ) → rm ≡ r0 → wm ≡ w0 → NamesDevice result rm r1 wm w1 → NamesDevice result r0 r1 w0 w1
+names_same result r0 rm r1 w0 wm w1 r w n = subst (λ (x : ℕ). NamesDevice result x r1 w0 w1) r (subst (λ (x : ℕ). NamesDevice result rm r1 x w1) w n)

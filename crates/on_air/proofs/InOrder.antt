@@ -1,0 +1,328 @@
+-- Units in order are all accepted, and aired as a whole job of them is multiplexed.
+use Rattle.std.proofs.Common.{◌≡◌, ℕ, zero, suc, ◌+◌, ◌-◌, ◌*◌, ◌<◌, ◌≤◌, ◌==◌, ◌&&◌, min, max, Bool, true, false, List, [], ◌∷◌, ◌++◌, length, map, Option, Some, None, Result, Ok, Err, refl, sym, ap, ◌∙◌, subst, arith, All, inl, inr, append_assoc, append-nil}
+use Rattle.std.specs.Prelude.{slice_get, fold}
+use Rattle.std.proofs.Math.Nat.{mul-le-mul_right, mul-le-mul_left}
+use Rattle.std.specs.Int.{div_ceil}
+use Rattle.std.proofs.lemmas.Grind.{div_ceil_times}
+use Rattle.std.proofs.lemmas.Bool.{le-ltb, lt-leb, ne_eqb, cases_eq, cases_lt}
+use Rattle.std.proofs.lemmas.List.Sums.{fold-append}
+use Rattle.std.proofs.lemmas.List.Elements.{All-nil, All-cons, All-get_or, All-map, All-filter}
+use Rattle.std.proofs.lemmas.Option.{get_or_from_slice_get, slice_get_within}
+use Rattle.std.specs.List.{filter}
+use Rattle.clock27.specs.Release.{release}
+use Rattle.pes_packet.specs.AccessUnits.{AccessUnit}
+use Rattle.pes_packet.specs.Units.{units_of}
+use Rattle.description.specs.Described.{DescribedStream}
+use Rattle.description.specs.Ranges.{IsInRange}
+use Rattle.plan_timing.specs.Promised.{declaration}
+use Rattle.unit_timing.specs.Plans.{KeepsDeclaration}
+use Rattle.unit_queue.specs.OwnedStreams.{timed}
+use Rattle.unit_queue.specs.Places.{left_before}
+use Rattle.unit_queue.specs.Queues.{Kept}
+use Rattle.unit_queue.specs.Causes.{unit_cause, is_full}
+use Rattle.unit_queue.specs.declared.refusal.FeedError.{FeedError}
+use Rattle.unit_queue.proofs.CauseLemmas.{own_facts, or_none}
+use Rattle.unit_queue.proofs.QueueStates.{first_law, kept_law}
+use Rattle.unit_records.specs.Records.{record_at}
+use Rattle.unit_records.specs.declared.reading.UnitFileError.{UnitFileError}
+use Rattle.carry.specs.RecordRuns.{after_records}
+use Rattle.mux_core.specs.Scheduled.{Scheduled}
+use Rattle.mux_core.specs.Histories.{owned_stream}
+use Rattle.mux_core.specs.MuxStates.{feed_cause}
+use Rattle.mux_core.specs.WholeJobs.{job_history, output_of, or_cause, unit_refused, cause_after, first_refused}
+use Rattle.mux_core.specs.declared.multiplexing.MuxError.{MuxError}
+use Rattle.mux_core.proofs.KnownRanges.{parameters_known, stream_range}
+use Rattle.mux_core.proofs.UnitCounts.{own_units, other_units, units_append}
+use Rattle.on_air.specs.declared.refusals.AirRefusal.{AirRefusal}
+use Rattle.on_air.specs.Airing.{Run, Air, silence, greatest_lead, least_interval, needed_room, lead_of, settled_at, limit_of, last_by, last_at, on_to, is_tick, is_ahead, unit_refusal, air_cause, accepted_by, aired_by, with_record, heard, ended}
+use Rattle.on_air.specs.AirStates.{Promises}
+use Rattle.on_air.specs.Laws.{with_entry, records_of, greatest_of, IsJobInOrder, AiredInOrder, AiredAsMultiplexed}
+use Rattle.on_air.proofs.InTime.{taken_in_time}
+use Rattle.on_air.proofs.Room.{waiting_few}
+
+-- ---- slots of releases
+
+-- a slot before the next one begins later
+release_begins : (rate lead due : ℕ) → (due - lead) * rate ≤ release rate lead due * 135360000
+release_begins rate lead due = omega arith
+
+pub release_rises : (rate a due b other : ℕ) → due - a ≤ other - b → release rate a due ≤ release rate b other
+release_rises rate a due b other le =
+    let wide : (due - a) * rate ≤ (other - b) * rate = mul-le-mul_right rate le in
+    omega (arith, wide)
+
+release_zero : (rate lead : ℕ) → release rate lead 0 ≡ 0
+release_zero rate lead =
+    let rises : release rate lead 0 ≤ release rate 0 0 = release_rises rate lead 0 0 0 (omega arith) in
+    let none : release rate 0 0 ≡ 0 = omega arith in
+    omega (arith, rises, none)
+
+-- ---- the job, unit by unit
+
+no_cause : (cause : Option FeedError) (index : ℕ) (next : Option MuxError) → or_cause (unit_refused index cause) next ≡ None → (cause ≡ None) × (next ≡ None)
+unfolding or_cause unit_refused
+no_cause None index next none = (refl, none)
+no_cause (Some cause) index next none = absurd (let no : ⊥ = cc in no)
+
+both_none : (cause : Option FeedError) (index : ℕ) (next : Option MuxError) → cause ≡ None → next ≡ None → or_cause (unit_refused index cause) next ≡ None
+unfolding or_cause unit_refused
+both_none cause index next none last = rw (none, last) refl
+
+last_taken : (d : Scheduled) (other : ℕ) (fed units : List (ℕ × AccessUnit)) (entry : ℕ × AccessUnit) → first_refused d other fed (units ++ (entry ∷ [])) ≡ None →
+    (first_refused d other fed units ≡ None) × (cause_after d other (fed ++ units) entry ≡ None)
+unfolding first_refused
+last_taken d other fed [] entry none =
+    let one = no_cause (cause_after d other fed entry) (length fed) None none in
+    (refl, ap (λ (l : List (ℕ × AccessUnit)). cause_after d other l entry) (append-nil fed) ∙ one.0)
+last_taken d other fed (first ∷ units) entry none =
+    let one = no_cause (cause_after d other fed first) (length fed) (first_refused d other (fed ++ (first ∷ [])) (units ++ (entry ∷ []))) none in
+    let rest = last_taken d other (fed ++ (first ∷ [])) units entry one.1 in (
+      both_none (cause_after d other fed first) (length fed) (first_refused d other (fed ++ (first ∷ [])) units) one.0 rest.0,
+      ap (λ (l : List (ℕ × AccessUnit)). cause_after d other l entry) (sym (append_assoc fed (first ∷ []) units)) ∙ rest.1,
+    )
+
+-- the stream of a unit that is accepted
+record StreamOf (d : Scheduled) (other : ℕ) (units : List (ℕ × AccessUnit)) (entry : ℕ × AccessUnit) (o : Option DescribedStream) : Type 0 where
+  stream : DescribedStream
+  is : o ≡ Some stream
+  cause : unit_cause (owned_stream d entry.0 stream) 0 other (units_of entry.0 units) entry.1 ≡ None
+
+stream_of : (d : Scheduled) (other : ℕ) (units : List (ℕ × AccessUnit)) (entry : ℕ × AccessUnit) (o : Option DescribedStream) →
+    feed_cause d other (job_history units 0) entry.0 entry.1 o ≡ None → StreamOf d other units entry o
+unfolding feed_cause
+stream_of d other units entry None none = absurd (let no : ⊥ = cc in no)
+stream_of d other units entry (Some s) none = record { stream = s; is = refl; cause = none }
+
+-- each stream's units are within its declaration
+abbrev AllKept : Scheduled → List (ℕ × AccessUnit) → Type 0
+AllKept d units = (k : ℕ) (s : DescribedStream) → slice_get d.description.streams k ≡ Some s → Kept (owned_stream d k s) (units_of k units)
+
+kept_none : (d : Scheduled) → AllKept d []
+kept_none d k s is = (first_law (owned_stream d k s) 0).kept
+
+kept_own : (d : Scheduled) (other k : ℕ) (units : List (ℕ × AccessUnit)) (u : AccessUnit) (s : DescribedStream) → IsInRange d.description → slice_get d.description.streams k ≡ Some s →
+    cause_after d other units (k, u) ≡ None → AllKept d units → Kept (owned_stream d k s) (units_of k units ++ (u ∷ []))
+kept_own d other k units u s ranges is none kept =
+    let found = rw is at none in
+    kept_law (owned_stream d k s) 0 other (units_of k units) u (parameters_known d ranges k s is) (unfold feed_cause in found) (kept k s is)
+
+kept_more : (d : Scheduled) (other : ℕ) (units : List (ℕ × AccessUnit)) (entry : ℕ × AccessUnit) → IsInRange d.description → cause_after d other units entry ≡ None → AllKept d units →
+    AllKept d (units ++ (entry ∷ []))
+kept_more d other units entry ranges none kept k s is = elim (cases_eq entry.0 k) [
+  | inl e ↦
+      let more : units_of k (units ++ (entry ∷ [])) ≡ units_of k units ++ (entry.1 ∷ []) =
+      units_append k units (entry ∷ []) ∙ ap (λ (l : List AccessUnit). units_of k units ++ l) (own_units k entry [] e) in
+      subst (λ (l : List AccessUnit). Kept (owned_stream d k s) l) (sym more)
+      (kept_own d other k units entry.1 s ranges is (subst (λ (j : ℕ). cause_after d other units (j, entry.1) ≡ None) e none) kept)
+  | inr ne ↦
+      let same : units_of k (units ++ (entry ∷ [])) ≡ units_of k units =
+      units_append k units (entry ∷ []) ∙ ap (λ (l : List AccessUnit). units_of k units ++ l) (other_units k entry [] ne) ∙ append-nil (units_of k units) in
+      subst (λ (l : List AccessUnit). Kept (owned_stream d k s) l) (sym same) (kept k s is)
+]
+
+-- ---- greatest and least
+
+none_after : (g : ℕ) (units : List (ℕ × AccessUnit)) →
+    (g ≤ fold (λ greatest entry. max greatest entry.1.dts) g units) × All (λ e. e.1.dts ≤ fold (λ greatest entry. max greatest entry.1.dts) g units) units
+none_after g [] = (omega arith, All-nil (λ e. e.1.dts ≤ g))
+none_after g (entry ∷ units) =
+    let rest = none_after (max g entry.1.dts) units in
+    (omega (arith, rest.0), All-cons (λ e. e.1.dts ≤ fold (λ greatest x. max greatest x.1.dts) (max g entry.1.dts) units) entry units (omega (arith, rest.0)) rest.1)
+
+all_leads : (g : ℕ) (streams : List DescribedStream) →
+    (g ≤ fold (λ lead s. max lead s.lead) g streams) × All (λ s. s.lead ≤ fold (λ lead x. max lead x.lead) g streams) streams
+all_leads g [] = (omega arith, All-nil (λ s. s.lead ≤ g))
+all_leads g (s ∷ streams) =
+    let rest = all_leads (max g s.lead) streams in
+    (omega (arith, rest.0), All-cons (λ x. x.lead ≤ fold (λ lead y. max lead y.lead) (max g s.lead) streams) s streams (omega (arith, rest.0)) rest.1)
+
+all_intervals : (g : ℕ) (streams : List DescribedStream) →
+    (fold (λ least s. min least s.interval) g streams ≤ g) × All (λ s. fold (λ least x. min least x.interval) g streams ≤ s.interval) streams
+all_intervals g [] = (omega arith, All-nil (λ s. g ≤ s.interval))
+all_intervals g (s ∷ streams) =
+    let rest = all_intervals (min g s.interval) streams in
+    (omega (arith, rest.0), All-cons (λ x. fold (λ least y. min least y.interval) (min g s.interval) streams ≤ x.interval) s streams (omega (arith, rest.0)) rest.1)
+
+lead_within : (streams : List DescribedStream) (k : ℕ) (s : DescribedStream) → slice_get streams k ≡ Some s → s.lead ≤ greatest_lead streams
+lead_within streams k s is =
+    rw (get_or_from_slice_get streams k s s is) at (All-get_or (λ x. x.lead ≤ greatest_lead streams) streams k s (slice_get_within streams k s is) (all_leads 0 streams).1)
+
+interval_within : (streams : List DescribedStream) (k : ℕ) (s : DescribedStream) → slice_get streams k ≡ Some s → least_interval streams ≤ s.interval
+interval_within streams k s is =
+    rw (get_or_from_slice_get streams k s s is) at (All-get_or (λ x. least_interval streams ≤ x.interval) streams k s (slice_get_within streams k s is) (all_intervals 90000 streams).1)
+
+units_within : (k x : ℕ) (units : List (ℕ × AccessUnit)) → All (λ e. e.1.dts ≤ x) units → All (λ u. u.dts ≤ x) (units_of k units)
+units_within k x units all = All-map (λ u. u.dts ≤ x) (λ (e : ℕ × AccessUnit). e.1) (filter (λ e. e.0 == k) units) (All-filter (λ e. e.0 == k) (λ e. e.1.dts ≤ x) units all)
+
+-- ---- the room
+
+few_enough : (n interval least lead capacity : ℕ) → 1 ≤ least → least ≤ interval → n * interval < lead + interval → div_ceil lead least + 1 ≤ capacity → n < capacity
+few_enough zero interval least lead capacity some le below room = omega (arith, room)
+few_enough (suc n) interval least lead capacity some le below room =
+    let wide : n * least ≤ n * interval = mul-le-mul_left n le in
+    let bounds = div_ceil_times lead least (omega (arith, some)) in
+    elim (cases_lt n (div_ceil lead least)) [
+      | inl lt ↦ omega (arith, lt, room)
+      | inr over ↦ absurd (omega (arith, wide, below, bounds.0, mul-le-mul_right least over))
+    ]
+
+-- the slots that these units settle are written
+has_room : (run : Run) (k slots : ℕ) (units : List (ℕ × AccessUnit)) (s : DescribedStream) → Promises run.scheduled →
+    needed_room (lead_of run) run.scheduled.description.streams ≤ run.capacity → slice_get run.scheduled.description.streams k ≡ Some s → AllKept run.scheduled units →
+    slots ≡ release run.scheduled.description.rate (lead_of run) (greatest_of units) → is_full (owned_stream run.scheduled k s) slots run.capacity (units_of k units) ≡ false
+has_room run k slots units s promises room is kept written =
+    let d = run.scheduled in
+    let l = owned_stream d k s in
+    let us = units_of k units in
+    let last = greatest_of units in
+    let mine = kept k s is in
+    let keeps : KeepsDeclaration (declaration s) (map (timed (owned_stream run.scheduled k s)) (units_of k units)) =
+    record { spaced = mine.spaced; sized = mine.sized; allowed = mine.allowed } in
+    let served = promises.promised.streams k s (map (timed l) us) is keeps in
+    let range = stream_range d.description k s promises.ranges is in
+    let begins : (greatest_of units - lead_of run) * run.scheduled.description.rate ≤ slots * 135360000 =
+    rw written (release_begins d.description.rate (lead_of run) last) in
+    let few = waiting_few l s.rx slots (lead_of run) last s.interval range.some_interval begins us 0 0 0 s.lead mine.spaced
+    (units_within k last units (none_after 0 units).1) (served.arrived slots) in
+    let least = interval_within d.description.streams k s is in
+    lt-leb run.capacity (length (left_before l slots us).units)
+    (few_enough (length (left_before l slots us).units) s.interval (max (least_interval d.description.streams) 1) (lead_of run) run.capacity
+    (omega arith) (omega (arith, least, range.some_interval)) few room)
+
+-- ---- one unit
+
+pub record SoFar (run : Run) (a : Air) (units : List (ℕ × AccessUnit)) : Type 0 where
+  pub accepted : a.accepted ≡ units
+  pub refused : a.refused ≡ []
+  pub greatest : a.greatest ≡ greatest_of units
+  pub slots : a.slots ≡ settled_at run (greatest_of units)
+  pub kept : AllKept run.scheduled units
+
+and_false : (b : Bool) → (b && false) ≡ false
+and_false true = refl
+and_false false = refl
+
+no_tick : (entry : ℕ × AccessUnit) → 1 ≤ length entry.1.bytes → is_tick entry ≡ false
+no_tick entry some = ap (λ (b : Bool). (entry.0 == 255) && b) (ne_eqb (length entry.1.bytes) 0 (λ e. absurd (omega (arith, e, some)))) ∙ and_false (entry.0 == 255)
+
+taken_stream : (d : Scheduled) (capacity slots : ℕ) (units : List (ℕ × AccessUnit)) (entry : ℕ × AccessUnit) (s : DescribedStream) →
+    unit_cause (owned_stream d entry.0 s) slots capacity (units_of entry.0 units) entry.1 ≡ None → feed_cause d capacity (job_history units slots) entry.0 entry.1 (Some s) ≡ None
+unfolding feed_cause
+taken_stream d capacity slots units entry s none = none
+
+none_refused : (run : Run) (a : Air) (other : ℕ) (units : List (ℕ × AccessUnit)) (entry : ℕ × AccessUnit) → SoFar run a units → IsJobInOrder run other (units ++ (entry ∷ [])) →
+    air_cause run a entry ≡ None
+none_refused run a other units entry so job =
+    let d = run.scheduled in
+    let comes = job.in_order units [] entry refl in
+    let last = last_taken d other [] units entry job.accepted in
+    let found = stream_of d other units entry (slice_get d.description.streams entry.0) last.1 in
+    let l = owned_stream d entry.0 found.stream in
+    let own = own_facts _ _ entry.1 (or_none _ _ found.cause).0 in
+    let near : is_ahead run a entry ≡ false = le-ltb run.terms.ahead (entry.1.dts - a.greatest) (omega (arith, comes.near, so.greatest)) in
+    let tick : is_tick entry ≡ false = no_tick entry own.some in
+    let written : a.slots ≡ release run.scheduled.description.rate (lead_of run) (greatest_of units) = omega (arith, so.slots, comes.early) in
+    let lead = lead_within d.description.streams entry.0 found.stream found.is in
+    let rises = release_rises d.description.rate (lead_of run) (greatest_of units) found.stream.lead entry.1.dts (omega (arith, comes.in_order, lead)) in
+    let room = has_room run entry.0 a.slots units found.stream job.promises job.room found.is so.kept written in
+    let taken = taken_in_time l a.slots run.capacity other (units_of entry.0 units) entry.1 found.cause (omega (arith, written, rises)) room in
+    let none = taken_stream run.scheduled run.capacity a.slots units entry found.stream taken in
+    let unit : unit_refusal run a entry ≡ None =
+    ap (λ (us : List (ℕ × AccessUnit)). feed_cause run.scheduled run.capacity (job_history us a.slots) entry.0 entry.1 (slice_get run.scheduled.description.streams entry.0)) so.accepted
+    ∙ ap (λ (o : Option DescribedStream). feed_cause run.scheduled run.capacity (job_history units a.slots) entry.0 entry.1 o) found.is ∙ none in
+    rw (near, tick, unit) refl
+
+more_settled : (run : Run) (g due : ℕ) → on_to (settled_at run g) (settled_at run due) ≡ settled_at run (max g due)
+more_settled run g due = elim (cases_lt g due) [
+  | inl lt ↦
+      let rises = release_rises run.scheduled.description.rate (lead_of run) g (lead_of run) due (omega (arith, lt)) in
+      let same : max g due ≡ due = omega (arith, lt) in
+      rw same (omega (arith, rises))
+  | inr le ↦
+      let rises = release_rises run.scheduled.description.rate (lead_of run) due (lead_of run) g (omega (arith, le)) in
+      let same : max g due ≡ g = omega (arith, le) in
+      rw same (omega (arith, rises))
+]
+
+greatest_more : (units : List (ℕ × AccessUnit)) (entry : ℕ × AccessUnit) → greatest_of (units ++ (entry ∷ [])) ≡ max (greatest_of units) entry.1.dts
+greatest_more units entry = fold-append (λ greatest e. max greatest e.1.dts) 0 units (entry ∷ [])
+
+so_far_more : (run : Run) (a : Air) (other : ℕ) (units : List (ℕ × AccessUnit)) (entry : ℕ × AccessUnit) → SoFar run a units → IsJobInOrder run other (units ++ (entry ∷ [])) →
+    is_tick entry ≡ false → SoFar run (aired_by run a entry None) (units ++ (entry ∷ []))
+unfolding aired_by accepted_by
+so_far_more run a other units entry so job tick = record {
+  accepted = rw tick (ap (λ (l : List (ℕ × AccessUnit)). l ++ (entry ∷ [])) so.accepted);
+  refused = so.refused;
+  greatest = ap (λ (g : ℕ). max g entry.1.dts) so.greatest ∙ sym (greatest_more units entry);
+  slots = ap (λ (n : ℕ). on_to n (settled_at run entry.1.dts)) so.slots ∙ more_settled run (greatest_of units) entry.1.dts ∙ ap (λ (g : ℕ). settled_at run g) (sym (greatest_more units entry));
+  kept = kept_more run.scheduled other units entry job.promises.ranges (last_taken run.scheduled other [] units entry job.accepted).1 so.kept;
+}
+
+some_bytes : (run : Run) (other : ℕ) (units : List (ℕ × AccessUnit)) (entry : ℕ × AccessUnit) → IsJobInOrder run other (units ++ (entry ∷ [])) → is_tick entry ≡ false
+some_bytes run other units entry job =
+    let last = last_taken run.scheduled other [] units entry job.accepted in
+    let found = stream_of run.scheduled other units entry (slice_get run.scheduled.description.streams entry.0) last.1 in
+    let own = own_facts _ _ entry.1 (or_none _ _ found.cause).0 in
+    no_tick entry own.some
+
+-- ---- all units
+
+shorter : (run : Run) (other : ℕ) (units : List (ℕ × AccessUnit)) (entry : ℕ × AccessUnit) → IsJobInOrder run other (units ++ (entry ∷ [])) → IsJobInOrder run other units
+shorter run other units entry job = record {
+  promises = job.promises;
+  room = job.room;
+  accepted = (last_taken run.scheduled other [] units entry job.accepted).0;
+  in_order = λ before after e is.
+      job.in_order before (after ++ (entry ∷ [])) e (ap (λ (l : List (ℕ × AccessUnit)). l ++ (entry ∷ [])) is ∙ append_assoc before (e ∷ after) (entry ∷ []));
+}
+
+so_far_with : (run : Run) (a : Air) (other : ℕ) (units : List (ℕ × AccessUnit)) (found : Result (Option (ℕ × AccessUnit)) UnitFileError) →
+    (IsJobInOrder run other units → SoFar run a units) → IsJobInOrder run other (with_entry found units) → SoFar run (with_record run found a) (with_entry found units)
+unfolding with_record with_entry
+so_far_with run a other units (Err fault) so job = so job
+so_far_with run a other units (Ok None) so job = so job
+so_far_with run a other units (Ok (Some entry)) so job =
+    let here = so (shorter run other units entry job) in
+    subst (λ (o : Option AirRefusal). SoFar run (aired_by run a entry o) (units ++ (entry ∷ []))) (sym (none_refused run a other units entry here job))
+    (so_far_more run a other units entry here job (some_bytes run other units entry job))
+
+so_far_none : (run : Run) → SoFar run silence []
+so_far_none run = record {
+  accepted = refl;
+  refused = refl;
+  greatest = refl;
+  slots =
+      let first : release run.scheduled.description.rate (lead_of run) 0 ≡ 0 = release_zero run.scheduled.description.rate (lead_of run) in
+      omega (arith, first);
+  kept = kept_none run.scheduled;
+}
+
+so_far : (run : Run) (other n : ℕ) (xs : List ℕ) → IsJobInOrder run other (records_of n xs) → SoFar run (heard run n xs) (records_of n xs)
+unfolding heard records_of
+so_far run other zero xs job = so_far_none run
+so_far run other (suc n) xs job = so_far_with run (heard run n xs) other (records_of n xs) (record_at (after_records n xs)) (so_far run other n xs) job
+
+pub aired_in_order : AiredInOrder
+aired_in_order run other n xs job =
+    let so = so_far run other n xs job in
+    record { accepted = so.accepted; refused = so.refused }
+
+-- ---- the output
+
+no_later : (run : Run) (g limit : ℕ) (slots : Option ℕ) → min (release run.scheduled.description.rate (lead_of run) g) limit ≤ last_by run.scheduled.description.rate limit g slots
+unfolding last_by
+no_later run g limit None =
+    let rises = release_rises run.scheduled.description.rate (lead_of run) g 0 g (omega arith) in
+    omega (arith, rises)
+no_later run g limit (Some slots) = omega arith
+
+pub aired_as_multiplexed : AiredAsMultiplexed
+aired_as_multiplexed run other n xs job =
+    let a = heard run n xs in
+    let so = so_far run other n xs job in
+    let last = ap (λ (g : ℕ). last_at run g) so.greatest in
+    let later = no_later run (greatest_of (records_of n xs)) (limit_of run.terms) run.terms.slots in
+    let slots : on_to (heard run n xs).slots (last_at run (heard run n xs).greatest) ≡ last_at run (greatest_of (records_of n xs)) =
+    omega (arith, last, later, so.slots) in
+    ap (λ (us : List (ℕ × AccessUnit)). output_of run.hex run.scheduled (job_history us (ended run (heard run n xs)).slots)) so.accepted
+    ∙ ap (λ (k : ℕ). output_of run.hex run.scheduled (job_history (records_of n xs) k)) slots

@@ -1,0 +1,100 @@
+-- How many units wait: those that are due after the next slot begins.
+use Rattle.std.proofs.Common.{◌≡◌, ℕ, ◌+◌, ◌-◌, ◌*◌, ◌<◌, ◌≤◌, min, Bool, List, [], ◌∷◌, ◌++◌, length, map, take, drop, refl, ◌∙◌, inl, inr, arith, All}
+use Rattle.std.proofs.Math.Nat.{mul-le-mul_right}
+use Rattle.std.proofs.lemmas.Bool.{cases_lt}
+use Rattle.std.proofs.lemmas.List.{length-append, length-take, length-drop}
+use Rattle.std.proofs.lemmas.List.Elements.{All-head, All-tail}
+use Rattle.clock27.specs.Arrival.{arrivals}
+use Rattle.clock27.specs.Departure.{last_left}
+use Rattle.own_slots.specs.Slots.{own_before, own_slots}
+use Rattle.pes_packet.specs.AccessUnits.{AccessUnit}
+use Rattle.unit_timing.specs.PesPacket.{PesPacket, packets_of_unit, Spaced}
+use Rattle.unit_timing.specs.Schedule.{first_slot as first_own_slot, cut, packets_in_slots}
+use Rattle.unit_timing.specs.Transport.{of_payloads, pes_left}
+use Rattle.unit_timing.specs.Arrived.{AllLeft}
+use Rattle.unit_timing.proofs.ArrivalLemmas.{length-run, after_unit}
+use Rattle.unit_timing.proofs.PacketsInSlots.{slots_of-cut, pes_left-append, length-left-cut, sent_nothing}
+use Rattle.unit_queue.specs.OwnedStreams.{OwnedStream, timed, packet_count, first_slot, end_slot}
+use Rattle.unit_queue.specs.Places.{left_at}
+use Rattle.unit_queue.proofs.Leftover.{text_some, left_stop, left_on}
+
+-- of units at least `interval` apart, the first due at `from` or later and none after `last`
+few : (l : OwnedStream) (interval from last : ℕ) (us : List AccessUnit) → Spaced interval from (map (timed l) us) → All (λ u. u.dts ≤ last) us →
+    from ≤ last + interval → from + length us * interval ≤ last + interval
+unfolding Spaced
+few l interval from last [] spaced all le = omega (arith, le)
+few l interval from last (u ∷ us) spaced all le =
+    let first : u.dts ≤ last = All-head (λ x. x.dts ≤ last) u us all in
+    let rest = few l interval (u.dts + interval) last us spaced.1 (All-tail (λ x. x.dts ≤ last) u us all) (omega (arith, first)) in
+    omega (arith, spaced.0, rest)
+
+-- the departures of what is sent of a unit and of those after it
+joined : (own : ℕ → Bool) (rate lead r n free prev : ℕ) (unit : PesPacket) (units : List PesPacket) →
+    pes_left rate r prev (packets_in_slots own rate lead free (unit ∷ units) (own_slots own 0 n))
+    ≡ pes_left rate r prev (cut unit.size (take (packets_of_unit unit) (drop (first_own_slot own rate lead free unit) (own_slots own 0 n))))
+    ++ pes_left rate r (last_left rate prev (arrivals r (take (packets_of_unit unit) (drop (first_own_slot own rate lead free unit) (own_slots own 0 n)))))
+    (packets_in_slots own rate lead (first_own_slot own rate lead free unit + packets_of_unit unit) units (own_slots own 0 n))
+unfolding packets_in_slots
+joined own rate lead r n free prev unit units =
+    let slots = own_slots own 0 n in
+    let b = first_own_slot own rate lead free unit in
+    let p = packets_of_unit unit in
+    let xs = take p (drop b slots) in
+    pes_left-append rate r prev (cut unit.size xs) (packets_in_slots own rate lead (b + p) units slots) ∙ rw (slots_of-cut unit.size xs) refl
+
+-- a unit that is not sent whole is not due
+unfinished : (own : ℕ → Bool) (rate lead r n free prev : ℕ) (unit : PesPacket) (units : List PesPacket) → 1 ≤ unit.size →
+    own_before own n < first_own_slot own rate lead free unit + packets_of_unit unit →
+    unit.size ≤ length (pes_left rate r prev (packets_in_slots own rate lead free (unit ∷ units) (own_slots own 0 n))) → ⊥
+unfinished own rate lead r n free prev unit units some below there =
+    let slots = own_slots own 0 n in
+    let b = first_own_slot own rate lead free unit in
+    let p = packets_of_unit unit in
+    let xs = take p (drop b slots) in
+    let next = last_left rate prev (arrivals r xs) in
+    let run = length-run own n in
+    let nothing : pes_left rate r next (packets_in_slots own rate lead (b + p) units slots) ≡ [] =
+    rw (sent_nothing own rate lead (b + p) units slots (omega (arith, run, below))) (unfold of_payloads in refl) in
+    let many : length (pes_left rate r prev (cut unit.size xs)) ≡ min unit.size (184 * min p (length slots - b)) =
+    rw (length-left-cut rate r unit.size prev xs, length-take p (drop b slots), length-drop b slots) refl in
+    let whole = rw (joined own rate lead r n free prev unit units, nothing, length-append (pes_left rate r prev (cut unit.size xs)) []) at there in
+    omega (arith, whole, many, run, below, some)
+
+-- the units left before the next slot, where the slots before it begin no earlier than `lead` before the last due unit
+pub waiting_few : (l : OwnedStream) (r n lead last interval : ℕ) → 1 ≤ interval → (last - lead) * l.parameters.rate ≤ n * 135360000 →
+    (us : List AccessUnit) (free number prev from : ℕ) → Spaced interval from (map (timed l) us) → All (λ u. u.dts ≤ last) us →
+    AllLeft l.parameters.rate r n (map (timed l) us)
+    (pes_left l.parameters.rate r prev (packets_in_slots l.own l.parameters.rate l.parameters.lead free (map (timed l) us) (own_slots l.own 0 n))) →
+    length (left_at l (own_before l.own n) free number us).units * interval < lead + interval
+unfolding AllLeft Spaced
+waiting_few l r n lead last interval some begins [] free number prev from spaced all left = unfold left_at in omega (arith, some)
+waiting_few l r n lead last interval some begins (u ∷ us) free number prev from spaced all left =
+    let own = l.own in
+    let rate = l.parameters.rate in
+    let unit = timed l u in
+    let units = map (timed l) us in
+    let first : u.dts ≤ last = All-head (λ x. x.dts ≤ last) u us all in
+    let rest : All (λ x. x.dts ≤ last) us = All-tail (λ x. x.dts ≤ last) u us all in
+    let begin : first_slot l free u ≡ first_own_slot own rate l.parameters.lead free unit = unfold first_slot in refl in
+    elim (cases_lt (own_before own n) (end_slot l free u)) [
+      | inl stop ↦
+          let after : u.dts + interval + length us * interval ≤ last + interval = few l interval (u.dts + interval) last us spaced.1 rest (omega (arith, first)) in
+          let late : n * 135360000 < u.dts * rate = elim (cases_lt (n * 135360000) (u.dts * rate)) [
+            | inl late ↦ late
+            | inr due ↦ absurd (unfinished own rate l.parameters.lead r n free prev unit units (omega (arith, text_some l u)) (rw begin at stop) (left.0 due).0)
+          ] in
+          let above : last - lead < u.dts = elim (cases_lt (last - lead) u.dts) [
+            | inl above ↦ above
+            | inr below ↦ absurd (omega (arith, late, begins, mul-le-mul_right rate below))
+          ] in
+          rw (left_stop l (own_before own n) free number u us stop) (omega (arith, above, after))
+      | inr on ↦ rw (left_on l (own_before own n) free number u us on)
+          (waiting_few l r n lead last interval some begins us (end_slot l free u) (number + packet_count l u)
+          (last_left rate prev (arrivals r (take (packets_of_unit unit) (drop (first_own_slot own rate l.parameters.lead free unit) (own_slots own 0 n)))))
+          (u.dts + interval) spaced.1 rest
+          (rw begin
+          (rw (
+            joined own rate l.parameters.lead r n free prev unit units,
+            after_unit own rate l.parameters.lead r n (first_own_slot own rate l.parameters.lead free unit) (packets_of_unit unit) unit.size prev _ units (omega arith),
+          ) at left.1)))
+    ]

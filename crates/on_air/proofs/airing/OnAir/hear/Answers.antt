@@ -1,0 +1,43 @@
+use Rattle.std.proofs.Common.{Some, None, refl, sym, ap, ◌∙◌, subst, arith}
+use Rattle.mux_core.specs.MuxStates.{MuxState, Stands}
+use Rattle.on_air.specs.declared.options.Terms.{Terms}
+use Rattle.on_air.specs.Airing.{job_of, limit_of}
+use Rattle.on_air.specs.AirStates.{AirState}
+use Rattle.on_air.specs.Hearing.{HearsRecord}
+use Rattle.on_air.proofs.airing.OnAir.hear.Goals as goal
+
+pub returns-then-now-limit-clause-heard : goal.returns-then-now-limit-clause-heard
+returns-then-now-limit-clause-heard g c = λ run a start h.
+    let stands = subst (λ (m : MuxState). Stands (job_of a) m) (sym (ap (λ (x : AirState). x.mux) c.self.view_is)) h.mux.stands in
+    let terms = ap (λ (x : AirState). limit_of x.terms) c.self.view_is ∙ ap (λ (t : Terms). limit_of t) h.terms in
+    ((omega (arith, c.if-now-limit.true, c.now.ensures (job_of a) stands, c.limit.ensures.value, terms), refl), h)
+
+pub returns-in-Ok-None-take-clause-heard : goal.returns-in-Ok-None-take-clause-heard
+returns-in-Ok-None-take-clause-heard g c = λ run a start h.
+    let t = rw c.in-Ok-None-take.field-0-is at (c.in-Ok-None-take.ensures.takes run a start h) in
+    let read : HearsRecord run a (g.R.Read.remaining c.args.input.now) (g.R.Read.remaining c.read_unit.new.from) None = record {
+      entry = (c.in-Ok-Some.stream, c.in-Ok-Some.unit);
+      cause = t.0;
+      known = λ xs e. rw c.in-Ok-Some.field-0-is at (c.in-Ok-Some.ensures.known xs e);
+    } in
+    (read, t.1)
+
+pub returns-in-Ok-Some-take-clause-heard : goal.returns-in-Ok-Some-take-clause-heard
+returns-in-Ok-Some-take-clause-heard g c = λ run a start h.
+    let t = rw c.in-Ok-Some-take.field-0-is at (c.in-Ok-Some-take.ensures.takes run a start h) in
+    let read : HearsRecord run a (g.R.Read.remaining c.args.input.now) (g.R.Read.remaining c.read_unit.new.from) (Some c.in-Ok-Some-take.cause) = record {
+      entry = (c.in-Ok-Some.stream, c.in-Ok-Some.unit);
+      cause = t.0;
+      known = λ xs e. rw c.in-Ok-Some.field-0-is at (c.in-Ok-Some.ensures.known xs e);
+    } in
+    (ap (λ (x : AirState). x.records) c.self.view_is ∙ h.records, (read, t.1))
+
+pub returns-in-Err-take-clause-heard : goal.returns-in-Err-take-clause-heard
+returns-in-Err-take-clause-heard g c = λ run a start h.
+    let t = c.in-Err-take.ensures.takes run a start h in
+    let read : HearsRecord run a (g.R.Read.remaining c.args.input.now) (g.R.Read.remaining c.read_unit.new.from) None = record {
+      entry = (c.in-Ok-Some.stream, c.in-Ok-Some.unit);
+      cause = t.0;
+      known = λ xs e. rw c.in-Ok-Some.field-0-is at (c.in-Ok-Some.ensures.known xs e);
+    } in
+    (read, t.1)

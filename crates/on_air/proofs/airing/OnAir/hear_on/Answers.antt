@@ -1,0 +1,55 @@
+use Rattle.std.proofs.Common.{Ok, refl, ◌∙◌, arith}
+use Rattle.on_air.specs.declared.answers.Heard.TheVariants.{Ended}
+use Rattle.on_air.proofs.HeardRecords.{midway_begins, next_taken, next_refused, next_ended, next_failed, names_same}
+use Rattle.on_air.proofs.airing.OnAir.hear_on.Goals as goal
+
+pub records-init : goal.records-init
+records-init g c = record {
+  rises = omega arith;
+  reads = refl;
+  writes = refl;
+  known = λ run n a origin start h has. midway_begins run n a origin start _ _ _ h has;
+}
+
+pub records-preserved : goal.records-preserved
+records-preserved g c =
+    let counts = rw c.in-Ok-Taken.field-0-is at c.in-Ok-Taken.ensures.counts in
+    let clean = rw c.in-Ok-Taken.field-0-is at c.in-Ok-Taken.ensures.fault in
+    record {
+      rises = omega (arith, c.records.invariant.rises, counts.1);
+      reads = clean.0 ∙ c.records.invariant.reads;
+      writes = clean.1 ∙ c.records.invariant.writes;
+      known = λ run n a origin start h has.
+          let w = c.records.invariant.known run n a origin start h has in
+          next_taken run a origin start (g.R.Read.remaining c.records.input) (g.R.Read.remaining c.hear.new.input) (g.W.Write.contents c.records.to) (g.W.Write.contents c.hear.new.to) c.records.self c.hear.new.self w
+          (rw c.in-Ok-Taken.field-0-is at (c.in-Ok-Taken.ensures.heard run w.so_far start w.state));
+    }
+
+pub returns-in-Ok-Refused-clause-heard : goal.returns-in-Ok-Refused-clause-heard
+returns-in-Ok-Refused-clause-heard g c = λ run n a origin start h has.
+    let w = c.records.invariant.known run n a origin start h has in
+    next_refused run a origin start (g.R.Read.remaining c.records.input) (g.R.Read.remaining c.hear.new.input) (g.W.Write.contents c.records.to) (g.W.Write.contents c.hear.new.to) c.records.self c.hear.new.self c.in-Ok-Refused.index c.in-Ok-Refused.cause w
+    (rw c.in-Ok-Refused.field-0-is at (c.in-Ok-Refused.ensures.heard run w.so_far start w.state))
+
+pub returns-in-Ok-Ended-clause-heard : goal.returns-in-Ok-Ended-clause-heard
+returns-in-Ok-Ended-clause-heard g c = λ run n a origin start h has.
+    let w = c.records.invariant.known run n a origin start h has in
+    next_ended run a origin start (g.R.Read.remaining c.records.input) (g.R.Read.remaining c.hear.new.input) (g.W.Write.contents c.records.to) (g.W.Write.contents c.hear.new.to) c.records.self c.hear.new.self c.in-Ok-Ended.why w
+    (rw c.in-Ok-Ended.field-0-is at (c.in-Ok-Ended.ensures.heard run w.so_far start w.state))
+
+pub returns-in-Err-clause-heard : goal.returns-in-Err-clause-heard
+returns-in-Err-clause-heard g c = λ run n a origin start h has.
+    let w = c.records.invariant.known run n a origin start h has in
+    next_failed run a origin start (g.R.Read.remaining c.records.input) (g.R.Read.remaining c.hear.new.input) (g.W.Write.contents c.records.to) (g.W.Write.contents c.hear.new.to) c.records.self c.hear.new.self c.in-Err.fault w (c.in-Err.ensures.heard run w.so_far start w.state)
+
+pub returns-in-Ok-Refused-clause-counts : goal.returns-in-Ok-Refused-clause-counts
+returns-in-Ok-Refused-clause-counts g c =
+    let counts = rw c.in-Ok-Refused.field-0-is at c.in-Ok-Refused.ensures.counts in omega (arith, c.records.invariant.rises, counts.1)
+
+pub returns-in-Ok-Ended-clause-counts : goal.returns-in-Ok-Ended-clause-counts
+returns-in-Ok-Ended-clause-counts g c =
+    let counts = rw c.in-Ok-Ended.field-0-is at c.in-Ok-Ended.ensures.counts in omega (arith, c.records.invariant.rises, counts)
+
+pub returns-in-Ok-Ended-clause-fault : goal.returns-in-Ok-Ended-clause-fault
+returns-in-Ok-Ended-clause-fault g c =
+    names_same (Ok (Ended c.in-Ok-Ended.why)) _ _ _ _ _ _ c.records.invariant.reads c.records.invariant.writes (rw c.in-Ok-Ended.field-0-is at c.in-Ok-Ended.ensures.fault)

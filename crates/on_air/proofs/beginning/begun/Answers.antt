@@ -1,0 +1,6 @@
+use Rattle.std.proofs.Common.{refl}
+use Rattle.on_air.proofs.Aired.{begins}
+use Rattle.on_air.proofs.beginning.begun.Goals as goal
+
+pub returns-in-Ok-clause-begun : goal.returns-in-Ok-clause-begun
+returns-in-Ok-clause-begun g c = λ d start carries promises rate lead. begins d c.args.terms c.args.hex start _ carries promises c.in-Ok.ensures refl rate lead refl refl

@@ -1,0 +1,5 @@
+use Rattle.on_air.proofs.InOrder.{aired_as_multiplexed}
+use Rattle.on_air.proofs.laws.aired_as_multiplexed.Goals as goal
+
+pub returns : goal.returns
+returns c = aired_as_multiplexed

@@ -1,0 +1,97 @@
+-- What stands in memory of a run, and which run it stands for.
+use Rattle.std.specs.Prelude.{◌≡◌, ◌+◌, ℕ, Bool, if◌then◌else◌, List, [], length, Option, Some, None, Result, Ok, Err}
+use Rattle.description.specs.Ranges.{IsInRange}
+use Rattle.pes_packet.specs.AccessUnits.{AccessUnit}
+use Rattle.pes_packet.specs.Units.{units_of}
+use Rattle.packet_output.specs.Buffer.{Buffered, IsOutput}
+use Rattle.plan_checker.specs.Served.{Served}
+use Rattle.plan_checker.specs.Followed.{Followed}
+use Rattle.plan_timing.specs.Promised.{Promised}
+use Rattle.mux_core.specs.Headline.{Headline}
+use Rattle.mux_core.specs.Histories.{History, bytes_of}
+use Rattle.mux_core.specs.MuxStates.{MuxState, Stands}
+use Rattle.mux_core.specs.NewMux.{is_periods}
+use Rattle.mux_core.specs.declared.done.NewError.{NewError}
+use Rattle.mux_core.specs.declared.done.NewError.TheVariants.{Periods}
+use Rattle.mux_core.specs.Scheduled.{Scheduled}
+use Rattle.mux_core.specs.WholeJobs.{job_history, output_of, plan_schedule, switch_schedule}
+use Rattle.on_air.specs.declared.options.Terms.{Terms}
+use Rattle.on_air.specs.declared.refusals.AirRefusal.{AirRefusal}
+use Rattle.on_air.specs.Airing.{Run, Air, job_of, air_output, lead_of, greatest_lead, room_of, air_cause, accepted_by}
+
+-- the multiplexer, the packets that wait to be written, the terms, the rate and the lead by which slots are settled, the greatest DTS taken
+-- and the number of records heard
+pub record AirState : Type 0 where
+  pub mux : MuxState
+  pub packets : Buffered
+  pub terms : Terms
+  pub rate : ℕ
+  pub lead : ℕ
+  pub greatest : ℕ
+  pub records : ℕ
+
+-- a multiplexer of this run stands for a history
+pub record Carries (run : Run) (h : History) (m : MuxState) : Type 0 where
+  pub stands : Stands h m
+  pub scheduled : m.schedule ≡ run.scheduled
+  pub capacity : m.capacity ≡ run.capacity
+
+-- a history with this number of slots
+abbrev pub with_slots : History → ℕ → History
+with_slots h n = record { units = h.units; slots = n }
+
+-- slots were written, and nothing waits
+pub record WroteOn (run : Run) (h : History) (hex : Bool) (start now : Option (List ℕ)) (m : MuxState) (packets : Buffered) : Type 0 where
+  pub mux : Carries run h m
+  pub hex_is : packets.hex ≡ hex
+  pub none_waits : packets.waiting ≡ []
+  pub output : IsOutput start now packets (output_of hex run.scheduled h)
+
+-- what a schedule promises of its description
+pub record Promises (d : Scheduled) : Type 0 where
+  pub ranges : IsInRange d.description
+  pub promised : Promised d.description d.schedule
+
+-- a record was judged, and its unit fed where it was accepted: what was written stays
+pub record Admits (run : Run) (a : Air) (entry : ℕ × AccessUnit) (refused : Option AirRefusal) (m : MuxState) : Type 0 where
+  pub cause : refused ≡ air_cause run a entry
+  pub mux : Carries run (job_history (accepted_by a entry refused) a.slots) m
+  pub before : output_of run.hex run.scheduled (job_history (accepted_by a entry refused) a.slots) ≡ air_output run a
+
+-- all bytes of the slots so far keep every promise
+abbrev pub KeepsHeadline : Run → Air → Type 0
+KeepsHeadline run a = Headline run.scheduled (λ k. units_of k a.accepted) a.slots (bytes_of run.scheduled (job_of a))
+
+-- the run has come as far as this: the multiplexer stands for the units accepted and the slots written, the writer, which held `start` at the
+-- beginning, holds the output of these slots, nothing waits, and the bytes of these slots keep every promise
+pub record IsOnAir (run : Run) (a : Air) (start now : Option (List ℕ)) (s : AirState) : Type 0 where
+  pub mux : Carries run (job_of a) s.mux
+  pub promises : Promises run.scheduled
+  pub terms : s.terms ≡ run.terms
+  pub hex : s.packets.hex ≡ run.hex
+  pub rate : s.rate ≡ run.scheduled.description.rate
+  pub lead : s.lead ≡ lead_of run
+  pub greatest : s.greatest ≡ a.greatest
+  pub records : s.records ≡ a.records
+  pub none_waits : s.packets.waiting ≡ []
+  pub output : IsOutput start now s.packets (air_output run a)
+  pub headline : KeepsHeadline run a
+
+-- ---- what is aired of a plan, and of two
+
+abbrev pub run_with : Scheduled → Terms → Bool → Run
+run_with d terms hex = record { scheduled = d; capacity = room_of (greatest_lead d.description.streams + terms.wait) d.description.streams; terms = terms; hex = hex }
+
+abbrev pub plan_run : Served → Terms → Bool → Run
+plan_run plan terms hex = run_with (plan_schedule plan) terms hex
+
+abbrev pub switch_run : Followed → ℕ → Terms → Bool → Run
+switch_run switch periods terms hex = run_with (switch_schedule switch periods) terms hex
+
+-- why no run was begun: the periods of a first plan, or out of memory
+abbrev pub begin_refusal : {V : Type 0} → Result V NewError → Option NewError
+begin_refusal (Ok run) = None
+begin_refusal (Err cause) = Some cause
+
+abbrev pub switch_refusal : Followed → ℕ → Option NewError
+switch_refusal switch periods = if is_periods (length switch.first.plan.slots) periods then None else Some Periods

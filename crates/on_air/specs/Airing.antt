@@ -1,0 +1,166 @@
+-- The rule of a run without end: which records are taken, and which slots are written after each of them and at the end.
+use Rattle.std.specs.Prelude.{ℕ, zero, suc, ◌+◌, ◌-◌, ◌^◌, ◌==◌, ◌&&◌, min, max, nat_lt, Bool, cond, if◌then◌else◌, List, [], ◌∷◌, ◌++◌, length, slice_get, fold, Option, Some, None, option_map, Result, Ok, Err}
+use Rattle.std.specs.Int.{div_ceil}
+use Rattle.clock27.specs.Release.{release}
+use Rattle.pes_packet.specs.AccessUnits.{AccessUnit}
+use Rattle.description.specs.Described.{DescribedStream}
+use Rattle.unit_queue.specs.Codes.{feed_code}
+use Rattle.unit_queue.specs.declared.refusal.FeedError.{FeedError}
+use Rattle.unit_records.specs.Records.{record_at}
+use Rattle.unit_records.specs.declared.reading.UnitFileError.{UnitFileError}
+use Rattle.carry.specs.RecordRuns.{after_records}
+use Rattle.mux_core.specs.Scheduled.{Scheduled}
+use Rattle.mux_core.specs.Histories.{History}
+use Rattle.mux_core.specs.MuxStates.{feed_cause}
+use Rattle.mux_core.specs.WholeJobs.{job_history, output_of}
+use Rattle.on_air.specs.declared.options.Terms.{Terms}
+use Rattle.on_air.specs.declared.refusals.AirRefusal.{AirRefusal}
+use Rattle.on_air.specs.declared.refusals.AirRefusal.TheVariants.{Feed, Ahead}
+
+-- what is aired, the number of units of a stream that may wait, the terms, and whether packets leave as lines of digits
+pub record Run : Type 0 where
+  pub scheduled : Scheduled
+  pub capacity : ℕ
+  pub terms : Terms
+  pub hex : Bool
+
+-- how far a run has come: the units accepted, each with the number of its stream, in order; the number of slots written; the greatest DTS
+-- taken, in units of 90 kHz; the number of records heard; the numbers of those that were refused, and why
+pub record Air : Type 0 where
+  pub accepted : List (ℕ × AccessUnit)
+  pub slots : ℕ
+  pub greatest : ℕ
+  pub records : ℕ
+  pub refused : List (ℕ × AirRefusal)
+
+abbrev pub silence : Air
+silence = record { accepted = []; slots = 0; greatest = 0; records = 0; refused = [] }
+
+-- as a history of the multiplexer, and its output
+abbrev pub job_of : Air → History
+job_of a = job_history a.accepted a.slots
+
+abbrev pub air_output : Run → Air → List ℕ
+air_output run a = output_of run.hex run.scheduled (job_of a)
+
+-- ---- slots that are settled
+
+-- the greatest lead of streams, and their least interval (90,000 without streams), in units of 90 kHz
+abbrev pub greatest_lead : List DescribedStream → ℕ
+greatest_lead streams = fold (λ lead s. max lead s.lead) 0 streams
+
+abbrev pub least_interval : List DescribedStream → ℕ
+least_interval streams = fold (λ least s. min least s.interval) 90_000 streams
+
+-- how long before it is due a unit may come: the greatest lead, and what the terms add
+abbrev pub lead_of : Run → ℕ
+lead_of run = greatest_lead run.scheduled.description.streams + run.terms.wait
+
+-- the number of slots after which none is written
+unfoldable pub slots_or : ℕ → Option ℕ → ℕ
+slots_or most None = most
+slots_or most (Some slots) = min slots most
+
+abbrev pub limit_of : Terms → ℕ
+limit_of terms = slots_or (2 ^ 40) terms.slots
+
+-- the slots that no unit can be sent in any more, where those that come are due at `due` or later, and come `lead` before they are due
+abbrev pub settled : ℕ → ℕ → ℕ → ℕ → ℕ
+settled rate lead limit due = min (release rate lead due) limit
+
+abbrev pub settled_at : Run → ℕ → ℕ
+settled_at run due = settled run.scheduled.description.rate (lead_of run) (limit_of run.terms) due
+
+-- the slots of the whole run, where the input ends: those that the terms ask for, else up to the greatest DTS
+unfoldable pub last_by : ℕ → ℕ → ℕ → Option ℕ → ℕ
+last_by rate limit greatest None = settled rate 0 limit greatest
+last_by rate limit greatest (Some slots) = limit
+
+abbrev pub last_of : ℕ → Terms → ℕ → ℕ
+last_of rate terms greatest = last_by rate (limit_of terms) greatest terms.slots
+
+abbrev pub last_at : Run → ℕ → ℕ
+last_at run greatest = last_of run.scheduled.description.rate run.terms greatest
+
+-- the number of slots after one more is written until `target` are
+abbrev pub on_to : ℕ → ℕ → ℕ
+on_to slots target = slots + (target - slots)
+
+-- ---- one record
+
+-- it is a tick, and no unit: of stream 255, and without bytes
+abbrev pub is_tick : ℕ × AccessUnit → Bool
+is_tick entry = (entry.0 == 255) && (length entry.1.bytes == 0)
+
+-- its DTS lies further after the greatest so far than the terms allow
+abbrev pub is_ahead : Run → Air → ℕ × AccessUnit → Bool
+is_ahead run a entry = nat_lt run.terms.ahead (entry.1.dts - a.greatest)
+
+-- why the multiplexer refuses its unit
+abbrev pub unit_refusal : Run → Air → ℕ × AccessUnit → Option FeedError
+unit_refusal run a entry = feed_cause run.scheduled run.capacity (job_of a) entry.0 entry.1 (slice_get run.scheduled.description.streams entry.0)
+
+-- why it is refused; a tick is not fed
+abbrev pub air_cause : Run → Air → ℕ × AccessUnit → Option AirRefusal
+air_cause run a entry = if is_ahead run a entry then Some Ahead else (if is_tick entry then None else option_map Feed (unit_refusal run a entry))
+
+-- the units accepted with it
+unfoldable pub accepted_by : Air → ℕ × AccessUnit → Option AirRefusal → List (ℕ × AccessUnit)
+accepted_by a entry (Some cause) = a.accepted
+accepted_by a entry None = cond (is_tick entry) a.accepted (a.accepted ++ entry ∷ [])
+
+-- a record that is refused moves nothing; else the slots that are settled by its DTS are written
+unfoldable pub aired_by : Run → Air → ℕ × AccessUnit → Option AirRefusal → Air
+aired_by run a entry (Some cause) = record {
+  accepted = a.accepted;
+  slots = a.slots;
+  greatest = a.greatest;
+  records = a.records + 1;
+  refused = a.refused ++ (a.records, cause) ∷ [];
+}
+aired_by run a entry None = record {
+  accepted = accepted_by a entry None;
+  slots = on_to a.slots (settled_at run entry.1.dts);
+  greatest = max a.greatest entry.1.dts;
+  records = a.records + 1;
+  refused = a.refused;
+}
+
+abbrev pub aired : Run → Air → ℕ × AccessUnit → Air
+aired run a entry = aired_by run a entry (air_cause run a entry)
+
+-- ---- a whole input
+
+-- what is no record leaves all as it is
+unfoldable pub with_record : Run → Result (Option (ℕ × AccessUnit)) UnitFileError → Air → Air
+with_record run (Ok (Some entry)) a = aired run a entry
+with_record run (Ok None) a = a
+with_record run (Err fault) a = a
+
+-- after n records of an input
+unfoldable pub heard : Run → ℕ → List ℕ → Air
+heard run zero xs = silence
+heard run (suc n) xs = with_record run (record_at (after_records n xs)) (heard run n xs)
+
+-- where the input ends
+abbrev pub ended : Run → Air → Air
+ended run a = record {
+  accepted = a.accepted;
+  slots = on_to a.slots (last_at run a.greatest);
+  greatest = a.greatest;
+  records = a.records;
+  refused = a.refused;
+}
+
+-- ---- the number of a refusal, and the room for units
+
+abbrev pub air_code : AirRefusal → ℕ
+air_code (Feed cause) = feed_code cause
+air_code Ahead = 11
+
+-- the number of units of a stream that may wait: those due within a lead, and one that comes; 1,048,576 at most
+abbrev pub needed_room : ℕ → List DescribedStream → ℕ
+needed_room lead streams = div_ceil lead (max (least_interval streams) 1) + 1
+
+abbrev pub room_of : ℕ → List DescribedStream → ℕ
+room_of lead streams = min (needed_room lead streams) 1048576

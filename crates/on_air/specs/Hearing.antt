@@ -1,0 +1,92 @@
+-- What one record leaves of a run and of its input, and what records up to one that is to be told leave.
+use Rattle.std.specs.Prelude.{◌≡◌, ◌≤◌, ◌<◌, ◌-◌, ◌+◌, ◌^◌, ℕ, List, [], ◌∷◌, ◌++◌, Option, Some, None, Result, Ok, Err}
+use Rattle.counted_io.specs.Device.{Failed}
+use Rattle.pes_packet.specs.AccessUnits.{AccessUnit}
+use Rattle.packet_output.specs.Buffer.{Took}
+use Rattle.packet_output.specs.declared.output.OutputFault.{OutputFault}
+use Rattle.unit_records.specs.Records.{ReadsRecord}
+use Rattle.unit_records.specs.declared.reading.UnitFileError.TheVariants.{Cut, Size, Device, Memory}
+use Rattle.carry.specs.RecordRuns.{after_records}
+use Rattle.on_air.specs.declared.refusals.AirRefusal.{AirRefusal}
+use Rattle.on_air.specs.declared.answers.Heard.{Heard}
+use Rattle.on_air.specs.declared.answers.Heard.TheVariants.{Taken, Refused, Ended}
+use Rattle.on_air.specs.declared.answers.Ending.{Ending}
+use Rattle.on_air.specs.declared.answers.Ending.TheVariants.{Input, Unread, Slots, Records}
+use Rattle.on_air.specs.Airing.{Run, Air, air_cause, aired, air_output, heard, limit_of}
+use Rattle.on_air.specs.AirStates.{AirState, IsOnAir, KeepsHeadline}
+
+-- the writer failed: it took exactly the first `sent` bytes of an output that keeps every promise
+pub record Fails (run : Run) (a : Air) (start now : Option (List ℕ)) (sent : ℕ) : Type 0 where
+  pub took : Took start now sent (air_output run a)
+  pub headline : KeepsHeadline run a
+
+-- a record was heard, and judged; where the bytes of the input are known, it is the one at their front
+pub record HearsRecord (run : Run) (a : Air) (old left : Option (List ℕ)) (refused : Option AirRefusal) : Type 0 where
+  pub entry : ℕ × AccessUnit
+  pub cause : air_cause run a entry ≡ refused
+  pub known : (xs : List ℕ) → old ≡ Some xs → ReadsRecord xs left (Ok (Some entry))
+
+-- why none was heard, and what is left then
+abbrev pub EndsAt : Run → Air → Option (List ℕ) → Option (List ℕ) → Ending → Type 0
+EndsAt run a old left Input = (xs : List ℕ) → old ≡ Some xs → ReadsRecord xs left (Ok None)
+EndsAt run a old left (Unread fault) = (xs : List ℕ) → old ≡ Some xs → ReadsRecord xs left (Err fault)
+EndsAt run a old left Slots = (limit_of run.terms ≤ a.slots) × (left ≡ old)
+EndsAt run a old left Records = (a.records ≡ 2 ^ 64 - 1) × (left ≡ old)
+
+-- what one call leaves, where the run had come as far as `a`
+abbrev pub Hears : Run → Air → Option (List ℕ) → Option (List ℕ) → Option (List ℕ) → Option (List ℕ) → Result Heard OutputFault → AirState → Type 0
+Hears run a old left start now (Ok Taken) s = (h : HearsRecord run a old left None) × IsOnAir run (aired run a h.entry) start now s
+Hears run a old left start now (Ok (Refused index cause)) s =
+    (index ≡ a.records) × ((h : HearsRecord run a old left (Some cause)) × IsOnAir run (aired run a h.entry) start now s)
+Hears run a old left start now (Ok (Ended why)) s = EndsAt run a old left why × IsOnAir run a start now s
+Hears run a old left start now (Err fault) s = (h : HearsRecord run a old left None) × Fails run (aired run a h.entry) start now fault.sent
+
+-- the same of a unit at hand
+abbrev pub TakesUnit : Run → Air → ℕ × AccessUnit → Option (List ℕ) → Option (List ℕ) → Result (Option AirRefusal) OutputFault → AirState → Type 0
+TakesUnit run a entry start now (Ok refused) s = (air_cause run a entry ≡ refused) × IsOnAir run (aired run a entry) start now s
+TakesUnit run a entry start now (Err fault) s = (air_cause run a entry ≡ None) × Fails run (aired run a entry) start now fault.sent
+
+-- the number of records rises by each that is heard
+abbrev pub CountsRecord : ℕ → ℕ → Heard → Type 0
+CountsRecord old new Taken = (old < 2 ^ 64 - 1) × (new ≡ old + 1)
+CountsRecord old new (Refused index cause) = (old < 2 ^ 64 - 1) × (new ≡ old + 1)
+CountsRecord old new (Ended why) = new ≡ old
+
+-- and by those that are heard up to one that is to be told
+abbrev pub CountsRecords : ℕ → ℕ → Heard → Type 0
+CountsRecords old new Taken = ⊥
+CountsRecords old new (Refused index cause) = old < new
+CountsRecords old new (Ended why) = old ≤ new
+
+-- a device is named exactly where a call of it failed
+abbrev pub NamesDevice : Result Heard OutputFault → ℕ → ℕ → ℕ → ℕ → Type 0
+NamesDevice (Ok Taken) read0 read1 written0 written1 = (read1 ≡ read0) × (written1 ≡ written0)
+NamesDevice (Ok (Refused index cause)) read0 read1 written0 written1 = (read1 ≡ read0) × (written1 ≡ written0)
+NamesDevice (Ok (Ended Input)) read0 read1 written0 written1 = (read1 ≡ read0) × (written1 ≡ written0)
+NamesDevice (Ok (Ended (Unread Cut))) read0 read1 written0 written1 = (read1 ≡ read0) × (written1 ≡ written0)
+NamesDevice (Ok (Ended (Unread Size))) read0 read1 written0 written1 = (read1 ≡ read0) × (written1 ≡ written0)
+NamesDevice (Ok (Ended (Unread Device))) read0 read1 written0 written1 = Failed read0 read1 × (written1 ≡ written0)
+NamesDevice (Ok (Ended (Unread Memory))) read0 read1 written0 written1 = (read1 ≡ read0) × (written1 ≡ written0)
+NamesDevice (Ok (Ended Slots)) read0 read1 written0 written1 = (read1 ≡ read0) × (written1 ≡ written0)
+NamesDevice (Ok (Ended Records)) read0 read1 written0 written1 = (read1 ≡ read0) × (written1 ≡ written0)
+NamesDevice (Err fault) read0 read1 written0 written1 = (read1 ≡ read0) × Failed written0 written1
+
+-- ---- records up to one that is to be told
+
+-- the run has heard n records of an input that had the bytes `origin` at the run's beginning
+abbrev pub HasHeard : Run → ℕ → Air → Option (List ℕ) → Option (List ℕ) → Type 0
+HasHeard run n a origin left = (xs : List ℕ) → origin ≡ Some xs → (a ≡ heard run n xs) × (left ≡ Some (after_records n xs))
+
+-- a number of records was heard, and the run has come as far as `b`
+pub record HeardOn (run : Run) (origin left : Option (List ℕ)) (b : Air) : Type 0 where
+  pub count : ℕ
+  pub heard_is : HasHeard run count b origin left
+
+abbrev pub HearsOn : Run → Air → Option (List ℕ) → Option (List ℕ) → Option (List ℕ) → Option (List ℕ) → Result Heard OutputFault → AirState → Type 0
+HearsOn run a origin left start now (Ok Taken) s = ⊥
+HearsOn run a origin left start now (Ok (Refused index cause)) s =
+    (b : Air) × HeardOn run origin left b × (b.refused ≡ a.refused ++ (index, cause) ∷ []) × IsOnAir run b start now s
+HearsOn run a origin left start now (Ok (Ended why)) s =
+    (b : Air) × ((before : Option (List ℕ)) × HeardOn run origin before b × EndsAt run b before left why) × (b.refused ≡ a.refused) × IsOnAir run b start now s
+HearsOn run a origin left start now (Err fault) s =
+    (b : Air) × HeardOn run origin left b × (b.refused ≡ a.refused) × Fails run b start now fault.sent

@@ -1,0 +1,64 @@
+-- What the laws of this crate say.
+use Rattle.std.specs.Prelude.{◌≡◌, ◌≤◌, ◌+◌, ℕ, zero, suc, max, false, List, [], ◌∷◌, ◌++◌, fold, Option, Some, None, Result, Ok, Err}
+use Rattle.clock27.specs.Release.{release}
+use Rattle.pes_packet.specs.AccessUnits.{AccessUnit}
+use Rattle.unit_queue.specs.OwnedStreams.{OwnedStream}
+use Rattle.unit_queue.specs.Causes.{unit_cause, is_full}
+use Rattle.unit_records.specs.Records.{record_at}
+use Rattle.unit_records.specs.declared.reading.UnitFileError.{UnitFileError}
+use Rattle.carry.specs.RecordRuns.{after_records}
+use Rattle.mux_core.specs.WholeJobs.{job_history, output_of, first_refused}
+use Rattle.on_air.specs.Airing.{Run, Air, lead_of, limit_of, last_at, needed_room, heard, ended, air_output}
+use Rattle.on_air.specs.AirStates.{Promises}
+
+-- a unit that a stream accepts before the first slot is accepted too where no slot from its release on is written, and there is room for it
+abbrev pub TakenInTime : Type 0
+TakenInTime = (l : OwnedStream) (slots capacity other : ℕ) (us : List AccessUnit) (u : AccessUnit) → unit_cause l 0 other us u ≡ None →
+    slots ≤ release l.parameters.rate l.parameters.lead u.dts → is_full l slots capacity us ≡ false → unit_cause l slots capacity us u ≡ None
+
+-- ---- records that come in order
+
+-- the units of the first n records of an input, each with the number of its stream
+unfoldable pub with_entry : Result (Option (ℕ × AccessUnit)) UnitFileError → List (ℕ × AccessUnit) → List (ℕ × AccessUnit)
+with_entry (Ok (Some entry)) units = units ++ (entry ∷ [])
+with_entry (Ok None) units = units
+with_entry (Err fault) units = units
+
+unfoldable pub records_of : ℕ → List ℕ → List (ℕ × AccessUnit)
+records_of zero xs = []
+records_of (suc n) xs = with_entry (record_at (after_records n xs)) (records_of n xs)
+
+-- the greatest DTS, 0 without units
+abbrev pub greatest_of : List (ℕ × AccessUnit) → ℕ
+greatest_of units = fold (λ greatest entry. max greatest entry.1.dts) 0 units
+
+-- a unit comes after these no later and no further ahead than the terms allow, and the slots that these settle are within those of the run
+pub record Comes (run : Run) (before : List (ℕ × AccessUnit)) (entry : ℕ × AccessUnit) : Type 0 where
+  pub in_order : greatest_of before ≤ entry.1.dts + run.terms.wait
+  pub near : entry.1.dts ≤ greatest_of before + run.terms.ahead
+  pub early : release run.scheduled.description.rate (lead_of run) (greatest_of before) ≤ limit_of run.terms
+
+abbrev pub ComeInOrder : Run → List (ℕ × AccessUnit) → Type 0
+ComeInOrder run units = (before after : List (ℕ × AccessUnit)) (entry : ℕ × AccessUnit) → units ≡ before ++ (entry ∷ after) → Comes run before entry
+
+-- a run over a plan that serves its description, with room for the units that may wait; a job of these units is multiplexed where `other`
+-- units of a stream may wait, and they come in order
+pub record IsJobInOrder (run : Run) (other : ℕ) (units : List (ℕ × AccessUnit)) : Type 0 where
+  pub promises : Promises run.scheduled
+  pub room : needed_room (lead_of run) run.scheduled.description.streams ≤ run.capacity
+  pub accepted : first_refused run.scheduled other [] units ≡ None
+  pub in_order : ComeInOrder run units
+
+-- then all are accepted
+pub record AiredAll (a : Air) (units : List (ℕ × AccessUnit)) : Type 0 where
+  pub accepted : a.accepted ≡ units
+  pub refused : a.refused ≡ []
+
+abbrev pub AiredInOrder : Type 0
+AiredInOrder = (run : Run) (other n : ℕ) (xs : List ℕ) → IsJobInOrder run other (records_of n xs) → AiredAll (heard run n xs) (records_of n xs)
+
+-- and the output is that of the whole job, multiplexed at once: of as many slots as the terms ask for, else up to the greatest DTS
+abbrev pub AiredAsMultiplexed : Type 0
+AiredAsMultiplexed = (run : Run) (other n : ℕ) (xs : List ℕ) → IsJobInOrder run other (records_of n xs) →
+    air_output run (ended run (heard run n xs))
+    ≡ output_of run.hex run.scheduled (job_history (records_of n xs) (last_at run (greatest_of (records_of n xs))))

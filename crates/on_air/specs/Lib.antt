@@ -1,0 +1,4 @@
+pub mod Airing
+pub mod AirStates
+pub mod Hearing
+pub mod Laws

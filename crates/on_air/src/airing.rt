@@ -1,0 +1,154 @@
+//! A run without end: its calls.
+
+ghost use Rattle.std.specs.Prelude.{◌≡◌, ◌<◌, ◌≤◌, ◌-◌, ◌+◌, ◌^◌, ℕ, List, Option, IfOk, IfErr, OnOk, OnErr};
+ghost use Rattle.counted_io.specs.Device.{Failed};
+ghost use Rattle.on_air.specs.Airing.{Run, Air, ended};
+ghost use Rattle.on_air.specs.AirStates.{IsOnAir};
+ghost use Rattle.on_air.specs.Hearing.{Fails, Hears, TakesUnit, CountsRecord, CountsRecords, NamesDevice, HasHeard, HearsOn};
+
+use crate::admission::admit;
+use crate::answers::{Ending, Heard};
+use crate::options::Terms;
+use crate::refusals::AirRefusal;
+use crate::slots::{last_slot, settled, write_on};
+use clock27::Rate;
+use counted_io::{Sink, Source};
+use mux_core::Mux;
+use packet_output::{OutputFault, PacketOutput};
+use pes_packet::Unit;
+use std::alloc::{Allocator, Global};
+use std::marker::Model;
+use unit_records::read_unit;
+
+/// A run without end. It makes its memory when it is made; a record takes that of its unit's bytes, until the unit is
+/// sent.
+#[derive(Drop)]
+pub struct OnAir<A: Allocator = Global> {
+    pub(crate) mux: Mux<A>,
+    pub(crate) packets: PacketOutput<A>,
+    pub(crate) terms: Terms,
+    pub(crate) rate: Rate,
+    pub(crate) lead: u64,
+    pub(crate) greatest: u64,
+    pub(crate) records: u64,
+}
+
+impl<A: Allocator> Model for OnAir<A> {
+    ghost use Rattle.on_air.specs.AirStates.{AirState};
+
+    ghost Value = { AirState };
+
+    ghost view = { λ o. record {
+      mux = o.mux;
+      packets = o.packets;
+      terms = o.terms;
+      rate = o.rate;
+      lead = o.lead;
+      greatest = o.greatest;
+      records = o.records;
+    } };
+}
+
+impl<A: Allocator + Copy> OnAir<A> {
+    /// Hears the next record: judges it, and writes the slots that are settled by it, to the last byte. A record that
+    /// is refused moves nothing.
+    pub fn hear<R: Source, W: Sink>(
+        &mut self,
+        alloc: A,
+        input: &mut R,
+        to: &mut W,
+    ) -> Result<Heard, OutputFault>
+        ensures heard { (run : Run) (a : Air) (start : Option (List ℕ)) → IsOnAir run a start (W.contents to.old) self.old →
+            Hears run a (R.remaining input.old) (R.remaining input.new) start (W.contents to.new) result self.new }
+        ensures counts { IfOk result (CountsRecord self.old.records self.new.records) }
+        ensures fault { NamesDevice result (R.fault_count input.old) (R.fault_count input.new)
+            (W.fault_count to.old) (W.fault_count to.new) }
+    {
+        if self.mux.now() >= self.terms.limit() {
+            return Ok(Heard::Ended(Ending::Slots));
+        }
+        if self.records == u64::MAX {
+            return Ok(Heard::Ended(Ending::Records));
+        }
+        let index = self.records;
+        match read_unit(alloc, input) {
+            Ok(None) => Ok(Heard::Ended(Ending::Input)),
+            Err(fault) => Ok(Heard::Ended(Ending::Unread(fault))),
+            Ok(Some((stream, unit))) => match self.take(stream, unit, to) {
+                Ok(None) => Ok(Heard::Taken),
+                Ok(Some(cause)) => Ok(Heard::Refused { index, cause }),
+                Err(fault) => Err(fault),
+            },
+        }
+    }
+
+    /// Hears records up to one that is refused, or to the end.
+    pub fn hear_on<R: Source, W: Sink>(
+        &mut self,
+        alloc: A,
+        input: &mut R,
+        to: &mut W,
+    ) -> Result<Heard, OutputFault>
+        ensures heard { (run : Run) (n : ℕ) (a : Air) (origin start : Option (List ℕ)) →
+            IsOnAir run a start (W.contents to.old) self.old → HasHeard run n a origin (R.remaining input.old) →
+            HearsOn run a origin (R.remaining input.new) start (W.contents to.new) result self.new }
+        ensures counts { IfOk result (CountsRecords self.old.records self.new.records) }
+        ensures fault { NamesDevice result (R.fault_count input.old) (R.fault_count input.new)
+            (W.fault_count to.old) (W.fault_count to.new) }
+    {
+        'records: loop {
+            match self.hear(alloc, input, to) {
+                Ok(Heard::Taken) => {}
+                Ok(Heard::Refused { index, cause }) => {
+                    return Ok(Heard::Refused { index, cause });
+                }
+                Ok(Heard::Ended(why)) => return Ok(Heard::Ended(why)),
+                Err(fault) => return Err(fault),
+            }
+        }
+    }
+
+    /// Ends the run: writes on to its last slot.
+    pub fn end<W: Sink>(&mut self, to: &mut W) -> Result<(), OutputFault>
+        ensures ok { (run : Run) (a : Air) (start : Option (List ℕ)) → IsOnAir run a start (W.contents to.old) self.old →
+            OnOk result (IsOnAir run (ended run a) start (W.contents to.new) self.new) }
+        ensures err { (run : Run) (a : Air) (start : Option (List ℕ)) → IsOnAir run a start (W.contents to.old) self.old →
+            IfErr result (λ fault. Fails run (ended run a) start (W.contents to.new) fault.sent) }
+        ensures clean { OnOk result (W.fault_count to.new ≡ W.fault_count to.old) }
+        ensures fault { OnErr result (Failed (W.fault_count to.old) (W.fault_count to.new)) }
+    {
+        let target = last_slot(self.rate, self.terms, self.greatest);
+        write_on(&mut self.mux, target, &mut self.packets, to)
+    }
+
+    // Judges a record, and writes the slots that are settled by it.
+    fn take<W: Sink>(
+        &mut self,
+        stream: u8,
+        unit: Unit<A>,
+        to: &mut W,
+    ) -> Result<Option<AirRefusal>, OutputFault>
+        requires { self.old.records < 2 ^ 64 - 1 }
+        ensures takes { (run : Run) (a : Air) (start : Option (List ℕ)) → IsOnAir run a start (W.contents to.old) self.old →
+            TakesUnit run a (stream, unit) start (W.contents to.new) result self.new }
+        ensures records { OnOk result (self.new.records ≡ self.old.records + 1) }
+        ensures clean { OnOk result (W.fault_count to.new ≡ W.fault_count to.old) }
+        ensures fault { OnErr result (Failed (W.fault_count to.old) (W.fault_count to.new)) }
+    {
+        let due = unit.dts;
+        self.records += 1;
+        match admit(&mut self.mux, self.terms.ahead, self.greatest, stream, unit) {
+            None => {}
+            Some(cause) => return Ok(Some(cause)),
+        }
+        let greatest = self.greatest.max(due);
+        self.greatest = greatest;
+        let limit = self.terms.limit();
+        let target = settled(self.rate, self.lead, limit, due);
+        match write_on(&mut self.mux, target, &mut self.packets, to) {
+            Ok(()) => {}
+            Err(fault) => return Err(fault),
+        }
+        Ok(None)
+    }
+}

@@ -1,0 +1,28 @@
+//! What a call answers that hears records.
+
+use crate::refusals::AirRefusal;
+use unit_records::UnitFileError;
+
+/// What was heard.
+#[derive(Clone, Copy)]
+pub enum Heard {
+    /// A record was taken: its unit was accepted, or time went on.
+    Taken,
+    /// The record of this number, counted from 0, was refused, and moved nothing.
+    Refused { index: u64, cause: AirRefusal },
+    /// No record was heard, and none will be.
+    Ended(Ending),
+}
+
+/// Why no further record is heard.
+#[derive(Clone, Copy)]
+pub enum Ending {
+    /// The input is at its end.
+    Input,
+    /// What comes next is no whole record, or was not read.
+    Unread(UnitFileError),
+    /// The slots that the terms ask for are written, or 2^40.
+    Slots,
+    /// 2^64 - 1 records were heard.
+    Records,
+}

@@ -1,0 +1,123 @@
+//! How a run begins: the one place where it takes memory of its own.
+
+ghost use Rattle.std.specs.Prelude.{◌≡◌, ◌+◌, ℕ, List, Option, None, IfOk};
+ghost use Rattle.mux_core.specs.NewMux.{Judges};
+ghost use Rattle.mux_core.specs.Scheduled.{Scheduled};
+ghost use Rattle.mux_core.specs.Histories.{empty_history};
+ghost use Rattle.on_air.specs.Airing.{silence, greatest_lead, room_of};
+ghost use Rattle.on_air.specs.AirStates.{Carries, IsOnAir, Promises, run_with, plan_run, switch_run, begin_refusal};
+ghost use Rattle.on_air.specs.AirStates.{switch_refusal};
+
+use crate::airing::OnAir;
+use crate::leads::{greatest_lead, room_of};
+use crate::options::Terms;
+use clock27::Rate;
+use mux_core::{Mux, NewError};
+use packet_output::PacketOutput;
+use plan_checker::{CheckedPlan, CheckedSwitch};
+use slot_plan::Description;
+use std::alloc::Allocator;
+
+impl<A: Allocator + Copy> OnAir<A> {
+    /// A run over a plan, before its first slot.
+    pub fn new(
+        alloc: A,
+        plan: CheckedPlan<A>,
+        terms: Terms,
+        hex: bool,
+    ) -> Result<OnAir<A>, NewError>
+        ensures refused { Judges None (begin_refusal result) }
+        ensures begun { (start : Option (List ℕ)) →
+            IfOk result (IsOnAir (plan_run plan terms hex) silence start start) }
+    {
+        let of = numbers_of(plan.description(), terms);
+        plan.description().keeps_ranges();
+        let _ = plan.plan();
+        plan_timing::laws::accepted_plan();
+        match Mux::new(alloc, plan, of.room) {
+            Ok(mux) => begun(alloc, mux, terms, of, hex),
+            Err((cause, plan)) => {
+                drop(plan);
+                Err(cause)
+            }
+        }
+    }
+
+    /// A run over two plans, the first for `periods` of its periods.
+    pub fn with_switch(
+        alloc: A,
+        switch: CheckedSwitch<A>,
+        periods: u64,
+        terms: Terms,
+        hex: bool,
+    ) -> Result<OnAir<A>, NewError>
+        ensures refused { Judges (switch_refusal switch periods) (begin_refusal result) }
+        ensures begun { (start : Option (List ℕ)) →
+            IfOk result (IsOnAir (switch_run switch periods terms hex) silence start start) }
+    {
+        let of = numbers_of(switch.first().description(), terms);
+        switch.first().description().keeps_ranges();
+        let _ = switch.first().plan();
+        let _ = switch.second();
+        plan_timing::laws::accepted_switch();
+        match Mux::with_switch(alloc, switch, periods, of.room) {
+            Ok(mux) => begun(alloc, mux, terms, of, hex),
+            Err((cause, switch)) => {
+                drop(switch);
+                Err(cause)
+            }
+        }
+    }
+}
+
+// Numbers of a run.
+#[derive(Clone, Copy)]
+struct Numbers {
+    rate: Rate,
+    lead: u64,
+    room: usize,
+}
+
+// The numbers of a run over a description.
+fn numbers_of(description: &Description, terms: Terms) -> Numbers
+    ensures rate { result.rate ≡ description.now.rate }
+    ensures lead { result.lead ≡ greatest_lead description.now.streams + terms.wait }
+    ensures room { result.room ≡ room_of (greatest_lead description.now.streams + terms.wait) description.now.streams }
+{
+    let lead = u64::from(greatest_lead(description.streams())) + u64::from(terms.wait);
+    Numbers {
+        rate: description.rate(),
+        lead,
+        room: room_of(lead, description.streams()),
+    }
+}
+
+// The run over a multiplexer before its first slot.
+fn begun<A: Allocator + Copy>(
+    alloc: A,
+    mux: Mux<A>,
+    terms: Terms,
+    of: Numbers,
+    hex: bool,
+) -> Result<OnAir<A>, NewError>
+    ensures memory { Judges None (begin_refusal result) }
+    ensures begun { (d : Scheduled) (start : Option (List ℕ)) → Carries (run_with d terms hex) empty_history mux → Promises d →
+        of.rate ≡ d.description.rate → of.lead ≡ greatest_lead d.description.streams + terms.wait →
+        IfOk result (IsOnAir (run_with d terms hex) silence start start) }
+{
+    match PacketOutput::new(alloc, hex) {
+        Ok(packets) => Ok(OnAir {
+            mux,
+            packets,
+            terms,
+            rate: of.rate,
+            lead: of.lead,
+            greatest: 0,
+            records: 0,
+        }),
+        Err(_) => {
+            drop(mux);
+            Err(NewError::Memory)
+        }
+    }
+}

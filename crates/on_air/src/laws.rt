@@ -1,0 +1,18 @@
+//! Laws of the definitions. Each function does nothing: its contract is the law.
+
+ghost use Rattle.on_air.specs.Laws.{TakenInTime, AiredInOrder, AiredAsMultiplexed};
+
+/// A unit that a stream accepts before the first slot is accepted too where no slot from its release on is written.
+pub fn taken_in_time()
+    ensures { TakenInTime }
+{}
+
+/// Units of a job that is multiplexed, in order, are all accepted on air: none is late, and none finds no room.
+pub fn aired_in_order()
+    ensures { AiredInOrder }
+{}
+
+/// And what is aired of them is what is multiplexed of the whole job, byte for byte.
+pub fn aired_as_multiplexed()
+    ensures { AiredAsMultiplexed }
+{}

@@ -1,0 +1,34 @@
+//! The greatest lead of a description's streams, and the room that they need.
+
+ghost use Rattle.std.specs.Prelude.{◌≡◌, ◌≤◌, ◌^◌};
+ghost use Rattle.on_air.specs.Airing.{greatest_lead, least_interval, room_of};
+
+use slot_plan::StreamDescription;
+
+// The maximum number of units of a stream that may wait.
+const MAX_ROOM: u64 = 1_048_576;
+
+/// The greatest lead of all streams, in units of 90 kHz.
+pub(crate) fn greatest_lead(streams: &[StreamDescription]) -> u32
+    ensures { result ≡ greatest_lead streams.now }
+{
+    streams.iter().fold(0, |lead, stream| lead.max(stream.lead))
+}
+
+// The least interval of all streams, in units of 90 kHz; 90,000 without streams.
+fn least_interval(streams: &[StreamDescription]) -> u32
+    ensures { result ≡ least_interval streams.now }
+{
+    streams
+        .iter()
+        .fold(90_000, |least, stream| least.min(stream.interval))
+}
+
+/// The number of units of a stream that may wait: those that may be due within a lead, and one that comes.
+pub(crate) fn room_of(lead: u64, streams: &[StreamDescription]) -> usize
+    requires { lead ≤ 2 ^ 33 }
+    ensures { result ≡ room_of lead streams.now }
+{
+    let room = lead.div_ceil(u64::from(least_interval(streams).max(1))) + 1;
+    room.min(MAX_ROOM) as usize
+}

@@ -1,0 +1,27 @@
+//! Multiplexing without end: records of units in for as long as they come, packets out as soon as no later unit can
+//! change them, in constant memory.
+//!
+//! `specs/Airing` is the rule: which units are accepted, and which slots are written after each record and at the end.
+//! `specs/AirStates` says what an `OnAir` stands for, `specs/Hearing` what one record, and records up to one that is to
+//! be told, leave, and `specs/Laws` that records in order are aired as a whole job of them is multiplexed.
+//!
+//! The modules in reading order: the terms of a run, why a record is refused, what a call answers, the rooms and leads
+//! of a description, slots up to one that is settled, a unit judged and fed, the run and its calls, how it begins; the laws.
+#![tactic(auto)]
+
+mod admission;
+mod airing;
+mod answers;
+mod beginning;
+pub mod laws;
+mod leads;
+mod options;
+mod refusals;
+mod slots;
+
+pub use airing::OnAir;
+pub use answers::{Ending, Heard};
+pub use mux_core::NewError;
+pub use options::Terms;
+pub use packet_output::OutputFault;
+pub use refusals::AirRefusal;

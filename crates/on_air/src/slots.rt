@@ -1,0 +1,72 @@
+//! Slots written up to one that is settled.
+
+ghost use Rattle.std.specs.Prelude.{◌≡◌, ◌≤◌, ◌^◌, ℕ, [], List, Option, OnOk, OnErr, IfErr};
+ghost use Rattle.counted_io.specs.Device.{Failed};
+ghost use Rattle.packet_output.specs.Buffer.{IsOutput, Took};
+ghost use Rattle.mux_core.specs.Histories.{History};
+ghost use Rattle.mux_core.specs.WholeJobs.{output_of};
+ghost use Rattle.on_air.specs.Airing.{Run, settled, last_of, on_to};
+ghost use Rattle.on_air.specs.AirStates.{Carries, with_slots, WroteOn};
+
+use crate::options::Terms;
+use clock27::{Rate, release_slot};
+use counted_io::Sink;
+use mux_core::Mux;
+use packet_output::{OutputFault, PacketOutput};
+use std::alloc::Allocator;
+
+/// The number of slots that are settled by a unit due at `due`, where units come up to `lead` before they are due: no
+/// later one can be sent in them. `limit` at most.
+pub(crate) fn settled(rate: Rate, lead: u64, limit: u64, due: u64) -> u64
+    ensures value { result ≡ settled rate lead limit due }
+    ensures upper { result ≤ limit }
+{
+    match release_slot(rate, due.max(lead), lead) {
+        Some(slot) => slot.min(limit),
+        None => 0,
+    }
+}
+
+/// The number of slots of a whole run, where its input ends.
+pub(crate) fn last_slot(rate: Rate, terms: Terms, greatest: u64) -> u64
+    ensures value { result ≡ last_of rate terms greatest }
+    ensures upper { result ≤ 2 ^ 40 }
+{
+    let limit = terms.limit();
+    match terms.slots {
+        Some(_) => limit,
+        None => settled(rate, 0, limit, greatest),
+    }
+}
+
+/// Writes slots until `target` are written, and then all that waits.
+pub(crate) fn write_on<A: Allocator, B: Allocator, W: Sink>(
+    mux: &mut Mux<A>,
+    target: u64,
+    packets: &mut PacketOutput<B>,
+    to: &mut W,
+) -> Result<(), OutputFault>
+    requires target { target ≤ 2 ^ 40 }
+    ensures ok { (run : Run) (h : History) (start : Option (List ℕ)) → Carries run h mux.old →
+        IsOutput start (W.contents to.old) packets.old (output_of packets.old.hex run.scheduled h) →
+        OnOk result (WroteOn run (with_slots h (on_to h.slots target)) packets.old.hex start (W.contents to.new) mux.new
+        packets.new) }
+    ensures err { (run : Run) (h : History) (start : Option (List ℕ)) → Carries run h mux.old →
+        IsOutput start (W.contents to.old) packets.old (output_of packets.old.hex run.scheduled h) →
+        IfErr result (λ fault. Took start (W.contents to.new) fault.sent
+        (output_of packets.old.hex run.scheduled (with_slots h (on_to h.slots target)))) }
+    ensures clean { OnOk result (W.fault_count to.new ≡ W.fault_count to.old) }
+    ensures fault { OnErr result (Failed (W.fault_count to.old) (W.fault_count to.new)) }
+{
+    let count = target.saturating_sub(mux.now());
+    'slots: for _ in 0..count {
+        let Ok(packet) = mux.next_packet() else {
+            return Ok(());
+        };
+        match packets.push(to, &packet) {
+            Ok(()) => {}
+            Err(fault) => return Err(fault),
+        }
+    }
+    packets.flush(to)
+}
