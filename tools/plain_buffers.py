@@ -12,6 +12,10 @@ HEVC = {30: (128, 350), 60: (1_500, 1_500), 63: (3_000, 3_000), 90: (6_000, 6_00
         150: (25_000, 25_000), 153: (40_000, 40_000), 156: (60_000, 60_000), 180: (60_000, 60_000), 183: (120_000, 120_000), 186: (240_000, 240_000)}
 
 
+# channels at most: rx, main
+AAC = ((2, (2_000_000, 3_584)), (8, (5_529_600, 8_976)), (12, (8_294_400, 12_804)), (48, (33_177_600, 51_216)))
+
+
 def mux(rate):
     """Bits of 4 ms for multiplexing, and of a 750th of a second for headers."""
     return 4 * rate // 1000 + rate // 750
@@ -34,7 +38,11 @@ def mpeg2_level(data):
 
 
 def avc_level(data):
-    return next((d[3] for d in starts(data, b"\0\0\1") if len(d) > 3 and d[0] & 31 == 7), None)
+    """level_idc; level 1b, 11 with constraint_set3_flag in the Baseline, Main and Extended profiles, is 9."""
+    found = next((d[:4] for d in starts(data, b"\0\0\1") if len(d) > 3 and d[0] & 31 == 7), None)
+    if found and found[3] == 11 and found[2] & 0x10 and found[1] in (66, 77, 88):
+        return 9
+    return found and found[3]
 
 
 def hevc_level(data):
@@ -43,10 +51,15 @@ def hevc_level(data):
 
 
 def channels(data):
-    """Of an ADTS frame: channel_configuration, 7 of which are 8."""
-    if len(data) < 4 or data[0] != 0xFF or data[1] & 0xF6 != 0xF0:
-        return 2
-    number = (data[2] & 1) << 2 | data[3] >> 6
+    """Of the first ADTS frame: channel_configuration, 7 of which are 8; where it is 0, the elements of a program_config_element."""
+    at = next((i for i in range(len(data) - 3) if data[i] == 0xFF and data[i + 1] & 0xF6 == 0xF0), None)
+    if at is None:
+        return 0
+    number = (data[at + 2] & 1) << 2 | data[at + 3] >> 6
+    block = data[at + (7 if data[at + 1] & 1 else 9):][:4]
+    if number == 0 and len(block) == 4 and block[0] >> 5 == 5:
+        bits = int.from_bytes(block, "big")
+        return sum(bits >> shift & 15 for shift in (15, 11, 7)) + (bits >> 5 & 3)
     return 8 if number == 7 else number
 
 
@@ -75,7 +88,7 @@ def buffers(kind, loop, number, first):
         return 2_000_000, 5_696
     if kind == 0x0F:
         many = channels(first)
-        return (2_000_000, 3_584) if many <= 2 else (5_529_600, 8_976)
+        return next(sizes for most, sizes in AAC if many <= most)
     if kind in (3, 4, 0x11):
         return 2_000_000, 3_584
     if 0x59 in found:

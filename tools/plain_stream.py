@@ -7,8 +7,13 @@ from pathlib import Path
 
 sys.dont_write_bytecode = True
 TOOLS = Path(__file__).resolve().parent
+sys.path.insert(0, str(TOOLS))
+import plain_texts as texts
 syntax = SourceFileLoader("compare_demux", str(TOOLS / "compare-demux")).load_module()
 jobs = SourceFileLoader("read_job", str(TOOLS / "read-job")).load_module()
+
+
+FLAGLESS = {0xBC, 0xBE, 0xBF, 0xF0, 0xF1, 0xF2, 0xF8, 0xFF}
 
 
 class Refused(Exception):
@@ -35,6 +40,11 @@ class Pid(syntax.Pid):
         super().truncate(packet)
         self.begun = None
 
+    def unstamped(self, part):
+        """Whether a part of a PES packet was cut short that has no PTS, as far as it was read."""
+        kind, data = part
+        return kind == "pes" and not (len(data) > 8 and data[3] not in FLAGLESS and data[6] >> 6 == 2 and data[7] >> 7 == 1)
+
     def tell_pes(self, packet, header, size, tail):
         number, _, pts, dts, length = header
         body = self.part[1][length: length + size]
@@ -44,6 +54,7 @@ class Pid(syntax.Pid):
         kind, *rest = text.split()
         begins = self.begun if kind in ("truncated", "bad-pes", "section", "bad-section") and self.begun is not None else packet
         value = self.part[1][: int(rest[2])] if kind == "section" else rest
+        value = (rest[0], self.unstamped(self.part)) if kind == "truncated" else value
         self.found.append((packet, begins, kind, value))
 
 
@@ -102,21 +113,20 @@ def loops(data, head):
 
 
 def association(stream, lines=None):
-    """transport_stream_id, and (number, PID) of the programs."""
+    """transport_stream_id, and (number, PID) of the programs. Told is the first table that says something else."""
     tables = [(packet, s) for packet, s in stream.sections(0, 0) if len(s) % 4 == 0]
     if not tables:
         raise Refused("no PAT")
-    first, named, changes = tables[0][1], {}, []
-    for packet, s in tables:
-        if s[5] >> 1 & 31 != first[5] >> 1 & 31:
-            changes.append(f"packet {packet} PAT changes: the first one stands")
-            continue
-        for i in range(8, len(s) - 4, 4):
-            number = s[i] << 8 | s[i + 1]
+    version = lambda s: s[5] >> 1 & 31
+    entries = lambda s: [(s[i] << 8 | s[i + 1], (s[i + 2] & 31) << 8 | s[i + 3]) for i in range(8, len(s) - 4, 4)]
+    first, named = tables[0][1], {}
+    for _, s in tables:
+        for number, pid in entries(s) if version(s) == version(first) else []:
             if number:
-                named.setdefault(number, (s[i + 2] & 31) << 8 | s[i + 3])
+                named.setdefault(number, pid)
+    says_else = lambda s: version(s) != version(first) or s[3:5] != first[3:5] or any(number and named.get(number) != pid for number, pid in entries(s))
     if lines is not None:
-        lines += changes[:1]
+        lines += [f"packet {packet} PAT changes: the first one stands" for packet, s in tables if says_else(s)][:1]
     return first[3] << 8 | first[4], list(named.items())
 
 
@@ -154,21 +164,13 @@ def texts_of(body):
     if len(body) < 2 or len(body) < 3 + body[1] or len(body) < 3 + body[1] + body[2 + body[1]]:
         return None
     name = 3 + body[1]
-    return body[0], readable(body[2: name - 1]), readable(body[name: name + body[name - 1]])
+    provider, name = body[2: name - 1], body[name: name + body[name - 1]]
+    return body[0], readable(provider), readable(name), any(texts.UNREAD in texts.characters(text) for text in (provider, name))
 
 
 def readable(data):
-    """A text of EN 300 468, annex A, as far as it is ASCII or UTF-8, of at most 100 bytes as it is written again."""
-    if data[:1] == b"\x15":
-        text = data[1:].decode("utf-8", "replace")
-    elif data and data[0] < 0x20:
-        text = "".join(chr(b) for b in data[3 if data[0] == 0x10 else 1:] if b < 0x80)
-    else:
-        try:
-            text = data.decode("utf-8")
-        except UnicodeDecodeError:
-            text = "".join(chr(b) if b < 0x80 else "?" for b in data)
-    text = "".join(c for c in text if ord(c) >= 0x20 and not 0x7F <= ord(c) <= 0x9F)
+    """A text of EN 300 468, annex A, of at most 100 bytes as it is written again."""
+    text = texts.shown(data)
     while jobs.written(text) > 100:
         text = text[:-1]
     return text

@@ -15,14 +15,14 @@ mkdir -p "$results"
 sh "$here/make-streams" "$streams" > "$results/made" || { cat "$results/made"; exit 3; }
 status=0
 
-# try NAME OPTIONS..: one stream
+# try NAME OPTIONS..: one stream, which is no capture
 try() {
     name=$1
     shift
     stream=$streams/$name.ts
     result=$results/$name$(echo "$*" | tr -d ' ')
     printf '%-28s ' "$name${*:+ $*}"
-    if ! "$tsjob" "$@" < "$stream" > "$result.job" 2> "$result.lines"; then
+    if ! "$tsjob" --whole "$@" < "$stream" > "$result.job" 2> "$result.lines"; then
         echo "tsjob: $(tail -n 1 "$result.lines")"
         status=1
     elif ! "$tsmux" mux < "$result.job" > "$result.ts" 2> "$result.fault"; then
@@ -30,7 +30,7 @@ try() {
         status=1
     else
         "$here/same-stream" "$tsmux" "$receiver" "$stream" "$result.job" "$result.ts" "$@" || status=1
-        plain=$("$here/../../tools/plain-job" "$stream" "$result.job" --told "$result.lines" "$@") || { echo "plain-job: $plain"; status=1; }
+        plain=$("$here/../../tools/plain-job" "$stream" "$result.job" --told "$result.lines" --whole "$@") || { echo "plain-job: $plain"; status=1; }
     fi
 }
 
@@ -47,6 +47,7 @@ for name in ${*:-$(cd "$streams" && ls -- *.ts | sed 's/\.ts$//')}; do
         h264-no-b) try "$name" --rate 4000000 ;;
         two-programs) try "$name" --program 2 ;;
         two-languages) try "$name" --without 257 --start 2026-01-01T00:00:00 ;;
+        gst-pts-alone) try "$name" --make-dts ;;
     esac
 done
 exit $status

@@ -1,5 +1,5 @@
 -- No unit of a job is refused.
-use Rattle.std.proofs.Common.{◌≡◌, ◌≤◌, ◌<◌, ℕ, zero, suc, ◌+◌, ◌==◌, Bool, true, false, if◌then◌else◌, List, [], ◌∷◌, ◌++◌, length, map, Option, Some, None, slice_get, All, refl, sym, ap, ◌∙◌, subst, arith, append_assoc}
+use Rattle.std.proofs.Common.{◌≡◌, ◌≤◌, ◌<◌, ℕ, zero, suc, ◌+◌, ◌==◌, ◌&&◌, Bool, true, false, if◌then◌else◌, List, [], ◌∷◌, ◌++◌, length, map, Option, Some, None, slice_get, All, refl, sym, ap, ◌∙◌, subst, arith, append_assoc}
 use Rattle.std.proofs.lemmas.List.{length-append}
 use Rattle.std.proofs.lemmas.List.Elements.{All-nil, All-cons, All-head, All-tail}
 use Rattle.pes_packet.specs.AccessUnits.{AccessUnit}
@@ -17,7 +17,7 @@ use Rattle.mux_core.specs.WholeJobs.{or_cause, unit_refused, cause_after, first_
 use Rattle.mux_core.specs.declared.multiplexing.MuxError.{MuxError}
 use Rattle.mux_core.proofs.KnownRanges.{parameters_known}
 use Rattle.mux_core.proofs.UnitCounts.{own_units, units_append}
-use Rattle.stream_units.specs.CarriedUnits.{RoleView, Ignored, Start, Continuation, Interruption, CarriedUnit, role_of, continuation, with_more, units_from, carried_units, wire_units}
+use Rattle.stream_units.specs.CarriedUnits.{RoleView, Ignored, Start, Continuation, Interruption, CarriedUnit, role_of, continuation, is_cut, is_split, with_more, whole_unit, units_from, units_in, wire_units}
 use Rattle.stream_units.specs.Laws.{UnitsAreKept, TakenOneByOne, Declares as LaneDeclares}
 use Rattle.stream_jobs.specs.Jobs.{IsStream, AreUnits}
 use Rattle.stream_jobs.specs.FoundUnits.{source_of}
@@ -33,17 +33,26 @@ some_or : (u : CarriedUnit) (later : List CarriedUnit) (b : Bool) → length u.u
 some_or u later true e all = all
 some_or u later false e all = All-cons HasBytes u.unit (map (λ x. x.unit) later) (grind (arith, e)) all
 
-by_have_bytes : (b : RoleView) (more : List ℕ) (later : List CarriedUnit) → All HasBytes (map (λ x. x.unit) later) → All HasBytes (map (λ x. x.unit) (units_from b more later))
+whole_or : (u : CarriedUnit) (later : List CarriedUnit) (lost : Bool) → All HasBytes (map (λ x. x.unit) later) → All HasBytes (map (λ x. x.unit) (whole_unit lost u later))
+whole_or u later true all = all
+whole_or u later false all = some_or u later (length u.unit.bytes == 0) refl all
+
+by_have_bytes : (split : Bool) (pid : ℕ) (b : RoleView) (fs : List FindingView) (later : List CarriedUnit) → All HasBytes (map (λ x. x.unit) later) →
+    All HasBytes (map (λ x. x.unit) (units_from split pid b fs later))
 unfolding units_from
-by_have_bytes Ignored more later all = all
-by_have_bytes (Continuation body) more later all = all
-by_have_bytes Interruption more later all = all
-by_have_bytes (Start u) more later all = some_or (with_more u more) later (length (with_more u more).unit.bytes == 0) refl all
+by_have_bytes split pid Ignored fs later all = all
+by_have_bytes split pid (Continuation id body) fs later all = all
+by_have_bytes split pid (Interruption unstamped) fs later all = all
+by_have_bytes split pid (Start u) fs later all =
+    whole_or (with_more u (continuation u.stream_id pid fs)) later (split && is_cut u.stream_id pid fs) all
+
+each_has_bytes : (split : Bool) (pid : ℕ) (findings : List FindingView) → All HasBytes (map (λ x. x.unit) (units_in split pid findings))
+unfolding units_in
+each_has_bytes split pid [] = All-nil HasBytes
+each_has_bytes split pid (f ∷ fs) = by_have_bytes split pid (role_of pid f) fs (units_in split pid fs) (each_has_bytes split pid fs)
 
 pub have_bytes : (pid : ℕ) (findings : List FindingView) → All HasBytes (wire_units pid findings)
-unfolding carried_units
-have_bytes pid [] = All-nil HasBytes
-have_bytes pid (f ∷ fs) = by_have_bytes (role_of pid f) (continuation pid fs) (carried_units pid fs) (have_bytes pid fs)
+have_bytes pid findings = each_has_bytes (is_split pid findings) pid findings
 
 -- 2. The units of a stream keep what it declares
 
@@ -53,7 +62,7 @@ unfolding source_of
 found_kept law line findings k s us is =
     let m = is.found.moved in
     let n = is.declares in
-    let declares : LaneDeclares (owned_stream line k s) us = record { interval = n.interval; size = n.size; lead = n.lead; group = n.group } in
+    let declares : LaneDeclares (owned_stream line k s) us = record { interval = n.interval; size = n.size; lead = n.lead; allowance = n.allowance } in
     subst (λ (x : List AccessUnit). Kept (owned_stream line k s) x) (sym m.are)
     (law (owned_stream line k s) is.found.base (wire_units s.pid findings) m.sound (have_bytes s.pid findings)
     (subst (λ (x : List AccessUnit). LaneDeclares (owned_stream line k s) x) m.are declares))
@@ -81,7 +90,7 @@ one_taken law line fed rest entry s fit is =
     let size : length (units_of entry.0 (fed ++ (entry ∷ rest))) ≡ length (units_of entry.0 fed) + suc (length (units_of entry.0 rest)) =
     ap (length {A = AccessUnit}) parts ∙ length-append (units_of entry.0 fed) (entry.1 ∷ units_of entry.0 rest) in
     let kept = subst (λ (us : List AccessUnit). Kept (owned_stream line entry.0 s) us) parts (fit.kept.kept entry.0 s is) in
-    rw is (law (owned_stream line entry.0 s) 1048576 (units_of entry.0 fed) entry.1 (units_of entry.0 rest) (fit.kept.parameters entry.0 s is).group kept
+    rw is (law (owned_stream line entry.0 s) 1048576 (units_of entry.0 fed) entry.1 (units_of entry.0 rest) (fit.kept.parameters entry.0 s is).rows kept
     (omega (arith, size, fit.few entry.0 s is)))
 
 none_then : (index : ℕ) (cause : Option FeedError) (next : Option MuxError) → cause ≡ None → next ≡ None → or_cause (unit_refused index cause) next ≡ None

@@ -1,5 +1,5 @@
 -- Units that are sent whole are found again.
-use Rattle.std.proofs.Common.{◌≡◌, ◌≤◌, ◌<◌, ℕ, ◌+◌, ◌-◌, ◌*◌, ◌^◌, ◌==◌, false, Option, Some, None, List, [], ◌∷◌, ◌++◌, length, map, take, drop, All, refl, ap, ◌∙◌, arith, inl, inr, append-nil}
+use Rattle.std.proofs.Common.{◌≡◌, ◌≤◌, ◌<◌, ℕ, ◌+◌, ◌-◌, ◌*◌, ◌^◌, ◌==◌, ◌&&◌, Bool, true, false, Option, Some, None, List, [], ◌∷◌, ◌++◌, length, map, take, drop, All, refl, ap, ◌∙◌, arith, inl, inr, append-nil}
 use Rattle.std.proofs.lemmas.Bool.{cases_Bool, eq-eqb, eqb-true, le-leb}
 use Rattle.std.proofs.lemmas.Bool.Decides.{nat_tests}
 use Rattle.std.proofs.lemmas.List.{length-append, take_all}
@@ -14,7 +14,7 @@ use Rattle.unit_queue.specs.OwnedStreams.{OwnedStream, packet_count, first_slot,
 use Rattle.round_trip_pid.specs.Sent.{Sending, Ending, next_of, if_sent, each_found}
 use Rattle.round_trip_pid.specs.Units.{unit_header, unit_packets, unit_found}
 use Rattle.round_trip_run.specs.Placed.{units_placed}
-use Rattle.stream_units.specs.CarriedUnits.{Start, CarriedUnit, pes_role, role_of_what, first_packet, role_of, continued_by, continuation, units_from, carried_units, wire_units}
+use Rattle.stream_units.specs.CarriedUnits.{Start, CarriedUnit, pes_role, role_of_what, is_unstamped, first_packet, role_of, more_bytes, continued_by, continuation, end_of, is_cut, is_split, units_from, units_in, wire_units}
 use Rattle.stream_units.specs.Stamps.{distance, dts_at, unit_at, moved}
 use Rattle.round_trip_job.specs.Laws.{later_by}
 use Rattle.round_trip_job.proofs.SentWhole.{IsWhole}
@@ -43,7 +43,7 @@ by_header i id size pts dts bytes = elim (cases_Bool (on_wire pts == on_wire dts
   | inr differ ↦ rw differ refl
 ]
 
-own_pid : (pid : ℕ) (f : FindingView) → f.pid ≡ Some pid → role_of pid f ≡ role_of_what (first_packet f.packet f.begun) f.what
+own_pid : (pid : ℕ) (f : FindingView) → f.pid ≡ Some pid → role_of pid f ≡ role_of_what (first_packet f.packet f.begun) (is_unstamped f.begun) f.what
 unfolding role_of
 own_pid pid f e = rw (e, eq-eqb pid pid refl) refl
 
@@ -71,37 +71,44 @@ IsThere id base0 x = (unit_packets id base0 x.item ≤ length x.packets) × (1 �
 some_packet : (id base0 : ℕ) (u : AccessUnit) → 1 ≤ length u.bytes → 1 ≤ unit_packets id base0 u
 some_packet id base0 u some = omega (arith, text_bytes id base0 u, some)
 
-record Found (pid id base0 : ℕ) (fs : List FindingView) (us : List AccessUnit) : Type 0 where
-  alone : continuation pid fs ≡ []
-  units : map (λ c. c.unit) (carried_units pid fs) ≡ map (later_by base0) us
+-- whether or not units of the PID have several PES packets
+record Found (split : Bool) (pid id base0 : ℕ) (fs : List FindingView) (us : List AccessUnit) : Type 0 where
+  alone : continuation id pid fs ≡ []
+  uncut : is_cut id pid fs ≡ false
+  units : map (λ c. c.unit) (units_in split pid fs) ≡ map (later_by base0) us
 
-one_more : (pid id base0 : ℕ) (f : FindingView) (fs : List FindingView) (i : ℕ) (u : AccessUnit) (us : List AccessUnit) →
-    role_of pid f ≡ Start (found_unit i id base0 u) → 1 ≤ length u.bytes → Found pid id base0 fs us → Found pid id base0 (f ∷ fs) (u ∷ us)
-unfolding continuation continued_by carried_units units_from
-one_more pid id base0 f fs i u us is some rest =
+none_lost : (split : Bool) → (split && false) ≡ false
+none_lost true = refl
+none_lost false = refl
+
+one_more : (split : Bool) (pid id base0 : ℕ) (f : FindingView) (fs : List FindingView) (i : ℕ) (u : AccessUnit) (us : List AccessUnit) →
+    role_of pid f ≡ Start (found_unit i id base0 u) → 1 ≤ length u.bytes → Found split pid id base0 fs us → Found split pid id base0 (f ∷ fs) (u ∷ us)
+unfolding continuation continued_by more_bytes is_cut end_of units_in units_from
+one_more split pid id base0 f fs i u us is some rest =
     let bytes : u.bytes ++ [] ≡ u.bytes = append-nil u.bytes in
     let there : (length u.bytes == 0) ≡ false = grind (arith, nat_tests, some) in
     record {
       alone = rw is refl;
-      units = rw (is, rest.alone, bytes, there) (ap (λ (xs : List AccessUnit). later_by base0 u ∷ xs) rest.units);
+      uncut = rw is refl;
+      units = rw (is, rest.uncut, none_lost split, rest.alone, bytes, there) (ap (λ (xs : List AccessUnit). later_by base0 u ∷ xs) rest.units);
     }
 
-one_sent : (pid id base0 n : ℕ) (u : AccessUnit) (packets : List ℕ) (xs : List (Sending AccessUnit)) (us : List AccessUnit) → unit_packets id base0 u ≤ length packets →
-    1 ≤ length u.bytes → Found pid id base0 (map (with_pid_at pid) (each_found (unit_found id base0) n xs)) us →
-    Found pid id base0 (map (with_pid_at pid) (if_sent (unit_found id base0 (next_of n xs) u) packets ++ each_found (unit_found id base0) n xs)) (u ∷ us)
+one_sent : (split : Bool) (pid id base0 n : ℕ) (u : AccessUnit) (packets : List ℕ) (xs : List (Sending AccessUnit)) (us : List AccessUnit) → unit_packets id base0 u ≤ length packets →
+    1 ≤ length u.bytes → Found split pid id base0 (map (with_pid_at pid) (each_found (unit_found id base0) n xs)) us →
+    Found split pid id base0 (map (with_pid_at pid) (if_sent (unit_found id base0 (next_of n xs) u) packets ++ each_found (unit_found id base0) n xs)) (u ∷ us)
 unfolding if_sent
-one_sent pid id base0 n u [] xs us whole some rest = absurd (omega (arith, whole, some_packet id base0 u some))
-one_sent pid id base0 n u (i ∷ is) xs us whole some rest =
-    one_more pid id base0 (with_pid_at pid (unit_found id base0 (next_of n xs) u i is)) (map (with_pid_at pid) (each_found (unit_found id base0) n xs)) i u us
+one_sent split pid id base0 n u [] xs us whole some rest = absurd (omega (arith, whole, some_packet id base0 u some))
+one_sent split pid id base0 n u (i ∷ is) xs us whole some rest =
+    one_more split pid id base0 (with_pid_at pid (unit_found id base0 (next_of n xs) u i is)) (map (with_pid_at pid) (each_found (unit_found id base0) n xs)) i u us
     (begins pid id base0 (next_of n xs) u i is whole) some rest
 
-all_found_again : (pid id base0 n : ℕ) (xs : List (Sending AccessUnit)) → All (IsThere id base0) xs →
-    Found pid id base0 (map (with_pid_at pid) (each_found (unit_found id base0) n xs)) (map (λ x. x.item) xs)
+all_found_again : (split : Bool) (pid id base0 n : ℕ) (xs : List (Sending AccessUnit)) → All (IsThere id base0) xs →
+    Found split pid id base0 (map (with_pid_at pid) (each_found (unit_found id base0) n xs)) (map (λ x. x.item) xs)
 unfolding each_found
-all_found_again pid id base0 n [] all = record { alone = unfold continuation in refl; units = unfold carried_units in refl }
-all_found_again pid id base0 n (x ∷ xs) all =
+all_found_again split pid id base0 n [] all = record { alone = unfold continuation in refl; uncut = unfold is_cut in refl; units = unfold units_in in refl }
+all_found_again split pid id base0 n (x ∷ xs) all =
     let there = All-head (IsThere id base0) x xs all in
-    one_sent pid id base0 n x.item x.packets xs (map (λ y. y.item) xs) there.0 there.1 (all_found_again pid id base0 n xs (All-tail (IsThere id base0) x xs all))
+    one_sent split pid id base0 n x.item x.packets xs (map (λ y. y.item) xs) there.0 there.1 (all_found_again split pid id base0 n xs (All-tail (IsThere id base0) x xs all))
 
 -- 3. Of a lane
 
@@ -123,7 +130,8 @@ both l free (u ∷ us) slots whole some =
 pub found_again : (pid n : ℕ) (l : OwnedStream) (us : List AccessUnit) (slots : List ℕ) → All (IsWhole l) (units_placed l 0 us slots) → All (λ u. 1 ≤ length u.bytes) us →
     wire_units pid (map (with_pid_at pid) (each_found (unit_found l.parameters.stream_id l.parameters.base0) n (units_placed l 0 us slots))) ≡ map (later_by l.parameters.base0) us
 found_again pid n l us slots whole some =
-    (all_found_again pid l.parameters.stream_id l.parameters.base0 n (units_placed l 0 us slots) (both l 0 us slots whole some)).units
+    let fs = map (with_pid_at pid) (each_found (unit_found l.parameters.stream_id l.parameters.base0) n (units_placed l 0 us slots)) in
+    (all_found_again (is_split pid fs) pid l.parameters.stream_id l.parameters.base0 n (units_placed l 0 us slots) (both l 0 us slots whole some)).units
     ∙ ap (map (later_by l.parameters.base0)) (items l 0 us slots)
 
 -- 4. Stamps on the wire

@@ -1,5 +1,5 @@
 -- Where a coded stream says its level, or how many channels it has.
-use Rattle.std.specs.Prelude.{ℕ, ◌+◌, ◌*◌, ◌/◌, ◌%◌, ◌==◌, ◌&&◌, nat_lt, if◌then◌else◌, Option, None, Some, List, [], ◌∷◌, take, drop}
+use Rattle.std.specs.Prelude.{ℕ, ◌+◌, ◌*◌, ◌/◌, ◌%◌, ◌==◌, ◌&&◌, ◌||◌, nat_lt, if◌then◌else◌, Option, None, Some, List, [], ◌∷◌, take, drop}
 use Rattle.std.specs.List.{slice_get}
 use Rattle.std.specs.Option.{option_and_then, option_or}
 use Rattle.std.specs.Str.{bytes_eq}
@@ -18,10 +18,16 @@ unfoldable pub mpeg_level : List ℕ → Option ℕ
 mpeg_level (code ∷ first ∷ second ∷ rest) = if code == 0xB5 && first / 8 == 2 then Some (second / 16) else None
 mpeg_level _ = None
 
+-- in the Baseline, Main and Extended profiles level 1b is 11 with constraint_set3_flag, which is 9 in others (ISO/IEC 14496-10,
+-- A.3.1 and A.3.2)
+unfoldable pub avc_level_idc : ℕ → ℕ → ℕ → ℕ
+avc_level_idc profile constraints level =
+    if level == 11 && constraints / 16 % 2 == 1 && (profile == 66 || profile == 77 || profile == 88) then 9 else level
+
 -- of a sequence parameter set (ISO/IEC 14496-10, 7.3.1 and 7.3.2.1.1): nal_unit_type 7 in the last five bits of the first byte,
 -- profile_idc, eight bits of constraints, level_idc
 unfoldable pub avc_level : List ℕ → Option ℕ
-avc_level (header ∷ profile ∷ constraints ∷ level ∷ rest) = if header % 32 == 7 then Some level else None
+avc_level (header ∷ profile ∷ constraints ∷ level ∷ rest) = if header % 32 == 7 then Some (avc_level_idc profile constraints level) else None
 avc_level _ = None
 
 -- the bytes of a NAL unit without its emulation prevention bytes, each the 3 of a 00 00 03 (ISO/IEC 23008-2, 7.3.1.1)
@@ -44,10 +50,22 @@ hevc_level _ = None
 unfoldable pub channel_count : ℕ → ℕ
 channel_count configuration = if configuration == 7 then 8 else configuration
 
+-- the elements of a program_config_element (ISO/IEC 13818-7, 8.5) that comes first in a raw_data_block, id_syn_ele 5, each of
+-- which has a channel or two: after 4 bits of element_instance_tag, 2 of profile and 4 of sampling_frequency_index 4 bits of front,
+-- 4 of side and 4 of back elements, and 2 of low frequency ones
+unfoldable pub element_count : List ℕ → ℕ
+element_count (a ∷ b ∷ c ∷ d ∷ rest) = if a / 32 == 5 then b % 8 * 2 + c / 128 + c / 8 % 16 + (c % 8 * 2 + d / 128) + d / 32 % 4 else 0
+element_count _ = 0
+
+-- of a channel_configuration, with what follows it: three bytes of the header, and where protection is not absent a check word
+unfoldable pub channels_by : ℕ → ℕ → List ℕ → ℕ
+channels_by absent configuration rest =
+    if configuration == 0 then element_count (drop (if absent == 1 then 3 else 5) rest) else channel_count configuration
+
 -- of an ADTS header (ISO/IEC 13818-7, 6.2): the syncword, twelve ones, ID, layer 00, protection_absent; 2 bits of profile, 4 of
 -- sampling_frequency_index, private_bit, and channel_configuration in 3 bits
 unfoldable pub adts_channels : List ℕ → Option ℕ
-adts_channels (a ∷ b ∷ c ∷ d ∷ rest) = if a == 0xFF && b / 16 == 15 && b / 2 % 4 == 0 then Some (channel_count (c % 2 * 4 + d / 64)) else None
+adts_channels (a ∷ b ∷ c ∷ d ∷ rest) = if a == 0xFF && b / 16 == 15 && b / 2 % 4 == 0 then Some (channels_by (b % 2) (c % 2 * 4 + d / 64) rest) else None
 adts_channels _ = None
 
 -- 2. What is found in a unit

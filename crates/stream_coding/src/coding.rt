@@ -25,7 +25,7 @@ pub enum Coding {
     Hevc(u8),
     /// ISO/IEC 11172-3 and 13818-3 audio, and any other audio.
     Audio,
-    /// ISO/IEC 13818-7 audio with this number of channels.
+    /// ISO/IEC 13818-7 audio with at least this number of channels.
     Aac(u8),
     /// AC-3 and Enhanced AC-3 audio.
     Ac3,

@@ -1,6 +1,6 @@
 //! The level, or the number of channels, that a coded stream says.
 
-ghost use Rattle.std.specs.Prelude.{◌≡◌, option_map};
+ghost use Rattle.std.specs.Prelude.{◌≡◌, drop, option_map};
 ghost use Rattle.std.specs.List.{slice_get};
 ghost use Rattle.stream_coding.specs.Fields as spec;
 
@@ -9,11 +9,11 @@ ghost use Rattle.stream_coding.specs.Fields as spec;
 pub(crate) enum Field {
     /// The level of ISO/IEC 13818-2 video.
     MpegLevel,
-    /// level_idc of ISO/IEC 14496-10 video.
+    /// level_idc of ISO/IEC 14496-10 video, 9 for level 1b.
     AvcLevel,
     /// general_level_idc of ISO/IEC 23008-2 video.
     HevcLevel,
-    /// The channels of ISO/IEC 13818-7 audio.
+    /// The channels of ISO/IEC 13818-7 audio, at least; without a channel_configuration one for each element.
     AdtsChannels,
 }
 
@@ -42,15 +42,28 @@ fn mpeg_level(bytes: &[u8]) -> Option<u8>
     }
 }
 
+// level_idc, 9 for level 1b where it is written as 11.
+#[tactic(auto, unfolding(crate::specs::Fields::avc_level_idc))]
+fn avc_level_idc(profile: u8, constraints: u8, level: u8) -> u8
+    ensures { result ≡ spec.avc_level_idc profile constraints level }
+{
+    let is_1b = level == 11 && constraints / 16 % 2 == 1;
+    if is_1b && (profile == 66 || profile == 77 || profile == 88) {
+        9
+    } else {
+        level
+    }
+}
+
 // The level of a sequence parameter set of ISO/IEC 14496-10.
 #[tactic(auto, unfolding(crate::specs::Fields::avc_level))]
 fn avc_level(bytes: &[u8]) -> Option<u8>
     ensures { result ≡ spec.avc_level bytes.now }
 {
     match bytes {
-        [header, _, _, level, ..] => {
+        [header, profile, constraints, level, ..] => {
             if *header % 32 == 7 {
-                Some(*level)
+                Some(avc_level_idc(*profile, *constraints, *level))
             } else {
                 None
             }
@@ -110,15 +123,55 @@ fn channel_count(configuration: u8) -> u8
     if configuration == 7 { 8 } else { configuration }
 }
 
+// The elements of a program_config_element at the front, each of which has a channel or two.
+#[tactic(auto, unfolding(crate::specs::Fields::element_count))]
+fn element_count(bytes: &[u8]) -> u8
+    ensures { result ≡ spec.element_count bytes.now }
+{
+    match bytes {
+        [a, b, c, d, ..] => {
+            if *a / 32 == 5 {
+                *b % 8 * 2 + *c / 128 + *c / 8 % 16 + (*c % 8 * 2 + *d / 128) + *d / 32 % 4
+            } else {
+                0
+            }
+        }
+        _ => 0,
+    }
+}
+
+// The bytes from a place on; none where they are fewer.
+fn bytes_from(place: usize, bytes: &[u8]) -> &[u8]
+    ensures { result.now ≡ drop place bytes.now }
+{
+    if bytes.len() < place {
+        &[]
+    } else {
+        &bytes[place..]
+    }
+}
+
+// The channels of a channel_configuration, with what follows it.
+#[tactic(auto, unfolding(crate::specs::Fields::channels_by))]
+fn channels_by(absent: u8, configuration: u8, rest: &[u8]) -> u8
+    ensures { result ≡ spec.channels_by absent configuration rest.now }
+{
+    if configuration != 0 {
+        return channel_count(configuration);
+    }
+    let place = if absent == 1 { 3 } else { 5 };
+    element_count(bytes_from(place, rest))
+}
+
 // The channels of an ADTS header.
 #[tactic(auto, unfolding(crate::specs::Fields::adts_channels))]
 fn adts_channels(bytes: &[u8]) -> Option<u8>
     ensures { result ≡ spec.adts_channels bytes.now }
 {
     match bytes {
-        [a, b, c, d, ..] => {
+        [a, b, c, d, rest @ ..] => {
             if *a == 0xff && *b / 16 == 15 && *b / 2 % 4 == 0 {
-                Some(channel_count(*c % 2 * 4 + *d / 64))
+                Some(channels_by(*b % 2, *c % 2 * 4 + *d / 64, rest))
             } else {
                 None
             }

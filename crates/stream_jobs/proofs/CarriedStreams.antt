@@ -14,7 +14,7 @@ use Rattle.stream_jobs.specs.declared.refusal.JobError.TheVariants.{Memory, Refu
 use Rattle.stream_jobs.specs.Answers.{Refuses, and_then, unless, each}
 use Rattle.stream_jobs.specs.Jobs.{IsCarried}
 use Rattle.stream_jobs.specs.FoundUnits.{source_of}
-use Rattle.stream_jobs.specs.WireStreams.{carried_streams, common_id, dts_refusal, has_units, stream_if_any, with_stamps, stream_of, wire_stream, with_units}
+use Rattle.stream_jobs.specs.WireStreams.{carried_streams, common_id, dts_refusal, can_carry, stream_if_any, with_stamps, stream_of, wire_stream, with_units}
 use Rattle.stream_jobs.proofs.Each.{after, each_begins, each_ends, each_goes_on, each_stops}
 use Rattle.stream_jobs.specs.JobStreams.{WireStreamView}
 
@@ -71,14 +71,14 @@ pub all_carried : (made : Bool) (findings : List FindingView) (ss : List FoundSt
     carried_streams made findings ss ≡ Ok ws → All (IsCarried made findings) ws
 unfolding carried_streams
 all_carried made findings ss ws is =
-    each_all (wire_stream made findings) (IsCarried made findings) (one_carried made findings) (filter (has_units findings) ss) ws is
+    each_all (wire_stream made findings) (IsCarried made findings) (one_carried made findings) (filter (can_carry findings) ss) ws is
 
 -- 3. Of a list that is taken from its front
 
 pub carried_begin : (made : Bool) (findings : List FindingView) (ss : List FoundStreamView) →
     carried_streams made findings ss ≡ after [] (carried_streams made findings ss)
 unfolding carried_streams
-carried_begin made findings ss = each_begins (wire_stream made findings) (filter (has_units findings) ss)
+carried_begin made findings ss = each_begins (wire_stream made findings) (filter (can_carry findings) ss)
 
 -- a stream with its units, if it has any
 some_of : Bool → Result WireStreamView JobRefusal → Result (Option WireStreamView) JobRefusal
@@ -111,7 +111,7 @@ pub carried_goes_on : (made : Bool) (findings : List FindingView) (s : FoundStre
     after ws (carried_streams made findings (s ∷ ss)) ≡ after vs (carried_streams made findings ss)
 unfolding carried_streams stream_if_any with_some some_of
 carried_goes_on made findings s ss ws vs is =
-    goes_on (wire_stream made findings) (has_units findings s) s (filter (has_units findings) ss) ws vs is
+    goes_on (wire_stream made findings) (can_carry findings s) s (filter (can_carry findings) ss) ws vs is
 
 refused_one : (stream : Result WireStreamView JobRefusal) (refusal : JobRefusal) → some_of true stream ≡ Err refusal → stream ≡ Err refusal
 unfolding some_of and_then
@@ -128,7 +128,7 @@ pub carried_stops : (made : Bool) (findings : List FindingView) (s : FoundStream
     stream_if_any made findings s ≡ Err refusal → after ws (carried_streams made findings (s ∷ ss)) ≡ Err refusal
 unfolding carried_streams stream_if_any some_of
 carried_stops made findings s ss ws refusal is =
-    stops (wire_stream made findings) (has_units findings s) s (filter (has_units findings) ss) ws refusal is
+    stops (wire_stream made findings) (can_carry findings s) s (filter (can_carry findings) ss) ws refusal is
 
 pub carried_end : (made : Bool) (findings : List FindingView) (rest : List FoundStreamView) (ws : List WireStreamView) → length rest ≡ 0 →
     after ws (carried_streams made findings rest) ≡ Ok ws

@@ -1,5 +1,5 @@
 -- What a job is made of, from the streams that have units.
-use Rattle.std.proofs.Common.{◌≡◌, ◌++◌, ℕ, List, map, sym, refl, Result, Ok}
+use Rattle.std.proofs.Common.{◌≡◌, ◌++◌, ℕ, List, sym, refl, Result, Ok}
 use Rattle.std.specs.Prelude.{flat_map}
 use Rattle.psi_tables.specs.declared.pat.programs.Program.{Program}
 use Rattle.demux.specs.Views.{FindingView}
@@ -8,10 +8,9 @@ use Rattle.stream_programs.specs.Programs.{FoundProgramsView}
 use Rattle.stream_programs.specs.declared.pid_assignment.ProgramPids.{ProgramPids}
 use Rattle.stream_jobs.specs.declared.refusal.JobError.{JobError}
 use Rattle.stream_jobs.specs.declared.warning.Warning.{Warning}
-use Rattle.stream_jobs.specs.declared.warning.Warning.TheVariants.{Table}
 use Rattle.stream_jobs.specs.Answers.{Answers, and_then}
-use Rattle.stream_jobs.specs.JobPrograms.{JobProgramView, job_programs, all_program_warnings}
-use Rattle.stream_jobs.specs.JobInput.{JobInputView, change_warnings, table_warnings, stream_warnings, job_warnings, with_pids, with_streams}
+use Rattle.stream_jobs.specs.JobPrograms.{JobProgramView, job_programs, all_program_warnings, text_warnings}
+use Rattle.stream_jobs.specs.JobInput.{JobInputView, table_warnings, stream_warnings, job_warnings, with_pids, with_streams}
 use Rattle.stream_jobs.specs.Warnings.{pid_warnings}
 use Rattle.stream_jobs.specs.WireStreams.{wire_streams, all_empty_stream_warnings}
 use Rattle.stream_jobs.specs.JobOptions.{JobOptionsView}
@@ -19,14 +18,15 @@ use Rattle.stream_jobs.specs.JobStreams.{WireStreamView}
 
 -- the warnings, one after the other
 pub all_warnings : (options : JobOptionsView) (count : ℕ) (findings : List FindingView) (a : AssociationView) (named : List Program) (found : FoundProgramsView) (assigned : List ProgramPids) (streams : List WireStreamView)
-    (changes tables empties programs all : List Warning) →
-    changes ≡ change_warnings a named findings → tables ≡ changes ++ map Table found.left_out →
+    (tables empties programs units all : List Warning) →
+    tables ≡ table_warnings options a named findings found →
     empties ≡ tables ++ all_empty_stream_warnings count options.without findings found.streams →
     programs ≡ empties ++ all_program_warnings streams found.programs assigned →
-    all ≡ programs ++ flat_map (λ s. pid_warnings count findings s.pid) streams →
+    units ≡ programs ++ flat_map (λ s. pid_warnings count findings s.pid) streams →
+    all ≡ units ++ text_warnings findings (job_programs streams found.programs assigned) →
     all ≡ job_warnings options count findings a named found assigned streams
-unfolding table_warnings stream_warnings job_warnings
-all_warnings options count findings a named found assigned streams changes tables empties programs all one two three four five = rw (five, four, three, two, one) refl
+unfolding stream_warnings job_warnings
+all_warnings options count findings a named found assigned streams tables empties programs units all one two three four five = rw (five, four, three, two, one) refl
 
 -- the streams have units, and these are the programs and the warnings
 pub in_pids : (options : JobOptionsView) (count : ℕ) (findings : List FindingView) (a : AssociationView) (named : List Program) (found : FoundProgramsView) (assigned : List ProgramPids) (streams : List WireStreamView)

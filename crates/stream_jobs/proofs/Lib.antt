@@ -6,3 +6,4 @@ mod JobInputs
 mod Each
 mod CarriedStreams
 mod TriedRates
+mod FirstWhy

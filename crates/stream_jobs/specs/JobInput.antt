@@ -1,7 +1,9 @@
 -- What a job is made of: the programs and streams of a transport stream, and what is declared of their units.
-use Rattle.std.specs.Prelude.{ℕ, ◌==◌, if◌then◌else◌, List, ◌++◌, length, map, filter, flat_map, ok_or, Some, None, Result, Ok}
+use Rattle.std.specs.Prelude.{ℕ, ◌==◌, if◌then◌else◌, List, [], ◌∷◌, ◌++◌, length, map, filter, flat_map, ok_or, Option, Some, None, Result, Ok}
+use Rattle.std.specs.Option.{option_or}
 use Rattle.psi_tables.specs.declared.pat.programs.Program.{Program}
 use Rattle.demux.specs.Views.{FindingView}
+use Rattle.stream_units.specs.Damage.{is_scrambled}
 use Rattle.stream_choice.specs.declared.choice.Choice.{Choice}
 use Rattle.stream_programs.specs.Association.{AssociationView, association}
 use Rattle.stream_programs.specs.PidAssignment.{assigned_pids}
@@ -13,10 +15,10 @@ use Rattle.stream_jobs.specs.declared.warning.Warning.{Warning}
 use Rattle.stream_jobs.specs.declared.warning.Warning.TheVariants as warnings
 use Rattle.stream_jobs.specs.Answers.{and_then, unless}
 use Rattle.stream_jobs.specs.Declarations.{UnitCountsView, too_many, too_long, all_unit_counts, choices}
-use Rattle.stream_jobs.specs.JobPrograms.{JobProgramView, job_programs, all_program_warnings}
+use Rattle.stream_jobs.specs.JobPrograms.{JobProgramView, job_programs, all_program_warnings, text_warnings}
 use Rattle.stream_jobs.specs.Moments.{earliest, first_base, moved_streams}
 use Rattle.stream_jobs.specs.Packets.{no_packets}
-use Rattle.stream_jobs.specs.Warnings.{packet_warnings, association_warnings, all_map_warnings, pid_warnings}
+use Rattle.stream_jobs.specs.Warnings.{packet_warnings, association_warnings, all_map_warnings, stray_warnings, option_warnings, pid_warnings}
 use Rattle.stream_jobs.specs.WireStreams.{wire_streams, all_empty_stream_warnings}
 use Rattle.stream_jobs.specs.JobOptions.{JobOptionsView, is_selected_program}
 use Rattle.stream_jobs.specs.JobStreams.{TimedStreamView, WireStreamView}
@@ -37,29 +39,32 @@ pub record JobInputView : Type 0 where
 -- about packets, and tables that change
 unfoldable pub change_warnings : AssociationView → List Program → List FindingView → List Warning
 change_warnings a named findings =
-    (packet_warnings findings ++ association_warnings a.version_number findings) ++ all_map_warnings findings named
+    (packet_warnings findings ++ association_warnings a findings) ++ all_map_warnings findings named
 
--- and about what is left out of the tables
-unfoldable pub table_warnings : AssociationView → List Program → List FindingView → FoundProgramsView → List Warning
-table_warnings a named findings found = change_warnings a named findings ++ map warnings.Table found.left_out
+-- and about what is left out of the tables, PES packets of no program, and what options name and is not there
+unfoldable pub table_warnings : JobOptionsView → AssociationView → List Program → List FindingView → FoundProgramsView → List Warning
+table_warnings options a named findings found =
+    ((change_warnings a named findings ++ map warnings.Table found.left_out) ++ stray_warnings options.without a findings)
+    ++ option_warnings options.programs options.without options.buffers a found.streams
 
--- and about streams that have no units
+-- and about streams that are not carried
 unfoldable pub stream_warnings : JobOptionsView → ℕ → List FindingView → AssociationView → List Program → FoundProgramsView → List Warning
 stream_warnings options count findings a named found =
-    table_warnings a named findings found ++ all_empty_stream_warnings count options.without findings found.streams
+    table_warnings options a named findings found ++ all_empty_stream_warnings count options.without findings found.streams
 
--- and about programs, and what of the streams is in no unit
+-- and about programs, what of the streams is in no unit, and texts
 unfoldable pub job_warnings : JobOptionsView → ℕ → List FindingView → AssociationView → List Program → FoundProgramsView → List ProgramPids → List WireStreamView → List Warning
 job_warnings options count findings a named found assigned streams =
-    (stream_warnings options count findings a named found ++ all_program_warnings streams found.programs assigned)
-    ++ flat_map (λ s. pid_warnings count findings s.pid) streams
+    ((stream_warnings options count findings a named found ++ all_program_warnings streams found.programs assigned)
+    ++ flat_map (λ s. pid_warnings count findings s.pid) streams)
+    ++ text_warnings findings (job_programs streams found.programs assigned)
 
 -- 2. What it is made of, step by step
 
 -- streams with their units at moments, and the counts of their units
 unfoldable pub with_unit_counts : JobOptionsView → (List UnitCountsView → List Choice → JobInputView) → List TimedStreamView → Result JobInputView JobRefusal
 with_unit_counts options finish streams =
-    and_then (λ all. and_then (λ chosen. Ok (finish all chosen)) (choices options.lead streams all)) (all_unit_counts options.buffers streams)
+    and_then (λ all. and_then (λ chosen. Ok (finish all chosen)) (choices options.declare_by options.lead streams all)) (all_unit_counts options.buffers streams)
 
 unfoldable pub with_moved : JobOptionsView → ℕ → ℕ → List JobProgramView → List Warning → List TimedStreamView → Result JobInputView JobRefusal
 with_moved options id base programs all_warnings streams =
@@ -75,11 +80,25 @@ with_moved options id base programs all_warnings streams =
       warnings = all_warnings;
     }) streams))
 
+-- why no stream is carried: the first warning of a stream_id that can't be written, or of scrambled packets
+unfoldable pub why_nothing : Warning → Option JobRefusal
+why_nothing (warnings.StreamId program pid packet id) = Some (refusals.StreamId packet pid id)
+why_nothing (warnings.Units pid warning) = if is_scrambled warning.cause then Some refusals.Scrambled else None
+why_nothing _ = None
+
+unfoldable pub first_why : List Warning → Option JobRefusal
+first_why [] = None
+first_why (w ∷ ws) = option_or (why_nothing w) (first_why ws)
+
+unfoldable pub nothing_carried : List Warning → List WireStreamView → Option JobRefusal
+nothing_carried all_warnings streams = if length streams == 0 then first_why all_warnings else None
+
 -- streams with their units as on the wire
 unfoldable pub with_streams : JobOptionsView → List FindingView → ℕ → List JobProgramView → List Warning → List WireStreamView → Result JobInputView JobRefusal
 with_streams options findings id programs all_warnings streams =
-    and_then (with_moved options id (first_base (earliest programs streams) streams) programs all_warnings)
-    (moved_streams findings (earliest programs streams) streams)
+    unless (nothing_carried all_warnings streams)
+    (and_then (with_moved options id (first_base (earliest programs streams) streams) programs all_warnings)
+    (moved_streams findings (earliest programs streams) streams))
 
 -- programs, and the PIDs that they are given
 unfoldable pub with_pids : JobOptionsView → ℕ → List FindingView → AssociationView → List Program → FoundProgramsView → List ProgramPids → Result JobInputView JobRefusal

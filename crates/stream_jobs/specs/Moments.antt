@@ -1,9 +1,10 @@
 -- The units of streams at the moments of a run.
-use Rattle.std.specs.Prelude.{ℕ, ◌+◌, ◌%◌, ◌^◌, ◌==◌, nat_lt, Bool, if◌then◌else◌, List, [], ◌∷◌, length, map, filter, sum_by, slice_get, unwrap_or, None, option_map, Result, Ok}
+use Rattle.std.specs.Prelude.{ℕ, ◌+◌, ◌%◌, ◌^◌, ◌==◌, nat_lt, Bool, is_none, if◌then◌else◌, List, [], ◌∷◌, length, map, filter, sum_by, slice_get, unwrap_or, None, option_map, Result, Ok}
 use Rattle.std.specs.List.{list_any}
 use Rattle.pes_packet.specs.AccessUnits.{AccessUnit}
 use Rattle.demux.specs.Views.{FindingView}
 use Rattle.stream_units.specs.CarriedUnits.{CarriedUnit, carried_units}
+use Rattle.stream_units.specs.MadeDts.{dts_fault, pts_of}
 use Rattle.stream_units.specs.Stamps.{constant_of, first_fault, moved}
 use Rattle.stream_units.specs.declared.stamps.StampFault.{StampFault}
 use Rattle.stream_jobs.specs.declared.moved_streams.FirstDts.{FirstDts}
@@ -74,8 +75,12 @@ first_base due streams = base_of_first due (firsts streams)
 unfoldable pub packet_of : List FindingView → ℕ → ℕ → ℕ
 packet_of findings pid index = unwrap_or (option_map (λ u. u.packet) (slice_get (carried_units pid findings) index)) 0
 
+-- DTS can be made from the PTS of a PID
+unfoldable pub is_mended : List FindingView → ℕ → Bool
+is_mended findings pid = is_none (dts_fault (pts_of (carried_units pid findings)))
+
 unfoldable pub stamps_refusal : List FindingView → ℕ → ℕ × StampFault → JobRefusal
-stamps_refusal findings pid fault = refusals.Stamps (packet_of findings pid fault.0) pid fault.1
+stamps_refusal findings pid fault = refusals.Stamps (packet_of findings pid fault.0) pid fault.1 (is_mended findings pid)
 
 abbrev pub wire_of : WireStreamView → List AccessUnit
 wire_of s = map (λ u. u.unit) s.units

@@ -1,14 +1,19 @@
 -- Warnings about a stream that is not taken as it stands.
-use Rattle.std.specs.Prelude.{ℕ, Bool, true, false, is_some, if◌then◌else◌, List, [], ◌∷◌, length, map, flat_map, option_to_list}
+use Rattle.std.specs.Prelude.{ℕ, ◌==◌, Bool, true, false, is_some, if◌then◌else◌, List, [], ◌∷◌, ◌++◌, length, map, flat_map, option_to_list}
 use Rattle.std.specs.List.{list_any}
 use Rattle.psi_tables.specs.declared.pat.programs.Program.{Program}
 use Rattle.demux.specs.Views.{WhatView, IsTruncated, IsBadPacket, IsErrored, FindingView}
-use Rattle.stream_programs.specs.Association.{association_change}
+use Rattle.stream_programs.specs.Association.{AssociationView, association_change, is_named}
+use Rattle.stream_programs.specs.Omissions.{is_loss}
 use Rattle.stream_programs.specs.ProgramMaps.{map_change}
+use Rattle.stream_programs.specs.Programs.{programs_of}
+use Rattle.stream_programs.specs.StrayPids.{mapped_pids, pes_count, stray_pids}
+use Rattle.stream_programs.specs.Streams.{FoundStreamView}
 use Rattle.stream_units.specs.UnitWarnings.{unit_warnings}
 use Rattle.stream_units.specs.Damage as units
+use Rattle.stream_jobs.specs.declared.job_options.PidBuffers.{PidBuffers}
 use Rattle.stream_jobs.specs.declared.warning.Warning.{Warning}
-use Rattle.stream_jobs.specs.declared.warning.Warning.TheVariants.{BadPacket, Errored, TrailingBytes, AssociationChanges, MapChanges, Table, Units, NoUnit, NoStream, MapMoved}
+use Rattle.stream_jobs.specs.declared.warning.Warning.TheVariants.{BadPacket, Errored, TrailingBytes, AssociationChanges, MapChanges, Table, StrayPes, NoSuchProgram, NoSuchStream, Units, NoUnit, StreamId, NoStream, UnreadText, MapMoved}
 
 -- 1. Packets: what is found on no PID
 
@@ -26,9 +31,9 @@ packet_warnings findings = flat_map packet_warning findings
 
 -- 2. Tables that change
 
--- the first association section of another version than this
-abbrev pub association_warnings : ℕ → List FindingView → List Warning
-association_warnings version findings = map AssociationChanges (option_to_list (association_change version findings))
+-- the first association section that says something else than the association
+abbrev pub association_warnings : AssociationView → List FindingView → List Warning
+association_warnings a findings = map AssociationChanges (option_to_list (association_change a findings))
 
 -- the first map of a program that names other streams than its last one
 unfoldable pub map_warnings : List FindingView → Program → List Warning
@@ -40,9 +45,35 @@ all_map_warnings findings named = flat_map (map_warnings findings) named
 -- 3. Units: what is found on a PID and is in none, in a stream of `count` whole packets
 
 unfoldable pub pid_warnings : ℕ → List FindingView → ℕ → List Warning
-pid_warnings count findings pid = map (Units pid) (unit_warnings pid count false findings)
+pid_warnings count findings pid = map (Units pid) (unit_warnings pid count findings)
 
--- 4. Which warnings say that the stream is damaged
+-- 4. PES packets of no program: of a PID that no map of the association names, and that is not left out by an option
+
+abbrev pub known_pids : List ℕ → AssociationView → List FindingView → List ℕ
+known_pids without a findings = mapped_pids (programs_of a.programs findings) ++ without
+
+unfoldable pub stray_warning : List FindingView → ℕ → Warning
+stray_warning findings pid = StrayPes pid (pes_count pid findings)
+
+unfoldable pub stray_warnings : List ℕ → AssociationView → List FindingView → List Warning
+stray_warnings without a findings = map (stray_warning findings) (stray_pids (known_pids without a findings) [] findings)
+
+-- 5. What options name and is not there
+
+unfoldable pub selection_warning : AssociationView → ℕ → List Warning
+selection_warning a number = if is_named number a.programs then [] else NoSuchProgram number ∷ []
+
+unfoldable pub pid_option_warning : List FoundStreamView → ℕ → List Warning
+pid_option_warning streams pid = if list_any (λ s. s.pid == pid) streams then [] else NoSuchStream pid ∷ []
+
+unfoldable pub buffer_warning : List FoundStreamView → PidBuffers → List Warning
+buffer_warning streams b = pid_option_warning streams b.pid
+
+unfoldable pub option_warnings : List ℕ → List ℕ → List PidBuffers → AssociationView → List FoundStreamView → List Warning
+option_warnings programs without buffers a streams =
+    (flat_map (selection_warning a) programs ++ flat_map (pid_option_warning streams) without) ++ flat_map (buffer_warning streams) buffers
+
+-- 6. Which warnings say that something is lost
 
 unfoldable pub is_damage : Warning → Bool
 is_damage (BadPacket packet) = true
@@ -50,10 +81,15 @@ is_damage (Errored packet) = true
 is_damage (TrailingBytes size) = true
 is_damage (AssociationChanges packet) = false
 is_damage (MapChanges program packet) = true
-is_damage (Table left_out) = false
+is_damage (Table left_out) = is_loss left_out
+is_damage (StrayPes pid count) = true
+is_damage (NoSuchProgram program) = true
+is_damage (NoSuchStream pid) = true
 is_damage (Units pid warning) = units.is_damage warning.cause
 is_damage (NoUnit program pid) = false
+is_damage (StreamId program pid packet id) = true
 is_damage (NoStream program) = false
+is_damage (UnreadText program) = true
 is_damage (MapMoved program from to) = false
 
 abbrev pub are_damaged : List Warning → Bool

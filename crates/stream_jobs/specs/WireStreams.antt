@@ -1,5 +1,5 @@
 -- The streams of a job, their units with the stamps on the wire.
-use Rattle.std.specs.Prelude.{ℕ, ◌==◌, not, Bool, true, false, if◌then◌else◌, List, [], ◌∷◌, length, slice_get, filter, flat_map, ok_or, Option, Some, None, option_map, option_and_then, Result, Ok, Err}
+use Rattle.std.specs.Prelude.{ℕ, Bool, true, false, is_some, if◌then◌else◌, List, [], ◌∷◌, slice_get, filter, flat_map, ok_or, Option, Some, None, option_map, option_and_then, Result, Ok, Err}
 use Rattle.demux.specs.Views.{FindingView}
 use Rattle.stream_coding.specs.Codings.{is_ac3}
 use Rattle.stream_programs.specs.Streams.{FoundStreamView}
@@ -15,18 +15,19 @@ use Rattle.stream_jobs.specs.Warnings.{pid_warnings}
 use Rattle.stream_jobs.specs.JobOptions.{is_selected_stream}
 use Rattle.stream_jobs.specs.JobStreams.{WireStreamView}
 
--- 1. The stream_id: that of the first unit, if it can be written and all have it
+-- 1. The stream_id: that of the first unit, if all have it
 
 unfoldable pub other_id_refusal : ℕ → ℕ → List CarriedUnit → Option JobRefusal
 other_id_refusal pid first units =
     option_map (λ u. refusals.OtherStreamId u.packet pid u.stream_id first) (option_and_then (slice_get units) (first_other_at first 0 units))
 
-unfoldable pub id_of : ℕ → Bool → CarriedUnit → Result ℕ JobRefusal
-id_of pid ac3 u = ok_or (written_id u.stream_id ac3) (refusals.StreamId u.packet pid u.stream_id)
+-- of a stream whose stream_id can be written
+unfoldable pub id_of : Bool → CarriedUnit → Result ℕ JobRefusal
+id_of ac3 u = ok_or (written_id u.stream_id ac3) refusals.NoStream
 
 unfoldable pub common_id : ℕ → Bool → List CarriedUnit → Result ℕ JobRefusal
 common_id pid ac3 [] = Err refusals.NoStream
-common_id pid ac3 (u ∷ us) = unless (other_id_refusal pid u.stream_id (u ∷ us)) (id_of pid ac3 u)
+common_id pid ac3 (u ∷ us) = unless (other_id_refusal pid u.stream_id (u ∷ us)) (id_of ac3 u)
 
 -- 2. The stamps: those of the stream, or DTS that are made from PTS
 
@@ -58,28 +59,37 @@ stream_of made s units =
 unfoldable pub wire_stream : Bool → List FindingView → FoundStreamView → Result WireStreamView JobRefusal
 wire_stream made findings s = stream_of made s (carried_units s.pid findings)
 
--- 4. All streams of the tables: those that are not to be left out and have units
+-- 4. All streams of the tables: those that are not to be left out, have units, and a stream_id that can be written
 
-unfoldable pub has_units : List FindingView → FoundStreamView → Bool
-has_units findings s = not (length (carried_units s.pid findings) == 0)
+unfoldable pub is_written : FoundStreamView → List CarriedUnit → Bool
+is_written s [] = false
+is_written s (u ∷ us) = is_some (written_id u.stream_id (is_ac3 s.stream_type s.descriptors))
 
--- a stream with its units, if it has any
+unfoldable pub can_carry : List FindingView → FoundStreamView → Bool
+can_carry findings s = is_written s (carried_units s.pid findings)
+
+-- a stream with its units, if it can be carried
 unfoldable pub stream_if_any : Bool → List FindingView → FoundStreamView → Result (Option WireStreamView) JobRefusal
-stream_if_any made findings s = if has_units findings s then and_then (λ w. Ok (Some w)) (wire_stream made findings s) else Ok None
+stream_if_any made findings s = if can_carry findings s then and_then (λ w. Ok (Some w)) (wire_stream made findings s) else Ok None
 
 abbrev pub selected : List ℕ → List FoundStreamView → List FoundStreamView
 selected without streams = filter (is_selected_stream without) streams
 
--- those that have units
+-- those that can be
 unfoldable pub carried_streams : Bool → List FindingView → List FoundStreamView → Result (List WireStreamView) JobRefusal
-carried_streams made findings streams = each (wire_stream made findings) (filter (has_units findings) streams)
+carried_streams made findings streams = each (wire_stream made findings) (filter (can_carry findings) streams)
 
 abbrev pub wire_streams : Bool → List ℕ → List FindingView → List FoundStreamView → Result (List WireStreamView) JobRefusal
 wire_streams made without findings streams = carried_streams made findings (selected without streams)
 
--- the warnings about those that have none
+-- the warnings about a stream that can't be carried: it has no unit, or a stream_id that can't be written
+unfoldable pub why_not_carried : ℕ → List FindingView → ℕ → ℕ → List CarriedUnit → List Warning
+why_not_carried count findings program pid [] = warnings.NoUnit program pid ∷ pid_warnings count findings pid
+why_not_carried count findings program pid (u ∷ us) = warnings.StreamId program pid u.packet u.stream_id ∷ []
+
 unfoldable pub empty_stream_warnings : ℕ → List FindingView → FoundStreamView → List Warning
-empty_stream_warnings count findings s = if has_units findings s then [] else warnings.NoUnit s.program s.pid ∷ pid_warnings count findings s.pid
+empty_stream_warnings count findings s =
+    if can_carry findings s then [] else why_not_carried count findings s.program s.pid (carried_units s.pid findings)
 
 abbrev pub all_empty_stream_warnings : ℕ → List ℕ → List FindingView → List FoundStreamView → List Warning
 all_empty_stream_warnings count without findings streams = flat_map (empty_stream_warnings count findings) (selected without streams)

@@ -7,18 +7,22 @@ ghost use Rattle.stream_jobs.specs.Jobs.{AreStreams, IsCarried, FitsQueue};
 ghost use Rattle.stream_jobs.specs.JobInput as spec;
 ghost use Rattle.stream_jobs.specs.JobOptions.{is_selected_program};
 
-use crate::declarations::{UnitCounts, choices, count_units, too_long, too_many};
+use crate::choices::choices;
+use crate::declarations::{UnitCounts, count_units, too_long, too_many};
 use crate::earliest::earliest_of;
 use crate::job_options::{JobOptions, is_among};
 use crate::job_programs::{JobProgram, job_programs};
 use crate::job_stream::{TimedStream, WireStream};
 use crate::moved_streams::{first_base, moved_streams};
+use crate::named_service::push_text_warnings;
+use crate::nothing_carried::nothing_carried;
+use crate::option_warnings::push_option_warnings;
 use crate::packets::no_packets;
 use crate::refusal::{JobError, JobRefusal};
 use crate::warning::Warning;
 use crate::warnings::{
-    push_association_warning, push_map_warnings, push_packet_warnings, push_stream_warnings,
-    push_table_warnings,
+    push_association_warning, push_map_warnings, push_packet_warnings, push_stray_warnings,
+    push_stream_warnings, push_table_warnings,
 };
 use crate::wire_streams::wire_streams;
 use demux::Finding;
@@ -101,6 +105,33 @@ fn change_warnings(
     Ok(warnings)
 }
 
+// The warnings about packets, about the tables, and about what options name.
+#[tactic(auto, unfolding(crate::specs::JobInput::table_warnings))]
+fn table_warnings(
+    alloc: Global,
+    options: &JobOptions<'_>,
+    association: &Association,
+    named: &[Program],
+    findings: &[Finding<'_>],
+    found: &FoundPrograms,
+) -> Result<Vec<Warning>, AllocError>
+    ensures { IfOk result (λ warnings. warnings.items ≡ spec.table_warnings options.now association.now named.now
+        (map finding_view findings.now) found.now) }
+{
+    let mut warnings = change_warnings(alloc, association, named, findings)?;
+    push_table_warnings(&found.left_out, &mut warnings)?;
+    push_stray_warnings(alloc, options.without, association, findings, &mut warnings)?;
+    push_option_warnings(
+        options.programs,
+        options.without,
+        options.buffers,
+        association,
+        &found.streams,
+        &mut warnings,
+    )?;
+    Ok(warnings)
+}
+
 // With what is declared of streams whose units have their moments.
 #[tactic(auto, unfolding(crate::specs::JobInput::with_moved, crate::specs::JobInput::with_unit_counts, crate::specs::Answers::unless, crate::specs::Answers::and_then, crate::specs::Answers::Answers, crate::specs::Answers::Refuses), using(crate::proofs::AndThen::then_refuses))]
 fn with_moved(
@@ -125,7 +156,13 @@ fn with_moved(
         return Err(JobError::Refused(refusal));
     }
     let unit_counts = count_units(alloc, options.buffers, &streams)?;
-    let choices = choices(alloc, options.lead, &streams, &unit_counts)?;
+    let choices = choices(
+        alloc,
+        options.declare_by,
+        options.lead,
+        &streams,
+        &unit_counts,
+    )?;
     Ok(JobInput {
         transport_stream_id,
         base0,
@@ -138,7 +175,7 @@ fn with_moved(
 }
 
 // With the moments of streams whose units are as on the wire.
-#[tactic(auto, unfolding(crate::specs::JobInput::with_streams, crate::specs::Answers::and_then, crate::specs::Answers::Answers, crate::specs::Answers::Refuses), using(crate::proofs::AndThen::then_refuses))]
+#[tactic(auto, unfolding(crate::specs::JobInput::with_streams, crate::specs::Answers::unless, crate::specs::Answers::and_then, crate::specs::Answers::Answers, crate::specs::Answers::Refuses), using(crate::proofs::AndThen::then_refuses))]
 fn with_streams(
     alloc: Global,
     options: &JobOptions<'_>,
@@ -153,6 +190,9 @@ fn with_streams(
         programs.items warnings.items streams.items) result }
     ensures streams { IfOk result (AreStreams options.now.make_dts (map finding_view findings.now)) }
 {
+    if let Some(refusal) = nothing_carried(&warnings, &streams) {
+        return Err(JobError::Refused(refusal));
+    }
     let earliest = earliest_of(&programs, &streams);
     let base0 = first_base(alloc, earliest, &streams)?;
     let moved = moved_streams(alloc, options.make_dts, earliest, streams, findings)?;
@@ -168,7 +208,7 @@ fn with_streams(
 }
 
 // With the streams of programs that are given PIDs.
-#[tactic(auto, unfolding(crate::specs::JobInput::with_pids, crate::specs::JobInput::job_warnings, crate::specs::JobInput::stream_warnings, crate::specs::JobInput::table_warnings, crate::specs::Answers::and_then, crate::specs::Answers::Answers, crate::specs::Answers::Refuses), using(crate::proofs::AndThen::then_refuses))]
+#[tactic(auto, unfolding(crate::specs::JobInput::with_pids, crate::specs::JobInput::job_warnings, crate::specs::JobInput::stream_warnings, crate::specs::Answers::and_then, crate::specs::Answers::Answers, crate::specs::Answers::Refuses), using(crate::proofs::AndThen::then_refuses))]
 fn with_pids(
     alloc: Global,
     options: &JobOptions<'_>,
@@ -183,8 +223,7 @@ fn with_pids(
         named.now found assigned.items) result }
     ensures streams { IfOk result (AreStreams options.now.make_dts (map finding_view findings.now)) }
 {
-    let mut warnings = change_warnings(alloc, association, named, findings)?;
-    push_table_warnings(&found.left_out, &mut warnings)?;
+    let mut warnings = table_warnings(alloc, options, association, named, findings, &found)?;
     let streams = wire_streams(
         alloc,
         options.make_dts,
@@ -196,6 +235,7 @@ fn with_pids(
     )?;
     let programs = job_programs(alloc, &streams, found.programs, assigned, &mut warnings)?;
     push_stream_warnings(alloc, count, &streams, findings, &mut warnings)?;
+    push_text_warnings(alloc, &programs, findings, &mut warnings)?;
     let id = association.transport_stream_id;
     with_streams(alloc, options, findings, id, programs, warnings, streams)
 }
@@ -253,7 +293,7 @@ fn with_association(
 
 /// What a job of these findings is made of; `count` is the number of whole packets of the stream. Refusals, the first
 /// one that holds: more than half of the packets are none, no program association table, no program with a map, no PID
-/// left; of a stream two stream_ids, one that can't be written, DTS that can't be made; stamps that are no moments; too
+/// left; of a stream two stream_ids, DTS that can't be made; no stream, since none can be written or is clear; stamps that are no moments; too
 /// many programs, streams, or units of a stream; a unit that is too large, and buffers in which units can't wait.
 #[tactic(auto, unfolding(crate::specs::JobInput::job_input, crate::specs::Answers::unless, crate::specs::Answers::and_then, crate::specs::Answers::Answers, crate::specs::Answers::Refuses))]
 pub fn job_input(

@@ -8,6 +8,7 @@
 //! and give the units in order (`specs/Jobs`), or say why there is no job (`specs/WhyNoJob`).
 #![tactic(auto)]
 
+mod choices;
 mod declaration_check;
 mod declarations;
 mod description_draft;
@@ -19,6 +20,8 @@ mod job_programs;
 mod job_stream;
 mod moved_streams;
 mod named_service;
+mod nothing_carried;
+mod option_warnings;
 mod packets;
 mod rates;
 mod refusal;
@@ -28,6 +31,6 @@ mod wire_streams;
 
 pub use input::{JobInput, job_input};
 pub use job::{Job, describe, make_job, reasons_against, units};
-pub use job_options::{JobOptions, PidBuffers};
+pub use job_options::{DeclareBy, JobOptions, PidBuffers};
 pub use refusal::{JobError, JobRefusal};
 pub use warning::Warning;

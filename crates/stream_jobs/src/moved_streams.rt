@@ -11,7 +11,9 @@ use crate::refusal::{JobError, JobRefusal};
 use clock27::STAMP_MODULUS;
 use demux::Finding;
 use std::alloc::{AllocError, Global};
-use stream_units::{StampError, StampFault, carried_units, constant, moved_units};
+use stream_units::{
+    DtsError, StampError, StampFault, carried_units, constant, moved_units, units_with_made_dts,
+};
 
 /// The first DTS of a stream, as on the wire.
 #[derive(Clone, Copy)]
@@ -101,6 +103,19 @@ fn packet_of(
     }
 }
 
+// Whether DTS can be made from the PTS of a PID.
+#[tactic(auto, unfolding(crate::specs::Moments::is_mended))]
+fn is_mended(alloc: Global, pid: u16, findings: &[Finding<'_>]) -> Result<bool, AllocError>
+    ensures { IfOk result (λ mended. mended ≡ spec.is_mended (map finding_view findings.now) pid) }
+{
+    let units = carried_units(alloc, pid, findings)?;
+    match units_with_made_dts(alloc, units) {
+        Ok(_) => Ok(true),
+        Err(DtsError::Fault(_)) => Ok(false),
+        Err(DtsError::Memory) => Err(AllocError),
+    }
+}
+
 // The refusal of a stream: the stamps of this unit can't be moments.
 #[tactic(auto, unfolding(crate::specs::Moments::stamps_refusal))]
 fn stamps_refusal(
@@ -114,7 +129,13 @@ fn stamps_refusal(
         (index, fault)) }
 {
     let packet = packet_of(alloc, pid, index, findings)?;
-    Ok(JobRefusal::Stamps { packet, pid, fault })
+    let mended = is_mended(alloc, pid, findings)?;
+    Ok(JobRefusal::Stamps {
+        packet,
+        pid,
+        fault,
+        mended,
+    })
 }
 
 // A stream with its units at their moments.

@@ -1,15 +1,17 @@
 //! What the description of a job says of a program's service.
 
-ghost use Rattle.std.specs.Prelude.{◌≡◌, IfOk, is_some, map, option_map};
+ghost use Rattle.std.specs.Prelude.{◌≡◌, ◌++◌, IfOk, OnOk, is_some, map, option_map};
 ghost use Rattle.demux.specs.Shown.{finding_view};
 ghost use Rattle.stream_programs.specs.Services.{service, found_service_view};
+ghost use Rattle.stream_jobs.specs.JobPrograms as spec_programs;
 ghost use Rattle.stream_jobs.specs.Texts as spec;
 
 use crate::job_programs::JobProgram;
+use crate::warning::Warning;
 use demux::Finding;
 use std::alloc::{AllocError, Global};
 use std::marker::Model;
-use stream_programs::{FoundService, decode_text, last_service};
+use stream_programs::{FoundService, decode_text, has_unread, last_service};
 
 /// The most bytes of a service's name and provider, as written in a descriptor.
 const LONGEST_NAME: usize = 100;
@@ -90,4 +92,54 @@ pub(crate) fn service_of(
     ensures { IfOk result (λ named. named ≡ spec.named_service (service number (map finding_view findings.now))) }
 {
     named_service(alloc, last_service(number, findings))
+}
+
+// Whether a text of a service has characters that can't be read.
+#[tactic(auto, unfolding(crate::specs::JobPrograms::is_unread))]
+fn is_unread(alloc: Global, service: Option<FoundService<'_>>) -> Result<bool, AllocError>
+    ensures { IfOk result (λ unread. unread ≡ spec_programs.is_unread (option_map found_service_view service.entry)) }
+{
+    match service {
+        Some(service) => {
+            let provider = has_unread(alloc, service.provider)?;
+            let name = has_unread(alloc, service.name)?;
+            Ok(provider || name)
+        }
+        None => Ok(false),
+    }
+}
+
+// Appends the warning about the texts of a program's service.
+#[tactic(auto, unfolding(crate::specs::JobPrograms::text_warning))]
+fn push_text_warning(
+    alloc: Global,
+    program: &JobProgram,
+    findings: &[Finding<'_>],
+    warnings: &mut Vec<Warning>,
+) -> Result<(), AllocError>
+    ensures { OnOk result (warnings.new.items ≡ warnings.old.items
+        ++ spec_programs.text_warning (map finding_view findings.now) program.now) }
+{
+    if is_unread(alloc, last_service(program.number, findings))? {
+        warnings.push(Warning::UnreadText {
+            program: program.number,
+        })?;
+    }
+    Ok(())
+}
+
+/// Appends the warnings about the texts of services.
+pub(crate) fn push_text_warnings(
+    alloc: Global,
+    programs: &[JobProgram],
+    findings: &[Finding<'_>],
+    warnings: &mut Vec<Warning>,
+) -> Result<(), AllocError>
+    ensures { OnOk result (warnings.new.items ≡ warnings.old.items
+        ++ spec_programs.text_warnings (map finding_view findings.now) programs.now) }
+{
+    for program in programs {
+        push_text_warning(alloc, program, findings, warnings)?;
+    }
+    Ok(())
 }

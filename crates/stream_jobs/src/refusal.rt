@@ -16,18 +16,20 @@ pub enum JobRefusal {
     NoAssociation,
     /// No program that is asked for has a program map section in force with a stream of PES packets.
     NoProgram,
-    /// No stream has a unit.
+    /// No stream can be carried.
     NoStream,
-    /// A description has at most 16 programs.
-    Programs(usize),
-    /// A description has at most 32 streams.
-    Streams(usize),
-    /// The units of a PID have a stream_id that no unit may have.
+    /// No stream can be carried, since packets are scrambled.
+    Scrambled,
+    /// No stream can be carried, since the units of a PID have a stream_id that no unit may have.
     StreamId {
         packet: u64,
         pid: u16,
         id: u8,
     },
+    /// A description has at most 16 programs.
+    Programs(usize),
+    /// A description has at most 32 streams.
+    Streams(usize),
     /// The units of a PID have two stream_ids.
     OtherStreamId {
         packet: u64,
@@ -35,11 +37,13 @@ pub enum JobRefusal {
         id: u8,
         first: u8,
     },
-    /// The stamps of a unit, which begins in this packet, can't be moments of a run.
+    /// The stamps of a unit, which begins in this packet, can't be moments of a run; `mended` if they can with DTS that are
+    /// made from the PTS.
     Stamps {
         packet: u64,
         pid: u16,
         fault: StampFault,
+        mended: bool,
     },
     /// No DTS can be made from the PTS of the units of a PID.
     Dts {
@@ -56,7 +60,7 @@ pub enum JobRefusal {
         pid: u16,
         size: usize,
     },
-    /// No lead and no group let units of up to `size` bytes into these buffers.
+    /// No lead lets units of up to `size` bytes into these buffers, by groups or by pace.
     Buffers {
         pid: u16,
         size: u32,

@@ -1,6 +1,6 @@
 //! The warnings about the packets and the streams of a job.
 
-ghost use Rattle.std.specs.Prelude.{◌≡◌, ◌++◌, OnOk, map, flat_map, option_to_list};
+ghost use Rattle.std.specs.Prelude.{◌≡◌, ◌++◌, IfOk, OnOk, map, flat_map, option_to_list};
 ghost use Rattle.demux.specs.Shown.{finding_view};
 ghost use Rattle.stream_jobs.specs.Warnings as spec;
 ghost use Rattle.stream_jobs.specs.declared.warning.Warning.TheVariants.{Table, Units};
@@ -10,7 +10,10 @@ use crate::warning::Warning;
 use demux::{Finding, What};
 use psi_tables::Program;
 use std::alloc::{AllocError, Global};
-use stream_programs::{Association, TableOmission, association_change, map_change};
+use stream_programs::{
+    Association, TableOmission, association_change, found_programs, map_change, mapped_pids,
+    pes_count, stray_pids,
+};
 use stream_units::{UnitWarning, unit_warnings};
 
 // The warning about a finding on no PID.
@@ -63,9 +66,9 @@ pub(crate) fn push_association_warning(
     warnings: &mut Vec<Warning>,
 ) -> Result<(), AllocError>
     ensures { OnOk result (warnings.new.items ≡ warnings.old.items
-        ++ spec.association_warnings association.now.version_number (map finding_view findings.now)) }
+        ++ spec.association_warnings association.now (map finding_view findings.now)) }
 {
-    if let Some(packet) = association_change(association.version_number, findings) {
+    if let Some(packet) = association_change(association, findings) {
         warnings.push(Warning::AssociationChanges { packet })?;
     }
     Ok(())
@@ -116,6 +119,57 @@ pub(crate) fn push_table_warnings(
         warnings.push(Warning::Table(*left_out))?;
     }
     Ok(())
+}
+
+// The PIDs that the maps of an association name, and those that an option leaves out.
+fn known_pids(
+    alloc: Global,
+    without: &[u16],
+    association: &Association,
+    findings: &[Finding<'_>],
+) -> Result<Vec<u16>, AllocError>
+    ensures { IfOk result (λ pids. pids.items
+        ≡ spec.known_pids without.now association.now (map finding_view findings.now)) }
+{
+    let mapped = found_programs(alloc, &association.programs, findings)?;
+    let mut pids = mapped_pids(alloc, &mapped)?;
+    pids.extend_from_slice(without)?;
+    Ok(pids)
+}
+
+// Appends the warnings about PES packets of these PIDs.
+#[tactic(auto, unfolding(crate::specs::Warnings::stray_warning))]
+fn push_strays(
+    pids: &[u16],
+    findings: &[Finding<'_>],
+    warnings: &mut Vec<Warning>,
+) -> Result<(), AllocError>
+    ensures { OnOk result (warnings.new.items ≡ warnings.old.items
+        ++ map (spec.stray_warning (map finding_view findings.now)) pids.now) }
+{
+    for pid in pids {
+        warnings.push(Warning::StrayPes {
+            pid: *pid,
+            count: pes_count(*pid, findings),
+        })?;
+    }
+    Ok(())
+}
+
+/// Appends the warnings about PES packets of no program.
+#[tactic(auto, unfolding(crate::specs::Warnings::stray_warnings))]
+pub(crate) fn push_stray_warnings(
+    alloc: Global,
+    without: &[u16],
+    association: &Association,
+    findings: &[Finding<'_>],
+    warnings: &mut Vec<Warning>,
+) -> Result<(), AllocError>
+    ensures { OnOk result (warnings.new.items ≡ warnings.old.items
+        ++ spec.stray_warnings without.now association.now (map finding_view findings.now)) }
+{
+    let known = known_pids(alloc, without, association, findings)?;
+    push_strays(&stray_pids(alloc, &known, findings)?, findings, warnings)
 }
 
 // Appends the warnings about the units of a PID.

@@ -1,13 +1,12 @@
 //! The streams of a transport stream, their units with the stamps on the wire.
 
-ghost use Rattle.std.specs.Prelude.{◌≡◌, ◌++◌, IfOk, IfErr, OnOk, Ok, All, ◌∷◌, flat_map, map, option_to_list};
+ghost use Rattle.std.specs.Prelude.{◌≡◌, ◌++◌, IfOk, IfErr, OnOk, Ok, All, flat_map, map, option_to_list};
 ghost use Rattle.demux.specs.Shown.{finding_view};
 ghost use Rattle.stream_jobs.specs.Answers.{Answers, Refuses, and_then};
 ghost use Rattle.stream_jobs.specs.Jobs.{IsCarried};
-ghost use Rattle.stream_jobs.specs.Warnings.{pid_warnings};
 ghost use Rattle.stream_jobs.specs.WireStreams as spec;
 ghost use Rattle.stream_jobs.specs.JobOptions.{is_selected_stream};
-ghost use Rattle.stream_jobs.specs.declared.warning.Warning.TheVariants.{NoUnit};
+ghost use Rattle.stream_units.specs.CarriedUnits.{carried_units};
 
 use crate::job_options::is_among;
 use crate::job_stream::WireStream;
@@ -39,16 +38,12 @@ fn other_id_refusal(pid: u16, first: u8, units: &[WireUnit]) -> Option<JobRefusa
 
 // The stream_id that is written for that of the first unit.
 #[tactic(auto, unfolding(crate::specs::WireStreams::id_of))]
-fn id_of(pid: u16, is_ac3: bool, first: &WireUnit) -> Result<u8, JobRefusal>
-    ensures { result ≡ spec.id_of pid is_ac3 first.now }
+fn id_of(is_ac3: bool, first: &WireUnit) -> Result<u8, JobRefusal>
+    ensures { result ≡ spec.id_of is_ac3 first.now }
 {
     match written_id(first.stream_id, is_ac3) {
         Some(id) => Ok(id),
-        None => Err(JobRefusal::StreamId {
-            packet: first.packet,
-            pid,
-            id: first.stream_id,
-        }),
+        None => Err(JobRefusal::NoStream),
     }
 }
 
@@ -62,7 +57,7 @@ fn common_id(pid: u16, is_ac3: bool, units: &[WireUnit]) -> Result<u8, JobRefusa
     };
     match other_id_refusal(pid, first.stream_id, units) {
         Some(refusal) => Err(refusal),
-        None => id_of(pid, is_ac3, first),
+        None => id_of(is_ac3, first),
     }
 }
 
@@ -110,8 +105,20 @@ fn stream_of(
     })
 }
 
-// A stream with the units of its PID, if there are any.
-#[tactic(auto, unfolding(crate::specs::WireStreams::stream_if_any, crate::specs::WireStreams::has_units, crate::specs::WireStreams::wire_stream, crate::specs::Answers::and_then, crate::specs::Answers::Answers, crate::specs::Answers::Refuses))]
+// Whether a stream with these units can be carried: there are any, and their stream_id can be written.
+#[tactic(auto, unfolding(crate::specs::WireStreams::is_written))]
+fn is_written(stream: &FoundStream, units: &[WireUnit]) -> bool
+    ensures { result ≡ spec.is_written stream.now units.now }
+{
+    let Some((first, _)) = units.split_first() else {
+        return false;
+    };
+    let is_ac3 = is_ac3(stream.stream_type, &stream.descriptors);
+    written_id(first.stream_id, is_ac3).is_some()
+}
+
+// A stream with the units of its PID, if it can be carried.
+#[tactic(auto, unfolding(crate::specs::WireStreams::stream_if_any, crate::specs::WireStreams::can_carry, crate::specs::WireStreams::wire_stream, crate::specs::Answers::and_then, crate::specs::Answers::Answers, crate::specs::Answers::Refuses))]
 fn stream_if_any(
     alloc: Global,
     make_dts: bool,
@@ -121,7 +128,7 @@ fn stream_if_any(
     ensures { Answers (spec.stream_if_any make_dts (map finding_view findings.now) stream) result }
 {
     let units = carried_units(alloc, stream.pid, findings)?;
-    if units.is_empty() {
+    if !is_written(&stream, &units) {
         return Ok(None);
     }
     Ok(Some(stream_of(alloc, make_dts, stream, units)?))
@@ -135,7 +142,8 @@ fn is_selected_stream(without: &[u16], stream: &FoundStream) -> bool
     !is_among(stream.pid, without)
 }
 
-// Appends the warnings about a stream that has no units.
+// Appends the warnings about a stream that can't be carried.
+#[tactic(auto, unfolding(crate::specs::WireStreams::why_not_carried))]
 fn push_empty_stream_warnings(
     alloc: Global,
     count: u64,
@@ -144,14 +152,29 @@ fn push_empty_stream_warnings(
     findings: &[Finding<'_>],
     warnings: &mut Vec<Warning>,
 ) -> Result<(), AllocError>
-    ensures { OnOk result (warnings.new.items ≡ warnings.old.items ++ NoUnit program pid
-        ∷ pid_warnings count (map finding_view findings.now) pid) }
+    ensures { OnOk result (warnings.new.items ≡ warnings.old.items
+        ++ spec.why_not_carried count (map finding_view findings.now) program pid
+        (carried_units pid (map finding_view findings.now))) }
 {
-    warnings.push(Warning::NoUnit { program, pid })?;
-    push_pid_warnings(alloc, pid, count, findings, warnings)
+    let units = carried_units(alloc, pid, findings)?;
+    match units.first() {
+        Some(first) => {
+            warnings.push(Warning::StreamId {
+                program,
+                pid,
+                packet: first.packet,
+                id: first.stream_id,
+            })?;
+            Ok(())
+        }
+        None => {
+            warnings.push(Warning::NoUnit { program, pid })?;
+            push_pid_warnings(alloc, pid, count, findings, warnings)
+        }
+    }
 }
 
-// Appends a stream with its units, if it has any, else the warnings about it.
+// Appends a stream with its units, if it can be carried, else the warnings about it.
 #[tactic(auto, unfolding(crate::specs::WireStreams::stream_if_any, crate::specs::WireStreams::empty_stream_warnings, crate::specs::Answers::and_then, crate::specs::Answers::Answers, crate::specs::Answers::Refuses))]
 fn push_stream(
     alloc: Global,
@@ -176,7 +199,7 @@ fn push_stream(
     Ok(())
 }
 
-// The streams that have units, each with its units, and the warnings about the others.
+// The streams that can be carried, each with its units, and the warnings about the others.
 fn carried_streams(
     alloc: Global,
     make_dts: bool,
@@ -216,7 +239,8 @@ fn selected(without: &[u16], found: Vec<FoundStream>) -> Vec<FoundStream>
     selected
 }
 
-/// The selected streams that have units, each with its units, and the warnings about those that have none.
+/// The selected streams that have units and a stream_id that can be written, each with its units, and the warnings about
+/// the others.
 #[tactic(auto, using(crate::proofs::CarriedStreams::all_carried))]
 pub(crate) fn wire_streams(
     alloc: Global,

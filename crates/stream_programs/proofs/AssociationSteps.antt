@@ -3,7 +3,7 @@ use Rattle.std.proofs.Common.{◌≡◌, ◌≤◌, ◌<◌, ℕ, ◌+◌, true,
 use Rattle.std.specs.Option.{option_or}
 use Rattle.psi_tables.specs.declared.pat.programs.Program.{Program}
 use Rattle.demux.specs.Views.{FindingView}
-use Rattle.stream_programs.specs.Association.{pat_found, first_pat, entries_of, entries, with_program, with_programs, is_other, association_change}
+use Rattle.stream_programs.specs.Association.{pat_found, first_pat, entries_of, entries, with_program, with_programs, AssociationView, is_other, association_change}
 use Rattle.stream_programs.proofs.Slices.{more, done}
 
 -- 1. The first table
@@ -36,20 +36,20 @@ pub entries_end : {X : Type 0} (view : X → FindingView) (version i : ℕ) (fs 
 unfolding entries with_programs
 entries_end view version i fs named over = rw (done view i fs over) refl
 
--- 3. A table of another version
+-- 3. A table that says something else
 
-pub change_later : {X : Type 0} (view : X → FindingView) (version i : ℕ) (fs : List X) (f : X) → i < length fs → f ≡ get_or fs i f →
-    is_other version (pat_found (view f)) ≡ false →
-    association_change version (map view (drop i fs)) ≡ association_change version (map view (drop (i + 1) fs))
+pub change_later : {X : Type 0} (view : X → FindingView) (a : AssociationView) (i : ℕ) (fs : List X) (f : X) → i < length fs → f ≡ get_or fs i f →
+    is_other a (pat_found (view f)) ≡ false →
+    association_change a (map view (drop i fs)) ≡ association_change a (map view (drop (i + 1) fs))
 unfolding association_change
-change_later view version i fs f below at stays = rw (more view i fs f below at, stays) refl
+change_later view a i fs f below at stays = rw (more view i fs f below at, stays) refl
 
-pub change_here : {X : Type 0} (view : X → FindingView) (version i : ℕ) (fs : List X) (f : X) → i < length fs → f ≡ get_or fs i f →
-    is_other version (pat_found (view f)) ≡ true → association_change version (map view (drop i fs)) ≡ Some (view f).packet
+pub change_here : {X : Type 0} (view : X → FindingView) (a : AssociationView) (i : ℕ) (fs : List X) (f : X) → i < length fs → f ≡ get_or fs i f →
+    is_other a (pat_found (view f)) ≡ true → association_change a (map view (drop i fs)) ≡ Some (view f).packet
 unfolding association_change
-change_here view version i fs f below at changes = rw (more view i fs f below at, changes) refl
+change_here view a i fs f below at changes = rw (more view i fs f below at, changes) refl
 
-pub change_end : {X : Type 0} (view : X → FindingView) (version i : ℕ) (fs : List X) → length fs ≤ i →
-    association_change version (map view (drop i fs)) ≡ None
+pub change_end : {X : Type 0} (view : X → FindingView) (a : AssociationView) (i : ℕ) (fs : List X) → length fs ≤ i →
+    association_change a (map view (drop i fs)) ≡ None
 unfolding association_change
-change_end view version i fs over = rw (done view i fs over) refl
+change_end view a i fs over = rw (done view i fs over) refl

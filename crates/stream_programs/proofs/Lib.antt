@@ -9,5 +9,7 @@ pub mod TakenPids
 pub mod LeastFreePid
 pub mod AssignedPids
 pub mod FittingText
+pub mod CharacterSteps
 pub mod DistinctPids
 pub mod TablesAlone
+pub mod StrayPids

@@ -1,6 +1,6 @@
 -- The programs that a stream's program association table names (ISO/IEC 13818-1, 2.4.4.3).
-use Rattle.std.specs.Prelude.{ℕ, ◌==◌, ◌||◌, not, Bool, false, if◌then◌else◌, List, [], ◌∷◌, ◌++◌, flat_map, Option, Some, None, option_map, option_and_then, Result, Ok, Err}
-use Rattle.std.specs.List.{list_any}
+use Rattle.std.specs.Prelude.{ℕ, ◌==◌, ◌&&◌, ◌||◌, not, Bool, false, if◌then◌else◌, List, [], ◌∷◌, ◌++◌, flat_map, Option, Some, None, option_map, option_and_then, Result, Ok, Err}
+use Rattle.std.specs.List.{list_any, list_all}
 use Rattle.std.specs.Option.{option_or}
 use Rattle.psi_tables.specs.Views.{SectionView}
 use Rattle.psi_tables.specs.Reading.{section_at}
@@ -70,13 +70,27 @@ association findings = option_map (λ first. record {
   programs = with_programs [] (entries first.header.version_number findings);
 }) (first_pat findings)
 
--- a table of another version
-unfoldable pub is_other : ℕ → Option PatView → Bool
-is_other version None = false
-is_other version (Some pat) = not (pat.header.version_number == version)
+-- 4. Tables that say something else
+
+-- a program is one of these with the same PID
+unfoldable pub is_entry : List Program → Program → Bool
+is_entry named p = list_any (λ other. other.program_number == p.program_number && other.pid == p.pid) named
+
+-- an entry says nothing else than these: it names the network PID, or is one of them
+unfoldable pub is_said : List Program → Program → Bool
+is_said named p = (p.program_number == 0) || is_entry named p
+
+-- a table of another version or of another transport stream, or with another PID of a program's map
+unfoldable pub differs : AssociationView → PatView → Bool
+differs a pat =
+    not (pat.header.version_number == a.version_number) || (not (pat.header.table_id_extension == a.transport_stream_id) || not (list_all (is_said a.programs) pat.programs))
+
+unfoldable pub is_other : AssociationView → Option PatView → Bool
+is_other a None = false
+is_other a (Some pat) = differs a pat
 
 -- the packet at which the first one is found
-unfoldable pub association_change : ℕ → List FindingView → Option ℕ
-association_change version [] = None
-association_change version (finding ∷ findings) =
-    if is_other version (pat_found finding) then Some finding.packet else association_change version findings
+unfoldable pub association_change : AssociationView → List FindingView → Option ℕ
+association_change a [] = None
+association_change a (finding ∷ findings) =
+    if is_other a (pat_found finding) then Some finding.packet else association_change a findings

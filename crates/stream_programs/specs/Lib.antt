@@ -1,13 +1,16 @@
 pub mod Sections
 pub mod Association
 pub mod ProgramMaps
+pub mod Omissions
 pub mod Streams
 pub mod Programs
 pub mod FreePids
+pub mod StrayPids
 pub mod PidAssignment
 pub mod ServiceDescriptions
 pub mod Services
 pub mod Networks
+pub mod CharacterTables
 pub mod Texts
 pub mod Tables
 pub mod Laws

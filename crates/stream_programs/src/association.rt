@@ -1,6 +1,7 @@
 //! The programs that the program association table names (ISO/IEC 13818-1, 2.4.4.3).
 
 ghost use Rattle.std.specs.Prelude.{◌≡◌, IfOk, OnOk, map, option_map};
+ghost use Rattle.std.specs.List.{list_all};
 ghost use Rattle.psi_tables.specs.ProgramAssociation.{pat_at, pat_view, programs_of};
 ghost use Rattle.psi_tables.specs.Views.{section_view};
 ghost use Rattle.demux.specs.Shown.{finding_view};
@@ -16,7 +17,7 @@ use std::marker::Model;
 #[derive(Drop)]
 pub struct Association<A: Allocator = Global> {
     pub transport_stream_id: u16,
-    /// Of the sections that name the programs: 5 bits. `association_change` with it says where another version comes.
+    /// Of the sections that name the programs: 5 bits. `association_change` says where another one comes.
     pub version_number: u8,
     /// In the order of the table, each program_number once; program 0, which names the network PID, is none.
     pub programs: Vec<Program, A>,
@@ -178,23 +179,71 @@ pub fn named_programs<A: Allocator>(
     }))
 }
 
-// Whether a finding has a table of another version.
+// Whether a program is one of these with the same PID.
+#[tactic(auto, unfolding(crate::specs::Association::is_entry))]
+fn is_entry(named: &[Program], program: Program) -> bool
+    ensures { result ≡ spec.is_entry named.now program }
+{
+    named.iter().any(|other| {
+        other.program_number == program.program_number && other.pid == program.pid
+    })
+}
+
+// Whether an entry names the network PID, or is one of these.
+#[tactic(auto, unfolding(crate::specs::Association::is_said))]
+fn is_said(named: &[Program], program: Program) -> bool
+    ensures { result ≡ spec.is_said named.now program }
+{
+    program.program_number == 0 || is_entry(named, program)
+}
+
+// Whether all entries of a table do.
+fn are_said(named: &[Program], pat: Pat<'_>) -> bool
+    ensures { result ≡ list_all (spec.is_said named.now) (programs_of pat.entry.programs) }
+{
+    for program in pat.programs {
+        if !is_said(named, program) {
+            return false;
+        }
+    }
+    true
+}
+
+// Whether a table says something else than the association.
+#[tactic(auto, unfolding(crate::specs::Association::differs))]
+fn differs<A: Allocator>(association: &Association<A>, pat: Pat<'_>) -> bool
+    ensures { result ≡ spec.differs association.now (pat_view pat.entry) }
+{
+    if pat.header.version_number != association.version_number {
+        return true;
+    }
+    if pat.header.table_id_extension != association.transport_stream_id {
+        return true;
+    }
+    !are_said(&association.programs, pat)
+}
+
+// Whether a finding has such a table.
 #[tactic(auto, unfolding(crate::specs::Association::is_other))]
-fn is_other<A: Allocator>(version: u8, finding: &Finding<'_, A>) -> bool
-    ensures { result ≡ spec.is_other version (spec.pat_found (finding_view finding.now)) }
+fn is_other<A: Allocator>(association: &Association<A>, finding: &Finding<'_, A>) -> bool
+    ensures { result ≡ spec.is_other association.now (spec.pat_found (finding_view finding.now)) }
 {
     match pat_found(finding) {
         None => false,
-        Some(pat) => pat.header.version_number != version,
+        Some(pat) => differs(association, pat),
     }
 }
 
-/// The packet in which a program association section in force of another version than this ends first.
-pub fn association_change<A: Allocator>(version: u8, findings: &[Finding<'_, A>]) -> Option<u64>
-    ensures { result ≡ spec.association_change version (map finding_view findings.now) }
+/// The packet in which the first program association section in force ends that says something else than the
+/// association: it has another version or transport_stream_id, or names a program's map on another PID.
+pub fn association_change<A: Allocator>(
+    association: &Association<A>,
+    findings: &[Finding<'_, A>],
+) -> Option<u64>
+    ensures { result ≡ spec.association_change association.now (map finding_view findings.now) }
 {
     for finding in findings {
-        if is_other(version, finding) {
+        if is_other(association, finding) {
             return Some(finding.packet);
         }
     }

@@ -2,13 +2,16 @@
 //!
 //! The program association table in force names the programs (`specs/Association`), and the last program map table of
 //! each its streams (`specs/ProgramMaps`, `specs/Streams`, `specs/Programs`); the service description has its name
-//! (`specs/Services`), as characters (`specs/Texts`), and the network in which it began (`specs/Networks`). Maps and
-//! PCRs are assigned PIDs that nothing else has (`specs/PidAssignment`). What is left out of the tables is said, and in
+//! (`specs/Services`), as characters (`specs/Texts`, `specs/CharacterTables`), and the network in which it began (`specs/Networks`). Maps and
+//! PCRs are assigned PIDs that nothing else has (`specs/PidAssignment`); PES packets of no program are counted by PID
+//! (`specs/StrayPids`). What is left out of the tables is said, and in
 //! which packets they change. The laws say that the findings of PID 0 and of the maps' PIDs alone decide, and that no
 //! two PIDs are equal.
 #![tactic(auto)]
 
 mod association;
+mod character_sets;
+mod character_tables;
 mod free_pids;
 mod laws;
 mod networks;
@@ -19,6 +22,7 @@ mod programs;
 mod sections;
 mod service_description;
 mod services;
+mod strays;
 mod streams;
 mod tables;
 mod texts;
@@ -34,6 +38,7 @@ pub use pid_assignment::{ProgramPids, assigned_pids};
 pub use program_map::{last_program_map, map_change};
 pub use programs::{FoundProgram, FoundPrograms, found_programs};
 pub use services::{FoundService, last_service};
+pub use strays::{mapped_pids, pes_count, stray_pids};
 pub use streams::FoundStream;
 pub use tables::{DecodedService, StreamTables, stream_tables};
-pub use texts::decode_text;
+pub use texts::{decode_text, has_unread};

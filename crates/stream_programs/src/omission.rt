@@ -1,5 +1,8 @@
 //! What is left out of the tables of a stream.
 
+ghost use Rattle.std.specs.Prelude.{◌≡◌};
+ghost use Rattle.stream_programs.specs.Omissions.{is_loss};
+
 /// A part of a stream's tables that is left out.
 #[derive(Clone, Copy, PartialEq, Eq)]
 pub enum TableOmission {
@@ -32,4 +35,19 @@ pub enum TableOmission {
     NoStream {
         program: u16,
     },
+}
+
+impl TableOmission {
+    /// Whether a receiver loses something by it: a stream that is there. A program without a map or without streams has none,
+    /// and what is not scrambled needs no conditional access.
+    pub fn is_loss(self) -> bool
+        ensures { result ≡ is_loss self }
+    {
+        match self {
+            TableOmission::NoPes { .. } => true,
+            TableOmission::Reserved { .. } => true,
+            TableOmission::Taken { .. } => true,
+            _ => false,
+        }
+    }
 }

@@ -1,28 +1,23 @@
 //! Texts of service information as characters (EN 300 468, annex A).
 
-ghost use Rattle.std.specs.Prelude.{◌≡◌, ◌≤◌, ◌++◌, [], if◌then◌else◌, None, Some, IfOk, drop, length, map, option_map};
+ghost use Rattle.std.specs.Prelude.{◌≡◌, ◌≤◌, ◌++◌, [], if◌then◌else◌, None, Some, IfOk, length, option_map};
 ghost use Rattle.std.specs.Char.{is_control, encode_utf8};
 ghost use Rattle.std.specs.Str.{NoCharPasses, chars, is_utf8};
 ghost use Rattle.std.specs.String.{string_bytes};
 ghost use Rattle.dvb_tables.specs.CharacterCoding.{text_bytes};
 ghost use Rattle.stream_programs.specs.Texts as spec;
 
+use crate::character_sets::{UNREAD, by_part, in_doubles, unread_characters};
 use dvb_tables::{UTF_8, is_plain};
 use std::alloc::{AllocError, Allocator};
 
-// First byte of a text that names its character table by two more bytes (EN 300 468, table A.3).
-const TWO_BYTE_TABLE: u8 = 0x10;
+// First bytes of a text (EN 300 468, table A.3): ISO/IEC 10646 in two bytes, and a part of ISO/IEC 8859 by two more bytes.
+const UTF_16: u8 = 0x11;
+
+const NAMED_PART: u8 = 0x10;
 
 // The least first byte that names no character table.
 const FIRST_CHARACTER: u8 = 0x20;
-
-// A byte of the default table.
-#[tactic(auto, unfolding(crate::specs::Texts::default_table_character))]
-fn default_table_character(byte: u8) -> char
-    ensures { result ≡ spec.default_table_character byte }
-{
-    if byte < 0xa0 { byte as char } else { '?' }
-}
 
 // A text whose bytes are UTF-8.
 fn utf8_text(bytes: &[u8]) -> Option<&str>
@@ -40,16 +35,15 @@ fn utf8_characters<A: Allocator>(alloc: A, text: &str) -> Result<Vec<char, A>, A
     text.chars().collect(alloc)
 }
 
-fn default_table_characters<A: Allocator>(
-    alloc: A,
-    bytes: &[u8],
-) -> Result<Vec<char, A>, AllocError>
-    ensures { IfOk result (λ cs. cs.items ≡ map spec.default_table_character bytes.now) }
+// The characters of UTF-8.
+#[tactic(auto, unfolding(crate::specs::Texts::by_utf8))]
+fn by_utf8<A: Allocator>(alloc: A, bytes: &[u8]) -> Result<Vec<char, A>, AllocError>
+    ensures { IfOk result (λ cs. cs.items ≡ spec.by_utf8 bytes.now) }
 {
-    bytes
-        .iter()
-        .map(|byte| default_table_character(*byte))
-        .collect(alloc)
+    match utf8_text(bytes) {
+        Some(text) => utf8_characters(alloc, text),
+        None => unread_characters(alloc, bytes),
+    }
 }
 
 // The characters of a text that names no table: UTF-8 where its bytes are, else of the default table.
@@ -59,29 +53,25 @@ fn by_default_table<A: Allocator>(alloc: A, bytes: &[u8]) -> Result<Vec<char, A>
 {
     match utf8_text(bytes) {
         Some(text) => utf8_characters(alloc, text),
-        None => default_table_characters(alloc, bytes),
+        None => in_doubles(alloc, false, bytes),
     }
 }
 
-// The ASCII characters of a text whose table is not read.
-#[tactic(auto, unfolding(crate::specs::Texts::ascii_characters))]
-fn ascii_characters<A: Allocator>(alloc: A, bytes: &[u8]) -> Result<Vec<char, A>, AllocError>
-    ensures { IfOk result (λ cs. cs.items ≡ spec.ascii_characters bytes.now) }
+// The characters of the part of ISO/IEC 8859 that two bytes name.
+#[tactic(auto, unfolding(crate::specs::Texts::by_named_part))]
+fn by_named_part<A: Allocator>(alloc: A, bytes: &[u8]) -> Result<Vec<char, A>, AllocError>
+    ensures { IfOk result (λ cs. cs.items ≡ spec.by_named_part bytes.now) }
 {
-    let mut characters = Vec::new(alloc);
-    for byte in bytes {
-        if byte.is_ascii() {
-            characters.push(*byte as char)?;
+    match bytes {
+        [zero, part, rest @ ..] => {
+            if *zero == 0 {
+                by_part(alloc, *part, rest)
+            } else {
+                unread_characters(alloc, rest)
+            }
         }
+        _ => unread_characters(alloc, bytes),
     }
-    Ok(characters)
-}
-
-// The bytes after the number of a table.
-fn after_table_number(bytes: &[u8]) -> &[u8]
-    ensures { result.now ≡ drop 2 bytes.now }
-{
-    if bytes.len() < 2 { &[] } else { &bytes[2..] }
 }
 
 #[tactic(auto, unfolding(crate::specs::Texts::by_selected_table))]
@@ -93,17 +83,23 @@ fn by_selected_table<A: Allocator>(
     ensures { IfOk result (λ cs. cs.items ≡ spec.by_selected_table selector bytes.now) }
 {
     if selector == UTF_8 {
-        return by_default_table(alloc, bytes);
+        return by_utf8(alloc, bytes);
     }
-    if selector == TWO_BYTE_TABLE {
-        return ascii_characters(alloc, after_table_number(bytes));
+    if selector == UTF_16 {
+        return in_doubles(alloc, true, bytes);
     }
-    ascii_characters(alloc, bytes)
+    if selector == NAMED_PART {
+        return by_named_part(alloc, bytes);
+    }
+    if 1 <= selector && selector <= 11 {
+        return by_part(alloc, selector + 4, bytes);
+    }
+    unread_characters(alloc, bytes)
 }
 
-#[tactic(auto, unfolding(crate::specs::Texts::characters))]
-fn characters<A: Allocator>(alloc: A, bytes: &[u8]) -> Result<Vec<char, A>, AllocError>
-    ensures { IfOk result (λ cs. cs.items ≡ spec.characters bytes.now) }
+#[tactic(auto, unfolding(crate::specs::Texts::read_characters))]
+fn read_characters<A: Allocator>(alloc: A, bytes: &[u8]) -> Result<Vec<char, A>, AllocError>
+    ensures { IfOk result (λ cs. cs.items ≡ spec.read_characters bytes.now) }
 {
     match bytes {
         [] => Ok(Vec::new(alloc)),
@@ -115,6 +111,37 @@ fn characters<A: Allocator>(alloc: A, bytes: &[u8]) -> Result<Vec<char, A>, Allo
             }
         }
     }
+}
+
+// A character as it is shown: a control code of two bytes as that of one, and a question mark for what can't be read.
+#[tactic(auto, unfolding(crate::specs::Texts::shown_character))]
+fn shown_character(character: char) -> char
+    ensures { result ≡ spec.shown_character character }
+{
+    let code = character as u32;
+    if 0xe080 <= code && code < 0xe0a0 {
+        return (code - 0xe000) as u8 as char;
+    }
+    if character == UNREAD { '?' } else { character }
+}
+
+#[tactic(auto, unfolding(crate::specs::Texts::characters))]
+fn characters<A: Allocator + Copy>(alloc: A, bytes: &[u8]) -> Result<Vec<char, A>, AllocError>
+    ensures { IfOk result (λ cs. cs.items ≡ spec.characters bytes.now) }
+{
+    let read = read_characters(alloc, bytes)?;
+    read.iter()
+        .map(|character| shown_character(*character))
+        .collect(alloc)
+}
+
+/// Whether a character of a text of service information can't be read.
+#[tactic(auto, unfolding(crate::specs::Texts::has_unread))]
+pub fn has_unread<A: Allocator>(alloc: A, bytes: &[u8]) -> Result<bool, AllocError>
+    ensures { IfOk result (λ has. has ≡ spec.has_unread bytes.now) }
+{
+    let read = read_characters(alloc, bytes)?;
+    Ok(read.iter().any(|character| *character == UNREAD))
 }
 
 // Whether a text has at most `max_bytes` bytes as it is written: one more than its own where it is marked as UTF-8.
@@ -171,9 +198,9 @@ fn fitting<A: Allocator>(
 /// A text of service information as characters, without control characters, cut before the first character with which
 /// it would take more than `max_bytes` bytes as a descriptor writes it (`dvb_tables::Text`).
 ///
-/// A text that begins with 0x15, or with no byte below 0x20, is UTF-8 where all of it is, and else in the default
-/// table, of which ASCII is taken and each other character is `?`. Of a text in any other table its ASCII characters
-/// are taken.
+/// The first byte names a table: parts of ISO/IEC 8859, ISO/IEC 10646, or UTF-8. Without one it is UTF-8 where all of it
+/// is, and else ISO/IEC 6937. A question mark stands for each character that can't be read: of a table that is none of
+/// these, or that the table does not have.
 #[tactic(auto, unfolding(crate::specs::Texts::decode_text), using(crate::proofs::FittingText::decoded_within))]
 pub fn decode_text<A: Allocator + Copy>(
     alloc: A,

@@ -1,11 +1,13 @@
 -- Units from findings, one by one.
-use Rattle.std.proofs.Common.{◌≡◌, ◌≤◌, ◌<◌, ℕ, suc, ◌+◌, ◌++◌, ◌==◌, Bool, true, false, if◌then◌else◌, List, [], ◌∷◌, length, map, drop, get_or, refl, sym, ap, ◌∙◌, inl, inr, add-one}
+use Rattle.std.proofs.Common.{◌≡◌, ◌≤◌, ◌<◌, ℕ, suc, ◌+◌, ◌++◌, ◌==◌, ◌&&◌, Bool, true, false, Option, None, unwrap_or, if◌then◌else◌, List, [], ◌∷◌, length, map, drop, get_or, refl, sym, ap, ◌∙◌, inl, inr, add-one}
+use Rattle.std.specs.List.{list_any}
+use Rattle.std.specs.Option.{option_or}
 use Rattle.std.proofs.Math.Seq.{drop-cons}
 use Rattle.std.proofs.lemmas.Bool.{cases_Bool}
 use Rattle.std.proofs.lemmas.List.{append_assoc, drop_all}
 use Rattle.demux.specs.Views.{FindingView}
 use Rattle.demux.specs.Laws.{has_pid, found_of}
-use Rattle.stream_units.specs.CarriedUnits.{RoleView, Ignored, Start, Continuation, Interruption, CarriedUnit, role_of, continued_by, continuation, with_more, units_from, carried_units}
+use Rattle.stream_units.specs.CarriedUnits.{RoleView, Ignored, Start, Continuation, Interruption, CarriedUnit, role_of, more_bytes, continued_by, continuation, end_of, is_cut, start_id, first_id, is_part, is_split, with_more, whole_unit, units_from, units_in}
 use Rattle.stream_units.specs.Laws.{FindingsOfThePid}
 
 -- 1. What a finding of another PID is for the units
@@ -14,56 +16,122 @@ other_pid_ignored : (pid : ℕ) (f : FindingView) → has_pid pid f.pid ≡ fals
 unfolding role_of
 other_pid_ignored pid f other = rw other refl
 
-same_continuation : (pid : ℕ) (fs : List FindingView) → continuation pid (found_of pid fs) ≡ continuation pid fs
-unfolding continuation continued_by
-same_continuation pid [] = refl
-same_continuation pid (f ∷ fs) = elim (cases_Bool (has_pid pid f.pid)) [
-  | inl own ↦ rw (own, same_continuation pid fs) refl
-  | inr other ↦ rw (other, other_pid_ignored pid f other, same_continuation pid fs) refl
+same_continuation : (id pid : ℕ) (fs : List FindingView) → continuation id pid (found_of pid fs) ≡ continuation id pid fs
+unfolding continuation continued_by more_bytes
+same_continuation id pid [] = refl
+same_continuation id pid (f ∷ fs) = elim (cases_Bool (has_pid pid f.pid)) [
+  | inl own ↦ rw (own, same_continuation id pid fs) refl
+  | inr other ↦ rw (other, other_pid_ignored pid f other, same_continuation id pid fs) refl
+]
+
+same_cut : (id pid : ℕ) (fs : List FindingView) → is_cut id pid (found_of pid fs) ≡ is_cut id pid fs
+unfolding is_cut end_of
+same_cut id pid [] = refl
+same_cut id pid (f ∷ fs) = elim (cases_Bool (has_pid pid f.pid)) [
+  | inl own ↦ rw (own, same_cut id pid fs) refl
+  | inr other ↦ rw (other, other_pid_ignored pid f other, same_cut id pid fs) refl
+]
+
+same_first : (pid : ℕ) (fs : List FindingView) → first_id pid (found_of pid fs) ≡ first_id pid fs
+unfolding first_id start_id
+same_first pid [] = refl
+same_first pid (f ∷ fs) = elim (cases_Bool (has_pid pid f.pid)) [
+  | inl own ↦ rw (own, same_first pid fs) refl
+  | inr other ↦ rw (other, other_pid_ignored pid f other, same_first pid fs) refl
+]
+
+same_parts : (first : Option ℕ) (pid : ℕ) (fs : List FindingView) →
+    list_any (λ f. is_part first (role_of pid f)) (found_of pid fs) ≡ list_any (λ f. is_part first (role_of pid f)) fs
+unfolding is_part
+same_parts first pid [] = refl
+same_parts first pid (f ∷ fs) = elim (cases_Bool (has_pid pid f.pid)) [
+  | inl own ↦ rw (own, same_parts first pid fs) refl
+  | inr other ↦ rw (other, other_pid_ignored pid f other, same_parts first pid fs) refl
+]
+
+pub same_split : (pid : ℕ) (fs : List FindingView) → is_split pid (found_of pid fs) ≡ is_split pid fs
+unfolding is_split
+same_split pid fs = rw (same_first pid fs) (same_parts (first_id pid fs) pid fs)
+
+same_from : (split : Bool) (pid : ℕ) (b : RoleView) (fs : List FindingView) (one other : List CarriedUnit) → one ≡ other →
+    units_from split pid b (found_of pid fs) one ≡ units_from split pid b fs other
+unfolding units_from
+same_from split pid Ignored fs one other same = same
+same_from split pid (Continuation id body) fs one other same = same
+same_from split pid (Interruption unstamped) fs one other same = same
+same_from split pid (Start u) fs one other same = rw (same_cut u.stream_id pid fs, same_continuation u.stream_id pid fs, same) refl
+
+ignored : (split : Bool) (pid : ℕ) (fs : List FindingView) (one other : List CarriedUnit) → one ≡ other → one ≡ units_from split pid Ignored fs other
+unfolding units_from
+ignored split pid fs one other same = same
+
+same_in : (split : Bool) (pid : ℕ) (fs : List FindingView) → units_in split pid (found_of pid fs) ≡ units_in split pid fs
+unfolding units_in
+same_in split pid [] = refl
+same_in split pid (f ∷ fs) = elim (cases_Bool (has_pid pid f.pid)) [
+  | inl own ↦ rw own (same_from split pid (role_of pid f) fs (units_in split pid (found_of pid fs)) (units_in split pid fs) (same_in split pid fs))
+  | inr other ↦ rw (other, other_pid_ignored pid f other) (ignored split pid fs (units_in split pid (found_of pid fs)) (units_in split pid fs) (same_in split pid fs))
 ]
 
 pub same_units : FindingsOfThePid
-unfolding carried_units units_from
-same_units pid [] = refl
-same_units pid (f ∷ fs) = elim (cases_Bool (has_pid pid f.pid)) [
-  | inl own ↦ rw (own, same_continuation pid fs, same_units pid fs) refl
-  | inr other ↦ rw (other, other_pid_ignored pid f other, same_units pid fs) refl
-]
+same_units pid fs = rw (same_split pid fs) (same_in (is_split pid fs) pid fs)
 
 -- 2. A finding, and those after it
 
-pub continuation_at : {X : Type 0} (view : X → FindingView) (pid i : ℕ) (fs : List X) (f : X) → i < length fs → f ≡ get_or fs i f →
-    continuation pid (map view (drop i fs)) ≡ continued_by (role_of pid (view f)) (continuation pid (map view (drop (i + 1) fs)))
+pub continuation_at : {X : Type 0} (view : X → FindingView) (id pid i : ℕ) (fs : List X) (f : X) → i < length fs → f ≡ get_or fs i f →
+    continuation id pid (map view (drop i fs)) ≡ continued_by (more_bytes id (role_of pid (view f))) (continuation id pid (map view (drop (i + 1) fs)))
 unfolding continuation
-continuation_at view pid i fs f below at = rw (drop-cons fs i f below, add-one i, sym at) refl
+continuation_at view id pid i fs f below at = rw (drop-cons fs i f below, add-one i, sym at) refl
 
-pub continuation_end : {X : Type 0} (view : X → FindingView) (pid i : ℕ) (fs : List X) → length fs ≤ i → continuation pid (map view (drop i fs)) ≡ []
+pub continuation_end : {X : Type 0} (view : X → FindingView) (id pid i : ℕ) (fs : List X) → length fs ≤ i → continuation id pid (map view (drop i fs)) ≡ []
 unfolding continuation
-continuation_end view pid i fs over = rw (drop_all i fs over) refl
+continuation_end view id pid i fs over = rw (drop_all i fs over) refl
+
+pub cut_at : {X : Type 0} (view : X → FindingView) (id pid i : ℕ) (fs : List X) (f : X) → i < length fs → f ≡ get_or fs i f →
+    is_cut id pid (map view (drop i fs)) ≡ unwrap_or (end_of id (role_of pid (view f))) (is_cut id pid (map view (drop (i + 1) fs)))
+unfolding is_cut
+cut_at view id pid i fs f below at = rw (drop-cons fs i f below, add-one i, sym at) refl
+
+pub cut_end : {X : Type 0} (view : X → FindingView) (id pid i : ℕ) (fs : List X) → length fs ≤ i → is_cut id pid (map view (drop i fs)) ≡ false
+unfolding is_cut
+cut_end view id pid i fs over = rw (drop_all i fs over) refl
+
+pub first_at : {X : Type 0} (view : X → FindingView) (pid i : ℕ) (fs : List X) (f : X) → i < length fs → f ≡ get_or fs i f →
+    first_id pid (map view (drop i fs)) ≡ option_or (start_id (role_of pid (view f))) (first_id pid (map view (drop (i + 1) fs)))
+unfolding first_id
+first_at view pid i fs f below at = rw (drop-cons fs i f below, add-one i, sym at) refl
+
+pub first_end : {X : Type 0} (view : X → FindingView) (pid i : ℕ) (fs : List X) → length fs ≤ i → first_id pid (map view (drop i fs)) ≡ None
+unfolding first_id
+first_end view pid i fs over = rw (drop_all i fs over) refl
 
 some_or : (b : Bool) (u : CarriedUnit) (later : List CarriedUnit) → (if b then later else u ∷ later) ≡ (if b then [] else u ∷ []) ++ later
 some_or true u later = refl
 some_or false u later = refl
 
-later_units : (b : RoleView) (more : List ℕ) (later : List CarriedUnit) → units_from b more later ≡ units_from b more [] ++ later
+whole_or : (lost : Bool) (u : CarriedUnit) (later : List CarriedUnit) → whole_unit lost u later ≡ whole_unit lost u [] ++ later
+whole_or true u later = refl
+whole_or false u later = some_or (length u.unit.bytes == 0) u later
+
+later_units : (split : Bool) (pid : ℕ) (b : RoleView) (fs : List FindingView) (later : List CarriedUnit) → units_from split pid b fs later ≡ units_from split pid b fs [] ++ later
 unfolding units_from
-later_units Ignored more later = refl
-later_units (Continuation body) more later = refl
-later_units Interruption more later = refl
-later_units (Start u) more later = some_or (length (with_more u more).unit.bytes == 0) (with_more u more) later
+later_units split pid Ignored fs later = refl
+later_units split pid (Continuation id body) fs later = refl
+later_units split pid (Interruption unstamped) fs later = refl
+later_units split pid (Start u) fs later = whole_or (split && is_cut u.stream_id pid fs) (with_more u (continuation u.stream_id pid fs)) later
 
-pub units_at : {X : Type 0} (view : X → FindingView) (pid i : ℕ) (fs later : List X) (f : X) (before after : List CarriedUnit) → i < length fs →
-    f ≡ get_or fs i f → later ≡ drop (i + 1) fs → after ≡ before ++ units_from (role_of pid (view f)) (continuation pid (map view later)) [] →
-    before ++ carried_units pid (map view (drop i fs)) ≡ after ++ carried_units pid (map view (drop (i + 1) fs))
-unfolding carried_units
-units_at view pid i fs later f before after below at is pushed =
+pub units_at : {X : Type 0} (view : X → FindingView) (split : Bool) (pid i : ℕ) (fs later : List X) (f : X) (before after : List CarriedUnit) → i < length fs →
+    f ≡ get_or fs i f → later ≡ drop (i + 1) fs → after ≡ before ++ units_from split pid (role_of pid (view f)) (map view later) [] →
+    before ++ units_in split pid (map view (drop i fs)) ≡ after ++ units_in split pid (map view (drop (i + 1) fs))
+unfolding units_in
+units_at view split pid i fs later f before after below at is pushed =
     let b = role_of pid (view f) in
-    let more = continuation pid (map view (drop (suc i) fs)) in
-    let rest = carried_units pid (map view (drop (suc i) fs)) in
-    let made : after ≡ before ++ units_from b (continuation pid (map view (drop (i + 1) fs))) [] = rw is at pushed in
+    let more = map view (drop (suc i) fs) in
+    let rest = units_in split pid more in
+    let made : after ≡ before ++ units_from split pid b (map view (drop (i + 1) fs)) [] = rw is at pushed in
     rw (drop-cons fs i f below, made, add-one i, sym at)
-    (ap (λ (us : List CarriedUnit). before ++ us) (later_units b more rest) ∙ sym (append_assoc before (units_from b more []) rest))
+    (ap (λ (us : List CarriedUnit). before ++ us) (later_units split pid b more rest) ∙ sym (append_assoc before (units_from split pid b more []) rest))
 
-pub units_end : {X : Type 0} (view : X → FindingView) (pid i : ℕ) (fs : List X) → length fs ≤ i → carried_units pid (map view (drop i fs)) ≡ []
-unfolding carried_units
-units_end view pid i fs over = rw (drop_all i fs over) refl
+pub units_end : {X : Type 0} (view : X → FindingView) (split : Bool) (pid i : ℕ) (fs : List X) → length fs ≤ i → units_in split pid (map view (drop i fs)) ≡ []
+unfolding units_in
+units_end view split pid i fs over = rw (drop_all i fs over) refl

@@ -6,6 +6,7 @@ pub mod UnitCounts
 pub mod KeptDeclarations
 pub mod QueueAcceptance
 pub mod UnitWarnings
+pub mod Conservation
 pub mod SameIds
 pub mod TimeOrder
 pub mod MadeDts

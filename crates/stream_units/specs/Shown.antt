@@ -12,5 +12,5 @@ start_view b = unit_with b.packet b.stream_id b.dts b.pts b.body.now
 abbrev pub role_view : PesRole → RoleView
 role_view roles.Ignored = Ignored
 role_view (roles.Start b) = Start (start_view b)
-role_view (roles.Continuation bytes) = Continuation bytes.now
-role_view roles.Interruption = Interruption
+role_view (roles.Continuation id bytes) = Continuation id bytes.now
+role_view (roles.Interruption unstamped) = Interruption unstamped

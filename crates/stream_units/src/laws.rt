@@ -1,11 +1,16 @@
 //! Laws of the definitions. Each function does nothing: its contract is the law.
 
-ghost use Rattle.stream_units.specs.Laws.{ConstantIsLeast, FindingsOfThePid, MovedByOneConstant};
+ghost use Rattle.stream_units.specs.Laws.{ConstantIsLeast, FindingsOfThePid, MovedByOneConstant, NothingIsLost};
 ghost use Rattle.stream_units.specs.Laws.{TakenOneByOne, UnitsAreKept};
 
 /// The units of a PID are a function of what is found of that PID.
 pub fn findings_of_the_pid()
     ensures { FindingsOfThePid }
+{}
+
+/// Where no warning about a PID leaves out anything, the bytes of its PES packets, joined, are those of its units, joined.
+pub fn nothing_is_lost()
+    ensures { NothingIsLost }
 {}
 
 /// The moments of a stream's units are their stamps less one constant: plus that, modulo 2^33, they are the

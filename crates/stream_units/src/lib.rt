@@ -13,6 +13,7 @@ mod laws;
 mod made_units;
 mod moments;
 mod pes_role;
+mod split_units;
 mod stamps;
 mod stream_ids;
 mod unit;
@@ -22,10 +23,11 @@ mod warnings;
 mod wire_unit;
 
 pub use carried::carried_units;
-pub use declaration::{group_packets, max_unit_size, min_interval};
+pub use declaration::{burst_packets, group_packets, max_unit_size, min_interval};
 pub use dts_from_pts::{DtsError, DtsFault, made_dts};
 pub use laws::{
-    constant_is_least, findings_of_the_pid, moved_by_one_constant, taken_one_by_one, units_are_kept,
+    constant_is_least, findings_of_the_pid, moved_by_one_constant, nothing_is_lost,
+    taken_one_by_one, units_are_kept,
 };
 pub use made_units::units_with_made_dts;
 pub use stamps::{StampFault, constant, distance};

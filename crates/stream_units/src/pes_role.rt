@@ -22,15 +22,18 @@ pub(crate) struct UnitStart<'f> {
 /// The role of a finding among the units of a PID.
 #[derive(Clone, Copy)]
 pub(crate) enum PesRole<'f> {
-    /// A duplicate packet, or a finding of another PID.
+    /// A duplicate packet, padding_stream, or a finding of no PID or of another one.
     Ignored,
     /// A PES packet with a PTS: the first of a unit.
     Start(UnitStart<'f>),
-    /// A PES packet without a PTS: more bytes of the unit.
-    Continuation(&'f [u8]),
-    /// Anything else: the unit ends.
-    Interruption,
+    /// A PES packet without a PTS: more bytes of a unit of this stream_id.
+    Continuation(u8, &'f [u8]),
+    /// Anything else, and whether a PES packet without a PTS is cut short: the unit ends.
+    Interruption(bool),
 }
+
+/// padding_stream (ISO/IEC 13818-1, table 2-22).
+pub(crate) const PADDING_STREAM: u8 = 0xbe;
 
 // The role of a PES packet with these stamps.
 #[tactic(auto, unfolding(crate::specs::CarriedUnits::pes_role))]
@@ -38,7 +41,12 @@ fn pes_role<'f>(packet: u64, stream_id: u8, stamps: Stamps, body: &'f [u8]) -> P
     ensures { role_view result ≡ spec.pes_role packet stream_id stamps body.now }
 {
     let (dts, pts) = match stamps {
-        Stamps::Absent => return PesRole::Continuation(body),
+        Stamps::Absent => {
+            if stream_id == PADDING_STREAM {
+                return PesRole::Ignored;
+            }
+            return PesRole::Continuation(stream_id, body);
+        }
         Stamps::Pts(pts) => (pts, pts),
         Stamps::PtsDts { pts, dts } => (dts, pts),
     };
@@ -62,6 +70,17 @@ pub(crate) fn first_packet(packet: u64, begun: Option<(u64, Kind)>) -> u64
     }
 }
 
+// Whether what begins is a PES packet of which no PTS was read.
+#[tactic(auto, unfolding(crate::specs::CarriedUnits::is_unstamped))]
+fn is_unstamped(begun: Option<(u64, Kind)>) -> bool
+    ensures { result ≡ spec.is_unstamped begun }
+{
+    match begun {
+        Some((_, Kind::Pes(stamped))) => !stamped,
+        _ => false,
+    }
+}
+
 /// The role of a finding among the units of a PID.
 #[tactic(auto, unfolding(crate::specs::CarriedUnits::role_of, crate::specs::CarriedUnits::role_of_what))]
 pub(crate) fn role_of<'f, A: Allocator>(pid: u16, finding: &'f Finding<'_, A>) -> PesRole<'f>
@@ -72,12 +91,15 @@ pub(crate) fn role_of<'f, A: Allocator>(pid: u16, finding: &'f Finding<'_, A>) -
     }
     match &finding.what {
         What::Duplicate => PesRole::Ignored,
+        What::BadPacket(_) => PesRole::Ignored,
+        What::Errored => PesRole::Ignored,
         What::Pes { header, body, .. } => pes_role(
             first_packet(finding.packet, finding.begun),
             header.id,
             header.stamps,
             body.bytes(),
         ),
-        _ => PesRole::Interruption,
+        What::Truncated(_) => PesRole::Interruption(is_unstamped(finding.begun)),
+        _ => PesRole::Interruption(false),
     }
 }

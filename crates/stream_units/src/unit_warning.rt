@@ -1,7 +1,7 @@
 //! Warnings about what is found on the PID of a stream.
 
 ghost use Rattle.std.specs.Prelude.{◌≡◌};
-ghost use Rattle.stream_units.specs.Damage.{is_damage};
+ghost use Rattle.stream_units.specs.Damage.{is_damage, is_scrambled};
 
 use pes_packet::PesError;
 use psi_tables::SectionError;
@@ -25,23 +25,37 @@ pub enum UnitWarningCause {
     BadPes(PesError),
     /// A PES packet without a PTS, of this number of bytes, with no unit before it.
     NoUnitBefore(usize),
+    /// A PES packet without a PTS, of this stream_id and this number of bytes, after a unit of another stream_id.
+    OtherStreamId { id: u8, size: usize },
+    /// The first PES packet of a unit of which another one may be lost: the unit is left out.
+    PartLost,
     /// A unit without bytes.
     EmptyUnit,
-    /// The last PES packet of a PID, which has neither a length nor an end, is taken as it stands.
+    /// The last PES packet of a PID, which has neither a length nor an end, is taken as it stands: it may be cut.
     OpenEnded,
 }
 
 impl UnitWarningCause {
-    /// Whether it says that the stream is damaged: each capture ends somewhere, and a unit may be empty.
+    /// Whether it says that the stream is damaged, or may be: each capture ends somewhere, and a unit may be empty.
     pub fn is_damage(self) -> bool
         ensures { result ≡ is_damage self }
     {
         match self {
             UnitWarningCause::TruncatedByEnd(_) => false,
             UnitWarningCause::NoUnitBefore(_) => false,
+            UnitWarningCause::PartLost => false,
             UnitWarningCause::EmptyUnit => false,
-            UnitWarningCause::OpenEnded => false,
             _ => true,
+        }
+    }
+
+    /// Whether it is of a scrambled packet.
+    pub fn is_scrambled(self) -> bool
+        ensures { result ≡ is_scrambled self }
+    {
+        match self {
+            UnitWarningCause::Scrambled => true,
+            _ => false,
         }
     }
 }

@@ -1,44 +1,41 @@
 //! What is found on a PID and is in no unit.
 
-ghost use Rattle.std.specs.Prelude.{◌≡◌, ◌==◌, ◌++◌, IfOk, OnOk, false, length, map};
+ghost use Rattle.std.specs.Prelude.{◌≡◌, ◌==◌, ◌++◌, IfOk, OnOk, length, map};
 ghost use Rattle.demux.specs.Shown.{finding_view, what_view};
-ghost use Rattle.stream_units.specs.CarriedUnits.{role_of, first_packet, continuation};
+ghost use Rattle.stream_units.specs.CarriedUnits.{continuation};
 ghost use Rattle.stream_units.specs.UnitWarnings as spec;
 ghost use Rattle.stream_units.specs.Shown.{role_view};
 
-use crate::pes_role::{PesRole, first_packet, role_of};
+use crate::pes_role::{PADDING_STREAM, PesRole, first_packet, role_of};
+use crate::split_units::{is_lost, is_split, more_bytes};
 use crate::unit_warning::{UnitWarning, UnitWarningCause};
 use demux::{Finding, What};
 use pes_packet::Stamps;
 use std::alloc::{AllocError, Allocator};
 
-// Whether a PES packet without a PTS that comes next continues a unit.
-#[tactic(auto, unfolding(crate::specs::UnitWarnings::in_unit_after))]
-fn in_unit_after(in_unit: bool, role: PesRole<'_>) -> bool
-    ensures { result ≡ spec.in_unit_after in_unit (role_view role.entry) }
+// The stream_id of the unit with which a PES packet without a PTS that comes next goes on.
+#[tactic(auto, unfolding(crate::specs::UnitWarnings::current_after))]
+fn current_after(current: Option<u8>, role: PesRole<'_>) -> Option<u8>
+    ensures { result ≡ spec.current_after current (role_view role.entry) }
 {
     match role {
-        PesRole::Start(_) => true,
-        PesRole::Interruption => false,
-        PesRole::Ignored => in_unit,
-        PesRole::Continuation(_) => in_unit,
+        PesRole::Ignored => current,
+        PesRole::Start(first) => Some(first.stream_id),
+        PesRole::Continuation(id, _) => { if current == Some(id) { current } else { None } }
+        PesRole::Interruption(_) => None,
     }
 }
 
-// Whether no later finding has more bytes of the unit.
-fn has_no_continuation<A: Allocator>(pid: u16, later: &[Finding<'_, A>]) -> bool
-    ensures { result ≡ (length (continuation pid (map finding_view later.now)) == 0) }
+// Whether no later finding has more bytes of a unit of this stream_id.
+fn has_no_continuation<A: Allocator>(id: u8, pid: u16, later: &[Finding<'_, A>]) -> bool
+    ensures { result ≡ (length (continuation id pid (map finding_view later.now)) == 0) }
 {
     for finding in later {
-        match role_of(pid, finding) {
-            PesRole::Ignored => {}
-            PesRole::Continuation(body) => {
-                if !body.is_empty() {
-                    return false;
-                }
-            }
-            PesRole::Start(_) => return true,
-            PesRole::Interruption => return true,
+        let Some(body) = more_bytes(id, role_of(pid, finding)) else {
+            return true;
+        };
+        if !body.is_empty() {
+            return false;
         }
     }
     true
@@ -55,39 +52,65 @@ fn open_ended_cause(unended: bool) -> Option<UnitWarningCause>
     }
 }
 
-// The warning about a PES packet; `alone` if no later one continues it.
+// The warning about a PES packet without a PTS.
+#[tactic(auto, unfolding(crate::specs::UnitWarnings::unstamped_cause))]
+fn unstamped_cause(
+    current: Option<u8>,
+    id: u8,
+    unended: bool,
+    size: usize,
+) -> Option<UnitWarningCause>
+    ensures { result ≡ spec.unstamped_cause current id unended size }
+{
+    match current {
+        None => Some(UnitWarningCause::NoUnitBefore(size)),
+        Some(current) => {
+            if id == current {
+                open_ended_cause(unended)
+            } else {
+                Some(UnitWarningCause::OtherStreamId { id, size })
+            }
+        }
+    }
+}
+
+// The warning about the first PES packet of a unit; `alone` if no later one continues it.
+#[tactic(auto, unfolding(crate::specs::UnitWarnings::first_cause))]
+fn first_cause(lost: bool, alone: bool, unended: bool, size: usize) -> Option<UnitWarningCause>
+    ensures { result ≡ spec.first_cause lost alone unended size }
+{
+    if lost {
+        Some(UnitWarningCause::PartLost)
+    } else if size == 0 && alone {
+        Some(UnitWarningCause::EmptyUnit)
+    } else {
+        open_ended_cause(unended)
+    }
+}
+
+// The warning about a PES packet.
 #[tactic(auto, unfolding(crate::specs::UnitWarnings::pes_cause))]
 fn pes_cause(
-    in_unit: bool,
+    current: Option<u8>,
+    lost: bool,
     alone: bool,
     unended: bool,
+    id: u8,
     stamps: Stamps,
     size: usize,
 ) -> Option<UnitWarningCause>
-    ensures { result ≡ spec.pes_cause in_unit alone unended stamps size }
+    ensures { result ≡ spec.pes_cause current lost alone unended id stamps size }
 {
     match stamps {
         Stamps::Absent => {
-            if in_unit {
-                open_ended_cause(unended)
+            if id == PADDING_STREAM {
+                None
             } else {
-                Some(UnitWarningCause::NoUnitBefore(size))
+                unstamped_cause(current, id, unended, size)
             }
         }
-        Stamps::Pts(_) => {
-            if size == 0 && alone {
-                Some(UnitWarningCause::EmptyUnit)
-            } else {
-                open_ended_cause(unended)
-            }
-        }
-        Stamps::PtsDts { .. } => {
-            if size == 0 && alone {
-                Some(UnitWarningCause::EmptyUnit)
-            } else {
-                open_ended_cause(unended)
-            }
-        }
+        Stamps::Pts(_) => first_cause(lost, alone, unended, size),
+        Stamps::PtsDts { .. } => first_cause(lost, alone, unended, size),
     }
 }
 
@@ -107,11 +130,12 @@ fn truncation_cause(count: u64, packet: u64, size: usize) -> UnitWarningCause
 fn cause_of_what<A: Allocator>(
     count: u64,
     packet: u64,
-    in_unit: bool,
+    current: Option<u8>,
+    lost: bool,
     alone: bool,
     what: &What<'_, A>,
 ) -> Option<UnitWarningCause>
-    ensures { result ≡ spec.cause_of_what count packet in_unit alone (what_view what.now) }
+    ensures { result ≡ spec.cause_of_what count packet current lost alone (what_view what.now) }
 {
     match what {
         What::Duplicate => None,
@@ -127,29 +151,51 @@ fn cause_of_what<A: Allocator>(
             header,
             unended,
             body,
-        } => pes_cause(in_unit, alone, *unended, header.stamps, body.bytes().len()),
+        } => pes_cause(
+            current,
+            lost,
+            alone,
+            *unended,
+            header.id,
+            header.stamps,
+            body.bytes().len(),
+        ),
         What::BadPes(error) => Some(UnitWarningCause::BadPes(*error)),
         What::BadPacket(_) => None,
         What::Errored => None,
     }
 }
 
+// The stream_id of a PES packet; 0 of anything else.
+#[tactic(auto, unfolding(crate::specs::UnitWarnings::id_of))]
+fn id_of<A: Allocator>(what: &What<'_, A>) -> u8
+    ensures { result ≡ spec.id_of (what_view what.now) }
+{
+    match what {
+        What::Pes { header, .. } => header.id,
+        _ => 0,
+    }
+}
+
 // The warning about a finding of any PID, with the findings after it.
 #[tactic(auto, unfolding(crate::specs::UnitWarnings::cause_of))]
 fn cause_of<A: Allocator>(
+    split: bool,
     pid: u16,
     count: u64,
-    in_unit: bool,
+    current: Option<u8>,
     finding: &Finding<'_, A>,
     later: &[Finding<'_, A>],
 ) -> Option<UnitWarningCause>
-    ensures { result ≡ spec.cause_of pid count in_unit (finding_view finding.now) (map finding_view later.now) }
+    ensures { result ≡ spec.cause_of split pid count current (finding_view finding.now) (map finding_view later.now) }
 {
     if finding.pid != Some(pid) {
         return None;
     }
-    let alone = has_no_continuation(pid, later);
-    cause_of_what(count, finding.packet, in_unit, alone, &finding.what)
+    let id = id_of(&finding.what);
+    let lost = is_lost(split, id, pid, later);
+    let alone = has_no_continuation(id, pid, later);
+    cause_of_what(count, finding.packet, current, lost, alone, &finding.what)
 }
 
 // Appends the warning, if there is one.
@@ -168,27 +214,28 @@ fn push_warning<A: Allocator>(
     Ok(())
 }
 
-/// What of the findings of a PID is in no unit, with the packet of its first byte and the cause, and which PES packet
-/// is taken without a known end; `count` is the number of whole packets of the stream.
+/// What of the findings of a PID is in no unit that is carried, with the packet of its first byte and the cause, and
+/// which PES packet is taken without a known end; `count` is the number of whole packets of the stream.
 pub fn unit_warnings<A: Allocator + Clone>(
     alloc: A,
     pid: u16,
     count: u64,
     findings: &[Finding<'_, A>],
 ) -> Result<Vec<UnitWarning, A>, AllocError>
-    ensures { IfOk result (λ out. out.items ≡ spec.unit_warnings pid count false (map finding_view findings.now)) }
+    ensures { IfOk result (λ out. out.items ≡ spec.unit_warnings pid count (map finding_view findings.now)) }
 {
+    let split = is_split(pid, findings);
     let mut out = Vec::new(alloc);
-    let mut in_unit = false;
+    let mut current = None;
     for (at, finding) in findings.iter().enumerate() {
         let (_, later) = findings.split_at(at + 1);
         let packet = first_packet(finding.packet, finding.begun);
         push_warning(
             &mut out,
             packet,
-            cause_of(pid, count, in_unit, finding, later),
+            cause_of(split, pid, count, current, finding, later),
         )?;
-        in_unit = in_unit_after(in_unit, role_of(pid, finding));
+        current = current_after(current, role_of(pid, finding));
     }
     Ok(out)
 }

@@ -6,6 +6,8 @@ use Rattle.std.specs.List.{list_all}
 use Rattle.std.specs.Str.{bytes_eq}
 use Rattle.clap.specs.Words.{Kinds, Row, Text, fault_of, first_of, matches_of}
 use Rattle.stream_jobs.specs.JobOptions.{JobOptionsView}
+use Rattle.stream_jobs.specs.declared.job_options.DeclareBy.{DeclareBy}
+use Rattle.stream_jobs.specs.declared.job_options.DeclareBy.TheVariants as by
 use Rattle.stream_jobs.specs.declared.job_options.PidBuffers.{PidBuffers}
 use Rattle.devices.specs.Options.{is_given, number_if_given, number_option}
 use Rattle.tsjob_cli.specs.declared.arguments.Subcommand.{Subcommand}
@@ -23,6 +25,13 @@ subcommand_of (Some text) =
     else (if bytes_eq text (codes "units") then Some Units
     else (if bytes_eq text (codes "why") then Some Why else None))
 
+-- without a word, by either
+unfoldable pub declare_by_of : Option Text → Option DeclareBy
+declare_by_of None = Some by.Either
+declare_by_of (Some text) =
+    if bytes_eq text (codes "groups") then Some by.Groups
+    else (if bytes_eq text (codes "time") then Some by.Pace else None)
+
 -- digits, `-`, `:` and `T`
 abbrev pub is_of_time : ℕ → Bool
 is_of_time byte = is_ascii_digit byte || byte == 45 || byte == 58 || byte == 84
@@ -34,16 +43,28 @@ start_of (Some text) = if list_all is_of_time text then Some text else None
 
 -- 2. All of them
 
--- what is written, and the options of the job
+-- what is written, whether the input is said to be whole, and the options of the job
 pub record JobArgumentsView : Type 0 where
   pub subcommand : Subcommand
+  pub whole : Bool
   pub options : JobOptionsView
 
 -- with empty lists
-abbrev pub plain : Subcommand → Option ℕ → Text → ℕ → ℕ → Bool → JobArgumentsView
-plain subcommand rate start pcr_limit lead make_dts = record {
+abbrev pub plain : Subcommand → Bool → Option ℕ → Text → ℕ → ℕ → DeclareBy → Bool → JobArgumentsView
+plain subcommand whole rate start pcr_limit lead declare_by make_dts = record {
   subcommand = subcommand;
-  options = record { rate = rate; start = start; pcr_limit = pcr_limit; lead = lead; make_dts = make_dts; programs = []; without = []; buffers = [] };
+  whole = whole;
+  options = record {
+    rate = rate;
+    start = start;
+    pcr_limit = pcr_limit;
+    lead = lead;
+    declare_by = declare_by;
+    make_dts = make_dts;
+    programs = [];
+    without = [];
+    buffers = [];
+  };
 }
 
 -- the options that are one value each: a rate in bits a second, a limit in milliseconds, a lead in units of 90 kHz
@@ -54,7 +75,8 @@ values_of rows =
     given (start_of (first_of (codes "start") rows)) (λ start.
     given (number_option 1 100 40 (first_of (codes "pcr") rows)) (λ pcr_limit.
     given (number_option 1 90000 90000 (first_of (codes "lead") rows)) (λ lead.
-    Some (plain subcommand rate start pcr_limit lead (is_given (first_of (codes "make-dts") rows))))))))
+    given (declare_by_of (first_of (codes "declare") rows)) (λ declare_by.
+    Some (plain subcommand (is_given (first_of (codes "whole") rows)) rate start pcr_limit lead declare_by (is_given (first_of (codes "make-dts") rows)))))))))
 
 -- with lists
 abbrev pub with_lists : List ℕ → List ℕ → List PidBuffers → JobArgumentsView → JobArgumentsView

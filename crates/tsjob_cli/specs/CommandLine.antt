@@ -10,10 +10,14 @@ top_app = record (new_app (codes "tsjob")) { top = record (new_app (codes "tsjob
 abbrev pub rate_app : App
 rate_app = with_rule (with_rule (with_rule top_app (new_rule (codes "subcommand"))) (option_rule (codes "rate"))) (option_rule (codes "start"))
 
--- and [--pcr MS] [--lead T] [--make-dts]
+-- and [--pcr MS] [--lead T] [--declare groups|time]
 abbrev pub times_app : App
-times_app = with_rule (with_rule (with_rule rate_app (option_rule (codes "pcr"))) (option_rule (codes "lead"))) (flag_rule (codes "make-dts"))
+times_app = with_rule (with_rule (with_rule rate_app (option_rule (codes "pcr"))) (option_rule (codes "lead"))) (option_rule (codes "declare"))
+
+-- and [--make-dts] [--whole]
+abbrev pub flags_app : App
+flags_app = with_rule (with_rule times_app (flag_rule (codes "make-dts"))) (flag_rule (codes "whole"))
 
 -- and [--program N,..] [--without PID,..] [--buffers PID:RX:MAIN,..]
 unfoldable pub tsjob_app : App
-tsjob_app = with_rule (with_rule (with_rule times_app (option_rule (codes "program"))) (option_rule (codes "without"))) (option_rule (codes "buffers"))
+tsjob_app = with_rule (with_rule (with_rule flags_app (option_rule (codes "program"))) (option_rule (codes "without"))) (option_rule (codes "buffers"))

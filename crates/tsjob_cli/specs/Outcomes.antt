@@ -27,7 +27,7 @@ use Rattle.tsjob_cli.specs.ReasonLines.{reason_lines}
 use Rattle.tsjob_cli.specs.Records.{records_of, written}
 use Rattle.tsjob_cli.specs.RefusalLine.{refusal_line}
 use Rattle.tsjob_cli.specs.Streams.{findings_of}
-use Rattle.tsjob_cli.specs.WarningLines.{warning_lines}
+use Rattle.tsjob_cli.specs.WarningLines.{told_warnings, warning_lines}
 
 -- 1. What is written
 
@@ -71,11 +71,11 @@ Withholds Why w findings m error = IsWhyNoReasons w.rate w findings m error
 
 -- 2. The outcome for a stream
 
--- the output, a line for each warning, and the status 1 where a warning is of damage
+-- the output, a line for each warning that is told, and the status 1 where one says that something is lost
 pub record IsGiven (arguments : JobArgumentsView) (findings : List FindingView) (m : JobInputView) (o : Outcome) : Type 0 where
   pub gives : Gives arguments.subcommand arguments.options findings m o.output
-  pub report_is : o.report ≡ warning_lines m.warnings
-  pub status_is : o.status ≡ (if are_damaged m.warnings then 1 else 0)
+  pub report_is : o.report ≡ warning_lines (told_warnings arguments.whole m.warnings)
+  pub status_is : o.status ≡ (if are_damaged (told_warnings arguments.whole m.warnings) then 1 else 0)
 
 -- nothing is written but the line of the refusal, and the status is 1
 pub record IsRefused (arguments : JobArgumentsView) (findings : List FindingView) (m : JobInputView) (o : Outcome) : Type 0 where

@@ -1,18 +1,22 @@
 -- The line for the refusal of a stream.
-use Rattle.std.specs.Prelude.{ℕ, List, ◌++◌, codes, decimal}
+use Rattle.std.specs.Prelude.{ℕ, Bool, if◌then◌else◌, List, ◌++◌, codes, decimal}
 use Rattle.description.specs.Codes.{fault_code, fault_item}
 use Rattle.stream_units.specs.declared.stamps.StampFault.{StampFault}
 use Rattle.stream_units.specs.declared.stamps.StampFault.TheVariants.{DtsNotIncreasing, PtsOutOfRange, DtsTooFar}
 use Rattle.stream_units.specs.declared.dts_from_pts.DtsFault.{DtsFault}
 use Rattle.stream_units.specs.declared.dts_from_pts.DtsFault.TheVariants.{SamePts, PtsTooLate}
 use Rattle.stream_jobs.specs.declared.refusal.JobRefusal.{JobRefusal}
-use Rattle.stream_jobs.specs.declared.refusal.JobRefusal.TheVariants.{NoPackets, NoAssociation, NoProgram, NoStream, Programs, Streams, StreamId, OtherStreamId, Stamps, Dts, Units, Size, Buffers, Pids, Description, Plan, Declaration}
+use Rattle.stream_jobs.specs.declared.refusal.JobRefusal.TheVariants.{NoPackets, NoAssociation, NoProgram, NoStream, Scrambled, Programs, Streams, StreamId, OtherStreamId, Stamps, Dts, Units, Size, Buffers, Pids, Description, Plan, Declaration}
 
 -- time stamps that can't be moments of a run, after the packet and the PID of their unit
 unfoldable pub stamps_text : StampFault → List ℕ
-stamps_text (DtsNotIncreasing by) = codes " DTS is " ++ decimal by ++ codes " before the one before\n"
-stamps_text (PtsOutOfRange by) = codes " PTS is " ++ decimal by ++ codes " after its DTS: not 0 to 90000\n"
-stamps_text DtsTooFar = codes " DTS is too far\n"
+stamps_text (DtsNotIncreasing by) = codes " DTS is " ++ decimal by ++ codes " before the one before"
+stamps_text (PtsOutOfRange by) = codes " PTS is " ++ decimal by ++ codes " after its DTS: not 0 to 90000"
+stamps_text DtsTooFar = codes " DTS is too far"
+
+-- what would mend them, if it would
+unfoldable pub remedy_text : Bool → List ℕ
+remedy_text mended = if mended then codes "; --make-dts makes DTS from the PTS\n" else codes "\n"
 
 -- a stream for which no DTS can be made, after its PID
 unfoldable pub making_text : DtsFault → List ℕ
@@ -24,11 +28,12 @@ refusal_line NoPackets = codes "not a stream of 188-byte packets\n"
 refusal_line NoAssociation = codes "no PAT\n"
 refusal_line NoProgram = codes "no PMT\n"
 refusal_line NoStream = codes "no stream\n"
+refusal_line Scrambled = codes "no stream that is not scrambled\n"
 refusal_line (Programs count) = decimal count ++ codes " programs: more than 16\n"
 refusal_line (Streams count) = decimal count ++ codes " streams: more than 32\n"
 refusal_line (StreamId packet pid id) = codes "packet " ++ decimal packet ++ codes " pid " ++ decimal pid ++ codes " stream_id " ++ decimal id ++ codes " cannot be written\n"
 refusal_line (OtherStreamId packet pid id first) = codes "packet " ++ decimal packet ++ codes " pid " ++ decimal pid ++ codes " stream_id " ++ decimal id ++ codes " after " ++ decimal first ++ codes "\n"
-refusal_line (Stamps packet pid fault) = codes "packet " ++ decimal packet ++ codes " pid " ++ decimal pid ++ stamps_text fault
+refusal_line (Stamps packet pid fault mended) = codes "packet " ++ decimal packet ++ codes " pid " ++ decimal pid ++ stamps_text fault ++ remedy_text mended
 refusal_line (Dts pid fault) = codes "pid " ++ decimal pid ++ making_text fault
 refusal_line (Units pid count) = codes "pid " ++ decimal pid ++ codes " has " ++ decimal count ++ codes " units: more than 1048576\n"
 refusal_line (Size pid size) = codes "pid " ++ decimal pid ++ codes " unit of " ++ decimal size ++ codes " bytes is too large\n"

@@ -1,5 +1,5 @@
 -- The lines of warnings: what of a stream is left out or changed.
-use Rattle.std.specs.Prelude.{ℕ, ◌==◌, Bool, true, false, List, [], ◌∷◌, ◌++◌, Option, Some, None, if◌then◌else◌, codes, decimal}
+use Rattle.std.specs.Prelude.{ℕ, ◌==◌, ◌&&◌, not, Bool, true, false, List, filter, [], ◌∷◌, ◌++◌, Option, Some, None, if◌then◌else◌, codes, decimal}
 use Rattle.stream_programs.specs.declared.omission.TableOmission.{TableOmission}
 use Rattle.stream_programs.specs.declared.omission.TableOmission.TheVariants as table
 use Rattle.stream_units.specs.declared.unit_warning.UnitWarning.{UnitWarning}
@@ -29,8 +29,14 @@ reason_text unit.Section = codes "section\n"
 reason_text (unit.BadSection error) = codes "bad-section\n"
 reason_text (unit.BadPes error) = codes "bad-pes\n"
 reason_text (unit.NoUnitBefore size) = codes "no stamp and no unit before: " ++ decimal size ++ codes " bytes left out\n"
+reason_text (unit.OtherStreamId id size) = codes "stream_id " ++ decimal id ++ codes " inside a unit of another: " ++ decimal size ++ codes " bytes left out\n"
+reason_text unit.PartLost = codes "unit left out: a part of it is lost\n"
 reason_text unit.EmptyUnit = codes "unit without bytes left out\n"
-reason_text unit.OpenEnded = codes "last PES packet has neither length nor end: taken\n"
+reason_text unit.OpenEnded = codes "last PES packet has neither length nor end: taken, may be cut\n"
+
+-- a stream with a stream_id that can't be written
+unfoldable pub id_line : ℕ → ℕ → ℕ → ℕ → List ℕ
+id_line program pid packet id = codes "packet " ++ decimal packet ++ codes " pid " ++ decimal pid ++ codes " of program " ++ decimal program ++ codes " stream_id " ++ decimal id ++ codes " cannot be written: left out\n"
 
 -- a finding on a PID
 abbrev pub unit_line : ℕ → UnitWarning → List ℕ
@@ -43,12 +49,33 @@ warning_line (warning.TrailingBytes size) = codes "rest of " ++ decimal size ++ 
 warning_line (warning.AssociationChanges packet) = codes "packet " ++ decimal packet ++ codes " PAT changes: the first one stands\n"
 warning_line (warning.MapChanges program packet) = codes "packet " ++ decimal packet ++ codes " PMT of program " ++ decimal program ++ codes " names other streams: the last one stands\n"
 warning_line (warning.Table left_out) = table_line left_out
+warning_line (warning.StrayPes pid count) = codes "pid " ++ decimal pid ++ codes " has " ++ decimal count ++ codes " PES packets of no program: left out\n"
+warning_line (warning.NoSuchProgram program) = codes "program " ++ decimal program ++ codes " is not there\n"
+warning_line (warning.NoSuchStream pid) = codes "pid " ++ decimal pid ++ codes " is no stream\n"
 warning_line (warning.Units pid left_out) = unit_line pid left_out
 warning_line (warning.NoUnit program pid) = codes "pid " ++ decimal pid ++ codes " of program " ++ decimal program ++ codes " has no unit: left out\n"
+warning_line (warning.StreamId program pid packet id) = id_line program pid packet id
 warning_line (warning.NoStream program) = codes "program " ++ decimal program ++ codes " has no stream with units: left out\n"
+warning_line (warning.UnreadText program) = codes "name of program " ++ decimal program ++ codes " has characters that cannot be read\n"
 warning_line (warning.MapMoved program from to) = codes "PMT of program " ++ decimal program ++ codes " moved from pid " ++ decimal from ++ codes " to " ++ decimal to ++ codes "\n"
 
 -- 2. All of them
+
+abbrev pub is_unknown_end : UnitWarningCause → Bool
+is_unknown_end unit.OpenEnded = true
+is_unknown_end _ = false
+
+-- the end of a PES packet is not known
+abbrev pub is_open_ended : Warning → Bool
+is_open_ended (warning.Units pid left_out) = is_unknown_end left_out.cause
+is_open_ended _ = false
+
+-- that is told unless the input is said to be whole
+unfoldable pub is_told : Bool → Warning → Bool
+is_told whole w = not (whole && is_open_ended w)
+
+abbrev pub told_warnings : Bool → List Warning → List Warning
+told_warnings whole warnings = filter (is_told whole) warnings
 
 abbrev pub is_scrambled : UnitWarningCause → Bool
 is_scrambled unit.Scrambled = true

@@ -12,7 +12,7 @@ use clap::error::ErrorKind;
 use devices::{is_given, number_if_given, number_option, text_of};
 use std::alloc::{AllocError, Global};
 use std::marker::Model;
-use stream_jobs::{JobOptions, PidBuffers};
+use stream_jobs::{DeclareBy, JobOptions, PidBuffers};
 
 /// The moment of the first slot without `--start`.
 const DEFAULT_START: &str = "2000-01-01T00:00:00";
@@ -34,6 +34,8 @@ pub enum Subcommand {
 #[derive(Drop)]
 pub struct JobArguments<'a> {
     pub subcommand: Subcommand,
+    /// Whether the input is said to end with its last PES packets: then it is no warning that an end is not known.
+    pub whole: bool,
     /// The rate in bits a second, 100,000 to 100,000,000; none: the least rate at which a plan is found.
     pub rate: Option<u64>,
     /// The moment of the first slot.
@@ -42,6 +44,8 @@ pub struct JobArguments<'a> {
     pub pcr_limit: u8,
     /// The longest time from a unit's arrival to its decoding, 1 to 90,000 units of 90 kHz.
     pub lead: u32,
+    /// By what the packets of units are declared.
+    pub declare_by: DeclareBy,
     /// Whether DTS are made from PTS.
     pub make_dts: bool,
     /// The programs that are taken; none: all.
@@ -60,11 +64,13 @@ impl<'a> Model for JobArguments<'a> {
 
     ghost view = { λ a. record {
       subcommand = a.subcommand;
+      whole = a.whole;
       options = record {
         rate = a.rate;
         start = a.start.now;
         pcr_limit = a.pcr_limit;
         lead = a.lead;
+        declare_by = a.declare_by;
         make_dts = a.make_dts;
         programs = a.programs.items;
         without = a.without.items;
@@ -83,6 +89,7 @@ impl JobArguments<'_> {
             start: self.start,
             pcr_limit: self.pcr_limit,
             lead: self.lead,
+            declare_by: self.declare_by,
             make_dts: self.make_dts,
             programs: &self.programs,
             without: &self.without,
@@ -101,6 +108,19 @@ fn subcommand_of(text: Option<&str>) -> Option<Subcommand>
         Some("describe") => Some(Subcommand::Describe),
         Some("units") => Some(Subcommand::Units),
         Some("why") => Some(Subcommand::Why),
+        Some(_) => None,
+    }
+}
+
+// By what the packets of units are declared; without a word, by either.
+#[tactic(auto, unfolding(crate::specs::Arguments::declare_by_of))]
+fn declare_by_of(text: Option<&str>) -> Option<DeclareBy>
+    ensures { result ≡ spec.declare_by_of (option_map (λ s. s.now) text.entry) }
+{
+    match text {
+        None => Some(DeclareBy::Either),
+        Some("groups") => Some(DeclareBy::Groups),
+        Some("time") => Some(DeclareBy::Pace),
         Some(_) => None,
     }
 }
@@ -140,12 +160,15 @@ fn values_of<'a>(alloc: Global, matches: &ArgMatches<'a>) -> Option<JobArguments
     let start = start_of(text_of(matches, "start"))?;
     let pcr_limit = number_option(text_of(matches, "pcr"), 1, 100, 40)?;
     let lead = number_option(text_of(matches, "lead"), 1, 90_000, 90_000)?;
+    let declare_by = declare_by_of(text_of(matches, "declare"))?;
     Some(JobArguments {
         subcommand,
+        whole: is_given(text_of(matches, "whole")),
         rate,
         start,
         pcr_limit: pcr_limit as u8,
         lead: lead as u32,
+        declare_by,
         make_dts: is_given(text_of(matches, "make-dts")),
         programs: Vec::new(alloc),
         without: Vec::new(alloc),

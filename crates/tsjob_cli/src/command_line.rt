@@ -2,7 +2,7 @@
 
 ghost use Rattle.std.specs.Prelude.{◌≡◌, IfOk, map};
 ghost use Rattle.clap.specs.Words.{FailsBy, app_of, fault_of, found_of, matches_of, rows_of};
-ghost use Rattle.tsjob_cli.specs.CommandLine.{rate_app, times_app, tsjob_app};
+ghost use Rattle.tsjob_cli.specs.CommandLine.{flags_app, rate_app, times_app, tsjob_app};
 
 use clap::{Arg, ArgMatches, Command, Error};
 use devices::{flag, option};
@@ -19,14 +19,23 @@ fn with_rate<'a>(alloc: Global) -> Result<Command<'a>, AllocError>
         .arg(option(alloc, "start"))
 }
 
-// With the options for clock references, leads and DTS.
+// With the options for clock references, leads and what packets are declared by.
 fn with_times<'a>(alloc: Global) -> Result<Command<'a>, AllocError>
     ensures { IfOk result (λ c. app_of c ≡ times_app) }
 {
     with_rate(alloc)?
         .arg(option(alloc, "pcr"))?
         .arg(option(alloc, "lead"))?
-        .arg(flag(alloc, "make-dts"))
+        .arg(option(alloc, "declare"))
+}
+
+// With the flags that say what the input is.
+fn with_flags<'a>(alloc: Global) -> Result<Command<'a>, AllocError>
+    ensures { IfOk result (λ c. app_of c ≡ flags_app) }
+{
+    with_times(alloc)?
+        .arg(flag(alloc, "make-dts"))?
+        .arg(flag(alloc, "whole"))
 }
 
 // The program's command line.
@@ -34,7 +43,7 @@ fn with_times<'a>(alloc: Global) -> Result<Command<'a>, AllocError>
 fn tsjob<'a>(alloc: Global) -> Result<Command<'a>, AllocError>
     ensures { IfOk result (λ c. app_of c ≡ tsjob_app) }
 {
-    with_times(alloc)?
+    with_flags(alloc)?
         .arg(option(alloc, "program"))?
         .arg(option(alloc, "without"))?
         .arg(option(alloc, "buffers"))

@@ -11,13 +11,14 @@ ghost use Rattle.tsjob_cli.specs.WarningLines.{warning_lines};
 use crate::arguments::{JobArguments, Subcommand};
 use crate::reason_lines::write_reasons;
 use crate::refusal_line::write_refusal;
-use crate::warning_lines::{is_damaged, write_warnings};
+use crate::warning_lines::{is_damaged, told_warnings, write_warnings};
 use demux::Finding;
 use pes_packet::Unit;
 use std::alloc::{AllocError, Global};
 use std::marker::Model;
 use stream_jobs::{
-    Job, JobError, JobInput, JobOptions, describe, job_input, make_job, reasons_against, units,
+    Job, JobError, JobInput, JobOptions, Warning, describe, job_input, make_job, reasons_against,
+    units,
 };
 
 /// The output, the lines for the second writer, and the status.
@@ -152,12 +153,12 @@ fn output_for(
     }
 }
 
-// The lines of the warnings of a stream.
-fn warning_report(alloc: Global, input: &JobInput) -> Result<String, AllocError>
-    ensures { IfOk result (λ lines. string_bytes lines ≡ warning_lines input.now.warnings) }
+// The lines of warnings.
+fn warning_report(alloc: Global, told: &[Warning]) -> Result<String, AllocError>
+    ensures { IfOk result (λ lines. string_bytes lines ≡ warning_lines told.now) }
 {
     let mut lines = String::new(alloc);
-    write_warnings(&input.warnings, &mut lines)?;
+    write_warnings(told, &mut lines)?;
     Ok(lines)
 }
 
@@ -174,8 +175,9 @@ fn job_outcome(
     ensures withheld { IfErr result
         (spec.Withholds arguments.now.subcommand arguments.now.options (map finding_view findings.now) input) }
 {
-    let report = warning_report(alloc, &input)?;
-    let status = if is_damaged(&input.warnings) { 1 } else { 0 };
+    let told = told_warnings(alloc, arguments.whole, &input.warnings)?;
+    let report = warning_report(alloc, &told)?;
+    let status = if is_damaged(&told) { 1 } else { 0 };
     let output = output_for(alloc, arguments, findings, input)?;
     Ok(JobOutcome {
         output,

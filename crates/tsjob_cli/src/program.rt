@@ -23,9 +23,11 @@ const USAGE: &str = "usage: tsjob [describe|units|why] [OPTIONS] < PACKETS > JOB
   --without PID,..               PIDs that are left out
   --buffers PID:RX:MAIN,..       buffers of a PID, in bits a second and bytes
   --lead 1..90000                the greatest lead of a unit, in units of 90 kHz
+  --declare groups|time          by what packets are declared; else by groups where they ask for little more
   --pcr 1..100                   the greatest time between clock references, in ms
   --start YYYY-MM-DDThh:mm:ss    the moment of the first packet
   --make-dts                     DTS are made from PTS
+  --whole                        the input is no capture: its last PES packets are whole
 ";
 
 /// Writes the usage, and returns the status.
@@ -81,7 +83,7 @@ fn perform<R: Source, W: Sink, E: Sink>(
 }
 
 /// The whole program: it reads the input, writes the output, writes warnings or the refusal to the second writer, and
-/// returns the exit status: 0 good, 1 refused or a warning of damage, 2 a usage error, 3 a device failed or out of
+/// returns the exit status: 0 all is carried, 1 refused or a warning of what is lost, 2 a usage error, 3 a device failed or out of
 /// memory.
 #[tactic(auto, using(crate::proofs::JobOutcomes::job_for_arguments, crate::proofs::JobOutcomes::no_memory_for_words))]
 pub fn run<R: Source, W: Sink, E: Sink>(

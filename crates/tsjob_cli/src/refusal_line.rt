@@ -40,11 +40,23 @@ fn write_stamps(fault: StampFault, text: &mut String) -> Result<(), AllocError>
     ensures { OnOk result (string_bytes text.new ≡ string_bytes text.old ++ spec.stamps_text fault) }
 {
     match fault {
-        StampFault::DtsNotIncreasing(by) => write!(text, " DTS is {by} before the one before\n"),
+        StampFault::DtsNotIncreasing(by) => write!(text, " DTS is {by} before the one before"),
         StampFault::PtsOutOfRange(by) => {
-            write!(text, " PTS is {by} after its DTS: not 0 to 90000\n")
+            write!(text, " PTS is {by} after its DTS: not 0 to 90000")
         }
-        StampFault::DtsTooFar => text.push_str(" DTS is too far\n"),
+        StampFault::DtsTooFar => text.push_str(" DTS is too far"),
+    }
+}
+
+// What would mend them, if it would.
+#[tactic(auto, unfolding(crate::specs::RefusalLine::remedy_text))]
+fn write_remedy(mended: bool, text: &mut String) -> Result<(), AllocError>
+    ensures { OnOk result (string_bytes text.new ≡ string_bytes text.old ++ spec.remedy_text mended) }
+{
+    if mended {
+        text.push_str("; --make-dts makes DTS from the PTS\n")
+    } else {
+        text.push_str("\n")
     }
 }
 
@@ -54,13 +66,15 @@ fn write_stamps_of(
     packet: u64,
     pid: u16,
     fault: StampFault,
+    mended: bool,
     text: &mut String,
 ) -> Result<(), AllocError>
-    ensures { OnOk result
-        (string_bytes text.new ≡ string_bytes text.old ++ spec.refusal_line (refusals.Stamps packet pid fault)) }
+    ensures { OnOk result (string_bytes text.new
+        ≡ string_bytes text.old ++ spec.refusal_line (refusals.Stamps packet pid fault mended)) }
 {
     write!(text, "packet {packet} pid {pid}")?;
-    write_stamps(fault, text)
+    write_stamps(fault, text)?;
+    write_remedy(mended, text)
 }
 
 // PTS from which no DTS can be made.
@@ -143,6 +157,7 @@ pub(crate) fn write_refusal(refusal: JobRefusal, text: &mut String) -> Result<()
         JobRefusal::NoAssociation => text.push_str("no PAT\n"),
         JobRefusal::NoProgram => text.push_str("no PMT\n"),
         JobRefusal::NoStream => text.push_str("no stream\n"),
+        JobRefusal::Scrambled => text.push_str("no stream that is not scrambled\n"),
         JobRefusal::Programs(count) => write!(text, "{count} programs: more than 16\n"),
         JobRefusal::Streams(count) => write!(text, "{count} streams: more than 32\n"),
         JobRefusal::StreamId { packet, pid, id } => write_id(packet, pid, id, text),
@@ -152,7 +167,12 @@ pub(crate) fn write_refusal(refusal: JobRefusal, text: &mut String) -> Result<()
             id,
             first,
         } => write_ids(packet, pid, id, first, text),
-        JobRefusal::Stamps { packet, pid, fault } => write_stamps_of(packet, pid, fault, text),
+        JobRefusal::Stamps {
+            packet,
+            pid,
+            fault,
+            mended,
+        } => write_stamps_of(packet, pid, fault, mended, text),
         JobRefusal::Dts { pid, fault } => write_making_of(pid, fault, text),
         JobRefusal::Units { pid, count } => write_count(pid, count, text),
         JobRefusal::Size { pid, size } => write_size(pid, size, text),

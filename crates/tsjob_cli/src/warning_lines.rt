@@ -1,10 +1,10 @@
 //! The lines of warnings: what of a stream is left out or changed.
 
-ghost use Rattle.std.specs.Prelude.{◌≡◌, ◌++◌, OnOk, string_bytes};
+ghost use Rattle.std.specs.Prelude.{◌≡◌, ◌++◌, IfOk, OnOk, string_bytes};
 ghost use Rattle.stream_jobs.specs.Warnings.{are_damaged};
 ghost use Rattle.tsjob_cli.specs.WarningLines as spec;
 
-use std::alloc::AllocError;
+use std::alloc::{AllocError, Global};
 use std::fmt::Write;
 use stream_jobs::Warning;
 use stream_programs::TableOmission;
@@ -67,11 +67,33 @@ fn write_reason(cause: UnitWarningCause, text: &mut String) -> Result<(), AllocE
             text,
             "no stamp and no unit before: {size} bytes left out\n"
         ),
+        UnitWarningCause::OtherStreamId { id, size } => write!(
+            text,
+            "stream_id {id} inside a unit of another: {size} bytes left out\n"
+        ),
+        UnitWarningCause::PartLost => text.push_str("unit left out: a part of it is lost\n"),
         UnitWarningCause::EmptyUnit => text.push_str("unit without bytes left out\n"),
         UnitWarningCause::OpenEnded => text.push_str(
-            "last PES packet has neither length nor end: taken\n",
+            "last PES packet has neither length nor end: taken, may be cut\n",
         ),
     }
+}
+
+// The line for a stream with a stream_id that can't be written.
+#[tactic(auto, unfolding(crate::specs::WarningLines::id_line))]
+fn write_id(
+    program: u16,
+    pid: u16,
+    packet: u64,
+    id: u8,
+    text: &mut String,
+) -> Result<(), AllocError>
+    ensures { OnOk result (string_bytes text.new ≡ string_bytes text.old ++ spec.id_line program pid packet id) }
+{
+    write!(
+        text,
+        "packet {packet} pid {pid} of program {program} stream_id {id} cannot be written: left out\n"
+    )
 }
 
 // The line for a finding on a PID.
@@ -101,20 +123,78 @@ fn write_warning(warning: Warning, text: &mut String) -> Result<(), AllocError>
             "packet {packet} PMT of program {program} names other streams: the last one stands\n"
         ),
         Warning::Table(left_out) => write_table(left_out, text),
+        Warning::StrayPes { pid, count } => write!(
+            text,
+            "pid {pid} has {count} PES packets of no program: left out\n"
+        ),
+        Warning::NoSuchProgram { program } => write!(text, "program {program} is not there\n"),
+        Warning::NoSuchStream { pid } => write!(text, "pid {pid} is no stream\n"),
         Warning::Units { pid, warning: unit } => write_unit(pid, unit, text),
         Warning::NoUnit { program, pid } => write!(
             text,
             "pid {pid} of program {program} has no unit: left out\n"
         ),
+        Warning::StreamId {
+            program,
+            pid,
+            packet,
+            id,
+        } => write_id(program, pid, packet, id, text),
         Warning::NoStream { program } => write!(
             text,
             "program {program} has no stream with units: left out\n"
+        ),
+        Warning::UnreadText { program } => write!(
+            text,
+            "name of program {program} has characters that cannot be read\n"
         ),
         Warning::MapMoved { program, from, to } => write!(
             text,
             "PMT of program {program} moved from pid {from} to {to}\n"
         ),
     }
+}
+
+fn is_unknown_end(cause: UnitWarningCause) -> bool
+    ensures { result ≡ spec.is_unknown_end cause }
+{
+    match cause {
+        UnitWarningCause::OpenEnded => true,
+        _ => false,
+    }
+}
+
+// Whether a warning is that the end of a PES packet is not known.
+fn is_open_ended(warning: &Warning) -> bool
+    ensures { result ≡ spec.is_open_ended warning.now }
+{
+    match warning {
+        Warning::Units { warning: unit, .. } => is_unknown_end(unit.cause),
+        _ => false,
+    }
+}
+
+// Whether a warning is told of an input that is said to be whole, or is not.
+#[tactic(auto, unfolding(crate::specs::WarningLines::is_told))]
+fn is_told(whole: bool, warning: &Warning) -> bool
+    ensures { result ≡ spec.is_told whole warning.now }
+{
+    !(whole && is_open_ended(warning))
+}
+
+/// The warnings that are told of an input that is said to be whole, or is not.
+pub(crate) fn told_warnings(
+    alloc: Global,
+    whole: bool,
+    warnings: &[Warning],
+) -> Result<Vec<Warning>, AllocError>
+    ensures { IfOk result (λ told. told.items ≡ spec.told_warnings whole warnings.now) }
+{
+    warnings
+        .iter()
+        .filter(|warning| is_told(whole, warning))
+        .copied()
+        .collect(alloc)
 }
 
 fn is_scrambled(cause: UnitWarningCause) -> bool
@@ -177,7 +257,7 @@ pub(crate) fn write_warnings(all: &[Warning], text: &mut String) -> Result<(), A
     Ok(())
 }
 
-/// Whether one of the warnings is of damage.
+/// Whether one of the warnings says that something is lost.
 pub(crate) fn is_damaged(warnings: &[Warning]) -> bool
     ensures { result ≡ are_damaged warnings.now }
 {

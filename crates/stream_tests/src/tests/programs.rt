@@ -135,7 +135,21 @@ fn are_changes(findings: &[Finding<'_>]) -> bool {
             return false;
         }
     }
-    association_change(0, findings) == Some(5) && association_change(1, findings) == Some(1)
+    true
+}
+
+// The packet in which a table first says something else than the programs that are named.
+fn first_change(alloc: Global, findings: &[Finding<'_>]) -> Option<u64> {
+    match named_programs(alloc, findings) {
+        Ok(Some(association)) => association_change(&association, findings),
+        _ => None,
+    }
+}
+
+// A table of the same version with another PID, and one of another version.
+fn are_other_tables(alloc: Global, findings: &[Finding<'_>]) -> bool {
+    first_change(alloc, findings) == Some(2)
+        && first_change(alloc, findings.get(4..).unwrap_or(&[])).is_none()
 }
 
 fn are_left_out(alloc: Global) -> Option<bool> {
@@ -144,7 +158,8 @@ fn are_left_out(alloc: Global) -> Option<bool> {
     Some(
         programs.left_out.as_slice() == LEFT_OUT.as_slice()
             && is_kept(&programs)
-            && are_changes(&findings),
+            && are_changes(&findings)
+            && are_other_tables(alloc, &findings),
     )
 }
 
@@ -180,7 +195,10 @@ fn are_named_once(alloc: Global) -> Option<bool> {
     let findings = found(alloc, &ONCE).ok()?;
     match named_programs(alloc, &findings) {
         Ok(Some(association)) => {
-            Some(is_named_once(&association) && association_change(0, &findings).is_none())
+            Some(
+                is_named_once(&association)
+                    && association_change(&association, &findings) == Some(2),
+            )
         }
         _ => None,
     }

@@ -100,15 +100,13 @@ pub fn is_unit(unit: &WireUnit, packet: u64, stamps: (u64, u64), bytes: &[u8]) -
 
 fn are_units(units: &[WireUnit]) -> bool {
     match units {
-        [first, second] => {
-            is_unit(first, 1, (3_600, 3_600), &[1, 2, 3])
-                && is_unit(second, 7, (7_200, 10_800), &[5, 6])
-        }
+        [only] => is_unit(only, 7, (7_200, 10_800), &[5, 6]),
         _ => false,
     }
 }
 
-// PES packets without a stamp join the one before them, across duplicates and other PIDs but not across a break.
+// PES packets without a stamp join the one before them, across duplicates and other PIDs; of one before a break a part may be
+// lost, and it is left out.
 fn are_carried(alloc: Global, found: &[Finding<'_>]) -> bool {
     match carried_units(alloc, 256, found) {
         Ok(units) => are_units(&units),
@@ -121,11 +119,12 @@ const COUNTER: UnitWarningCause = UnitWarningCause::Counter {
     found: 7,
 };
 
-// What is in no unit; no damage are the PES packet after the break, the unit without bytes and the end of the stream.
-static LEFT_OUT: [(u64, UnitWarningCause, bool); 5] = [
+// What is in no unit; no damage are the units before what is lost, the PES packet after the break and the end of the stream.
+static LEFT_OUT: [(u64, UnitWarningCause, bool); 6] = [
+    (1, UnitWarningCause::PartLost, false),
     (5, COUNTER, true),
     (6, UnitWarningCause::NoUnitBefore(1), false),
-    (9, UnitWarningCause::EmptyUnit, false),
+    (9, UnitWarningCause::PartLost, false),
     (10, UnitWarningCause::Truncated(2), true),
     (20, UnitWarningCause::TruncatedByEnd(3), false),
 ];

@@ -1,9 +1,8 @@
-use Rattle.std.proofs.Common.{map, ◌≡◌, ◌++◌, Ok, rules}
+use Rattle.std.proofs.Common.{map, ◌≡◌, ◌++◌, ◌∙◌, ap, List, Ok, rules}
 use Rattle.std.specs.Prelude.{flat_map}
-use Rattle.stream_jobs.specs.declared.warning.Warning.TheVariants.{Table}
 use Rattle.demux.specs.Shown.{finding_view}
 use Rattle.stream_jobs.specs.Answers.{Answers}
-use Rattle.stream_jobs.specs.JobPrograms.{job_programs, all_program_warnings}
+use Rattle.stream_jobs.specs.JobPrograms.{JobProgramView, job_programs, all_program_warnings, text_warnings}
 use Rattle.stream_jobs.specs.JobInput.{with_streams}
 use Rattle.stream_jobs.specs.Warnings.{pid_warnings}
 use Rattle.stream_jobs.specs.WireStreams.{wire_streams, all_empty_stream_warnings}
@@ -16,15 +15,17 @@ returns-clause-value c =
     let findings = map finding_view c.args.findings.now in
     let streams = c.in_ok-streams.streams.items in
     let are : wire_streams options.make_dts options.without findings c.args.found.streams ≡ Ok streams = search rules in
-    let tables : c.push_table_warnings.new.warnings.items ≡ c.in_ok-warnings.warnings.items ++ map Table c.args.found.left_out = search rules in
-    let empties : c.wire_streams.new.warnings.items ≡ c.push_table_warnings.new.warnings.items ++ all_empty_stream_warnings c.args.count options.without findings c.args.found.streams = search rules in
+    let empties : c.wire_streams.new.warnings.items ≡ c.in_ok-warnings.warnings.items ++ all_empty_stream_warnings c.args.count options.without findings c.args.found.streams = search rules in
     let programs : c.job_programs.new.warnings.items ≡ c.wire_streams.new.warnings.items ++ all_program_warnings streams c.args.found.programs c.args.assigned.items = search rules in
     let pids : c.push_stream_warnings.new.warnings.items ≡ c.job_programs.new.warnings.items ++ flat_map (λ s. pid_warnings c.args.count findings s.pid) streams = search rules in
     let made : c.in_ok-programs.programs.items ≡ job_programs streams c.args.found.programs c.args.assigned.items = search rules in
-    let value : Answers (with_streams options findings c.args.association.now.transport_stream_id c.in_ok-programs.programs.items c.push_stream_warnings.new.warnings.items streams) c.with_streams.result = search rules in
+    let pushed : c.push_text_warnings.new.warnings.items ≡ c.push_stream_warnings.new.warnings.items ++ text_warnings findings c.in_ok-programs.programs.items = search rules in
+    let texts : c.push_text_warnings.new.warnings.items ≡ c.push_stream_warnings.new.warnings.items ++ text_warnings findings (job_programs streams c.args.found.programs c.args.assigned.items) =
+    pushed ∙ ap (λ (ps : List JobProgramView). c.push_stream_warnings.new.warnings.items ++ text_warnings findings ps) made in
+    let value : Answers (with_streams options findings c.args.association.now.transport_stream_id c.in_ok-programs.programs.items c.push_text_warnings.new.warnings.items streams) c.with_streams.result = search rules in
     let warnings = all_warnings options c.args.count findings c.args.association.now c.args.named.now c.args.found c.args.assigned.items streams
-    c.in_ok-warnings.warnings.items c.push_table_warnings.new.warnings.items c.wire_streams.new.warnings.items c.job_programs.new.warnings.items c.push_stream_warnings.new.warnings.items
-    c.in_ok-warnings.ensures tables empties programs pids in
+    c.in_ok-warnings.warnings.items c.wire_streams.new.warnings.items c.job_programs.new.warnings.items c.push_stream_warnings.new.warnings.items c.push_text_warnings.new.warnings.items
+    c.in_ok-warnings.ensures empties programs pids texts in
     in_pids options c.args.count findings c.args.association.now c.args.named.now c.args.found c.args.assigned.items streams
-    c.in_ok-programs.programs.items c.push_stream_warnings.new.warnings.items c.with_streams.result
+    c.in_ok-programs.programs.items c.push_text_warnings.new.warnings.items c.with_streams.result
     are made warnings value

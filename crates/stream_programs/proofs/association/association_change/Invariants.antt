@@ -5,4 +5,4 @@ use Rattle.stream_programs.proofs.association.association_change.Given as goal
 
 abbrev pub invariant-loop-finding : goal.invariant-loop-finding
 invariant-loop-finding g l =
-    association_change l.version (map finding_view l.findings) ≡ association_change l.version (map finding_view (drop l.finding-index l.findings))
+    association_change l.association (map finding_view l.findings) ≡ association_change l.association (map finding_view (drop l.finding-index l.findings))

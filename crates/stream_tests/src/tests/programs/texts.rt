@@ -5,20 +5,23 @@ use std::alloc::{AllocError, Allocator, Global};
 use stream_programs::decode_text;
 
 // Coded texts, the most bytes that they may take, and what is read of them.
-static ROWS: [(&[u8], usize, &str); 14] = [
+static ROWS: [(&[u8], usize, &str); 17] = [
     (b"Service01", 100, "Service01"),
     (b"", 0, ""),
     // UTF-8, marked and not.
     (b"\x15Arte \xc3\xa9t\xc3\xa9", 100, "Arte été"),
     (b"\xc3\x89t\xc3\xa9 \xe2\x84\x961", 100, "Été №1"),
-    // The default table: an accent before its letter, and emphasis on and off.
-    (b"\xc2e\x86BBC\x87", 100, "?eBBC"),
+    // The default table: an accent before its letter, an ogonek before a letter that has none, and emphasis on and off.
+    (b"\xc2e\x86BBC\x87 \xa4 \xcew", 100, "éBBC € ?"),
     (b"\x15\xff", 100, "?"),
-    // Other tables: Cyrillic, one by number, two bytes a character.
-    (b"\x01\xbf\xe0 1", 100, " 1"),
-    (b"\x10\x00\x41Caf\xe9", 100, "Caf"),
-    (b"\x11\x00A\x00B", 100, "AB"),
-    (b"\x10A", 100, ""),
+    // Other tables: Cyrillic, Turkish, parts by number, two bytes a character, one that is not read.
+    (b"\x01\xbf\xe0 1", 100, "Пр 1"),
+    (b"\x05D\xfcsseldorf \xf0", 100, "Düsseldorf ğ"),
+    (b"\x10\x00\x0fCaf\xe9 \xa4", 100, "Café €"),
+    (b"\x10\x00\x41Caf\xe9", 100, "Caf?"),
+    (b"\x11\x00A\x04\x1f\xd8\x00B", 100, "AП??"),
+    (b"\x13\xb0\xa1", 100, "??"),
+    (b"\x10A", 100, "A"),
     // No control characters.
     (b"a\x01b\x7fc\xc2\x85d\xc2\xa0", 100, "abcd\u{a0}"),
     // Cut: plain texts need no mark, others do.

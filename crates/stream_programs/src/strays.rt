@@ -1,0 +1,158 @@
+//! PIDs with PES packets that no program has.
+
+ghost use Rattle.std.specs.Prelude.{◌≡◌, ◌≤◌, ◌++◌, [], IfOk, OnOk, flat_map, map, option_to_list};
+ghost use Rattle.demux.specs.Shown.{finding_view, what_view};
+ghost use Rattle.stream_programs.specs.StrayPids as spec;
+
+use crate::free_pids::is_taken;
+use crate::omission::TableOmission;
+use crate::programs::FoundPrograms;
+use crate::streams::FoundStream;
+use demux::{Finding, What};
+use std::alloc::{AllocError, Allocator};
+
+// Appends the PIDs of streams.
+fn push_streams<A: Allocator>(
+    streams: &[FoundStream<A>],
+    pids: &mut Vec<u16, A>,
+) -> Result<(), AllocError>
+    ensures { OnOk result (pids.new.items ≡ pids.old.items ++ map (λ s. s.pid) streams.now) }
+{
+    for stream in streams {
+        pids.push(stream.pid)?;
+    }
+    Ok(())
+}
+
+// The PID of a stream that is left out.
+#[tactic(auto, unfolding(crate::specs::StrayPids::omitted_pid))]
+fn omitted_pid(omission: TableOmission) -> Option<u16>
+    ensures { option_to_list result ≡ spec.omitted_pid omission }
+{
+    match omission {
+        TableOmission::NoPes { pid, .. } => Some(pid),
+        TableOmission::Reserved { pid, .. } => Some(pid),
+        TableOmission::Taken { pid, .. } => Some(pid),
+        TableOmission::NoMap { .. } => None,
+        TableOmission::ConditionalAccess { .. } => None,
+        TableOmission::NoStream { .. } => None,
+    }
+}
+
+// Appends the PID of a stream that is left out.
+fn push_omission<A: Allocator>(
+    omission: TableOmission,
+    pids: &mut Vec<u16, A>,
+) -> Result<(), AllocError>
+    ensures { OnOk result (pids.new.items ≡ pids.old.items ++ spec.omitted_pid omission) }
+{
+    if let Some(pid) = omitted_pid(omission) {
+        pids.push(pid)?;
+    }
+    Ok(())
+}
+
+// Appends the PIDs of streams that are left out.
+fn push_omissions<A: Allocator>(
+    left_out: &[TableOmission],
+    pids: &mut Vec<u16, A>,
+) -> Result<(), AllocError>
+    ensures { OnOk result (pids.new.items ≡ pids.old.items ++ flat_map spec.omitted_pid left_out.now) }
+{
+    for omission in left_out {
+        push_omission(*omission, pids)?;
+    }
+    Ok(())
+}
+
+/// The PIDs of the streams of programs, also of those that are left out.
+pub fn mapped_pids<A: Allocator>(
+    alloc: A,
+    found: &FoundPrograms<A>,
+) -> Result<Vec<u16, A>, AllocError>
+    ensures { IfOk result (λ pids. pids.items ≡ spec.mapped_pids found.now) }
+{
+    let mut pids = Vec::new(alloc);
+    push_streams(&found.streams, &mut pids)?;
+    push_omissions(&found.left_out, &mut pids)?;
+    Ok(pids)
+}
+
+#[tactic(auto, unfolding(crate::specs::StrayPids::is_pes))]
+fn is_pes<A: Allocator>(what: &What<'_, A>) -> bool
+    ensures { result ≡ spec.is_pes (what_view what.now) }
+{
+    matches!(what, What::Pes { .. })
+}
+
+// The PID of a PES packet that is none of these.
+#[tactic(auto, unfolding(crate::specs::StrayPids::stray_pid, crate::specs::StrayPids::unknown_pid))]
+fn stray_pid<A: Allocator>(known: &[u16], found: &[u16], finding: &Finding<'_, A>) -> Option<u16>
+    ensures { option_to_list result ≡ spec.stray_pid known.now found.now (finding_view finding.now) }
+{
+    if !is_pes(&finding.what) {
+        return None;
+    }
+    let pid = finding.pid?;
+    if is_taken(pid, known) {
+        return None;
+    }
+    if is_taken(pid, found) {
+        return None;
+    }
+    Some(pid)
+}
+
+// Appends the PID of a PES packet that is none of these.
+fn push_stray<A: Allocator>(
+    known: &[u16],
+    finding: &Finding<'_, A>,
+    found: &mut Vec<u16, A>,
+) -> Result<(), AllocError>
+    ensures { OnOk result (found.new.items ≡ found.old.items
+        ++ spec.stray_pid known.now found.old.items (finding_view finding.now)) }
+{
+    if let Some(pid) = stray_pid(known, found, finding) {
+        found.push(pid)?;
+    }
+    Ok(())
+}
+
+/// The PIDs with PES packets that are none of these, each once, in the order of their first PES packet.
+pub fn stray_pids<A: Allocator + Copy>(
+    alloc: A,
+    known: &[u16],
+    findings: &[Finding<'_, A>],
+) -> Result<Vec<u16, A>, AllocError>
+    ensures { IfOk result (λ found. found.items ≡ spec.stray_pids known.now [] (map finding_view findings.now)) }
+{
+    let mut found = Vec::new(alloc);
+    for finding in findings {
+        push_stray(known, finding, &mut found)?;
+    }
+    Ok(found)
+}
+
+// 1 for a PES packet of a PID, else 0.
+#[tactic(auto, unfolding(crate::specs::StrayPids::pes_number))]
+fn pes_number<A: Allocator>(pid: u16, finding: &Finding<'_, A>) -> usize
+    ensures value { result ≡ spec.pes_number pid (finding_view finding.now) }
+    ensures bound { result ≤ 1 }
+{
+    if finding.pid == Some(pid) && is_pes(&finding.what) {
+        1
+    } else {
+        0
+    }
+}
+
+/// The number of PES packets of a PID.
+pub fn pes_count<A: Allocator>(pid: u16, findings: &[Finding<'_, A>]) -> usize
+    ensures { result ≡ spec.pes_count pid (map finding_view findings.now) }
+{
+    let mut count = 0;
+    for finding in findings {
+        count += pes_number(pid, finding);
+    }
+    count
+}
