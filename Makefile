@@ -1,6 +1,7 @@
 # What the README says, as targets. The only thing needed is the Rattle kit (`rt` on the path).
 
 BINARY = crates/tsmux/out/tsmux
+TSJOB = crates/tsjob/out/tsjob
 
 .PHONY: run try test edits bench binary tsjob any-stream clean
 
@@ -30,7 +31,7 @@ tsjob:
 
 # Streams of ffmpeg and GStreamer through both programs, and what came out beside what went in (examples/README.md has what it wants).
 any-stream: binary tsjob
-	sh examples/any-stream/run.sh crates/tsjob/out/tsjob $(BINARY)
+	sh examples/any-stream/run.sh $(TSJOB) $(BINARY)
 
 # The merge gate: every proof from nothing, the must-fail edits, each test, and each program as two compilers make it; then, with the
 # programs that this has built, the cases of cases/ and the tools that put them beside plain readings and failing devices. There are as
@@ -44,14 +45,15 @@ test:
 edits:
 	tools/try-edits
 
-# Speed, beside a copy of as many packets in memory in the same run (docs/SPEED.md), and how full a multiplex `plan` fills. Needs python3
-# and cc beside the kit.
-bench: binary
+# Speed, beside a program that reads, copies and writes as many packets and beside a copy of them in memory, in the same run
+# (docs/SPEED.md), and how full a multiplex `plan` fills. Needs python3 and cc beside the kit.
+bench: binary tsjob
 	python3 bench/mux.py $(BINARY)
 	python3 bench/slots.py $(BINARY)
 	python3 bench/carry.py $(BINARY)
 	python3 bench/demux.py $(BINARY)
 	python3 bench/monitor.py $(BINARY)
+	python3 bench/tsjob.py $(TSJOB) $(BINARY)
 	python3 bench/packets.py
 	python3 bench/check.py
 	python3 bench/measure.py

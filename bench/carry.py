@@ -1,24 +1,28 @@
 #!/usr/bin/env python3
-"""carry.py BINARY: the speed of `carry` on about 100 MB of unit records, as processor time, beside a copy of as many packets in
-memory. It needs cc."""
+"""carry.py BINARY: the speed of `carry` on unit records for about 46 MB and 150 MB of packets, as processor time, beside a program that
+reads, copies and writes the packets, and a copy of them in memory. It needs cc."""
 
 import random
 import struct
+import subprocess
 import sys
 import tempfile
+from pathlib import Path
 
-from common import copy_seconds, seconds
+from common import beside, copy_seconds, least, limit_spent
 
 binary = sys.argv[1]
+words = [binary, "carry", "--id", "224"]
 chance = random.Random(1)
-for size, count in ((20_000, 5_000), (576, 170_000)):
-    unit = chance.randbytes(size)
-    stamps = (10_000 + index * 1_800 for index in range(count))
-    with tempfile.NamedTemporaryFile() as made:
-        made.writelines(struct.pack(">BIQQ", 0, size, stamp, stamp) + unit for stamp in stamps)
-        made.flush()
-        packets = count * -(-(size + 14) // 184)
-        ours = min(seconds([binary, "carry", "--id", "224"], made.name) for _ in range(5))
-        copy = copy_seconds(packets)
-        print(f"carry, units of {size} bytes: {packets} packets in {ours:.3f} s of processor time, {packets / ours / 1e6:.1f} million a"
-              f" second; copy {copy:.3f} s, {1000 * copy / ours:.0f} permille")
+for size in (20_000, 576):
+    for wanted in (46_000_000, 150_000_000):
+        count = wanted // (188 * -(-(size + 14) // 184))
+        unit = chance.randbytes(size)
+        stamps = (10_000 + index * 1_800 for index in range(count))
+        with tempfile.TemporaryDirectory() as scratch:
+            made, packets = Path(scratch, "records"), Path(scratch, "packets")
+            made.write_bytes(b"".join(struct.pack(">BIQQ", 0, size, stamp, stamp) + unit for stamp in stamps))
+            with open(made, "rb") as source, open(packets, "wb") as sink:
+                subprocess.run(words, stdin=source, stdout=sink, check=True)
+            sent = packets.stat().st_size // 188
+            print(beside(f"carry, units of {size} bytes", sent, least(words, made), limit_spent(packets), copy_seconds(sent)))

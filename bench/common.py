@@ -1,12 +1,15 @@
-"""What the benches share: processor time of a program, and of a copy of the same packets in memory; programs over the library; a
-service to multiplex."""
+"""What the benches share: processor time of a program, of a copy of the same packets in memory, and of a program that reads, copies
+and writes them; programs over the library; a service to multiplex, and jobs of it."""
 
+import random
 import resource
 import shutil
+import struct
 import subprocess
 import sys
 import tempfile
 from pathlib import Path
+from typing import NamedTuple
 
 COPY = r"""
 #include <stdio.h>
@@ -29,14 +32,83 @@ int main(int count, char **words) {
 """
 
 
-def seconds(words, path=None, own=False):
-    """The processor time of a program whose standard input is this file, and whose answer is not looked at; with `own` without
-    what the system did for it."""
+LIMIT = r"""
+#include <string.h>
+#include <unistd.h>
+enum { PACKET = 188, PIECE = 348 * PACKET };
+static unsigned char from[PIECE], to[PIECE];
+int main(void) {
+    for (;;) {
+        size_t have = 0, sent = 0;
+        ssize_t n;
+        while (have < PIECE && (n = read(0, from + have, PIECE - have)) > 0)
+            have += n;
+        for (size_t at = 0; at + PACKET <= have; at += PACKET)
+            memcpy(to + at, from + at, PACKET);
+        while (sent < have && (n = write(1, to + sent, have - sent)) > 0)
+            sent += n;
+        if (have < PIECE)
+            return 0;
+    }
+}
+"""
+
+
+class Spent(NamedTuple):
+    """Processor time in seconds: the program's own, and the system's for it."""
+
+    user: float
+    system: float
+
+    @property
+    def whole(self):
+        return self.user + self.system
+
+    def __str__(self):
+        return f"{self.whole:.2f} s of processor time ({self.user:.2f} its own, {self.system:.2f} the system's)"
+
+
+def spent(words, path=None):
+    """What a program takes whose standard input is this file, and whose output goes through a pipe to a process that drops it."""
+    before = resource.getrusage(resource.RUSAGE_CHILDREN)
+    with open(path or "/dev/null", "rb") as source, open("/dev/null", "wb") as nothing:
+        # The process that drops the output is waited for after the times are taken, so it does not count.
+        sink = subprocess.Popen(["cat"], stdin=subprocess.PIPE, stdout=nothing)
+        subprocess.run([str(word) for word in words], stdin=source, stdout=sink.stdin, stderr=subprocess.DEVNULL)
+        after = resource.getrusage(resource.RUSAGE_CHILDREN)
+        sink.stdin.close()
+        sink.wait()
+    return Spent(after.ru_utime - before.ru_utime, after.ru_stime - before.ru_stime)
+
+
+def least(words, path=None):
+    """The least of five runs."""
+    return min((spent(words, path) for _ in range(5)), key=lambda it: it.whole)
+
+
+def limit_spent(packets):
+    """What the machine takes at least for these packets: a program that reads them, copies each, and writes them, through pieces
+    of 64 KiB; its output goes where `spent` lets that of any program go."""
+    with tempfile.TemporaryDirectory() as scratch:
+        source, binary = Path(scratch, "limit.c"), Path(scratch, "limit")
+        source.write_text(LIMIT)
+        subprocess.run(["cc", "-O2", "-o", binary, source], check=True)
+        return least([binary], packets)
+
+
+def beside(name, count, ours, limit, copy):
+    """A line: a program's time for so many packets, beside the machine's limit and a copy in memory."""
+    return (f"{name}: {count} packets in {ours}, {count / ours.whole / 1e6:.1f} million a second; limit {limit}, {limit.whole / ours.whole:.2f}"
+            f" of it; copy {copy:.3f} s, {1000 * copy / ours.whole:.0f} permille")
+
+
+def seconds(words, path=None):
+    """The processor time of a program whose standard input is this file, and whose answer is not looked at."""
     before = resource.getrusage(resource.RUSAGE_CHILDREN)
     with open(path or "/dev/null", "rb") as source:
         subprocess.run([str(word) for word in words], stdin=source, stdout=subprocess.DEVNULL, stderr=subprocess.DEVNULL)
     after = resource.getrusage(resource.RUSAGE_CHILDREN)
-    return after.ru_utime - before.ru_utime + (0 if own else after.ru_stime - before.ru_stime)
+    return after.ru_utime - before.ru_utime + after.ru_stime - before.ru_stime
 
 
 PEAK = """
@@ -135,3 +207,19 @@ def audio_service(streams):
     """The description of a service of so many streams of MPEG audio, with all tables: a unit of 576 bytes each 24 ms, in 4 packets."""
     parts = [STREAM.format(pid=300 + k, id=192 + k) for k in range(streams)]
     return f"rate = {audio_rate(streams)}\n" + PROGRAM + "".join(parts)
+
+
+def audio_job(binary, streams, size):
+    """A job of such a service, whose packets have about this many bytes: its description, its plan by `plan`, its units."""
+    text = audio_service(streams).encode()
+    plan = subprocess.run([binary, "plan"], input=text, capture_output=True, check=True).stdout
+    count = size * 8 * 90_000 // (audio_rate(streams) * 2160)
+    unit = random.Random(1).randbytes(576)
+    records = b"".join(
+        struct.pack(">BIQQ", k, 576, 12_960 + 2160 * i, 12_960 + 2160 * i) + unit for i in range(count) for k in range(streams)
+    )
+    return text + plan + records
+
+
+# For jobs of about 46 MB and 150 MB with one stream.
+SIZES = (100_000_000, 326_000_000)

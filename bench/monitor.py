@@ -1,6 +1,6 @@
 #!/usr/bin/env python3
-"""monitor.py BINARY: the speed of `monitor` on about 100 MB of packets, as processor time, beside a copy of as many packets in memory,
-and the most memory that it holds on 100 MB and on 2 GB through a pipe. The packets are those of the radio example, over and over, with
+"""monitor.py BINARY: the speed of `monitor` on about 46 MB and 150 MB of packets, as processor time, beside a program that reads, copies
+and writes them and a copy of them in memory, and the most memory that it holds on 150 MB and on 2 GB through a pipe. The packets are those of the radio example, over and over, with
 a PAT before each turn; their continuity_counters count on, so that no fault is found. It needs cc."""
 
 import subprocess
@@ -8,7 +8,7 @@ import sys
 import tempfile
 from pathlib import Path
 
-from common import copy_seconds, peak_bytes, seconds
+from common import beside, copy_seconds, least, limit_spent, peak_bytes
 
 PAT = bytes.fromhex("4740001000" "00b00d0001c100000001f0002ab104b2") + b"\xff" * 167
 # A PMT without streams, so that the program that the PAT names is never late.
@@ -45,14 +45,12 @@ with tempfile.TemporaryDirectory() as scratch:
     map_packet = (PMT + check_word(PMT[5:])).ljust(188, b"\xff")
     turns = counted((PAT + map_packet + packets) * 16)
     stream = work / "stream.ts"
-    stream.write_bytes(turns * (100_000_000 // len(turns)))
-    count = stream.stat().st_size // 188
-    report = subprocess.run(words, stdin=open(stream, "rb"), stdout=subprocess.PIPE, check=True).stdout
-    assert report.endswith(b"\nfaults 0\n"), report[-200:]
-    ours = min(seconds(words, stream) for _ in range(5))
-    copy = copy_seconds(count)
-    print(f"monitor: {count} packets in {ours:.2f} s of processor time, {count / ours / 1e6:.1f} million a second; copy {copy:.3f} s,"
-          f" {1000 * copy / ours:.0f} permille")
-    for times in (1, 20):
+    for size in (46_000_000, 150_000_000):
+        stream.write_bytes(turns * (size // len(turns)))
+        count = stream.stat().st_size // 188
+        report = subprocess.run(words, stdin=open(stream, "rb"), stdout=subprocess.PIPE, check=True).stdout
+        assert report.endswith(b"\nfaults 0\n"), report[-200:]
+        print(beside(f"monitor, {size // 1_000_000} MB", count, least(words, stream), limit_spent(stream), copy_seconds(count)))
+    for times in (1, 13):
         peak = peak_bytes(["sh", "-c", PIPED, stream, times, binary], "/dev/null")
         print(f"monitor: {times * stream.stat().st_size / 1e9:.1f} GB through a pipe, at most {peak / 1e6:.1f} MB of memory")

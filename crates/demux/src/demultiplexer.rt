@@ -1,6 +1,9 @@
 //! The demultiplexer: a stream in pieces, or packet by packet.
 ghost use Rattle.std.specs.Prelude.{◌≡◌, ◌<◌, ◌≤◌, ◌+◌, ◌++◌, [], false, true, IfOk, IfErr, OnOk, OnErr, map, take};
 ghost use Rattle.std.specs.Prelude.{length};
+ghost use Rattle.bit_fields.specs.Reading.{Gives};
+ghost use Rattle.ts_packet.specs.Reading.{packet_at};
+ghost use Rattle.ts_packet.specs.Views.{packet_view};
 ghost use Rattle.demux.specs.Stream as stream;
 ghost use Rattle.std.specs.List.{list_any};
 ghost use Rattle.demux.specs.Shown.{KeepsFindings, Spans, AddsFindings, finding_view, is_span};
@@ -13,6 +16,7 @@ use arrayvec::ArrayVec;
 use indexmap::IndexMap;
 use std::alloc::{AllocError, Allocator, Global};
 use std::marker::Model;
+use ts_packet::{Packet, PacketError, read_packet};
 
 /// What is kept of a transport stream: a state for each PID, and the at most 187 bytes of a packet that is not whole
 /// yet.
@@ -180,7 +184,6 @@ impl<A: Allocator + Copy> Demux<A> {
 
     /// Takes a packet, where no part of one is held. What is found goes to `found`, and points into the packet where it
     /// lies in it whole.
-    #[tactic(auto, unfolding(crate::specs::Stream::taken, crate::specs::Stream::found_in, crate::specs::Stream::within_in))]
     pub fn take<'a>(
         &mut self,
         bytes: &'a [u8; 188],
@@ -196,10 +199,32 @@ impl<A: Allocator + Copy> Demux<A> {
         ensures refused { IfErr result (λ error. stream.TakeRefused self.old self.new error) }
         ensures none { OnErr result (KeepsFindings found.old.items found.new.items) }
     {
+        self.take_read(bytes, &read_packet(bytes), found)
+    }
+
+    /// Takes a packet as `take` does; `read` is what `read_packet` gives of its bytes.
+    #[tactic(auto, unfolding(crate::specs::Stream::taken, crate::specs::Stream::found_in, crate::specs::Stream::within_in))]
+    pub fn take_read<'a>(
+        &mut self,
+        bytes: &'a [u8; 188],
+        read: &Result<Packet<'a>, PacketError>,
+        found: &mut Vec<Finding<'a, A>, A>,
+    ) -> Result<(), DemuxError>
+        requires aligned { stream.is_aligned self.old ≡ true }
+        requires read { Gives packet_view read.now (packet_at bytes.now) }
+        ensures ok { OnOk result (self.new ≡ stream.taken self.old bytes.now) }
+        ensures found { OnOk result (AddsFindings found.old.items found.new.items
+            (stream.found_in self.old bytes.now)) }
+        ensures spans { OnOk result (Spans found.old.items found.new.items (stream.within_in self.old bytes.now)) }
+        ensures open { OnOk result (self.old.ended ≡ false) }
+        ensures aligned { stream.is_aligned self.new ≡ true }
+        ensures refused { IfErr result (λ error. stream.TakeRefused self.old self.new error) }
+        ensures none { OnErr result (KeepsFindings found.old.items found.new.items) }
+    {
         if self.ended {
             return Err(DemuxError::Ended);
         }
-        match take_borrowed(&mut self.states, self.packets, bytes, found) {
+        match take_borrowed(&mut self.states, self.packets, bytes, read, found) {
             Ok(()) => {
                 self.packets = self.packets.saturating_add(1);
                 Ok(())

@@ -161,7 +161,8 @@ pub(crate) fn end_before_pointer<'a, A: Allocator + Clone>(
     }
 }
 
-// Appends a payload to the bytes of the open unit; where that decides the unit, it is noted. Whether it does.
+// Appends a payload to the bytes of the open unit; where that decides the unit, it is noted, and no bytes are left.
+// Whether it does.
 #[tactic(auto, unfolding(crate::specs::Findings::found_if))]
 fn append_bytes<'a, A: Allocator + Clone>(
     alloc: &A,
@@ -172,11 +173,12 @@ fn append_bytes<'a, A: Allocator + Clone>(
     bytes: &mut Vec<u8, A>,
     found: &mut Vec<Finding<'a, A>, A>,
 ) -> Result<bool, AllocError>
-    ensures joined { OnOk result (bytes.new.items ≡ bytes.old.items ++ payload.now) }
+    requires { length bytes.old.items ≤ units.max_unbounded_pes }
+    ensures joined { IfOk result (λ decided. decided ≡ false → bytes.new.items ≡ bytes.old.items ++ payload.now) }
     ensures found { OnOk result (Finds place found.old.items found.new.items
         (findings.decided_by (record { packet = packet; kind = kind; bytes = bytes.old.items ++ payload.now }))) }
     ensures decided { IfOk result (λ decided. decided ≡ is_some (units.decided kind (bytes.old.items ++ payload.now))) }
-    ensures bounded { IfOk result (λ decided. decided ≡ false → length bytes.new.items ≤ units.max_unbounded_pes) }
+    ensures bounded { length bytes.new.items ≤ units.max_unbounded_pes }
     ensures err { OnErr result (bytes.new.items ≡ bytes.old.items) }
     ensures none { OnErr result (KeepsFindings found.old.items found.new.items) }
 {
@@ -186,7 +188,10 @@ fn append_bytes<'a, A: Allocator + Clone>(
         return Ok(false);
     };
     match note_decided(alloc, place, packet, kind, bytes, verdict, found) {
-        Ok(()) => Ok(true),
+        Ok(()) => {
+            bytes.clear();
+            Ok(true)
+        }
         Err(error) => {
             bytes.truncate(len);
             Err(error)
@@ -194,7 +199,7 @@ fn append_bytes<'a, A: Allocator + Clone>(
     }
 }
 
-/// A payload that goes on with the open unit; where that decides the unit, it is open no more.
+/// A payload that goes on with the open unit, where it stands; where that decides the unit, it is open no more.
 #[tactic(auto, unfolding(crate::specs::Findings::found_appended, crate::specs::Findings::undecided, crate::specs::Findings::unless_decided, crate::specs::Machine::next_open))]
 pub(crate) fn append_payload<'a, A: Allocator + Clone>(
     alloc: &A,
@@ -209,31 +214,20 @@ pub(crate) fn append_payload<'a, A: Allocator + Clone>(
     ensures err { OnErr result (open_unit.new ≡ open_unit.old) }
     ensures none { OnErr result (KeepsFindings found.old.items found.new.items) }
 {
-    let Some(unit) = open_unit.take() else {
+    let Some(unit) = open_unit else {
         return Ok(());
     };
-    let OpenUnit {
-        packet,
-        kind,
-        mut bytes,
-    } = unit;
-    match append_bytes(alloc, place, packet, kind, payload, &mut bytes, found) {
-        Ok(true) => Ok(()),
-        Ok(false) => {
-            *open_unit = Some(OpenUnit {
-                packet,
-                kind,
-                bytes,
-            });
-            Ok(())
-        }
-        Err(error) => {
-            *open_unit = Some(OpenUnit {
-                packet,
-                kind,
-                bytes,
-            });
-            Err(error)
-        }
+    let decided = append_bytes(
+        alloc,
+        place,
+        unit.packet,
+        unit.kind,
+        payload,
+        &mut unit.bytes,
+        found,
+    )?;
+    if decided {
+        *open_unit = None;
     }
+    Ok(())
 }

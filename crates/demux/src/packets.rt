@@ -1,5 +1,6 @@
 //! A whole packet of a stream.
 ghost use Rattle.std.specs.Prelude.{◌≡◌, ◌&&◌, [], ◌∷◌, true, false, OnOk, OnErr, option_map, map};
+ghost use Rattle.bit_fields.specs.Reading.{Gives};
 ghost use Rattle.ts_packet.specs.Reading.{packet_at};
 ghost use Rattle.ts_packet.specs.Views.{packet_view, bytes_view};
 ghost use Rattle.demux.specs.Stream.{findings_by, held_found, states_by, without_pid, within_by};
@@ -12,7 +13,7 @@ use crate::payload_bytes::PayloadBytes;
 use crate::place::Place;
 use crate::states::{States, step_pid};
 use std::alloc::{AllocError, Allocator};
-use ts_packet::{NULL_PID, Packet, read_packet};
+use ts_packet::{NULL_PID, Packet, PacketError, read_packet};
 
 // Notes what is found of no PID.
 pub(crate) fn note_without_pid<'a, A: Allocator>(
@@ -119,14 +120,16 @@ fn copied<'p>(payload: Option<&'p [u8]>) -> Option<PayloadBytes<'p, 'static>>
     }
 }
 
-/// Takes 188 bytes that findings may point into.
+/// Takes 188 bytes that findings may point into, and that were read.
 #[tactic(auto, unfolding(crate::specs::Stream::states_by, crate::specs::Stream::findings_by, crate::specs::Stream::within_by))]
 pub(crate) fn take_borrowed<'a, A: Allocator + Copy>(
     states: &mut States<A>,
     index: u64,
     bytes: &'a [u8; 188],
+    read: &Result<Packet<'a>, PacketError>,
     found: &mut Vec<Finding<'a, A>, A>,
 ) -> Result<(), AllocError>
+    requires read { Gives packet_view read.now (packet_at bytes.now) }
     ensures states { OnOk result (states.new.entries ≡ states_by index bytes.now states.old.entries
         (packet_at bytes.now)) }
     ensures found { OnOk result (AddsFindings found.old.items found.new.items
@@ -136,14 +139,14 @@ pub(crate) fn take_borrowed<'a, A: Allocator + Copy>(
     ensures err { OnErr result (states.new.entries ≡ states.old.entries) }
     ensures none { OnErr result (KeepsFindings found.old.items found.new.items) }
 {
-    match read_packet(bytes) {
+    match read {
         Err(error) => {
-            note_without_pid(index, What::BadPacket(error), found)?;
+            note_without_pid(index, What::BadPacket(*error), found)?;
             Ok(())
         }
         Ok(packet) => {
             let payload = borrowed(packet.payload);
-            take_read(states, index, bytes, &packet, true, payload, found)?;
+            take_read(states, index, bytes, packet, true, payload, found)?;
             Ok(())
         }
     }

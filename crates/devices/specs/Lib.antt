@@ -2,7 +2,6 @@ pub mod Devices
 pub mod Lines
 pub mod Outcomes
 pub mod WholeInput
-pub mod InputPieces
 pub mod Runs
 pub mod Usage
 pub mod Options

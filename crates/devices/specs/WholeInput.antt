@@ -35,6 +35,12 @@ ReadsInput input (Err Read) = HasFailed input ⊎ IsLong input.before.bytes
 ReadsInput input (Err Write) = ⊥
 ReadsInput input (Err Memory) = IsClean input
 
+-- the whole input was read, and its bytes are so
+pub record IsReadAs (input : Device) (Is : List ℕ → Type 0) : Type 0 where
+  pub bytes : List ℕ
+  pub read : ReadsInput input (Ok bytes)
+  pub is : Is bytes
+
 -- the next n bytes of the input stand at the front of a piece, fewer than it holds only where the input ended
 pub record ReadsFront (input : Device) (piece : List ℕ) (n : ℕ) : Type 0 where
   pub fits : n ≤ length piece

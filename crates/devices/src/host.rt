@@ -7,8 +7,9 @@ use std::env;
 use std::io::{BufReader, Error, ErrorKind};
 use std::process::ExitCode;
 
-/// The room of the input's buffer, in bytes.
-const INPUT_ROOM: usize = 1 << 18;
+/// The room of the input's buffer, in bytes: what one call gives of a pipe. A read of as many bytes or more goes past
+/// the buffer.
+const INPUT_ROOM: usize = 1 << 16;
 
 /// A program over any reader and two writers.
 pub trait Program {

@@ -2,30 +2,25 @@
 //!
 //! A `Device` (`specs/Devices`) is a reader or a writer before a call and after it: the bytes that it still gives or
 //! has taken, where they are known, and the number of its calls that failed. An input is read to its end piece by
-//! piece, and a `PieceTaker` takes each piece: a vector of all bytes (`read_whole`), pieces that are read again from
-//! the front (`read_pieces`, `PiecesLeft`), or a type of the caller's. `lines` writes a text, and lines of a name and
-//! numbers; `halt` is why a program ends early, with the line and the status. `specs/Runs` says what a program does
-//! that reads its whole input and takes all its memory before the first byte that it writes: to its end, or until a
-//! device fails or memory runs out. `options` are the numbers and flags of a command line. `host` runs a program over
-//! the real reader and writers.
+//! piece, and a `PieceTaker` takes each piece: a vector of all bytes (`read_whole`), or a type of the caller's. `lines`
+//! writes a text, and lines of a name and numbers; `halt` is why a program ends early, with the line and the status.
+//! `specs/Runs` says what a program does that reads its whole input and takes all its memory before the first byte
+//! that it writes: to its end, or until a device fails or memory runs out. `options` are the numbers and flags of a
+//! command line. `host` runs a program over the real reader and writers.
 #![tactic(auto)]
 
 mod halt;
 mod host;
-mod input_pieces;
 mod lines;
 mod options;
 mod piece_taker;
-mod pieces_left;
 mod whole_input;
 
 pub use halt::{Halt, report_halt};
 pub use host::{Program, run_program};
-pub use input_pieces::read_pieces;
 pub use lines::{report_line, write_line, write_text};
 pub use options::{
     flag, is_given, number_given, number_if_given, number_in, number_option, option, text_of,
 };
 pub use piece_taker::{PieceTaker, take_input};
-pub use pieces_left::PiecesLeft;
 pub use whole_input::read_whole;

@@ -1,3 +1,4 @@
+pub mod CountedPids
 pub mod LatePlaces
 pub mod SortedFaults
 pub mod SameOrder

@@ -1,6 +1,7 @@
 //! What is counted for each PID.
-ghost use Rattle.std.specs.Prelude.{◌≡◌, OnOk};
-ghost use Rattle.monitor.specs.Counts.{duplicate_counted, finding_counts_of, scrambled_counted, packet_counted};
+ghost use Rattle.std.specs.Prelude.{◌≡◌, ◌<◌, OnOk, Some, slice_get};
+ghost use Rattle.indexmap.specs.IndexMap.{index_map_len, set_value_at, values};
+ghost use Rattle.monitor.specs.Counts.{duplicate_counted, finding_counts_of, one_more_packet, scrambled_counted, packet_counted};
 
 use indexmap::IndexMap;
 use std::alloc::{AllocError, Allocator};
@@ -34,8 +35,22 @@ pub(crate) type FindingCountsByPid<A> = IndexMap<
     A,
 >;
 
+// Counts a packet of the PID at an index.
+#[tactic(auto, unfolding(crate::specs::Counts::one_more, crate::specs::Counts::one_more_packet))]
+fn count_at<A: Allocator>(packet_counts: &mut PacketCountsByPid<A>, index: usize, start: bool)
+    requires { index < index_map_len packet_counts.old }
+    ensures { (counts : PacketCounts) → slice_get (values packet_counts.old) index ≡ Some counts →
+        packet_counts.new.entries ≡ set_value_at packet_counts.old.entries index (one_more_packet counts start) }
+{
+    let counts = &mut packet_counts[index];
+    counts.packets = counts.packets.saturating_add(1);
+    if start {
+        counts.starts = counts.starts.saturating_add(1);
+    }
+}
+
 /// Counts a packet of a PID. The counts stop at 2^64 - 1.
-#[tactic(auto, unfolding(crate::specs::Counts::packet_counts_or_zero, crate::specs::Counts::one_more, crate::specs::Counts::one_more_packet))]
+#[tactic(auto, unfolding(crate::specs::Counts::packet_counts_or_zero, crate::specs::Counts::one_more, crate::specs::Counts::one_more_packet), using(crate::proofs::CountedPids::counted_there, crate::proofs::CountedPids::counts_there))]
 pub(crate) fn count_packet<A: Allocator + Clone>(
     packet_counts: &mut PacketCountsByPid<A>,
     pid: u16,
@@ -43,21 +58,17 @@ pub(crate) fn count_packet<A: Allocator + Clone>(
 ) -> Result<(), AllocError>
     ensures { OnOk result (packet_counts.new.entries ≡ packet_counted packet_counts.old.entries pid start) }
 {
-    let so_far = match packet_counts.get(&pid) {
-        Some(counts) => *counts,
-        None => PacketCounts {
-            packets: 0,
-            starts: 0,
-        },
-    };
-    let packets = so_far.packets.saturating_add(1);
-    let starts = if start {
-        so_far.starts.saturating_add(1)
-    } else {
-        so_far.starts
-    };
-    packet_counts.insert(pid, PacketCounts { packets, starts })?;
-    Ok(())
+    match packet_counts.get_index_of(&pid) {
+        Some(index) => {
+            count_at(packet_counts, index, start);
+            Ok(())
+        }
+        None => {
+            let starts = if start { 1 } else { 0 };
+            packet_counts.insert(pid, PacketCounts { packets: 1, starts })?;
+            Ok(())
+        }
+    }
 }
 
 // The counts of a PID so far.

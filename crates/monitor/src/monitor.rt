@@ -16,6 +16,7 @@ use clock27::Rate;
 use demux::Demux;
 use std::alloc::{AllocError, Allocator, Global};
 use std::marker::Model;
+use ts_packet::read_packet;
 
 /// A monitor that takes a stream packet by packet: a state for each PID, and the faults so far. No packet is kept.
 ///
@@ -129,12 +130,13 @@ impl<A: Allocator + Copy> Monitor<A> {
     fn take_next(&mut self, bytes: &[u8; 188]) -> Result<(), AllocError>
         ensures { OnOk result (self.new ≡ packet_taken self.old bytes.now) }
     {
+        let read = read_packet(bytes);
         let mut found = Vec::new(self.alloc);
-        let Ok(()) = self.demux.take(bytes, &mut found) else {
+        let Ok(()) = self.demux.take_read(bytes, &read, &mut found) else {
             return Err(AllocError);
         };
         self.found.note_all(found.as_slice())?;
-        self.seen.take(self.packets, bytes)?;
+        self.seen.take(self.packets, &read)?;
         self.packets = self.packets.saturating_add(1);
         Ok(())
     }

@@ -1,7 +1,8 @@
 //! What a stream's packets say one by one: sync, headers, program clock references.
-ghost use Rattle.std.specs.Prelude.{◌≡◌, ◌++◌, ◌∷◌, [], OnOk, None};
-ghost use Rattle.ts_packet.specs.Views.{packet_view};
-ghost use Rattle.monitor.specs.PacketStates.{no_packets, packet_counted_by, packet_watched, refusal_rule};
+ghost use Rattle.std.specs.Prelude.{◌≡◌, ◌++◌, ◌∷◌, [], OnOk, None, Result};
+ghost use Rattle.bit_fields.specs.Reading.{Gives};
+ghost use Rattle.ts_packet.specs.Views.{PacketView, packet_view};
+ghost use Rattle.monitor.specs.PacketStates.{no_packets, packet_counted_by, packet_watched_by, refusal_rule};
 
 use crate::counts::{PacketCountsByPid, count_packet};
 use crate::fault::{Rule, StreamFault};
@@ -9,7 +10,7 @@ use crate::recurrence::RecurrenceWatch;
 use indexmap::IndexMap;
 use std::alloc::{AllocError, Allocator};
 use std::marker::Model;
-use ts_packet::{Packet, PacketError, has_pcr, read_packet};
+use ts_packet::{Packet, PacketError, has_pcr};
 
 /// The faults of packets that are refused or in error, the counts of each PID, and the program clock references.
 #[derive(Drop)]
@@ -86,14 +87,19 @@ impl<A: Allocator + Copy> PacketWatch<A> {
         Ok(())
     }
 
-    /// A packet of the stream.
+    /// A packet of the stream, as it was read.
     #[tactic(auto, unfolding(crate::specs::PacketStates::packet_watched_by))]
-    pub fn take(&mut self, index: u64, bytes: &[u8; 188]) -> Result<(), AllocError>
-        ensures { OnOk result (self.new ≡ packet_watched self.old index bytes.now) }
+    pub fn take(
+        &mut self,
+        index: u64,
+        read: &Result<Packet<'_>, PacketError>,
+    ) -> Result<(), AllocError>
+        ensures { (packet : Result PacketView PacketError) → Gives packet_view read.now packet →
+            OnOk result (self.new ≡ packet_watched_by self.old index packet) }
     {
-        match read_packet(bytes) {
-            Ok(packet) => self.count(index, &packet),
-            Err(error) => self.fail(index, refusal_rule(error)),
+        match read {
+            Ok(packet) => self.count(index, packet),
+            Err(error) => self.fail(index, refusal_rule(*error)),
         }
     }
 }

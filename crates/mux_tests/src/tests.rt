@@ -1,6 +1,7 @@
 //! Worked services and plans, finished bytes, and refused memory. A helper that has no answer to give
 //! answers None.
 
+mod airing;
 mod carrying;
 mod checks;
 mod descriptions;

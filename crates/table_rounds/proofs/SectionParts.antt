@@ -48,3 +48,7 @@ front_filled section n size =
 pub first_bytes : (section front first : List ℕ) (n : ℕ) → n ≡ min (length section) 183 → front ≡ take n section → first ≡ 0 ∷ front
     → take 184 (first ++ replicate 184 0xFF) ≡ take 184 (filled section)
 first_bytes section front first n size is all = rw (all, is) (ap (λ (l : List ℕ). 0 ∷ l) (front_filled section n size))
+
+-- the same of a section that fills the packet
+pub long_first_bytes : (section front : List ℕ) → 183 ≤ length section → front ≡ take 183 section → 0 ∷ front ≡ take 184 (filled section)
+long_first_bytes section front long is = rw is (ap (λ (l : List ℕ). 0 ∷ l) (sym (take-append-le 183 section (replicate 184 0xFF) long)))

@@ -24,8 +24,8 @@ fn write_filled(packet: &mut [u8; 188], pid: u16, start: bool, counter: u8, byte
     write_split_payload_into(packet, pid, start, counter % 16, front, fill);
 }
 
-// Writes the packet of the first part of a section, after pointer_field 0.
-fn write_first_part(packet: &mut [u8; 188], pid: u16, counter: u8, section: &[u8])
+// Writes the packet of the first part of a section that fills no packet: pointer_field 0, the section and bytes 0xFF.
+fn write_short_first_part(packet: &mut [u8; 188], pid: u16, counter: u8, section: &[u8])
     requires pid { pid < 2 ^ 13 }
     ensures { packet.new ≡ packet_of (PayloadContent pid counter true (take 184 (filled section.now))) }
 {
@@ -34,6 +34,20 @@ fn write_first_part(packet: &mut [u8; 188], pid: u16, counter: u8, section: &[u8
     first.push(0);
     append(&mut first, front);
     write_filled(packet, pid, true, counter, &first);
+}
+
+// Writes the packet of the first part of a section, after pointer_field 0. Where it fills the packet, its bytes are copied
+// there at once.
+#[tactic(auto, unfolding(slot_contents::specs::Contents::packet_of))]
+fn write_first_part(packet: &mut [u8; 188], pid: u16, counter: u8, section: &[u8])
+    requires pid { pid < 2 ^ 13 }
+    ensures { packet.new ≡ packet_of (PayloadContent pid counter true (take 184 (filled section.now))) }
+{
+    if section.len() < MAX_PAYLOAD - 1 {
+        return write_short_first_part(packet, pid, counter, section);
+    }
+    let (front, _) = section.split_at(MAX_PAYLOAD - 1);
+    write_split_payload_into(packet, pid, true, counter % 16, &[0], front);
 }
 
 // Writes the packet of a later part, from this byte of the section on.

@@ -1,10 +1,9 @@
 pub mod CommandLines
 pub mod Subcommands
 pub mod Listing
-pub mod JobReaders
 pub mod PlanOutcomes
 pub mod UnitLists
-pub mod LongerJobs
+pub mod JobTaking
 pub mod MuxJobs
 pub mod MuxOutcomes
 pub mod Monitored

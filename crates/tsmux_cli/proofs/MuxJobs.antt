@@ -1,29 +1,17 @@
 -- A job and its records, in the terms of a job with its units.
-use Rattle.std.proofs.Common.{◌≡◌, ◌∙◌, ℕ, ◌==◌, Bool, true, false, List, [], ◌∷◌, ◌++◌, length, Vec, Global, append-nil, ap, arith, eqb-true, sym, Ok, Err}
-use Rattle.std.specs.Prelude.{◌||◌}
+use Rattle.std.proofs.Common.{◌≡◌, ℕ, Bool, List, [], ap, Ok, Err}
 use Rattle.pes_packet.specs.AccessUnits.{AccessUnit}
 use Rattle.unit_records.specs.declared.reading.UnitFileError.{UnitFileError}
-use Rattle.devices.specs.InputPieces.{bytes_of}
-use Rattle.tsmux_cli.specs.JobFaults.{is_final, plans_view}
-use Rattle.tsmux_cli.specs.Jobs.{JobFaultView, job_of}
+use Rattle.checked_jobs.specs.JobFaults.{plans_view}
+use Rattle.checked_jobs.specs.Jobs.{JobFaultView, job_of}
 use Rattle.tsmux_cli.specs.MuxJobs.{InJob, InRecord, mux_job_of, served, with_records, with_units}
 use Rattle.tsmux_cli.specs.UnitList.{Units, units_in}
-use Rattle.tsmux_cli.specs.declared.jobs.JobPlans.{JobPlans}
-use Rattle.tsmux_cli.specs.declared.jobs.JobPlans.TheVariants.{One, Two}
-use Rattle.tsmux_cli.proofs.LongerJobs.{fault_stays}
+use Rattle.checked_jobs.specs.declared.jobs.JobPlans.{JobPlans}
+use Rattle.checked_jobs.specs.declared.jobs.JobPlans.TheVariants.{One, Two}
 
 pub job_unread : (switch : Bool) (bytes : List ℕ) (fault : JobFaultView) → Err fault ≡ job_of switch bytes → Err (InJob fault) ≡ mux_job_of switch bytes
 unfolding with_records
 job_unread switch bytes fault e = ap with_records e
-
--- a fault in the first piece that the bytes of the other pieces can't change
-pub fault_ends : (switch : Bool) (front : List ℕ) (pieces : List (Vec ℕ Global)) (count : ℕ) (fault : JobFaultView) (final : Bool) → count ≡ length pieces → is_final fault ≡ final →
-    (final || count == 0) ≡ true → Err fault ≡ job_of switch front → Err (InJob fault) ≡ mux_job_of switch (front ++ bytes_of pieces)
-fault_ends switch front pieces count fault true c f s e = job_unread switch (front ++ bytes_of pieces) fault (fault_stays switch front (bytes_of pieces) fault f e)
-fault_ends switch front [] count fault false c f s e = job_unread switch (front ++ []) fault (e ∙ ap (job_of switch) (sym (append-nil front)))
-fault_ends switch front (piece ∷ pieces) count fault false c f s e =
-    let none : count ≡ 0 = eqb-true count 0 s in
-    absurd (omega (arith, none, c))
 
 pub units_read : (plans : JobPlans) (rest : List ℕ) (units : List (ℕ × AccessUnit)) → Ok units ≡ units_in rest →
     Ok (served (plans_view plans []) units) ≡ with_records (Ok (plans_view plans rest))

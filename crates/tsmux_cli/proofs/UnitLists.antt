@@ -1,18 +1,19 @@
--- The records of a job, one by one.
-use Rattle.std.proofs.Common.{◌≡◌, ◌+◌, ◌-◌, ◌<◌, ◌≤◌, ℕ, suc, List, [], ◌∷◌, ◌++◌, length, Option, Some, None, Ok, Err, refl, sym, ap, ◌∙◌, subst, arith, append_assoc, append-nil, inl, inr}
+-- The records of a job, one by one, and as their bytes come.
+use Rattle.std.proofs.Common.{◌≡◌, ◌+◌, ◌-◌, ℕ, suc, List, [], ◌∷◌, ◌++◌, length, drop, Option, Some, None, Result, Ok, Err, refl, sym, ap, ◌∙◌, subst, arith, append_assoc, append-nil, Bool, true, false, not}
+use Rattle.std.specs.Prelude.{is_some}
 use Rattle.std.proofs.lemmas.List.{length-append, length-drop}
 use Rattle.pes_packet.specs.AccessUnits.{AccessUnit}
-use Rattle.counted_io.specs.Device.{Failed}
-use Rattle.unit_records.specs.Records.{NamesReader, ReadsRecord, after_record, record_at, size_at}
+use Rattle.unit_records.specs.OpenRecords.{IsOpen, TakesBytes, come_of}
+use Rattle.unit_records.specs.Records.{after_record, record_at, size_at}
 use Rattle.unit_records.proofs.RecordReading.{record_long}
 use Rattle.unit_records.specs.declared.reading.UnitFileError.{UnitFileError}
 use Rattle.unit_records.specs.declared.reading.UnitFileError.TheVariants.{Cut, Size, Device, Memory}
-use Rattle.tsmux_cli.specs.UnitList.{IsList, Units, list_error, units_from, units_in, units_step, with_first}
+use Rattle.unit_records.specs.declared.taking.OpenRecord.{OpenRecord}
+use Rattle.devices.specs.declared.halt.Halt.{Halt}
+use Rattle.tsmux_cli.specs.UnitList.{NamesFault, ReadSoFar, StandsOn, TakesRecords, Units, joined, units_from, units_in, units_step, with_first}
+use Rattle.tsmux_cli.specs.declared.unit_list.RecordFault.{RecordFault}
 
--- units before others
-unfoldable pub joined : List (ℕ × AccessUnit) → Units → Units
-joined done (Ok entries) = Ok (done ++ entries)
-joined done (Err fault) = Err fault
+-- 1. One by one
 
 joined_none : (after : Units) → joined [] after ≡ after
 unfolding joined
@@ -23,12 +24,6 @@ joined_more : (done : List (ℕ × AccessUnit)) (entry : ℕ × AccessUnit) (aft
 unfolding joined with_first
 joined_more done entry (Ok entries) = ap Ok (sym (append_assoc done (entry ∷ []) entries))
 joined_more done entry (Err fault) = refl
-
--- so many units are read, and these bytes are left
-pub record ReadSoFar (xs : List ℕ) (done : List (ℕ × AccessUnit)) (left : List ℕ) : Type 0 where
-  pub spare : ℕ
-  pub enough : length left ≤ spare
-  pub is : units_in xs ≡ joined done (units_from (suc spare) (length done) left)
 
 pub read_none : (xs : List ℕ) → ReadSoFar xs [] xs
 unfolding joined
@@ -58,9 +53,6 @@ read_more xs done left entry r e =
           ∙ ap (λ (n : ℕ). joined (done ++ entry ∷ []) (units_from n (length (done ++ entry ∷ [])) (after_record left))) spare;
     }
 
-rest_is : (after rest : List ℕ) → ◌≡◌ {A = Option (List ℕ)} (Some after) (Some rest) → after ≡ rest
-rest_is after rest e = cc
-
 pub read_all : (xs : List ℕ) (done : List (ℕ × AccessUnit)) (left : List ℕ) → ReadSoFar xs done left → record_at left ≡ Ok None → Ok done ≡ units_in xs
 unfolding units_from units_step joined
 read_all xs done left r e =
@@ -73,26 +65,78 @@ read_stopped xs done left fault r e =
     let rest = units_from r.spare (length done + 1) (after_record left) in
     sym (r.is ∙ ap (λ o. joined done (units_step (length done) o rest)) e)
 
-none_failed : Failed 0 0 → ⊥
-none_failed (inl less) = omega (arith, less)
-none_failed (inr last) = let e = last.1 in absurd (omega (arith, e))
+-- 2. Records whose bytes come one after another
 
-pub next_read : (xs : List ℕ) (done : List (ℕ × AccessUnit)) (left after : List ℕ) (entry : ℕ × AccessUnit) → ReadSoFar xs done left →
-    ReadsRecord left (Some after) (Ok (Some entry)) → ReadSoFar xs (done ++ entry ∷ []) after
-next_read xs done left after entry r k = subst (ReadSoFar xs (done ++ entry ∷ [])) (sym (rest_is after (after_record left) k.1)) (read_more xs done left entry r k.0)
+-- no byte has come
+pub none_come : (units : List (ℕ × AccessUnit)) (begun : OpenRecord) (fault : Option RecordFault) → units ≡ [] → IsOpen begun → come_of begun ≡ [] → fault ≡ None →
+    TakesRecords [] units begun fault
+none_come units begun fault u o e f = λ more.
+    rw (u, f) (o, subst (ReadSoFar more []) (ap (λ (xs : List ℕ). xs ++ more) (sym e)) (read_none more))
 
--- fewer bytes are left after a record
-pub next_left : (left after : List ℕ) (entry : ℕ × AccessUnit) → ReadsRecord left (Some after) (Ok (Some entry)) → length after < length left
-next_left left after entry k =
-    let long = record_long left entry k.0 in
-    let shorter = length-drop (21 + size_at left) left in
-    let same = ap (λ (x : List ℕ). length x) (rest_is after (after_record left) k.1) in
-    omega (arith, long, shorter, same)
+-- no record was faulty, or one was
+pub no_fault : (fault : Option RecordFault) (none : Bool) → is_some fault ≡ not none → none ≡ true → fault ≡ None
+no_fault None none e t = refl
+no_fault (Some f) true e t = absurd cc
+no_fault (Some f) false e t = absurd cc
 
--- of bytes in memory no call fails
-pub none_read : (xs : List ℕ) (done : List (ℕ × AccessUnit)) (left : List ℕ) (now : Option (List ℕ)) (fault : UnitFileError) → ReadSoFar xs done left →
-    ReadsRecord left now (Err fault) → NamesReader {V = Option (ℕ × AccessUnit)} (Err fault) 0 0 → IsList (units_in xs) (Err (list_error (length done) fault))
-none_read xs done left now Cut r e f = read_stopped xs done left Cut r e.0
-none_read xs done left now Size r e f = read_stopped xs done left Size r e.0
-none_read xs done left now Device r e f = absurd (none_failed f)
-none_read xs done left now Memory r e f = tt
+pub fault_stays : (xs left after : List ℕ) (units : List (ℕ × AccessUnit)) (begun : OpenRecord) (fault : Option RecordFault) (none : Bool) → is_some fault ≡ not none → none ≡ false →
+    StandsOn xs left units begun fault → StandsOn xs after units begun fault
+fault_stays xs left after units begun None true e t s = absurd cc
+fault_stays xs left after units begun None false e t s = absurd cc
+fault_stays xs left after units begun (Some f) none e t s = s
+
+-- a record ends among these bytes
+pub record_ends : (xs bytes more : List ℕ) (units : List (ℕ × AccessUnit)) (old new : OpenRecord) (n : ℕ) (entry : ℕ × AccessUnit) (fault : Option RecordFault) → fault ≡ None →
+    StandsOn xs (bytes ++ more) units old fault → (IsOpen old → TakesBytes (come_of old) bytes new (Ok (Some (n, entry)))) → StandsOn xs (drop n bytes ++ more) (units ++ entry ∷ []) new fault
+record_ends xs bytes more units old new n entry (Some f) e s k = absurd cc
+record_ends xs bytes more units old new n entry None e s k =
+    let t = k s.0 in
+    let rest : after_record (come_of old ++ (bytes ++ more)) ≡ come_of new ++ (drop n bytes ++ more) = t.1.1.rest_is more ∙ ap (λ (ys : List ℕ). ys ++ (drop n bytes ++ more)) (sym t.1.0) in
+    (t.0, subst (ReadSoFar xs (units ++ entry ∷ [])) rest (read_more xs units (come_of old ++ (bytes ++ more)) entry s.1 (t.1.1.record_is more)))
+
+-- all of them belong to the open record
+pub record_goes_on : (xs bytes more : List ℕ) (units : List (ℕ × AccessUnit)) (old new : OpenRecord) (fault : Option RecordFault) → fault ≡ None →
+    StandsOn xs (bytes ++ more) units old fault → (IsOpen old → TakesBytes (come_of old) bytes new (Ok None)) → StandsOn xs more units new fault
+record_goes_on xs bytes more units old new (Some f) e s k = absurd cc
+record_goes_on xs bytes more units old new None e s k =
+    let t = k s.0 in
+    let left : come_of old ++ (bytes ++ more) ≡ come_of new ++ more = sym (append_assoc (come_of old) bytes more) ∙ ap (λ (ys : List ℕ). ys ++ more) (sym t.1) in
+    (t.0, subst (ReadSoFar xs units) left s.1)
+
+named : (fault : RecordFault) (index : ℕ) (refusal : UnitFileError) {xs : Units} → ◌≡◌ {A = Result RecordFault Halt} (Ok fault) (Ok (record { index = index; fault = refusal })) →
+    Err (index, refusal) ≡ xs → Err (fault.index, fault.fault) ≡ xs
+named fault index refusal n e = (let same : fault ≡ record { index = index; fault = refusal } = cc in ap (λ (f : RecordFault). Err (f.index, f.fault)) same ∙ e)
+
+-- the open record is refused
+pub record_is_none : (xs bytes more : List ℕ) (units : List (ℕ × AccessUnit)) (old new : OpenRecord) (refusal : UnitFileError) (before : Option RecordFault) (fault : RecordFault) → before ≡ None →
+    StandsOn xs (bytes ++ more) units old before → (IsOpen old → TakesBytes (come_of old) bytes new (Err refusal)) → NamesFault (length units) refusal (Ok fault) → Err (fault.index, fault.fault) ≡ units_in xs
+record_is_none xs bytes more units old new refusal (Some f) fault b s k n = absurd cc
+record_is_none xs bytes more units old new Cut None fault b s k n = named fault (length units) Cut n (read_stopped xs units (come_of old ++ (bytes ++ more)) Cut s.1 (k s.0 more))
+record_is_none xs bytes more units old new Size None fault b s k n = named fault (length units) Size n (read_stopped xs units (come_of old ++ (bytes ++ more)) Size s.1 (k s.0 more))
+record_is_none xs bytes more units old new Device None fault b s k n = named fault (length units) Device n (read_stopped xs units (come_of old ++ (bytes ++ more)) Device s.1 (k s.0 more))
+record_is_none xs bytes more units old new Memory None fault b s k n = absurd cc
+
+-- what came after the ones before, before more
+pub come_together : (before bytes more : List ℕ) → before ++ (bytes ++ more) ≡ (before ++ bytes) ++ more
+come_together before bytes more = sym (append_assoc before bytes more)
+
+-- 3. The end
+
+none_left : record_at [] ≡ Ok None
+unfolding record_at
+none_left = refl
+
+pub all_came : (bytes : List ℕ) (units : List (ℕ × AccessUnit)) (begun : OpenRecord) → TakesRecords bytes units begun None → (IsOpen begun → come_of begun ≡ []) → Ok units ≡ units_in bytes
+all_came bytes units begun t e =
+    let s = t [] in
+    let none : come_of begun ++ [] ≡ [] = append-nil (come_of begun) ∙ e s.0 in
+    read_all (bytes ++ []) units [] (subst (ReadSoFar (bytes ++ []) units) none s.1) none_left ∙ ap units_in (append-nil bytes)
+
+pub cut_came : (bytes : List ℕ) (units : List (ℕ × AccessUnit)) (begun : OpenRecord) → TakesRecords bytes units begun None → (IsOpen begun → record_at (come_of begun) ≡ Err Cut) →
+    Err (length units, Cut) ≡ units_in bytes
+cut_came bytes units begun t e =
+    let s = t [] in
+    read_stopped (bytes ++ []) units (come_of begun ++ []) Cut s.1 (ap record_at (append-nil (come_of begun)) ∙ e s.0) ∙ ap units_in (append-nil bytes)
+
+pub fault_came : (bytes : List ℕ) (units : List (ℕ × AccessUnit)) (begun : OpenRecord) (fault : RecordFault) → TakesRecords bytes units begun (Some fault) → Err (fault.index, fault.fault) ≡ units_in bytes
+fault_came bytes units begun fault t = t [] ∙ ap units_in (append-nil bytes)

@@ -1,12 +1,10 @@
 pub mod CommandLine
 pub mod Request
-pub mod FaultLines
 pub mod Carrying
 pub mod FindingLines
 pub mod Demultiplexing
-pub mod Jobs
-pub mod JobFaults
 pub mod Checking
+pub mod JobTaking
 pub mod UnitList
 pub mod MuxJobs
 pub mod Multiplexing

@@ -1,22 +1,21 @@
 -- A job with its units: the input of `mux`.
-use Rattle.std.specs.Prelude.{◌≡◌, ◌+◌, ◌*◌, ◌/◌, ◌^◌, ◌≤◌, ℕ, min, max, Bool, List, [], length, drop, Option, Result, Ok, Err, ⊤}
+use Rattle.std.specs.Prelude.{◌≡◌, ◌+◌, ◌*◌, ◌/◌, ◌^◌, ℕ, min, max, Bool, List, [], Option, Result, Ok, Err}
 use Rattle.std.specs.List.{fold}
 use Rattle.pes_packet.specs.AccessUnits.{AccessUnit}
 use Rattle.description.specs.Described.{Described}
 use Rattle.slot_plan.specs.Planned.{Planned}
 use Rattle.unit_records.specs.declared.reading.UnitFileError.{UnitFileError}
-use Rattle.tsmux_cli.specs.FaultLines.{record_outcome}
-use Rattle.tsmux_cli.specs.JobFaults.{fault_line, fault_view, plans_view}
-use Rattle.tsmux_cli.specs.Jobs.{JobFaultView, JobView, job_of}
+use Rattle.devices.specs.Devices.{Device}
+use Rattle.devices.specs.WholeInput.{IsReadAs, ReadsInput}
+use Rattle.checked_jobs.specs.FaultLines.{record_outcome}
+use Rattle.checked_jobs.specs.JobFaults.{fault_line, fault_view, plans_view}
+use Rattle.checked_jobs.specs.Jobs.{JobFaultView, JobView, job_of}
 use Rattle.tsmux_cli.specs.UnitList.{Units, units_in}
-use Rattle.tsmux_cli.specs.declared.job_fault.JobReadError.{JobReadError}
-use Rattle.tsmux_cli.specs.declared.job_fault.JobReadError.TheVariants as job_refused
-use Rattle.tsmux_cli.specs.declared.jobs.JobPlans.{JobPlans}
 use Rattle.tsmux_cli.specs.declared.mux_jobs.MuxFault.{MuxFault}
 use Rattle.tsmux_cli.specs.declared.mux_jobs.MuxFault.TheVariants.{Job, Record}
 use Rattle.tsmux_cli.specs.declared.mux_jobs.MuxJob.{MuxJob}
 use Rattle.tsmux_cli.specs.declared.mux_jobs.MuxJobError.{MuxJobError}
-use Rattle.tsmux_cli.specs.declared.mux_jobs.MuxJobError.TheVariants.{Fault, Memory}
+use Rattle.tsmux_cli.specs.declared.mux_jobs.MuxJobError.TheVariants.{Fault, Stopped}
 
 -- 1. What the bytes are
 
@@ -67,17 +66,16 @@ mux_fault_view (Record index fault) = InRecord index fault
 abbrev pub mux_job_view : MuxJob → MuxJobView
 mux_job_view j = served (plans_view j.plans []) j.units.items
 
--- a job with its units or its fault is returned, or out of memory
-abbrev pub IsMuxJob : Result MuxJobView MuxFaultView → Result MuxJob MuxJobError → Type 0
+-- a job with its units is returned, or its fault
+abbrev pub IsMuxJob : Result MuxJobView MuxFaultView → Result MuxJob MuxFault → Type 0
 IsMuxJob wanted (Ok j) = Ok (mux_job_view j) ≡ wanted
-IsMuxJob wanted (Err (Fault f)) = Err (mux_fault_view f) ≡ wanted
-IsMuxJob wanted (Err Memory) = ⊤
+IsMuxJob wanted (Err f) = Err (mux_fault_view f) ≡ wanted
 
--- plans at the front of bytes and the offset after them, or their fault is returned, or out of memory
-abbrev pub IsJobAtFront : Result JobView JobFaultView → List ℕ → Result (JobPlans × ℕ) JobReadError → Type 0
-IsJobAtFront wanted bytes (Ok r) = (r.1 ≤ length bytes) × (Ok (plans_view r.0 (drop r.1 bytes)) ≡ wanted)
-IsJobAtFront wanted bytes (Err (job_refused.Fault f)) = Err (fault_view f) ≡ wanted
-IsJobAtFront wanted bytes (Err job_refused.Memory) = ⊤
+-- the job in the input with its units, or its fault; or why the input was not read to its end
+abbrev pub ReadsMuxJob : Bool → Device → Result MuxJob MuxJobError → Type 0
+ReadsMuxJob switch input (Ok j) = IsReadAs input (λ bytes. IsMuxJob (mux_job_of switch bytes) (Ok j))
+ReadsMuxJob switch input (Err (Fault f)) = IsReadAs input (λ bytes. IsMuxJob (mux_job_of switch bytes) (Err f))
+ReadsMuxJob switch input (Err (Stopped halt)) = ReadsInput input (Err halt)
 
 -- 4. The line of a fault
 

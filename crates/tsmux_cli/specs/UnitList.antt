@@ -1,11 +1,14 @@
 -- The unit records after a job's plans.
-use Rattle.std.specs.Prelude.{◌≡◌, ◌+◌, ℕ, zero, suc, List, [], ◌∷◌, length, Option, Some, None, Result, Ok, Err, ⊤}
+use Rattle.std.specs.Prelude.{◌≡◌, ◌+◌, ◌≤◌, ℕ, zero, suc, List, [], ◌∷◌, ◌++◌, length, Option, Some, None, Result, Ok, Err}
 use Rattle.pes_packet.specs.AccessUnits.{AccessUnit}
+use Rattle.unit_records.specs.OpenRecords.{IsOpen, come_of}
 use Rattle.unit_records.specs.Records.{after_record, record_at}
+use Rattle.unit_records.specs.declared.taking.OpenRecord.{OpenRecord}
 use Rattle.unit_records.specs.declared.reading.UnitFileError.{UnitFileError}
-use Rattle.tsmux_cli.specs.declared.unit_list.ListError.{ListError}
-use Rattle.unit_records.specs.declared.reading.UnitFileError.TheVariants as unread
-use Rattle.tsmux_cli.specs.declared.unit_list.ListError.TheVariants.{Record, Memory}
+use Rattle.unit_records.specs.declared.reading.UnitFileError.TheVariants.{Memory as NoMemory}
+use Rattle.devices.specs.declared.halt.Halt.{Halt}
+use Rattle.devices.specs.declared.halt.Halt.TheVariants.{Memory}
+use Rattle.tsmux_cli.specs.declared.unit_list.RecordFault.{RecordFault}
 
 -- the units with the numbers of their streams; or the index of a faulty record, and its fault
 abbrev pub Units : Type 0
@@ -30,15 +33,32 @@ units_from (suc n) index xs = units_step index (record_at xs) (units_from n (ind
 abbrev pub units_in : List ℕ → Units
 units_in xs = units_from (1 + length xs) 0 xs
 
--- the units or the faulty record are returned, or out of memory
-abbrev pub IsList : Units → Result (List (ℕ × AccessUnit)) ListError → Type 0
-IsList wanted (Ok entries) = Ok entries ≡ wanted
-IsList wanted (Err (Record index fault)) = Err (index, fault) ≡ wanted
-IsList wanted (Err Memory) = ⊤
+-- units before others
+unfoldable pub joined : List (ℕ × AccessUnit) → Units → Units
+joined done (Ok entries) = Ok (done ++ entries)
+joined done (Err fault) = Err fault
 
--- the error for a fault in the record of this index
-abbrev pub list_error : ℕ → UnitFileError → ListError
-list_error index unread.Memory = Memory
-list_error index unread.Cut = Record index unread.Cut
-list_error index unread.Size = Record index unread.Size
-list_error index unread.Device = Record index unread.Device
+-- so many units of these bytes are read, and these bytes are left: as many records more at most as are spare
+pub record ReadSoFar (xs : List ℕ) (done : List (ℕ × AccessUnit)) (left : List ℕ) : Type 0 where
+  pub spare : ℕ
+  pub enough : length left ≤ spare
+  pub is : units_in xs ≡ joined done (units_from (suc spare) (length done) left)
+
+-- all but the last ones of these bytes have come: whole units and an open record, or the first record that is none
+abbrev pub StandsOn : List ℕ → List ℕ → List (ℕ × AccessUnit) → OpenRecord → Option RecordFault → Type 0
+StandsOn xs left units begun None = IsOpen begun × ReadSoFar xs units (come_of begun ++ left)
+StandsOn xs left units begun (Some f) = Err (f.index, f.fault) ≡ units_in xs
+
+-- these bytes have come, whatever comes after them
+abbrev pub TakesRecords : List ℕ → List (ℕ × AccessUnit) → OpenRecord → Option RecordFault → Type 0
+TakesRecords bytes units begun fault = (more : List ℕ) → StandsOn (bytes ++ more) more units begun fault
+
+-- the units are returned, or the faulty record
+abbrev pub IsList : Units → Result (List (ℕ × AccessUnit)) RecordFault → Type 0
+IsList wanted (Ok entries) = Ok entries ≡ wanted
+IsList wanted (Err f) = Err (f.index, f.fault) ≡ wanted
+
+-- the fault of the record of this index; out of memory is none
+abbrev pub NamesFault : ℕ → UnitFileError → Result RecordFault Halt → Type 0
+NamesFault index NoMemory r = r ≡ Err Memory
+NamesFault index refusal r = r ≡ Ok (record { index = index; fault = refusal })

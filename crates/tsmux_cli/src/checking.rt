@@ -1,26 +1,37 @@
 //! `check`: the first fault in a job.
 ghost use Rattle.std.specs.Prelude.{◌≡◌, IfOk, option_map};
-ghost use Rattle.tsmux_cli.specs.Checking.{Checks, fault_in, verdict_of};
+ghost use Rattle.tsmux_cli.specs.Checking.{Checks, FindsFault, verdict_of};
 ghost use Rattle.devices.specs.Devices.{reads, writes};
-ghost use Rattle.tsmux_cli.specs.JobFaults.{fault_view};
-ghost use Rattle.tsmux_cli.specs.Jobs.{job_of};
+ghost use Rattle.checked_jobs.specs.JobFaults.{fault_view};
 ghost use Rattle.devices.specs.Lines.{Reports, WritesLine};
 ghost use Rattle.devices.specs.Runs.{Performs};
 
-use crate::job_fault::{JobFault, JobReadError, is_refusal, report_fault, write_fault};
-use crate::jobs::read_job;
+use crate::job_taker::{JobTaker, PIECE};
+use crate::rest_taker::Dropped;
+use checked_jobs::{JobFault, JobReadError, is_refusal, report_fault, write_fault};
 use counted_io::{Sink, Source};
-use devices::{Halt, read_whole, report_halt, write_line};
-use std::alloc::{AllocError, Global};
+use devices::{Halt, report_halt, take_input, write_line};
+use std::alloc::Global;
 
-/// The first fault in the job that these bytes are, if there is one.
-fn find_fault(alloc: Global, switch: bool, bytes: &[u8]) -> Result<Option<JobFault>, AllocError>
-    ensures { IfOk result (λ fault. option_map fault_view fault ≡ fault_in (job_of switch bytes.now)) }
+/// The first fault in the job in the input, if there is one. It is read to its end, and nothing is kept of what comes
+/// after the plans.
+fn find_fault<R: Source>(
+    alloc: Global,
+    switch: bool,
+    input: &mut R,
+) -> Result<Option<JobFault>, Halt>
+    ensures { FindsFault switch (reads R.Source input.old input.new) result }
 {
-    match read_job(alloc, switch, bytes) {
-        Ok(_) => Ok(None),
+    let mut taker = JobTaker::new(alloc, switch, Dropped {});
+    take_input(alloc, input, PIECE, &mut taker)?;
+    match taker.finish() {
+        Ok((plans, _)) => {
+            // By a call: at the end of a function the drop of each part would be a step of its proof.
+            drop(plans);
+            Ok(None)
+        }
         Err(JobReadError::Fault(fault)) => Ok(Some(fault)),
-        Err(JobReadError::Memory) => Err(AllocError),
+        Err(JobReadError::Memory) => Err(Halt::Memory),
     }
 }
 
@@ -65,12 +76,9 @@ pub fn check_job<R: Source, W: Sink, E: Sink>(
     ensures { Performs (Checks switch) (reads R.Source input.old input.new)
         (writes W.Sink output.old output.new) (writes E.Sink faults.old faults.new) result }
 {
-    let bytes = match read_whole(alloc, input) {
-        Ok(bytes) => bytes,
+    let fault = match find_fault(alloc, switch, input) {
+        Ok(fault) => fault,
         Err(halt) => return report_halt(faults, halt),
-    };
-    let Ok(fault) = find_fault(alloc, switch, &bytes) else {
-        return report_halt(faults, Halt::Memory);
     };
     match write_verdict(fault, output) {
         Ok(status) => {

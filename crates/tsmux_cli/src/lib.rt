@@ -1,10 +1,9 @@
 //! The subcommands of `tsmux`, over any reader and two writers (`run`).
 //!
 //! `command_line` and `request` read the command line. Each subcommand has a module: `carrying`; `demultiplexing`, with
-//! the lines of `finding_lines`; `planning`; `checking`, for a job (`jobs`, `job_parts`) and the first fault in it
-//! (`job_fault`); `multiplexing`, for a job with its units (`mux_jobs`, `unit_list`) and, without `--slots`, the number
-//! of slots in `default_slots`; `monitoring`. `fault_lines` has the lines for faults in records and units. `program` is
-//! `run`.
+//! the lines of `finding_lines`; `planning`; `checking`; `multiplexing`, for a job with its units (`mux_jobs`) and, without `--slots`, the number of slots in
+//! `default_slots`; `monitoring`. A job is taken as its bytes come (`job_taker`), and so is what stands after its plans
+//! (`rest_taker`, `unit_list`). `program` is `run`.
 #![tactic(auto)]
 
 mod carrying;
@@ -12,17 +11,15 @@ mod checking;
 mod command_line;
 mod default_slots;
 mod demultiplexing;
-mod fault_lines;
 mod finding_lines;
-mod job_fault;
-mod job_parts;
-mod jobs;
+mod job_taker;
 mod monitoring;
 mod multiplexing;
 mod mux_jobs;
 mod planning;
 mod program;
 mod request;
+mod rest_taker;
 mod unit_list;
 
 pub use program::{report_usage, run};

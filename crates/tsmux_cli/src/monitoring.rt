@@ -12,8 +12,8 @@ use devices::{Halt, PieceTaker, report_halt, take_input, write_text};
 use monitor::{Monitor, Report};
 use std::alloc::Global;
 
-/// The size of a piece in bytes: 348 packets, somewhat less than 64 KiB.
-const PIECE: usize = 348 * 188;
+/// The size of a piece in bytes: 1,395 packets, somewhat more than 256 KiB.
+const PIECE: usize = 1_395 * 188;
 
 /// Takes the packets of the next piece of a stream.
 fn take_packets(piece: &[u8], monitor: &mut Monitor) -> Result<(), Halt>

@@ -2,19 +2,18 @@
 ghost use Rattle.std.specs.Prelude.{◌≡◌, ◌≤◌, [], unwrap_or};
 ghost use Rattle.mux_core.specs.WholeJobs.{NamesWriter, OnWriting, Refuses, Writes};
 ghost use Rattle.devices.specs.Devices.{reads, writes};
-ghost use Rattle.tsmux_cli.specs.JobFaults.{plans_view};
+ghost use Rattle.checked_jobs.specs.JobFaults.{plans_view};
 ghost use Rattle.devices.specs.Lines.{Reports};
 ghost use Rattle.tsmux_cli.specs.Multiplexing as spec;
 ghost use Rattle.tsmux_cli.specs.MuxJobs.{mux_job_view};
 ghost use Rattle.devices.specs.Runs.{Performs};
 
 use crate::default_slots::default_slots;
-use crate::fault_lines::{report_refusal, report_unit};
-use crate::jobs::JobPlans;
 use crate::mux_jobs::{MuxJob, MuxJobError, read_mux_job, report_mux_fault};
 use crate::request::MuxOptions;
+use checked_jobs::{JobPlans, report_refusal, report_unit};
 use counted_io::{Sink, Source};
-use devices::{Halt, read_pieces, report_halt};
+use devices::{Halt, report_halt};
 use mux_core::{MuxError, multiplex_as, multiplex_switch_as};
 use std::alloc::Global;
 
@@ -50,7 +49,7 @@ fn write_packets<W: Sink>(
         (spec.cause_of options (mux_job_view job)) result }
     ensures written { Writes (spec.packets_of options (mux_job_view job))
         (W.contents output.old) (W.contents output.new) result }
-    ensures headline { OnWriting result (spec.IsKept options (mux_job_view job)) }
+    ensures kept { OnWriting result (spec.IsKept options (mux_job_view job)) }
     ensures fault { NamesWriter result (W.fault_count output.old) (W.fault_count output.new) }
 {
     let slots = slots_of(options, &job);
@@ -90,14 +89,10 @@ pub fn multiplex_job<R: Source, W: Sink, E: Sink>(
     ensures { Performs (spec.Muxes options) (reads R.Source input.old input.new)
         (writes W.Sink output.old output.new) (writes E.Sink faults.old faults.new) result }
 {
-    let pieces = match read_pieces(alloc, input) {
-        Ok(pieces) => pieces,
-        Err(halt) => return report_halt(faults, halt),
-    };
-    let job = match read_mux_job(alloc, options.periods.is_some(), pieces) {
+    let job = match read_mux_job(alloc, options.periods.is_some(), input) {
         Ok(job) => job,
         Err(MuxJobError::Fault(fault)) => return report_mux_fault(faults, fault),
-        Err(MuxJobError::Memory) => return report_halt(faults, Halt::Memory),
+        Err(MuxJobError::Stopped(halt)) => return report_halt(faults, halt),
     };
     match write_packets(alloc, options, job, output) {
         Ok(_) => 0,

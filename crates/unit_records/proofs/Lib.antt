@@ -1,2 +1,3 @@
 pub mod RecordReading
 pub mod RecordBytes
+pub mod RecordTaking

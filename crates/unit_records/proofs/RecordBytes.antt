@@ -59,7 +59,7 @@ read_back stream unit rest fits =
       p.2,
     )
 
-record_of : (xs : List ℕ) (stream : ℕ) (unit : AccessUnit) (rest : List ℕ) → slice_index xs 0 ≡ stream → size_at xs ≡ length unit.bytes → unit_at xs ≡ unit
+pub record_of : (xs : List ℕ) (stream : ℕ) (unit : AccessUnit) (rest : List ℕ) → slice_index xs 0 ≡ stream → size_at xs ≡ length unit.bytes → unit_at xs ≡ unit
     → drop 21 xs ≡ unit.bytes ++ rest → 21 ≤ length xs → length unit.bytes ≤ max_unit_size
     → (record_at xs ≡ Ok (Some (stream, unit))) × (after_record xs ≡ rest)
 record_of xs stream unit rest first size is after long most =

@@ -14,16 +14,16 @@ record_none : (xs : List ℕ) → xs ≡ [] → record_at xs ≡ Ok None
 unfolding record_at
 record_none xs e = rw e refl
 
-record_short : (xs : List ℕ) → 0 < length xs → length xs < 5 → record_at xs ≡ Err Cut
+pub record_short : (xs : List ℕ) → 0 < length xs → length xs < 5 → record_at xs ≡ Err Cut
 unfolding record_at
 record_short xs some short = rw (ne_eqb (length xs) 0 (λ e. omega arith), lt-ltb (length xs) 5 short) refl
 
-record_size : (xs : List ℕ) → 5 ≤ length xs → max_unit_size < size_at xs → record_at xs ≡ Err Size
+pub record_size : (xs : List ℕ) → 5 ≤ length xs → max_unit_size < size_at xs → record_at xs ≡ Err Size
 unfolding record_at
 record_size xs some big =
     rw (ne_eqb (length xs) 0 (λ e. omega arith), le-ltb (length xs) 5 some, lt-ltb max_unit_size (size_at xs) big) refl
 
-record_cut : (xs : List ℕ) → 5 ≤ length xs → size_at xs ≤ max_unit_size → length xs < 21 + size_at xs → record_at xs ≡ Err Cut
+pub record_cut : (xs : List ℕ) → 5 ≤ length xs → size_at xs ≤ max_unit_size → length xs < 21 + size_at xs → record_at xs ≡ Err Cut
 unfolding record_at
 record_cut xs some size cut =
     rw (ne_eqb (length xs) 0 (λ e. omega arith), le-ltb (length xs) 5 some, le-ltb max_unit_size (size_at xs) size, lt-ltb (length xs) (21 + size_at xs) cut) refl

@@ -44,7 +44,7 @@ impl UnitFileError {
 }
 
 // The maximum size of a unit in a record, in bytes.
-const MAX_UNIT_SIZE: usize = 4_000_000;
+pub(crate) const MAX_UNIT_SIZE: usize = 4_000_000;
 
 /// Reads the record at the front of the input: the number of its stream and its unit, or `None` where no byte is left.
 /// A record is stream (1 byte), size (4), DTS (8) and PTS (8), the highest byte first, then the unit's bytes. After a

@@ -1,12 +1,12 @@
-use Rattle.std.proofs.Common.{rules, ◌≡◌, ◌∷◌, true, min, length, List, ℕ, ap, ◌∙◌}
-use Rattle.slot_contents.specs.Contents.{PayloadContent, packet_of}
-use Rattle.table_rounds.proofs.SectionParts.{first_bytes}
+use Rattle.std.proofs.Common.{◌%◌, true, List, ℕ, ap, ◌∙◌, arith}
+use Rattle.ts_packet.specs.Packets.{payload_packet}
+use Rattle.slot_contents.specs.Contents.{packet_of}
+use Rattle.table_rounds.proofs.SectionParts.{long_first_bytes}
 use Rattle.table_rounds.proofs.parts.write_first_part.Goals as goal
 
 pub returns : goal.returns
+unfolding packet_of
 returns c =
-    let size : c.min.result ≡ min (length c.args.section.now) 183 = search rules in
-    let all : c.deref.result.now ≡ 0 ∷ c.split_at.result.0.now = search rules in
-    c.write_filled.ensures
-    ∙ ap (λ (l : List ℕ). packet_of (PayloadContent c.args.pid c.args.counter true l))
-    (first_bytes c.args.section.now c.split_at.result.0.now c.deref.result.now c.min.result size c.split_at.ensures.front all)
+    c.write_split_payload_into.ensures
+    ∙ ap (λ (l : List ℕ). payload_packet c.args.pid true (c.args.counter % 16) l)
+    (long_first_bytes c.args.section.now c.split_at.result.0.now (omega (arith, c.if-section.false)) c.split_at.ensures.front)

@@ -1,10 +1,9 @@
-use Rattle.devices.specs.InputPieces.{left_of}
 use Rattle.tsmux_cli.proofs.MuxJobs.{record_unread, units_read}
 use Rattle.tsmux_cli.proofs.mux_jobs.with_units.Goals as goal
 
 pub returns-in-Ok : goal.returns-in-Ok
-returns-in-Ok c = units_read c.args.plans (left_of c.args.records) c.in-Ok.units.items c.in-Ok.ensures
+returns-in-Ok c after t = units_read c.args.plans after c.in-Ok.units.items (c.in-Ok.ensures after t)
 
-pub returns-in-Err-Record : goal.returns-in-Err-Record
-returns-in-Err-Record c =
-    record_unread c.args.plans (left_of c.args.records) c.in-Err-Record.index c.in-Err-Record.fault (rw c.in-Err-Record.field-0-is at c.in-Err-Record.ensures)
+pub returns-in-Err : goal.returns-in-Err
+returns-in-Err c after t =
+    record_unread c.args.plans after c.in-Err.field-0.index c.in-Err.field-0.fault (c.in-Err.ensures after t)

@@ -1,0 +1,24 @@
+-- Counts of a PID that was seen before.
+use Rattle.std.proofs.Common.{◌≡◌, ℕ, Bool, List, nat_eq, is_some, true≢false, Option, Some, None, refl, sym, ap, ◌∙◌}
+use Rattle.std.specs.Prelude.{position, slice_get}
+use Rattle.std.specs.Map.{keys_of, lookup, values_of}
+use Rattle.indexmap.specs.IndexMap.{set_value_at}
+use Rattle.indexmap.proofs.MapLemmas.{Found-position, some_index, insert_entry-first}
+use Rattle.monitor.specs.declared.counts.PacketCounts.{PacketCounts}
+use Rattle.monitor.specs.Counts.{one_more_packet, packet_counted, packet_counts_of, packet_counts_or_zero}
+
+-- one more packet of the PID at an index is counted in its place
+pub counted_there : (pid i : ℕ) (start : Bool) (entries : List (ℕ × PacketCounts)) → position (nat_eq pid) (keys_of entries) ≡ Some i →
+    packet_counted entries pid start ≡ set_value_at entries i (one_more_packet (packet_counts_of pid entries) start)
+counted_there pid i start entries p =
+    insert_entry-first nat_eq pid (one_more_packet (packet_counts_of pid entries) start) entries i (Found-position (nat_eq pid) entries i p).first
+
+-- the counts at that index
+pub counts_there : (pid i : ℕ) (entries : List (ℕ × PacketCounts)) → position (nat_eq pid) (keys_of entries) ≡ Some i →
+    slice_get (values_of entries) i ≡ Some (packet_counts_of pid entries)
+unfolding packet_counts_or_zero
+counts_there pid i entries p = sym (Found-position (nat_eq pid) entries i p).value ∙ by (lookup (nat_eq pid) entries) refl
+  where
+    by : (o : Option PacketCounts) → lookup (nat_eq pid) entries ≡ o → lookup (nat_eq pid) entries ≡ Some (packet_counts_of pid entries)
+    by (Some counts) e = e ∙ ap (λ (o : Option PacketCounts). Some (packet_counts_or_zero o)) (sym e)
+    by None e = absurd (true≢false (sym (ap is_some p) ∙ some_index (nat_eq pid) entries ∙ ap is_some e))
