@@ -1,10 +1,12 @@
 //! A program over the real reader and writers.
+ghost use Rattle.std.specs.Prelude.{◌≡◌, ◌⊎◌};
+ghost use Rattle.std.specs.Process.{exit_status};
 
 use crate::halt::{Halt, report_halt};
 use counted_io::{Counted, Sink, Source};
 use std::alloc::Global;
 use std::env;
-use std::io::{BufReader, Error, ErrorKind};
+use std::io::{BufReader, Error, ErrorKind, Stderr, Stdout};
 use std::process::ExitCode;
 
 /// The room of the input's buffer, in bytes: what one call gives of a pipe. A read of as many bytes or more goes past
@@ -23,43 +25,65 @@ pub trait Program {
     ) -> u8;
 
     /// Writes the usage, and returns the exit status.
-    fn report_usage<E: Sink>(faults: &mut E) -> u8;
+    fn report_usage<E: Sink>(faults: &mut E) -> u8
+        ensures { result ≡ 2 };
+}
+
+/// The writers of a process: the types say which is which.
+#[derive(Drop)]
+struct Writers {
+    output: Counted<Stdout>,
+    faults: Counted<Stderr>,
+}
+
+/// The code with which a process ends, of a status.
+fn exit_code(status: u8) -> ExitCode
+    ensures { exit_status result ≡ status }
+{
+    ExitCode::from(status)
 }
 
 /// The status where the command line can't be read: out of memory, or a word is not UTF-8, which is a usage error.
-fn without_words<P: Program, E: Sink>(error: Error, faults: &mut E) -> u8 {
+fn without_words<P: Program, E: Sink>(error: Error, faults: &mut E) -> u8
+    ensures { (result ≡ 2) ⊎ (result ≡ 3) }
+{
     match error.kind() {
         ErrorKind::OutOfMemory => report_halt(faults, Halt::Memory),
         _ => P::report_usage(faults),
     }
 }
 
-/// Runs a program with the words of the command line, from standard input to standard output and standard error.
-pub fn run_program<P: Program>(rt: &HostRuntime) -> ExitCode {
-    let mut faults = Counted::new(rt.stderr());
+/// The status of a program with the words of the command line.
+fn status_of<P: Program>(rt: &HostRuntime, writers: &mut Writers) -> u8 {
     let args = match env::args(rt) {
         Ok(args) => args,
-        Err(error) => return ExitCode::from(without_words::<P, _>(error, &mut faults)),
+        Err(error) => return without_words::<P, Counted<Stderr>>(error, &mut writers.faults),
     };
     let words: Vec<String> = match args.skip(1).collect(rt.alloc()) {
         Ok(words) => words,
-        Err(_) => return ExitCode::from(report_halt(&mut faults, Halt::Memory)),
+        Err(_) => return report_halt(&mut writers.faults, Halt::Memory),
     };
     let texts: Vec<&str> = match words.iter().map(|word| word.as_str()).collect(rt.alloc()) {
         Ok(texts) => texts,
-        Err(_) => return ExitCode::from(report_halt(&mut faults, Halt::Memory)),
+        Err(_) => return report_halt(&mut writers.faults, Halt::Memory),
     };
     let Ok(reader) = BufReader::with_capacity(rt.alloc(), INPUT_ROOM, rt.stdin()) else {
-        return ExitCode::from(report_halt(&mut faults, Halt::Memory));
+        return report_halt(&mut writers.faults, Halt::Memory);
     };
-    let mut input = Counted::new(reader);
-    let mut output = Counted::new(rt.stdout());
-    let status = P::run(
+    P::run::<_, Counted<Stdout>, Counted<Stderr>>(
         rt.alloc(),
         texts.as_slice(),
-        &mut input,
-        &mut output,
-        &mut faults,
-    );
-    ExitCode::from(status)
+        &mut Counted::new(reader),
+        &mut writers.output,
+        &mut writers.faults,
+    )
+}
+
+/// Runs a program with the words of the command line, from standard input to standard output and standard error.
+pub fn run_program<P: Program>(rt: &HostRuntime) -> ExitCode {
+    let mut writers = Writers {
+        output: Counted::new(rt.stdout()),
+        faults: Counted::new(rt.stderr()),
+    };
+    exit_code(status_of::<P>(rt, &mut writers))
 }

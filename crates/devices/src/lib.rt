@@ -18,7 +18,7 @@ mod whole_input;
 
 pub use halt::{Halt, report_halt};
 pub use host::{Program, run_program};
-pub use lines::{report_line, write_line, write_text};
+pub use lines::{report_line, report_text, write_line, write_text};
 pub use options::{
     flag, is_given, number_given, number_if_given, number_in, number_option, option, text_of,
 };

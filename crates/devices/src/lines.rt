@@ -72,6 +72,13 @@ pub fn write_text<W: Sink>(text: &str, to: &mut W) -> Result<(), Halt>
     }
 }
 
+/// Writes a text, as far as the writer goes.
+pub fn report_text<W: Sink>(to: &mut W, text: &str)
+    ensures { Reports (writes W.Sink to.old to.new) text.now }
+{
+    let _ = write_part(to, text.as_bytes());
+}
+
 /// Writes a line, as far as the writer goes.
 pub fn report_line<W: Sink>(to: &mut W, name: &str, numbers: &[u128])
     requires name { length name.now ≤ 40 }

@@ -15,6 +15,25 @@ use Rattle.tsjob_cli.specs.declared.arguments.Subcommand.TheVariants.{Whole, Des
 use Rattle.tsjob_cli.specs.CommandLine.{tsjob_app}
 use Rattle.tsjob_cli.specs.Lists.{buffer_list, given, number_list}
 
+-- the ranges of numbers: a rate in bits a second, a limit in milliseconds, a lead in units of 90 kHz
+abbrev pub least_rate : ℕ
+least_rate = 100000
+
+abbrev pub greatest_rate : ℕ
+greatest_rate = 100000000
+
+abbrev pub least_limit : ℕ
+least_limit = 1
+
+abbrev pub greatest_limit : ℕ
+greatest_limit = 100
+
+abbrev pub least_lead : ℕ
+least_lead = 1
+
+abbrev pub greatest_lead : ℕ
+greatest_lead = 90000
+
 -- 1. One value each
 
 -- without a subcommand, the whole job
@@ -71,10 +90,10 @@ plain subcommand whole rate start pcr_limit lead declare_by make_dts = record {
 unfoldable pub values_of : List Row → Option JobArgumentsView
 values_of rows =
     given (subcommand_of (first_of (codes "subcommand") rows)) (λ subcommand.
-    given (number_if_given 100000 100000000 (first_of (codes "rate") rows)) (λ rate.
+    given (number_if_given least_rate greatest_rate (first_of (codes "rate") rows)) (λ rate.
     given (start_of (first_of (codes "start") rows)) (λ start.
-    given (number_option 1 100 40 (first_of (codes "pcr") rows)) (λ pcr_limit.
-    given (number_option 1 90000 90000 (first_of (codes "lead") rows)) (λ lead.
+    given (number_option least_limit greatest_limit 40 (first_of (codes "pcr") rows)) (λ pcr_limit.
+    given (number_option least_lead greatest_lead greatest_lead (first_of (codes "lead") rows)) (λ lead.
     given (declare_by_of (first_of (codes "declare") rows)) (λ declare_by.
     Some (plain subcommand (is_given (first_of (codes "whole") rows)) rate start pcr_limit lead declare_by (is_given (first_of (codes "make-dts") rows)))))))))
 

@@ -1,5 +1,6 @@
 pub mod CommandLine
 pub mod Request
+pub mod UsageText
 pub mod Carrying
 pub mod FindingLines
 pub mod Demultiplexing

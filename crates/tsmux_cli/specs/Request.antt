@@ -9,6 +9,25 @@ use Rattle.pes_packet.specs.StreamIds.{is_unit_id}
 use Rattle.tsmux_cli.specs.CommandLine.{tsmux_app}
 use Rattle.devices.specs.Options.{is_given, number_given, number_if_given, number_option}
 
+-- the numbers of options: PIDs, rates in bits a second, limits of clock references in milliseconds
+abbrev pub least_pid : ℕ
+least_pid = 32
+
+abbrev pub greatest_pid : ℕ
+greatest_pid = 8190
+
+abbrev pub least_rate : ℕ
+least_rate = 100000
+
+abbrev pub greatest_rate : ℕ
+greatest_rate = 100000000
+
+abbrev pub least_limit : ℕ
+least_limit = 1
+
+abbrev pub greatest_limit : ℕ
+greatest_limit = 100
+
 -- the options of `carry`
 unfoldable pub carry_of : Bool → Option ℕ → Option ℕ → Option Request
 carry_of hex None id = None
@@ -17,7 +36,7 @@ carry_of hex (Some pid) (Some id) = if is_unit_id id then Some (Carry (record { 
 
 unfoldable pub carry_request : List Row → Option Request
 carry_request rows = carry_of (is_given (first_of (codes "hex") rows))
-    (number_option 32 8190 256 (first_of (codes "pid") rows))
+    (number_option least_pid greatest_pid 256 (first_of (codes "pid") rows))
     (number_option 0 255 192 (first_of (codes "id") rows))
 
 -- the options of `mux`
@@ -38,8 +57,8 @@ monitor_of (Some rate) None = None
 monitor_of (Some rate) (Some limit) = Some (Monitor (record { rate = rate; pcr_limit = limit }))
 
 unfoldable pub monitor_request : List Row → Option Request
-monitor_request rows = monitor_of (number_given 100000 100000000 (first_of (codes "rate") rows))
-    (number_option 1 100 40 (first_of (codes "pcr") rows))
+monitor_request rows = monitor_of (number_given least_rate greatest_rate (first_of (codes "rate") rows))
+    (number_option least_limit greatest_limit 40 (first_of (codes "pcr") rows))
 
 unfoldable pub request_of : Text → List Row → Option Request
 request_of name rows =

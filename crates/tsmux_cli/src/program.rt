@@ -8,8 +8,10 @@ ghost use Rattle.tsmux_cli.specs.Monitoring.{Monitors};
 ghost use Rattle.tsmux_cli.specs.Multiplexing.{Muxes};
 ghost use Rattle.devices.specs.Runs.{LacksMemory, Performs};
 ghost use Rattle.tsmux_cli.specs.Planning.{MakesPlan};
-ghost use Rattle.devices.specs.Usage.{IsUsage};
+ghost use Rattle.devices.specs.Lines.{Reports};
+ghost use Rattle.devices.specs.Usage.{TellsUsage};
 ghost use Rattle.tsmux_cli.specs.Request.{asked};
+ghost use Rattle.tsmux_cli.specs.UsageText.{usage_text};
 ghost use Rattle.tsmux_cli.specs.declared.request.CarryOptions.{CarryOptions};
 ghost use Rattle.tsmux_cli.specs.declared.request.MonitorOptions.{MonitorOptions};
 ghost use Rattle.tsmux_cli.specs.declared.request.MuxOptions.{MuxOptions};
@@ -22,8 +24,8 @@ use crate::monitoring::monitor_stream;
 use crate::multiplexing::multiplex_job;
 use crate::planning::make_plan;
 use crate::request::{Request, requested};
-use counted_io::{Sink, Source, write_part};
-use devices::{Halt, report_halt};
+use counted_io::{Sink, Source};
+use devices::{Halt, report_halt, report_text};
 use std::alloc::Global;
 
 /// The usage, written to the second writer on a usage error.
@@ -39,9 +41,10 @@ with no words: tsmux carry --hex
 
 /// Writes the usage, and returns the status.
 pub fn report_usage<E: Sink>(faults: &mut E) -> u8
-    ensures { result ≡ 2 }
+    ensures reports { Reports (writes E.Sink faults.old faults.new) usage_text }
+    ensures status { result ≡ 2 }
 {
-    let _ = write_part(faults, USAGE.as_bytes());
+    report_text(faults, USAGE);
     2
 }
 
@@ -80,9 +83,10 @@ pub fn run<R: Source, W: Sink, E: Sink>(
     ensures monitor { (options : MonitorOptions) → asked words.now ≡ Some (Monitor options) →
         Performs (Monitors options) (reads R.Source input.old input.new) (writes W.Sink output.old output.new)
         (writes E.Sink faults.old faults.new) result }
-    // Anything else.
+    // Anything else: the usage is told.
     ensures usage { asked words.now ≡ None →
-        IsUsage (reads R.Source input.old input.new) (writes W.Sink output.old output.new) result
+        TellsUsage usage_text (reads R.Source input.old input.new) (writes W.Sink output.old output.new)
+        (writes E.Sink faults.old faults.new) result
         ⊎ LacksMemory (reads R.Source input.old input.new) (writes W.Sink output.old output.new)
         (writes E.Sink faults.old faults.new) result }
 {

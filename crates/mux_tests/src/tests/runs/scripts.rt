@@ -25,7 +25,7 @@ const FIRST: Step = Feed(0, 576, 1_600, 1_600, None);
 const SECOND: Step = Feed(0, 576, 3_760, 3_760, None);
 
 /// The first slots with the first unit, and the following event 120 slots later, of which there is none.
-const SLOTS: [Step; 21] = [
+const SLOTS: [Step; 22] = [
     FIRST,
     Until(1),
     Carries(0, b"\x47\x41\x00\x10\x00\x00\x01\xc0\x02\x48\x80\x80"),
@@ -61,6 +61,8 @@ const SLOTS: [Step; 21] = [
         5,
         b"\x4e\xf0\x0f\x00\x01\xc3\x01\x01\x00\x01\x00\x01\x01\x4e",
     ),
+    // Many events have memory too.
+    Until(6_000),
 ];
 
 /// Stamps and clock references begin again at 0.
