@@ -2,8 +2,9 @@
 
 BINARY = crates/tsmux/out/tsmux
 TSJOB = crates/tsjob/out/tsjob
+TSAIR = crates/tsair/out/tsair
 
-.PHONY: run try test edits bench binary tsjob any-stream clean
+.PHONY: run try test edits bench binary tsjob tsair any-stream on-air clean
 
 # The main job on an example: a plan is made for a radio service, and its 167 access units, four seconds of MPEG audio, become
 # a transport stream with all its tables; what is in that stream is listed, and the monitor reports on it.
@@ -29,6 +30,14 @@ binary:
 tsjob:
 	cd crates/tsjob && { rt run < /dev/null; test -x out/tsjob; }
 
+# The same of the program without end (of no input it says `job`, with status 1).
+tsair:
+	cd crates/tsair && { rt run < /dev/null; test -x out/tsair; }
+
+# A job on air, from a feeder to a loopback socket (examples/on-air has what it wants).
+on-air: binary tsjob tsair
+	sh examples/on-air/run.sh $(TSJOB) $(BINARY) $(TSAIR)
+
 # Streams of ffmpeg and GStreamer through both programs, and what came out beside what went in (examples/README.md has what it wants).
 any-stream: binary tsjob
 	sh examples/any-stream/run.sh $(TSJOB) $(BINARY)
@@ -39,7 +48,7 @@ any-stream: binary tsjob
 # most that any took).
 test:
 	RT_JOBS=$${RT_JOBS:-$$(nproc)} rt ci
-	tools/run-tests crates/tsmux/out/tsmux crates/tsjob/out/tsjob
+	tools/run-tests crates/tsmux/out/tsmux crates/tsjob/out/tsjob crates/tsair/out/tsair
 
 # The wrong bodies that the gate does not try (docs/GATE.md), before a release.
 edits:
@@ -47,8 +56,9 @@ edits:
 
 # Speed, beside a program that reads, copies and writes as many packets and beside a copy of them in memory, in the same run
 # (docs/SPEED.md), and how full a multiplex `plan` fills. Needs python3 and cc beside the kit.
-bench: binary tsjob
+bench: binary tsjob tsair
 	python3 bench/mux.py $(BINARY)
+	python3 bench/air.py $(BINARY) $(TSAIR)
 	python3 bench/slots.py $(BINARY)
 	python3 bench/carry.py $(BINARY)
 	python3 bench/demux.py $(BINARY)

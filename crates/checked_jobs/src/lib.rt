@@ -13,4 +13,5 @@ mod jobs;
 
 pub use fault_lines::{report_record, report_refusal, report_unit};
 pub use job_fault::{JobFault, JobReadError, is_final, is_refusal, report_fault, write_fault};
+pub use job_parts::parts_of;
 pub use jobs::{CheckedJob, JobPlans, plans_at_front, read_description, read_job};

@@ -55,7 +55,7 @@ CountsRecord old new (Ended why) = new ≡ old
 -- and by those that are heard up to one that is to be told
 abbrev pub CountsRecords : ℕ → ℕ → Heard → Type 0
 CountsRecords old new Taken = ⊥
-CountsRecords old new (Refused index cause) = old < new
+CountsRecords old new (Refused index cause) = (old < new) × (new ≤ 2 ^ 64 - 1)
 CountsRecords old new (Ended why) = old ≤ new
 
 -- a device is named exactly where a call of it failed

@@ -121,6 +121,13 @@ impl<A: Allocator + Copy> OnAir<A> {
         write_on(&mut self.mux, target, &mut self.packets, to)
     }
 
+    /// The number of records heard.
+    pub fn records(&self) -> u64
+        ensures { result ≡ self.now.records }
+    {
+        self.records
+    }
+
     // Judges a record, and writes the slots that are settled by it.
     fn take<W: Sink>(
         &mut self,

@@ -44,7 +44,8 @@ returns-in-Err-clause-heard g c = λ run n a origin start h has.
 
 pub returns-in-Ok-Refused-clause-counts : goal.returns-in-Ok-Refused-clause-counts
 returns-in-Ok-Refused-clause-counts g c =
-    let counts = rw c.in-Ok-Refused.field-0-is at c.in-Ok-Refused.ensures.counts in omega (arith, c.records.invariant.rises, counts.1)
+    let counts = rw c.in-Ok-Refused.field-0-is at c.in-Ok-Refused.ensures.counts in
+    (omega (arith, c.records.invariant.rises, counts.1), omega (arith, counts.0, counts.1))
 
 pub returns-in-Ok-Ended-clause-counts : goal.returns-in-Ok-Ended-clause-counts
 returns-in-Ok-Ended-clause-counts g c =

@@ -1,0 +1,95 @@
+-- What the records and the end of a run leave.
+use Rattle.std.proofs.Common.{◌≡◌, ℕ, Bool, List, [], ◌++◌, Option, Some, Ok, refl, sym, ap, ◌∙◌, subst, inl, inr, append-nil}
+use Rattle.std.specs.Prelude.{is_some}
+use Rattle.std.specs.Io.KnownBytes.{Appends}
+use Rattle.counted_io.specs.Device.{Failed}
+use Rattle.packet_output.specs.Buffer.{Buffered, IsOutput}
+use Rattle.devices.specs.Devices.{Device, Port, between}
+use Rattle.devices.specs.Lines.{Reports}
+use Rattle.devices.specs.Outcomes.{halt_line}
+use Rattle.devices.specs.declared.halt.Halt.TheVariants.{Write}
+use Rattle.checked_jobs.specs.Jobs.{job_of}
+use Rattle.checked_jobs.specs.JobFaults.{plans_view}
+use Rattle.checked_jobs.specs.declared.jobs.JobPlans.{JobPlans}
+use Rattle.checked_jobs.specs.declared.jobs.JobPlans.TheVariants.{One, Two}
+use Rattle.on_air.specs.Airing.{Run, Air, air_output, ended}
+use Rattle.on_air.specs.AirStates.{AirState, IsOnAir}
+use Rattle.on_air.specs.Hearing.{Fails}
+use Rattle.tsair_cli.specs.declared.arguments.AirOptions.{AirOptions}
+use Rattle.tsair_cli.specs.declared.hearing.RecordsEnd.{RecordsEnd}
+use Rattle.tsair_cli.specs.AirRuns.{AirsRecords, Begins}
+use Rattle.tsair_cli.specs.Endings.{end_outcome}
+use Rattle.tsair_cli.specs.Fronts.{ReadsPlans}
+use Rattle.tsair_cli.specs.HeardRecords.{EndsRecords, FailsRecords}
+
+-- nothing waits, so all is written
+whole_output : (start now : Option (List ℕ)) (packets : Buffered) (all : List ℕ) → packets.waiting ≡ [] → IsOutput start now packets all → Appends start now all
+whole_output start now packets all none o =
+    subst (λ (bytes : List ℕ). Appends start now bytes) (sym (o.is ∙ ap (λ (l : List ℕ). o.written ++ l) none ∙ append-nil o.written)) o.taken
+
+pub records_failed : (o : AirOptions) (run : Run) (input output : Device) (before told after : Port) (sent status : ℕ) →
+    FailsRecords run output.before.bytes input output (between before told) sent → Reports (between told after) (halt_line Write) → status ≡ 3 →
+    AirsRecords o run input output (between before after) status
+records_failed o run input output before told after sent status f r s = inr (record {
+  rest = input.after.bytes;
+  told = told;
+  airs = f.airs;
+  air = f.airs.came;
+  air_is = inl refl;
+  sent = sent;
+  fails = f.fails;
+  failed = f.failed;
+  reports = r;
+  status_is = s;
+})
+
+pub run_ended : (o : AirOptions) (run : Run) (input : Device) (begin mid end before told after : Port) (why : RecordsEnd) (s t : AirState) (records status : ℕ)
+    (e : EndsRecords run o.stop begin.bytes input (between begin mid) (between before told) why s) → IsOnAir run (ended run e.airs.came) begin.bytes end.bytes t → end.failed ≡ mid.failed →
+    records ≡ t.records → Reports (between told after) (end_outcome o.terms.slots records why).report → status ≡ (end_outcome o.terms.slots records why).status →
+    AirsRecords o run input (between begin end) (between before after) status
+run_ended o run input begin mid end before told after why s t records status e h clean n r st =
+    let count : records ≡ e.airs.came.records = n ∙ h.records in
+    inl (record {
+      rest = e.rest;
+      told = told;
+      airs = e.airs;
+      end = why;
+      ends = e.ends;
+      refused = e.refused;
+      reader = e.reader;
+      written = whole_output begin.bytes end.bytes t.packets (air_output run (ended run e.airs.came)) h.none_waits h.output;
+      clean = clean ∙ e.clean;
+      headline = h.headline;
+      reports = subst (λ (m : ℕ). Reports (between told after) (end_outcome o.terms.slots m why).report) count r;
+      status_is = st ∙ ap (λ (m : ℕ). (end_outcome o.terms.slots m why).status) count;
+    })
+
+pub end_failed : (o : AirOptions) (run : Run) (input : Device) (begin mid end before told after : Port) (why : RecordsEnd) (s : AirState) (sent status : ℕ)
+    (e : EndsRecords run o.stop begin.bytes input (between begin mid) (between before told) why s) → Fails run (ended run e.airs.came) begin.bytes end.bytes sent → Failed mid.failed end.failed →
+    Reports (between told after) (halt_line Write) → status ≡ 3 → AirsRecords o run input (between begin end) (between before after) status
+end_failed o run input begin mid end before told after why s sent status e f failed r st = inr (record {
+  rest = e.rest;
+  told = told;
+  airs = e.airs;
+  air = ended run e.airs.came;
+  air_is = inr refl;
+  sent = sent;
+  fails = f;
+  failed = subst (λ (n : ℕ). Failed n end.failed) e.clean failed;
+  reports = r;
+  status_is = st;
+})
+
+no_rest : (plans : JobPlans) → (plans_view plans []).rest ≡ []
+no_rest (One c) = refl
+no_rest (Two c) = refl
+
+pub begun : (o : AirOptions) (before left : Port) (plans : JobPlans) (switch : Bool) → switch ≡ is_some o.periods → ReadsPlans switch (between before left) plans →
+    Begins o before left (plans_view plans [])
+begun o before left plans switch is r = record {
+  front = r.front;
+  read = r.has_read.read;
+  clean = r.has_read.clean;
+  job_is = r.plans_are ∙ ap (λ (b : Bool). job_of b r.front) is;
+  no_rest = no_rest plans;
+}

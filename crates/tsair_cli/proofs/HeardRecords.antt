@@ -1,0 +1,130 @@
+-- Records heard one after another, and the lines of those that are refused.
+use Rattle.std.proofs.Common.{◌≡◌, ◌<◌, ◌+◌, ℕ, Bool, true, false, nat_lt, List, [], ◌∷◌, ◌++◌, length, map, Option, Some, None, Result, Ok, Err, refl, sym, ap, ◌∙◌, subst, arith, length-append}
+use Rattle.std.proofs.lemmas.List.{map-append}
+use Rattle.std.proofs.lemmas.Bool.{lt-ltb}
+use Rattle.devices.specs.Devices.{Device, Port, HasFailed, IsClean, between}
+use Rattle.devices.specs.Lines.{Reports}
+use Rattle.packet_output.specs.declared.output.OutputFault.{OutputFault}
+use Rattle.unit_records.specs.declared.reading.UnitFileError.TheVariants.{Cut, Size, Device as AtReader, Memory}
+use Rattle.carry.specs.RecordRuns.{after_records}
+use Rattle.on_air.specs.declared.refusals.AirRefusal.{AirRefusal}
+use Rattle.on_air.specs.declared.answers.Heard.TheVariants.{Taken, Refused, Ended}
+use Rattle.on_air.specs.declared.answers.Ending.{Ending}
+use Rattle.on_air.specs.declared.answers.Ending.TheVariants.{Input, Unread, Slots, Records}
+use Rattle.on_air.specs.Airing.{Run, Air, heard, silence}
+use Rattle.on_air.specs.AirStates.{AirState, IsOnAir}
+use Rattle.on_air.specs.Hearing.{HasHeard, HeardOn, HearsOn, NamesDevice}
+use Rattle.tsair_cli.specs.declared.hearing.RecordsEnd.{RecordsEnd}
+use Rattle.tsair_cli.specs.HeardRecords.{Airs, EndsRecords, FailsRecords, HearsAll, NamesReader, Tells, has_refused, refusal_line}
+
+-- 1. Lines
+
+pub told_none : (port : Port) → Tells port port []
+unfolding Tells
+told_none port = refl
+
+pub told_more : (before mid after : Port) (lines : List (List ℕ)) (line : List ℕ) → Tells before mid lines → Reports (between mid after) line → Tells before after (lines ++ (line ∷ []))
+unfolding Tells
+told_more before mid after [] line t r = (after, subst (λ (p : Port). Reports (between p after) line) t r, refl)
+told_more before mid after (first ∷ lines) line t r = (t.0, t.1, told_more t.0 mid after lines line t.2 r)
+
+told_refused : (before mid after : Port) (old new : List (ℕ × AirRefusal)) (refused : ℕ × AirRefusal) → new ≡ old ++ (refused ∷ []) → Tells before mid (map refusal_line old) →
+    Reports (between mid after) (refusal_line refused) → Tells before after (map refusal_line new)
+told_refused before mid after old new refused is t r =
+    subst (λ (lines : List (List ℕ)). Tells before after lines) (sym (ap (λ (l : List (ℕ × AirRefusal)). map refusal_line l) is ∙ map-append refusal_line old (refused ∷ [])))
+    (told_more before mid after (map refusal_line old) (refusal_line refused) t r)
+
+some_refused : (old new : List (ℕ × AirRefusal)) (refused : ℕ × AirRefusal) → new ≡ old ++ (refused ∷ []) → nat_lt 0 (length new) ≡ true
+some_refused old new refused is =
+    let size : length new ≡ length (old ++ (refused ∷ [])) = ap length is in
+    let more : length (old ++ (refused ∷ [])) ≡ length old + 1 = length-append old (refused ∷ []) in
+    lt-ltb 0 (length new) (omega (arith, size, more))
+
+-- 2. Up to a record that is refused, or to the end
+
+pub record Midway (run : Run) (origin left start now : Option (List ℕ)) (faults : Device) (refused : Bool) (s : AirState) : Type 0 where
+  pub airs : Airs run origin left faults
+  pub refused_is : refused ≡ has_refused airs.came
+  pub state : IsOnAir run airs.came start now s
+
+pub first : (run : Run) (origin start now : Option (List ℕ)) (port : Port) (s : AirState) → IsOnAir run silence start now s →
+    Midway run origin origin start now (between port port) false s
+unfolding heard after_records
+first run origin start now port s h = record {
+  airs = record { came = silence; heard_is = record { count = 0; heard_is = λ xs e. (refl, e) }; told = told_none port };
+  refused_is = refl;
+  state = h;
+}
+
+pub next : (run : Run) (origin mid left start now later : Option (List ℕ)) (before told after : Port) (refused : Bool) (s new : AirState) (index : ℕ) (cause : AirRefusal)
+    (m : Midway run origin mid start now (between before told) refused s) → HearsOn run m.airs.came origin left start later (Ok (Refused index cause)) new →
+    Reports (between told after) (refusal_line (index, cause)) → Midway run origin left start later (between before after) true new
+next run origin mid left start now later before told after refused s new index cause m (b, heard_on, adds, state) r = record {
+  airs = record {
+    came = b;
+    heard_is = heard_on;
+    told = told_refused before told after m.airs.came.refused b.refused (index, cause) adds m.airs.told r;
+  };
+  refused_is = sym (some_refused m.airs.came.refused b.refused (index, cause) adds);
+  state = state;
+}
+
+-- 3. How it ends
+
+told_same : (before after : Port) (old new : List (ℕ × AirRefusal)) → new ≡ old → Tells before after (map refusal_line old) → Tells before after (map refusal_line new)
+told_same before after old new is t = subst (λ (l : List (ℕ × AirRefusal)). Tells before after (map refusal_line l)) (sym is) t
+
+reader_named : (input : Device) (why : Ending) (w0 w1 : ℕ) → NamesDevice (Ok (Ended why)) input.before.failed input.after.failed w0 w1 → NamesReader input (Some why)
+reader_named input Input w0 w1 n = n.0
+reader_named input (Unread Cut) w0 w1 n = n.0
+reader_named input (Unread Size) w0 w1 n = n.0
+reader_named input (Unread AtReader) w0 w1 n = n.0
+reader_named input (Unread Memory) w0 w1 n = n.0
+reader_named input Slots w0 w1 n = n.0
+reader_named input Records w0 w1 n = n.0
+
+writer_clean : (why : Ending) (r0 r1 w0 w1 : ℕ) → NamesDevice (Ok (Ended why)) r0 r1 w0 w1 → w1 ≡ w0
+writer_clean Input r0 r1 w0 w1 n = n.1
+writer_clean (Unread Cut) r0 r1 w0 w1 n = n.1
+writer_clean (Unread Size) r0 r1 w0 w1 n = n.1
+writer_clean (Unread AtReader) r0 r1 w0 w1 n = n.1
+writer_clean (Unread Memory) r0 r1 w0 w1 n = n.1
+writer_clean Slots r0 r1 w0 w1 n = n.1
+writer_clean Records r0 r1 w0 w1 n = n.1
+
+pub ends : (run : Run) (stop : Bool) (mid start now : Option (List ℕ)) (input output faults : Device) (refused : Bool) (s new : AirState) (why : Ending)
+    (m : Midway run input.before.bytes mid start now faults refused s) → HearsOn run m.airs.came input.before.bytes input.after.bytes start output.after.bytes (Ok (Ended why)) new →
+    NamesDevice (Ok (Ended why)) input.before.failed input.after.failed output.before.failed output.after.failed →
+    EndsRecords run stop start input output faults (record { has_refused = refused; why = Some why }) new
+ends run stop mid start now input output faults refused s new why m (b, (rest, heard_on, ends_at), same, state) n = record {
+  rest = rest;
+  airs = record { came = b; heard_is = heard_on; told = told_same faults.before faults.after m.airs.came.refused b.refused same m.airs.told };
+  ends = ends_at;
+  refused = m.refused_is ∙ ap (λ (l : List (ℕ × AirRefusal)). nat_lt 0 (length l)) (sym same);
+  state = state;
+  reader = reader_named input why output.before.failed output.after.failed n;
+  clean = writer_clean why input.before.failed input.after.failed output.before.failed output.after.failed n;
+}
+
+pub stops : (run : Run) (stop : Bool) (start : Option (List ℕ)) (input output faults : Device) (s : AirState) → stop ≡ true →
+    Midway run input.before.bytes input.after.bytes start output.after.bytes faults true s → IsClean input → IsClean output →
+    EndsRecords run stop start input output faults (record { has_refused = true; why = None }) s
+stops run stop start input output faults s is m r w = record {
+  rest = input.after.bytes;
+  airs = m.airs;
+  ends = (is, (sym m.refused_is, refl));
+  refused = m.refused_is;
+  state = m.state;
+  reader = r;
+  clean = w;
+}
+
+pub fails : (run : Run) (mid start now : Option (List ℕ)) (input output faults : Device) (refused : Bool) (s new : AirState) (fault : OutputFault)
+    (m : Midway run input.before.bytes mid start now faults refused s) → HearsOn run m.airs.came input.before.bytes input.after.bytes start output.after.bytes (Err fault) new →
+    NamesDevice (Err fault) input.before.failed input.after.failed output.before.failed output.after.failed → FailsRecords run start input output faults fault.sent
+fails run mid start now input output faults refused s new fault m (b, heard_on, same, failing) n = record {
+  airs = record { came = b; heard_is = heard_on; told = told_same faults.before faults.after m.airs.came.refused b.refused same m.airs.told };
+  fails = failing;
+  clean = n.0;
+  failed = n.1;
+}

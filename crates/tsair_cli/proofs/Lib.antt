@@ -1,0 +1,4 @@
+pub mod CommandLines
+pub mod Fronts
+pub mod HeardRecords
+pub mod AirRuns

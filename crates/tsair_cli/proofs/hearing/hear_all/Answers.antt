@@ -1,0 +1,79 @@
+use Rattle.std.proofs.Common.{Ok, Err, refl, ◌∙◌}
+use Rattle.devices.specs.Devices.{Device, Port, between}
+use Rattle.on_air.specs.declared.answers.Heard.TheVariants.{Ended}
+use Rattle.on_air.proofs.HeardRecords.{names_same}
+use Rattle.tsair_cli.proofs.HeardRecords.{ends, fails, first, next, stops}
+use Rattle.tsair_cli.proofs.hearing.hear_all.Goals as goal
+
+pub records-init : goal.records-init
+records-init g c = record {
+  reads = refl;
+  writes = refl;
+  known = λ run start h.
+      first run (g.R.Read.remaining c.args.input.now) start (g.W.Write.contents c.args.output.now)
+      (record { bytes = g.E.Write.contents c.args.faults.now; failed = g.E.Sink.fault_count c.args.faults.now }) c.args.on_air.now h;
+}
+
+pub records-preserved-else-stop : goal.records-preserved-else-stop
+records-preserved-else-stop g c =
+    let clean = rw c.in-Ok-Refused.field-0-is at c.in-Ok-Refused.ensures.fault in
+    record {
+      reads = clean.0 ∙ c.records.invariant.reads;
+      writes = clean.1 ∙ c.records.invariant.writes;
+      known = λ run start h.
+          let m = c.records.invariant.known run start h in
+          next run (g.R.Read.remaining c.args.input.now) (g.R.Read.remaining c.records.input) (g.R.Read.remaining c.hear_on.new.input) start
+          (g.W.Write.contents c.records.output) (g.W.Write.contents c.hear_on.new.to)
+          (record { bytes = g.E.Write.contents c.args.faults.now; failed = g.E.Sink.fault_count c.args.faults.now })
+          (record { bytes = g.E.Write.contents c.records.faults; failed = g.E.Sink.fault_count c.records.faults })
+          (record { bytes = g.E.Write.contents c.report_refused.new.faults; failed = g.E.Sink.fault_count c.report_refused.new.faults })
+          c.records.has_refused c.records.on_air c.hear_on.new.self c.in-Ok-Refused.index c.in-Ok-Refused.cause m
+          (rw c.in-Ok-Refused.field-0-is at (c.in-Ok-Refused.ensures.heard run m.airs.heard_is.count m.airs.came (g.R.Read.remaining c.args.input.now) start m.state m.airs.heard_is.heard_is))
+          c.report_refused.ensures;
+    }
+
+pub returns-then-stop : goal.returns-then-stop
+returns-then-stop g c = λ run start h.
+    let clean = rw c.in-Ok-Refused.field-0-is at c.in-Ok-Refused.ensures.fault in
+    let m = c.records.invariant.known run start h in
+    let input : Device = between (record { bytes = g.R.Read.remaining c.args.input.now; failed = g.R.Source.fault_count c.args.input.now })
+    (record { bytes = g.R.Read.remaining c.hear_on.new.input; failed = g.R.Source.fault_count c.hear_on.new.input }) in
+    let output : Device = between (record { bytes = g.W.Write.contents c.args.output.now; failed = g.W.Sink.fault_count c.args.output.now })
+    (record { bytes = g.W.Write.contents c.hear_on.new.to; failed = g.W.Sink.fault_count c.hear_on.new.to }) in
+    let before : Port = record { bytes = g.E.Write.contents c.args.faults.now; failed = g.E.Sink.fault_count c.args.faults.now } in
+    let after : Port = record { bytes = g.E.Write.contents c.report_refused.new.faults; failed = g.E.Sink.fault_count c.report_refused.new.faults } in
+    stops run c.args.stop start input output (between before after) c.hear_on.new.self c.if-stop.true
+    (next run (g.R.Read.remaining c.args.input.now) (g.R.Read.remaining c.records.input) (g.R.Read.remaining c.hear_on.new.input) start
+    (g.W.Write.contents c.records.output) (g.W.Write.contents c.hear_on.new.to) before
+    (record { bytes = g.E.Write.contents c.records.faults; failed = g.E.Sink.fault_count c.records.faults }) after
+    c.records.has_refused c.records.on_air c.hear_on.new.self c.in-Ok-Refused.index c.in-Ok-Refused.cause m
+    (rw c.in-Ok-Refused.field-0-is at (c.in-Ok-Refused.ensures.heard run m.airs.heard_is.count m.airs.came (g.R.Read.remaining c.args.input.now) start m.state m.airs.heard_is.heard_is))
+    c.report_refused.ensures)
+    (clean.0 ∙ c.records.invariant.reads) (clean.1 ∙ c.records.invariant.writes)
+
+pub returns-in-Ok-Ended : goal.returns-in-Ok-Ended
+returns-in-Ok-Ended g c = λ run start h.
+    let m = c.records.invariant.known run start h in
+    let input : Device = between (record { bytes = g.R.Read.remaining c.args.input.now; failed = g.R.Source.fault_count c.args.input.now })
+    (record { bytes = g.R.Read.remaining c.hear_on.new.input; failed = g.R.Source.fault_count c.hear_on.new.input }) in
+    let output : Device = between (record { bytes = g.W.Write.contents c.args.output.now; failed = g.W.Sink.fault_count c.args.output.now })
+    (record { bytes = g.W.Write.contents c.hear_on.new.to; failed = g.W.Sink.fault_count c.hear_on.new.to }) in
+    let faults : Device = between (record { bytes = g.E.Write.contents c.args.faults.now; failed = g.E.Sink.fault_count c.args.faults.now })
+    (record { bytes = g.E.Write.contents c.records.faults; failed = g.E.Sink.fault_count c.records.faults }) in
+    ends run c.args.stop (g.R.Read.remaining c.records.input) start (g.W.Write.contents c.records.output) input output faults c.records.has_refused c.records.on_air c.hear_on.new.self
+    c.in-Ok-Ended.why m
+    (rw c.in-Ok-Ended.field-0-is at (c.in-Ok-Ended.ensures.heard run m.airs.heard_is.count m.airs.came (g.R.Read.remaining c.args.input.now) start m.state m.airs.heard_is.heard_is))
+    (names_same (Ok (Ended c.in-Ok-Ended.why)) _ _ _ _ _ _ c.records.invariant.reads c.records.invariant.writes (rw c.in-Ok-Ended.field-0-is at c.in-Ok-Ended.ensures.fault))
+
+pub returns-in-Err : goal.returns-in-Err
+returns-in-Err g c = λ run start h.
+    let m = c.records.invariant.known run start h in
+    let input : Device = between (record { bytes = g.R.Read.remaining c.args.input.now; failed = g.R.Source.fault_count c.args.input.now })
+    (record { bytes = g.R.Read.remaining c.hear_on.new.input; failed = g.R.Source.fault_count c.hear_on.new.input }) in
+    let output : Device = between (record { bytes = g.W.Write.contents c.args.output.now; failed = g.W.Sink.fault_count c.args.output.now })
+    (record { bytes = g.W.Write.contents c.hear_on.new.to; failed = g.W.Sink.fault_count c.hear_on.new.to }) in
+    let faults : Device = between (record { bytes = g.E.Write.contents c.args.faults.now; failed = g.E.Sink.fault_count c.args.faults.now })
+    (record { bytes = g.E.Write.contents c.records.faults; failed = g.E.Sink.fault_count c.records.faults }) in
+    fails run (g.R.Read.remaining c.records.input) start (g.W.Write.contents c.records.output) input output faults c.records.has_refused c.records.on_air c.hear_on.new.self c.in-Err.fault m
+    (c.in-Err.ensures.heard run m.airs.heard_is.count m.airs.came (g.R.Read.remaining c.args.input.now) start m.state m.airs.heard_is.heard_is)
+    (names_same (Err c.in-Err.fault) _ _ _ _ _ _ c.records.invariant.reads c.records.invariant.writes c.in-Err.ensures.fault)

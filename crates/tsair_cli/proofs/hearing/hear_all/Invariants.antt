@@ -1,0 +1,19 @@
+use Rattle.std.proofs.Common.{◌≡◌, ◌-◌, ◌^◌, List, ℕ, Option}
+use Rattle.devices.specs.Devices.{between}
+use Rattle.on_air.specs.Airing.{Run, silence}
+use Rattle.on_air.specs.AirStates.{IsOnAir}
+use Rattle.tsair_cli.proofs.HeardRecords.{Midway}
+use Rattle.tsair_cli.proofs.hearing.hear_all.Given as goal
+
+abbrev pub invariant-records : goal.invariant-records
+invariant-records g l = record {
+  reads : g.R.Source.fault_count l.input ≡ g.R.Source.fault_count l.fn.input;
+  writes : g.W.Sink.fault_count l.output ≡ g.W.Sink.fault_count l.fn.output;
+  known : (run : Run) (start : Option (List ℕ)) → IsOnAir run silence start (g.W.Write.contents l.fn.output) l.fn.on_air →
+      Midway run (g.R.Read.remaining l.fn.input) (g.R.Read.remaining l.input) start (g.W.Write.contents l.output)
+      (between (record { bytes = g.E.Write.contents l.fn.faults; failed = g.E.Sink.fault_count l.fn.faults })
+      (record { bytes = g.E.Write.contents l.faults; failed = g.E.Sink.fault_count l.faults })) l.has_refused l.on_air;
+}
+
+abbrev pub decreases-records : goal.decreases-records
+decreases-records g l = 2 ^ 64 - 1 - l.on_air.records

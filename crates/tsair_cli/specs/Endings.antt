@@ -1,0 +1,28 @@
+-- What is told of the end of a run, and its status.
+use Rattle.std.specs.Prelude.{ℕ, Bool, if◌then◌else◌, [], Option, Some, None, codes}
+use Rattle.devices.specs.Lines.{line_text}
+use Rattle.devices.specs.Outcomes.{Outcome, printed, reported}
+use Rattle.checked_jobs.specs.FaultLines.{record_outcome}
+use Rattle.on_air.specs.declared.answers.Ending.{Ending}
+use Rattle.on_air.specs.declared.answers.Ending.TheVariants.{Input, Unread, Slots, Records}
+use Rattle.tsair_cli.specs.declared.hearing.RecordsEnd.{RecordsEnd}
+
+-- nothing more is told: status 1 where a record was refused
+abbrev pub quiet : Bool → Outcome
+quiet refused = printed [] (if refused then 1 else 0)
+
+-- of slots that were asked for, or of all that there may be
+unfoldable pub slots_outcome : Option ℕ → Bool → Outcome
+slots_outcome None refused = reported (line_text (codes "slots") [])
+slots_outcome (Some slots) refused = quiet refused
+
+unfoldable pub why_outcome : Option ℕ → ℕ → Bool → Option Ending → Outcome
+why_outcome slots records refused None = quiet refused
+why_outcome slots records refused (Some Input) = quiet refused
+why_outcome slots records refused (Some (Unread fault)) = record_outcome records fault
+why_outcome slots records refused (Some Slots) = slots_outcome slots refused
+why_outcome slots records refused (Some Records) = reported (line_text (codes "records") [])
+
+-- by the slots that were asked for, and the number of records heard
+unfoldable pub end_outcome : Option ℕ → ℕ → RecordsEnd → Outcome
+end_outcome slots records end = why_outcome slots records end.has_refused end.why

@@ -1,0 +1,103 @@
+-- The front of the input: a description and its plans, as far as the last line `end`.
+use Rattle.std.specs.Prelude.{◌≡◌, ◌⊎◌, ◌<◌, ◌≤◌, ◌+◌, ◌^◌, ◌==◌, ◌&&◌, ℕ, Bool, true, false, List, [], ◌∷◌, ◌++◌, length, Option, Some, None, Result, Ok, Err, codes, nat_eq, nat_le, if◌then◌else◌, ⊤}
+use Rattle.std.specs.List.{starts_with}
+use Rattle.std.specs.Io.KnownBytes.{Consumes, IsAtEnd}
+use Rattle.devices.specs.Devices.{Device, HasFailed, IsClean}
+use Rattle.devices.specs.Lines.{line_text}
+use Rattle.devices.specs.Outcomes.{Outcome, reported, halted}
+use Rattle.devices.specs.declared.halt.Halt.{Halt}
+use Rattle.devices.specs.declared.halt.Halt.TheVariants.{Read, Write, Memory}
+use Rattle.checked_jobs.specs.Jobs.{JobFaultView, JobView, job_of, parts_of}
+use Rattle.checked_jobs.specs.JobFaults.{fault_line, fault_view, plans_view}
+use Rattle.checked_jobs.specs.declared.jobs.JobPlans.{JobPlans}
+use Rattle.tsair_cli.specs.declared.front.FrontFault.{FrontFault}
+use Rattle.tsair_cli.specs.declared.front.FrontFault.TheVariants.{Job, Unended}
+use Rattle.tsair_cli.specs.declared.front.FrontError.{FrontError}
+use Rattle.tsair_cli.specs.declared.front.FrontError.TheVariants.{Fault, Stopped}
+
+-- 1. Where a front ends
+
+-- the number of lines `end` in bytes that begin at the beginning of a line or within one
+abbrev pub end_lines : Bool → List ℕ → ℕ
+end_lines at_line [] = 0
+end_lines at_line (x ∷ xs) = (if at_line && starts_with nat_eq (x ∷ xs) (codes "end\n") then 1 else 0) + end_lines (x == 10) xs
+
+abbrev pub plan_count : Bool → ℕ
+plan_count switch = if switch then 2 else 1
+
+-- the last line of each plan stands in the bytes from the first line of a plan on
+abbrev pub have_ends : ℕ → Option (List ℕ × List ℕ) → Bool
+have_ends wanted None = false
+have_ends wanted (Some parts) = nat_le wanted (end_lines true parts.1)
+
+abbrev pub plans_end : Bool → List ℕ → Bool
+plans_end switch xs = have_ends (plan_count switch) (parts_of xs)
+
+-- 2. A front that was read
+
+-- a front may have so many bytes
+abbrev pub max_front : ℕ
+max_front = 2 ^ 22
+
+-- a text grew by bytes of the input
+pub record Grows (input : Device) (old new : List ℕ) : Type 0 where
+  pub bytes : List ℕ
+  pub grown : new ≡ old ++ bytes
+  pub read : Consumes input.before.bytes input.after.bytes bytes
+  pub clean : IsClean input
+
+-- no byte is left, where bytes were known
+abbrev pub IsSpent : Device → Type 0
+IsSpent input = (xs : List ℕ) → input.before.bytes ≡ Some xs → IsAtEnd input.after.bytes
+
+-- it grew by a line, as far as a front may; where it is answered that the input does not go on, no byte is left
+abbrev pub ReadsLine : Device → List ℕ → List ℕ → Result Bool Halt → Type 0
+ReadsLine input old new (Ok true) = Grows input old new × (length old ≤ max_front → length old < length new)
+ReadsLine input old new (Ok false) = Grows input old new × IsSpent input
+ReadsLine input old new (Err Read) = HasFailed input
+ReadsLine input old new (Err Write) = ⊥
+ReadsLine input old new (Err Memory) = IsClean input
+
+-- the plans that a front is read as, with no byte after them; or its fault
+abbrev pub IsFrontOf : Result JobView JobFaultView → Result JobPlans FrontError → Type 0
+IsFrontOf wanted (Ok plans) = Ok (plans_view plans []) ≡ wanted
+IsFrontOf wanted (Err (Fault (Job fault))) = Err (fault_view fault) ≡ wanted
+IsFrontOf wanted (Err (Fault Unended)) = (j : JobView) × (Ok j ≡ wanted) × (0 < length j.rest)
+IsFrontOf wanted (Err (Stopped halt)) = halt ≡ Memory
+
+-- why no more bytes were read: the last line of each plan has come, or no byte is left
+abbrev pub IsWhole : Bool → List ℕ → Device → Type 0
+IsWhole switch front input = (plans_end switch front ≡ true) ⊎ IsSpent input
+
+-- these bytes of the input were read
+pub record HasRead (input : Device) (front : List ℕ) : Type 0 where
+  pub read : Consumes input.before.bytes input.after.bytes front
+  pub clean : IsClean input
+
+pub record ReadsPlans (switch : Bool) (input : Device) (plans : JobPlans) : Type 0 where
+  pub front : List ℕ
+  pub has_read : HasRead input front
+  pub plans_are : Ok (plans_view plans []) ≡ job_of switch front
+
+pub record ReadsFault (switch : Bool) (input : Device) (Is : List ℕ → Type 0) : Type 0 where
+  pub front : List ℕ
+  pub has_read : HasRead input front
+  pub is : Is front
+
+-- the plans of a front; or its fault, where the last line of each plan has come or the input has ended; or it is too long
+abbrev pub ReadsFront : Bool → Device → Result JobPlans FrontError → Type 0
+ReadsFront switch input (Ok plans) = ReadsPlans switch input plans
+ReadsFront switch input (Err (Fault (Job fault))) =
+    ReadsFault switch input (λ front. (Err (fault_view fault) ≡ job_of switch front) × IsWhole switch front input)
+ReadsFront switch input (Err (Fault Unended)) =
+    ReadsFault switch input (λ front. (max_front < length front) ⊎ ((j : JobView) × (Ok j ≡ job_of switch front) × (0 < length j.rest)))
+ReadsFront switch input (Err (Stopped Read)) = HasFailed input
+ReadsFront switch input (Err (Stopped Write)) = ⊥
+ReadsFront switch input (Err (Stopped Memory)) = IsClean input
+
+-- 3. What is told of one that is not read
+
+unfoldable pub front_outcome : FrontError → Outcome
+front_outcome (Fault (Job fault)) = reported (fault_line (fault_view fault))
+front_outcome (Fault Unended) = reported (line_text (codes "front") [])
+front_outcome (Stopped halt) = halted halt

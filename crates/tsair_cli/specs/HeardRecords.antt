@@ -1,0 +1,72 @@
+-- The records of a run, heard one after another, and the lines of those that are refused.
+use Rattle.std.specs.Prelude.{◌≡◌, ◌<◌, ℕ, Bool, true, nat_lt, List, [], ◌∷◌, length, map, Option, Some, None, Result, Ok, Err, codes}
+use Rattle.devices.specs.Devices.{Device, Port, HasFailed, IsClean, between}
+use Rattle.devices.specs.Lines.{Reports, line_text}
+use Rattle.packet_output.specs.declared.output.OutputFault.{OutputFault}
+use Rattle.unit_records.specs.declared.reading.UnitFileError.TheVariants.{Cut, Size, Device as AtReader, Memory}
+use Rattle.on_air.specs.declared.refusals.AirRefusal.{AirRefusal}
+use Rattle.on_air.specs.declared.answers.Ending.{Ending}
+use Rattle.on_air.specs.declared.answers.Ending.TheVariants.{Input, Unread, Slots, Records}
+use Rattle.on_air.specs.Airing.{Run, Air, air_code}
+use Rattle.on_air.specs.AirStates.{AirState, IsOnAir}
+use Rattle.on_air.specs.Hearing.{EndsAt, Fails, HeardOn}
+use Rattle.tsair_cli.specs.declared.hearing.RecordsEnd.{RecordsEnd}
+
+-- 1. The lines of records that are refused
+
+-- its number, and why
+abbrev pub refusal_line : ℕ × AirRefusal → List ℕ
+refusal_line refused = line_text (codes "unit") (refused.0 ∷ air_code refused.1 ∷ [])
+
+-- lines were reported one after another
+unfoldable pub Tells : Port → Port → List (List ℕ) → Type 0
+Tells before after [] = after ≡ before
+Tells before after (line ∷ lines) = (mid : Port) × Reports (between before mid) line × Tells mid after lines
+
+abbrev pub has_refused : Air → Bool
+has_refused a = nat_lt 0 (length a.refused)
+
+-- 2. All records
+
+-- the run has come as far as this, over bytes that the reader gave at its beginning, and each record that was refused is told
+pub record Airs (run : Run) (origin left : Option (List ℕ)) (faults : Device) : Type 0 where
+  pub came : Air
+  pub heard_is : HeardOn run origin left came
+  pub told : Tells faults.before faults.after (map refusal_line came.refused)
+
+-- why no further record is heard: a record was refused, where that ends a run; or what comes at this place of the input
+abbrev pub EndsBy : Run → Air → Bool → Option (List ℕ) → Option (List ℕ) → Option Ending → Type 0
+EndsBy run came stop before left None = (stop ≡ true) × ((has_refused came ≡ true) × (left ≡ before))
+EndsBy run came stop before left (Some why) = EndsAt run came before left why
+
+-- a call of the reader failed exactly where that is why
+abbrev pub NamesReader : Device → Option Ending → Type 0
+NamesReader input None = IsClean input
+NamesReader input (Some Input) = IsClean input
+NamesReader input (Some (Unread Cut)) = IsClean input
+NamesReader input (Some (Unread Size)) = IsClean input
+NamesReader input (Some (Unread AtReader)) = HasFailed input
+NamesReader input (Some (Unread Memory)) = IsClean input
+NamesReader input (Some Slots) = IsClean input
+NamesReader input (Some Records) = IsClean input
+
+-- the records ended
+pub record EndsRecords (run : Run) (stop : Bool) (start : Option (List ℕ)) (input output faults : Device) (end : RecordsEnd) (s : AirState) : Type 0 where
+  pub rest : Option (List ℕ)
+  pub airs : Airs run input.before.bytes rest faults
+  pub ends : EndsBy run airs.came stop rest input.after.bytes end.why
+  pub refused : end.has_refused ≡ has_refused airs.came
+  pub state : IsOnAir run airs.came start output.after.bytes s
+  pub reader : NamesReader input end.why
+  pub clean : IsClean output
+
+-- the writer failed within the slots of the last record
+pub record FailsRecords (run : Run) (start : Option (List ℕ)) (input output faults : Device) (sent : ℕ) : Type 0 where
+  pub airs : Airs run input.before.bytes input.after.bytes faults
+  pub fails : Fails run airs.came start output.after.bytes sent
+  pub clean : IsClean input
+  pub failed : HasFailed output
+
+abbrev pub HearsAll : Run → Bool → Option (List ℕ) → Device → Device → Device → Result RecordsEnd OutputFault → AirState → Type 0
+HearsAll run stop start input output faults (Ok end) s = EndsRecords run stop start input output faults end s
+HearsAll run stop start input output faults (Err fault) s = FailsRecords run start input output faults fault.sent

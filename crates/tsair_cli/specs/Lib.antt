@@ -1,0 +1,6 @@
+pub mod CommandLine
+pub mod Arguments
+pub mod Fronts
+pub mod HeardRecords
+pub mod Endings
+pub mod AirRuns

@@ -1,0 +1,35 @@
+//! The end of a run: the rest of its slots, and why it ended.
+
+ghost use Rattle.std.specs.Prelude.{◌≡◌, if◌then◌else◌};
+ghost use Rattle.devices.specs.Devices.{writes};
+ghost use Rattle.devices.specs.Lines.{Reports};
+ghost use Rattle.tsair_cli.specs.Endings.{end_outcome};
+
+use crate::hearing::RecordsEnd;
+use checked_jobs::{report_record, report_refusal};
+use counted_io::Sink;
+use on_air::Ending;
+
+/// The status of a run of which nothing else is told.
+fn quiet_status(has_refused: bool) -> u8
+    ensures { result ≡ (if has_refused then 1 else 0) }
+{
+    if has_refused { 1 } else { 0 }
+}
+
+/// Reports why a run of `records` records ended, where that is no end of its input or its slots, and returns the status.
+#[tactic(auto, unfolding(crate::specs::Endings::end_outcome, crate::specs::Endings::why_outcome, crate::specs::Endings::slots_outcome))]
+pub fn report_end<E: Sink>(faults: &mut E, slots: Option<u64>, records: u64, end: RecordsEnd) -> u8
+    ensures report { Reports (writes E.Sink faults.old faults.new) (end_outcome slots records end).report }
+    ensures status { result ≡ (end_outcome slots records end).status }
+{
+    match end.why {
+        None | Some(Ending::Input) => quiet_status(end.has_refused),
+        Some(Ending::Unread(fault)) => report_record(faults, records, fault),
+        Some(Ending::Slots) => match slots {
+            Some(_) => quiet_status(end.has_refused),
+            None => report_refusal(faults, "slots", &[]),
+        },
+        Some(Ending::Records) => report_refusal(faults, "records", &[]),
+    }
+}

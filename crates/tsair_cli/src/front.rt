@@ -1,0 +1,146 @@
+//! The front of the input: a description and its plans, as far as the last line `end`.
+
+ghost use Rattle.std.specs.Prelude.{◌≡◌, ◌≤◌, true, length};
+ghost use Rattle.devices.specs.Devices.{reads, writes};
+ghost use Rattle.devices.specs.Lines.{Reports};
+ghost use Rattle.checked_jobs.specs.Jobs.{job_of};
+ghost use Rattle.tsair_cli.specs.Fronts as spec;
+
+use checked_jobs::{
+    CheckedJob, JobFault, JobPlans, JobReadError, parts_of, read_job, report_fault, report_refusal,
+};
+use counted_io::{Sink, Source, read_part};
+use devices::{Halt, report_halt};
+use std::alloc::Global;
+
+/// The maximum number of bytes of a front: the longest plan's text has half a million.
+const MAX_FRONT: usize = 1 << 22;
+
+/// The last line of a plan's text.
+const LAST_PLAN_LINE: &[u8] = b"end\n";
+
+/// Why a front is refused.
+#[derive(Clone, Copy)]
+pub enum FrontFault {
+    /// The first fault in the job that it is.
+    Job(JobFault),
+    /// It does not end with the last line of its plans, within 4 MiB.
+    Unended,
+}
+
+/// Why no front is read.
+#[derive(Clone, Copy)]
+pub enum FrontError {
+    Fault(FrontFault),
+    /// The reader failed, or out of memory.
+    Stopped(Halt),
+}
+
+/// Reads the next line of the input to the end of a text, and returns whether the input may go on.
+fn read_line<R: Source>(input: &mut R, text: &mut Vec<u8>) -> Result<bool, Halt>
+    ensures { spec.ReadsLine (reads R.Source input.old input.new) text.old.items text.new.items result }
+{
+    let mut byte = [0u8];
+    'bytes: while text.len() <= MAX_FRONT {
+        match read_part(input, &mut byte) {
+            Ok(0) => return Ok(false),
+            Ok(_) => {}
+            Err(_) => return Err(Halt::Read),
+        }
+        let next = byte[0];
+        let Ok(()) = text.push(next) else {
+            return Err(Halt::Memory);
+        };
+        if next == b'\n' {
+            return Ok(true);
+        }
+    }
+    Ok(true)
+}
+
+/// The number of lines `end` in bytes.
+fn end_lines(bytes: &[u8]) -> usize
+    ensures value { result ≡ spec.end_lines true bytes.now }
+    ensures upper { result ≤ length bytes.now }
+{
+    let mut count = 0;
+    let mut at_line = true;
+    for (i, byte) in bytes.iter().enumerate() {
+        if at_line && bytes[i..].starts_with(LAST_PLAN_LINE) {
+            count += 1;
+        }
+        at_line = *byte == b'\n';
+    }
+    count
+}
+
+/// The number of plans of a front.
+fn plan_count(switch: bool) -> usize
+    ensures { result ≡ spec.plan_count switch }
+{
+    if switch { 2 } else { 1 }
+}
+
+/// Whether bytes have the last line of each plan.
+fn plans_end(switch: bool, bytes: &[u8]) -> bool
+    ensures { result ≡ spec.plans_end switch bytes.now }
+{
+    match parts_of(bytes) {
+        None => false,
+        Some((_, plans)) => plan_count(switch) <= end_lines(plans),
+    }
+}
+
+/// The plans of a front that is all of a job before its records.
+fn plans_of(alloc: Global, switch: bool, front: &[u8]) -> Result<JobPlans, FrontError>
+    ensures { spec.IsFrontOf (job_of switch front.now) result }
+{
+    match read_job(alloc, switch, front) {
+        Ok(CheckedJob { plans, rest }) => {
+            if rest.is_empty() {
+                return Ok(plans);
+            }
+            // By a call: at the end of a function the drop of each part would be a step of its proof.
+            drop(plans);
+            Err(FrontError::Fault(FrontFault::Unended))
+        }
+        Err(JobReadError::Fault(fault)) => Err(FrontError::Fault(FrontFault::Job(fault))),
+        Err(JobReadError::Memory) => Err(FrontError::Stopped(Halt::Memory)),
+    }
+}
+
+/// Reads the front of the input as far as the line that ends its last plan, and no byte after it.
+pub fn read_front<R: Source>(
+    alloc: Global,
+    switch: bool,
+    input: &mut R,
+) -> Result<JobPlans, FrontError>
+    ensures { spec.ReadsFront switch (reads R.Source input.old input.new) result }
+{
+    let mut text = Vec::new(alloc);
+    'lines: while text.len() <= MAX_FRONT {
+        let from = text.len();
+        match read_line(input, &mut text) {
+            Ok(true) => {}
+            Ok(false) => return plans_of(alloc, switch, &text),
+            Err(halt) => return Err(FrontError::Stopped(halt)),
+        }
+        if text[from..].starts_with(LAST_PLAN_LINE) && plans_end(switch, &text) {
+            return plans_of(alloc, switch, &text);
+        }
+    }
+    Err(FrontError::Fault(FrontFault::Unended))
+}
+
+/// Reports why no front is read, and returns the status.
+#[tactic(auto, unfolding(crate::specs::Fronts::front_outcome))]
+pub fn report_front<E: Sink>(faults: &mut E, error: FrontError) -> u8
+    ensures report { Reports (writes E.Sink faults.old faults.new) (spec.front_outcome error).report }
+    ensures status { result ≡ (spec.front_outcome error).status }
+{
+    match error {
+        FrontError::Fault(FrontFault::Job(fault)) => report_fault(fault, faults),
+        FrontError::Fault(FrontFault::Unended) => report_refusal(faults, "front", &[]),
+        FrontError::Stopped(halt) => report_halt(faults, halt),
+    }
+}

@@ -1,0 +1,65 @@
+//! The records of a run, heard one after another.
+
+ghost use Rattle.std.specs.Prelude.{◌≡◌, List, ℕ, Option};
+ghost use Rattle.devices.specs.Devices.{reads, writes};
+ghost use Rattle.devices.specs.Lines.{Reports};
+ghost use Rattle.on_air.specs.Airing.{Run, silence};
+ghost use Rattle.on_air.specs.AirStates.{IsOnAir};
+ghost use Rattle.tsair_cli.specs.HeardRecords.{HearsAll, refusal_line};
+
+use checked_jobs::report_refusal;
+use counted_io::{Sink, Source};
+use on_air::{AirRefusal, Ending, Heard, OnAir, OutputFault};
+use std::alloc::Global;
+
+/// How the records of a run ended.
+#[derive(Clone, Copy)]
+pub struct RecordsEnd {
+    /// Whether a record was refused.
+    pub has_refused: bool,
+    /// Why no further record is heard; none where a record that was refused ended the run.
+    pub why: Option<Ending>,
+}
+
+/// Reports that a record is refused.
+fn report_refused<E: Sink>(faults: &mut E, index: u64, cause: AirRefusal)
+    ensures { Reports (writes E.Sink faults.old faults.new) (refusal_line (index, cause)) }
+{
+    let numbers = [u128::from(index), u128::from(cause.code())];
+    let _ = report_refusal(faults, "unit", &numbers);
+}
+
+/// Hears all records of a run, and reports each that is refused before the next is read. On request the first that is
+/// refused ends the run.
+pub fn hear_all<R: Source, W: Sink, E: Sink>(
+    alloc: Global,
+    stop: bool,
+    on_air: &mut OnAir,
+    input: &mut R,
+    output: &mut W,
+    faults: &mut E,
+) -> Result<RecordsEnd, OutputFault>
+    ensures { (run : Run) (start : Option (List ℕ)) → IsOnAir run silence start (W.contents output.old) on_air.old →
+        HearsAll run stop start (reads R.Source input.old input.new) (writes W.Sink output.old output.new)
+        (writes E.Sink faults.old faults.new) result on_air.new }
+{
+    let mut has_refused = false;
+    'records: loop {
+        match on_air.hear_on(alloc, input, output) {
+            Ok(Heard::Refused { index, cause }) => {
+                report_refused(faults, index, cause);
+                has_refused = true;
+                if stop {
+                    let why = None;
+                    return Ok(RecordsEnd { has_refused, why });
+                }
+            }
+            Ok(Heard::Ended(why)) => {
+                let why = Some(why);
+                return Ok(RecordsEnd { has_refused, why });
+            }
+            Ok(Heard::Taken) => {}
+            Err(fault) => return Err(fault),
+        }
+    }
+}

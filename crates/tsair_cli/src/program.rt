@@ -1,0 +1,146 @@
+//! The program over any reader and two writers.
+
+ghost use Rattle.std.specs.Prelude.{◌≡◌, ◌⊎◌, List, ℕ, None, Option, Some, IfOk, []};
+ghost use Rattle.devices.specs.Devices.{reads, writes};
+ghost use Rattle.devices.specs.Lines.{Reports};
+ghost use Rattle.devices.specs.Runs.{LacksMemory};
+ghost use Rattle.devices.specs.Usage.{IsUsage};
+ghost use Rattle.mux_core.specs.NewMux.{Judges};
+ghost use Rattle.on_air.specs.Airing.{Run, silence};
+ghost use Rattle.on_air.specs.AirStates.{IsOnAir, begin_refusal};
+ghost use Rattle.checked_jobs.specs.JobFaults.{plans_view};
+ghost use Rattle.tsair_cli.specs.AirRuns as spec;
+ghost use Rattle.tsair_cli.specs.Arguments.{asked};
+ghost use Rattle.tsair_cli.specs.declared.arguments.AirOptions.{AirOptions};
+
+use crate::arguments::{AirOptions, read_arguments};
+use crate::ending::report_end;
+use crate::front::{read_front, report_front};
+use crate::hearing::hear_all;
+use checked_jobs::{JobPlans, report_refusal};
+use counted_io::{Sink, Source, write_part};
+use devices::{Halt, report_halt};
+use on_air::{NewError, OnAir};
+use std::alloc::Global;
+
+/// The usage, written to the second writer on a usage error.
+const USAGE: &str = "usage: tsair [OPTIONS] < JOB > PACKETS
+  --wait 0..8100000              how much later than a greater DTS a unit may come, in units of 90 kHz
+  --ahead 0..4503599627370496    how far after the greatest DTS so far the next may lie; else 900000
+  --stop                         the first unit that is refused ends the run
+  --hex                          packets are written as lines of hexadecimal digits
+  --slots 0..1099511627776       the number of packets; else those up to the greatest DTS
+  --switch Q                     the periods of the first plan before the second
+";
+
+/// Writes the usage, and returns the status.
+pub fn report_usage<E: Sink>(faults: &mut E) -> u8
+    ensures { result ≡ 2 }
+{
+    let _ = write_part(faults, USAGE.as_bytes());
+    2
+}
+
+/// The run over the plans of a job, before its first slot.
+fn begin(alloc: Global, options: AirOptions, plans: JobPlans) -> Result<OnAir, NewError>
+    ensures refused { Judges (spec.begin_cause options (plans_view plans [])) (begin_refusal result) }
+    ensures begun { (start : Option (List ℕ)) →
+        IfOk result (IsOnAir (spec.run_of options (plans_view plans [])) silence start start) }
+{
+    match plans {
+        JobPlans::One(plan) => OnAir::new(alloc, plan, options.terms, options.hex),
+        JobPlans::Two(switch) => OnAir::with_switch(
+            alloc,
+            switch,
+            options.periods.unwrap_or(0),
+            options.terms,
+            options.hex,
+        ),
+    }
+}
+
+/// Reports why no run was begun, and returns the status.
+fn report_begin<E: Sink>(faults: &mut E, cause: NewError) -> u8
+    ensures report { Reports (writes E.Sink faults.old faults.new) (spec.begin_outcome cause).report }
+    ensures status { result ≡ (spec.begin_outcome cause).status }
+{
+    match cause {
+        NewError::Periods => report_refusal(faults, "periods", &[]),
+        NewError::Capacity | NewError::Memory => report_halt(faults, Halt::Memory),
+    }
+}
+
+/// Hears the records of a run, writes its slots to the last, and returns the status.
+fn air<R: Source, W: Sink, E: Sink>(
+    alloc: Global,
+    options: AirOptions,
+    on_air: &mut OnAir,
+    input: &mut R,
+    output: &mut W,
+    faults: &mut E,
+) -> u8
+    ensures { (run : Run) → IsOnAir run silence (W.contents output.old) (W.contents output.old) on_air.old →
+        spec.AirsRecords options run (reads R.Source input.old input.new) (writes W.Sink output.old output.new)
+        (writes E.Sink faults.old faults.new) result }
+{
+    let end = match hear_all(alloc, options.stop, on_air, input, output, faults) {
+        Ok(end) => end,
+        Err(_) => return report_halt(faults, Halt::Write),
+    };
+    match on_air.end(output) {
+        Ok(()) => report_end(faults, options.terms.slots, on_air.records(), end),
+        Err(_) => report_halt(faults, Halt::Write),
+    }
+}
+
+/// Reads the front of the input, airs the job, and returns the status.
+fn air_job<R: Source, W: Sink, E: Sink>(
+    alloc: Global,
+    options: AirOptions,
+    input: &mut R,
+    output: &mut W,
+    faults: &mut E,
+) -> u8
+    ensures { spec.AirsJob options (reads R.Source input.old input.new) (writes W.Sink output.old output.new)
+        (writes E.Sink faults.old faults.new) result }
+{
+    let plans = match read_front(alloc, options.periods.is_some(), input) {
+        Ok(plans) => plans,
+        Err(error) => return report_front(faults, error),
+    };
+    let mut on_air = match begin(alloc, options, plans) {
+        Ok(on_air) => on_air,
+        Err(cause) => return report_begin(faults, cause),
+    };
+    let status = air(alloc, options, &mut on_air, input, output, faults);
+    // By a call: at the end of a function the drop of each part would be a step of its proof.
+    drop(on_air);
+    status
+}
+
+/// The whole program: it reads the front of the input, writes the slots that each record settles before it reads the
+/// next, reports faults on the second writer, and returns the exit status: 0 good, 1 refused, 2 a usage error, 3 a device
+/// failed or out of memory.
+pub fn run<R: Source, W: Sink, E: Sink>(
+    alloc: Global,
+    words: &[&str],
+    input: &mut R,
+    output: &mut W,
+    faults: &mut E,
+) -> u8
+    // A job, its records as they come, to packets.
+    ensures air { (o : AirOptions) → asked words.now ≡ Some o →
+        spec.AirsJob o (reads R.Source input.old input.new) (writes W.Sink output.old output.new)
+        (writes E.Sink faults.old faults.new) result }
+    // Anything else.
+    ensures usage { asked words.now ≡ None →
+        IsUsage (reads R.Source input.old input.new) (writes W.Sink output.old output.new) result
+        ⊎ LacksMemory (reads R.Source input.old input.new) (writes W.Sink output.old output.new)
+        (writes E.Sink faults.old faults.new) result }
+{
+    match read_arguments(alloc, words) {
+        Ok(Some(options)) => air_job(alloc, options, input, output, faults),
+        Ok(None) => report_usage(faults),
+        Err(_) => report_halt(faults, Halt::Memory),
+    }
+}

@@ -1,0 +1,34 @@
+#!/bin/sh
+# run.sh TSJOB TSMUX TSAIR [SECONDS [STREAM]]: a stream of ffmpeg (of so many seconds, 60 where none are named; or STREAM) on air: its job by `tsjob`, its units given as
+# they come due, `tsair`, a pacer, datagrams of seven packets to a loopback socket, and what came there beside `tsmux mux` of the same job, and
+# by the monitor. Status 1 where it differs, or the monitor finds a fault. ffmpeg, mbuffer and socat are Debian's packages of these names.
+set -eu
+here=$(cd "$(dirname "$0")" && pwd)
+tsjob=$1 tsmux=$2 tsair=$3 seconds=${4:-60}
+work=$here/../../out/on-air
+mkdir -p "$work"
+stream=${5:-$work/in.ts}
+if [ $# -lt 5 ]; then
+    ffmpeg -nostdin -loglevel error -y -f lavfi -i "testsrc2=size=320x240:rate=25" -f lavfi -i "sine=frequency=440:sample_rate=48000" -t "$seconds" \
+        -c:v libx264 -b:v 600k -maxrate 600k -bufsize 600k -g 25 -c:a mp2 -b:a 128k -f mpegts "$stream"
+fi
+"$tsjob" describe --whole < "$stream" > "$work/description"
+"$tsmux" plan < "$work/description" > "$work/plan"
+"$tsjob" units --whole < "$stream" > "$work/units"
+cat "$work/description" "$work/plan" "$work/units" | "$tsmux" mux > "$work/wanted.ts"
+rate=$(sed -n 's/^rate = //p' "$work/description")
+
+# One datagram after the other, as they come; a receiver has one of its own socket for each run.
+rm -f "$work/came.ts"
+timeout $((seconds + 30)) socat -u -b 65536 UDP4-RECV:5004,bind=127.0.0.1,so-rcvbuf=8000000 OPEN:"$work/came.ts",creat,append &
+receiver=$!
+sleep 1
+# A pacer counts from its own start, so it begins with the first packets.
+( cat "$work/description" "$work/plan"; "$here/paced-records" < "$work/units" ) | "$tsair" \
+    | ( dd bs=1316 count=1 iflag=fullblock status=none; exec mbuffer -q -m 1M -s 1316 -R $((rate / 8)) ) \
+    | socat -u -b 1316 - UDP4-SENDTO:127.0.0.1:5004
+sleep 2
+kill $receiver 2> /dev/null || true
+ls -l "$work/wanted.ts" "$work/came.ts"
+cmp "$work/wanted.ts" "$work/came.ts"
+"$tsmux" monitor --rate "$rate" < "$work/came.ts" | tail -n 3
