@@ -58,11 +58,40 @@ class Pid(syntax.Pid):
         self.found.append((packet, begins, kind, value))
 
 
+def in_step(data):
+    """The bytes of a stream without those of its slips, and a line for each slip and each PID with random_access_indicator: where a packet's sync byte does not stand 188 bytes
+    after the one before, and three that do so begin within four packets, in another step."""
+    sync = lambda at: data[at: at + 1] == b"\x47"
+    row = lambda at: sync(at) and sync(at + 188) and sync(at + 376)
+    kept, at, lines = [], 0, []
+    while at + 188 <= len(data):
+        lost = at + 188 < len(data) and not sync(at + 188) and not row(at + 376)
+        size = next((n for n in range(1, 752) if n % 188 and row(at + n)), None) if lost else None
+        if size is None:
+            kept.append(data[at: at + 188])
+        else:
+            lines.append(f"packet {len(kept)} slip of {size} bytes")
+        at += size or 188
+    marked = [(p[1] & 31) << 8 | p[2] for p in kept if p[3] & 0x20 and p[4] and p[5] & 0x40]
+    return b"".join(kept) + data[at:], lines + [f"pid {pid} random access indicators left out" for pid in dict.fromkeys(marked)]
+
+
+def other_packets(data):
+    """The refusal of a stream whose packets are not of 188 bytes, if three of another size stand at its front."""
+    row = lambda at, size: all(data[at + k * size: at + k * size + 1] == b"\x47" for k in range(3))
+    if row(0, 188):
+        return None
+    if row(4, 192):
+        return "packets of 192 bytes: take the 4 bytes before each of 188 away"
+    return "packets of 204 bytes: take the 16 bytes after each of 188 away" if row(0, 204) else None
+
+
 class Stream:
     """The findings of a stream by PID, and its packets that can't be told a PID."""
 
     def __init__(self, data):
-        self.count, self.pids, self.lines, self.bad = len(data) // 188, {}, [], 0
+        data, slips = in_step(data)
+        self.count, self.pids, self.lines, self.bad = len(data) // 188, {}, slips, 0
         for packet in range(self.count):
             fields = syntax.read_packet(data[188 * packet: 188 * packet + 188])
             if isinstance(fields, int):

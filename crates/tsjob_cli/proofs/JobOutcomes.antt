@@ -25,9 +25,10 @@ use Rattle.devices.proofs.Performances.{no_room, performed, unwritten}
 use Rattle.tsjob_cli.specs.declared.arguments.Subcommand.{Subcommand}
 use Rattle.tsjob_cli.specs.declared.arguments.Subcommand.TheVariants.{Whole, Describe, Units, Why}
 use Rattle.tsjob_cli.specs.Arguments.{JobArgumentsView}
-use Rattle.tsjob_cli.specs.Outcomes.{FindingsLead, GivesJob, IsWritten, Leads, InputLeads, ReportsWhy, Withholds}
+use Rattle.packet_sync.specs.Slips.{carried_from}
+use Rattle.tsjob_cli.specs.Outcomes.{BytesLead, FindingsLead, GivesJob, IsWritten, Leads, InputLeads, ReportsWhy, Withholds}
 use Rattle.tsjob_cli.specs.Records.{written}
-use Rattle.tsjob_cli.specs.Streams.{TakesWhole, findings_of}
+use Rattle.tsjob_cli.specs.Streams.{PacketNotesView, TakesCarried, findings_of, notes_of}
 
 -- 1. What a subcommand gives
 
@@ -50,6 +51,11 @@ given_job w findings m text plan d p q units j u s e f = record {
   is = ap (λ (x : List ℕ). written text x units) (e ∙ ap plan_text f);
 }
 
+-- four texts, one after another
+pub four_texts : (a b c d first second third fourth : List ℕ) → a ≡ first → b ≡ a ++ second → c ≡ b ++ third → d ≡ c ++ fourth → d ≡ first ++ second ++ third ++ fourth
+four_texts a b c d first second third fourth e f h k =
+    k ∙ ap (λ (x : List ℕ). x ++ fourth) (h ∙ ap (λ (x : List ℕ). x ++ third) (f ∙ ap (λ (x : List ℕ). x ++ second) e))
+
 -- 2. What a job input leads to
 
 undescribed : (rate : Option ℕ) (w : JobOptionsView) (findings : List FindingView) (m : JobInputView) → IsWhyNoDescription rate w findings m Memory
@@ -67,54 +73,50 @@ no_memory Describe w findings m error e = subst (λ (x : JobError). Withholds De
 no_memory Units w findings m error e = e
 no_memory Why w findings m error e = subst (λ (x : JobError). Withholds Why w findings m x) (sym e) (unreasoned w.rate w findings m)
 
-pub withheld : (arguments : JobArgumentsView) (findings : List FindingView) (m : JobInputView) (error : JobError) (o : Outcome) →
-    Withholds arguments.subcommand arguments.options findings m error → ReportsWhy error o → InputLeads arguments findings (Ok m) o
-withheld arguments findings m Memory o h t = absurd t
-withheld arguments findings m (Refused refusal) o h t = inr (record { refusal = refusal; holds = h; is = t })
+pub withheld : (arguments : JobArgumentsView) (notes : PacketNotesView) (findings : List FindingView) (m : JobInputView) (error : JobError) (o : Outcome) →
+    Withholds arguments.subcommand arguments.options findings m error → ReportsWhy error o → InputLeads arguments notes findings (Ok m) o
+withheld arguments notes findings m Memory o h t = absurd t
+withheld arguments notes findings m (Refused refusal) o h t = inr (record { refusal = refusal; holds = h; is = t })
 
 -- there is a job input
 answered : (r : Result JobInputView JobRefusal) (m : JobInputView) → Answers r (Ok m) → r ≡ Ok m
 unfolding Answers
 answered r m a = a
 
-pub with_input : (arguments : JobArgumentsView) (count : ℕ) (findings : List FindingView) (m : JobInputView) (o : Outcome) →
-    Answers (job_input arguments.options count findings) (Ok m) → InputLeads arguments findings (Ok m) o → FindingsLead arguments count findings o
-with_input arguments count findings m o a l =
-    subst (λ (r : Result JobInputView JobRefusal). InputLeads arguments findings r o) (sym (answered (job_input arguments.options count findings) m a)) l
+pub with_input : (arguments : JobArgumentsView) (notes : PacketNotesView) (count : ℕ) (findings : List FindingView) (m : JobInputView) (o : Outcome) →
+    Answers (job_input arguments.options count findings) (Ok m) → InputLeads arguments notes findings (Ok m) o → FindingsLead arguments notes count findings o
+with_input arguments notes count findings m o a l =
+    subst (λ (r : Result JobInputView JobRefusal). InputLeads arguments notes findings r o) (sym (answered (job_input arguments.options count findings) m a)) l
 
 -- there is none
-refused : (arguments : JobArgumentsView) (findings : List FindingView) (r : Result JobInputView JobRefusal) (error : JobError) (o : Outcome) →
-    Answers r (Err error) → ReportsWhy error o → InputLeads arguments findings r o
+refused : (arguments : JobArgumentsView) (notes : PacketNotesView) (findings : List FindingView) (r : Result JobInputView JobRefusal) (error : JobError) (o : Outcome) →
+    Answers r (Err error) → ReportsWhy error o → InputLeads arguments notes findings r o
 unfolding Answers Refuses
-refused arguments findings r Memory o a t = absurd t
-refused arguments findings r (Refused refusal) o a t = subst (λ (r : Result JobInputView JobRefusal). InputLeads arguments findings r o) (sym a) t
+refused arguments notes findings r Memory o a t = absurd t
+refused arguments notes findings r (Refused refusal) o a t = subst (λ (r : Result JobInputView JobRefusal). InputLeads arguments notes findings r o) (sym a) t
 
-pub without_input : (arguments : JobArgumentsView) (count : ℕ) (findings : List FindingView) (error : JobError) (o : Outcome) →
-    Answers (job_input arguments.options count findings) (Err error) → ReportsWhy error o → FindingsLead arguments count findings o
-without_input arguments count findings error o a t = refused arguments findings (job_input arguments.options count findings) error o a t
+pub without_input : (arguments : JobArgumentsView) (notes : PacketNotesView) (count : ℕ) (findings : List FindingView) (error : JobError) (o : Outcome) →
+    Answers (job_input arguments.options count findings) (Err error) → ReportsWhy error o → FindingsLead arguments notes count findings o
+without_input arguments notes count findings error o a t = refused arguments notes findings (job_input arguments.options count findings) error o a t
 
 -- 3. What was read leads to it
 
-leads_to : (arguments : JobArgumentsView) (bytes : List ℕ) (size : ℕ) (findings : List FindingView) (demux : StreamState) (o : Outcome) → size ≡ length bytes → findings ≡ demux.found →
-    demux.found ≡ findings_of bytes → FindingsLead arguments (size / 188) findings o → Leads arguments bytes o
-leads_to arguments bytes size findings demux o s f d l =
-    subst (λ (x : List FindingView). FindingsLead arguments (length bytes / 188) x o) (f ∙ d)
-    (subst (λ (x : ℕ). FindingsLead arguments (x / 188) findings o) s l)
+-- the bytes of a stream that are in no slip
+pub carried_lead : (arguments : JobArgumentsView) (bytes : List ℕ) (notes : PacketNotesView) (size : ℕ) (findings : List FindingView) (demux : StreamState) (o : Outcome) →
+    notes ≡ notes_of bytes → TakesCarried bytes notes.slips demux size → findings ≡ demux.found → FindingsLead arguments notes (size / 188) findings o → BytesLead arguments bytes None o
+carried_lead arguments bytes notes size findings demux o e t f l =
+    subst (λ (x : PacketNotesView). FindingsLead arguments x (length (carried_from bytes 0 x.slips) / 188) (findings_of (carried_from bytes 0 x.slips)) o) e
+    (subst (λ (x : List FindingView). FindingsLead arguments notes (length (carried_from bytes 0 notes.slips) / 188) x o) (f ∙ t.found)
+    (subst (λ (n : ℕ). FindingsLead arguments notes (n / 188) findings o) t.size_is l))
 
-led : (arguments : JobArgumentsView) (bytes : List ℕ) (o : Outcome) (input output faults : Device) (status : ℕ) → ReadsInput input (Ok bytes) → Leads arguments bytes o →
+pub outcome_written : (arguments : JobArgumentsView) (bytes : List ℕ) (o : Outcome) (input output faults : Device) (status : ℕ) → ReadsInput input (Ok bytes) → Leads arguments bytes o →
     IsWritten o output faults status → Performs (Leads arguments) input output faults status
-led arguments bytes o input output faults status r l (inl w) = performed (Leads arguments) bytes o input output faults status r l w.0 w.1 w.2 w.3
-led arguments bytes o input output faults status r l (inr w) = unwritten (Leads arguments) bytes o input output faults status r l w.0 w.1 w.2 w.3
+outcome_written arguments bytes o input output faults status r l (inl w) = performed (Leads arguments) bytes o input output faults status r l w.0 w.1 w.2 w.3
+outcome_written arguments bytes o input output faults status r l (inr w) = unwritten (Leads arguments) bytes o input output faults status r l w.0 w.1 w.2 w.3
 
-pub outcome_written : (arguments : JobArgumentsView) (size : ℕ) (findings : List FindingView) (demux : StreamState) (o : Outcome) (input output faults : Device) (status : ℕ) →
-    TakesWhole input demux size → findings ≡ demux.found → FindingsLead arguments (size / 188) findings o → IsWritten o output faults status →
-    Performs (Leads arguments) input output faults status
-outcome_written arguments size findings demux o input output faults status t f l w =
-    led arguments t.bytes o input output faults status t.read (leads_to arguments t.bytes size findings demux o t.size_is f t.found l) w
-
-pub no_memory_left : (arguments : JobArgumentsView) (size : ℕ) (demux : StreamState) (input output faults : Device) (status : ℕ) →
-    TakesWhole input demux size → IsUntouched output → Reports faults (halt_line halt.Memory) → status ≡ 3 → Performs (Leads arguments) input output faults status
-no_memory_left arguments size demux input output faults status t u m s = no_room (Leads arguments) t.bytes input output faults status t.read u m s
+pub no_memory_left : (arguments : JobArgumentsView) (bytes : List ℕ) (input output faults : Device) (status : ℕ) →
+    ReadsInput input (Ok bytes) → IsUntouched output → Reports faults (halt_line halt.Memory) → status ≡ 3 → Performs (Leads arguments) input output faults status
+no_memory_left arguments bytes input output faults status r u m s = no_room (Leads arguments) bytes input output faults status r u m s
 
 -- 4. What the words lead to
 

@@ -1,9 +1,12 @@
 pub mod CommandLine
 pub mod Lists
 pub mod Arguments
+pub mod UsageText
 pub mod WarningLines
 pub mod RefusalLine
 pub mod ReasonLines
+pub mod SlipLines
+pub mod TableLines
 pub mod Streams
 pub mod Records
 pub mod Outcomes

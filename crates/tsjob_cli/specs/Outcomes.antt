@@ -1,5 +1,6 @@
 -- The outcome for a transport stream.
-use Rattle.std.specs.Prelude.{◌≡◌, ◌⊎◌, ℕ, ◌/◌, List, length, map, if◌then◌else◌, Result, Ok, Err}
+use Rattle.std.specs.Prelude.{◌≡◌, ◌⊎◌, ℕ, ◌/◌, ◌==◌, ◌||◌, not, Bool, List, ◌++◌, length, map, if◌then◌else◌, Option, Some, None, Result, Ok, Err}
+use Rattle.std.specs.List.{list_any}
 use Rattle.pes_packet.specs.AccessUnits.{AccessUnit}
 use Rattle.demux.specs.Views.{FindingView}
 use Rattle.description.specs.Described.{Described}
@@ -10,7 +11,15 @@ use Rattle.slot_plan.specs.Text.{plan_text}
 use Rattle.unit_order.specs.Merging.{AreMerged}
 use Rattle.stream_jobs.specs.Jobs.{AreReasons, AreUnits, IsDescription, IsJob}
 use Rattle.stream_jobs.specs.JobInput.{JobInputView, job_input}
+use Rattle.other_tables.specs.OtherTables.{other_tables}
+use Rattle.other_tables.specs.TableKinds.{is_loss}
+use Rattle.other_tables.specs.declared.tables.OtherTable.{OtherTable}
+use Rattle.packet_sync.specs.OtherPackets.{other_packets}
+use Rattle.packet_sync.specs.Slips.{carried}
+use Rattle.packet_sync.specs.declared.packet_sizes.OtherPackets.{OtherPackets}
+use Rattle.packet_sync.specs.declared.slip.Slip.{Slip}
 use Rattle.stream_jobs.specs.Warnings.{are_damaged}
+use Rattle.stream_jobs.specs.declared.warning.Warning.{Warning}
 use Rattle.stream_jobs.specs.WhyNoJob.{IsWhyNoDescription, IsWhyNoJob, IsWhyNoReasons}
 use Rattle.stream_jobs.specs.JobOptions.{JobOptionsView}
 use Rattle.stream_jobs.specs.declared.refusal.JobError.{JobError}
@@ -26,7 +35,9 @@ use Rattle.tsjob_cli.specs.Arguments.{JobArgumentsView}
 use Rattle.tsjob_cli.specs.ReasonLines.{reason_lines}
 use Rattle.tsjob_cli.specs.Records.{records_of, written}
 use Rattle.tsjob_cli.specs.RefusalLine.{refusal_line}
-use Rattle.tsjob_cli.specs.Streams.{findings_of}
+use Rattle.tsjob_cli.specs.SlipLines.{packets_line, random_access_lines, slip_lines}
+use Rattle.tsjob_cli.specs.Streams.{PacketNotesView, findings_of, notes_of}
+use Rattle.tsjob_cli.specs.TableLines.{other_table_lines}
 use Rattle.tsjob_cli.specs.WarningLines.{told_warnings, warning_lines}
 
 -- 1. What is written
@@ -71,11 +82,20 @@ Withholds Why w findings m error = IsWhyNoReasons w.rate w findings m error
 
 -- 2. The outcome for a stream
 
--- the output, a line for each warning that is told, and the status 1 where one says that something is lost
-pub record IsGiven (arguments : JobArgumentsView) (findings : List FindingView) (m : JobInputView) (o : Outcome) : Type 0 where
+-- there are slips, or tables that a viewer misses, or one of the warnings says that something is lost
+abbrev pub is_less : List Slip → List OtherTable → List Warning → Bool
+is_less slips tables warnings = not (length slips == 0) || list_any (λ t. is_loss t.kind) tables || are_damaged warnings
+
+-- a line for each slip, for each PID with random_access_indicator, for each with tables that no job is made of, and for each
+-- warning that is told
+abbrev pub loss_lines : PacketNotesView → List OtherTable → List Warning → List ℕ
+loss_lines notes tables warnings = slip_lines notes.slips ++ random_access_lines notes.random_access ++ other_table_lines tables ++ warning_lines warnings
+
+-- the output, the lines of what is left out, and the status 1 where one says that something is lost
+pub record IsGiven (arguments : JobArgumentsView) (notes : PacketNotesView) (findings : List FindingView) (m : JobInputView) (o : Outcome) : Type 0 where
   pub gives : Gives arguments.subcommand arguments.options findings m o.output
-  pub report_is : o.report ≡ warning_lines (told_warnings arguments.whole m.warnings)
-  pub status_is : o.status ≡ (if are_damaged (told_warnings arguments.whole m.warnings) then 1 else 0)
+  pub report_is : o.report ≡ loss_lines notes (other_tables findings) (told_warnings arguments.whole m.warnings)
+  pub status_is : o.status ≡ (if is_less notes.slips (other_tables findings) (told_warnings arguments.whole m.warnings) then 1 else 0)
 
 -- nothing is written but the line of the refusal, and the status is 1
 pub record IsRefused (arguments : JobArgumentsView) (findings : List FindingView) (m : JobInputView) (o : Outcome) : Type 0 where
@@ -84,17 +104,21 @@ pub record IsRefused (arguments : JobArgumentsView) (findings : List FindingView
   pub is : o ≡ reported (refusal_line refusal)
 
 -- for the job input of a stream, or for a stream that is refused
-abbrev pub InputLeads : JobArgumentsView → List FindingView → Result JobInputView JobRefusal → Outcome → Type 0
-InputLeads arguments findings (Ok m) o = IsGiven arguments findings m o ⊎ IsRefused arguments findings m o
-InputLeads arguments findings (Err refusal) o = o ≡ reported (refusal_line refusal)
+abbrev pub InputLeads : JobArgumentsView → PacketNotesView → List FindingView → Result JobInputView JobRefusal → Outcome → Type 0
+InputLeads arguments notes findings (Ok m) o = IsGiven arguments notes findings m o ⊎ IsRefused arguments findings m o
+InputLeads arguments notes findings (Err refusal) o = o ≡ reported (refusal_line refusal)
 
 -- for the findings in a stream of `count` whole packets
-abbrev pub FindingsLead : JobArgumentsView → ℕ → List FindingView → Outcome → Type 0
-FindingsLead arguments count findings o = InputLeads arguments findings (job_input arguments.options count findings) o
+abbrev pub FindingsLead : JobArgumentsView → PacketNotesView → ℕ → List FindingView → Outcome → Type 0
+FindingsLead arguments notes count findings o = InputLeads arguments notes findings (job_input arguments.options count findings) o
 
--- for the bytes of a stream
+-- for the bytes of a stream that are in no slip; a stream of packets of another size is refused
+abbrev pub BytesLead : JobArgumentsView → List ℕ → Option OtherPackets → Outcome → Type 0
+BytesLead arguments bytes (Some packets) o = o ≡ reported (packets_line packets)
+BytesLead arguments bytes None o = FindingsLead arguments (notes_of bytes) (length (carried bytes) / 188) (findings_of (carried bytes)) o
+
 abbrev pub Leads : JobArgumentsView → List ℕ → Outcome → Type 0
-Leads arguments bytes o = FindingsLead arguments (length bytes / 188) (findings_of bytes) o
+Leads arguments bytes o = BytesLead arguments bytes (other_packets bytes) o
 
 -- the line of the refusal, unless the error is out of memory
 abbrev pub ReportsWhy : JobError → Outcome → Type 0

@@ -1,22 +1,24 @@
--- A transport stream that goes through a demultiplexer as it is read.
-use Rattle.std.specs.Prelude.{◌≡◌, ℕ, List, length, Result, Ok, Err}
+-- A transport stream through a demultiplexer.
+use Rattle.std.specs.Prelude.{◌≡◌, ℕ, List, length}
 use Rattle.demux.specs.Views.{FindingView}
 use Rattle.demux.specs.Stream.{StreamState, start, pushed, finished}
-use Rattle.devices.specs.Devices.{Device}
-use Rattle.devices.specs.WholeInput.{ReadsInput}
-use Rattle.devices.specs.declared.halt.Halt.{Halt}
+use Rattle.packet_sync.specs.RandomAccess.{random_access_pids}
+use Rattle.packet_sync.specs.Slips.{carried_from, slips}
+use Rattle.packet_sync.specs.declared.slip.Slip.{Slip}
 
 -- the findings in a whole stream
 abbrev pub findings_of : List ℕ → List FindingView
 findings_of bytes = (finished (pushed start bytes)).found
 
--- the whole input, of `size` bytes, was read, and what is found in it is kept
-pub record TakesWhole (input : Device) (demux : StreamState) (size : ℕ) : Type 0 where
-  pub bytes : List ℕ
-  pub size_is : size ≡ length bytes
-  pub read : ReadsInput input (Ok bytes)
-  pub found : demux.found ≡ findings_of bytes
+-- what is said of the packets of a stream: its slips, and the PIDs with random_access_indicator
+pub record PacketNotesView : Type 0 where
+  pub slips : List Slip
+  pub random_access : List ℕ
 
-abbrev pub TakesStream : Device → Result (StreamState × ℕ) Halt → Type 0
-TakesStream input (Ok taken) = TakesWhole input taken.0 taken.1
-TakesStream input (Err halt) = ReadsInput input (Err halt)
+abbrev pub notes_of : List ℕ → PacketNotesView
+notes_of bytes = record { slips = slips bytes; random_access = random_access_pids bytes }
+
+-- what is found in the bytes that are in no slip is kept, and these are `size` bytes
+pub record TakesCarried (bytes : List ℕ) (slips : List Slip) (demux : StreamState) (size : ℕ) : Type 0 where
+  pub found : demux.found ≡ findings_of (carried_from bytes 0 slips)
+  pub size_is : size ≡ length (carried_from bytes 0 slips)

@@ -1,8 +1,8 @@
 //! What the program `tsjob` does, over any reader and two writers (`run`).
 //!
-//! `command_line`, `lists` and `arguments` read the command line. `reading` reads a transport stream piece by piece and
-//! keeps its findings; `outcome` makes the job of them, with the lines of `warning_lines`, `refusal_line` and
-//! `reason_lines`; `records` writes it. `program` is `run`.
+//! `command_line`, `lists` and `arguments` read the command line. `reading` puts the packets that stand in step through a
+//! demultiplexer; `outcome` makes the job of what it finds, with the lines of `slip_lines`, `table_lines`,
+//! `warning_lines`, `refusal_line` and `reason_lines`; `records` writes it. `program` is `run`.
 #![tactic(auto)]
 
 mod arguments;
@@ -14,6 +14,8 @@ mod reading;
 mod reason_lines;
 mod records;
 mod refusal_line;
+mod slip_lines;
+mod table_lines;
 mod warning_lines;
 
 pub use program::{report_usage, run};

@@ -1,18 +1,24 @@
 //! The outcome for a stream, from its findings.
 
-ghost use Rattle.std.specs.Prelude.{◌≡◌, ◌≤◌, IfErr, IfOk, Ok, length, map, string_bytes};
+ghost use Rattle.std.specs.Prelude.{◌≡◌, ◌≤◌, ◌++◌, IfErr, IfOk, None, Ok, length, map, string_bytes};
 ghost use Rattle.demux.specs.Shown.{finding_view};
 ghost use Rattle.stream_jobs.specs.Jobs.{AreStreams, IsDescription};
 ghost use Rattle.stream_jobs.specs.WhyNoJob.{IsWhyNoDescription, IsWhyNoJob, IsWhyNoReasons};
 ghost use Rattle.stream_jobs.specs.declared.refusal.JobError.TheVariants.{Memory};
 ghost use Rattle.tsjob_cli.specs.Outcomes as spec;
-ghost use Rattle.tsjob_cli.specs.WarningLines.{warning_lines};
+ghost use Rattle.devices.specs.Outcomes.{reported};
+ghost use Rattle.tsjob_cli.specs.SlipLines.{packets_line};
 
 use crate::arguments::{JobArguments, Subcommand};
+use crate::reading::{PacketNotes, packet_notes, take_carried};
 use crate::reason_lines::write_reasons;
 use crate::refusal_line::write_refusal;
+use crate::slip_lines::{write_packets, write_random_access, write_slips};
+use crate::table_lines::{are_missed, write_other_tables};
 use crate::warning_lines::{is_damaged, told_warnings, write_warnings};
 use demux::Finding;
+use other_tables::{OtherTable, other_tables};
+use packet_sync::{OtherPackets, Slip, other_packets};
 use pes_packet::Unit;
 use std::alloc::{AllocError, Global};
 use std::marker::Model;
@@ -153,13 +159,29 @@ fn output_for(
     }
 }
 
-// The lines of warnings.
-fn warning_report(alloc: Global, told: &[Warning]) -> Result<String, AllocError>
-    ensures { IfOk result (λ lines. string_bytes lines ≡ warning_lines told.now) }
+// The lines of what is left out.
+#[tactic(auto, using(crate::proofs::JobOutcomes::four_texts))]
+fn loss_report(
+    alloc: Global,
+    notes: &PacketNotes,
+    tables: &[OtherTable],
+    told: &[Warning],
+) -> Result<String, AllocError>
+    ensures { IfOk result (λ lines. string_bytes lines ≡ spec.loss_lines notes.now tables.now told.now) }
 {
     let mut lines = String::new(alloc);
+    write_slips(&notes.slips, &mut lines)?;
+    write_random_access(&notes.random_access, &mut lines)?;
+    write_other_tables(tables, &mut lines)?;
     write_warnings(told, &mut lines)?;
     Ok(lines)
+}
+
+// Whether one of these says that something is lost.
+fn is_less(slips: &[Slip], tables: &[OtherTable], told: &[Warning]) -> bool
+    ensures { result ≡ spec.is_less slips.now tables.now told.now }
+{
+    !slips.is_empty() || are_missed(tables) || is_damaged(told)
 }
 
 // The outcome for a stream that is not refused.
@@ -167,23 +189,40 @@ fn warning_report(alloc: Global, told: &[Warning]) -> Result<String, AllocError>
 fn job_outcome(
     alloc: Global,
     arguments: &JobArguments<'_>,
+    notes: &PacketNotes,
     findings: &[Finding<'_>],
     input: JobInput,
 ) -> Result<JobOutcome, JobError>
     requires { AreStreams arguments.now.options.make_dts (map finding_view findings.now) input }
-    ensures given { IfOk result (λ a. spec.IsGiven arguments.now (map finding_view findings.now) input a) }
+    ensures given { IfOk result (λ a. spec.IsGiven arguments.now notes.now (map finding_view findings.now) input a) }
     ensures withheld { IfErr result
         (spec.Withholds arguments.now.subcommand arguments.now.options (map finding_view findings.now) input) }
 {
     let told = told_warnings(alloc, arguments.whole, &input.warnings)?;
-    let report = warning_report(alloc, &told)?;
-    let status = if is_damaged(&told) { 1 } else { 0 };
+    let tables = other_tables(alloc, findings)?;
+    let report = loss_report(alloc, notes, &tables, &told)?;
+    let status = if is_less(&notes.slips, &tables, &told) {
+        1
+    } else {
+        0
+    };
     let output = output_for(alloc, arguments, findings, input)?;
     Ok(JobOutcome {
         output,
         report,
         status,
     })
+}
+
+// An outcome without output.
+fn without_output(alloc: Global, report: String) -> JobOutcome
+    ensures { result ≡ reported (string_bytes report) }
+{
+    JobOutcome {
+        output: only_text(alloc, String::new(alloc)),
+        report,
+        status: 1,
+    }
 }
 
 // The outcome for a stream that is refused.
@@ -195,11 +234,7 @@ fn refused_outcome(alloc: Global, error: JobError) -> Result<JobOutcome, AllocEr
     };
     let mut report = String::new(alloc);
     write_refusal(refusal, &mut report)?;
-    Ok(JobOutcome {
-        output: only_text(alloc, String::new(alloc)),
-        report,
-        status: 1,
-    })
+    Ok(without_output(alloc, report))
 }
 
 // The outcome for a stream of this input.
@@ -207,30 +242,75 @@ fn refused_outcome(alloc: Global, error: JobError) -> Result<JobOutcome, AllocEr
 fn input_outcome(
     alloc: Global,
     arguments: &JobArguments<'_>,
+    notes: &PacketNotes,
     findings: &[Finding<'_>],
     input: JobInput,
 ) -> Result<JobOutcome, AllocError>
     requires { AreStreams arguments.now.options.make_dts (map finding_view findings.now) input }
-    ensures { IfOk result (λ a. spec.InputLeads arguments.now (map finding_view findings.now) (Ok input) a) }
+    ensures { IfOk result (λ a. spec.InputLeads arguments.now notes.now (map finding_view findings.now) (Ok input) a) }
 {
-    match job_outcome(alloc, arguments, findings, input) {
+    match job_outcome(alloc, arguments, notes, findings, input) {
         Ok(outcome) => Ok(outcome),
         Err(error) => refused_outcome(alloc, error),
     }
 }
 
-/// The outcome for a stream of `count` whole packets with these findings.
+// The outcome for a stream of `count` whole packets with these findings.
 #[tactic(auto, using(crate::proofs::JobOutcomes::with_input, crate::proofs::JobOutcomes::without_input))]
-pub(crate) fn findings_outcome(
+fn findings_outcome(
     alloc: Global,
     arguments: &JobArguments<'_>,
+    notes: &PacketNotes,
     count: u64,
     findings: &[Finding<'_>],
 ) -> Result<JobOutcome, AllocError>
-    ensures { IfOk result (λ a. spec.FindingsLead arguments.now count (map finding_view findings.now) a) }
+    ensures { IfOk result (λ a. spec.FindingsLead arguments.now notes.now count (map finding_view findings.now) a) }
 {
     match job_input(alloc, &arguments.options(), count, findings) {
-        Ok(input) => input_outcome(alloc, arguments, findings, input),
+        Ok(input) => input_outcome(alloc, arguments, notes, findings, input),
         Err(error) => refused_outcome(alloc, error),
+    }
+}
+
+// The outcome for a stream of packets of another size.
+fn packets_outcome(alloc: Global, packets: OtherPackets) -> Result<JobOutcome, AllocError>
+    ensures { IfOk result (λ a. a ≡ reported (packets_line packets)) }
+{
+    let mut report = String::new(alloc);
+    write_packets(packets, &mut report)?;
+    Ok(without_output(alloc, report))
+}
+
+// The outcome for the bytes of a stream that are in no slip.
+#[tactic(auto, using(crate::proofs::JobOutcomes::carried_lead))]
+fn carried_outcome(
+    alloc: Global,
+    arguments: &JobArguments<'_>,
+    bytes: Vec<u8>,
+) -> Result<JobOutcome, AllocError>
+    ensures { IfOk result (λ a. spec.BytesLead arguments.now bytes.items None a) }
+{
+    let notes = packet_notes(alloc, &bytes)?;
+    let (demux, size) = take_carried(alloc, bytes, &notes.slips)?;
+    findings_outcome(
+        alloc,
+        arguments,
+        &notes,
+        size as u64 / 188,
+        demux.findings(),
+    )
+}
+
+/// The outcome for the bytes of a stream.
+pub(crate) fn bytes_outcome(
+    alloc: Global,
+    arguments: &JobArguments<'_>,
+    bytes: Vec<u8>,
+) -> Result<JobOutcome, AllocError>
+    ensures { IfOk result (λ a. spec.Leads arguments.now bytes.items a) }
+{
+    match other_packets(&bytes) {
+        Some(packets) => packets_outcome(alloc, packets),
+        None => carried_outcome(alloc, arguments, bytes),
     }
 }

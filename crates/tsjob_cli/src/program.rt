@@ -4,16 +4,16 @@ ghost use Rattle.std.specs.Prelude.{◌≡◌, ◌⊎◌, None, Some};
 ghost use Rattle.devices.specs.Devices.{reads, writes};
 ghost use Rattle.devices.specs.Lines.{Reports};
 ghost use Rattle.devices.specs.Runs.{LacksMemory, Performs};
-ghost use Rattle.devices.specs.Usage.{IsUsage};
+ghost use Rattle.devices.specs.Usage.{TellsUsage};
 ghost use Rattle.tsjob_cli.specs.Arguments.{JobArgumentsView, arguments};
 ghost use Rattle.tsjob_cli.specs.Outcomes as spec;
+ghost use Rattle.tsjob_cli.specs.UsageText.{usage_text};
 
 use crate::arguments::{JobArguments, read_arguments};
-use crate::outcome::{JobOutcome, JobText, findings_outcome};
-use crate::reading::take_stream;
+use crate::outcome::{JobOutcome, JobText, bytes_outcome};
 use crate::records::write_job;
-use counted_io::{Sink, Source, write_part};
-use devices::{Halt, report_halt};
+use counted_io::{Sink, Source};
+use devices::{Halt, read_whole, report_halt, report_text};
 use std::alloc::Global;
 
 /// The usage, written to the second writer on a usage error.
@@ -32,17 +32,11 @@ const USAGE: &str = "usage: tsjob [describe|units|why] [OPTIONS] < PACKETS > JOB
 
 /// Writes the usage, and returns the status.
 pub fn report_usage<E: Sink>(faults: &mut E) -> u8
-    ensures { result ≡ 2 }
+    ensures reports { Reports (writes E.Sink faults.old faults.new) usage_text }
+    ensures status { result ≡ 2 }
 {
-    let _ = write_part(faults, USAGE.as_bytes());
+    report_text(faults, USAGE);
     2
-}
-
-// Writes a text, as far as the writer takes it.
-fn report_text<E: Sink>(faults: &mut E, text: &str)
-    ensures { Reports (writes E.Sink faults.old faults.new) text.now }
-{
-    let _ = write_part(faults, text.as_bytes());
 }
 
 // Writes an outcome, and returns the status.
@@ -72,11 +66,11 @@ fn perform<R: Source, W: Sink, E: Sink>(
     ensures { Performs (spec.Leads arguments.now) (reads R.Source input.old input.new)
         (writes W.Sink output.old output.new) (writes E.Sink faults.old faults.new) result }
 {
-    let (demux, size) = match take_stream(alloc, input) {
-        Ok(taken) => taken,
+    let bytes = match read_whole(alloc, input) {
+        Ok(bytes) => bytes,
         Err(halt) => return report_halt(faults, halt),
     };
-    match findings_outcome(alloc, arguments, size as u64 / 188, demux.findings()) {
+    match bytes_outcome(alloc, arguments, bytes) {
         Ok(outcome) => write_outcome(&outcome, output, faults),
         Err(_) => report_halt(faults, Halt::Memory),
     }
@@ -97,9 +91,10 @@ pub fn run<R: Source, W: Sink, E: Sink>(
     ensures job { (a : JobArgumentsView) → arguments words.now ≡ Some a →
         Performs (spec.Leads a) (reads R.Source input.old input.new) (writes W.Sink output.old output.new)
         (writes E.Sink faults.old faults.new) result }
-    // Anything else.
+    // Anything else: the usage is told.
     ensures usage { arguments words.now ≡ None →
-        IsUsage (reads R.Source input.old input.new) (writes W.Sink output.old output.new) result
+        TellsUsage usage_text (reads R.Source input.old input.new) (writes W.Sink output.old output.new)
+        (writes E.Sink faults.old faults.new) result
         ⊎ LacksMemory (reads R.Source input.old input.new) (writes W.Sink output.old output.new)
         (writes E.Sink faults.old faults.new) result }
 {

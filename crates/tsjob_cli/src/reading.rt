@@ -1,46 +1,95 @@
-//! A transport stream that goes through a demultiplexer as it is read.
-ghost use Rattle.std.specs.Prelude.{◌≡◌};
-ghost use Rattle.demux.specs.Stream.{pushed, start};
-ghost use Rattle.devices.specs.Devices.{reads};
-ghost use Rattle.tsjob_cli.specs.Streams.{TakesStream};
+//! The packets of a transport stream that stand in step, through a demultiplexer.
+ghost use Rattle.std.specs.Prelude.{◌≡◌, ◌≤◌, IfOk, OnOk, length, slice_range};
+ghost use Rattle.demux.specs.Stream.{finished, pushed, start};
+ghost use Rattle.packet_sync.specs.Slips.{AreOrdered, carried_from};
+ghost use Rattle.tsjob_cli.specs.Streams.{TakesCarried, notes_of};
 
-use counted_io::Source;
 use demux::Demux;
-use devices::{Halt, PieceTaker, take_input};
-use std::alloc::Global;
+use packet_sync::{Slip, random_access_pids, slips};
+use std::alloc::{AllocError, Global};
+use std::marker::Model;
 
-/// The size of a piece in bytes.
-const PIECE: usize = 1 << 18;
-
-/// A demultiplexer that takes a stream piece by piece.
+/// What is said of the packets of a stream.
 #[derive(Drop)]
-struct StreamTaker {
-    demux: Demux,
+pub(crate) struct PacketNotes {
+    pub slips: Vec<Slip>,
+    /// The PIDs with random_access_indicator.
+    pub random_access: Vec<u16>,
 }
 
-impl PieceTaker for StreamTaker {
-    ghost unit = { 1 };
+// A contract sees its parts as lists.
+impl Model for PacketNotes {
+    ghost use Rattle.tsjob_cli.specs.Streams.{PacketNotesView};
 
-    ghost has_taken = { λ first bytes now. now.demux ≡ pushed start bytes };
+    ghost Value = { PacketNotesView };
 
-    fn take_piece(&mut self, piece: &[u8]) -> Result<(), Halt> {
-        match self.demux.push(piece) {
-            Ok(()) => Ok(()),
-            Err(_) => Err(Halt::Memory),
-        }
-    }
+    ghost view = { λ n. record { slips = n.slips.items; random_access = n.random_access.items } };
 }
 
-/// Reads the whole input through a demultiplexer, with its end, and returns the demultiplexer and the number of bytes.
-pub(crate) fn take_stream<R: Source>(alloc: Global, input: &mut R) -> Result<(Demux, usize), Halt>
-    ensures { TakesStream (reads R.Source input.old input.new) result }
+/// What is said of the packets in these bytes.
+pub(crate) fn packet_notes(alloc: Global, bytes: &[u8]) -> Result<PacketNotes, AllocError>
+    ensures value { IfOk result (λ notes. notes ≡ notes_of bytes.now) }
+    ensures ordered { IfOk result (λ notes. AreOrdered bytes.now 0 notes.slips) }
 {
-    let demux = Demux::new(alloc);
-    let mut taker = StreamTaker { demux };
-    let size = take_input(alloc, input, PIECE, &mut taker)?;
-    let StreamTaker { mut demux } = taker;
-    match demux.finish() {
-        Ok(()) => Ok((demux, size)),
-        Err(_) => Err(Halt::Memory),
+    let slips = slips(alloc, bytes)?;
+    let random_access = random_access_pids(alloc, bytes)?;
+    Ok(PacketNotes {
+        slips,
+        random_access,
+    })
+}
+
+// Takes the bytes from one place to another.
+fn push_between(demux: &mut Demux, bytes: &[u8], from: usize, to: usize) -> Result<(), AllocError>
+    requires order { from ≤ to }
+    requires within { to ≤ length bytes.now }
+    ensures { OnOk result (demux.new ≡ pushed demux.old (slice_range bytes.now from to)) }
+{
+    match demux.push(&bytes[from..to]) {
+        Ok(()) => Ok(()),
+        Err(_) => Err(AllocError),
     }
+}
+
+// Takes all bytes that are in no slip, and returns how many they are.
+fn push_carried(demux: &mut Demux, bytes: &[u8], slips: &[Slip]) -> Result<usize, AllocError>
+    requires { AreOrdered bytes.now 0 slips.now }
+    ensures pushed { OnOk result (demux.new ≡ pushed demux.old (carried_from bytes.now 0 slips.now)) }
+    ensures size { IfOk result (λ size. size ≡ length (carried_from bytes.now 0 slips.now)) }
+{
+    let mut at = 0;
+    let mut size = 0;
+    for slip in slips {
+        push_between(demux, bytes, at, slip.start)?;
+        size += slip.start - at;
+        at = slip.start + slip.size;
+    }
+    push_between(demux, bytes, at, bytes.len())?;
+    Ok(size + (bytes.len() - at))
+}
+
+// Takes the end of the stream.
+fn end_stream(demux: &mut Demux) -> Result<(), AllocError>
+    ensures { OnOk result (demux.new ≡ finished demux.old) }
+{
+    match demux.finish() {
+        Ok(()) => Ok(()),
+        Err(_) => Err(AllocError),
+    }
+}
+
+/// What a demultiplexer finds in the bytes of a stream that are in no slip, with its end, and how many these bytes are.
+#[tactic(auto, using(crate::proofs::Taking::carried_taken))]
+pub(crate) fn take_carried(
+    alloc: Global,
+    bytes: Vec<u8>,
+    slips: &[Slip],
+) -> Result<(Demux, usize), AllocError>
+    requires { AreOrdered bytes.items 0 slips.now }
+    ensures { IfOk result (λ taken. TakesCarried bytes.items slips.now taken.0 taken.1) }
+{
+    let mut demux = Demux::new(alloc);
+    let size = push_carried(&mut demux, &bytes, slips)?;
+    end_stream(&mut demux)?;
+    Ok((demux, size))
 }

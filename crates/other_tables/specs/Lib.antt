@@ -1,0 +1,2 @@
+pub mod OtherTables
+pub mod TableKinds

@@ -1,0 +1,4 @@
+pub mod Laws
+pub mod OtherPackets
+pub mod RandomAccess
+pub mod Slips

@@ -1,0 +1,68 @@
+-- Where the step of packets is lost: packets of 188 bytes, each with a sync byte at its front (ISO/IEC 13818-1, 2.4.3.2).
+use Rattle.std.specs.Prelude.{◌≤◌, ℕ, zero, suc, ◌+◌, ◌%◌, ◌==◌, ◌&&◌, ◌||◌, not, nat_lt, Bool, true, false, if◌then◌else◌, List, [], ◌∷◌, ◌++◌, length, drop, slice_get, slice_range, Option, None, Some}
+use Rattle.std.specs.Option.{option_map_or}
+use Rattle.packet_sync.specs.declared.slip.Slip.{Slip}
+
+-- 1. Sync bytes
+
+-- a sync byte stands at this place
+unfoldable pub is_sync : List ℕ → ℕ → Bool
+is_sync bs at = option_map_or (λ b. b == 71) (slice_get bs at) false
+
+-- one stands there, or the stream ends before it
+unfoldable pub is_next : List ℕ → ℕ → Bool
+is_next bs at = option_map_or (λ b. b == 71) (slice_get bs at) true
+
+-- three packets in a row begin there
+unfoldable pub is_in_step : List ℕ → ℕ → Bool
+is_in_step bs at = is_sync bs at && is_sync bs (at + 188) && is_sync bs (at + 376)
+
+-- 2. A slip
+
+-- the step goes on after the packet at this place: with the next one, or, where only that one's sync byte is damaged, with
+-- those after it
+unfoldable pub goes_on : List ℕ → ℕ → Bool
+goes_on bs at = is_next bs (at + 188) || is_in_step bs (at + 376)
+
+-- a new step begins so many bytes after the place
+unfoldable pub is_new_step : List ℕ → ℕ → ℕ → Bool
+is_new_step bs at size = not (size % 188 == 0) && is_in_step bs (at + size)
+
+-- the first of n sizes, from one on, after which a new step begins
+unfoldable pub new_step : List ℕ → ℕ → ℕ → ℕ → Option ℕ
+new_step bs at size zero = None
+new_step bs at size (suc n) = if is_new_step bs at size then Some size else new_step bs at (size + 1) n
+
+-- how many bytes are left out from this place on: none where the step goes on, or where no new one begins within four
+-- packets
+unfoldable pub slip_size : List ℕ → ℕ → Option ℕ
+slip_size bs at = if goes_on bs at then None else new_step bs at 1 751
+
+-- 3. All slips: from a place on, with this number of packets before it, in at most n steps
+
+-- a packet, or a slip, and then those after it
+unfoldable pub slip_then : Option ℕ → ℕ → ℕ → (ℕ → ℕ → List Slip) → List Slip
+slip_then None packet at after = after (packet + 1) (at + 188)
+slip_then (Some size) packet at after = record { packet = packet; start = at; size = size } ∷ after packet (at + size)
+
+unfoldable pub slips_from : ℕ → List ℕ → ℕ → ℕ → List Slip
+slips_from zero bs packet at = []
+slips_from (suc n) bs packet at = if nat_lt (length bs) (at + 188) then [] else slip_then (slip_size bs at) packet at (slips_from n bs)
+
+-- each step takes a byte at least
+unfoldable pub slips : List ℕ → List Slip
+slips bs = slips_from (length bs) bs 0 0
+
+-- 4. What is carried: all bytes that are in no slip
+
+unfoldable pub carried_from : List ℕ → ℕ → List Slip → List ℕ
+carried_from bs at [] = drop at bs
+carried_from bs at (s ∷ ss) = slice_range bs at s.start ++ carried_from bs (s.start + s.size) ss
+
+abbrev pub carried : List ℕ → List ℕ
+carried bs = carried_from bs 0 (slips bs)
+
+-- from a place on, slips stand one after another within the stream
+unfoldable pub AreOrdered : List ℕ → ℕ → List Slip → Type 0
+AreOrdered bs at [] = at ≤ length bs
+AreOrdered bs at (s ∷ ss) = (at ≤ s.start) × (s.start + s.size ≤ length bs) × AreOrdered bs (s.start + s.size) ss

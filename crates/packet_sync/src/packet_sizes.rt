@@ -1,0 +1,42 @@
+//! Packets that are not of 188 bytes.
+
+ghost use Rattle.std.specs.Prelude.{◌≡◌, ◌≤◌};
+ghost use Rattle.packet_sync.specs.OtherPackets as spec;
+
+use crate::sync_bytes::{is_in_step, is_sync};
+
+/// What other packets a stream has.
+#[derive(Clone, Copy, PartialEq, Eq)]
+pub enum OtherPackets {
+    /// Packets of 192 bytes: 4 bytes with a time of arrival, and then 188 of a packet.
+    Timed,
+    /// Packets of 204 bytes: 188 of a packet, and 16 for the correction of errors (EN 300 429).
+    Corrected,
+}
+
+// Whether three packets of a size stand one after another, the first sync byte at this place.
+#[tactic(auto, unfolding(crate::specs::OtherPackets::are_apart))]
+fn are_apart(bytes: &[u8], at: usize, size: usize) -> bool
+    requires at { at ≤ 4 }
+    requires size { size ≤ 204 }
+    ensures { result ≡ spec.are_apart bytes.now at size }
+{
+    is_sync(bytes, at) && is_sync(bytes, at + size) && is_sync(bytes, at + 2 * size)
+}
+
+/// What other packets than those of 188 bytes stand at the front of a stream, if any do.
+#[tactic(auto, unfolding(crate::specs::OtherPackets::other_packets))]
+pub fn other_packets(bytes: &[u8]) -> Option<OtherPackets>
+    ensures { result ≡ spec.other_packets bytes.now }
+{
+    if is_in_step(bytes, 0) {
+        return None;
+    }
+    if are_apart(bytes, 4, 192) {
+        return Some(OtherPackets::Timed);
+    }
+    if are_apart(bytes, 0, 204) {
+        return Some(OtherPackets::Corrected);
+    }
+    None
+}

@@ -1,0 +1,24 @@
+-- The lines for tables that no job is made of.
+use Rattle.std.specs.Prelude.{ℕ, List, ◌++◌, flat_map, codes, decimal}
+use Rattle.other_tables.specs.declared.kinds.TableKind.{TableKind}
+use Rattle.other_tables.specs.declared.kinds.TableKind.TheVariants.{ConditionalAccess, Objects, Network, Services, Events, Time, Running, Applications, Splices, Private}
+use Rattle.other_tables.specs.declared.tables.OtherTable.{OtherTable}
+
+unfoldable pub kind_name : TableKind → List ℕ
+kind_name ConditionalAccess = codes "CAT, ECM or EMM"
+kind_name Objects = codes "DSM-CC"
+kind_name Network = codes "NIT"
+kind_name Services = codes "SDT of other streams or BAT"
+kind_name Events = codes "EIT"
+kind_name Time = codes "TDT or TOT"
+kind_name Running = codes "RST"
+kind_name Applications = codes "AIT"
+kind_name Splices = codes "SCTE 35"
+kind_name Private = codes "another table"
+
+unfoldable pub other_table_line : OtherTable → List ℕ
+other_table_line t = codes "pid " ++ decimal t.pid ++ codes " has " ++ decimal t.count ++ codes " sections of " ++ kind_name t.kind ++ codes ": left out\n"
+
+-- a line each
+abbrev pub other_table_lines : List OtherTable → List ℕ
+other_table_lines tables = flat_map other_table_line tables
