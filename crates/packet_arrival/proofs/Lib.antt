@@ -1,0 +1,5 @@
+pub mod Rows
+pub mod Lines
+pub mod Clocks
+pub mod Examples
+pub mod HeldBytes

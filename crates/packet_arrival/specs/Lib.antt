@@ -1,0 +1,5 @@
+pub mod Rows
+pub mod Lines
+pub mod Clock
+pub mod ByteLines
+pub mod Laws

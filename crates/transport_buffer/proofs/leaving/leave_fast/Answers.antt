@@ -1,0 +1,24 @@
+use Rattle.std.proofs.Common.{◌≡◌, ◌∙◌, ◌+◌, ◌*◌, ◌/◌, max, refl, arith}
+use Rattle.packet_arrival.specs.declared.row.Row.{Row}
+use Rattle.transport_buffer.specs.Buffers.{free_row}
+use Rattle.transport_buffer.proofs.EvenRows.{no_bytes, fast_left, fast_last}
+use Rattle.transport_buffer.proofs.leaving.leave_fast.Goals as goal
+
+-- the first of the row, or the byte before it
+first : (c : goal.After-leaving_rows) → c.max-first.result ≡ max (c.args.row.now.from / c.args.row.now.parts) c.args.prev
+first c =
+    let e : c.args.row.now.from + 0 * c.args.row.now.pace ≡ c.args.row.now.from = omega arith in
+    c.max-first.ensures ∙ rw (c.time.ensures.time, e) refl
+
+pub returns-clause-left : goal.returns-clause-left
+returns-clause-left c =
+    let row : Row = c.args.row.now in
+    rw (c.leaving_rows.ensures.waiting, c.leaving_rows.ensures.free)
+    (fast_left c.args.step c.args.prev row.from row.pace row.parts row.bytes c.max-first.result _ c.requires.bytes c.requires.timed.some c.requires.fast (first c)
+    (no_bytes (free_row c.args.step row row.bytes).from row.pace row.parts row.bytes))
+
+pub returns-clause-last : goal.returns-clause-last
+returns-clause-last c =
+    let row : Row = c.args.row.now in
+    rw (c.leaving_rows.ensures.last, c.from.ensures, c.from-2.ensures)
+    (fast_last c.args.step c.args.prev row.from row.pace row.parts row.bytes c.max-first.result c.requires.bytes c.requires.timed.some c.requires.fast (first c))

@@ -1,0 +1,15 @@
+use Rattle.std.proofs.Common.{◌^◌}
+use Rattle.packet_arrival.specs.declared.row.Row.{Row}
+use Rattle.transport_buffer.proofs.EvenRows.{no_row_last, last_soon}
+use Rattle.transport_buffer.proofs.over_bytes.split.Goals as goal
+
+pub returns-then-count-eq0-clause-last : goal.returns-then-count-eq0-clause-last
+returns-then-count-eq0-clause-last c =
+    let row : Row = c.args.row.now in
+    rw c.split_at.ensures.first (no_row_last c.args.step c.args.prev row.from row.pace row.parts c.args.count c.if-count-eq0.true)
+
+pub returns-else-count-eq0-clause-soon : goal.returns-else-count-eq0-clause-soon
+returns-else-count-eq0-clause-soon c =
+    let first : Row = c.split_at.result.0 in
+    rw c.leave.ensures.last
+    (last_soon c.args.step c.args.prev first.from first.pace first.parts first.bytes (2 ^ 86) c.split_at.ensures.timed.0.some (c.split_at.ensures.early c.requires.early).0)

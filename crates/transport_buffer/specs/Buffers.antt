@@ -1,0 +1,45 @@
+-- The state of a transport buffer, and what its bytes do to it.
+use Rattle.std.specs.Prelude.{ℕ, ◌+◌, ◌-◌, ◌*◌, ◌/◌, ◌^◌, ◌<◌, ◌≤◌, max, List, ◌++◌, length}
+use Rattle.clock27.specs.Departure.{last_left}
+use Rattle.clock27.specs.Peak.{most_found}
+use Rattle.packet_arrival.specs.Rows.{times_of}
+use Rattle.packet_arrival.specs.declared.row.Row.{Row}
+use Rattle.transport_buffer.specs.declared.leaving.Leaving.{Leaving}
+use Rattle.transport_buffer.specs.declared.transport_buffer.TransportBuffer.{TransportBuffer}
+
+-- the first bytes of a row, that wait for one that leaves at `prev`
+abbrev pub waiting_row : ℕ → ℕ → ℕ → Row
+waiting_row step prev count = record { from = prev + step; pace = step; parts = 1; bytes = count }
+
+-- and the bytes after them, that find the buffer empty
+abbrev pub free_row : ℕ → Row → ℕ → Row
+free_row step row count = record {
+  from = row.from + count * row.pace + step * row.parts;
+  pace = row.pace;
+  parts = row.parts;
+  bytes = row.bytes - count;
+}
+
+-- the times at which the bytes of a row leave
+abbrev pub times_left : Leaving → List ℕ
+times_left leaving = times_of leaving.waiting ++ times_of leaving.free
+
+-- a buffer after bytes that arrived at these times
+abbrev pub entered : TransportBuffer → List ℕ → TransportBuffer
+entered buffer times = record {
+  step = buffer.step;
+  bytes = buffer.bytes + length times;
+  last = last_left buffer.step buffer.last times;
+  most = max buffer.most (most_found buffer.step buffer.last times);
+}
+
+-- the number of bytes in it at a moment at or after the last arrival
+abbrev pub level_at : TransportBuffer → ℕ → ℕ
+level_at buffer moment = ((buffer.last - moment) + (buffer.step - 1)) / buffer.step
+
+-- its numbers are those of a stream of 2^40 bytes at most
+pub record IsPaced (buffer : TransportBuffer) : Type 0 where
+  pub some : 0 < buffer.step
+  pub slow : buffer.step ≤ 2 ^ 28
+  pub few : buffer.bytes ≤ 2 ^ 40
+  pub soon : buffer.last ≤ 2 ^ 86 + buffer.bytes * buffer.step
