@@ -65,7 +65,7 @@ class Spent(NamedTuple):
         return self.user + self.system
 
     def __str__(self):
-        return f"{self.whole:.2f} s of processor time ({self.user:.2f} its own, {self.system:.2f} the system's)"
+        return f"{self.whole:.3f} s of processor time ({self.user:.3f} its own, {self.system:.3f} the system's)"
 
 
 def spent(words, path=None):
@@ -209,17 +209,67 @@ def audio_service(streams):
     return f"rate = {audio_rate(streams)}\n" + PROGRAM + "".join(parts)
 
 
+def audio_front(binary, streams):
+    """The description of such a service, and its plan by `plan`."""
+    text = audio_service(streams).encode()
+    return text + subprocess.run([binary, "plan"], input=text, capture_output=True, check=True).stdout
+
+
+def audio_records(streams, begin, end):
+    """The records of these of its units, a unit of each stream after the other."""
+    unit = random.Random(1).randbytes(576)
+    return b"".join(
+        struct.pack(">BIQQ", k, 576, 12_960 + 2160 * i, 12_960 + 2160 * i) + unit for i in range(begin, end) for k in range(streams)
+    )
+
+
 def audio_job(binary, streams, size):
     """A job of such a service, whose packets have about this many bytes: its description, its plan by `plan`, its units."""
-    text = audio_service(streams).encode()
+    return audio_front(binary, streams) + audio_records(streams, 0, size * 8 * 90_000 // (audio_rate(streams) * 2160))
+
+
+def peak_of_long_run(words, front, streams, size):
+    """The most memory that a program holds whose input is a pipe: this front, and records of such a service as they are made, about so
+    many bytes of them."""
+    running = subprocess.Popen([sys.executable, "-c", PEAK, *map(str, words)], stdin=subprocess.PIPE, stdout=subprocess.PIPE)
+    running.stdin.write(front)
+    step = 1 + 1_000_000 // (597 * streams)
+    for begin in range(0, size // (597 * streams), step):
+        running.stdin.write(audio_records(streams, begin, begin + step))
+    running.stdin.close()
+    return int(running.stdout.read())
+
+
+VIDEO = """
+[[stream]]
+program = 1
+pid = 299
+id = 224
+type = 2
+interval = 3600
+size = 20000
+lead = 27000
+rx = 10000000
+main = 240000
+"""
+
+# Nine tenths of it are packets of the three streams.
+TELEVISION_RATE = 5_200_000
+
+
+def television_job(binary, size):
+    """A job of one stream of video, a unit of 20,000 bytes each 40 ms, and two of audio as above, whose packets have about this many
+    bytes: its description, its plan by `plan`, its units by DTS."""
+    streams = VIDEO + "".join(STREAM.format(pid=300 + k, id=192 + k) for k in range(2))
+    text = (f"rate = {TELEVISION_RATE}\n" + PROGRAM + streams).encode()
     plan = subprocess.run([binary, "plan"], input=text, capture_output=True, check=True).stdout
-    count = size * 8 * 90_000 // (audio_rate(streams) * 2160)
-    unit = random.Random(1).randbytes(576)
-    records = b"".join(
-        struct.pack(">BIQQ", k, 576, 12_960 + 2160 * i, 12_960 + 2160 * i) + unit for i in range(count) for k in range(streams)
-    )
-    return text + plan + records
+    end = 27_000 + size * 8 * 90_000 // TELEVISION_RATE
+    units = [(dts, 0, 20_000) for dts in range(27_000, end, 3600)]
+    units += [(dts, k, 576) for dts in range(27_000, end, 2160) for k in (1, 2)]
+    random_bytes = random.Random(1).randbytes(20_000)
+    return text + plan + b"".join(struct.pack(">BIQQ", k, n, dts, dts) + random_bytes[:n] for dts, k, n in sorted(units))
 
 
-# For jobs of about 46 MB and 150 MB with one stream.
+# The bytes of packets of a job of about 46 MB and 150 MB: with one stream of audio, or television.
 SIZES = (100_000_000, 326_000_000)
+TELEVISION_SIZES = (53_000_000, 174_000_000)

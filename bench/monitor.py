@@ -1,14 +1,15 @@
 #!/usr/bin/env python3
 """monitor.py BINARY: the speed of `monitor` on about 46 MB and 150 MB of packets, as processor time, beside a program that reads, copies
-and writes them and a copy of them in memory, and the most memory that it holds on 150 MB and on 2 GB through a pipe. The packets are those of the radio example, over and over, with
-a PAT before each turn; their continuity_counters count on, so that no fault is found. It needs cc."""
+and writes them and a copy of them in memory, and the most memory that it holds on 150 MB and on 2 GB through a pipe. The packets are
+television that `mux` made, and then those of the radio example, over and over, with a PAT before each turn; their continuity_counters
+count on. No fault is found. It needs cc."""
 
 import subprocess
 import sys
 import tempfile
 from pathlib import Path
 
-from common import beside, copy_seconds, least, limit_spent, peak_bytes
+from common import beside, copy_seconds, least, limit_spent, peak_bytes, television_job
 
 PAT = bytes.fromhex("4740001000" "00b00d0001c100000001f0002ab104b2") + b"\xff" * 167
 # A PMT without streams, so that the program that the PAT names is never late.
@@ -35,22 +36,34 @@ def counted(packets):
     return bytes(out)
 
 
-binary = sys.argv[1]
-words = [binary, "monitor", "--rate", "100000000"]
-root = Path(__file__).resolve().parent.parent
-with tempfile.TemporaryDirectory() as scratch:
-    work = Path(scratch)
-    units = (root / "examples" / "radio" / "radio.units").read_bytes()
+def radio(binary):
+    """Turns of the radio example's packets, some 1 MB, in which no fault is found."""
+    units = (Path(__file__).resolve().parent.parent / "examples" / "radio" / "radio.units").read_bytes()
     packets = subprocess.run([binary, "carry"], input=units, stdout=subprocess.PIPE, check=True).stdout
     map_packet = (PMT + check_word(PMT[5:])).ljust(188, b"\xff")
-    turns = counted((PAT + map_packet + packets) * 16)
-    stream = work / "stream.ts"
+    return counted((PAT + map_packet + packets) * 16)
+
+
+binary = sys.argv[1]
+words = [binary, "monitor", "--rate", "100000000"]
+
+
+def measured(name, stream):
+    """A line on a stream without faults."""
+    count = stream.stat().st_size // 188
+    report = subprocess.run(words, stdin=open(stream, "rb"), stdout=subprocess.PIPE, check=True).stdout
+    assert report.endswith(b"\nfaults 0\n"), report[-200:]
+    print(beside(f"monitor, {name}, {stream.stat().st_size / 1e6:.0f} MB", count, least(words, stream), limit_spent(stream), copy_seconds(count)))
+
+
+with tempfile.TemporaryDirectory() as scratch:
+    stream = Path(scratch, "stream.ts")
+    turns = radio(binary)
     for size in (46_000_000, 150_000_000):
+        stream.write_bytes(subprocess.run([binary, "mux"], input=television_job(binary, size), stdout=subprocess.PIPE, check=True).stdout)
+        measured("television", stream)
         stream.write_bytes(turns * (size // len(turns)))
-        count = stream.stat().st_size // 188
-        report = subprocess.run(words, stdin=open(stream, "rb"), stdout=subprocess.PIPE, check=True).stdout
-        assert report.endswith(b"\nfaults 0\n"), report[-200:]
-        print(beside(f"monitor, {size // 1_000_000} MB", count, least(words, stream), limit_spent(stream), copy_seconds(count)))
+        measured("radio", stream)
     for times in (1, 13):
         peak = peak_bytes(["sh", "-c", PIPED, stream, times, binary], "/dev/null")
         print(f"monitor: {times * stream.stat().st_size / 1e9:.1f} GB through a pipe, at most {peak / 1e6:.1f} MB of memory")

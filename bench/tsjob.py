@@ -1,27 +1,32 @@
 #!/usr/bin/env python3
 """tsjob.py TSJOB TSMUX: the speed and the memory of `tsjob` on about 46 MB and 150 MB of packets that `tsmux mux` made, of 1 and of 32
-streams with all tables: the whole job, its description alone (`describe`), its records alone (`units`), as processor time, beside a
-program that reads, copies and writes the packets, and a copy of them in memory. It needs cc."""
+streams of audio and of television, with all tables: the whole job, its description alone (`describe`), its records alone (`units`), as
+processor time, beside a program that reads, copies and writes the packets, and a copy of them in memory. It needs cc."""
 
 import subprocess
 import sys
 import tempfile
 from pathlib import Path
 
-from common import audio_job, beside, copy_seconds, least, limit_spent, peak_bytes
+from common import audio_job, beside, copy_seconds, least, limit_spent, peak_bytes, television_job
 
 tsjob, tsmux = sys.argv[1:3]
-for streams in (1, 32):
+jobs = (
+    ("1 stream", lambda size: audio_job(tsmux, 1, size)),
+    ("32 streams", lambda size: audio_job(tsmux, 32, size)),
+    ("television", lambda size: television_job(tsmux, size)),
+)
+for name, job in jobs:
     for wanted in (46_000_000, 150_000_000):
         with tempfile.TemporaryDirectory() as scratch:
             stream = Path(scratch, "stream.ts")
             with open(stream, "wb") as sink:
-                subprocess.run([tsmux, "mux"], input=audio_job(tsmux, streams, wanted), stdout=sink, check=True)
+                subprocess.run([tsmux, "mux"], input=job(wanted), stdout=sink, check=True)
             size = stream.stat().st_size
             limit, copy = limit_spent(stream), copy_seconds(size // 188)
             for word in ([], ["describe"], ["units"]):
                 done = subprocess.run([tsjob, *word], stdin=open(stream, "rb"), capture_output=True)
                 assert done.returncode == 0, done.stderr[-500:]
                 most = peak_bytes([tsjob, *word], stream)
-                print(beside(" ".join(["tsjob", *word]) + f", {streams} streams, {size / 1e6:.0f} MB", size // 188, least([tsjob, *word], stream), limit, copy)
+                print(beside(" ".join(["tsjob", *word]) + f", {name}, {size / 1e6:.0f} MB", size // 188, least([tsjob, *word], stream), limit, copy)
                       + f"; {len(done.stdout) / 1e6:.1f} MB of job, at most {most / 1e6:.0f} MB of memory, {most / size:.2f} times the stream")
