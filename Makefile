@@ -44,7 +44,7 @@ any-stream: binary tsjob
 
 # The merge gate: every proof from nothing, the must-fail edits, each test, and each program as two compilers make it; then, with the
 # programs that this has built, the cases of cases/ and the tools that put them beside plain readings and failing devices. There are as
-# many checks at once as processors: with no RT_JOBS one also waits for as much memory as it might take, which it does not (4.6 GB is the
+# many checks at once as processors: with no RT_JOBS one also waits for as much memory as it might take, which it does not (3.8 GB is the
 # most that any took).
 test:
 	RT_JOBS=$${RT_JOBS:-$$(nproc)} rt ci
