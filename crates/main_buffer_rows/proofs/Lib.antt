@@ -1,1 +1,2 @@
 pub mod RowEntries
+pub mod InBulk

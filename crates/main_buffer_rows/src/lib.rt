@@ -5,5 +5,6 @@
 #![tactic(auto)]
 
 mod row_entry;
+mod together;
 
 pub use row_entry::enter_row;
