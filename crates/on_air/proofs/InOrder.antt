@@ -1,4 +1,4 @@
--- Units in order are all accepted, and aired as a whole job of them is multiplexed.
+-- Units in order are all accepted.
 use Rattle.std.proofs.Common.{◌≡◌, ℕ, zero, suc, ◌+◌, ◌-◌, ◌*◌, ◌<◌, ◌≤◌, ◌==◌, ◌&&◌, min, max, Bool, true, false, List, [], ◌∷◌, ◌++◌, length, map, Option, Some, None, Result, Ok, Err, refl, sym, ap, ◌∙◌, subst, arith, All, inl, inr, append_assoc, append-nil}
 use Rattle.std.specs.Prelude.{slice_get, fold}
 use Rattle.std.proofs.Math.Nat.{mul-le-mul_right, mul-le-mul_left}
@@ -39,59 +39,9 @@ use Rattle.on_air.specs.AirStates.{Promises}
 use Rattle.on_air.specs.Laws.{with_entry, records_of, greatest_of, IsJobInOrder, AiredInOrder, AiredAsMultiplexed}
 use Rattle.on_air.proofs.InTime.{taken_in_time}
 use Rattle.on_air.proofs.Room.{waiting_few}
+use Rattle.on_air.proofs.AsMultiplexed.{Taken, last_taken, no_tick, none_taken, release_begins, release_rises, some_bytes, stream_of, taken_more}
 
--- ---- slots of releases
-
--- a slot before the next one begins later
-release_begins : (rate lead due : ℕ) → (due - lead) * rate ≤ release rate lead due * 135360000
-release_begins rate lead due = omega arith
-
-pub release_rises : (rate a due b other : ℕ) → due - a ≤ other - b → release rate a due ≤ release rate b other
-release_rises rate a due b other le =
-    let wide : (due - a) * rate ≤ (other - b) * rate = mul-le-mul_right rate le in
-    omega (arith, wide)
-
-release_zero : (rate lead : ℕ) → release rate lead 0 ≡ 0
-release_zero rate lead =
-    let rises : release rate lead 0 ≤ release rate 0 0 = release_rises rate lead 0 0 0 (omega arith) in
-    let none : release rate 0 0 ≡ 0 = omega arith in
-    omega (arith, rises, none)
-
--- ---- the job, unit by unit
-
-no_cause : (cause : Option FeedError) (index : ℕ) (next : Option MuxError) → or_cause (unit_refused index cause) next ≡ None → (cause ≡ None) × (next ≡ None)
-unfolding or_cause unit_refused
-no_cause None index next none = (refl, none)
-no_cause (Some cause) index next none = absurd (let no : ⊥ = cc in no)
-
-both_none : (cause : Option FeedError) (index : ℕ) (next : Option MuxError) → cause ≡ None → next ≡ None → or_cause (unit_refused index cause) next ≡ None
-unfolding or_cause unit_refused
-both_none cause index next none last = rw (none, last) refl
-
-last_taken : (d : Scheduled) (other : ℕ) (fed units : List (ℕ × AccessUnit)) (entry : ℕ × AccessUnit) → first_refused d other fed (units ++ (entry ∷ [])) ≡ None →
-    (first_refused d other fed units ≡ None) × (cause_after d other (fed ++ units) entry ≡ None)
-unfolding first_refused
-last_taken d other fed [] entry none =
-    let one = no_cause (cause_after d other fed entry) (length fed) None none in
-    (refl, ap (λ (l : List (ℕ × AccessUnit)). cause_after d other l entry) (append-nil fed) ∙ one.0)
-last_taken d other fed (first ∷ units) entry none =
-    let one = no_cause (cause_after d other fed first) (length fed) (first_refused d other (fed ++ (first ∷ [])) (units ++ (entry ∷ []))) none in
-    let rest = last_taken d other (fed ++ (first ∷ [])) units entry one.1 in (
-      both_none (cause_after d other fed first) (length fed) (first_refused d other (fed ++ (first ∷ [])) units) one.0 rest.0,
-      ap (λ (l : List (ℕ × AccessUnit)). cause_after d other l entry) (sym (append_assoc fed (first ∷ []) units)) ∙ rest.1,
-    )
-
--- the stream of a unit that is accepted
-record StreamOf (d : Scheduled) (other : ℕ) (units : List (ℕ × AccessUnit)) (entry : ℕ × AccessUnit) (o : Option DescribedStream) : Type 0 where
-  stream : DescribedStream
-  is : o ≡ Some stream
-  cause : unit_cause (owned_stream d entry.0 stream) 0 other (units_of entry.0 units) entry.1 ≡ None
-
-stream_of : (d : Scheduled) (other : ℕ) (units : List (ℕ × AccessUnit)) (entry : ℕ × AccessUnit) (o : Option DescribedStream) →
-    feed_cause d other (job_history units 0) entry.0 entry.1 o ≡ None → StreamOf d other units entry o
-unfolding feed_cause
-stream_of d other units entry None none = absurd (let no : ⊥ = cc in no)
-stream_of d other units entry (Some s) none = record { stream = s; is = refl; cause = none }
+-- ---- each stream's units
 
 -- each stream's units are within its declaration
 abbrev AllKept : Scheduled → List (ℕ × AccessUnit) → Type 0
@@ -192,18 +142,9 @@ has_room run k slots units s promises room is kept written =
 -- ---- one unit
 
 pub record SoFar (run : Run) (a : Air) (units : List (ℕ × AccessUnit)) : Type 0 where
-  pub accepted : a.accepted ≡ units
+  pub taken : Taken run a units
   pub refused : a.refused ≡ []
-  pub greatest : a.greatest ≡ greatest_of units
-  pub slots : a.slots ≡ settled_at run (greatest_of units)
   pub kept : AllKept run.scheduled units
-
-and_false : (b : Bool) → (b && false) ≡ false
-and_false true = refl
-and_false false = refl
-
-no_tick : (entry : ℕ × AccessUnit) → 1 ≤ length entry.1.bytes → is_tick entry ≡ false
-no_tick entry some = ap (λ (b : Bool). (entry.0 == 255) && b) (ne_eqb (length entry.1.bytes) 0 (λ e. absurd (omega (arith, e, some)))) ∙ and_false (entry.0 == 255)
 
 taken_stream : (d : Scheduled) (capacity slots : ℕ) (units : List (ℕ × AccessUnit)) (entry : ℕ × AccessUnit) (s : DescribedStream) →
     unit_cause (owned_stream d entry.0 s) slots capacity (units_of entry.0 units) entry.1 ≡ None → feed_cause d capacity (job_history units slots) entry.0 entry.1 (Some s) ≡ None
@@ -219,51 +160,27 @@ none_refused run a other units entry so job =
     let found = stream_of d other units entry (slice_get d.description.streams entry.0) last.1 in
     let l = owned_stream d entry.0 found.stream in
     let own = own_facts _ _ entry.1 (or_none _ _ found.cause).0 in
-    let near : is_ahead run a entry ≡ false = le-ltb run.terms.ahead (entry.1.dts - a.greatest) (omega (arith, comes.near, so.greatest)) in
+    let near : is_ahead run a entry ≡ false = le-ltb run.terms.ahead (entry.1.dts - a.greatest) (omega (arith, comes.near, so.taken.greatest)) in
     let tick : is_tick entry ≡ false = no_tick entry own.some in
-    let written : a.slots ≡ release run.scheduled.description.rate (lead_of run) (greatest_of units) = omega (arith, so.slots, comes.early) in
+    let written : a.slots ≡ release run.scheduled.description.rate (lead_of run) (greatest_of units) = omega (arith, so.taken.slots, comes.early) in
     let lead = lead_within d.description.streams entry.0 found.stream found.is in
     let rises = release_rises d.description.rate (lead_of run) (greatest_of units) found.stream.lead entry.1.dts (omega (arith, comes.in_order, lead)) in
     let room = has_room run entry.0 a.slots units found.stream job.promises job.room found.is so.kept written in
     let taken = taken_in_time l a.slots run.capacity other (units_of entry.0 units) entry.1 found.cause (omega (arith, written, rises)) room in
     let none = taken_stream run.scheduled run.capacity a.slots units entry found.stream taken in
     let unit : unit_refusal run a entry ≡ None =
-    ap (λ (us : List (ℕ × AccessUnit)). feed_cause run.scheduled run.capacity (job_history us a.slots) entry.0 entry.1 (slice_get run.scheduled.description.streams entry.0)) so.accepted
+    ap (λ (us : List (ℕ × AccessUnit)). feed_cause run.scheduled run.capacity (job_history us a.slots) entry.0 entry.1 (slice_get run.scheduled.description.streams entry.0)) so.taken.accepted
     ∙ ap (λ (o : Option DescribedStream). feed_cause run.scheduled run.capacity (job_history units a.slots) entry.0 entry.1 o) found.is ∙ none in
     rw (near, tick, unit) refl
-
-more_settled : (run : Run) (g due : ℕ) → on_to (settled_at run g) (settled_at run due) ≡ settled_at run (max g due)
-more_settled run g due = elim (cases_lt g due) [
-  | inl lt ↦
-      let rises = release_rises run.scheduled.description.rate (lead_of run) g (lead_of run) due (omega (arith, lt)) in
-      let same : max g due ≡ due = omega (arith, lt) in
-      rw same (omega (arith, rises))
-  | inr le ↦
-      let rises = release_rises run.scheduled.description.rate (lead_of run) due (lead_of run) g (omega (arith, le)) in
-      let same : max g due ≡ g = omega (arith, le) in
-      rw same (omega (arith, rises))
-]
-
-greatest_more : (units : List (ℕ × AccessUnit)) (entry : ℕ × AccessUnit) → greatest_of (units ++ (entry ∷ [])) ≡ max (greatest_of units) entry.1.dts
-greatest_more units entry = fold-append (λ greatest e. max greatest e.1.dts) 0 units (entry ∷ [])
 
 so_far_more : (run : Run) (a : Air) (other : ℕ) (units : List (ℕ × AccessUnit)) (entry : ℕ × AccessUnit) → SoFar run a units → IsJobInOrder run other (units ++ (entry ∷ [])) →
     is_tick entry ≡ false → SoFar run (aired_by run a entry None) (units ++ (entry ∷ []))
 unfolding aired_by accepted_by
 so_far_more run a other units entry so job tick = record {
-  accepted = rw tick (ap (λ (l : List (ℕ × AccessUnit)). l ++ (entry ∷ [])) so.accepted);
+  taken = taken_more run a units entry so.taken tick;
   refused = so.refused;
-  greatest = ap (λ (g : ℕ). max g entry.1.dts) so.greatest ∙ sym (greatest_more units entry);
-  slots = ap (λ (n : ℕ). on_to n (settled_at run entry.1.dts)) so.slots ∙ more_settled run (greatest_of units) entry.1.dts ∙ ap (λ (g : ℕ). settled_at run g) (sym (greatest_more units entry));
   kept = kept_more run.scheduled other units entry job.promises.ranges (last_taken run.scheduled other [] units entry job.accepted).1 so.kept;
 }
-
-some_bytes : (run : Run) (other : ℕ) (units : List (ℕ × AccessUnit)) (entry : ℕ × AccessUnit) → IsJobInOrder run other (units ++ (entry ∷ [])) → is_tick entry ≡ false
-some_bytes run other units entry job =
-    let last = last_taken run.scheduled other [] units entry job.accepted in
-    let found = stream_of run.scheduled other units entry (slice_get run.scheduled.description.streams entry.0) last.1 in
-    let own = own_facts _ _ entry.1 (or_none _ _ found.cause).0 in
-    no_tick entry own.some
 
 -- ---- all units
 
@@ -284,16 +201,12 @@ so_far_with run a other units (Ok None) so job = so job
 so_far_with run a other units (Ok (Some entry)) so job =
     let here = so (shorter run other units entry job) in
     subst (λ (o : Option AirRefusal). SoFar run (aired_by run a entry o) (units ++ (entry ∷ []))) (sym (none_refused run a other units entry here job))
-    (so_far_more run a other units entry here job (some_bytes run other units entry job))
+    (so_far_more run a other units entry here job (some_bytes run.scheduled other units entry (last_taken run.scheduled other [] units entry job.accepted).1))
 
 so_far_none : (run : Run) → SoFar run silence []
 so_far_none run = record {
-  accepted = refl;
+  taken = none_taken run;
   refused = refl;
-  greatest = refl;
-  slots =
-      let first : release run.scheduled.description.rate (lead_of run) 0 ≡ 0 = release_zero run.scheduled.description.rate (lead_of run) in
-      omega (arith, first);
   kept = kept_none run.scheduled;
 }
 
@@ -305,24 +218,4 @@ so_far run other (suc n) xs job = so_far_with run (heard run n xs) other (record
 pub aired_in_order : AiredInOrder
 aired_in_order run other n xs job =
     let so = so_far run other n xs job in
-    record { accepted = so.accepted; refused = so.refused }
-
--- ---- the output
-
-no_later : (run : Run) (g limit : ℕ) (slots : Option ℕ) → min (release run.scheduled.description.rate (lead_of run) g) limit ≤ last_by run.scheduled.description.rate limit g slots
-unfolding last_by
-no_later run g limit None =
-    let rises = release_rises run.scheduled.description.rate (lead_of run) g 0 g (omega arith) in
-    omega (arith, rises)
-no_later run g limit (Some slots) = omega arith
-
-pub aired_as_multiplexed : AiredAsMultiplexed
-aired_as_multiplexed run other n xs job =
-    let a = heard run n xs in
-    let so = so_far run other n xs job in
-    let last = ap (λ (g : ℕ). last_at run g) so.greatest in
-    let later = no_later run (greatest_of (records_of n xs)) (limit_of run.terms) run.terms.slots in
-    let slots : on_to (heard run n xs).slots (last_at run (heard run n xs).greatest) ≡ last_at run (greatest_of (records_of n xs)) =
-    omega (arith, last, later, so.slots) in
-    ap (λ (us : List (ℕ × AccessUnit)). output_of run.hex run.scheduled (job_history us (ended run (heard run n xs)).slots)) so.accepted
-    ∙ ap (λ (k : ℕ). output_of run.hex run.scheduled (job_history (records_of n xs) k)) slots
+    record { accepted = so.taken.accepted; refused = so.refused }

@@ -2,6 +2,7 @@ pub mod InTime
 pub mod Room
 pub mod SlotsOn
 pub mod FedRecords
+pub mod AsMultiplexed
 pub mod InOrder
 pub mod Aired
 pub mod HeardRecords

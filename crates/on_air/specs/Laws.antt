@@ -57,8 +57,9 @@ pub record AiredAll (a : Air) (units : List (ℕ × AccessUnit)) : Type 0 where
 abbrev pub AiredInOrder : Type 0
 AiredInOrder = (run : Run) (other n : ℕ) (xs : List ℕ) → IsJobInOrder run other (records_of n xs) → AiredAll (heard run n xs) (records_of n xs)
 
--- and the output is that of the whole job, multiplexed at once: of as many slots as the terms ask for, else up to the greatest DTS
+-- and where none is refused, in order or not, the output is that of the whole job, multiplexed at once: of as many slots as the terms ask
+-- for, else up to the greatest DTS
 abbrev pub AiredAsMultiplexed : Type 0
-AiredAsMultiplexed = (run : Run) (other n : ℕ) (xs : List ℕ) → IsJobInOrder run other (records_of n xs) →
+AiredAsMultiplexed = (run : Run) (other n : ℕ) (xs : List ℕ) → first_refused run.scheduled other [] (records_of n xs) ≡ None → (heard run n xs).refused ≡ [] →
     air_output run (ended run (heard run n xs))
     ≡ output_of run.hex run.scheduled (job_history (records_of n xs) (last_at run (greatest_of (records_of n xs))))

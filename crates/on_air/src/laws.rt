@@ -12,7 +12,7 @@ pub fn aired_in_order()
     ensures { AiredInOrder }
 {}
 
-/// And what is aired of them is what is multiplexed of the whole job, byte for byte.
+/// And where none is refused, in order or not, what is aired is what is multiplexed of the whole job, byte for byte.
 pub fn aired_as_multiplexed()
     ensures { AiredAsMultiplexed }
 {}

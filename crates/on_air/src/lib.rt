@@ -3,7 +3,7 @@
 //!
 //! `specs/Airing` is the rule: which units are accepted, and which slots are written after each record and at the end.
 //! `specs/AirStates` says what an `OnAir` stands for, `specs/Hearing` what one record, and records up to one that is to
-//! be told, leave, and `specs/Laws` that records in order are aired as a whole job of them is multiplexed.
+//! be told, leave, and `specs/Laws` that records in order are all taken, and aired as a whole job is multiplexed.
 //!
 //! The modules in reading order: the terms of a run, why a record is refused, what a call answers, the rooms and leads
 //! of a description, slots up to one that is settled, a unit judged and fed, the run and its calls, how it begins; the laws.

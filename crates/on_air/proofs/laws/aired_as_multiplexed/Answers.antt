@@ -1,4 +1,4 @@
-use Rattle.on_air.proofs.InOrder.{aired_as_multiplexed}
+use Rattle.on_air.proofs.AsMultiplexed.{aired_as_multiplexed}
 use Rattle.on_air.proofs.laws.aired_as_multiplexed.Goals as goal
 
 pub returns : goal.returns

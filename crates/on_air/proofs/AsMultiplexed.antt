@@ -1,0 +1,181 @@
+-- Units none of which is refused are aired as a whole job of them is multiplexed.
+use Rattle.std.proofs.Common.{◌≡◌, ℕ, zero, suc, ◌+◌, ◌-◌, ◌*◌, ◌<◌, ◌≤◌, ◌==◌, ◌&&◌, min, max, Bool, true, false, List, [], ◌∷◌, ◌++◌, length, Option, Some, None, Result, Ok, Err, refl, sym, ap, ◌∙◌, arith, inl, inr, append_assoc, append-nil}
+use Rattle.std.specs.Prelude.{slice_get}
+use Rattle.std.proofs.Math.Nat.{mul-le-mul_right}
+use Rattle.std.proofs.lemmas.Bool.{ne_eqb, cases_lt}
+use Rattle.std.proofs.lemmas.List.Sums.{fold-append}
+use Rattle.clock27.specs.Release.{release}
+use Rattle.pes_packet.specs.AccessUnits.{AccessUnit}
+use Rattle.pes_packet.specs.Units.{units_of}
+use Rattle.description.specs.Described.{DescribedStream}
+use Rattle.unit_queue.specs.Causes.{unit_cause}
+use Rattle.unit_queue.specs.declared.refusal.FeedError.{FeedError}
+use Rattle.unit_queue.proofs.CauseLemmas.{own_facts, or_none}
+use Rattle.unit_records.specs.Records.{record_at}
+use Rattle.unit_records.specs.declared.reading.UnitFileError.{UnitFileError}
+use Rattle.carry.specs.RecordRuns.{after_records}
+use Rattle.mux_core.specs.Scheduled.{Scheduled}
+use Rattle.mux_core.specs.Histories.{owned_stream}
+use Rattle.mux_core.specs.MuxStates.{feed_cause}
+use Rattle.mux_core.specs.WholeJobs.{job_history, output_of, or_cause, unit_refused, cause_after, first_refused}
+use Rattle.mux_core.specs.declared.multiplexing.MuxError.{MuxError}
+use Rattle.on_air.specs.declared.refusals.AirRefusal.{AirRefusal}
+use Rattle.on_air.specs.Airing.{Run, Air, silence, lead_of, settled_at, limit_of, last_by, last_at, on_to, is_tick, air_cause, accepted_by, aired_by, with_record, heard, ended}
+use Rattle.on_air.specs.Laws.{with_entry, records_of, greatest_of, AiredAsMultiplexed}
+
+-- ---- slots of releases
+
+-- a slot before the next one begins later
+pub release_begins : (rate lead due : ℕ) → (due - lead) * rate ≤ release rate lead due * 135360000
+release_begins rate lead due = omega arith
+
+pub release_rises : (rate a due b other : ℕ) → due - a ≤ other - b → release rate a due ≤ release rate b other
+release_rises rate a due b other le =
+    let wide : (due - a) * rate ≤ (other - b) * rate = mul-le-mul_right rate le in
+    omega (arith, wide)
+
+release_zero : (rate lead : ℕ) → release rate lead 0 ≡ 0
+release_zero rate lead =
+    let rises : release rate lead 0 ≤ release rate 0 0 = release_rises rate lead 0 0 0 (omega arith) in
+    let none : release rate 0 0 ≡ 0 = omega arith in
+    omega (arith, rises, none)
+
+-- ---- the job, unit by unit
+
+pub no_cause : (cause : Option FeedError) (index : ℕ) (next : Option MuxError) → or_cause (unit_refused index cause) next ≡ None → (cause ≡ None) × (next ≡ None)
+unfolding or_cause unit_refused
+no_cause None index next none = (refl, none)
+no_cause (Some cause) index next none = absurd (let no : ⊥ = cc in no)
+
+pub both_none : (cause : Option FeedError) (index : ℕ) (next : Option MuxError) → cause ≡ None → next ≡ None → or_cause (unit_refused index cause) next ≡ None
+unfolding or_cause unit_refused
+both_none cause index next none last = rw (none, last) refl
+
+pub last_taken : (d : Scheduled) (other : ℕ) (fed units : List (ℕ × AccessUnit)) (entry : ℕ × AccessUnit) → first_refused d other fed (units ++ (entry ∷ [])) ≡ None →
+    (first_refused d other fed units ≡ None) × (cause_after d other (fed ++ units) entry ≡ None)
+unfolding first_refused
+last_taken d other fed [] entry none =
+    let one = no_cause (cause_after d other fed entry) (length fed) None none in
+    (refl, ap (λ (l : List (ℕ × AccessUnit)). cause_after d other l entry) (append-nil fed) ∙ one.0)
+last_taken d other fed (first ∷ units) entry none =
+    let one = no_cause (cause_after d other fed first) (length fed) (first_refused d other (fed ++ (first ∷ [])) (units ++ (entry ∷ []))) none in
+    let rest = last_taken d other (fed ++ (first ∷ [])) units entry one.1 in (
+      both_none (cause_after d other fed first) (length fed) (first_refused d other (fed ++ (first ∷ [])) units) one.0 rest.0,
+      ap (λ (l : List (ℕ × AccessUnit)). cause_after d other l entry) (sym (append_assoc fed (first ∷ []) units)) ∙ rest.1,
+    )
+
+-- the stream of a unit that is accepted
+pub record StreamOf (d : Scheduled) (other : ℕ) (units : List (ℕ × AccessUnit)) (entry : ℕ × AccessUnit) (o : Option DescribedStream) : Type 0 where
+  pub stream : DescribedStream
+  pub is : o ≡ Some stream
+  pub cause : unit_cause (owned_stream d entry.0 stream) 0 other (units_of entry.0 units) entry.1 ≡ None
+
+pub stream_of : (d : Scheduled) (other : ℕ) (units : List (ℕ × AccessUnit)) (entry : ℕ × AccessUnit) (o : Option DescribedStream) →
+    feed_cause d other (job_history units 0) entry.0 entry.1 o ≡ None → StreamOf d other units entry o
+unfolding feed_cause
+stream_of d other units entry None none = absurd (let no : ⊥ = cc in no)
+stream_of d other units entry (Some s) none = record { stream = s; is = refl; cause = none }
+
+-- ---- ticks
+
+and_false : (b : Bool) → (b && false) ≡ false
+and_false true = refl
+and_false false = refl
+
+pub no_tick : (entry : ℕ × AccessUnit) → 1 ≤ length entry.1.bytes → is_tick entry ≡ false
+no_tick entry some = ap (λ (b : Bool). (entry.0 == 255) && b) (ne_eqb (length entry.1.bytes) 0 (λ e. absurd (omega (arith, e, some)))) ∙ and_false (entry.0 == 255)
+
+-- ---- the greatest DTS so far
+
+more_settled : (run : Run) (g due : ℕ) → on_to (settled_at run g) (settled_at run due) ≡ settled_at run (max g due)
+more_settled run g due = elim (cases_lt g due) [
+  | inl lt ↦
+      let rises = release_rises run.scheduled.description.rate (lead_of run) g (lead_of run) due (omega (arith, lt)) in
+      let same : max g due ≡ due = omega (arith, lt) in
+      rw same (omega (arith, rises))
+  | inr le ↦
+      let rises = release_rises run.scheduled.description.rate (lead_of run) due (lead_of run) g (omega (arith, le)) in
+      let same : max g due ≡ g = omega (arith, le) in
+      rw same (omega (arith, rises))
+]
+
+greatest_more : (units : List (ℕ × AccessUnit)) (entry : ℕ × AccessUnit) → greatest_of (units ++ (entry ∷ [])) ≡ max (greatest_of units) entry.1.dts
+greatest_more units entry = fold-append (λ greatest e. max greatest e.1.dts) 0 units (entry ∷ [])
+
+-- ---- units of which none was refused
+
+-- these units were taken, and the slots that they settle written
+pub record Taken (run : Run) (a : Air) (units : List (ℕ × AccessUnit)) : Type 0 where
+  pub accepted : a.accepted ≡ units
+  pub greatest : a.greatest ≡ greatest_of units
+  pub slots : a.slots ≡ settled_at run (greatest_of units)
+
+pub none_taken : (run : Run) → Taken run silence []
+none_taken run = record {
+  accepted = refl;
+  greatest = refl;
+  slots =
+      let first : release run.scheduled.description.rate (lead_of run) 0 ≡ 0 = release_zero run.scheduled.description.rate (lead_of run) in
+      omega (arith, first);
+}
+
+pub taken_more : (run : Run) (a : Air) (units : List (ℕ × AccessUnit)) (entry : ℕ × AccessUnit) → Taken run a units → is_tick entry ≡ false →
+    Taken run (aired_by run a entry None) (units ++ (entry ∷ []))
+unfolding aired_by accepted_by
+taken_more run a units entry so tick = record {
+  accepted = rw tick (ap (λ (l : List (ℕ × AccessUnit)). l ++ (entry ∷ [])) so.accepted);
+  greatest = ap (λ (g : ℕ). max g entry.1.dts) so.greatest ∙ sym (greatest_more units entry);
+  slots = ap (λ (n : ℕ). on_to n (settled_at run entry.1.dts)) so.slots ∙ more_settled run (greatest_of units) entry.1.dts ∙ ap (λ (g : ℕ). settled_at run g) (sym (greatest_more units entry));
+}
+
+-- a unit that is multiplexed has bytes, and so it is no tick
+pub some_bytes : (d : Scheduled) (other : ℕ) (units : List (ℕ × AccessUnit)) (entry : ℕ × AccessUnit) → cause_after d other units entry ≡ None → is_tick entry ≡ false
+some_bytes d other units entry none =
+    let found = stream_of d other units entry (slice_get d.description.streams entry.0) none in
+    let own = own_facts _ _ entry.1 (or_none _ _ found.cause).0 in
+    no_tick entry own.some
+
+not_empty : {V : Type 0} (xs : List V) (x : V) → xs ++ (x ∷ []) ≡ [] → ⊥
+not_empty [] x e = cc
+not_empty (y ∷ xs) x e = cc
+
+-- a refusal stays
+taken_by : (run : Run) (a : Air) (units : List (ℕ × AccessUnit)) (entry : ℕ × AccessUnit) (cause : Option AirRefusal) → (a.refused ≡ [] → Taken run a units) →
+    is_tick entry ≡ false → (aired_by run a entry cause).refused ≡ [] → Taken run (aired_by run a entry cause) (units ++ (entry ∷ []))
+unfolding aired_by
+taken_by run a units entry None so tick none = taken_more run a units entry (so none) tick
+taken_by run a units entry (Some cause) so tick none = absurd (not_empty a.refused (a.records, cause) none)
+
+taken_with : (run : Run) (a : Air) (other : ℕ) (units : List (ℕ × AccessUnit)) (found : Result (Option (ℕ × AccessUnit)) UnitFileError) →
+    (first_refused run.scheduled other [] units ≡ None → a.refused ≡ [] → Taken run a units) →
+    first_refused run.scheduled other [] (with_entry found units) ≡ None → (with_record run found a).refused ≡ [] → Taken run (with_record run found a) (with_entry found units)
+unfolding with_record with_entry
+taken_with run a other units (Err fault) so job none = so job none
+taken_with run a other units (Ok None) so job none = so job none
+taken_with run a other units (Ok (Some entry)) so job none =
+    let last = last_taken run.scheduled other [] units entry job in
+    taken_by run a units entry (air_cause run a entry) (so last.0) (some_bytes run.scheduled other units entry last.1) none
+
+all_taken : (run : Run) (other n : ℕ) (xs : List ℕ) → first_refused run.scheduled other [] (records_of n xs) ≡ None → (heard run n xs).refused ≡ [] → Taken run (heard run n xs) (records_of n xs)
+unfolding heard records_of
+all_taken run other zero xs job none = none_taken run
+all_taken run other (suc n) xs job none = taken_with run (heard run n xs) other (records_of n xs) (record_at (after_records n xs)) (all_taken run other n xs) job none
+
+-- ---- the output
+
+no_later : (run : Run) (g limit : ℕ) (slots : Option ℕ) → min (release run.scheduled.description.rate (lead_of run) g) limit ≤ last_by run.scheduled.description.rate limit g slots
+unfolding last_by
+no_later run g limit None =
+    let rises = release_rises run.scheduled.description.rate (lead_of run) g 0 g (omega arith) in
+    omega (arith, rises)
+no_later run g limit (Some slots) = omega arith
+
+pub aired_as_multiplexed : AiredAsMultiplexed
+aired_as_multiplexed run other n xs job none =
+    let so = all_taken run other n xs job none in
+    let last = ap (λ (g : ℕ). last_at run g) so.greatest in
+    let later = no_later run (greatest_of (records_of n xs)) (limit_of run.terms) run.terms.slots in
+    let slots : on_to (heard run n xs).slots (last_at run (heard run n xs).greatest) ≡ last_at run (greatest_of (records_of n xs)) =
+    omega (arith, last, later, so.slots) in
+    ap (λ (us : List (ℕ × AccessUnit)). output_of run.hex run.scheduled (job_history us (ended run (heard run n xs)).slots)) so.accepted
+    ∙ ap (λ (k : ℕ). output_of run.hex run.scheduled (job_history (records_of n xs) k)) slots
