@@ -1,14 +1,17 @@
 -- What the records and the end of a run leave.
-use Rattle.std.proofs.Common.{◌≡◌, ℕ, Bool, List, [], ◌++◌, Option, Some, Ok, refl, sym, ap, ◌∙◌, subst, inl, inr, append-nil}
+use Rattle.std.proofs.Common.{◌≡◌, ◌⊎◌, ℕ, Bool, List, [], ◌++◌, Option, Some, None, Ok, refl, sym, ap, ◌∙◌, subst, inl, inr, append-nil}
 use Rattle.std.specs.Prelude.{is_some}
 use Rattle.std.specs.Io.KnownBytes.{Appends}
 use Rattle.counted_io.specs.Device.{Failed}
 use Rattle.packet_output.specs.Buffer.{Buffered, IsOutput}
-use Rattle.devices.specs.Devices.{Device, Port, between}
+use Rattle.devices.specs.Devices.{Device, IsUntouched, Port, between}
 use Rattle.devices.specs.Lines.{Reports}
 use Rattle.devices.specs.Outcomes.{halt_line}
 use Rattle.devices.specs.declared.halt.Halt.TheVariants.{Write}
-use Rattle.checked_jobs.specs.Jobs.{job_of}
+use Rattle.checked_jobs.specs.Jobs.{JobView, job_of}
+use Rattle.mux_core.specs.NewMux.{Judges}
+use Rattle.mux_core.specs.declared.done.NewError.{NewError}
+use Rattle.mux_core.specs.declared.done.NewError.TheVariants.{Capacity, Periods, Memory as NoRoom}
 use Rattle.checked_jobs.specs.JobFaults.{plans_view}
 use Rattle.checked_jobs.specs.declared.jobs.JobPlans.{JobPlans}
 use Rattle.checked_jobs.specs.declared.jobs.JobPlans.TheVariants.{One, Two}
@@ -17,7 +20,7 @@ use Rattle.on_air.specs.AirStates.{AirState, IsOnAir}
 use Rattle.on_air.specs.Hearing.{Fails}
 use Rattle.tsair_cli.specs.declared.arguments.AirOptions.{AirOptions}
 use Rattle.tsair_cli.specs.declared.hearing.RecordsEnd.{RecordsEnd}
-use Rattle.tsair_cli.specs.AirRuns.{AirsRecords, Begins}
+use Rattle.tsair_cli.specs.AirRuns.{AirsJob, AirsRecords, Begins, begin_cause, begin_outcome}
 use Rattle.tsair_cli.specs.Endings.{end_outcome}
 use Rattle.tsair_cli.specs.Fronts.{ReadsPlans}
 use Rattle.tsair_cli.specs.HeardRecords.{EndsRecords, FailsRecords}
@@ -93,3 +96,21 @@ begun o before left plans switch is r = record {
   job_is = r.plans_are ∙ ap (λ (b : Bool). job_of b r.front) is;
   no_rest = no_rest plans;
 }
+
+-- too many periods are answered where they are the cause
+periods_judged : (wanted : Option NewError) → Judges wanted (Some Periods) → wanted ≡ Some Periods
+periods_judged None j = absurd (not_memory j)
+  where
+    not_memory : (◌≡◌ {A = Option NewError} (Some Periods) None) ⊎ (◌≡◌ {A = Option NewError} (Some Periods) (Some NoRoom)) → ⊥
+    not_memory (inl e) = cc
+    not_memory (inr e) = cc
+periods_judged (Some cause) j = sym j
+
+-- no run was begun
+pub not_begun : (o : AirOptions) (input output faults : Device) (status : ℕ) (job : JobView) (cause : NewError) → Begins o input.before input.after job →
+    Judges (begin_cause o job) (Some cause) → IsUntouched output → Reports faults (begin_outcome cause).report → status ≡ (begin_outcome cause).status →
+    AirsJob o input output faults status
+not_begun o input output faults status job Periods b j u r s =
+    inr (inr (inl (record { job = job; begins = b; cause = periods_judged (begin_cause o job) j; unwritten = u; reports = r; status_is = s })))
+not_begun o input output faults status job Capacity b j u r s = inr (inr (inr (record { clean = b.clean; unwritten = u; reports = r; status_is = s })))
+not_begun o input output faults status job NoRoom b j u r s = inr (inr (inr (record { clean = b.clean; unwritten = u; reports = r; status_is = s })))

@@ -15,7 +15,7 @@ use Rattle.checked_jobs.specs.Jobs.{JobView, job_of}
 use Rattle.checked_jobs.specs.JobSchedules.{schedule_by}
 use Rattle.on_air.specs.declared.answers.Ending.{Ending}
 use Rattle.on_air.specs.Airing.{Run, Air, air_output, ended}
-use Rattle.on_air.specs.AirStates.{KeepsHeadline, run_with}
+use Rattle.on_air.specs.AirStates.{KeepsHeadline, Promises, run_with}
 use Rattle.on_air.specs.Hearing.{Fails, HeardOn}
 use Rattle.tsair_cli.specs.declared.arguments.AirOptions.{AirOptions}
 use Rattle.tsair_cli.specs.declared.front.FrontError.{FrontError}
@@ -109,11 +109,12 @@ pub record HasBadPeriods (o : AirOptions) (input output faults : Device) (status
   pub reports : Reports faults (line_text (codes "periods") [])
   pub status_is : status ≡ 1
 
--- it went on air
+-- it went on air, over plans that promise what the checker asks of them
 pub record GoesOnAir (o : AirOptions) (input output faults : Device) (status : ℕ) : Type 0 where
   pub left : Port
   pub job : JobView
   pub begins : Begins o input.before left job
+  pub promises : Promises (run_of o job).scheduled
   pub records : AirsRecords o (run_of o job) (between left input.after) output faults status
 
 abbrev pub AirsJob : AirOptions → Device → Device → Device → ℕ → Type 0
