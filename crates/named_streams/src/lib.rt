@@ -1,0 +1,9 @@
+//! The elementary streams that the tables of a stream name, as soon as they name them.
+//!
+//! - [`NamedStreams`]: takes the first packets of a stream, until each program of its program association table has a
+//!   program map table.
+#![tactic(auto)]
+
+mod named_streams;
+
+pub use named_streams::{FIRST_PACKETS, NamedStreams};

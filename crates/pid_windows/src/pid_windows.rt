@@ -1,0 +1,117 @@
+//! The counts of one window.
+ghost use Rattle.std.specs.Prelude.{◌≡◌, OnOk};
+ghost use Rattle.pid_windows.specs.Windows.{counts_in, counts_of, no_packet, taken, with_one, with_packet};
+
+use indexmap::IndexMap;
+use std::alloc::{AllocError, Allocator};
+use std::hash::{BuildHasherDefault, FoldHasher};
+use std::marker::Model;
+
+/// The number of packets of a PID, and of those of them that have a program_clock_reference.
+#[derive(Clone, Copy)]
+pub struct PidCounts {
+    pub packets: u64,
+    pub pcrs: u64,
+}
+
+/// Counts by PID, in the order in which the PIDs were first seen.
+pub type PidEntries<A> = IndexMap<u16, PidCounts, BuildHasherDefault<FoldHasher>, A>;
+
+/// The window of the last packet, and its counts. There is room for each PID once, whatever the number of windows.
+#[derive(Drop)]
+pub struct PidWindow<A: Allocator> {
+    number: u64,
+    counts: PidEntries<A>,
+}
+
+impl<A: Allocator> Model for PidWindow<A> {
+    ghost use Rattle.pid_windows.specs.Windows.{WindowView};
+
+    ghost Value = { WindowView };
+
+    ghost view = { λ w. record { number = w.number; counts = w.counts.entries } };
+}
+
+// The counts of a PID.
+#[tactic(auto, unfolding(crate::specs::Windows::counts_or_zero))]
+fn counts_of<A: Allocator>(counts: &PidEntries<A>, pid: u16) -> PidCounts
+    ensures { result ≡ counts_of pid counts.now.entries }
+{
+    match counts.get(&pid) {
+        Some(counts) => *counts,
+        None => PidCounts {
+            packets: 0,
+            pcrs: 0,
+        },
+    }
+}
+
+// These counts with one packet more. They stop at 2^64 - 1.
+#[tactic(auto, unfolding(crate::specs::Windows::with_one))]
+fn with_one(counts: PidCounts, pcr: bool) -> PidCounts
+    ensures { result ≡ with_one counts pcr }
+{
+    let pcrs = if pcr {
+        counts.pcrs.saturating_add(1)
+    } else {
+        counts.pcrs
+    };
+    PidCounts {
+        packets: counts.packets.saturating_add(1),
+        pcrs,
+    }
+}
+
+// Counts a packet of a PID.
+fn count<A: Allocator + Clone>(
+    counts: &mut PidEntries<A>,
+    pid: u16,
+    pcr: bool,
+) -> Result<(), AllocError>
+    ensures { OnOk result (counts.new.entries ≡ with_packet counts.old.entries pid pcr) }
+{
+    let more = with_one(counts_of(counts, pid), pcr);
+    counts.insert(pid, more)?;
+    Ok(())
+}
+
+impl<A: Allocator + Copy> PidWindow<A> {
+    /// Before the first packet.
+    pub fn new(alloc: A) -> PidWindow<A>
+        ensures { result ≡ no_packet }
+    {
+        PidWindow {
+            number: 0,
+            counts: IndexMap::new(alloc),
+        }
+    }
+
+    /// The number of the window of the last packet, 0 before the first.
+    pub fn number(&self) -> u64
+        ensures { result ≡ self.now.number }
+    {
+        self.number
+    }
+
+    /// Its counts.
+    pub fn counts(&self) -> &PidEntries<A>
+        ensures { result.now.entries ≡ self.now.counts }
+    {
+        &self.counts
+    }
+
+    /// A packet of a window: of another one than the last packet's it is the first, and the counts of the last window are
+    /// forgotten.
+    ///
+    /// After an `AllocError` the window is that of no packets: drop it.
+    #[tactic(auto, unfolding(crate::specs::Windows::counts_in))]
+    pub fn take(&mut self, window: u64, pid: u16, pcr: bool) -> Result<(), AllocError>
+        ensures { OnOk result (self.new ≡ taken self.old window pid pcr) }
+    {
+        if self.number != window {
+            self.number = window;
+            self.counts.clear();
+        }
+        count(&mut self.counts, pid, pcr)
+    }
+}

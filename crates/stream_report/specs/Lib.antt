@@ -1,0 +1,4 @@
+pub mod ReportLines
+pub mod WindowLines
+pub mod StreamLines
+pub mod Views

@@ -1,0 +1,18 @@
+//! The report on a stream, line by line as it comes: what an analyst asks first.
+//!
+//! - [`View`]: takes packets, and appends the lines that are settled to a text; `end` appends the last ones.
+//! - [`ViewOptions`]: the rate at which the packets arrive, the length of a window, and the form of the lines.
+//!
+//! A line is a word and fields, each a name and a number or a word: plain text with spaces between, or one JSON object.
+//! What is kept does not grow with the stream: the counts of the PIDs, what the first packets name, and a
+//! transport buffer for each stream that they name.
+#![tactic(auto)]
+
+mod lines;
+mod stream_lines;
+mod view;
+mod view_options;
+mod window_lines;
+
+pub use view::View;
+pub use view_options::ViewOptions;

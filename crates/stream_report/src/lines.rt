@@ -1,0 +1,115 @@
+//! The lines of a report.
+ghost use Rattle.std.specs.Prelude.{◌≡◌, ◌++◌, OnOk, map, flat_map, string_bytes};
+ghost use Rattle.stream_report.specs.ReportLines as spec;
+
+use std::alloc::AllocError;
+use std::fmt::Write;
+
+/// The value of a field.
+#[derive(Clone, Copy)]
+pub enum FieldValue {
+    Number(u128),
+    Word(&'static str),
+}
+
+/// A field of a line.
+#[derive(Clone, Copy)]
+pub struct Field {
+    pub name: &'static str,
+    pub value: FieldValue,
+}
+
+/// A field with a number.
+#[tactic(auto, unfolding(crate::specs::ReportLines::value_view))]
+pub(crate) fn number(name: &'static str, value: u128) -> Field
+    ensures { spec.field_view result ≡ spec.number_field name.now value }
+{
+    Field {
+        name,
+        value: FieldValue::Number(value),
+    }
+}
+
+/// A field with a word.
+#[tactic(auto, unfolding(crate::specs::ReportLines::value_view))]
+pub(crate) fn word(name: &'static str, value: &'static str) -> Field
+    ensures { spec.field_view result ≡ spec.word_field name.now value.now }
+{
+    Field {
+        name,
+        value: FieldValue::Word(value),
+    }
+}
+
+#[tactic(auto, unfolding(crate::specs::ReportLines::value_text, crate::specs::ReportLines::value_view))]
+fn write_value(text: &mut String, json: bool, value: FieldValue) -> Result<(), AllocError>
+    ensures { OnOk result (string_bytes text.new ≡ string_bytes text.old ++ spec.value_text json (spec.value_view value)) }
+{
+    match value {
+        FieldValue::Number(number) => write!(text, "{number}"),
+        FieldValue::Word(word) => {
+            if json {
+                write!(text, "\"{word}\"")
+            } else {
+                text.push_str(word)
+            }
+        }
+    }
+}
+
+fn write_name(text: &mut String, json: bool, name: &str) -> Result<(), AllocError>
+    ensures { OnOk result (string_bytes text.new ≡ string_bytes text.old ++ spec.name_text json name.now) }
+{
+    if json {
+        write!(text, ",\"{name}\":")
+    } else {
+        write!(text, " {name} ")
+    }
+}
+
+fn write_field(text: &mut String, json: bool, field: &Field) -> Result<(), AllocError>
+    ensures { OnOk result (string_bytes text.new ≡ string_bytes text.old ++ spec.field_text json (spec.field_view field.now)) }
+{
+    write_name(text, json, field.name)?;
+    write_value(text, json, field.value)
+}
+
+fn write_fields(text: &mut String, json: bool, fields: &[Field]) -> Result<(), AllocError>
+    ensures { OnOk result (string_bytes text.new
+        ≡ string_bytes text.old ++ flat_map (spec.field_text json) (map spec.field_view fields.now)) }
+{
+    for field in fields {
+        write_field(text, json, field)?;
+    }
+    Ok(())
+}
+
+fn write_first(text: &mut String, json: bool, word: &str) -> Result<(), AllocError>
+    ensures { OnOk result (string_bytes text.new ≡ string_bytes text.old ++ spec.first_text json word.now) }
+{
+    if json {
+        text.push_str("{\"line\":\"")?;
+        write!(text, "{word}\"")
+    } else {
+        text.push_str(word)
+    }
+}
+
+/// Appends a line.
+pub(crate) fn write_line(
+    text: &mut String,
+    json: bool,
+    word: &str,
+    fields: &[Field],
+) -> Result<(), AllocError>
+    ensures { OnOk result (string_bytes text.new
+        ≡ string_bytes text.old ++ spec.line_of json word.now (map spec.field_view fields.now)) }
+{
+    write_first(text, json, word)?;
+    write_fields(text, json, fields)?;
+    if json {
+        text.push_str("}\n")
+    } else {
+        text.push_str("\n")
+    }
+}

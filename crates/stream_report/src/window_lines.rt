@@ -1,0 +1,89 @@
+//! The lines of a window, and of all packets of a PID.
+ghost use Rattle.std.specs.Prelude.{◌≡◌, ◌++◌, OnOk, string_bytes};
+ghost use Rattle.stream_report.specs.WindowLines as spec;
+
+use crate::lines::{number, write_line};
+use crate::view_options::ViewOptions;
+use clock27::SLOT_MS_AT_1BPS;
+use pid_windows::{PidCounts, PidWindow};
+use std::alloc::{AllocError, Global};
+
+/// The window in which a packet begins.
+pub(crate) fn window_of(options: &ViewOptions, index: u64) -> u64
+    ensures { result ≡ spec.window_of options.now index }
+{
+    let length = options.rate.bits_per_second() * u64::from(options.window);
+    (u128::from(index) * SLOT_MS_AT_1BPS / u128::from(length.max(1))).min(u128::from(
+        u64::MAX,
+    )) as u64
+}
+
+fn rate_in(options: &ViewOptions, packets: u64) -> u128
+    ensures { result ≡ spec.rate_in options.now packets }
+{
+    u128::from(packets) * SLOT_MS_AT_1BPS / u128::from(options.window.max(1))
+}
+
+fn write_window_line(
+    text: &mut String,
+    options: &ViewOptions,
+    window: u64,
+    pid: u16,
+    counts: PidCounts,
+) -> Result<(), AllocError>
+    ensures { OnOk result (string_bytes text.new ≡ string_bytes text.old ++ spec.window_line options.now window (pid, counts)) }
+{
+    let fields = [
+        number("number", u128::from(window)),
+        number("pid", u128::from(pid)),
+        number("packets", u128::from(counts.packets)),
+        number("pcrs", u128::from(counts.pcrs)),
+        number("rate", rate_in(options, counts.packets)),
+    ];
+    write_line(text, options.json, "window", &fields)
+}
+
+/// Appends the lines of a window.
+pub(crate) fn write_window(
+    text: &mut String,
+    options: &ViewOptions,
+    window: &PidWindow<Global>,
+) -> Result<(), AllocError>
+    ensures { OnOk result (string_bytes text.new ≡ string_bytes text.old ++ spec.window_lines options.now window.now) }
+{
+    let number = window.number();
+    for (pid, counts) in window.counts() {
+        write_window_line(text, options, number, *pid, *counts)?;
+    }
+    Ok(())
+}
+
+fn write_pid_line(
+    text: &mut String,
+    options: &ViewOptions,
+    pid: u16,
+    counts: PidCounts,
+) -> Result<(), AllocError>
+    ensures { OnOk result (string_bytes text.new ≡ string_bytes text.old ++ spec.pid_line options.now (pid, counts)) }
+{
+    let fields = [
+        number("number", u128::from(pid)),
+        number("packets", u128::from(counts.packets)),
+        number("pcrs", u128::from(counts.pcrs)),
+    ];
+    write_line(text, options.json, "pid", &fields)
+}
+
+/// Appends the lines of all packets of each PID.
+pub(crate) fn write_pids(
+    text: &mut String,
+    options: &ViewOptions,
+    totals: &PidWindow<Global>,
+) -> Result<(), AllocError>
+    ensures { OnOk result (string_bytes text.new ≡ string_bytes text.old ++ spec.pid_lines options.now totals.now) }
+{
+    for (pid, counts) in totals.counts() {
+        write_pid_line(text, options, *pid, *counts)?;
+    }
+    Ok(())
+}

@@ -1,0 +1,33 @@
+//! `tsview`: what is in an MPEG-2 transport stream, and what a receiver's buffers hold, line by line (ISO/IEC 13818-1,
+//! TR 101 290).
+//!
+//! The program is `tsview_cli::run` over any reader and two writers; `devices::run_program` runs it over the real ones.
+#![tactic(auto)]
+
+use counted_io::{Sink, Source};
+use devices::{Program, run_program};
+use std::alloc::Global;
+use std::process::ExitCode;
+use tsview_cli::{report_usage, run};
+
+struct Tsview;
+
+impl Program for Tsview {
+    fn run<R: Source, W: Sink, E: Sink>(
+        alloc: Global,
+        words: &[&str],
+        input: &mut R,
+        output: &mut W,
+        faults: &mut E,
+    ) -> u8 {
+        run(alloc, words, input, output, faults)
+    }
+
+    fn report_usage<E: Sink>(faults: &mut E) -> u8 {
+        report_usage(faults)
+    }
+}
+
+fn main(rt: HostRuntime) -> ExitCode {
+    run_program::<Tsview>(&rt)
+}

@@ -1,0 +1,197 @@
+-- A stream that is viewed piece by piece, whole packets in each but the last.
+use Rattle.std.proofs.Common.{◌≡◌, ◌⊎◌, ℕ, zero, suc, ◌+◌, ◌*◌, ◌/◌, ◌%◌, ◌<◌, ◌≤◌, min, List, [], ◌∷◌, ◌++◌, length, take, drop, refl, sym, ap, ap₂, subst, ◌∙◌, arith, append_assoc, append-nil, length-append, Option, Some, None, Result, Ok, Err, inl, inr}
+use Rattle.std.proofs.KnownBytes.{Appends-nil, Appends-trans}
+use Rattle.std.proofs.lemmas.List.{length-drop, length-take-le, take-append-drop}
+use Rattle.std.specs.Io.KnownBytes.{Appends}
+use Rattle.ts_packet.specs.PidList.{cut_packets}
+use Rattle.ts_packet.proofs.Listing.{first_cut}
+use Rattle.stream_report.specs.Views.{ViewState, after_all, after_packet, lines_all, lines_at}
+use Rattle.counted_io.specs.Device.{Failed, IsFront}
+use Rattle.devices.specs.Devices.{Port, Device, between, HasFailed}
+use Rattle.devices.specs.Lines.{Stopped, WritesLine}
+use Rattle.devices.specs.WholeInput.{IsLong, ReadsFront, ReadsInput, TakesInput, longest_input}
+use Rattle.devices.specs.declared.halt.Halt.{Halt}
+use Rattle.std.specs.Prelude.{IfOk, IfErr}
+use Rattle.devices.specs.declared.halt.Halt.TheVariants.{Read, Write, Memory}
+use Rattle.devices.proofs.TakenInput.{IsAfter, TakesFront}
+use Rattle.tsview_cli.specs.Viewing.{BeginsWith, Breaks, Seen}
+
+-- 1. Bytes that are whole packets, and bytes after them
+
+cut_both : (count : ℕ) (bytes more : List ℕ) → length bytes ≡ 188 * count → cut_packets (bytes ++ more) ≡ cut_packets bytes ++ cut_packets more
+cut_both zero [] more e = refl
+cut_both zero (x ∷ bytes) more e = absurd (omega arith)
+cut_both (suc count) bytes more e =
+    let front = take 188 bytes in
+    let back = drop 188 bytes in
+    let joined : front ++ back ≡ bytes = take-append-drop 188 bytes in
+    let size : length front ≡ 188 = length-take-le 188 bytes (omega arith) in
+    let left : length back ≡ 188 * count = omega (arith, length-drop 188 bytes) in
+    ap (λ (x : List ℕ). cut_packets (x ++ more)) (sym joined)
+    ∙ ap (λ (x : List ℕ). cut_packets x) (append_assoc front back more)
+    ∙ first_cut front (back ++ more) size
+    ∙ ap (λ (x : List (List ℕ)). front ∷ x) (cut_both count back more left)
+    ∙ ap (λ (x : List (List ℕ)). x ++ cut_packets more) (sym (first_cut front back size))
+    ∙ ap (λ (x : List ℕ). cut_packets x ++ cut_packets more) joined
+
+after_both : (s : ViewState) (packets more : List (List ℕ)) → after_all s (packets ++ more) ≡ after_all (after_all s packets) more
+unfolding after_all
+after_both s [] more = refl
+after_both s (packet ∷ packets) more = after_both (after_packet s packet) packets more
+
+lines_both : (s : ViewState) (packets more : List (List ℕ)) → lines_all s (packets ++ more) ≡ lines_all s packets ++ lines_all (after_all s packets) more
+unfolding after_all lines_all
+lines_both s [] more = refl
+lines_both s (packet ∷ packets) more =
+    ap (λ (l : List ℕ). lines_at s packet ++ l) (lines_both (after_packet s packet) packets more)
+    ∙ sym (append_assoc (lines_at s packet) (lines_all (after_packet s packet) packets) (lines_all (after_all (after_packet s packet) packets) more))
+
+-- the lines of both
+lines_joined : (first : ViewState) (bytes piece : List ℕ) → length bytes % 188 ≡ 0 →
+    lines_all first (cut_packets (bytes ++ piece)) ≡ lines_all first (cut_packets bytes) ++ lines_all (after_all first (cut_packets bytes)) (cut_packets piece)
+lines_joined first bytes piece whole =
+    let count : length bytes ≡ 188 * (length bytes / 188) = omega (arith, whole) in
+    ap (lines_all first) (cut_both (length bytes / 188) bytes piece count) ∙ lines_both first (cut_packets bytes) (cut_packets piece)
+
+kept_joined : (first : ViewState) (bytes piece : List ℕ) → length bytes % 188 ≡ 0 →
+    after_all first (cut_packets (bytes ++ piece)) ≡ after_all (after_all first (cut_packets bytes)) (cut_packets piece)
+kept_joined first bytes piece whole =
+    let count : length bytes ≡ 188 * (length bytes / 188) = omega (arith, whole) in
+    ap (after_all first) (cut_both (length bytes / 188) bytes piece count) ∙ after_both first (cut_packets bytes) (cut_packets piece)
+
+-- 2. Pieces that were viewed
+
+pub seen_none : (first : ViewState) (port : Port) → Seen first (between port port) first []
+unfolding after_all lines_all
+seen_none first port = record { kept = refl; written = Appends-nil port.bytes; clean = refl }
+
+pub seen_more : (first before now : ViewState) (old mid new : Port) (bytes piece : List ℕ) → now ≡ after_all before (cut_packets piece) →
+    Appends mid.bytes new.bytes (lines_all before (cut_packets piece)) → new.failed ≡ mid.failed → length bytes % 188 ≡ 0 → Seen first (between old mid) before bytes →
+    Seen first (between old new) now (bytes ++ piece)
+seen_more first before now old mid new bytes piece kept written clean whole s =
+    let lines : lines_all first (cut_packets bytes) ++ lines_all before (cut_packets piece) ≡ lines_all first (cut_packets (bytes ++ piece)) =
+    ap (λ (v : ViewState). lines_all first (cut_packets bytes) ++ lines_all v (cut_packets piece)) s.kept ∙ sym (lines_joined first bytes piece whole) in
+    record {
+      kept = kept ∙ ap (λ (v : ViewState). after_all v (cut_packets piece)) s.kept ∙ sym (kept_joined first bytes piece whole);
+      written = subst (Appends old.bytes new.bytes) lines
+          (Appends-trans old.bytes mid.bytes new.bytes (lines_all first (cut_packets bytes)) (lines_all before (cut_packets piece)) s.written written);
+      clean = clean ∙ s.clean;
+    }
+
+-- with the lines of a piece that were written
+pub seen_then : (first before now : ViewState) (begin middle end : Port) (text piece : List ℕ) → text ≡ lines_all before (cut_packets piece) → now ≡ after_all before (cut_packets piece) →
+    Appends middle.bytes end.bytes text → end.failed ≡ middle.failed → (bytes : List ℕ) → length bytes % 188 ≡ 0 → Seen first (between begin middle) before bytes →
+    Seen first (between begin end) now (bytes ++ piece)
+seen_then first before now begin middle end text piece is kept written clean bytes whole s =
+    seen_more first before now begin middle end bytes piece kept (subst (Appends middle.bytes end.bytes) is written) clean whole s
+
+-- 3. Where it ends early
+
+after_more : (old mid new : Port) (bytes piece : List ℕ) (n : ℕ) → IsAfter old mid bytes →
+    ((xs : List ℕ) → mid.bytes ≡ Some xs → (n ≡ min (length piece) (length xs)) × IsFront xs new.bytes piece n) → BeginsWith old.bytes (bytes ++ take n piece)
+after_more old mid new bytes piece n b p xs e =
+    let h = b xs e in
+    let k = p h.0 h.2 in (
+      drop n h.0,
+      h.1 ∙ ap (λ (x : List ℕ). bytes ++ x) (sym (take-append-drop n h.0)) ∙ sym (append_assoc bytes (take n h.0) (drop n h.0))
+          ∙ ap (λ (x : List ℕ). (bytes ++ x) ++ drop n h.0) (sym k.1.front),
+    )
+
+begins : (old mid : Port) (bytes : List ℕ) → IsAfter old mid bytes → BeginsWith old.bytes bytes
+begins old mid bytes after xs e = let h = after xs e in (h.0, h.1)
+
+-- the reader failed
+pub read_failed : (first before : ViewState) (old mid new : Port) (output : Device) (size : ℕ) → TakesFront (Seen first output before) 188 old mid size →
+    Failed mid.failed new.failed → Breaks first (between old new) output Read
+read_failed first before old mid new output size f failed = record {
+  bytes = f.bytes;
+  front = begins old mid f.bytes f.known;
+  at = (f.taken.written, inl (subst (λ (n : ℕ). Failed n new.failed) f.clean failed));
+}
+
+-- there was no memory for the lines of a piece
+pub no_memory : (first before : ViewState) (old mid new : Port) (output : Device) (size : ℕ) → TakesFront (Seen first output before) 188 old mid size →
+    new.failed ≡ mid.failed → Breaks first (between old new) output Memory
+no_memory first before old mid new output size f clean = record {
+  bytes = f.bytes;
+  front = begins old mid f.bytes f.known;
+  at = (f.taken.written, clean ∙ f.clean);
+}
+
+-- the input is too long
+long_if : (known : Option (List ℕ)) (bytes : List ℕ) → longest_input < length bytes → ((xs : List ℕ) → known ≡ Some xs → (left : List ℕ) × (xs ≡ bytes ++ left)) → IsLong known
+long_if None bytes s h = tt
+long_if (Some xs) bytes s h =
+    let k = h xs refl in
+    let all : length xs ≡ length bytes + length k.0 = ap length k.1 ∙ length-append bytes k.0 in
+    omega (arith, all, s)
+
+pub too_long : (first before : ViewState) (old mid : Port) (output : Device) (size : ℕ) → TakesFront (Seen first output before) 188 old mid size → longest_input < size →
+    Breaks first (between old mid) output Read
+too_long first before old mid output size f long = record {
+  bytes = f.bytes;
+  front = begins old mid f.bytes f.known;
+  at = (f.taken.written, inr (long_if old.bytes f.bytes (subst (λ (n : ℕ). longest_input < n) f.size_is long) (begins old mid f.bytes f.known)));
+}
+
+-- and within its last piece
+pub too_long_then : (first now : ViewState) (old mid new : Port) (output : Device) (bytes piece : List ℕ) (n : ℕ) → IsAfter old mid bytes → ReadsFront (between mid new) piece n →
+    Seen first output now (bytes ++ take n piece) → ReadsInput (between old new) (Err Read) → Breaks first (between old new) output Read
+too_long_then first now old mid new output bytes piece n known r s why = record {
+  bytes = bytes ++ take n piece;
+  front = after_more old mid new bytes piece n known r.known;
+  at = (s.written, why);
+}
+
+-- the writer failed within the lines of a piece
+pub take_past : (xs ys : List ℕ) (n : ℕ) → take (length xs + n) (xs ++ ys) ≡ xs ++ take n ys
+take_past [] ys n = ap (λ (k : ℕ). take k ys) (omega arith)
+take_past (x ∷ xs) ys n =
+    let e : length (x ∷ xs) + n ≡ suc (length xs + n) = omega arith in
+    rw e (ap (λ (l : List ℕ). x ∷ l) (take_past xs ys n))
+
+pub write_failed : (first before : ViewState) (old mid new : Port) (begin middle end : Port) (size n : ℕ) (piece : List ℕ) →
+    TakesFront (Seen first (between begin middle) before) 188 old mid size → ReadsFront (between mid new) piece n →
+    Stopped (lines_all before (cut_packets (take n piece))) (between middle end) → Failed middle.failed end.failed → Breaks first (between old new) (between begin end) Write
+write_failed first before old mid new begin middle end size n piece f r stopped failed =
+    let bytes = f.bytes ++ take n piece in
+    let a = lines_all first (cut_packets f.bytes) in
+    let b = lines_all before (cut_packets (take n piece)) in
+    let lines : a ++ b ≡ lines_all first (cut_packets bytes) =
+    ap (λ (v : ViewState). a ++ lines_all v (cut_packets (take n piece))) f.taken.kept ∙ sym (lines_joined first f.bytes (take n piece) f.whole) in
+    let front : a ++ take stopped.taken b ≡ take (length a + stopped.taken) (lines_all first (cut_packets bytes)) =
+    sym (take_past a b stopped.taken) ∙ ap (take (length a + stopped.taken)) lines in
+    record {
+      bytes = bytes;
+      front = after_more old mid new f.bytes piece n f.known r.known;
+      at = (
+        record {
+          taken = length a + stopped.taken;
+          appends = subst (Appends begin.bytes end.bytes) front (Appends-trans begin.bytes middle.bytes end.bytes a (take stopped.taken b) f.taken.written stopped.appends);
+        },
+        subst (λ (k : ℕ). Failed k end.failed) f.taken.clean failed,
+      );
+    }
+
+pub write_stopped : (V : Type 0) (first before : ViewState) (old mid new begin middle end : Port) (size n : ℕ) (text piece : List ℕ) (halt : Halt) →
+    TakesFront (Seen first (between begin middle) before) 188 old mid size → ReadsFront (between mid new) piece n → text ≡ lines_all before (cut_packets (take n piece)) →
+    WritesLine {V = V} text (between middle end) (Err halt) → Breaks first (between old new) (between begin end) halt
+write_stopped V first before old mid new begin middle end size n text piece Read f r is w = absurd w
+write_stopped V first before old mid new begin middle end size n text piece Write f r is w =
+    write_failed first before old mid new begin middle end size n piece f r (subst (λ (t : List ℕ). Stopped t (between middle end)) is w.0) w.1
+write_stopped V first before old mid new begin middle end size n text piece Memory f r is w = absurd w
+
+-- 4. The end of the input
+
+pub if_ok : (HasTaken : List ℕ → Type 0) (input : Device) (r : Result ℕ Halt) → TakesInput HasTaken input r → IfOk r (λ size. TakesInput HasTaken input (Ok size))
+if_ok HasTaken input (Ok size) t = t
+if_ok HasTaken input (Err halt) t = tt
+
+pub if_err : (HasTaken : List ℕ → Type 0) (first now : ViewState) (old mid new : Port) (output : Device) (size n : ℕ) (piece : List ℕ) (before : ViewState) (middle : Device) (r : Result ℕ Halt) →
+    TakesFront (Seen first middle before) 188 old mid size → ReadsFront (between mid new) piece n →
+    ((bytes : List ℕ) → length bytes % 188 ≡ 0 → Seen first middle before bytes → Seen first output now (bytes ++ take n piece)) →
+    IfErr r (λ halt. (halt ≡ Read) × (longest_input < size + n)) → TakesInput HasTaken (between old new) r → IfErr r (Breaks first (between old new) output)
+if_err HasTaken first now old mid new output size n piece before middle (Ok whole) f r t e takes = tt
+if_err HasTaken first now old mid new output size n piece before middle (Err halt) f r t e takes =
+    subst (Breaks first (between old new) output) (sym e.0)
+    (too_long_then first now old mid new output f.bytes piece n f.known r (t f.bytes f.whole f.taken) (subst (λ (h : Halt). ReadsInput (between old new) (Err h)) e.0 takes))

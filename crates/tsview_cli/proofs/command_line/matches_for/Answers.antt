@@ -1,0 +1,13 @@
+use Rattle.std.proofs.Common.{map}
+use Rattle.clap.specs.Words.{app_of}
+use Rattle.tsview_cli.specs.CommandLine.{tsview_app}
+use Rattle.tsview_cli.proofs.CommandLines.{faulty, matched, simple}
+use Rattle.tsview_cli.proofs.command_line.matches_for.Goals as goal
+
+pub returns-clause-ok : goal.returns-clause-ok
+returns-clause-ok c =
+    matched tsview_app (map (λ s. s.now) c.args.words.now) c.try_get_matches_from.result simple (rw c.in_ok-tsview.ensures at c.try_get_matches_from.ensures.matches)
+
+pub returns-clause-fault : goal.returns-clause-fault
+returns-clause-fault c =
+    faulty (app_of c.in_ok-tsview.field-0) (map (λ s. s.now) c.args.words.now) c.try_get_matches_from.result c.in_ok-tsview.ensures c.try_get_matches_from.ensures.kinds

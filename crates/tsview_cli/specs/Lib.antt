@@ -1,0 +1,3 @@
+pub mod CommandLine
+pub mod Arguments
+pub mod Viewing

@@ -1,0 +1,12 @@
+//! The words of `tsview`, over any reader and two writers (`run`): a stream is viewed as it comes.
+//!
+//! `command_line` and `arguments` read the command line; `viewing` reads the input piece by piece, and writes the lines
+//! that each piece settles before it reads the next; `program` is `run`.
+#![tactic(auto)]
+
+mod arguments;
+mod command_line;
+mod program;
+mod viewing;
+
+pub use program::{report_usage, run};

@@ -1,0 +1,172 @@
+//! The input, read piece by piece, and the lines that each piece settles.
+ghost use Rattle.std.specs.Prelude.{◌≡◌, ◌%◌, ◌<◌, ◌≤◌, ◌^◌, ◌++◌, [], IfOk, IfErr, OnOk, Ok, length, string_bytes};
+ghost use Rattle.ts_packet.specs.PidList.{cut_packets};
+ghost use Rattle.stream_report.specs.Views.{after_all, end_lines, lines_all, start};
+ghost use Rattle.devices.specs.Devices.{reads, writes};
+ghost use Rattle.devices.specs.Lines.{WritesLine};
+ghost use Rattle.devices.specs.WholeInput.{ReadsNext, TakesInput, longest_input};
+ghost use Rattle.stream_report.specs.declared.view_options.ViewOptions.{ViewOptions};
+ghost use Rattle.tsview_cli.specs.Viewing.{Breaks, Seen, Sees};
+
+use counted_io::{Sink, Source, read_part};
+use devices::{Halt, write_text};
+use std::alloc::Global;
+use stream_report::{View, ViewOptions};
+
+/// The size of a piece in bytes: 348 packets, somewhat less than 64 KiB.
+const PIECE: usize = 348 * 188;
+
+/// The greatest number of bytes of an input.
+const LONGEST_INPUT: usize = 1 << 40;
+
+// Reads the next bytes of the input into a piece.
+fn read_piece<R: Source>(input: &mut R, piece: &mut [u8]) -> Result<usize, Halt>
+    ensures { ReadsNext (reads R.Source input.old input.new) piece.new result }
+{
+    match read_part(input, piece) {
+        Ok(n) => Ok(n),
+        Err(_) => Err(Halt::Read),
+    }
+}
+
+// The size of an input, if it is no longer than the longest input.
+fn within(size: usize) -> Result<usize, Halt>
+    ensures ok { IfOk result (λ n. (n ≡ size) × (size ≤ longest_input)) }
+    ensures err { IfErr result (λ halt. (halt ≡ Halt.Read) × (longest_input < size)) }
+{
+    if size <= LONGEST_INPUT {
+        Ok(size)
+    } else {
+        Err(Halt::Read)
+    }
+}
+
+// Views the next piece: the lines that it settles are appended to the text.
+fn view_piece(view: &mut View, piece: &[u8], text: &mut String) -> Result<(), Halt>
+    ensures view { OnOk result (view.new ≡ after_all view.old (cut_packets piece.now)) }
+    ensures lines { OnOk result (string_bytes text.new
+        ≡ string_bytes text.old ++ lines_all view.old (cut_packets piece.now)) }
+    ensures memory { IfErr result (λ halt. halt ≡ Halt.Memory) }
+{
+    let (packets, _) = piece.as_chunks::<188>();
+    match view.take_all(packets, text) {
+        Ok(()) => Ok(()),
+        Err(_) => Err(Halt::Memory),
+    }
+}
+
+// Writes the text, and forgets it.
+fn write_settled<W: Sink>(text: &mut String, output: &mut W) -> Result<(), Halt>
+    ensures written { WritesLine (string_bytes text.old) (writes W.Sink output.old output.new) result }
+    ensures empty { OnOk result (string_bytes text.new ≡ []) }
+{
+    write_text(text, output)?;
+    text.clear();
+    Ok(())
+}
+
+// Views the input to its end, and returns its size.
+fn view_pieces<R: Source, W: Sink>(
+    input: &mut R,
+    output: &mut W,
+    piece: &mut [u8],
+    view: &mut View,
+    text: &mut String,
+) -> Result<usize, Halt>
+    requires some { 0 < length piece.old }
+    requires bound { length piece.old ≤ 2 ^ 32 }
+    requires whole { length piece.old % 188 ≡ 0 }
+    requires text { string_bytes text.old ≡ [] }
+    ensures ok { IfOk result (λ size. TakesInput (Seen view.old (writes W.Sink output.old output.new) view.new)
+        (reads R.Source input.old input.new) (Ok size)) }
+    ensures err { IfErr result (Breaks view.old (reads R.Source input.old input.new)
+        (writes W.Sink output.old output.new)) }
+    ensures text { OnOk result (string_bytes text.new ≡ []) }
+{
+    let mut size = 0;
+    while size <= LONGEST_INPUT {
+        let n = read_piece(input, piece)?;
+        view_piece(view, &piece[..n], text)?;
+        match write_settled(text, output) {
+            Ok(()) => {}
+            Err(halt) => return Err(halt),
+        }
+        size += n;
+        if n < piece.len() {
+            return within(size);
+        }
+    }
+    Err(Halt::Read)
+}
+
+// Appends the lines at the end of a stream.
+fn end_view(view: &View, left: usize, text: &mut String) -> Result<(), Halt>
+    ensures lines { OnOk result (string_bytes text.new ≡ string_bytes text.old ++ end_lines view.now left) }
+    ensures memory { IfErr result (λ halt. halt ≡ Halt.Memory) }
+{
+    match view.end(left, text) {
+        Ok(()) => Ok(()),
+        Err(_) => Err(Halt::Memory),
+    }
+}
+
+// A piece of zero bytes.
+fn new_piece(alloc: Global) -> Result<Vec<u8>, Halt>
+    ensures ok { IfOk result (λ piece. length piece.items ≡ 65424) }
+    ensures err { IfErr result (λ halt. halt ≡ Halt.Memory) }
+{
+    match vec![in alloc; 0u8; PIECE] {
+        Ok(piece) => Ok(piece),
+        Err(_) => Err(Halt::Memory),
+    }
+}
+
+// Views the input to its end, and writes its last lines.
+fn view_whole<R: Source, W: Sink>(
+    input: &mut R,
+    output: &mut W,
+    piece: &mut [u8],
+    view: &mut View,
+    text: &mut String,
+) -> Result<bool, Halt>
+    requires some { 0 < length piece.old }
+    requires bound { length piece.old ≤ 2 ^ 32 }
+    requires whole { length piece.old % 188 ≡ 0 }
+    requires text { string_bytes text.old ≡ [] }
+    ensures { (o : ViewOptions) → view.old ≡ start o →
+        Sees o (reads R.Source input.old input.new) (writes W.Sink output.old output.new) result }
+{
+    let size = match view_pieces(input, output, piece, view, text) {
+        Ok(size) => size,
+        Err(halt) => return Err(halt),
+    };
+    match end_view(view, size % 188, text) {
+        Ok(()) => {}
+        Err(halt) => return Err(halt),
+    }
+    match write_text(text.as_str(), output) {
+        Ok(()) => Ok(view.is_good(size % 188)),
+        Err(halt) => Err(halt),
+    }
+}
+
+/// Views the input, and writes all its lines; returns whether nothing is wrong in it.
+pub(crate) fn view_input<R: Source, W: Sink>(
+    alloc: Global,
+    options: ViewOptions,
+    input: &mut R,
+    output: &mut W,
+) -> Result<bool, Halt>
+    ensures { Sees options (reads R.Source input.old input.new) (writes W.Sink output.old output.new) result }
+{
+    let mut piece = match new_piece(alloc) {
+        Ok(piece) => piece,
+        Err(halt) => return Err(halt),
+    };
+    let mut view = View::new(alloc, options);
+    let mut text = String::new(alloc);
+    let result = view_whole(input, output, &mut piece, &mut view, &mut text);
+    // By a call: at the end of a function the drop of each part would be a step of its proof.
+    drop(view);
+    result
+}
