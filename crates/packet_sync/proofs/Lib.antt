@@ -1,3 +1,3 @@
-pub mod Marks
+pub mod FieldSteps
 pub mod SlipSteps
 pub mod WholeStreams

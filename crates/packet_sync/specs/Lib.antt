@@ -1,4 +1,5 @@
+pub mod Fields
+pub mod FieldsLeftOut
 pub mod Laws
 pub mod OtherPackets
-pub mod RandomAccess
 pub mod Slips
