@@ -6,6 +6,19 @@ use Rattle.devices.specs.Options.{is_given, number_if_given, number_option}
 use Rattle.tsair_cli.specs.CommandLine.{tsair_app}
 use Rattle.tsair_cli.specs.declared.arguments.AirOptions.{AirOptions}
 
+-- the greatest numbers: times in units of 90 kHz, slots and periods
+abbrev pub greatest_wait : ℕ
+greatest_wait = 8100000
+
+abbrev pub greatest_ahead : ℕ
+greatest_ahead = 2 ^ 52
+
+abbrev pub greatest_slots : ℕ
+greatest_slots = 2 ^ 40
+
+abbrev pub greatest_periods : ℕ
+greatest_periods = 2 ^ 64 - 1
+
 abbrev pub options : Bool → Bool → ℕ → ℕ → Option ℕ → Option ℕ → AirOptions
 options hex stop wait ahead slots periods = record { terms = record { wait = wait; ahead = ahead; slots = slots }; periods = periods; hex = hex; stop = stop }
 
@@ -17,10 +30,10 @@ options_of rows =
     option_and_then (λ slots.
     option_and_then (λ periods.
     Some (options (is_given (first_of (codes "hex") rows)) (is_given (first_of (codes "stop") rows)) wait ahead slots periods))
-    (number_if_given 0 (2 ^ 64 - 1) (first_of (codes "switch") rows)))
-    (number_if_given 0 (2 ^ 40) (first_of (codes "slots") rows)))
-    (number_option 0 (2 ^ 52) 900000 (first_of (codes "ahead") rows)))
-    (number_option 0 8100000 0 (first_of (codes "wait") rows))
+    (number_if_given 0 greatest_periods (first_of (codes "switch") rows)))
+    (number_if_given 0 greatest_slots (first_of (codes "slots") rows)))
+    (number_option 0 greatest_ahead 900000 (first_of (codes "ahead") rows)))
+    (number_option 0 greatest_wait 0 (first_of (codes "wait") rows))
 
 unfoldable pub unless_faulty : Kinds → Option AirOptions → Option AirOptions
 unless_faulty [] asked = asked

@@ -1,27 +1,32 @@
 //! The program over any reader and two writers.
 
-ghost use Rattle.std.specs.Prelude.{◌≡◌, ◌⊎◌, List, ℕ, None, Option, Some, IfOk, []};
+ghost use Rattle.std.specs.Prelude.{◌≡◌, ◌⊎◌, List, ℕ, None, Option, Some, IfOk, [], true, false, codes, map};
 ghost use Rattle.devices.specs.Devices.{reads, writes};
 ghost use Rattle.devices.specs.Lines.{Reports};
 ghost use Rattle.devices.specs.Runs.{LacksMemory};
-ghost use Rattle.devices.specs.Usage.{IsUsage};
+ghost use Rattle.devices.specs.Usage.{TellsUsage};
 ghost use Rattle.mux_core.specs.NewMux.{Judges};
 ghost use Rattle.on_air.specs.Airing.{Run, silence};
 ghost use Rattle.on_air.specs.AirStates.{IsOnAir, begin_refusal};
 ghost use Rattle.checked_jobs.specs.JobFaults.{plans_view};
 ghost use Rattle.tsair_cli.specs.AirRuns as spec;
 ghost use Rattle.tsair_cli.specs.Arguments.{asked};
+ghost use Rattle.tsair_cli.specs.KnownWords.{known_words};
+ghost use Rattle.tsair_cli.specs.UsageText.{usage_text};
+ghost use Rattle.word_faults.specs.UsageReport.{Prints, is_version, usage_report, version_text};
 ghost use Rattle.tsair_cli.specs.declared.arguments.AirOptions.{AirOptions};
 
 use crate::arguments::{AirOptions, read_arguments};
 use crate::ending::report_end;
 use crate::front::{read_front, report_front};
 use crate::hearing::hear_all;
+use crate::known_words::KnownWords;
 use checked_jobs::{JobPlans, report_refusal};
-use counted_io::{Sink, Source, write_part};
-use devices::{Halt, report_halt};
+use counted_io::{Sink, Source};
+use devices::{Halt, report_halt, report_text};
 use on_air::{NewError, OnAir};
 use std::alloc::Global;
+use word_faults::answer_other_words;
 
 /// The usage, written to the second writer on a usage error.
 const USAGE: &str = "usage: tsair [OPTIONS] < JOB > PACKETS
@@ -31,13 +36,22 @@ const USAGE: &str = "usage: tsair [OPTIONS] < JOB > PACKETS
   --hex                          packets are written as lines of hexadecimal digits
   --slots 0..1099511627776       the number of packets; else those up to the greatest DTS
   --switch Q                     the periods of the first plan before the second
+  --version                      alone: the version, and the kit that proved it
 ";
+
+// The usage.
+fn usage() -> &'static str
+    ensures { result.now ≡ usage_text }
+{
+    USAGE
+}
 
 /// Writes the usage, and returns the status.
 pub fn report_usage<E: Sink>(faults: &mut E) -> u8
-    ensures { result ≡ 2 }
+    ensures reports { Reports (writes E.Sink faults.old faults.new) usage_text }
+    ensures status { result ≡ 2 }
 {
-    let _ = write_part(faults, USAGE.as_bytes());
+    report_text(faults, usage());
     2
 }
 
@@ -132,15 +146,23 @@ pub fn run<R: Source, W: Sink, E: Sink>(
     ensures air { (o : AirOptions) → asked words.now ≡ Some o →
         spec.AirsJob o (reads R.Source input.old input.new) (writes W.Sink output.old output.new)
         (writes E.Sink faults.old faults.new) result }
-    // Anything else.
-    ensures usage { asked words.now ≡ None →
-        IsUsage (reads R.Source input.old input.new) (writes W.Sink output.old output.new) result
+    // `--version` alone.
+    ensures version { asked words.now ≡ None → is_version (map (λ s. s.now) words.now) ≡ true →
+        Prints (version_text (codes "tsair")) (reads R.Source input.old input.new) (writes W.Sink output.old output.new)
+        (writes E.Sink faults.old faults.new) result }
+    // Anything else: the first word that cannot be taken and the usage are told.
+    ensures usage { asked words.now ≡ None → is_version (map (λ s. s.now) words.now) ≡ false →
+        TellsUsage (usage_report known_words (map (λ s. s.now) words.now) usage_text)
+        (reads R.Source input.old input.new) (writes W.Sink output.old output.new)
+        (writes E.Sink faults.old faults.new) result
         ⊎ LacksMemory (reads R.Source input.old input.new) (writes W.Sink output.old output.new)
         (writes E.Sink faults.old faults.new) result }
 {
     match read_arguments(alloc, words) {
         Ok(Some(options)) => air_job(alloc, options, input, output, faults),
-        Ok(None) => report_usage(faults),
+        Ok(None) => {
+            answer_other_words(alloc, "tsair", KnownWords, words, usage(), output, faults)
+        }
         Err(_) => report_halt(faults, Halt::Memory),
     }
 }

@@ -1,0 +1,13 @@
+-- The report of a usage text that is equal to another.
+use Rattle.std.proofs.Common.{◌≡◌, ◌⊎◌, ℕ, List, subst}
+use Rattle.devices.specs.Devices.{Device}
+use Rattle.devices.specs.Runs.{LacksMemory}
+use Rattle.devices.specs.Usage.{TellsUsage}
+use Rattle.word_faults.specs.CommandLine.{CommandLine, Text}
+use Rattle.word_faults.specs.UsageReport.{usage_report}
+
+pub of_usage : (c : CommandLine) (words : List Text) (usage text : Text) (input output faults : Device) (status : ℕ) → usage ≡ text →
+    TellsUsage (usage_report c words usage) input output faults status ⊎ LacksMemory input output faults status →
+    TellsUsage (usage_report c words text) input output faults status ⊎ LacksMemory input output faults status
+of_usage c words usage text input output faults status e t =
+    subst (λ (u : Text). TellsUsage (usage_report c words u) input output faults status ⊎ LacksMemory input output faults status) e t

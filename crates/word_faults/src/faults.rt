@@ -1,0 +1,226 @@
+//! The first word that cannot be taken.
+ghost use Rattle.std.specs.Prelude.{◌≡◌, IfOk, [], false, map, option_map};
+ghost use Rattle.word_faults.specs.WordFaults as spec;
+
+use crate::command_line::CommandLine;
+use crate::word_fault::{Reason, WordFault};
+use std::alloc::{AllocError, Global};
+
+// A hyphen, and something after it.
+fn is_dashed(word: &str) -> bool
+    ensures { result ≡ spec.is_dashed word.now }
+{
+    match word.as_bytes() {
+        [first, _, ..] => *first == b'-',
+        _ => false,
+    }
+}
+
+// The option of a word, and the value that stands with it.
+fn split_word(word: &str) -> (&str, Option<&str>)
+    ensures option { result.0.now ≡ spec.option_in word.now }
+    ensures value { option_map (λ s. s.now) result.1 ≡ spec.value_in word.now }
+{
+    match word.split_once('=') {
+        Some((option, value)) => (option, Some(value)),
+        None => (word, None),
+    }
+}
+
+// A call for help.
+fn is_help(word: &str) -> bool
+    ensures { result ≡ spec.is_help word.now }
+{
+    word == "--help" || word == "-h"
+}
+
+// Whether a word is this option.
+fn is_option(option: &str, word: &str) -> bool
+    ensures { result ≡ spec.is_option option.now word.now }
+{
+    is_dashed(word) && split_word(word).0 == option
+}
+
+// Whether an option stands among words.
+fn is_given(option: &str, words: &[&str]) -> bool
+    ensures { result ≡ spec.is_given option.now (map (λ s. s.now) words.now) }
+{
+    for word in words {
+        if is_option(option, word) {
+            return true;
+        }
+    }
+    false
+}
+
+// Why the words after an option are not its value.
+fn next_reason<C: CommandLine>(
+    alloc: Global,
+    known: C,
+    option: &str,
+    rest: &[&str],
+) -> Result<Option<Reason>, AllocError>
+    ensures { IfOk result (λ r. r ≡ spec.next_reason (C.known known) option.now (map (λ s. s.now) rest.now)) }
+{
+    let Some(value) = rest.first() else {
+        return Ok(Some(Reason::NoValue));
+    };
+    if is_dashed(value) {
+        return Ok(Some(Reason::NoValue));
+    }
+    if known.reads(alloc, option, value)? {
+        Ok(None)
+    } else {
+        Ok(Some(Reason::BadNextWord))
+    }
+}
+
+// Why an option that takes a value has none.
+fn value_reason<C: CommandLine>(
+    alloc: Global,
+    known: C,
+    option: &str,
+    value: Option<&str>,
+    rest: &[&str],
+) -> Result<Option<Reason>, AllocError>
+    ensures { IfOk result (λ r. r ≡ spec.value_reason (C.known known) option.now
+        (option_map (λ s. s.now) value.entry) (map (λ s. s.now) rest.now)) }
+{
+    let Some(value) = value else {
+        return next_reason(alloc, known, option, rest);
+    };
+    if known.reads(alloc, option, value)? {
+        Ok(None)
+    } else {
+        Ok(Some(Reason::BadValue))
+    }
+}
+
+// Why an option that is known cannot be taken.
+fn known_reason<C: CommandLine>(
+    alloc: Global,
+    known: C,
+    takes_value: bool,
+    option: &str,
+    value: Option<&str>,
+    rest: &[&str],
+) -> Result<Option<Reason>, AllocError>
+    ensures { IfOk result (λ r. r ≡ spec.known_reason (C.known known) takes_value option.now
+        (option_map (λ s. s.now) value.entry) (map (λ s. s.now) rest.now)) }
+{
+    if takes_value {
+        return value_reason(alloc, known, option, value, rest);
+    }
+    match value {
+        Some(_) => Ok(Some(Reason::BadValue)),
+        None => Ok(None),
+    }
+}
+
+// Why an option cannot be taken.
+fn option_reason<C: CommandLine>(
+    alloc: Global,
+    known: C,
+    before: &[&str],
+    word: &str,
+    rest: &[&str],
+) -> Result<Option<Reason>, AllocError>
+    ensures { IfOk result (λ r. r ≡ spec.option_reason (C.known known)
+        ((C.known known).takes_value (spec.option_in word.now)) (map (λ s. s.now) before.now)
+        (spec.option_in word.now) (spec.value_in word.now) (map (λ s. s.now) rest.now)) }
+{
+    let (option, value) = split_word(word);
+    match known.takes_value(option) {
+        None => Ok(Some(Reason::Unknown)),
+        Some(_) if is_given(option, before) => Ok(Some(Reason::Twice)),
+        Some(takes_value) => known_reason(alloc, known, takes_value, option, value, rest),
+    }
+}
+
+// Why a word that is no value cannot be taken.
+fn reason_at<C: CommandLine>(
+    alloc: Global,
+    known: C,
+    has_word: bool,
+    before: &[&str],
+    word: &str,
+    rest: &[&str],
+) -> Result<Option<Reason>, AllocError>
+    ensures { IfOk result (λ r. r ≡ spec.reason_at (C.known known) has_word (map (λ s. s.now) before.now)
+        word.now (map (λ s. s.now) rest.now)) }
+{
+    if is_help(word) {
+        Ok(Some(Reason::Help))
+    } else if is_dashed(word) {
+        option_reason(alloc, known, before, word, rest)
+    } else if known.is_word(word) && !has_word {
+        Ok(None)
+    } else {
+        Ok(Some(Reason::Unknown))
+    }
+}
+
+// Whether a value is to come after a word.
+fn wants_value<C: CommandLine>(known: C, word: &str) -> bool
+    ensures { result ≡ spec.wants_value (C.known known) word.now }
+{
+    if !is_dashed(word) {
+        return false;
+    }
+    let (option, value) = split_word(word);
+    known.takes_value(option) == Some(true) && value.is_none()
+}
+
+// The first word that cannot be taken.
+#[tactic(auto, unfolding(crate::specs::WordFaults::fault_from))]
+fn first_word<C: CommandLine>(
+    alloc: Global,
+    known: C,
+    words: &[&str],
+) -> Result<Option<WordFault>, AllocError>
+    ensures { IfOk result (λ r. r ≡ spec.fault_from (C.known known) [] false false (map (λ s. s.now) words.now)) }
+{
+    let (mut has_word, mut is_value) = (false, false);
+    for place in 0..words.len() {
+        let word = words[place];
+        if is_value {
+            is_value = false;
+        } else {
+            let (before, rest) = (&words[..place], &words[place + 1..]);
+            if let Some(reason) = reason_at(alloc, known, has_word, before, word, rest)? {
+                return Ok(Some(WordFault { place, reason }));
+            }
+            has_word = has_word || !is_dashed(word);
+            is_value = wants_value(known, word);
+        }
+    }
+    Ok(None)
+}
+
+// The option that has to be given is not.
+fn missing(required: Option<&str>, words: &[&str]) -> Option<WordFault>
+    ensures { result ≡ spec.missing (option_map (λ s. s.now) required.entry) (map (λ s. s.now) words.now) }
+{
+    let option = required?;
+    if is_given(option, words) {
+        return None;
+    }
+    Some(WordFault {
+        place: words.len(),
+        reason: Reason::Missing,
+    })
+}
+
+/// The first word that cannot be taken, and why.
+pub fn first_fault<C: CommandLine>(
+    alloc: Global,
+    known: C,
+    words: &[&str],
+) -> Result<Option<WordFault>, AllocError>
+    ensures { IfOk result (λ r. r ≡ spec.first_fault (C.known known) (map (λ s. s.now) words.now)) }
+{
+    match first_word(alloc, known, words)? {
+        Some(fault) => Ok(Some(fault)),
+        None => Ok(missing(known.required(), words)),
+    }
+}

@@ -1,0 +1,90 @@
+//! The line of a fault, and the usage after it.
+ghost use Rattle.std.specs.Prelude.{◌≡◌, ◌+◌, ◌++◌, IfOk, OnOk, map, string_bytes};
+ghost use Rattle.word_faults.specs.UsageReport as spec;
+
+use crate::command_line::CommandLine;
+use crate::faults::first_fault;
+use crate::word_fault::{Reason, WordFault};
+use std::alloc::{AllocError, Global};
+
+// The word at a place.
+fn word_at<'a>(words: &[&'a str], place: usize) -> &'a str
+    ensures { result.now ≡ spec.word_at (map (λ s. s.now) words.now) place }
+{
+    match words.get(place) {
+        Some(word) => word,
+        None => "",
+    }
+}
+
+// A word, and what is said of it.
+fn write_pair(text: &mut String, word: &str, said: &str) -> Result<(), AllocError>
+    ensures { OnOk result (string_bytes text.new ≡ string_bytes text.old ++ (word.now ++ said.now)) }
+{
+    text.push_str(word)?;
+    text.push_str(said)
+}
+
+// The line of a reason.
+#[tactic(auto, unfolding(crate::specs::UsageReport::reason_line))]
+fn write_reason(
+    text: &mut String,
+    reason: Reason,
+    word: &str,
+    next: &str,
+    required: &str,
+) -> Result<(), AllocError>
+    ensures { OnOk result (string_bytes text.new
+        ≡ string_bytes text.old ++ spec.reason_line reason word.now next.now required.now) }
+{
+    match reason {
+        Reason::Unknown => write_pair(text, word, ": not known\n"),
+        Reason::Twice => write_pair(text, word, ": given twice\n"),
+        Reason::NoValue => write_pair(text, word, ": no value\n"),
+        Reason::BadValue => write_pair(text, word, ": not a value of this option\n"),
+        Reason::BadNextWord => {
+            write_pair(text, word, " ")?;
+            write_pair(text, next, ": not a value of this option\n")
+        }
+        Reason::Missing => write_pair(text, required, ": not given\n"),
+        Reason::Help => Ok(()),
+    }
+}
+
+// The line of a fault.
+#[tactic(auto, unfolding(crate::specs::UsageReport::fault_line))]
+fn write_fault<C: CommandLine>(
+    text: &mut String,
+    known: C,
+    words: &[&str],
+    fault: Option<WordFault>,
+) -> Result<(), AllocError>
+    ensures { OnOk result (string_bytes text.new
+        ≡ string_bytes text.old ++ spec.fault_line (C.known known) (map (λ s. s.now) words.now) fault) }
+{
+    let Some(WordFault { place, reason }) = fault else {
+        return Ok(());
+    };
+    let (word, next) = (
+        word_at(words, place),
+        word_at(words, place.saturating_add(1)),
+    );
+    write_reason(text, reason, word, next, known.required().unwrap_or(""))
+}
+
+/// The line of the first word that cannot be taken, and the usage after it.
+pub fn usage_report<C: CommandLine>(
+    alloc: Global,
+    known: C,
+    words: &[&str],
+    usage: &str,
+) -> Result<String, AllocError>
+    ensures { IfOk result (λ text. string_bytes text
+        ≡ spec.usage_report (C.known known) (map (λ s. s.now) words.now) usage.now) }
+{
+    let fault = first_fault(alloc, known, words)?;
+    let mut text = String::new(alloc);
+    write_fault(&mut text, known, words, fault)?;
+    text.push_str(usage)?;
+    Ok(text)
+}
