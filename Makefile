@@ -4,7 +4,10 @@ BINARY = crates/tsmux/out/tsmux
 TSJOB = crates/tsjob/out/tsjob
 TSAIR = crates/tsair/out/tsair
 
-.PHONY: run try test edits bench binary tsjob tsair any-stream on-air clean
+PROGRAM ?= tsmux
+PREFIX ?= /usr/local
+
+.PHONY: run try install test edits bench binary tsjob tsair any-stream on-air clean
 
 # The main job on an example: a plan is made for a radio service, and its 167 access units, four seconds of MPEG audio, become
 # a transport stream with all its tables; what is in that stream is listed, and the monitor reports on it.
@@ -18,9 +21,23 @@ run: binary
 	@tail -n 1 out/radio.findings
 	$(BINARY) monitor --rate 1504000 < out/radio.ts
 
-# The same program without its proofs, in a minute or two: it makes a plan for the radio service.
+# The same program without its proofs, in a minute or two: it makes a plan for the radio service. With WORDS it does what they say with
+# one's own input, as in `make try WORDS='check' < JOB`, and with PROGRAM=tsjob another program does. The kit's trial run takes 64 MiB of
+# input and 1 MiB of output: enough for `plan`, `check`, `monitor` and `tsjob why`.
+ifdef WORDS
+try:
+	@cd crates/$(PROGRAM) && rt try -- $(WORDS)
+else
 try:
 	cd crates/tsmux && rt try -- plan < ../../examples/radio/radio.toml
+endif
+
+# Puts the programs that are built (`make run`, `make tsjob tsair`) into PREFIX/bin.
+install:
+	@test -x $(BINARY) || test -x $(TSJOB) || test -x $(TSAIR) || { echo "nothing is built: make run, make tsjob tsair"; exit 1; }
+	mkdir -p $(PREFIX)/bin
+	@for program in $(BINARY) $(TSJOB) $(TSAIR); do \
+	    if test -x $$program; then install -m 755 $$program $(PREFIX)/bin/ && echo $(PREFIX)/bin/$${program##*/}; fi; done
 
 # Proves, builds and links the program (with no words and no input it does nothing).
 binary:
