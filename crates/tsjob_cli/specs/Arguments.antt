@@ -28,6 +28,13 @@ least_limit = 1
 abbrev pub greatest_limit : ℕ
 greatest_limit = 100
 
+-- programs and PIDs
+abbrev pub greatest_program : ℕ
+greatest_program = 65535
+
+abbrev pub greatest_pid : ℕ
+greatest_pid = 8191
+
 abbrev pub least_lead : ℕ
 least_lead = 1
 
@@ -104,8 +111,8 @@ with_lists programs without buffers arguments = record arguments { options = rec
 unfoldable pub arguments_of : List Row → Option JobArgumentsView
 arguments_of rows =
     given (values_of rows) (λ values.
-    given (number_list 65535 (first_of (codes "program") rows)) (λ programs.
-    given (number_list 8191 (first_of (codes "without") rows)) (λ without.
+    given (number_list greatest_program (first_of (codes "program") rows)) (λ programs.
+    given (number_list greatest_pid (first_of (codes "without") rows)) (λ without.
     given (buffer_list (first_of (codes "buffers") rows)) (λ buffers.
     Some (with_lists programs without buffers values)))))
 

@@ -1,4 +1,5 @@
 pub mod CommandLine
+pub mod KnownWords
 pub mod Lists
 pub mod Arguments
 pub mod UsageText

@@ -16,4 +16,5 @@ usage_text = concat
     ∷ codes "  --pcr " ∷ range_text least_limit greatest_limit ∷ codes "                   the greatest time between clock references, in ms\n"
     ∷ codes "  --start YYYY-MM-DDThh:mm:ss    the moment of the first packet\n"
     ∷ codes "  --make-dts                     DTS are made from PTS\n"
-    ∷ codes "  --whole                        the input is no capture: its last PES packets are whole\n" ∷ [])
+    ∷ codes "  --whole                        the input is no capture: its last PES packets are whole\n"
+    ∷ codes "  --version                      alone: the version, and the kit that proved it\n" ∷ [])

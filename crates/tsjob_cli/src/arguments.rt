@@ -100,7 +100,7 @@ impl JobArguments<'_> {
 
 // The subcommand of this name; without a name, the whole job.
 #[tactic(auto, unfolding(crate::specs::Arguments::subcommand_of))]
-fn subcommand_of(text: Option<&str>) -> Option<Subcommand>
+pub(crate) fn subcommand_of(text: Option<&str>) -> Option<Subcommand>
     ensures { result ≡ spec.subcommand_of (option_map (λ s. s.now) text.entry) }
 {
     match text {
@@ -114,7 +114,7 @@ fn subcommand_of(text: Option<&str>) -> Option<Subcommand>
 
 // By what the packets of units are declared; without a word, by either.
 #[tactic(auto, unfolding(crate::specs::Arguments::declare_by_of))]
-fn declare_by_of(text: Option<&str>) -> Option<DeclareBy>
+pub(crate) fn declare_by_of(text: Option<&str>) -> Option<DeclareBy>
     ensures { result ≡ spec.declare_by_of (option_map (λ s. s.now) text.entry) }
 {
     match text {
@@ -141,7 +141,7 @@ fn is_moment(text: &str) -> bool
 
 // The moment of the first slot, as it is given; none where a character can't stand in a moment.
 #[tactic(auto, unfolding(crate::specs::Arguments::start_of))]
-fn start_of<'a>(text: Option<&'a str>) -> Option<&'a str>
+pub(crate) fn start_of<'a>(text: Option<&'a str>) -> Option<&'a str>
     ensures { option_map (λ s. s.now) result ≡ spec.start_of (option_map (λ s. s.now) text.entry) }
 {
     let Some(text) = text else {

@@ -1,20 +1,24 @@
 //! The program over any reader and two writers.
 
-ghost use Rattle.std.specs.Prelude.{◌≡◌, ◌⊎◌, None, Some};
+ghost use Rattle.std.specs.Prelude.{◌≡◌, ◌⊎◌, None, Some, true, false, codes, map};
 ghost use Rattle.devices.specs.Devices.{reads, writes};
 ghost use Rattle.devices.specs.Lines.{Reports};
 ghost use Rattle.devices.specs.Runs.{LacksMemory, Performs};
 ghost use Rattle.devices.specs.Usage.{TellsUsage};
 ghost use Rattle.tsjob_cli.specs.Arguments.{JobArgumentsView, arguments};
+ghost use Rattle.tsjob_cli.specs.KnownWords.{known_words};
 ghost use Rattle.tsjob_cli.specs.Outcomes as spec;
 ghost use Rattle.tsjob_cli.specs.UsageText.{usage_text};
+ghost use Rattle.word_faults.specs.UsageReport.{Prints, is_version, usage_report, version_text};
 
 use crate::arguments::{JobArguments, read_arguments};
+use crate::known_words::KnownWords;
 use crate::outcome::{JobOutcome, JobText, bytes_outcome};
 use crate::records::write_job;
 use counted_io::{Sink, Source};
 use devices::{Halt, read_whole, report_halt, report_text};
 use std::alloc::Global;
+use word_faults::answer_other_words;
 
 /// The usage, written to the second writer on a usage error.
 const USAGE: &str = "usage: tsjob [describe|units|why] [OPTIONS] < PACKETS > JOB
@@ -28,14 +32,22 @@ const USAGE: &str = "usage: tsjob [describe|units|why] [OPTIONS] < PACKETS > JOB
   --start YYYY-MM-DDThh:mm:ss    the moment of the first packet
   --make-dts                     DTS are made from PTS
   --whole                        the input is no capture: its last PES packets are whole
+  --version                      alone: the version, and the kit that proved it
 ";
+
+// The usage.
+fn usage() -> &'static str
+    ensures { result.now ≡ usage_text }
+{
+    USAGE
+}
 
 /// Writes the usage, and returns the status.
 pub fn report_usage<E: Sink>(faults: &mut E) -> u8
     ensures reports { Reports (writes E.Sink faults.old faults.new) usage_text }
     ensures status { result ≡ 2 }
 {
-    report_text(faults, USAGE);
+    report_text(faults, usage());
     2
 }
 
@@ -91,16 +103,23 @@ pub fn run<R: Source, W: Sink, E: Sink>(
     ensures job { (a : JobArgumentsView) → arguments words.now ≡ Some a →
         Performs (spec.Leads a) (reads R.Source input.old input.new) (writes W.Sink output.old output.new)
         (writes E.Sink faults.old faults.new) result }
-    // Anything else: the usage is told.
-    ensures usage { arguments words.now ≡ None →
-        TellsUsage usage_text (reads R.Source input.old input.new) (writes W.Sink output.old output.new)
+    // `--version` alone.
+    ensures version { arguments words.now ≡ None → is_version (map (λ s. s.now) words.now) ≡ true →
+        Prints (version_text (codes "tsjob")) (reads R.Source input.old input.new)
+        (writes W.Sink output.old output.new) (writes E.Sink faults.old faults.new) result }
+    // Anything else: the first word that cannot be taken and the usage are told.
+    ensures usage { arguments words.now ≡ None → is_version (map (λ s. s.now) words.now) ≡ false →
+        TellsUsage (usage_report known_words (map (λ s. s.now) words.now) usage_text)
+        (reads R.Source input.old input.new) (writes W.Sink output.old output.new)
         (writes E.Sink faults.old faults.new) result
         ⊎ LacksMemory (reads R.Source input.old input.new) (writes W.Sink output.old output.new)
         (writes E.Sink faults.old faults.new) result }
 {
     match read_arguments(alloc, words) {
         Ok(Some(arguments)) => perform(alloc, &arguments, input, output, faults),
-        Ok(None) => report_usage(faults),
+        Ok(None) => {
+            answer_other_words(alloc, "tsjob", KnownWords, words, usage(), output, faults)
+        }
         Err(_) => report_halt(faults, Halt::Memory),
     }
 }

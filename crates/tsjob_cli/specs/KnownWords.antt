@@ -1,0 +1,48 @@
+-- The options and subcommands that the program knows, and the values that each option takes.
+use Rattle.std.specs.Prelude.{ℕ, ◌||◌, Bool, true, false, if◌then◌else◌, Option, Some, None, codes, is_some}
+use Rattle.std.specs.Str.{bytes_eq}
+use Rattle.devices.specs.Options.{number_if_given}
+use Rattle.word_faults.specs.CommandLine.{CommandLine, Text}
+use Rattle.tsjob_cli.specs.Arguments.{subcommand_of, declare_by_of, start_of, least_rate, greatest_rate, least_limit, greatest_limit, least_lead, greatest_lead, greatest_program, greatest_pid}
+use Rattle.tsjob_cli.specs.Lists.{buffer_list, number_in, number_list}
+use Rattle.tsjob_cli.specs.declared.known_words.ValueKind.{ValueKind}
+use Rattle.tsjob_cli.specs.declared.known_words.ValueKind.TheVariants.{Number, Numbers, Buffers, Start, Declare}
+
+-- the values of an option, none where it takes none
+unfoldable pub kind_of : Text → Option ValueKind
+kind_of option =
+    if bytes_eq option (codes "--rate") then Some (Number least_rate greatest_rate)
+    else (if bytes_eq option (codes "--lead") then Some (Number least_lead greatest_lead)
+    else (if bytes_eq option (codes "--pcr") then Some (Number least_limit greatest_limit)
+    else (if bytes_eq option (codes "--program") then Some (Numbers greatest_program)
+    else (if bytes_eq option (codes "--without") then Some (Numbers greatest_pid)
+    else (if bytes_eq option (codes "--buffers") then Some Buffers
+    else (if bytes_eq option (codes "--start") then Some Start
+    else (if bytes_eq option (codes "--declare") then Some Declare else None)))))))
+
+abbrev pub is_flag : Text → Bool
+is_flag option = bytes_eq option (codes "--make-dts") || bytes_eq option (codes "--whole")
+
+abbrev pub takes_by : Option ValueKind → Bool → Option Bool
+takes_by (Some kind) flag = Some true
+takes_by None flag = if flag then Some false else None
+
+-- a value of this kind
+unfoldable pub is_value : ValueKind → Text → Bool
+is_value (Number low high) value = is_some (number_in low high value)
+is_value (Numbers most) value = is_some (number_list most (Some value))
+is_value Buffers value = is_some (buffer_list (Some value))
+is_value Start value = is_some (start_of (Some value))
+is_value Declare value = is_some (declare_by_of (Some value))
+
+abbrev pub reads_by : Option ValueKind → Text → Bool
+reads_by None value = false
+reads_by (Some kind) value = is_value kind value
+
+abbrev pub known_words : CommandLine
+known_words = record {
+  takes_value = λ option. takes_by (kind_of option) (is_flag option);
+  reads = λ option value. reads_by (kind_of option) value;
+  is_word = λ word. is_some (subcommand_of (Some word));
+  required = None;
+}

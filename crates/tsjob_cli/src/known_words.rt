@@ -1,0 +1,94 @@
+//! The options and subcommands that the program knows, and the values that each option takes.
+ghost use Rattle.std.specs.Prelude.{◌≡◌, IfOk};
+ghost use Rattle.tsjob_cli.specs.KnownWords as spec;
+
+use crate::arguments::{declare_by_of, start_of, subcommand_of};
+use crate::lists::{buffer_list, number_list};
+use devices::number_in;
+use std::alloc::{AllocError, Global};
+use word_faults::CommandLine;
+
+/// The command line of the program.
+#[derive(Clone, Copy)]
+pub(crate) struct KnownWords;
+
+/// The values of an option.
+#[derive(Clone, Copy)]
+pub enum ValueKind {
+    /// A number of this range.
+    Number(u64, u64),
+    /// Numbers up to this one, with commas between them.
+    Numbers(u16),
+    /// `PID:RX:MAIN,..`
+    Buffers,
+    /// A moment.
+    Start,
+    /// By what packets are declared.
+    Declare,
+}
+
+// The values of an option; none where it takes none.
+#[tactic(auto, unfolding(crate::specs::KnownWords::kind_of))]
+fn kind_of(option: &str) -> Option<ValueKind>
+    ensures { result ≡ spec.kind_of option.now }
+{
+    match option {
+        "--rate" => Some(ValueKind::Number(100_000, 100_000_000)),
+        "--lead" => Some(ValueKind::Number(1, 90_000)),
+        "--pcr" => Some(ValueKind::Number(1, 100)),
+        "--program" => Some(ValueKind::Numbers(65_535)),
+        "--without" => Some(ValueKind::Numbers(8_191)),
+        "--buffers" => Some(ValueKind::Buffers),
+        "--start" => Some(ValueKind::Start),
+        "--declare" => Some(ValueKind::Declare),
+        _ => None,
+    }
+}
+
+// Whether an option takes no value.
+fn is_flag(option: &str) -> bool
+    ensures { result ≡ spec.is_flag option.now }
+{
+    option == "--make-dts" || option == "--whole"
+}
+
+// Whether a text is a value of this kind.
+#[tactic(auto, unfolding(crate::specs::KnownWords::is_value))]
+fn is_value(alloc: Global, kind: ValueKind, value: &str) -> Result<bool, AllocError>
+    ensures { IfOk result (λ b. b ≡ spec.is_value kind value.now) }
+{
+    match kind {
+        ValueKind::Number(low, high) => Ok(number_in(value, low, high).is_some()),
+        ValueKind::Numbers(most) => Ok(number_list(alloc, most, Some(value))?.is_some()),
+        ValueKind::Buffers => Ok(buffer_list(alloc, Some(value))?.is_some()),
+        ValueKind::Start => Ok(start_of(Some(value)).is_some()),
+        ValueKind::Declare => Ok(declare_by_of(Some(value)).is_some()),
+    }
+}
+
+impl CommandLine for KnownWords {
+    ghost known = { λ _. spec.known_words };
+
+    fn takes_value(self, option: &str) -> Option<bool> {
+        match kind_of(option) {
+            Some(_) => Some(true),
+            None if is_flag(option) => Some(false),
+            None => None,
+        }
+    }
+
+    fn reads(self, alloc: Global, option: &str, value: &str) -> Result<bool, AllocError> {
+        match kind_of(option) {
+            Some(kind) => is_value(alloc, kind, value),
+            None => Ok(false),
+        }
+    }
+
+    fn is_word(self, word: &str) -> bool {
+        subcommand_of(Some(word)).is_some()
+    }
+
+    fn required(self) -> Option<&'static str> {
+        None
+    }
+}
