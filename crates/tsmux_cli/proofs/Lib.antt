@@ -1,3 +1,4 @@
+pub mod UsageErrors
 pub mod CommandLines
 pub mod Subcommands
 pub mod Listing

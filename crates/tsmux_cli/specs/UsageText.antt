@@ -12,4 +12,5 @@ usage_text = concat
     ∷ codes "       tsmux check [--switch] < JOB\n"
     ∷ codes "       tsmux mux [--hex] [--slots N] [--switch Q] < JOB > PACKETS\n"
     ∷ codes "       tsmux monitor --rate " ∷ range_text least_rate greatest_rate ∷ codes " [--pcr " ∷ range_text least_limit greatest_limit ∷ codes "] < PACKETS > REPORT\n"
+    ∷ codes "       tsmux --version\n"
     ∷ codes "with no words: tsmux carry --hex\n" ∷ [])

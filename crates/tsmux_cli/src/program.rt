@@ -1,5 +1,5 @@
 //! The program over any reader and writers.
-ghost use Rattle.std.specs.Prelude.{◌≡◌, ◌⊎◌, Bool, None, Some};
+ghost use Rattle.std.specs.Prelude.{◌≡◌, ◌⊎◌, Bool, None, Some, true, false, codes, map};
 ghost use Rattle.tsmux_cli.specs.Carrying.{Carries};
 ghost use Rattle.tsmux_cli.specs.Checking.{Checks};
 ghost use Rattle.tsmux_cli.specs.Demultiplexing.{Demultiplexes};
@@ -10,8 +10,10 @@ ghost use Rattle.devices.specs.Runs.{LacksMemory, Performs};
 ghost use Rattle.tsmux_cli.specs.Planning.{MakesPlan};
 ghost use Rattle.devices.specs.Lines.{Reports};
 ghost use Rattle.devices.specs.Usage.{TellsUsage};
+ghost use Rattle.tsmux_cli.specs.KnownWords.{known_after, known_words};
 ghost use Rattle.tsmux_cli.specs.Request.{asked};
 ghost use Rattle.tsmux_cli.specs.UsageText.{usage_text};
+ghost use Rattle.word_faults.specs.UsageReport.{Prints, is_version, usage_report, version_text};
 ghost use Rattle.tsmux_cli.specs.declared.request.CarryOptions.{CarryOptions};
 ghost use Rattle.tsmux_cli.specs.declared.request.MonitorOptions.{MonitorOptions};
 ghost use Rattle.tsmux_cli.specs.declared.request.MuxOptions.{MuxOptions};
@@ -20,6 +22,7 @@ ghost use Rattle.tsmux_cli.specs.declared.request.Request.TheVariants.{Carry, Ch
 use crate::carrying::carry_records;
 use crate::checking::check_job;
 use crate::demultiplexing::demultiplex;
+use crate::known_words::known_after;
 use crate::monitoring::monitor_stream;
 use crate::multiplexing::multiplex_job;
 use crate::planning::make_plan;
@@ -27,6 +30,7 @@ use crate::request::{Request, requested};
 use counted_io::{Sink, Source};
 use devices::{Halt, report_halt, report_text};
 use std::alloc::Global;
+use word_faults::answer_other_words;
 
 /// The usage, written to the second writer on a usage error.
 const USAGE: &str =
@@ -36,15 +40,23 @@ const USAGE: &str =
        tsmux check [--switch] < JOB
        tsmux mux [--hex] [--slots N] [--switch Q] < JOB > PACKETS
        tsmux monitor --rate 100000..100000000 [--pcr 1..100] < PACKETS > REPORT
+       tsmux --version
 with no words: tsmux carry --hex
 ";
+
+/// The usage.
+fn usage() -> &'static str
+    ensures { result.now ≡ usage_text }
+{
+    USAGE
+}
 
 /// Writes the usage, and returns the status.
 pub fn report_usage<E: Sink>(faults: &mut E) -> u8
     ensures reports { Reports (writes E.Sink faults.old faults.new) usage_text }
     ensures status { result ≡ 2 }
 {
-    report_text(faults, USAGE);
+    report_text(faults, usage());
     2
 }
 
@@ -83,9 +95,14 @@ pub fn run<R: Source, W: Sink, E: Sink>(
     ensures monitor { (options : MonitorOptions) → asked words.now ≡ Some (Monitor options) →
         Performs (Monitors options) (reads R.Source input.old input.new) (writes W.Sink output.old output.new)
         (writes E.Sink faults.old faults.new) result }
-    // Anything else: the usage is told.
-    ensures usage { asked words.now ≡ None →
-        TellsUsage usage_text (reads R.Source input.old input.new) (writes W.Sink output.old output.new)
+    // `--version` alone.
+    ensures version { asked words.now ≡ None → is_version (map (λ s. s.now) words.now) ≡ true →
+        Prints (version_text (codes "tsmux")) (reads R.Source input.old input.new)
+        (writes W.Sink output.old output.new) (writes E.Sink faults.old faults.new) result }
+    // Anything else: the first word that cannot be taken and the usage are told.
+    ensures usage { asked words.now ≡ None → is_version (map (λ s. s.now) words.now) ≡ false →
+        TellsUsage (usage_report (known_words (known_after (map (λ s. s.now) words.now))) (map (λ s. s.now) words.now)
+        usage_text) (reads R.Source input.old input.new) (writes W.Sink output.old output.new)
         (writes E.Sink faults.old faults.new) result
         ⊎ LacksMemory (reads R.Source input.old input.new) (writes W.Sink output.old output.new)
         (writes E.Sink faults.old faults.new) result }
@@ -99,7 +116,10 @@ pub fn run<R: Source, W: Sink, E: Sink>(
         Ok(Some(Request::Monitor(options))) => {
             monitor_stream(alloc, options, input, output, faults)
         }
-        Ok(None) => report_usage(faults),
+        Ok(None) => {
+            let known = known_after(words);
+            answer_other_words(alloc, "tsmux", known, words, usage(), output, faults)
+        }
         Err(_) => report_halt(faults, Halt::Memory),
     }
 }
