@@ -1,5 +1,5 @@
 -- What is written of an answer, and what the input that was read leads to.
-use Rattle.std.proofs.Common.{◌≡◌, ◌∙◌, ◌++◌, ◌/◌, ℕ, List, [], length, refl, sym, ap, subst, append-nil, Option, Some, None, Result, Ok, Err, inl, inr}
+use Rattle.std.proofs.Common.{◌≡◌, ◌∙◌, ◌++◌, ◌∷◌, ◌/◌, ◌==◌, ◌&&◌, ℕ, List, [], length, refl, sym, ap, subst, append-nil, Option, Some, None, Result, Ok, Err, inl, inr}
 use Rattle.pes_packet.specs.AccessUnits.{AccessUnit}
 use Rattle.description.specs.Described.{Described}
 use Rattle.slot_plan.specs.Conditions.{IsServing}
@@ -27,6 +27,7 @@ use Rattle.tsjob_cli.specs.declared.arguments.Subcommand.TheVariants.{Whole, Des
 use Rattle.tsjob_cli.specs.Arguments.{JobArgumentsView}
 use Rattle.packet_sync.specs.Slips.{carried_from}
 use Rattle.tsjob_cli.specs.Outcomes.{BytesLead, FindingsLead, GivesJob, IsWritten, Leads, InputLeads, ReportsWhy, Withholds}
+use Rattle.unit_records.specs.Records.{record_head}
 use Rattle.tsjob_cli.specs.Records.{written}
 use Rattle.tsjob_cli.specs.Streams.{PacketNotesView, TakesCarried, findings_of, notes_of}
 
@@ -36,6 +37,14 @@ use Rattle.tsjob_cli.specs.Streams.{PacketNotesView, TakesCarried, findings_of, 
 pub text_alone : (text plan : List ℕ) (units : List (ℕ × AccessUnit)) → plan ≡ [] → units ≡ [] → written text plan units ≡ text
 text_alone text plan units p u =
     ap (λ (x : List ℕ). written text x units) p ∙ (ap (λ (x : List (ℕ × AccessUnit)). written text [] x) u ∙ (append-nil (text ++ []) ∙ append-nil text))
+
+-- nothing is written where there is no text, no plan and no unit
+pub nothing_written : (text plan : List ℕ) (units : List (ℕ × AccessUnit)) → ((length text == 0) && ((length plan == 0) && (length units == 0))) ≡ (length (written text plan units) == 0)
+unfolding record_head
+nothing_written [] [] [] = refl
+nothing_written [] [] (u ∷ units) = refl
+nothing_written [] (p ∷ plan) units = refl
+nothing_written (t ∷ text) plan units = refl
 
 pub given_job : (w : JobOptionsView) (findings : List FindingView) (m : JobInputView) (text plan : List ℕ) (d : Described) (p q : Planned) (units : List (ℕ × AccessUnit)) →
     IsJob w findings m d text units → AreUnits w.make_dts findings d units → IsServing d p → plan ≡ plan_text q → q ≡ p →

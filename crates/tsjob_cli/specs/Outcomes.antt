@@ -91,11 +91,18 @@ is_less slips tables warnings = not (length slips == 0) || list_any (λ t. is_lo
 abbrev pub loss_lines : PacketNotesView → List OtherTable → List Warning → List ℕ
 loss_lines notes tables warnings = slip_lines notes.slips ++ random_access_lines notes.random_access ++ other_table_lines tables ++ warning_lines warnings
 
--- the output, the lines of what is left out, and the status 1 where one says that something is lost
+-- the status 1: of reasons where there is one, else where something is lost
+abbrev pub status_of : Subcommand → List ℕ → Bool → ℕ
+status_of Whole output less = if less then 1 else 0
+status_of Describe output less = if less then 1 else 0
+status_of Units output less = if less then 1 else 0
+status_of Why output less = if length output == 0 then 0 else 1
+
+-- the output, the lines of what is left out, and the status
 pub record IsGiven (arguments : JobArgumentsView) (notes : PacketNotesView) (findings : List FindingView) (m : JobInputView) (o : Outcome) : Type 0 where
   pub gives : Gives arguments.subcommand arguments.options findings m o.output
   pub report_is : o.report ≡ loss_lines notes (other_tables findings) (told_warnings arguments.whole m.warnings)
-  pub status_is : o.status ≡ (if is_less notes.slips (other_tables findings) (told_warnings arguments.whole m.warnings) then 1 else 0)
+  pub status_is : o.status ≡ status_of arguments.subcommand o.output (is_less notes.slips (other_tables findings) (told_warnings arguments.whole m.warnings))
 
 -- nothing is written but the line of the refusal, and the status is 1
 pub record IsRefused (arguments : JobArgumentsView) (findings : List FindingView) (m : JobInputView) (o : Outcome) : Type 0 where

@@ -1,6 +1,6 @@
 //! The outcome for a stream, from its findings.
 
-ghost use Rattle.std.specs.Prelude.{◌≡◌, ◌≤◌, ◌++◌, IfErr, IfOk, None, Ok, length, map, string_bytes};
+ghost use Rattle.std.specs.Prelude.{◌≡◌, ◌==◌, ◌≤◌, ◌++◌, IfErr, IfOk, None, Ok, length, map, string_bytes};
 ghost use Rattle.demux.specs.Shown.{finding_view};
 ghost use Rattle.stream_jobs.specs.Jobs.{AreStreams, IsDescription};
 ghost use Rattle.stream_jobs.specs.WhyNoJob.{IsWhyNoDescription, IsWhyNoJob, IsWhyNoReasons};
@@ -184,6 +184,25 @@ fn is_less(slips: &[Slip], tables: &[OtherTable], told: &[Warning]) -> bool
     !slips.is_empty() || are_missed(tables) || is_damaged(told)
 }
 
+// Whether nothing is to be written.
+#[tactic(auto, using(crate::proofs::JobOutcomes::nothing_written))]
+fn is_empty(output: &JobText) -> bool
+    ensures { result ≡ (length output.now == 0) }
+{
+    output.text.is_empty() && output.plan.is_empty() && output.units.is_empty()
+}
+
+// The status of an output, beside which something is lost or not.
+fn status_of(subcommand: Subcommand, output: &JobText, less: bool) -> u8
+    ensures { result ≡ spec.status_of subcommand output.now less }
+{
+    let bad = match subcommand {
+        Subcommand::Why => !is_empty(output),
+        _ => less,
+    };
+    if bad { 1 } else { 0 }
+}
+
 // The outcome for a stream that is not refused.
 #[tactic(auto, using(crate::proofs::JobOutcomes::no_memory))]
 fn job_outcome(
@@ -201,12 +220,9 @@ fn job_outcome(
     let told = told_warnings(alloc, arguments.whole, &input.warnings)?;
     let tables = other_tables(alloc, findings)?;
     let report = loss_report(alloc, notes, &tables, &told)?;
-    let status = if is_less(&notes.slips, &tables, &told) {
-        1
-    } else {
-        0
-    };
+    let less = is_less(&notes.slips, &tables, &told);
     let output = output_for(alloc, arguments, findings, input)?;
+    let status = status_of(arguments.subcommand, &output, less);
     Ok(JobOutcome {
         output,
         report,

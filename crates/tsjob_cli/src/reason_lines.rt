@@ -7,6 +7,9 @@ use plan_search::Reason;
 use std::alloc::AllocError;
 use std::fmt::Write;
 
+/// The greatest lead in units of 90 kHz.
+const GREATEST_LEAD: u64 = 90_000;
+
 // The line of a reason.
 #[tactic(auto, unfolding(crate::specs::ReasonLines::reason_line))]
 fn write_reason(reason: Reason, text: &mut String) -> Result<(), AllocError>
@@ -22,13 +25,16 @@ fn write_reason(reason: Reason, text: &mut String) -> Result<(), AllocError>
         Reason::SlowDrain(stream, least) => {
             write!(text, "stream {stream} rx is less than {least}\n")
         }
+        Reason::ShortLead(stream, least) if least > GREATEST_LEAD => {
+            write!(text, "stream {stream} no lead is enough\n")
+        }
         Reason::ShortLead(stream, least) => {
             write!(text, "stream {stream} lead is less than {least}\n")
         }
         Reason::SmallMain(stream, least) => {
             write!(text, "stream {stream} main is less than {least}\n")
         }
-        Reason::Overload(Some(least)) => write!(text, "rate is less than {least}\n"),
+        Reason::Overload(Some(least)) => write!(text, "rate is less than {least} by reckoning\n"),
         Reason::Overload(None) => text.push_str("no rate is enough\n"),
     }
 }
