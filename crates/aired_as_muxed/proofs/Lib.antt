@@ -1,0 +1,2 @@
+pub mod WholeJobs
+pub mod AiredJobs

@@ -1,0 +1,38 @@
+-- One job, multiplexed whole by `tsmux mux`, and on air by `tsair`.
+use Rattle.std.specs.Prelude.{◌≡◌, ◌≤◌, ◌^◌, ℕ, false, Bool, List, Option, Some, None, Result, Ok, is_some}
+use Rattle.devices.specs.Devices.{Device, Takes, between}
+use Rattle.on_air.specs.Airing.{Run, lead_of, needed_room}
+use Rattle.on_air.specs.Laws.{ComeInOrder}
+use Rattle.tsmux_cli.specs.declared.request.MuxOptions.{MuxOptions}
+use Rattle.tsmux_cli.specs.MuxJobs.{MuxJobView, mux_job_of}
+use Rattle.tsmux_cli.specs.Multiplexing.{cause_of, packets_of}
+use Rattle.tsair_cli.specs.declared.arguments.AirOptions.{AirOptions}
+use Rattle.tsair_cli.specs.AirRuns.{AirsJob, EndsRun, GoesOnAir, run_of}
+
+-- both command lines ask for the same of a whole job: lines of digits or bytes, all slots, the periods of a first plan
+pub record AskTheSame (m : MuxOptions) (o : AirOptions) : Type 0 where
+  pub hex : o.hex ≡ m.hex
+  pub slots : m.slots ≡ None
+  pub all_slots : o.terms.slots ≡ None
+  pub periods : o.periods ≡ m.periods
+
+-- these bytes are a job that `mux` takes: it refuses no number of the command line and no unit
+pub record TakesJob (m : MuxOptions) (bytes : List ℕ) (j : MuxJobView) : Type 0 where
+  pub job : mux_job_of (is_some m.periods) bytes ≡ Ok j
+  pub taken : cause_of m j ≡ None
+
+-- a run that ends with status 0 wrote what `mux` writes
+abbrev pub AirsWhatMuxWrites : Type 0
+AirsWhatMuxWrites = (m : MuxOptions) (o : AirOptions) (bytes : List ℕ) (j : MuxJobView) (input output faults : Device) → AskTheSame m o → TakesJob m bytes j →
+    input.before.bytes ≡ Some bytes → AirsJob o input output faults 0 → Takes output (packets_of m j)
+
+-- the records of a job come in order, and there may be room for all that wait: 1,048,576 of each stream
+pub record AreInOrder (run : Run) (j : MuxJobView) : Type 0 where
+  pub in_order : ComeInOrder run j.units
+  pub room : needed_room (lead_of run) j.description.streams ≤ 1048576
+
+-- a run over such a job that came to its end refused no record
+abbrev pub RefusesNone : Type 0
+RefusesNone = (m : MuxOptions) (o : AirOptions) (bytes : List ℕ) (j : MuxJobView) (input output faults : Device) (status : ℕ) → AskTheSame m o → TakesJob m bytes j →
+    input.before.bytes ≡ Some bytes → (air : GoesOnAir o input output faults status) → AreInOrder (run_of o air.job) j →
+    (ends : EndsRun o (run_of o air.job) (between air.left input.after) output faults status) → ends.end.has_refused ≡ false
