@@ -33,11 +33,11 @@ try:
 	cd crates/tsmux && rt try -- plan < ../../examples/radio/radio.toml
 endif
 
-# Puts the programs that are built (`make run`, `make tsjob tsair`) into PREFIX/bin.
+# Puts the programs that are built (`make run`, `make tsjob tsair tsview`) into PREFIX/bin.
 install:
-	@test -x $(BINARY) || test -x $(TSJOB) || test -x $(TSAIR) || { echo "nothing is built: make run, make tsjob tsair"; exit 1; }
+	@test -x $(BINARY) || test -x $(TSJOB) || test -x $(TSAIR) || test -x $(TSVIEW) || { echo "nothing is built: make run, make tsjob tsair tsview"; exit 1; }
 	mkdir -p $(PREFIX)/bin
-	@for program in $(BINARY) $(TSJOB) $(TSAIR); do \
+	@for program in $(BINARY) $(TSJOB) $(TSAIR) $(TSVIEW); do \
 	    if test -x $$program; then install -m 755 $$program $(PREFIX)/bin/ && echo $(PREFIX)/bin/$${program##*/}; fi; done
 
 # Proves, builds and links the program (with no words and no input it does nothing).

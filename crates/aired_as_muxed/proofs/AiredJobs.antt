@@ -1,8 +1,8 @@
 -- A run over a job that `mux` takes.
-use Rattle.std.proofs.Common.{◌≡◌, ◌≤◌, ◌<◌, ◌+◌, ◌-◌, ◌*◌, ◌/◌, ◌^◌, ℕ, min, Bool, true, false, List, [], ◌∷◌, ◌++◌, length, Option, Some, None, Result, Ok, Err, refl, sym, ap, ap₂, ◌∙◌, subst, arith, inl, inr, append_assoc}
+use Rattle.std.proofs.Common.{◌≡◌, ◌≤◌, ◌+◌, ◌-◌, ◌*◌, ◌/◌, ◌^◌, ℕ, min, Bool, true, false, List, [], ◌∷◌, ◌++◌, length, Option, Some, None, Ok, Err, refl, sym, ap, ap₂, ◌∙◌, subst, arith, inl, inr, append_assoc}
 use Rattle.std.specs.Prelude.{if◌then◌else◌, is_some, nat_lt, unwrap_or}
 use Rattle.std.proofs.lemmas.Bool.{false≢true, lt-ltb}
-use Rattle.std.specs.Io.KnownBytes.{Appends, Consumes}
+use Rattle.std.specs.Io.KnownBytes.{Consumes}
 use Rattle.pes_packet.specs.AccessUnits.{AccessUnit}
 use Rattle.unit_records.specs.Records.{record_at}
 use Rattle.unit_records.specs.declared.reading.UnitFileError.{UnitFileError}
@@ -15,31 +15,30 @@ use Rattle.description.specs.Described.{Described}
 use Rattle.slot_plan.specs.Planned.{Planned}
 use Rattle.plan_checker.specs.Served.{Served}
 use Rattle.devices.specs.Devices.{Device, Port, Takes, between}
-use Rattle.checked_jobs.specs.Jobs.{JobView, JobFaultView, job_of}
+use Rattle.checked_jobs.specs.Jobs.{JobView, job_of}
 use Rattle.checked_jobs.specs.FaultLines.{record_outcome}
 use Rattle.checked_jobs.specs.JobSchedules.{schedule_by}
-use Rattle.checked_jobs.proofs.LongerJobs.{job_kept, longer}
+use Rattle.checked_jobs.proofs.LongerJobs.{job_kept}
 use Rattle.on_air.specs.declared.answers.Ending.{Ending}
 use Rattle.on_air.specs.declared.answers.Ending.TheVariants.{Input, Unread, Slots, Records}
 use Rattle.on_air.specs.declared.refusals.AirRefusal.{AirRefusal}
-use Rattle.on_air.specs.declared.options.Terms.{Terms}
-use Rattle.on_air.specs.Airing.{Air, Run, air_output, ended, heard, last_at, last_by, last_of, lead_of, limit_of, needed_room, slots_or}
+use Rattle.on_air.specs.Airing.{Air, Run, air_output, ended, heard, last_at, last_by, last_of, lead_of, needed_room, slots_or}
 use Rattle.on_air.specs.Laws.{ComeInOrder, greatest_of, records_of}
 use Rattle.on_air.proofs.AsMultiplexed.{aired_as_multiplexed, both_none, no_cause}
 use Rattle.on_air.proofs.InOrder.{aired_in_order}
 use Rattle.tsmux_cli.specs.UnitList.{Units, units_in}
 use Rattle.tsmux_cli.specs.declared.request.MuxOptions.{MuxOptions}
-use Rattle.tsmux_cli.specs.MuxJobs.{MuxFaultView, MuxJobView, default_slots, mux_job_of, served, with_records, with_units}
+use Rattle.tsmux_cli.specs.MuxJobs.{MuxJobView, default_slots, mux_job_of, served, with_records, with_units}
 use Rattle.tsmux_cli.specs.Multiplexing.{cause_of, packets_of, range_cause, schedule_of, slots_of}
 use Rattle.tsair_cli.specs.declared.arguments.AirOptions.{AirOptions}
-use Rattle.tsair_cli.specs.AirRuns.{AirsJob, AirsRecords, Begins, EndsRun, GoesOnAir, run_of}
+use Rattle.tsair_cli.specs.AirRuns.{Begins, EndsRun, GoesOnAir, run_of}
 use Rattle.tsair_cli.specs.Endings.{end_outcome, slots_outcome, why_outcome}
 use Rattle.tsair_cli.specs.Fronts.{front_outcome}
 use Rattle.tsair_cli.specs.declared.front.FrontError.{FrontError}
 use Rattle.tsair_cli.specs.declared.front.FrontError.TheVariants.{Fault, Stopped}
 use Rattle.tsair_cli.specs.declared.front.FrontFault.TheVariants.{Job, Unended}
 use Rattle.devices.specs.declared.halt.Halt.TheVariants as halt
-use Rattle.aired_as_muxed.specs.AiredAsMuxed.{AirsWhatMuxWrites, AreInOrder, AskTheSame, RefusesNone, TakesJob}
+use Rattle.aired_as_muxed.specs.AiredAsMuxed.{AirsWhatMuxWrites, AskTheSame, RefusesNone, TakesJob}
 use Rattle.aired_as_muxed.proofs.WholeJobs.{all_records, first_records}
 
 -- ---- the bytes after the plans

@@ -1,5 +1,5 @@
 -- One job, multiplexed whole by `tsmux mux`, and on air by `tsair`.
-use Rattle.std.specs.Prelude.{◌≡◌, ◌≤◌, ◌^◌, ℕ, false, Bool, List, Option, Some, None, Result, Ok, is_some}
+use Rattle.std.specs.Prelude.{◌≡◌, ◌≤◌, ℕ, false, List, Some, None, Ok, is_some}
 use Rattle.devices.specs.Devices.{Device, Takes, between}
 use Rattle.on_air.specs.Airing.{Run, lead_of, needed_room}
 use Rattle.on_air.specs.Laws.{ComeInOrder}

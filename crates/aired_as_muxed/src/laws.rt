@@ -1,8 +1,8 @@
 //! One job, by two programs. Each function does nothing: its contract is the law.
 ghost use Rattle.aired_as_muxed.specs.AiredAsMuxed.{AirsWhatMuxWrites, RefusesNone};
 
-/// Where `tsair` ends with status 0, over the bytes of a job that `mux` takes with the same options, it wrote what `mux`
-/// writes: each packet, byte for byte, in whatever order the records came.
+/// Where `tsair` ends with status 0, over the bytes of a job that `mux` takes with the same options, it wrote what
+/// `mux` writes: each packet, byte for byte, in whatever order the records came.
 pub fn same_output()
     ensures { AirsWhatMuxWrites }
 {}
