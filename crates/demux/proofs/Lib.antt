@@ -11,3 +11,4 @@ pub mod StreamEnd
 pub mod ShortReads
 pub mod FoundViews
 pub mod FoundSoFar
+pub mod LeastSizes

@@ -1,9 +1,13 @@
 -- The states of PIDs as the entries of a map.
-use Rattle.std.proofs.Common.{◌≡◌, ℕ, zero, suc, true≢false, is_some, Bool, true, false, cond, nat_eq, [], ◌∷◌, Option, Some, None, refl, sym, ap, ◌∙◌}
+use Rattle.std.proofs.Common.{◌≡◌, ℕ, zero, suc, true≢false, is_some, Bool, true, false, cond, nat_eq, [], ◌∷◌, Option, Some, None, refl, sym, ap, ◌∙◌, subst}
 use Rattle.std.specs.Prelude.{position, slice_get}
 use Rattle.std.specs.Map.{keys_of, lookup, values_of}
 use Rattle.indexmap.specs.IndexMap.{insert_entry, set_value_at}
-use Rattle.indexmap.proofs.MapLemmas.{Found-position, some_index, insert_entry-first}
+use Rattle.indexmap.proofs.MapLemmas.{Found-position, index-first, some_index, value_index, insert_entry-first}
+use Rattle.indexmap.proofs.RemoveLemmas.{own_first}
+use Rattle.std.specs.List.{IsDistinct}
+use Rattle.std.specs.Prelude.{IfSome, OnOk, OnErr, Result, Ok, Err, ⊤}
+use Rattle.std.specs.Cmp.{nat_eq_equiv}
 use Rattle.demux.specs.Machine.{PidState, fresh}
 use Rattle.demux.specs.Stream.{States, state_of, with_state}
 
@@ -54,3 +58,26 @@ pub set_same : (i : ℕ) (states : States) (state : PidState) → slice_get (val
 set_same i [] state h = refl
 set_same zero (x ∷ states) state h = ap (λ (s : PidState). (x.0, s) ∷ states) (sym (same_state x.1 state h))
 set_same (suc i) (x ∷ states) state h = ap (λ (rest : States). x ∷ rest) (set_same i states state h)
+
+-- a PID has its index where it stands
+pub index_at : (pid i : ℕ) (states : States) (state : PidState) → IsDistinct nat_eq (keys_of states) → slice_get states i ≡ Some (pid, state) → position (nat_eq pid) (keys_of states) ≡ Some i
+index_at pid i states state unique at = index-first (nat_eq pid) states i (own_first nat_eq nat_eq_equiv states i pid state unique at)
+
+-- and its state there
+pub value_at : (pid i : ℕ) (states : States) → position (nat_eq pid) (keys_of states) ≡ Some i → slice_get (values_of states) i ≡ lookup (nat_eq pid) states
+value_at pid i states p = subst (λ (o : Option ℕ). IfSome o (λ n. slice_get (values_of states) n ≡ lookup (nat_eq pid) states)) p (value_index (nat_eq pid) states)
+
+pub found_at : (pid i : ℕ) (states : States) → position (nat_eq pid) (keys_of states) ≡ Some i → is_some (lookup (nat_eq pid) states) ≡ true
+found_at pid i states p = sym (some_index (nat_eq pid) states) ∙ ap is_some p
+
+-- a step of the state at a PID's index is one of the PID's state
+pub stepped : {E : Type 0} (result : Result ⊤ E) (pid i : ℕ) (old new states : States) (next : PidState) → old ≡ states → position (nat_eq pid) (keys_of old) ≡ Some i →
+    OnOk result (new ≡ set_value_at old i next) → OnOk result (new ≡ with_state pid next states)
+stepped (Ok x) pid i old new states next same p e = e ∙ sym (with_is_set pid i next old p) ∙ ap (λ (s : States). with_state pid next s) same
+stepped (Err x) pid i old new states next same p e = tt
+
+-- and where it fails, none has changed
+pub unstepped : {E : Type 0} (result : Result ⊤ E) (i : ℕ) (old new states : States) (state : PidState) → old ≡ states → slice_get (values_of old) i ≡ Some state →
+    OnErr result (new ≡ set_value_at old i state) → OnErr result (new ≡ states)
+unstepped (Ok x) i old new states state same at e = tt
+unstepped (Err x) i old new states state same at e = e ∙ set_same i old state at ∙ same

@@ -1,5 +1,5 @@
 -- A section or a PES packet from its first byte on: what its bytes say, once they are enough.
-use Rattle.std.specs.Prelude.{ℕ, zero, suc, ◌+◌, ◌-◌, ◌*◌, ◌%◌, ◌==◌, nat_lt, Bool, true, false, if◌then◌else◌, List, [], ◌∷◌, ◌++◌, length, take, drop, slice_index, Option, Some, None, Result, Ok, Err}
+use Rattle.std.specs.Prelude.{◌≡◌, ◌<◌, ℕ, zero, suc, ◌+◌, ◌-◌, ◌*◌, ◌%◌, ◌==◌, nat_lt, Bool, true, false, if◌then◌else◌, List, [], ◌∷◌, ◌++◌, length, take, drop, slice_index, Option, Some, None, Result, Ok, Err}
 use Rattle.pes_packet.specs.Reading.{header_at}
 use Rattle.pes_packet.specs.declared.reading.PesHeader.{PesHeader}
 use Rattle.pes_packet.specs.declared.refusal.PesError.{PesError}
@@ -47,6 +47,10 @@ of_section bytes (Err e) = Some (IsBadSection e)
 unfoldable pub decided : UnitKind → List ℕ → Option WhatView
 decided unit_kinds.Pes bytes = of_pes bytes (header_at bytes)
 decided unit_kinds.Section bytes = of_section bytes (section_at bytes)
+
+-- with more bytes they decide nothing, as long as all of them are fewer than `least`
+abbrev pub IsUndecidedBelow : UnitKind → List ℕ → ℕ → Type 0
+IsUndecidedBelow kind bytes least = (more : List ℕ) → length (bytes ++ more) < least → decided kind (bytes ++ more) ≡ None
 
 abbrev pub is_stamped : Stamps → Bool
 is_stamped Absent = false

@@ -9,7 +9,7 @@ use crate::finding::{Finding, Kind};
 use crate::open_unit::{OpenUnit, UnitKind};
 use crate::payload_bytes::{PayloadBytes, after, bytes_of};
 use crate::place::{Place, note, note_here, what_by};
-use crate::verdicts::{Verdict, decide};
+use crate::verdicts::{Verdict, decide, least_size};
 use pes_packet::{Stamps, read_header};
 use std::alloc::{AllocError, Allocator};
 
@@ -101,11 +101,13 @@ pub(crate) fn begin_pes<'p, 'a: 'p, A: Allocator + Clone>(
     let bytes = bytes_of(payload);
     match decide(UnitKind::Pes, bytes) {
         None => {
+            let least = least_size(bytes);
             let bytes = Vec::from_slice(alloc.clone()?, bytes)?;
             Ok(Some(OpenUnit {
                 packet: place.packet,
                 kind: UnitKind::Pes,
                 bytes,
+                least,
             }))
         }
         Some(verdict) => {

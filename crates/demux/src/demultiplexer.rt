@@ -11,9 +11,8 @@ ghost use Rattle.demux.specs.Shown.{KeepsFindings, Spans, AddsFindings, finding_
 use crate::error::DemuxError;
 use crate::finding::Finding;
 use crate::packets::{note_held, take_borrowed, take_copied};
-use crate::states::{States, end_all};
+use crate::states::States;
 use arrayvec::ArrayVec;
-use indexmap::IndexMap;
 use std::alloc::{AllocError, Allocator, Global};
 use std::marker::Model;
 use ts_packet::{Packet, PacketError, read_packet};
@@ -42,7 +41,7 @@ impl<A: Allocator> Model for Demux<A> {
 
     ghost view = { λ d. record {
       packets = d.packets;
-      states = d.states.entries;
+      states = d.states;
       held = d.held.items;
       found = map finding_view d.found.items;
       ended = d.ended;
@@ -75,7 +74,7 @@ impl<A: Allocator + Copy> Demux<A> {
         ensures { result ≡ stream.start }
     {
         Demux {
-            states: IndexMap::new(alloc),
+            states: States::new(alloc),
             packets: 0,
             held: ArrayVec::new(),
             found: Vec::new(alloc),
@@ -243,7 +242,7 @@ impl<A: Allocator + Copy> Demux<A> {
         let alloc = *self.states.allocator();
         let mut found = Vec::new(alloc);
         note_held(&alloc, self.packets, &self.held, &mut found)?;
-        end_all(&self.states, self.packets, &mut found)?;
+        self.states.end(self.packets, &mut found)?;
         Ok(found)
     }
 

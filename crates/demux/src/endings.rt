@@ -200,7 +200,7 @@ fn append_bytes<'a, A: Allocator + Clone>(
 }
 
 /// A payload that goes on with the open unit, where it stands; where that decides the unit, it is open no more.
-#[tactic(auto, unfolding(crate::specs::Findings::found_appended, crate::specs::Findings::undecided, crate::specs::Findings::unless_decided, crate::specs::Machine::next_open))]
+#[tactic(auto, unfolding(crate::specs::Findings::found_appended, crate::specs::Findings::found_if, crate::specs::Findings::undecided, crate::specs::Findings::unless_decided, crate::specs::Machine::next_open), using(crate::proofs::LeastSizes::still_open))]
 pub(crate) fn append_payload<'a, A: Allocator + Clone>(
     alloc: &A,
     place: Place,
@@ -217,6 +217,10 @@ pub(crate) fn append_payload<'a, A: Allocator + Clone>(
     let Some(unit) = open_unit else {
         return Ok(());
     };
+    if unit.bytes.len() + payload.len() < unit.least {
+        return unit.bytes.extend_from_slice(payload);
+    }
+    unit.least = 0;
     let decided = append_bytes(
         alloc,
         place,

@@ -16,15 +16,18 @@ pub(crate) struct OpenUnit<A: Allocator> {
     pub packet: u64,
     pub kind: UnitKind,
     pub bytes: Vec<u8, A>,
+    // fewer bytes than these do not decide it
+    pub least: usize,
 }
 
 impl<A: Allocator> Model for OpenUnit<A> {
-    ghost use Rattle.std.specs.Prelude.{◌≤◌, length};
+    ghost use Rattle.std.specs.Prelude.{◌≤◌, ◌+◌, length};
     ghost use Rattle.demux.specs.OpenUnits as units;
 
     ghost Value = { units.OpenUnit };
 
     ghost view = { λ u. record { packet = u.packet; kind = u.kind; bytes = u.bytes.items } };
 
-    ghost invariant = { λ u. length u.bytes.items ≤ units.max_unbounded_pes };
+    ghost invariant = { λ u. (length u.bytes.items ≤ units.max_unbounded_pes) × (u.least ≤ units.max_unbounded_pes + 1)
+        × units.IsUndecidedBelow u.kind u.bytes.items u.least };
 }

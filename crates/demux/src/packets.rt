@@ -11,7 +11,7 @@ ghost use Rattle.demux.specs.Shown.{payload_borrowed, payload_list, what_view};
 use crate::finding::{Finding, Part, What};
 use crate::payload_bytes::PayloadBytes;
 use crate::place::Place;
-use crate::states::{States, step_pid};
+use crate::states::States;
 use std::alloc::{AllocError, Allocator};
 use ts_packet::{NULL_PID, Packet, PacketError, read_packet};
 
@@ -66,14 +66,14 @@ fn take_read<'p, 'a: 'p, A: Allocator + Copy>(
     found: &mut Vec<Finding<'a, A>, A>,
 ) -> Result<(), AllocError>
     requires payload { IsPayloadOf packet.now borrowed payload }
-    ensures states { OnOk result (states.new.entries ≡ states_by index bytes.now states.old.entries
+    ensures states { OnOk result (states.new ≡ states_by index bytes.now states.old
         (Ok (packet_view packet.now))) }
     ensures found { OnOk result (AddsFindings found.old.items found.new.items
-        (findings_by index bytes.now states.old.entries (Ok (packet_view packet.now)))) }
+        (findings_by index bytes.now states.old (Ok (packet_view packet.now)))) }
     ensures spans { OnOk result (Spans found.old.items found.new.items
-        (map (λ within. within && borrowed) (within_by index bytes.now states.old.entries
+        (map (λ within. within && borrowed) (within_by index bytes.now states.old
         (Ok (packet_view packet.now))))) }
-    ensures err { OnErr result (states.new.entries ≡ states.old.entries) }
+    ensures err { OnErr result (states.new ≡ states.old) }
     ensures none { OnErr result (KeepsFindings found.old.items found.new.items) }
 {
     if packet.header.transport_error_indicator {
@@ -83,18 +83,12 @@ fn take_read<'p, 'a: 'p, A: Allocator + Copy>(
     if packet.header.pid == NULL_PID {
         return Ok(());
     }
-    step_pid(
-        states,
-        Place {
-            packet: index,
-            pid: packet.header.pid,
-            borrowed,
-        },
-        bytes,
-        packet,
-        payload,
-        found,
-    )?;
+    let place = Place {
+        packet: index,
+        pid: packet.header.pid,
+        borrowed,
+    };
+    states.step(place, bytes, packet, payload, found)?;
     Ok(())
 }
 
@@ -130,13 +124,13 @@ pub(crate) fn take_borrowed<'a, A: Allocator + Copy>(
     found: &mut Vec<Finding<'a, A>, A>,
 ) -> Result<(), AllocError>
     requires read { Gives packet_view read.now (packet_at bytes.now) }
-    ensures states { OnOk result (states.new.entries ≡ states_by index bytes.now states.old.entries
+    ensures states { OnOk result (states.new ≡ states_by index bytes.now states.old
         (packet_at bytes.now)) }
     ensures found { OnOk result (AddsFindings found.old.items found.new.items
-        (findings_by index bytes.now states.old.entries (packet_at bytes.now))) }
+        (findings_by index bytes.now states.old (packet_at bytes.now))) }
     ensures spans { OnOk result (Spans found.old.items found.new.items
-        (within_by index bytes.now states.old.entries (packet_at bytes.now))) }
-    ensures err { OnErr result (states.new.entries ≡ states.old.entries) }
+        (within_by index bytes.now states.old (packet_at bytes.now))) }
+    ensures err { OnErr result (states.new ≡ states.old) }
     ensures none { OnErr result (KeepsFindings found.old.items found.new.items) }
 {
     match read {
@@ -160,12 +154,12 @@ pub(crate) fn take_copied<A: Allocator + Copy>(
     bytes: &[u8; 188],
     found: &mut Vec<Finding<'static, A>, A>,
 ) -> Result<(), AllocError>
-    ensures states { OnOk result (states.new.entries ≡ states_by index bytes.now states.old.entries
+    ensures states { OnOk result (states.new ≡ states_by index bytes.now states.old
         (packet_at bytes.now)) }
     ensures found { OnOk result (AddsFindings found.old.items found.new.items
-        (findings_by index bytes.now states.old.entries (packet_at bytes.now))) }
+        (findings_by index bytes.now states.old (packet_at bytes.now))) }
     ensures joined { KeepsJoined found.old.items found.new.items }
-    ensures err { OnErr result (states.new.entries ≡ states.old.entries) }
+    ensures err { OnErr result (states.new ≡ states.old) }
     ensures none { OnErr result (map finding_view found.new.items ≡ map finding_view found.old.items) }
 {
     match read_packet(bytes) {

@@ -82,6 +82,7 @@ pub(crate) fn sections<'p, 'a: 'p, A: Allocator + Clone>(
                     packet: place.packet,
                     kind: UnitKind::Section,
                     bytes,
+                    least: 0,
                 }));
             }
             Some(verdict) => {

@@ -1,5 +1,6 @@
 //! The states of the PIDs of a stream, in the order in which these were first seen.
-ghost use Rattle.std.specs.Prelude.{◌≡◌, ◌<◌, ◌++◌, ℕ, Some, None, OnOk, OnErr, map, true, slice_get, nat_eq};
+ghost use Rattle.std.specs.Prelude.{◌≡◌, ◌<◌, ◌++◌, [], ℕ, Some, None, IfSome, OnOk, OnErr, is_some, map, true, position, slice_get, nat_eq};
+ghost use Rattle.std.specs.Map.{keys_of, lookup};
 ghost use Rattle.indexmap.specs.IndexMap.{index_map_len, get, values, set_value_at};
 ghost use Rattle.demux.specs.Machine as machine;
 ghost use Rattle.demux.specs.Stream.{ended_found, state_of, with_state};
@@ -15,13 +16,49 @@ use crate::place::Place;
 use indexmap::IndexMap;
 use std::alloc::{AllocError, Allocator};
 use std::hash::{BuildHasherDefault, FoldHasher};
+use std::marker::Model;
 use ts_packet::Packet;
 
-pub(crate) type States<A> = IndexMap<u16, PidState<A>, BuildHasherDefault<FoldHasher>, A>;
+type StatesByPid<A> = IndexMap<u16, PidState<A>, BuildHasherDefault<FoldHasher>, A>;
+
+/// The states of the PIDs. Most packets follow one of their own PID, so its index is kept.
+#[derive(Drop)]
+pub(crate) struct States<A: Allocator> {
+    by_pid: StatesByPid<A>,
+    // where the state of the last packet's PID stands, if it stands there
+    last: usize,
+}
+
+// A contract sees the states, with their PIDs.
+impl<A: Allocator> Model for States<A> {
+    ghost use Rattle.demux.specs.Stream as stream;
+
+    ghost Value = { stream.States };
+
+    ghost view = { λ s. s.by_pid.entries };
+}
+
+// The index of a PID, looked for first where the last packet's is.
+#[tactic(auto, using(crate::proofs::MapSteps::index_at, crate::proofs::MapSteps::value_at, crate::proofs::MapSteps::found_at))]
+fn index_of<A: Allocator>(states: &StatesByPid<A>, last: usize, pid: u16) -> Option<usize>
+    ensures index { result ≡ position (nat_eq pid) (keys_of states.now.entries) }
+    ensures within { IfSome result (λ i. i < index_map_len states.now) }
+    ensures value { IfSome result (λ i. slice_get (values states.now) i ≡ lookup (nat_eq pid) states.now.entries) }
+    ensures found { is_some result ≡ is_some (lookup (nat_eq pid) states.now.entries) }
+{
+    if last < states.len() {
+        if let Some((at, _)) = states.get_index(last) {
+            if *at == pid {
+                return Some(last);
+            }
+        }
+    }
+    states.get_index_of(&pid)
+}
 
 // A packet of a PID that was seen before.
 fn step_at<'p, 'a: 'p, A: Allocator + Copy>(
-    states: &mut States<A>,
+    states: &mut StatesByPid<A>,
     index: usize,
     place: Place,
     bytes: &[u8; 188],
@@ -49,7 +86,7 @@ fn step_at<'p, 'a: 'p, A: Allocator + Copy>(
 // The first packet of a PID.
 #[tactic(auto, using(crate::proofs::MapSteps::with_is_insert))]
 fn step_first<'p, 'a: 'p, A: Allocator + Copy>(
-    states: &mut States<A>,
+    states: &mut StatesByPid<A>,
     place: Place,
     bytes: &[u8; 188],
     packet: &Packet<'_>,
@@ -73,35 +110,9 @@ fn step_first<'p, 'a: 'p, A: Allocator + Copy>(
     Ok(())
 }
 
-/// Takes a packet of a PID.
-#[tactic(auto, using(crate::proofs::MapSteps::with_is_set, crate::proofs::MapSteps::state_at, crate::proofs::MapSteps::state_new, crate::proofs::MapSteps::set_same))]
-pub(crate) fn step_pid<'p, 'a: 'p, A: Allocator + Copy>(
-    states: &mut States<A>,
-    place: Place,
-    bytes: &[u8; 188],
-    packet: &Packet<'_>,
-    payload: Option<PayloadBytes<'p, 'a>>,
-    found: &mut Vec<Finding<'a, A>, A>,
-) -> Result<(), AllocError>
-    requires payload { IsPayloadOf packet.now place.borrowed payload }
-    ensures states { let state = state_of place.pid states.old.entries in
-        OnOk result (states.new.entries ≡ with_state place.pid
-        (machine.step state (entry_with place.packet bytes.now packet.now)) states.old.entries) }
-    ensures found { let state = state_of place.pid states.old.entries in
-        OnOk result (Finds place found.old.items found.new.items
-        (machine.found_by state (entry_with place.packet bytes.now packet.now))) }
-    ensures err { OnErr result (states.new.entries ≡ states.old.entries) }
-    ensures none { OnErr result (KeepsFindings found.old.items found.new.items) }
-{
-    match states.get_index_of(&place.pid) {
-        Some(index) => step_at(states, index, place, bytes, packet, payload, found),
-        None => step_first(states, place, bytes, packet, payload, found),
-    }
-}
-
 // What the end of the stream decides of a PID.
 fn end_at<'a, A: Allocator + Copy>(
-    states: &States<A>,
+    states: &StatesByPid<A>,
     index: usize,
     packet: u64,
     found: &mut Vec<Finding<'a, A>, A>,
@@ -127,9 +138,9 @@ fn end_at<'a, A: Allocator + Copy>(
     }
 }
 
-/// What the end of the stream decides of the PIDs, in their order.
-pub(crate) fn end_all<'a, A: Allocator + Copy>(
-    states: &States<A>,
+// What the end of the stream decides of the PIDs, in their order.
+fn end_each<'a, A: Allocator + Copy>(
+    states: &StatesByPid<A>,
     packet: u64,
     found: &mut Vec<Finding<'a, A>, A>,
 ) -> Result<(), AllocError>
@@ -140,4 +151,66 @@ pub(crate) fn end_all<'a, A: Allocator + Copy>(
         end_at(states, i, packet, found)?;
     }
     Ok(())
+}
+
+impl<A: Allocator + Copy> States<A> {
+    /// Before the first packet.
+    pub fn new(alloc: A) -> States<A>
+        ensures { result ≡ [] }
+    {
+        States {
+            by_pid: IndexMap::new(alloc),
+            last: 0,
+        }
+    }
+
+    /// Where they are kept.
+    pub fn allocator(&self) -> &A {
+        self.by_pid.allocator()
+    }
+
+    /// Takes a packet of a PID.
+    #[tactic(auto, using(crate::proofs::MapSteps::with_is_set, crate::proofs::MapSteps::state_at, crate::proofs::MapSteps::state_new, crate::proofs::MapSteps::set_same))]
+    pub fn step<'p, 'a: 'p>(
+        &mut self,
+        place: Place,
+        bytes: &[u8; 188],
+        packet: &Packet<'_>,
+        payload: Option<PayloadBytes<'p, 'a>>,
+        found: &mut Vec<Finding<'a, A>, A>,
+    ) -> Result<(), AllocError>
+        requires payload { IsPayloadOf packet.now place.borrowed payload }
+        ensures states { let state = state_of place.pid self.old in
+            OnOk result (self.new ≡ with_state place.pid
+            (machine.step state (entry_with place.packet bytes.now packet.now)) self.old) }
+        ensures found { let state = state_of place.pid self.old in
+            OnOk result (Finds place found.old.items found.new.items
+            (machine.found_by state (entry_with place.packet bytes.now packet.now))) }
+        ensures err { OnErr result (self.new ≡ self.old) }
+        ensures none { OnErr result (KeepsFindings found.old.items found.new.items) }
+    {
+        match index_of(&self.by_pid, self.last, place.pid) {
+            Some(index) => {
+                self.last = index;
+                step_at(
+                    &mut self.by_pid,
+                    index,
+                    place,
+                    bytes,
+                    packet,
+                    payload,
+                    found,
+                )
+            }
+            None => step_first(&mut self.by_pid, place, bytes, packet, payload, found),
+        }
+    }
+
+    /// What the end of the stream decides of the PIDs, in their order.
+    pub fn end<'a>(&self, packet: u64, found: &mut Vec<Finding<'a, A>, A>) -> Result<(), AllocError>
+        ensures found { OnOk result (AddsFindings found.old.items found.new.items (ended_found packet self.now)) }
+        ensures joined { OnOk result (KeepsJoined found.old.items found.new.items) }
+    {
+        end_each(&self.by_pid, packet, found)
+    }
 }

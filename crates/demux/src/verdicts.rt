@@ -1,6 +1,6 @@
 //! What the bytes of a section or a PES packet decide.
-ghost use Rattle.std.specs.Prelude.{◌≡◌, ◌≤◌, None, option_map, length};
-ghost use Rattle.demux.specs.OpenUnits.{decided, max_unbounded_pes, of_header};
+ghost use Rattle.std.specs.Prelude.{◌≡◌, ◌≤◌, ◌+◌, None, option_map, length};
+ghost use Rattle.demux.specs.OpenUnits.{IsUndecidedBelow, decided, max_unbounded_pes, of_header};
 ghost use Rattle.demux.specs.Shown.{what_of};
 
 use crate::open_unit::UnitKind;
@@ -76,4 +76,22 @@ fn by_header(header: PesHeader, size: usize, bytes: &[u8]) -> Option<Verdict>
         return None;
     }
     Some(Verdict::Pes(header, size, end))
+}
+
+/// The least size at which the bytes of a PES packet, with those that come after them, may decide it, if its header can be
+/// read.
+#[tactic(auto, using(crate::proofs::LeastSizes::least_unbounded, crate::proofs::LeastSizes::least_bounded))]
+pub(crate) fn least_size(bytes: &[u8]) -> usize
+    ensures waits { IsUndecidedBelow UnitKind.Pes bytes.now result }
+    ensures bound { result ≤ max_unbounded_pes + 1 }
+{
+    match read_header(bytes) {
+        Ok((header, _)) => {
+            if header.len == 0 {
+                return LONGEST + 1;
+            }
+            6 + header.len as usize
+        }
+        Err(_) => 0,
+    }
 }

@@ -1,7 +1,7 @@
 use Rattle.std.proofs.Common.{◌≡◌, ◌++◌, map, drop}
 use Rattle.demux.specs.Stream.{ended_found}
 use Rattle.demux.specs.Shown.{KeepsJoined, finding_view}
-use Rattle.demux.proofs.states.end_all.Given as goal
+use Rattle.demux.proofs.states.end_each.Given as goal
 
 abbrev pub invariant-loop-i : goal.invariant-loop-i
 invariant-loop-i g l = record {

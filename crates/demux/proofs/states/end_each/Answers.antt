@@ -1,7 +1,7 @@
 use Rattle.std.proofs.Common.{◌+◌, ◌≤◌, length, inl, inr, arith, add-one}
 use Rattle.std.proofs.lemmas.Option.{slice_get_cases}
 use Rattle.demux.proofs.StreamEnd.{ended_more, ended_none}
-use Rattle.demux.proofs.states.end_all.Goals as goal
+use Rattle.demux.proofs.states.end_each.Goals as goal
 
 pub loop-i-preserved : goal.loop-i-preserved
 loop-i-preserved g c =
