@@ -1,3 +1,4 @@
 pub mod Marks
 pub mod SlipSteps
 pub mod WholeStreams
+pub mod Stretches

@@ -90,7 +90,7 @@ slip_within_by bs at size false is e =
     let looked : slip_size bs at ≡ new_step bs at 1 751 = rw is refl in
     new_within bs at size (first_is bs at 1 751 size (sym looked ∙ e))
 
-slip_within : (bs : List ℕ) (at size : ℕ) → slip_size bs at ≡ Some size → at + size < length bs
+pub slip_within : (bs : List ℕ) (at size : ℕ) → slip_size bs at ≡ Some size → at + size < length bs
 slip_within bs at size e = slip_within_by bs at size (goes_on bs at) refl e
 
 -- 3. Slips stand one after another

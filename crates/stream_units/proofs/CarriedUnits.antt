@@ -1,13 +1,13 @@
 -- Units from findings, one by one.
-use Rattle.std.proofs.Common.{◌≡◌, ◌≤◌, ◌<◌, ℕ, suc, ◌+◌, ◌++◌, ◌==◌, ◌&&◌, Bool, true, false, Option, None, unwrap_or, if◌then◌else◌, List, [], ◌∷◌, length, map, drop, get_or, refl, sym, ap, ◌∙◌, inl, inr, add-one}
+use Rattle.std.proofs.Common.{◌≡◌, ◌≤◌, ◌<◌, ℕ, ◌+◌, Bool, false, Option, None, unwrap_or, List, [], ◌∷◌, length, map, drop, get_or, refl, sym, inl, inr, add-one}
 use Rattle.std.specs.List.{list_any}
 use Rattle.std.specs.Option.{option_or}
 use Rattle.std.proofs.Math.Seq.{drop-cons}
 use Rattle.std.proofs.lemmas.Bool.{cases_Bool}
-use Rattle.std.proofs.lemmas.List.{append_assoc, drop_all}
+use Rattle.std.proofs.lemmas.List.{drop_all}
 use Rattle.demux.specs.Views.{FindingView}
 use Rattle.demux.specs.Laws.{has_pid, found_of}
-use Rattle.stream_units.specs.CarriedUnits.{RoleView, Ignored, Start, Continuation, Interruption, CarriedUnit, role_of, more_bytes, continued_by, continuation, end_of, is_cut, start_id, first_id, is_part, is_split, with_more, whole_unit, units_from, units_in}
+use Rattle.stream_units.specs.CarriedUnits.{RoleView, Ignored, Start, Continuation, Interruption, CarriedUnit, role_of, more_bytes, continued_by, continuation, end_of, is_cut, start_id, first_id, is_part, is_split, units_from, units_in}
 use Rattle.stream_units.specs.Laws.{FindingsOfThePid}
 
 -- 1. What a finding of another PID is for the units
@@ -104,34 +104,3 @@ first_at view pid i fs f below at = rw (drop-cons fs i f below, add-one i, sym a
 pub first_end : {X : Type 0} (view : X → FindingView) (pid i : ℕ) (fs : List X) → length fs ≤ i → first_id pid (map view (drop i fs)) ≡ None
 unfolding first_id
 first_end view pid i fs over = rw (drop_all i fs over) refl
-
-some_or : (b : Bool) (u : CarriedUnit) (later : List CarriedUnit) → (if b then later else u ∷ later) ≡ (if b then [] else u ∷ []) ++ later
-some_or true u later = refl
-some_or false u later = refl
-
-whole_or : (lost : Bool) (u : CarriedUnit) (later : List CarriedUnit) → whole_unit lost u later ≡ whole_unit lost u [] ++ later
-whole_or true u later = refl
-whole_or false u later = some_or (length u.unit.bytes == 0) u later
-
-later_units : (split : Bool) (pid : ℕ) (b : RoleView) (fs : List FindingView) (later : List CarriedUnit) → units_from split pid b fs later ≡ units_from split pid b fs [] ++ later
-unfolding units_from
-later_units split pid Ignored fs later = refl
-later_units split pid (Continuation id body) fs later = refl
-later_units split pid (Interruption unstamped) fs later = refl
-later_units split pid (Start u) fs later = whole_or (split && is_cut u.stream_id pid fs) (with_more u (continuation u.stream_id pid fs)) later
-
-pub units_at : {X : Type 0} (view : X → FindingView) (split : Bool) (pid i : ℕ) (fs later : List X) (f : X) (before after : List CarriedUnit) → i < length fs →
-    f ≡ get_or fs i f → later ≡ drop (i + 1) fs → after ≡ before ++ units_from split pid (role_of pid (view f)) (map view later) [] →
-    before ++ units_in split pid (map view (drop i fs)) ≡ after ++ units_in split pid (map view (drop (i + 1) fs))
-unfolding units_in
-units_at view split pid i fs later f before after below at is pushed =
-    let b = role_of pid (view f) in
-    let more = map view (drop (suc i) fs) in
-    let rest = units_in split pid more in
-    let made : after ≡ before ++ units_from split pid b (map view (drop (i + 1) fs)) [] = rw is at pushed in
-    rw (drop-cons fs i f below, made, add-one i, sym at)
-    (ap (λ (us : List CarriedUnit). before ++ us) (later_units split pid b more rest) ∙ sym (append_assoc before (units_from split pid b more []) rest))
-
-pub units_end : {X : Type 0} (view : X → FindingView) (split : Bool) (pid i : ℕ) (fs : List X) → length fs ≤ i → units_in split pid (map view (drop i fs)) ≡ []
-unfolding units_in
-units_end view split pid i fs over = rw (drop_all i fs over) refl

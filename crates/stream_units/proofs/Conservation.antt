@@ -2,13 +2,13 @@
 use Rattle.std.proofs.Common.{◌≡◌, ◌∙◌, ℕ, ◌++◌, ◌==◌, ◌&&◌, ◌||◌, Bool, true, false, if◌then◌else◌, Option, Some, None, List, [], ◌∷◌, length, flat_map, nat_le, refl, sym, ap}
 use Rattle.std.specs.List.{list_any}
 use Rattle.std.proofs.lemmas.Bool.{eqb-true}
-use Rattle.std.proofs.lemmas.List.{append_assoc, append-nil, nil_from_length}
+use Rattle.std.proofs.lemmas.List.{append_assoc, nil_from_length}
 use Rattle.std.proofs.lemmas.List.Folds.{list_any-append}
 use Rattle.pes_packet.specs.declared.time_stamps.Stamps.{Stamps}
 use Rattle.pes_packet.specs.declared.time_stamps.Stamps.TheVariants.{Absent, Pts, PtsDts}
 use Rattle.demux.specs.Views.{WhatView, IsDuplicate, BreaksCounter, IsScrambled, IsTruncated, IsSection, IsBadSection, IsPes, IsBadPes, IsBadPacket, IsErrored, FindingView}
 use Rattle.demux.specs.Laws.{has_pid}
-use Rattle.stream_units.specs.CarriedUnits.{RoleView, Ignored, Start, Continuation, Interruption, CarriedUnit, unit_with, pes_role, role_of_what, is_unstamped, first_packet, role_of, more_bytes, continued_by, continuation, is_cut, is_split, with_more, whole_unit, units_from, units_in}
+use Rattle.stream_units.specs.CarriedUnits.{RoleView, Ignored, Start, Continuation, CarriedUnit, unit_with, pes_role, role_of_what, is_unstamped, first_packet, role_of, more_bytes, continued_by, continuation, is_cut, is_split, with_more, units_from, units_in}
 use Rattle.stream_units.specs.Damage.{is_left_out}
 use Rattle.stream_units.specs.Laws.{NothingIsLost, body_of, bodies, leaves_out}
 use Rattle.stream_units.specs.UnitWarnings.{current_after, unstamped_cause, first_cause, pes_cause, cause_of_what, id_of, cause_of, warning_list, warnings_from}

@@ -1,11 +1,7 @@
 -- Units that a stream declares enough for.
-use Rattle.std.proofs.Common.{◌≡◌, ◌≤◌, ℕ, ◌+◌, ◌==◌, Option, Some, None, List, [], ◌∷◌, length, map, arith, All, inl, inr}
-use Rattle.std.proofs.lemmas.Bool.{cases_Bool}
-use Rattle.std.proofs.lemmas.List.{length-append}
+use Rattle.std.proofs.Common.{◌≡◌, ◌≤◌, ℕ, ◌+◌, Option, Some, None, List, [], ◌∷◌, length, map, arith, All}
 use Rattle.std.proofs.lemmas.List.Elements.{All-nil, All-cons, All-head, All-tail}
 use Rattle.pes_packet.specs.AccessUnits.{AccessUnit}
-use Rattle.pes_packet.specs.Encoding.{pes_packet_bytes, pes_header_bytes, on_wire, header_size}
-use Rattle.pes_packet.proofs.Written.{header_sizes}
 use Rattle.unit_timing.specs.declared.allowance.Allowance.{Allowance}
 use Rattle.unit_timing.specs.declared.allowance.Allowance.TheVariants.{Groups, Pace}
 use Rattle.unit_timing.specs.PesPacket.{Spaced, Sized, GroupsWithin}
@@ -19,7 +15,7 @@ use Rattle.stream_units.specs.Stamps.{distance, dts_at, unit_at, moved, unit_fau
 use Rattle.stream_units.specs.Declaration.{interval_after, min_interval, max_unit_size, max_group, AllowsUnits}
 use Rattle.stream_units.specs.Laws.{FirstDue, UnitsAreKept}
 use Rattle.stream_units.proofs.StampFaults.{place_none, timely}
-use Rattle.stream_units.proofs.UnitCounts.{within_burst}
+use Rattle.stream_units.proofs.UnitCounts.{within_burst, bytes_most}
 
 -- 1. Each by itself
 
@@ -58,25 +54,10 @@ spaced_all l base (u ∷ us) le due = unfold unit_at in (due, spaced_after l bas
 
 -- 3. Their sizes
 
-header_most : (pts dts : ℕ) → header_size pts dts ≤ 19
-header_most pts dts = elim (cases_Bool (on_wire pts == on_wire dts)) [ inl y ↦ rw y (omega arith) | inr n ↦ rw n (omega arith) ]
-
-text_most : (l : OwnedStream) (u : AccessUnit) (size : ℕ) → length u.bytes ≤ size → length (pes_packet_bytes l.parameters.stream_id l.parameters.base0 u) ≤ 19 + size
-unfolding pes_packet_bytes
-text_most l u size le =
-    let head = pes_header_bytes l.parameters.stream_id (length u.bytes) (u.pts + l.parameters.base0) (u.dts + l.parameters.base0) in
-    omega (
-      arith,
-      le,
-      length-append head u.bytes,
-      header_sizes l.parameters.stream_id (length u.bytes) (u.pts + l.parameters.base0) (u.dts + l.parameters.base0),
-      header_most (u.pts + l.parameters.base0) (u.dts + l.parameters.base0),
-    )
-
 sized_all : (l : OwnedStream) (us : List AccessUnit) → max_unit_size us ≤ l.parameters.size → Sized (19 + l.parameters.size) (map (timed l) us)
 unfolding Sized max_unit_size
 sized_all l [] le = tt
-sized_all l (u ∷ us) le = (text_most l u l.parameters.size (omega (arith, le)), sized_all l us (omega (arith, le)))
+sized_all l (u ∷ us) le = (bytes_most l.parameters.stream_id l.parameters.base0 l.parameters.size u (omega (arith, le)), sized_all l us (omega (arith, le)))
 
 -- 4. The number of their packets
 
@@ -85,7 +66,7 @@ grouped_all : (l : OwnedStream) (group most : ℕ) (us : List AccessUnit) → ma
 unfolding GroupsWithin max_unit_size max_group
 grouped_all l group most [] size le = tt
 grouped_all l group most (u ∷ us) size le = (
-  omega (arith, text_most l u l.parameters.size (omega (arith, size))),
+  omega (arith, bytes_most l.parameters.stream_id l.parameters.base0 l.parameters.size u (omega (arith, size))),
   omega (arith, le),
   grouped_all l group most us (omega (arith, size)) (omega (arith, le)),
 )

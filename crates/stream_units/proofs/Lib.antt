@@ -10,3 +10,4 @@ pub mod Conservation
 pub mod SameIds
 pub mod TimeOrder
 pub mod MadeDts
+pub mod UnitSteps

@@ -1,9 +1,10 @@
 -- Units moved one by one.
-use Rattle.std.proofs.Common.{◌≡◌, ℕ, ◌+◌, ◌++◌, Option, Some, None, List, [], ◌∷◌, sym, ◌∙◌}
+use Rattle.std.proofs.Common.{◌≡◌, ℕ, ◌+◌, ◌++◌, Option, Some, None, List, [], ◌∷◌, refl, sym, ap, ◌∙◌}
 use Rattle.std.proofs.lemmas.List.{append_assoc, append-nil}
 use Rattle.pes_packet.specs.AccessUnits.{AccessUnit}
 use Rattle.stream_units.specs.declared.stamps.StampFault.{StampFault}
-use Rattle.stream_units.specs.Stamps.{dts_at, unit_at, moved, unit_fault, fault_or, first_fault}
+use Rattle.stream_units.specs.Laws.{MovedInTurn}
+use Rattle.stream_units.specs.Stamps.{dts_at, dts_after, unit_at, moved, unit_fault, fault_or, first_fault}
 
 pub moved_more : (base : ℕ) (before : Option ℕ) (all out us : List AccessUnit) (u x : AccessUnit) → moved base None all ≡ out ++ moved base before (u ∷ us) →
     x ≡ unit_at base before u → moved base None all ≡ (out ++ x ∷ []) ++ moved base (Some x.dts) us
@@ -29,3 +30,8 @@ pub fault_end : (base : ℕ) (before : Option ℕ) (place : ℕ) (all : List Acc
     first_fault base None 0 all ≡ first_fault base before place [] → first_fault base None 0 all ≡ None
 unfolding first_fault
 fault_end base before place all is = is
+
+pub moved_in_turn : MovedInTurn
+unfolding moved dts_after
+moved_in_turn base before [] more = refl
+moved_in_turn base before (u ∷ us) more = ap (λ (xs : List AccessUnit). unit_at base before u ∷ xs) (moved_in_turn base (Some (dts_at base before u.dts)) us more)

@@ -7,7 +7,7 @@ use Rattle.unit_timing.specs.Allowances.{allowance_rows}
 use Rattle.unit_queue.specs.OwnedStreams.{OwnedStream}
 use Rattle.unit_queue.specs.Causes.{unit_cause}
 use Rattle.unit_queue.specs.Queues.{Kept}
-use Rattle.stream_units.specs.Stamps.{distance, moved, first_fault, min_distance, constant_of}
+use Rattle.stream_units.specs.Stamps.{distance, dts_after, moved, first_fault, min_distance, constant_of}
 use Rattle.demux.specs.Views.{FindingView}
 use Rattle.demux.specs.Laws.{found_of}
 use Rattle.stream_units.specs.CarriedUnits.{RoleView, Ignored, Start, Continuation, Interruption, role_of, carried_units}
@@ -38,6 +38,11 @@ leaves_out w = is_left_out w.cause
 abbrev pub NothingIsLost : Type 0
 NothingIsLost = (pid count : ℕ) (findings : List FindingView) → list_any leaves_out (unit_warnings pid count findings) ≡ false →
     bodies pid findings ≡ flat_map (λ u. u.unit.bytes) (carried_units pid findings)
+
+-- units moved after others are moved as one list with them: what comes later changes no moment
+abbrev pub MovedInTurn : Type 0
+MovedInTurn = (base : ℕ) (before : Option ℕ) (us more : List AccessUnit) →
+    moved base before (us ++ more) ≡ moved base before us ++ moved base (dts_after base before us) more
 
 -- the stamps on the wire are the moments with one constant, and the bytes are the same
 abbrev pub MovedByOneConstant : Type 0

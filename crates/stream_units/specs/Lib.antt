@@ -9,3 +9,4 @@ pub mod MadeDts
 pub mod DtsErrors
 pub mod Declaration
 pub mod Laws
+pub mod UnitSteps

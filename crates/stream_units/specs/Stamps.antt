@@ -28,6 +28,11 @@ unfoldable pub moved : ℕ → Option ℕ → List AccessUnit → List AccessUni
 moved base before [] = []
 moved base before (u ∷ us) = unit_at base before u ∷ moved base (Some (dts_at base before u.dts)) us
 
+-- the last DTS after units, or the one before them
+unfoldable pub dts_after : ℕ → Option ℕ → List AccessUnit → Option ℕ
+dts_after base before [] = before
+dts_after base before (u ∷ us) = dts_after base (Some (dts_at base before u.dts)) us
+
 -- 2. What can't be moments of units
 
 -- a DTS that does not rise: it is the same as the one before, or nearer before that one than after it

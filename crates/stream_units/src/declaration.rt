@@ -1,6 +1,6 @@
 //! What a stream declares of its units, counted from them.
 
-ghost use Rattle.std.specs.Prelude.{◌≡◌, ◌≤◌, ◌<◌, ◌+◌, ◌-◌, ◌/◌, ◌^◌, ℕ, min, length, take};
+ghost use Rattle.std.specs.Prelude.{◌≡◌, ◌≤◌, ◌<◌, ◌+◌, ◌-◌, ◌/◌, ◌^◌, ℕ, min, length, take, drop};
 ghost use Rattle.pes_packet.specs.Encoding.{pes_packet_bytes};
 ghost use Rattle.unit_timing.specs.PesPacket.{packets_of_units};
 ghost use Rattle.unit_timing.specs.Levels.{next_level};
@@ -81,6 +81,18 @@ fn total_packets<A: Allocator>(base0: u64, units: &[Unit<A>]) -> u64
     total
 }
 
+// The packets of the unit after the first `count`, or none if there is no such unit.
+fn packets_after<A: Allocator>(base0: u64, units: &[Unit<A>], count: usize) -> u64
+    ensures value { (id : ℕ) → result ≡ packets_of_units (spec.timed_units id base0 (take 1 (drop count units.now))) }
+    ensures bound { result ≤ 2 ^ 56 }
+{
+    if count < units.len() {
+        unit_packets(base0, &units[count])
+    } else {
+        0
+    }
+}
+
 // The first `count` units, or all if they are fewer.
 fn front<A: Allocator>(units: &[Unit<A>], count: usize) -> &[Unit<A>]
     ensures value { result.now ≡ take count units.now }
@@ -109,9 +121,11 @@ pub fn group_packets<A: Allocator>(base0: u64, units: &[Unit<A>], group: u8) -> 
     ensures { (id : ℕ) → result ≡ spec.group_packets id base0 group units.now }
 {
     let mut most = max_unit_packets(max_unit_size(units));
+    let mut row = total_packets(base0, front(units, group as usize));
     let mut rest = units;
-    while let Some((_, next)) = rest.split_first() {
-        most = most.max(total_packets(base0, front(rest, group as usize)));
+    while let Some((first, next)) = rest.split_first() {
+        most = most.max(row);
+        row = row + packets_after(base0, rest, group as usize) - unit_packets(base0, first);
         rest = next;
     }
     most

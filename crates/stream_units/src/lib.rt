@@ -18,6 +18,7 @@ mod stamps;
 mod stream_ids;
 mod unit;
 mod unit_moments;
+mod unit_taker;
 mod unit_warning;
 mod warnings;
 mod wire_unit;
@@ -26,13 +27,14 @@ pub use carried::carried_units;
 pub use declaration::{burst_packets, group_packets, max_unit_size, min_interval};
 pub use dts_from_pts::{DtsError, DtsFault, made_dts};
 pub use laws::{
-    constant_is_least, findings_of_the_pid, moved_by_one_constant, nothing_is_lost,
-    taken_one_by_one, units_are_kept,
+    constant_is_least, findings_of_the_pid, given_as_carried, moved_by_one_constant, moved_in_turn,
+    nothing_is_lost, taken_one_by_one, units_are_kept,
 };
 pub use made_units::units_with_made_dts;
 pub use stamps::{StampFault, constant, distance};
 pub use stream_ids::{first_other, written_id};
-pub use unit_moments::{StampError, moved_units};
+pub use unit_moments::{StampError, moved_unit, moved_units};
+pub use unit_taker::UnitTaker;
 pub use unit_warning::{UnitWarning, UnitWarningCause};
 pub use warnings::unit_warnings;
 pub use wire_unit::WireUnit;

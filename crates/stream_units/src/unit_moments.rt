@@ -20,9 +20,9 @@ pub enum StampError {
     Unit { index: usize, fault: StampFault },
 }
 
-// A unit at its moments, after a DTS or after none.
+/// A unit at its moments, after a DTS or after none, where the clock shows `base` at moment 0; or why it can't have any.
 #[tactic(auto, unfolding(crate::specs::Stamps::unit_at))]
-fn moved_unit<A: Allocator>(
+pub fn moved_unit<A: Allocator>(
     base: u64,
     before: Option<u64>,
     wire: WireUnit<A>,

@@ -1,20 +1,26 @@
-use Rattle.std.proofs.Common.{◌≡◌, ◌+◌, ◌++◌, ◌∙◌, sym, ap, Bool, List, map, drop, rules}
-use Rattle.std.proofs.lemmas.List.{append-nil}
+use Rattle.std.proofs.Common.{◌++◌, ◌∙◌, sym, ap, Bool, map}
 use Rattle.demux.specs.Shown.{finding_view}
-use Rattle.stream_units.specs.CarriedUnits.{CarriedUnit, units_in}
-use Rattle.stream_units.proofs.CarriedUnits.{units_at, units_end}
+use Rattle.stream_units.specs.CarriedUnits.{carried_units, units_in}
+use Rattle.stream_units.specs.UnitSteps.{UnitsSoFar}
+use Rattle.stream_units.proofs.UnitSteps.{units_with, units_start, units_step, units_finish}
 use Rattle.stream_units.proofs.carried.carried_units.Goals as goal
 
-pub loop-at-preserved : goal.loop-at-preserved
-loop-at-preserved g c =
-    let later : c.split_at.result.1.now ≡ drop (c.loop-at.at + 1) c.args.findings.now = search rules in
-    c.loop-at.invariant
-    ∙ units_at (finding_view {A = g.row.A.Denot}) c.is_split-split.result c.args.pid c.loop-at.at c.args.findings.now c.split_at.result.1.now c.index-findings-at.result
-    c.loop-at.units.items c.push_unit.new.units.items c.loop-at-test.true c.index-findings-at.is later c.in_ok-push_unit.ensures
+pub loop-finding-init : goal.loop-finding-init
+loop-finding-init g c =
+    let view = finding_view {A = g.row.A.Denot} in
+    let fs = c.args.findings.now in
+    ap (λ (split : Bool). units_in split c.args.pid (map view fs)) (sym c.is_split.ensures)
+    ∙ units_start view c.is_split.result c.args.pid fs c.new-units.result.items c.new-units.ensures.items
+    ∙ ap (λ (s : UnitsSoFar). c.new-units.result.items ++ units_with s.split s.pid s.unit (map view fs)) (sym c.new-taker.ensures)
+
+pub loop-finding-preserved : goal.loop-finding-preserved
+loop-finding-preserved g c =
+    units_step (finding_view {A = g.row.A.Denot}) c.loop-finding.taker c.take.new.self c.loop-finding.finding-index c.args.findings.now c.finding-item.result c.in_ok-unit.unit
+    (carried_units c.args.pid (map (finding_view {A = g.row.A.Denot}) c.args.findings.now)) c.loop-finding.units.items c.push_unit.new.units.items
+    c.loop-finding-test.true c.finding-item.is c.loop-finding.invariant c.in_ok-unit.ensures.given c.in_ok-unit.ensures.kept c.in_ok-push_unit.ensures
 
 pub returns : goal.returns
 returns g c =
-    sym (c.loop-at.invariant
-    ∙ ap (λ (us : List CarriedUnit). c.loop-at.units.items ++ us) (units_end (finding_view {A = g.row.A.Denot}) c.is_split-split.result c.args.pid c.loop-at.at c.args.findings.now c.loop-at-test.false)
-    ∙ append-nil c.loop-at.units.items)
-    ∙ ap (λ (split : Bool). units_in split c.args.pid (map (finding_view {A = g.row.A.Denot}) c.args.findings.now)) c.is_split-split.ensures
+    units_finish (finding_view {A = g.row.A.Denot}) c.loop-finding.taker c.loop-finding.finding-index c.args.findings.now c.finish.result
+    (carried_units c.args.pid (map (finding_view {A = g.row.A.Denot}) c.args.findings.now)) c.loop-finding.units.items c.push_unit-2.new.units.items
+    c.loop-finding-test.false c.loop-finding.invariant c.finish.ensures c.in_ok-push_unit-2.ensures

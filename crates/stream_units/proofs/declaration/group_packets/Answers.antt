@@ -1,21 +1,44 @@
-use Rattle.std.proofs.Common.{◌∙◌, ap, List, arith}
-use Rattle.pes_packet.specs.AccessUnits.{AccessUnit}
-use Rattle.unit_timing.specs.PesPacket.{packets_of_units}
-use Rattle.stream_units.specs.Declaration.{timed_units}
+use Rattle.std.proofs.Common.{arith}
 use Rattle.clock27.proofs.MinMax.{max_is}
-use Rattle.stream_units.proofs.UnitCounts.{group_more, group_end}
+use Rattle.stream_units.proofs.UnitCounts.{group_more, group_end, row_step, row_most, size_first}
 use Rattle.stream_units.proofs.declaration.group_packets.Goals as goal
 
-pub loop-next-preserved : goal.loop-next-preserved
-loop-next-preserved g c = λ id.
-    let total = c.total_packets.ensures.value id ∙ ap (λ (us : List AccessUnit). packets_of_units (timed_units id c.args.base0 us)) c.front.ensures.value in
-    omega (
-      arith,
-      c.loop-next.invariant id,
-      group_more id c.args.base0 c.args.group c.loop-next.most c.total_packets.result c.loop-next.rest.now c.in-Some.next.now c.in-Some.field-0-0.now c.in-Some.ensures.cases.0 total,
-      c.max-most.ensures,
-      max_is c.loop-next.most c.total_packets.result,
-    )
+pub overflow_add-row : goal.overflow_add-row
+overflow_add-row g c = omega (
+  arith,
+  c.requires,
+  c.loop-first.invariant.row 0,
+  row_most 0 c.args.base0 c.args.group c.loop-first.rest.now c.loop-first.invariant.size,
+  c.packets_after.ensures.bound,
+)
+
+pub overflow_sub-row : goal.overflow_sub-row
+overflow_sub-row g c = omega (
+  arith,
+  c.loop-first.invariant.row 0,
+  c.packets_after.ensures.value 0,
+  c.unit_packets.ensures.value 0,
+  row_step 0 c.args.base0 c.args.group c.loop-first.rest.now c.in-Some.next.now c.in-Some.first.now c.in-Some.ensures.cases.0,
+)
+
+pub loop-first-preserved : goal.loop-first-preserved
+loop-first-preserved g c = record {
+  most = λ id. omega (
+    arith,
+    c.loop-first.invariant.most id,
+    group_more id c.args.base0 c.args.group c.loop-first.most c.loop-first.row c.loop-first.rest.now c.in-Some.next.now c.in-Some.first.now c.in-Some.ensures.cases.0 (c.loop-first.invariant.row id),
+    c.max-most.ensures,
+    max_is c.loop-first.most c.loop-first.row,
+  );
+  row = λ id. omega (
+    arith,
+    c.loop-first.invariant.row id,
+    c.packets_after.ensures.value id,
+    c.unit_packets.ensures.value id,
+    row_step id c.args.base0 c.args.group c.loop-first.rest.now c.in-Some.next.now c.in-Some.first.now c.in-Some.ensures.cases.0,
+  );
+  size = size_first c.loop-first.rest.now c.in-Some.next.now c.in-Some.first.now c.in-Some.ensures.cases.0 c.loop-first.invariant.size;
+}
 
 pub returns : goal.returns
-returns g c = λ id. omega (arith, c.loop-next.invariant id, group_end id c.args.base0 c.args.group c.loop-next.rest.now c.in_default.ensures.cases)
+returns g c = λ id. omega (arith, c.loop-first.invariant.most id, group_end id c.args.base0 c.args.group c.loop-first.rest.now c.in_default.ensures.cases)

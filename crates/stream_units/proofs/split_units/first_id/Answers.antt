@@ -1,4 +1,4 @@
-use Rattle.std.proofs.Common.{◌≡◌, ◌∙◌, ◌+◌, ℕ, Bool, Option, None, unwrap_or, map, drop, sym, ap, rules}
+use Rattle.std.proofs.Common.{◌≡◌, ◌∙◌, ◌+◌, ℕ, Option, None, map, drop, sym, ap, rules}
 use Rattle.std.specs.Option.{option_or}
 use Rattle.demux.specs.Shown.{finding_view}
 use Rattle.stream_units.specs.CarriedUnits.{RoleView, start_id, first_id}

@@ -1,4 +1,4 @@
-use Rattle.std.proofs.Common.{◌≡◌, ◌∙◌, ◌+◌, ℕ, Bool, Option, None, unwrap_or, map, drop, sym, ap, rules}
+use Rattle.std.proofs.Common.{◌≡◌, ◌∙◌, ◌+◌, Bool, Option, None, unwrap_or, map, drop, sym, ap, rules}
 use Rattle.demux.specs.Shown.{finding_view}
 use Rattle.stream_units.specs.CarriedUnits.{RoleView, end_of, is_cut}
 use Rattle.stream_units.proofs.CarriedUnits.{cut_at, cut_end}

@@ -1,4 +1,4 @@
-use Rattle.std.proofs.Common.{◌≡◌, ◌<◌, ◌+◌, ◌==◌, ◌∙◌, sym, ap, List, ℕ, Option, Some, None, option_map, length, map, drop, rules, arith}
+use Rattle.std.proofs.Common.{◌≡◌, ◌<◌, ◌+◌, ◌==◌, ◌∙◌, sym, ap, List, ℕ, Option, None, option_map, length, map, drop, rules, arith}
 use Rattle.demux.specs.Shown.{finding_view}
 use Rattle.stream_units.specs.CarriedUnits.{RoleView, more_bytes, continuation, continued_by}
 use Rattle.stream_units.proofs.CarriedUnits.{continuation_at, continuation_end}

@@ -1,0 +1,12 @@
+use Rattle.std.proofs.Common.{◌≡◌, ◌≤◌, ℕ, ◌-◌, List, [], true, length}
+use Rattle.packet_sync.proofs.Stretches.{SoFar}
+use Rattle.packet_sync.proofs.stretch.next_stretch.Given as goal
+
+abbrev pub invariant-loop-at : goal.invariant-loop-at
+invariant-loop-at l = record {
+  within : l.at ≤ length l.bytes;
+  carried : (more : List ℕ) → (l.ended ≡ true → more ≡ []) → SoFar l.bytes more l.at;
+}
+
+abbrev pub decreases-loop-at : goal.decreases-loop-at
+decreases-loop-at l = length l.bytes - l.at

@@ -1,0 +1,13 @@
+-- A stream whose bytes come piece by piece: what of them is carried, as far as those that have come tell it.
+use Rattle.std.specs.Prelude.{◌≡◌, ℕ, ◌+◌, ◌++◌, Bool, true, List, [], take, drop}
+use Rattle.packet_sync.specs.Slips.{carried}
+use Rattle.packet_sync.specs.declared.stretch.Stretch.{Stretch}
+
+-- a stretch of bytes is carried and those after it are left out, however the stream goes on: what is carried of it is that
+-- stretch and what is carried of the rest
+abbrev pub IsNextOf : List ℕ → List ℕ → Stretch → Type 0
+IsNextOf bytes more s = carried (bytes ++ more) ≡ take s.in_step bytes ++ carried (drop (s.in_step + s.slipped) bytes ++ more)
+
+-- where the stream has ended, no more bytes come
+abbrev pub IsStretch : List ℕ → Bool → Stretch → Type 0
+IsStretch bytes ended s = (more : List ℕ) → (ended ≡ true → more ≡ []) → IsNextOf bytes more s

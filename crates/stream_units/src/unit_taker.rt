@@ -1,0 +1,142 @@
+//! The units of a PID, given as they become whole.
+
+ghost use Rattle.std.specs.Prelude.{◌≡◌, IfOk, OnOk, OnErr, true, false};
+ghost use Rattle.demux.specs.Shown.{finding_view};
+ghost use Rattle.stream_units.specs.CarriedUnits as units;
+ghost use Rattle.stream_units.specs.UnitSteps as spec;
+ghost use Rattle.stream_units.specs.Shown.{role_view, start_view};
+
+use crate::pes_role::{PesRole, UnitStart, role_of};
+use crate::wire_unit::WireUnit;
+use demux::Finding;
+use pes_packet::Unit;
+use std::alloc::{AllocError, Allocator, Global};
+use std::marker::Model;
+
+/// Takes what is found of a PID, finding by finding, and gives each unit as soon as it is whole. It holds the bytes of the
+/// one unit under way.
+#[derive(Drop)]
+pub struct UnitTaker<A: Allocator = Global> {
+    pid: u16,
+    split: bool,
+    unit: Option<WireUnit<A>>,
+}
+
+// A contract sees what it says, and not where the bytes of the unit are kept.
+impl<A: Allocator> Model for UnitTaker<A> {
+    ghost use Rattle.stream_units.specs.UnitSteps.{UnitsSoFar};
+
+    ghost Value = { UnitsSoFar };
+
+    ghost view = { λ t. record { pid = t.pid; split = t.split; unit = t.unit } };
+}
+
+// The unit that starts with this PES packet.
+fn started<A: Allocator>(alloc: A, first: UnitStart<'_>) -> Result<WireUnit<A>, AllocError>
+    ensures { IfOk result (λ u. u ≡ start_view first.entry) }
+{
+    let bytes = Vec::from_slice(alloc, first.body)?;
+    Ok(WireUnit {
+        packet: first.packet,
+        stream_id: first.stream_id,
+        unit: Unit {
+            dts: first.dts,
+            pts: first.pts,
+            bytes,
+        },
+    })
+}
+
+// A unit, if no part of it may be lost and it has bytes.
+fn if_whole<A: Allocator>(lost: bool, unit: WireUnit<A>) -> Option<WireUnit<A>>
+    ensures { result ≡ spec.if_whole lost unit }
+{
+    if lost || unit.unit.bytes.is_empty() {
+        return None;
+    }
+    Some(unit)
+}
+
+// The unit that was under way, as it is given where it ends.
+#[tactic(auto, unfolding(crate::specs::UnitSteps::ended_unit))]
+fn ended<A: Allocator>(lost: bool, unit: Option<WireUnit<A>>) -> Option<WireUnit<A>>
+    ensures { result ≡ spec.ended_unit lost unit }
+{
+    match unit {
+        None => None,
+        Some(unit) => if_whole(lost, unit),
+    }
+}
+
+// Appends bytes to the unit under way, if it has this stream_id, and returns whether it has.
+#[tactic(auto, unfolding(crate::specs::UnitSteps::has_id, crate::specs::UnitSteps::lengthened))]
+fn lengthen<A: Allocator>(
+    unit: &mut Option<WireUnit<A>>,
+    id: u8,
+    body: &[u8],
+) -> Result<bool, AllocError>
+    ensures found { IfOk result (λ found. found ≡ spec.has_id id unit.old) }
+    ensures lengthened { IfOk result (λ found. found ≡ true → unit.new ≡ spec.lengthened id body.now unit.old) }
+    ensures same { IfOk result (λ found. found ≡ false → unit.new ≡ unit.old) }
+    ensures err { OnErr result (unit.new ≡ unit.old) }
+{
+    let Some(unit) = unit else {
+        return Ok(false);
+    };
+    if unit.stream_id != id {
+        return Ok(false);
+    }
+    unit.unit.bytes.extend_from_slice(body)?;
+    Ok(true)
+}
+
+impl<A: Allocator + Clone> UnitTaker<A> {
+    /// Before the first finding of a PID. `split`: whether its units may have several PES packets, so that of one after
+    /// which something is lost a part may be, and it is left out.
+    pub fn new(pid: u16, split: bool) -> UnitTaker<A>
+        ensures { result ≡ spec.none_so_far pid split }
+    {
+        UnitTaker {
+            pid,
+            split,
+            unit: None,
+        }
+    }
+
+    /// Takes the next finding of a stream, and gives the unit that it makes whole, if there is one.
+    #[tactic(auto, unfolding(crate::specs::UnitSteps::made_whole, crate::specs::UnitSteps::goes_on_as), using(crate::proofs::UnitSteps::not_lengthened))]
+    pub fn take(
+        &mut self,
+        alloc: &A,
+        finding: &Finding<'_, A>,
+    ) -> Result<Option<WireUnit<A>>, AllocError>
+        ensures given { IfOk result (λ unit. unit
+            ≡ spec.made_whole self.old.split self.old.unit (units.role_of self.old.pid (finding_view finding.now))) }
+        ensures kept { OnOk result (self.new ≡ spec.after_finding self.old (finding_view finding.now)) }
+        ensures err { OnErr result (self.new ≡ self.old) }
+    {
+        match role_of(self.pid, finding) {
+            PesRole::Ignored => Ok(None),
+            PesRole::Start(first) => {
+                let next = started(alloc.clone()?, first)?;
+                let before = self.unit.take();
+                self.unit = Some(next);
+                Ok(ended(false, before))
+            }
+            PesRole::Continuation(id, body) => {
+                if lengthen(&mut self.unit, id, body)? {
+                    return Ok(None);
+                }
+                Ok(ended(self.split, self.unit.take()))
+            }
+            PesRole::Interruption(_) => Ok(ended(self.split, self.unit.take())),
+        }
+    }
+
+    /// The findings end: the last unit, if there is one.
+    pub fn finish(self) -> Option<WireUnit<A>>
+        ensures { result ≡ spec.ended_unit false self.unit }
+    {
+        ended(false, self.unit)
+    }
+}

@@ -1,0 +1,2 @@
+pub mod FedUnits
+pub mod FedStreams

@@ -1,0 +1,15 @@
+use Rattle.std.proofs.Common.{◌≤◌, ◌++◌, ℕ, ◌-◌, List, length, drop}
+use Rattle.unit_feed.specs.Feeding.{Fed, FeedView}
+use Rattle.unit_feed.specs.StreamFeeding.{IsFedBy}
+use Rattle.unit_feed.proofs.stream_feed.take_decided.Given as goal
+
+abbrev pub invariant-loop-at : goal.invariant-loop-at
+invariant-loop-at l = record {
+  within : l.at ≤ length l.bytes;
+  taken : (first : FeedView) (stream : List ℕ) (gone : List Fed) →
+      IsFedBy first stream l.ended (record { held = l.bytes; demux = l.fn.demux; feed = l.fn.feed }) (gone ++ l.fn.fed.items) →
+      IsFedBy first stream l.ended (record { held = drop l.at l.bytes; demux = l.demux; feed = l.feed }) (gone ++ l.fed.items);
+}
+
+abbrev pub decreases-loop-at : goal.decreases-loop-at
+decreases-loop-at l = length l.bytes - l.at

@@ -1,0 +1,3 @@
+pub mod Feeding
+pub mod Laws
+pub mod StreamFeeding

@@ -1,0 +1,20 @@
+//! Laws of the definitions. Each function does nothing: its contract is the law.
+
+ghost use Rattle.unit_feed.specs.Laws.{FedAsCarried, FedInTurn};
+ghost use Rattle.unit_feed.specs.StreamFeeding.{FedIsBeginning};
+
+/// What later findings feed comes after what was fed before, and changes none of it.
+pub fn fed_in_turn()
+    ensures { FedInTurn }
+{}
+
+/// Of one stream the units fed of findings that end, where each can have a moment, are those that its PID carries, moved by
+/// the constant that the first one fixes.
+pub fn fed_as_carried()
+    ensures { FedAsCarried }
+{}
+
+/// What is fed while a stream comes is a beginning of what the whole stream feeds, however it goes on.
+pub fn fed_so_far()
+    ensures { FedIsBeginning }
+{}
