@@ -3,3 +3,4 @@ pub mod QueueStates
 pub mod ByteRows
 pub mod DepartureWalks
 pub mod BufferCounts
+pub mod Residence

@@ -1,5 +1,5 @@
 //! The main buffer of a stream.
-ghost use Rattle.std.specs.Prelude.{◌≡◌, ℕ, ◌+◌, ◌<◌, ◌≤◌, ◌^◌, max, OnOk};
+ghost use Rattle.std.specs.Prelude.{◌≡◌, ℕ, ◌+◌, ◌<◌, ◌≤◌, ◌^◌, max, OnOk, OnErr};
 
 use crate::buffered_units::{BufferedUnit, drop_removed, tally};
 use std::alloc::{AllocError, Allocator};
@@ -22,12 +22,13 @@ impl<A: Allocator> MainBuffer<A> {
     ghost use Rattle.decoder_buffers.specs.BufferState.{fullness_at, IsSound};
     ghost use Rattle.decoder_buffers.specs.BufferedUnits.{one_buffered, buffered_bytes};
 
-    /// An empty buffer.
+    /// An empty buffer. No unit is under way: a byte that entered it would come too late.
     pub fn new(alloc: A) -> MainBuffer<A>
         ensures sound { IsSound result }
         ensures empty { (x : ℕ) → fullness_at result x ≡ 0 }
         ensures peak { result.peak ≡ 0 }
         ensures fullness { result.fullness ≡ 0 }
+        ensures until { result.current.until ≡ 0 }
     {
         MainBuffer {
             earlier: Vec::new(alloc),
@@ -38,14 +39,15 @@ impl<A: Allocator> MainBuffer<A> {
         }
     }
 
-    /// The next unit begins; its bytes stay until `until`.
+    /// The next unit begins; its bytes stay until `until`. Where memory is wanting the one under way goes on.
     pub fn begin(&mut self, until: u128) -> Result<(), AllocError>
         requires sound { IsSound self.old }
-        ensures sound { OnOk result (IsSound self.new) }
-        ensures there { OnOk result ((x : ℕ) → fullness_at self.new x ≡ fullness_at self.old x) }
+        ensures sound { IsSound self.new }
+        ensures there { (x : ℕ) → fullness_at self.new x ≡ fullness_at self.old x }
         ensures until { OnOk result (self.new.current.until ≡ until) }
-        ensures peak { OnOk result (self.new.peak ≡ self.old.peak) }
-        ensures fullness { OnOk result (self.new.fullness ≡ self.old.fullness) }
+        ensures err { OnErr result (self.new.current ≡ self.old.current) }
+        ensures peak { self.new.peak ≡ self.old.peak }
+        ensures fullness { self.new.fullness ≡ self.old.fullness }
     {
         if self.current.bytes > 0 {
             self.earlier.push(self.current)?;

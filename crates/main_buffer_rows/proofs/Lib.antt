@@ -1,1 +1,3 @@
 pub mod RowEntries
+pub mod Pieces
+pub mod Leaving

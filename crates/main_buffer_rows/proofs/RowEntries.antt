@@ -28,7 +28,7 @@ pub one_entered : (until x t : ℕ) (ts : List ℕ) → t ≤ x → entered unti
 one_entered until x t ts le =
     rw (sum_by-cons (λ s. cond (has_entered until x s) 1 0) t ts) (rw (le-leb t x le) refl)
 
-none_entered : (until x : ℕ) (ts : List ℕ) (from : ℕ) → x < from → Rises from ts → entered until x ts ≡ 0
+pub none_entered : (until x : ℕ) (ts : List ℕ) (from : ℕ) → x < from → Rises from ts → entered until x ts ≡ 0
 unfolding Rises
 none_entered until x [] from lt rises = refl
 none_entered until x (t ∷ ts) from lt rises =

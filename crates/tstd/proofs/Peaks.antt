@@ -1,13 +1,10 @@
 -- The greatest fullness of a buffer is known from the longest residence of a byte in it.
-use Rattle.std.proofs.Common.{◌≡◌, ◌∙◌, ℕ, ◌+◌, ◌-◌, ◌*◌, ◌≤◌, ◌<◌, max, List, [], ◌∷◌, ◌++◌, length, refl, arith, inl, inr}
-use Rattle.std.proofs.Math.Nat.{add-div_right, div-eq_of_lt, div-mul-le_self}
-use Rattle.std.proofs.lemmas.Nat.{le-div}
-use Rattle.std.proofs.lemmas.Bool.{cases_lt}
-use Rattle.std.proofs.lemmas.List.{length-append, append-nil}
+use Rattle.std.proofs.Common.{◌≡◌, ◌∙◌, ℕ, ◌*◌, ◌≤◌, ◌<◌, List, [], ◌∷◌, length, refl, arith}
+use Rattle.std.proofs.lemmas.List.{length-append}
 use Rattle.clock27.specs.Arrival.{bytes_from, arrivals}
 use Rattle.clock27.specs.Departure.{departures}
 use Rattle.clock27.specs.Fullness.{fullness}
-use Rattle.clock27.specs.Peak.{IsPeak, Climbs, found, most_found}
+use Rattle.clock27.specs.Peak.{IsPeak, Climbs}
 use Rattle.clock27.proofs.Fullness.{fullness_le}
 use Rattle.clock27.proofs.Peak.{peak_law, arrivals_climb, departures_climb}
 use Rattle.clock27.proofs.Departures.{length-departures}
@@ -16,36 +13,8 @@ use Rattle.tstd.specs.declared.fullness.SystemFullness.{SystemFullness}
 use Rattle.tstd.specs.Measured.{IsSystemFullness}
 use Rattle.decoder_buffers.specs.Queues.{all_arrived, greatest_residence, bytes_within}
 use Rattle.decoder_buffers.proofs.RisingTimes.{climbs_low}
-use Rattle.decoder_buffers.proofs.QueueStates.{passed-longest}
+use Rattle.decoder_buffers.proofs.Residence.{most_residence, longest_arrived}
 use Rattle.decoder_buffers.proofs.ByteRows.{length-row}
-
--- a longer time is that of no fewer bytes
-within_more : (step a b : ℕ) → 0 < step → a ≤ b → bytes_within step a ≤ bytes_within step b
-within_more step a b pos le =
-    le-div (bytes_within step a) (b + (step - 1)) step pos (omega (arith, div-mul-le_self (a + (step - 1)) step, le))
-
-within_max : (step a b : ℕ) → 0 < step → bytes_within step (max a b) ≡ max (bytes_within step a) (bytes_within step b)
-within_max step a b pos = elim (cases_lt a b) [
-  | inl less ↦
-      let e : max a b ≡ b = omega (arith, less) in
-      rw e (omega (arith, within_more step a b pos (omega (arith, less))))
-  | inr more ↦
-      let e : max a b ≡ a = omega (arith, more) in
-      rw e (omega (arith, within_more step b a pos more))
-]
-
--- a byte's residence is that of the bytes that it finds and itself
-within_one : (step prev t : ℕ) → 0 < step → bytes_within step (max t prev + step - t) ≡ found step prev t
-within_one step prev t pos =
-    let e : (max t prev + step - t) + (step - 1) ≡ ((prev - t) + (step - 1)) + step = omega arith in
-    rw e (add-div_right ((prev - t) + (step - 1)) pos)
-
-pub most_residence : (step prev : ℕ) (ts : List ℕ) → 0 < step → bytes_within step (greatest_residence step prev ts) ≡ most_found step prev ts
-unfolding greatest_residence most_found
-most_residence step prev [] pos = div-eq_of_lt (omega (arith, pos))
-most_residence step prev (t ∷ ts) pos =
-    within_max step (max t prev + step - t) (greatest_residence step (max t prev + step) ts) pos
-    ∙ omega (arith, within_one step prev t pos, most_residence step (max t prev + step) ts pos)
 
 pub residence_peak : (step longest_residence : ℕ) (ts : List ℕ) → 0 < step → Climbs 0 ts → longest_residence ≡ greatest_residence step 0 ts →
     IsPeak (λ x. fullness x ts (departures step 0 ts)) (bytes_within step longest_residence)
@@ -54,15 +23,6 @@ residence_peak step longest_residence ts pos climbs is = rw (is, most_residence 
 -- no more bytes are there than have arrived
 pub peak_few : (most : ℕ) (ts ds : List ℕ) → IsPeak (λ x. fullness x ts ds) most → most ≤ length ts
 peak_few most ts ds peak = omega (arith, peak.reached, fullness_le peak.moment ts ds)
-
--- of bytes that have passed an empty buffer
-pub longest_arrived : (step : ℕ) (q : Queue) (ts : List ℕ) → q ≡ all_arrived (record { step = step; last = 0; longest_residence = 0 }) ts → q.longest_residence ≡ greatest_residence step 0 ts
-unfolding greatest_residence
-longest_arrived step q ts is =
-    let start : Queue = record { step = step; last = 0; longest_residence = 0 } in
-    let all = passed-longest start ts [] in
-    let none : ts ++ [] ≡ ts = append-nil ts in
-    rw is (omega (arith, rw none at all))
 
 pub length-arrivals : (r : ℕ) (slots : List ℕ) → length (arrivals r slots) ≡ 188 * length slots
 unfolding arrivals

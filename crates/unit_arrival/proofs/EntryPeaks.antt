@@ -13,7 +13,7 @@ use Rattle.unit_arrival.specs.Entry.{peak_ahead}
 use Rattle.decoder_buffers.proofs.RisingTimes.{climbs_following, greatest_same, greatest_ext}
 
 -- a whole moment lies before a stamp exactly where it lies before the first whole moment that does not
-gone_test : (x limit : ℕ) → nat_lt (x * 720000) limit ≡ nat_lt x ((limit + 719999) / 720000)
+pub gone_test : (x limit : ℕ) → nat_lt (x * 720000) limit ≡ nat_lt x ((limit + 719999) / 720000)
 gone_test x limit = elim (cases_lt x ((limit + 719999) / 720000)) [
   | inl before ↦ lt-ltb (x * 720000) limit (omega (arith, before)) ∙ sym (lt-ltb x ((limit + 719999) / 720000) before)
   | inr after ↦ le-ltb (x * 720000) limit (omega (arith, after)) ∙ sym (le-ltb x ((limit + 719999) / 720000) after)

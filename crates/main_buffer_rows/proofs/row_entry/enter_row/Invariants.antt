@@ -1,20 +1,20 @@
-use Rattle.std.proofs.Common.{◌≡◌, ℕ, ◌+◌, ◌-◌, ◌*◌, ◌≤◌, max, All}
-use Rattle.clock27.specs.Peak.{greatest_at}
-use Rattle.packet_arrival.specs.Rows.{times_of, times_in_row}
-use Rattle.decoder_buffers.specs.BufferState.{IsSound, fullness_at}
-use Rattle.main_buffer_rows.specs.RowEntry.{entered, fullness_with, peak_with}
+use Rattle.std.proofs.Common.{◌≡◌, ℕ, ◌+◌, ◌≤◌, All}
+use Rattle.packet_arrival.specs.Rows.{IsTimed, times_of}
+use Rattle.decoder_buffers.specs.BufferState.{IsSound}
+use Rattle.main_buffer_rows.specs.RowEntry.{fullness_with, peak_with}
 use Rattle.main_buffer_rows.proofs.row_entry.enter_row.Given as goal
 
-abbrev pub invariant-loop-j : goal.invariant-loop-j
-invariant-loop-j g l = record {
+abbrev pub invariant-loop-rest : goal.invariant-loop-rest
+invariant-loop-rest g l = record {
   sound : IsSound l.buffer;
+  timed : IsTimed l.rest;
   until : l.buffer.current.until ≡ l.fn.buffer.current.until;
-  fullness : l.buffer.fullness ≤ l.fn.buffer.fullness + l.j;
+  fullness : l.buffer.fullness + l.rest.bytes ≤ l.fn.buffer.fullness + l.row.bytes;
+  later : (x : ℕ) → All (λ t. t ≤ x) (times_of l.row) → All (λ t. t ≤ x) (times_of l.rest);
   there : (x : ℕ) → All (λ t. t ≤ x) (times_of l.row) →
-      fullness_at l.buffer x + entered l.fn.buffer.current.until x (times_in_row (l.row.from + l.j * l.row.pace) l.row.pace l.row.parts (l.row.bytes - l.j))
-      ≡ fullness_with l.fn.buffer (times_of l.row) x;
-  peak : max l.buffer.peak (greatest_at
-      (λ x. fullness_at l.buffer x + entered l.fn.buffer.current.until x (times_in_row (l.row.from + l.j * l.row.pace) l.row.pace l.row.parts (l.row.bytes - l.j)))
-      (times_in_row (l.row.from + l.j * l.row.pace) l.row.pace l.row.parts (l.row.bytes - l.j)))
-      ≡ peak_with l.fn.buffer (times_of l.row);
+      fullness_with l.buffer (times_of l.rest) x ≡ fullness_with l.fn.buffer (times_of l.row) x;
+  peak : peak_with l.buffer (times_of l.rest) ≡ peak_with l.fn.buffer (times_of l.row);
 }
+
+abbrev pub decreases-loop-rest : goal.decreases-loop-rest
+decreases-loop-rest g l = l.rest.bytes

@@ -1,0 +1,36 @@
+//! Bytes that enter a main buffer as they leave the transport buffer before it.
+ghost use Rattle.std.specs.Prelude.{◌≡◌, ℕ, ◌+◌, ◌≤◌, ◌<◌, ◌^◌, max, All, List};
+ghost use Rattle.clock27.specs.Peak.{Climbs, greatest_at};
+ghost use Rattle.packet_arrival.specs.Rows.{IsTimed};
+ghost use Rattle.transport_buffer.specs.Buffers.{times_left};
+ghost use Rattle.decoder_buffers.specs.BufferState.{IsSound, fullness_at};
+ghost use Rattle.main_buffer_rows.specs.RowEntry.{fullness_with};
+
+use crate::row_entry::enter_row;
+use decoder_buffers::MainBuffer;
+use std::alloc::Allocator;
+use transport_buffer::Leaving;
+
+/// The bytes of the unit under way that leave the transport buffer enter the main buffer: the most bytes that were there when
+/// one of them entered.
+pub fn enter_leaving<A: Allocator>(buffer: &mut MainBuffer<A>, leaving: &Leaving) -> u64
+    requires sound { IsSound buffer.old }
+    requires timed { IsTimed leaving.now.waiting × IsTimed leaving.now.free }
+    requires climbing { Climbs 0 (times_left leaving.now) }
+    requires room { buffer.old.fullness + (leaving.now.waiting.bytes + leaving.now.free.bytes) < 2 ^ 64 }
+    ensures sound { IsSound buffer.new }
+    ensures there { (x : ℕ) → All (λ t. t ≤ x) (times_left leaving.now) →
+        fullness_at buffer.new x ≡ fullness_with buffer.old (times_left leaving.now) x }
+    ensures most { result ≡ greatest_at (fullness_with buffer.old (times_left leaving.now)) (times_left leaving.now) }
+    ensures peak { buffer.new.peak ≡ max buffer.old.peak result }
+    ensures until { buffer.new.current.until ≡ buffer.old.current.until }
+    ensures fullness { buffer.new.fullness ≤ buffer.old.fullness + (leaving.now.waiting.bytes + leaving.now.free.bytes) }
+{
+    let before = buffer.peak;
+    buffer.peak = 0;
+    enter_row(buffer, &leaving.waiting);
+    enter_row(buffer, &leaving.free);
+    let most = buffer.peak;
+    buffer.peak = before.max(most);
+    most
+}

@@ -1,0 +1,7 @@
+pub mod Views
+pub mod UnitBytes
+pub mod ConstantRates
+pub mod AllMoments
+mod Examples
+pub mod TableRows
+pub mod TablePeaks

@@ -1,0 +1,34 @@
+-- The figures of a view of a program's tables are those over all moments.
+use Rattle.std.proofs.Common.{◌≡◌, ◌∙◌, ℕ, ◌*◌, ◌<◌, List, ap, arith}
+use Rattle.clock27.specs.Departure.{departures}
+use Rattle.clock27.specs.Fullness.{fullness}
+use Rattle.clock27.specs.Peak.{IsPeak, most_found}
+use Rattle.clock27.proofs.Peak.{departures_climb}
+use Rattle.transport_buffer.specs.Laws.{Rises}
+use Rattle.transport_buffer.proofs.Levels.{most_law}
+use Rattle.decoder_buffers.specs.declared.queue.Queue.{Queue}
+use Rattle.decoder_buffers.specs.Queues.{all_arrived, bytes_within}
+use Rattle.decoder_buffers.proofs.QueueStates.{passed-step}
+use Rattle.decoder_buffers.proofs.RisingTimes.{climbs_low}
+use Rattle.decoder_buffers.proofs.Residence.{most_residence, longest_arrived}
+use Rattle.main_buffer_rows.proofs.Leaving.{climbs_rises}
+use Rattle.stream_view.specs.Laws.{TablesLaw}
+use Rattle.stream_view.specs.SystemViewed.{empty_queue}
+
+-- bytes that have passed an empty buffer
+passed_peak : (step : ℕ) (q : Queue) (ts : List ℕ) → 0 < step → Rises 0 ts → q ≡ all_arrived (empty_queue step) ts →
+    IsPeak (λ x. fullness x ts (departures step 0 ts)) (bytes_within q.step q.longest_residence)
+passed_peak step q ts some rises is =
+    let steps : q.step ≡ step = ap (λ (b : Queue). b.step) is ∙ passed-step (empty_queue step) ts in
+    let longest = longest_arrived step q ts is in
+    let peak = most_law step ts some rises in
+    let most : bytes_within q.step q.longest_residence ≡ most_found step 0 ts = rw (steps, longest) (most_residence step 0 ts some) in
+    record { never_more = λ x. omega (arith, peak.never_more x, most); moment = peak.moment; reached = omega (arith, peak.reached, most) }
+
+pub tables_law : TablesLaw
+tables_law view step times some rises v =
+    let first : 0 < 2 * step = omega (arith, some) in
+    let second : 0 < 25 * step = omega (arith, some) in
+    let ds = departures (2 * step) 0 times in
+    let leave = climbs_rises 0 ds (climbs_low 0 1 ds (omega arith) (departures_climb (2 * step) 0 times first)) in
+    (passed_peak (2 * step) view.transport times first rises v.transport, passed_peak (25 * step) view.system ds second leave v.system)

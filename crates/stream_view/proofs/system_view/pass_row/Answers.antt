@@ -1,0 +1,35 @@
+use Rattle.std.proofs.Common.{◌≡◌, ◌∙◌, ◌+◌, ◌*◌, ◌/◌, ◌≤◌, max, arith}
+use Rattle.packet_arrival.specs.declared.row.Row.{Row}
+use Rattle.stream_view.proofs.TableRows.{next_first, next_second, end_first, end_second}
+use Rattle.stream_view.proofs.system_view.pass_row.Goals as goal
+
+pub loop-j-preserved : goal.loop-j-preserved
+loop-j-preserved c =
+    let inv = c.loop-j.invariant in
+    let row : Row = c.args.row.now in
+    let j = c.loop-j.j in
+    let time : c.time.result ≡ (row.from + j * row.pace) / row.parts = c.time.ensures.time in
+    let early = c.time.ensures.bound in
+    let short : c.loop-j.transport.step ≤ 8589934592 = rw inv.step c.requires.step in
+    let short' : c.loop-j.system.step ≤ 8589934592 = rw inv.system_step c.requires.system_step in
+    let left : c.arrive-left.result ≡ max c.time.result c.loop-j.transport.last + c.loop-j.transport.step = c.arrive-left.ensures.left in
+    rw (c.arrive-left.ensures.state, c.arrive.ensures.state, left) (record {
+      step = inv.step;
+      system_step = inv.system_step;
+      last = omega (arith, early, short, inv.last);
+      left = omega (arith, early, short, short', inv.last, inv.left);
+      longest_residence = omega (arith, inv.longest_residence);
+      inner = omega (arith, inv.inner);
+      transport = rw time (next_first c.loop-j.transport row.from row.pace row.parts row.bytes j c.loop-j-test.true) ∙ inv.transport;
+      system = rw time (next_second c.loop-j.transport c.loop-j.system row.from row.pace row.parts row.bytes j c.loop-j-test.true) ∙ inv.system;
+    })
+
+pub returns-clause-transport : goal.returns-clause-transport
+returns-clause-transport c =
+    let row : Row = c.args.row.now in
+    end_first c.loop-j.transport row.from row.pace row.parts row.bytes c.loop-j.j c.loop-j-test.false ∙ c.loop-j.invariant.transport
+
+pub returns-clause-system : goal.returns-clause-system
+returns-clause-system c =
+    let row : Row = c.args.row.now in
+    end_second c.loop-j.transport c.loop-j.system row.from row.pace row.parts row.bytes c.loop-j.j c.loop-j-test.false ∙ c.loop-j.invariant.system

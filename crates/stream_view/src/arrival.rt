@@ -1,0 +1,52 @@
+//! Bytes that arrive at the transport buffer.
+ghost use Rattle.std.specs.Prelude.{◌≡◌, ◌+◌, ◌<◌, ◌≤◌, ◌^◌};
+ghost use Rattle.std.specs.Option.{option_to_list};
+ghost use Rattle.clock27.specs.Departure.{departures};
+ghost use Rattle.clock27.specs.Peak.{most_found};
+ghost use Rattle.packet_arrival.specs.Rows.{IsTimed, IsEarly, times_of};
+ghost use Rattle.transport_buffer.specs.Buffers.{IsPaced, entered, times_left};
+ghost use Rattle.transport_buffer.specs.Excesses.{excess_after, excesses_ended};
+
+use packet_arrival::Row;
+use transport_buffer::{Excess, ExcessWatch, Leaving, TransportBuffer};
+
+/// What bytes find that arrive, and how they leave.
+#[derive(Clone, Copy)]
+pub(crate) struct Arrived {
+    pub most: u128,
+    pub ended: Option<Excess>,
+    pub leaving: Leaving,
+}
+
+/// The bytes of a row arrive.
+pub(crate) fn arrive(transport: &mut TransportBuffer, watch: &mut ExcessWatch, row: &Row) -> Arrived
+    requires paced { IsPaced transport.old }
+    requires timed { IsTimed row.now }
+    requires early { IsEarly row.now }
+    requires some { 0 < row.now.bytes }
+    requires count { transport.old.bytes + row.now.bytes ≤ 2 ^ 40 }
+    requires size { 0 < watch.old.size }
+    requires bound { watch.old.size ≤ 2 ^ 40 }
+    ensures buffer { transport.new ≡ entered transport.old (times_of row.now) }
+    ensures paced { IsPaced transport.new }
+    ensures most { result.most ≡ most_found transport.old.step transport.old.last (times_of row.now) }
+    ensures ended { option_to_list result.ended
+        ≡ excesses_ended transport.old.step watch.old.size transport.old.last watch.old.under_way (times_of row.now) }
+    ensures under_way { watch.new.under_way
+        ≡ excess_after transport.old.step watch.old.size transport.old.last watch.old.under_way (times_of row.now) }
+    ensures size { watch.new.size ≡ watch.old.size }
+    ensures left { times_left result.leaving ≡ departures transport.old.step transport.old.last (times_of row.now) }
+    ensures timed { IsTimed result.leaving.waiting × IsTimed result.leaving.free }
+{
+    let ended = watch.enter(transport, row);
+    let before = transport.most;
+    transport.most = 0;
+    let leaving = transport.enter(row);
+    let most = transport.most;
+    transport.most = before.max(most);
+    Arrived {
+        most,
+        ended,
+        leaving,
+    }
+}

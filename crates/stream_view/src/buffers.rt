@@ -1,0 +1,29 @@
+//! The two buffers of a stream.
+ghost use Rattle.std.specs.Prelude.{◌<◌, ◌≤◌, ◌^◌};
+ghost use Rattle.std.specs.Option.{ForSome};
+ghost use Rattle.transport_buffer.specs.Buffers.{IsPaced};
+ghost use Rattle.decoder_buffers.specs.BufferState.{IsSound};
+
+use crate::unit_seen::UnitSeen;
+use decoder_buffers::MainBuffer;
+use std::alloc::Allocator;
+use transport_buffer::{ExcessWatch, TransportBuffer};
+
+/// The buffers of one elementary stream, and what they have held so far.
+#[derive(Drop)]
+pub struct StreamView<A: Allocator> {
+    /// The transport buffer; `most` is the greatest number of bytes that it has held over all moments.
+    pub transport: TransportBuffer,
+    /// Its size, and the excess that is under way.
+    pub watch: ExcessWatch,
+    /// The main buffer; `peak` is the greatest number of bytes that it has held over all moments.
+    pub main: MainBuffer<A>,
+    /// The unit under way.
+    pub unit: Option<UnitSeen>,
+    pub ghost paced: { IsPaced transport },
+    pub ghost some: { 0 < watch.size },
+    pub ghost bound: { watch.size ≤ 2 ^ 40 },
+    pub ghost sound: { IsSound main },
+    pub ghost fewer: { main.fullness ≤ transport.bytes },
+    pub ghost counted: { ForSome unit (λ u. u.bytes ≤ transport.bytes) },
+}

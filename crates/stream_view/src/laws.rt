@@ -1,0 +1,21 @@
+//! Laws of a view. Each is a function that does nothing: its contract is the law, over the definitions of `specs/` alone, and a
+//! caller may cite it.
+ghost use Rattle.stream_view.specs.ConstantRate.{ConstantRateLaw, InTimeLaw};
+ghost use Rattle.stream_view.specs.Laws.{FiguresLaw, TablesLaw};
+
+/// The figures of a view are the greatest fullness of both buffers over all moments.
+pub fn figures()
+    ensures { FiguresLaw }
+{}
+
+/// So are those of a view of a program's tables.
+pub fn tables()
+    ensures { TablesLaw }
+{}
+
+/// Of a stream at a constant rate those of a view of a stream are those of the model of finished bytes, and a unit's deadline is
+/// its stamp.
+pub fn constant_rate()
+    ensures figures { ConstantRateLaw }
+    ensures in_time { InTimeLaw }
+{}

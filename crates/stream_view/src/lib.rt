@@ -1,0 +1,31 @@
+//! What the transport buffer and the main buffer of one elementary stream hold, of any stream (ISO/IEC 13818-1, 2.4.2.3).
+//!
+//! - [`StreamView`]: both buffers, filled row by row as the bytes of the stream's packets arrive; the most that each holds,
+//!   each excess, and each unit with the time at which it has left the transport buffer.
+//! - [`DueTime`], [`UnitSeen`]: when a unit is due, and when it came.
+//! - [`RowSeen`]: what the bytes of one row found.
+//! - [`MainWatch`]: excesses of the main buffer, row by row.
+//! - [`SystemView`]: the two buffers of a program's tables.
+//! - [`laws`]: what the figures are over all moments, and that at a constant rate they are those of the model of finished bytes.
+//!
+//! It knows no packets and no clock: the rows of `packet_arrival` say when bytes arrive, at a constant rate or by clock
+//! references. All bytes of a stream's packets enter the transport buffer, and the bytes of their payloads the main buffer
+//! after it, PES headers too.
+#![tactic(auto)]
+
+mod arrival;
+mod buffers;
+pub mod laws;
+mod main_watch;
+mod row_seen;
+mod system_buffers;
+mod system_view;
+mod unit_seen;
+mod view;
+
+pub use buffers::StreamView;
+pub use main_watch::MainWatch;
+pub use row_seen::RowSeen;
+pub use system_buffers::SystemView;
+pub use unit_seen::{DueTime, UnitSeen};
+pub use view::{BeginError, MOST_WAITING};

@@ -1,0 +1,152 @@
+//! What comes of a stream, and what its buffers do with it.
+ghost use Rattle.std.specs.Prelude.{◌≡◌, ℕ, ◌+◌, ◌<◌, ◌≤◌, ◌^◌, [], ◌∷◌, List, None, length, IfOk, OnOk, OnErr, IfSome};
+ghost use Rattle.std.specs.Option.{option_to_list};
+ghost use Rattle.clock27.specs.Departure.{departures};
+ghost use Rattle.clock27.specs.Peak.{greatest_at, most_found};
+ghost use Rattle.packet_arrival.specs.Rows.{IsTimed, IsEarly, times_of};
+ghost use Rattle.transport_buffer.specs.Buffers.{entered};
+ghost use Rattle.transport_buffer.specs.Excesses.{excesses_ended};
+ghost use Rattle.main_buffer_rows.specs.RowEntry.{fullness_with};
+ghost use Rattle.stream_view.specs.History.{Part, with_bytes};
+ghost use Rattle.stream_view.specs.History.Part.{Passes, Carries, Begins};
+ghost use Rattle.stream_view.specs.Refusal.{Answers};
+ghost use Rattle.stream_view.specs.Viewed.{IsViewOf};
+
+use crate::arrival::arrive;
+use crate::buffers::StreamView;
+use crate::row_seen::RowSeen;
+use crate::unit_seen::{DueTime, UnitSeen};
+use decoder_buffers::MainBuffer;
+use main_buffer_rows::enter_leaving;
+use packet_arrival::Row;
+use std::alloc::Allocator;
+use thiserror::Error;
+use transport_buffer::{ExcessWatch, TransportBuffer};
+
+/// The most units whose bytes may wait in a main buffer together.
+pub const MOST_WAITING: usize = 4096;
+
+/// Why a unit can't begin.
+#[derive(Clone, Copy, Debug, PartialEq, Eq, Error)]
+pub enum BeginError {
+    /// Out of memory.
+    #[error("out of memory")]
+    Memory,
+    /// As many units as a view may hold wait in the main buffer.
+    #[error("too many units wait in the main buffer")]
+    TooManyWaiting,
+}
+
+// A unit with more bytes, the last of which leaves then.
+fn with_bytes(unit: Option<UnitSeen>, count: u64, left: u128) -> Option<UnitSeen>
+    requires { IfSome unit (λ u. u.bytes + count < 2 ^ 64) }
+    ensures { result ≡ with_bytes unit count left }
+{
+    match unit {
+        None => None,
+        Some(unit) => Some(UnitSeen {
+            due: unit.due,
+            bytes: unit.bytes + count,
+            left,
+        }),
+    }
+}
+
+impl<A: Allocator> StreamView<A> {
+    /// Empty buffers: a byte takes `step` to leave the transport buffer, which is to hold `size` bytes at most.
+    pub fn new(alloc: A, step: u64, size: u64) -> StreamView<A>
+        requires some { 0 < step }
+        requires slow { step ≤ 2 ^ 28 }
+        requires size { 0 < size }
+        requires bound { size ≤ 2 ^ 40 }
+        ensures view { IsViewOf result [] }
+        ensures step { result.transport.step ≡ step }
+        ensures size { result.watch.size ≡ size }
+    {
+        StreamView {
+            transport: TransportBuffer::new(step),
+            watch: ExcessWatch::new(size),
+            main: MainBuffer::new(alloc),
+            unit: None,
+        }
+    }
+
+    /// Bytes arrive that go no further than the transport buffer: headers of packets, adaptation fields, and payload of no unit.
+    pub fn pass(&mut self, row: &Row) -> RowSeen
+        requires timed { IsTimed row.now }
+        requires early { IsEarly row.now }
+        requires some { 0 < row.now.bytes }
+        requires count { self.old.transport.bytes + row.now.bytes ≤ 2 ^ 40 }
+        ensures view { (parts : List Part) → IsViewOf self.old parts → IsViewOf self.new (Passes (times_of row.now) ∷ parts) }
+        ensures buffer { self.new.transport ≡ entered self.old.transport (times_of row.now) }
+        ensures transport { result.transport
+            ≡ most_found self.old.transport.step self.old.transport.last (times_of row.now) }
+        ensures ended { option_to_list result.ended
+            ≡ excesses_ended self.old.transport.step self.old.watch.size self.old.transport.last self.old.watch.under_way (times_of row.now) }
+        ensures main { result.main ≡ 0 }
+        ensures last { result.last ≡ self.new.transport.last }
+        ensures size { self.new.watch.size ≡ self.old.watch.size }
+        ensures unit { self.new.unit ≡ self.old.unit }
+    {
+        let arrived = arrive(&mut self.transport, &mut self.watch, row);
+        RowSeen {
+            transport: arrived.most,
+            ended: arrived.ended,
+            main: 0,
+            last: self.transport.last,
+        }
+    }
+
+    /// Payload bytes of the unit under way arrive, its PES header's too. They enter the main buffer as they leave the transport
+    /// buffer, and stay there until the unit is due; before the first unit none enters.
+    pub fn carry(&mut self, row: &Row) -> RowSeen
+        requires timed { IsTimed row.now }
+        requires early { IsEarly row.now }
+        requires some { 0 < row.now.bytes }
+        requires count { self.old.transport.bytes + row.now.bytes ≤ 2 ^ 40 }
+        ensures view { (parts : List Part) → IsViewOf self.old parts → IsViewOf self.new (Carries (times_of row.now) ∷ parts) }
+        ensures buffer { self.new.transport ≡ entered self.old.transport (times_of row.now) }
+        ensures transport { result.transport
+            ≡ most_found self.old.transport.step self.old.transport.last (times_of row.now) }
+        ensures ended { option_to_list result.ended
+            ≡ excesses_ended self.old.transport.step self.old.watch.size self.old.transport.last self.old.watch.under_way (times_of row.now) }
+        ensures main { let left : List ℕ = departures self.old.transport.step self.old.transport.last (times_of row.now) in
+            result.main ≡ greatest_at (fullness_with self.old.main left) left }
+        ensures last { result.last ≡ self.new.transport.last }
+        ensures size { self.new.watch.size ≡ self.old.watch.size }
+        ensures unit { self.new.unit ≡ with_bytes self.old.unit row.now.bytes self.new.transport.last }
+    {
+        let arrived = arrive(&mut self.transport, &mut self.watch, row);
+        let main = enter_leaving(&mut self.main, &arrived.leaving);
+        self.unit = with_bytes(self.unit, row.bytes, self.transport.last);
+        RowSeen {
+            transport: arrived.most,
+            ended: arrived.ended,
+            main,
+            last: self.transport.last,
+        }
+    }
+
+    /// A unit begins with the next payload byte: the unit before it, which has come whole. It is refused where as many units as
+    /// a view may hold wait in the main buffer, or memory is wanting; then the one under way goes on.
+    pub fn begin(&mut self, due: DueTime) -> Result<Option<UnitSeen>, BeginError>
+        ensures view { OnOk result ((parts : List Part) → IsViewOf self.old parts → IsViewOf self.new (Begins due ∷ parts)) }
+        ensures before { IfOk result (λ unit. unit ≡ self.old.unit) }
+        ensures refused { Answers result (length self.old.main.earlier.items) }
+        ensures err { OnErr result ((parts : List Part) → IsViewOf self.old parts → IsViewOf self.new parts) }
+    {
+        if self.main.earlier.len() >= MOST_WAITING {
+            return Err(BeginError::TooManyWaiting);
+        }
+        let Ok(()) = self.main.begin(due.until) else {
+            return Err(BeginError::Memory);
+        };
+        let before = self.unit;
+        self.unit = Some(UnitSeen {
+            due,
+            bytes: 0,
+            left: 0,
+        });
+        Ok(before)
+    }
+}
