@@ -59,8 +59,8 @@ class Pid(syntax.Pid):
 
 
 def in_step(data):
-    """The bytes of a stream without those of its slips, and a line for each slip and each PID with random_access_indicator: where a packet's sync byte does not stand 188 bytes
-    after the one before, and three that do so begin within four packets, in another step."""
+    """The bytes of a stream without those of its slips, and a line for each slip: where a packet's sync byte does not stand 188 bytes after
+    the one before, and three that do so begin within four packets, in another step. And of each PID the fields that are not written again."""
     sync = lambda at: data[at: at + 1] == b"\x47"
     row = lambda at: sync(at) and sync(at + 188) and sync(at + 376)
     kept, at, lines = [], 0, []
@@ -72,8 +72,36 @@ def in_step(data):
         else:
             lines.append(f"packet {len(kept)} slip of {size} bytes")
         at += size or 188
-    marked = [(p[1] & 31) << 8 | p[2] for p in kept if p[3] & 0x20 and p[4] and p[5] & 0x40]
-    return b"".join(kept) + data[at:], lines + [f"pid {pid} random access indicators left out" for pid in dict.fromkeys(marked)]
+    fields = dict.fromkeys(((p[1] & 31) << 8 | p[2], field) for p in kept for field in fields_of(p))
+    return b"".join(kept) + data[at:], lines, list(fields)
+
+
+RANDOM_ACCESS = "random access indicators left out"
+ADAPTATION = "splice countdown, private data or extension of adaptation fields left out"
+ALIGNMENT = "data alignment indicators left out"
+FLAGS = "priority, copyright or original flags of PES headers left out"
+SCRAMBLED = "scrambled in PES packets: taken as it is"
+LONG = "PES headers of 45 bytes: written without stuffing"
+PRIVATE = "private data of PES headers left out"
+OTHER = "other data of PES headers left out"
+UNREAD = "PES header goes on in another packet: not read"
+
+
+def fields_of(p):
+    """The fields of a packet and of a PES header at its front that are not written again."""
+    flags = p[5] if p[3] & 0x20 and p[4] else 0
+    told = [RANDOM_ACCESS] * bool(flags & 0x40) + [ADAPTATION] * bool(flags & 7)
+    body = p[5 + p[4] if p[3] & 0x20 else 4:] if p[1] >> 6 == 1 and p[3] >> 6 == 0 and p[3] & 0x10 else b""
+    if len(body) < 9:
+        return told + [UNREAD] * bool(body)
+    if body[:3] != b"\0\0\1" or body[3] in FLAGLESS:
+        return told
+    first, second, size = body[6:9]
+    more = 9 + sum(n for bit, n in ((7, 5), (6, 5), (5, 6), (4, 3), (3, 1), (2, 1), (1, 2)) if second >> bit & 1)
+    extension = body[more] if second & 1 and more < min(9 + size, len(body)) else 0
+    stand = ((ALIGNMENT, first & 4), (FLAGS, first & 0x0B), (SCRAMBLED, first & 0x30), (LONG, body[3] == 0xBD and size == 36), (PRIVATE, extension & 0x80),
+             (OTHER, second & 0x3E or extension & 0x71), (UNREAD, len(body) < 9 + size))
+    return told + [name for name, there in stand if there]
 
 
 def other_packets(data):
@@ -90,7 +118,7 @@ class Stream:
     """The findings of a stream by PID, and its packets that can't be told a PID."""
 
     def __init__(self, data):
-        data, slips = in_step(data)
+        data, slips, self.fields = in_step(data)
         self.count, self.pids, self.lines, self.bad = len(data) // 188, {}, slips, 0
         for packet in range(self.count):
             fields = syntax.read_packet(data[188 * packet: 188 * packet + 188])

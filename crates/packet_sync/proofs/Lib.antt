@@ -1,4 +1,4 @@
-pub mod Marks
+pub mod FieldSteps
 pub mod SlipSteps
 pub mod WholeStreams
 pub mod Stretches

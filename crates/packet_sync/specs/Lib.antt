@@ -1,5 +1,6 @@
+pub mod Fields
+pub mod FieldsLeftOut
 pub mod Laws
 pub mod OtherPackets
-pub mod RandomAccess
 pub mod Slips
 pub mod Stretches

@@ -14,24 +14,24 @@ use Rattle.stream_jobs.specs.JobStreams.{TimedStreamView}
 none : TimedStreamView
 none = record { program = 0; pid = 0; stream_type = 0; stream_id = 0; descriptors = []; units = [] }
 
-stream_of : (made : Bool) (findings : List FindingView) (d : Described) (streams : List TimedStreamView) (units : List (ℕ × AccessUnit)) →
-    All (IsMoved made findings) streams → All FitsQueue streams → AllAgree d streams → AreMerged (map (λ t. t.units) streams) units →
+stream_of : (made : Bool) (findings : List FindingView) (d : Described) (base : ℕ) (streams : List TimedStreamView) (units : List (ℕ × AccessUnit)) →
+    All (IsMoved made findings) streams → All FitsQueue streams → AllAgree d base streams → AreMerged (map (λ t. t.units) streams) units →
     (k : ℕ) (s : DescribedStream) → slice_get d.streams k ≡ Some s → IsStream made findings d s (units_of k units)
-stream_of made findings d streams units moved fits agree merged k s at =
+stream_of made findings d base streams units moved fits agree merged k s at =
     let lt : k < length streams = omega (arith, slice_get_within d.streams k s at, agree.same) in
     let t = get_or streams k none in
     let here : slice_get streams k ≡ Some t = slice_get-get_or streams k none lt in
     let same : units_of k units ≡ t.units = merged.each k t.units (slice_get-map (λ t. t.units) streams k ∙ ap (option_map (λ t. t.units)) here) in
     let one = agree.each k s t at here in
     record {
-      found = rw (same, one.pid) (moved k none lt);
+      found = rw (same, one.entry.pid) (moved k none lt);
       declares = rw same one.declares;
       fits = rw same (fits k none lt);
     }
 
-pub job_units : (made : Bool) (findings : List FindingView) (d : Described) (streams : List TimedStreamView) (units : List (ℕ × AccessUnit)) →
-    All (IsMoved made findings) streams → All FitsQueue streams → AllAgree d streams → AreMerged (map (λ t. t.units) streams) units → AreUnits made findings d units
-job_units made findings d streams units moved fits agree merged = record {
-  streams = stream_of made findings d streams units moved fits agree merged;
+pub job_units : (made : Bool) (findings : List FindingView) (d : Described) (base : ℕ) (streams : List TimedStreamView) (units : List (ℕ × AccessUnit)) →
+    All (IsMoved made findings) streams → All FitsQueue streams → AllAgree d base streams → AreMerged (map (λ t. t.units) streams) units → AreUnits made findings d units
+job_units made findings d base streams units moved fits agree merged = record {
+  streams = stream_of made findings d base streams units moved fits agree merged;
   numbered = subst (λ n. All (λ e. e.0 < n) units) (length-map streams (λ t. t.units) ∙ agree.same) merged.numbered;
 }

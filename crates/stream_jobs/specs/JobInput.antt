@@ -1,5 +1,6 @@
 -- What a job is made of: the programs and streams of a transport stream, and what is declared of their units.
-use Rattle.std.specs.Prelude.{ℕ, ◌==◌, if◌then◌else◌, List, [], ◌∷◌, ◌++◌, length, map, filter, flat_map, ok_or, Option, Some, None, Result, Ok}
+use Rattle.std.specs.Prelude.{ℕ, ◌==◌, Bool, if◌then◌else◌, List, [], ◌∷◌, ◌++◌, length, map, filter, flat_map, ok_or, Option, Some, None, Result, Ok}
+use Rattle.std.specs.List.{list_any}
 use Rattle.std.specs.Option.{option_or}
 use Rattle.psi_tables.specs.declared.pat.programs.Program.{Program}
 use Rattle.demux.specs.Views.{FindingView}
@@ -8,6 +9,7 @@ use Rattle.stream_choice.specs.declared.choice.Choice.{Choice}
 use Rattle.stream_programs.specs.Association.{AssociationView, association}
 use Rattle.stream_programs.specs.PidAssignment.{assigned_pids}
 use Rattle.stream_programs.specs.Programs.{FoundProgramsView, programs_of}
+use Rattle.stream_programs.specs.declared.program_map.MapPart.TheVariants.{NamedStreams, Descriptors}
 use Rattle.stream_programs.specs.declared.pid_assignment.ProgramPids.{ProgramPids}
 use Rattle.stream_jobs.specs.declared.refusal.JobRefusal.{JobRefusal}
 use Rattle.stream_jobs.specs.declared.refusal.JobRefusal.TheVariants as refusals
@@ -34,12 +36,17 @@ pub record JobInputView : Type 0 where
   pub choices : List Choice
   pub warnings : List Warning
 
+-- a stream of this PID is carried
+abbrev pub has_stream : JobInputView → ℕ → Bool
+has_stream m pid = list_any (λ s. s.pid == pid) m.streams
+
 -- 1. Warnings
 
 -- about packets, and tables that change
 unfoldable pub change_warnings : AssociationView → List Program → List FindingView → List Warning
 change_warnings a named findings =
-    (packet_warnings findings ++ association_warnings a findings) ++ all_map_warnings findings named
+    ((packet_warnings findings ++ association_warnings a findings) ++ all_map_warnings NamedStreams findings named)
+    ++ all_map_warnings Descriptors findings named
 
 -- and about what is left out of the tables, PES packets of no program, and what options name and is not there
 unfoldable pub table_warnings : JobOptionsView → AssociationView → List Program → List FindingView → FoundProgramsView → List Warning

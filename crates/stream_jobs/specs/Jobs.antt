@@ -1,5 +1,6 @@
 -- What a job is of what a demultiplexer finds.
 use Rattle.std.specs.Prelude.{◌≡◌, ◌≤◌, ◌<◌, ⊤, ℕ, nat_le, ◌==◌, ◌&&◌, Bool, true, if◌then◌else◌, List, [], ◌∷◌, length, map, slice_get, Option, Some, None, All}
+use Rattle.std.specs.Str.{bytes_eq}
 use Rattle.pes_packet.specs.AccessUnits.{AccessUnit}
 use Rattle.pes_packet.specs.Units.{units_of}
 use Rattle.demux.specs.Views.{FindingView}
@@ -39,9 +40,26 @@ pub record AreStreams (made : Bool) (findings : List FindingView) (input : JobIn
 
 -- 2. What a description declares of them
 
--- a stream of a description has these units, and what it declares of them is what they need
-pub record Agrees (d : Described) (s : DescribedStream) (t : TimedStreamView) : Type 0 where
+-- a stream of a description is this one, as its PES packets and its entry in the program map say
+pub record IsEntry (s : DescribedStream) (t : TimedStreamView) : Type 0 where
+  pub program : s.program ≡ t.program
   pub pid : s.pid ≡ t.pid
+  pub stream_id : s.stream_id ≡ t.stream_id
+  pub stream_type : s.stream_type ≡ t.stream_type
+  pub descriptors : s.descriptors ≡ t.descriptors
+
+-- the same as a test
+unfoldable pub is_entry : DescribedStream → TimedStreamView → Bool
+is_entry s t =
+    s.program == t.program
+    && (s.pid == t.pid
+    && (s.stream_id == t.stream_id
+    && (s.stream_type == t.stream_type
+    && bytes_eq s.descriptors t.descriptors)))
+
+-- and what it declares of its units is what they need
+pub record Agrees (d : Described) (s : DescribedStream) (t : TimedStreamView) : Type 0 where
+  pub entry : IsEntry s t
   pub declares : Declares d s t.units
 
 -- streams and units, one after another
@@ -49,7 +67,9 @@ unfoldable pub AgreeInTurn : Described → List DescribedStream → List TimedSt
 AgreeInTurn d (s ∷ ss) (t ∷ ts) = Agrees d s t × AgreeInTurn d ss ts
 AgreeInTurn d _ _ = ⊤
 
-pub record AllAgree (d : Described) (streams : List TimedStreamView) : Type 0 where
+-- and at moment 0 the clock shows `base`
+pub record AllAgree (d : Described) (base : ℕ) (streams : List TimedStreamView) : Type 0 where
+  pub base_is : d.base0 ≡ base
   pub same : length streams ≡ length d.streams
   pub each : (k : ℕ) (s : DescribedStream) (t : TimedStreamView) → slice_get d.streams k ≡ Some s → slice_get streams k ≡ Some t → Agrees d s t
 
@@ -70,13 +90,13 @@ keeps d s us =
     && (first_due s.lead us
     && allows_units s.allowance s.stream_id d.base0 us))
 
--- the PID of the first stream that is not the declared one in its place, and 0 if there are not as many
+-- the PID of the first stream that is not the declared one in its place, and 0 if there are not as many or the clock is another
 unfoldable pub first_disagreeing : Described → List DescribedStream → List TimedStreamView → Option ℕ
-first_disagreeing d (s ∷ ss) (t ∷ ts) = if s.pid == t.pid && keeps d s t.units then first_disagreeing d ss ts else Some t.pid
+first_disagreeing d (s ∷ ss) (t ∷ ts) = if is_entry s t && keeps d s t.units then first_disagreeing d ss ts else Some t.pid
 first_disagreeing d _ _ = None
 
-unfoldable pub disagreeing : Described → List TimedStreamView → Option ℕ
-disagreeing d streams = if length d.streams == length streams then first_disagreeing d d.streams streams else Some 0
+unfoldable pub disagreeing : Described → ℕ → List TimedStreamView → Option ℕ
+disagreeing d base streams = if d.base0 == base && length d.streams == length streams then first_disagreeing d d.streams streams else Some 0
 
 -- 3. Units
 

@@ -6,6 +6,8 @@ use Rattle.demux.specs.Views.{WhatView, IsTruncated, IsBadPacket, IsErrored, Fin
 use Rattle.stream_programs.specs.Association.{AssociationView, association_change, is_named}
 use Rattle.stream_programs.specs.Omissions.{is_loss}
 use Rattle.stream_programs.specs.ProgramMaps.{map_change}
+use Rattle.stream_programs.specs.declared.program_map.MapPart.{MapPart}
+use Rattle.stream_programs.specs.declared.program_map.MapPart.TheVariants.{NamedStreams, Descriptors}
 use Rattle.stream_programs.specs.Programs.{programs_of}
 use Rattle.stream_programs.specs.StrayPids.{mapped_pids, pes_count, stray_pids}
 use Rattle.stream_programs.specs.Streams.{FoundStreamView}
@@ -13,7 +15,7 @@ use Rattle.stream_units.specs.UnitWarnings.{unit_warnings}
 use Rattle.stream_units.specs.Damage as units
 use Rattle.stream_jobs.specs.declared.job_options.PidBuffers.{PidBuffers}
 use Rattle.stream_jobs.specs.declared.warning.Warning.{Warning}
-use Rattle.stream_jobs.specs.declared.warning.Warning.TheVariants.{BadPacket, Errored, TrailingBytes, AssociationChanges, MapChanges, Table, StrayPes, NoSuchProgram, NoSuchStream, Units, NoUnit, StreamId, NoStream, UnreadText, MapMoved}
+use Rattle.stream_jobs.specs.declared.warning.Warning.TheVariants.{BadPacket, Errored, TrailingBytes, AssociationChanges, MapChanges, DescriptorsChange, Table, StrayPes, NoSuchProgram, NoSuchStream, Units, NoUnit, StreamId, NoStream, UnreadText, MapMoved}
 
 -- 1. Packets: what is found on no PID
 
@@ -35,12 +37,16 @@ packet_warnings findings = flat_map packet_warning findings
 abbrev pub association_warnings : AssociationView → List FindingView → List Warning
 association_warnings a findings = map AssociationChanges (option_to_list (association_change a findings))
 
--- the first map of a program that names other streams than its last one
-unfoldable pub map_warnings : List FindingView → Program → List Warning
-map_warnings findings p = map (MapChanges p.program_number) (option_to_list (map_change p findings))
+-- the first map of a program that is other in a part than its last one
+unfoldable pub map_warning : MapPart → ℕ → ℕ → Warning
+map_warning NamedStreams program packet = MapChanges program packet
+map_warning Descriptors program packet = DescriptorsChange program packet
 
-abbrev pub all_map_warnings : List FindingView → List Program → List Warning
-all_map_warnings findings named = flat_map (map_warnings findings) named
+unfoldable pub map_warnings : MapPart → List FindingView → Program → List Warning
+map_warnings part findings p = map (map_warning part p.program_number) (option_to_list (map_change part p findings))
+
+abbrev pub all_map_warnings : MapPart → List FindingView → List Program → List Warning
+all_map_warnings part findings named = flat_map (map_warnings part findings) named
 
 -- 3. Units: what is found on a PID and is in none, in a stream of `count` whole packets
 
@@ -81,6 +87,7 @@ is_damage (Errored packet) = true
 is_damage (TrailingBytes size) = true
 is_damage (AssociationChanges packet) = false
 is_damage (MapChanges program packet) = true
+is_damage (DescriptorsChange program packet) = true
 is_damage (Table left_out) = is_loss left_out
 is_damage (StrayPes pid count) = true
 is_damage (NoSuchProgram program) = true

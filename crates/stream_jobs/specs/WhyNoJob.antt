@@ -81,7 +81,7 @@ pub record Disagrees (options : JobOptionsView) (findings : List FindingView) (i
   pub plan : Planned
   pub read : IsText description (description_text options findings input rate)
   pub serving : IsServing description plan
-  pub disagree : disagreeing description input.streams ≡ Some pid
+  pub disagree : disagreeing description input.base0 input.streams ≡ Some pid
 
 -- job
 abbrev pub IsWhyNoJob : JobOptionsView → List FindingView → JobInputView → JobError → Type 0

@@ -3,7 +3,7 @@
 ghost use Rattle.std.specs.Prelude.{◌≡◌, ◌==◌, ◌&&◌, IfNone, IsTrue};
 ghost use Rattle.stream_units.specs.Declaration.{AllowsUnits};
 ghost use Rattle.stream_units.specs.Laws.{FirstDue};
-ghost use Rattle.stream_jobs.specs.Jobs.{AgreeInTurn, Agrees, AllAgree};
+ghost use Rattle.stream_jobs.specs.Jobs.{AgreeInTurn, Agrees, AllAgree, IsEntry};
 ghost use Rattle.stream_jobs.specs.Jobs as spec;
 ghost use Rattle.stream_jobs.specs.FoundUnits.{Declares};
 
@@ -51,13 +51,26 @@ fn declares(description: &Description, declared: &StreamDescription, units: &[Un
     interval && size && lead && packets_fit(description.base0(), declared, units)
 }
 
-// Whether a stream is the declared one.
+// Whether a stream is the declared one, as its PES packets and its entry in the program map say.
+#[tactic(auto, unfolding(crate::specs::Jobs::is_entry), using(crate::proofs::Agreement::entry_is))]
+fn is_entry(declared: &StreamDescription, stream: &TimedStream) -> bool
+    ensures value { result ≡ spec.is_entry declared.now stream.now }
+    ensures entry { IsTrue result → IsEntry declared.now stream.now }
+{
+    declared.program == stream.program
+        && declared.pid == stream.pid
+        && declared.stream_id == stream.stream_id
+        && declared.stream_type == stream.stream_type
+        && declared.descriptors.as_bytes() == stream.descriptors.as_slice()
+}
+
+// Whether a stream is the declared one, and its units are as declared.
 fn agrees(description: &Description, declared: &StreamDescription, stream: &TimedStream) -> bool
-    ensures value { result ≡ (declared.now.pid == stream.now.pid
+    ensures value { result ≡ (spec.is_entry declared.now stream.now
         && spec.keeps description.now declared.now stream.now.units) }
     ensures agrees { IsTrue result → Agrees description.now declared.now stream.now }
 {
-    declared.pid == stream.pid && declares(description, declared, &stream.units)
+    is_entry(declared, stream) && declares(description, declared, &stream.units)
 }
 
 // The PID of the first stream that is not the declared one in its place.
@@ -85,14 +98,19 @@ fn first_disagreeing(
     None
 }
 
-/// The PID of the first stream of whose units the description does not declare what they need.
+/// The PID of the first stream that is not the declared one, or of whose units the description does not declare what they
+/// need; 0 where there are not as many, or the clock does not begin with `base`.
 #[tactic(auto, using(crate::proofs::Agreement::in_turn), unfolding(crate::specs::Jobs::disagreeing))]
-pub(crate) fn disagreeing(description: &Description, streams: &[TimedStream]) -> Option<u16>
-    ensures value { result ≡ spec.disagreeing description.now streams.now }
-    ensures agree { IfNone result (AllAgree description.now streams.now) }
+pub(crate) fn disagreeing(
+    description: &Description,
+    base: u64,
+    streams: &[TimedStream],
+) -> Option<u16>
+    ensures value { result ≡ spec.disagreeing description.now base streams.now }
+    ensures agree { IfNone result (AllAgree description.now base streams.now) }
 {
     let declared = description.streams();
-    if declared.len() != streams.len() {
+    if description.base0() != base || declared.len() != streams.len() {
         return Some(0);
     }
     first_disagreeing(description, declared, streams)

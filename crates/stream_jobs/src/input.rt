@@ -31,7 +31,7 @@ use std::alloc::{AllocError, Global};
 use std::marker::Model;
 use stream_choice::Choice;
 use stream_programs::{
-    Association, FoundPrograms, ProgramPids, assigned_pids, found_programs, named_programs,
+    Association, FoundPrograms, MapPart, ProgramPids, assigned_pids, found_programs, named_programs,
 };
 
 /// What a job is made of.
@@ -62,6 +62,15 @@ impl Model for JobInput {
       choices = i.choices.items;
       warnings = i.warnings.items;
     } };
+}
+
+impl JobInput {
+    /// Whether a stream of this PID is carried.
+    pub fn has_stream(&self, pid: u16) -> bool
+        ensures { result ≡ spec.has_stream self.now pid }
+    {
+        self.streams.iter().any(|stream| stream.pid == pid)
+    }
 }
 
 // Whether a program is taken.
@@ -101,7 +110,8 @@ fn change_warnings(
     let mut warnings = Vec::new(alloc);
     push_packet_warnings(findings, &mut warnings)?;
     push_association_warning(association, findings, &mut warnings)?;
-    push_map_warnings(named, findings, &mut warnings)?;
+    push_map_warnings(MapPart::NamedStreams, named, findings, &mut warnings)?;
+    push_map_warnings(MapPart::Descriptors, named, findings, &mut warnings)?;
     Ok(warnings)
 }
 

@@ -30,6 +30,11 @@ pub enum Warning {
         program: u16,
         packet: u64,
     },
+    /// An earlier program map section, which ends in this packet, has a descriptor that the last one has not.
+    DescriptorsChange {
+        program: u16,
+        packet: u64,
+    },
     /// Something is left out of the tables.
     Table(TableOmission),
     /// PES packets of a PID, this number of them, that no program has.
@@ -89,6 +94,7 @@ impl Warning {
             Warning::Errored { .. } => true,
             Warning::TrailingBytes { .. } => true,
             Warning::MapChanges { .. } => true,
+            Warning::DescriptorsChange { .. } => true,
             Warning::Table(omission) => omission.is_loss(),
             Warning::StrayPes { .. } => true,
             Warning::NoSuchProgram { .. } => true,

@@ -11,7 +11,7 @@ use demux::{Finding, What};
 use psi_tables::Program;
 use std::alloc::{AllocError, Global};
 use stream_programs::{
-    Association, TableOmission, association_change, found_programs, map_change, mapped_pids,
+    Association, MapPart, TableOmission, association_change, found_programs, map_change, mapped_pids,
     pes_count, stray_pids,
 };
 use stream_units::{UnitWarning, unit_warnings};
@@ -74,36 +74,46 @@ pub(crate) fn push_association_warning(
     Ok(())
 }
 
-// Appends the warning that the streams of a program change.
+// The warning that a map of a program is other in a part than its last one.
+#[tactic(auto, unfolding(crate::specs::Warnings::map_warning))]
+fn map_warning(part: MapPart, program: u16, packet: u64) -> Warning
+    ensures { result ≡ spec.map_warning part program packet }
+{
+    match part {
+        MapPart::NamedStreams => Warning::MapChanges { program, packet },
+        MapPart::Descriptors => Warning::DescriptorsChange { program, packet },
+    }
+}
+
+// Appends the warning that the map of a program changes.
 #[tactic(auto, unfolding(crate::specs::Warnings::map_warnings))]
 fn push_map_warning(
+    part: MapPart,
     program: Program,
     findings: &[Finding<'_>],
     warnings: &mut Vec<Warning>,
 ) -> Result<(), AllocError>
     ensures { OnOk result (warnings.new.items ≡ warnings.old.items
-        ++ spec.map_warnings (map finding_view findings.now) program) }
+        ++ spec.map_warnings part (map finding_view findings.now) program) }
 {
-    if let Some(packet) = map_change(program, findings) {
-        warnings.push(Warning::MapChanges {
-            program: program.program_number,
-            packet,
-        })?;
+    if let Some(packet) = map_change(part, program, findings) {
+        warnings.push(map_warning(part, program.program_number, packet))?;
     }
     Ok(())
 }
 
-/// Appends the warnings that the streams of programs change.
+/// Appends the warnings that the maps of programs change in a part.
 pub(crate) fn push_map_warnings(
+    part: MapPart,
     programs: &[Program],
     findings: &[Finding<'_>],
     warnings: &mut Vec<Warning>,
 ) -> Result<(), AllocError>
     ensures { OnOk result (warnings.new.items ≡ warnings.old.items
-        ++ spec.all_map_warnings (map finding_view findings.now) programs.now) }
+        ++ spec.all_map_warnings part (map finding_view findings.now) programs.now) }
 {
     for program in programs {
-        push_map_warning(*program, findings, warnings)?;
+        push_map_warning(part, *program, findings, warnings)?;
     }
     Ok(())
 }

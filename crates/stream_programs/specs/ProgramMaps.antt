@@ -1,13 +1,17 @@
 -- The program map table of a program (ISO/IEC 13818-1, 2.4.4.8).
-use Rattle.std.specs.Prelude.{ℕ, ◌==◌, ◌&&◌, not, Bool, false, if◌then◌else◌, List, [], ◌∷◌, Option, Some, None, option_and_then, Result, Ok, Err}
+use Rattle.std.specs.Prelude.{ℕ, ◌==◌, ◌&&◌, ◌||◌, not, Bool, false, if◌then◌else◌, List, [], ◌∷◌, Option, Some, None, option_and_then, Result, Ok, Err}
 use Rattle.std.specs.List.{list_any, list_all}
 use Rattle.std.specs.Option.{option_or}
+use Rattle.std.specs.Str.{bytes_eq}
+use Rattle.descriptor_loops.specs.Descriptors.{DescriptorView, descriptors_in}
 use Rattle.psi_tables.specs.Views.{SectionView}
 use Rattle.psi_tables.specs.Reading.{section_at}
 use Rattle.psi_tables.specs.ProgramMap.{StreamView, PmtView, pmt_at}
 use Rattle.psi_tables.specs.declared.error.SectionError.{SectionError}
 use Rattle.psi_tables.specs.declared.pat.programs.Program.{Program}
 use Rattle.demux.specs.Views.{FindingView}
+use Rattle.stream_programs.specs.declared.program_map.MapPart.{MapPart}
+use Rattle.stream_programs.specs.declared.program_map.MapPart.TheVariants.{NamedStreams, Descriptors}
 use Rattle.stream_programs.specs.Sections.{section_on}
 
 -- 1. The last table
@@ -33,7 +37,7 @@ unfoldable pub program_map : Program → List FindingView → Option PmtView
 program_map program [] = None
 program_map program (finding ∷ findings) = option_or (program_map program findings) (pmt_found program finding)
 
--- 2. Tables that name other streams than the last one
+-- 2. Tables that name other streams than the last one: by stream_type and PID
 
 -- streams of one stream_type and PID
 unfoldable pub is_same_stream : StreamView → StreamView → Bool
@@ -51,16 +55,51 @@ has_streams streams others = list_all (λ s. has_stream streams s) others
 unfoldable pub names_same : List StreamView → List StreamView → Bool
 names_same one other = has_streams one other && has_streams other one
 
-unfoldable pub names_others : List StreamView → Option PmtView → Bool
-names_others last None = false
-names_others last (Some pmt) = not (names_same last pmt.streams)
+-- 3. Tables with descriptors that the last one has not
 
--- the packet in which the first table with other streams than these ends
-unfoldable pub others_named : Program → List StreamView → List FindingView → Option ℕ
-others_named program last [] = None
-others_named program last (finding ∷ findings) =
-    if names_others last (pmt_found program finding) then Some finding.packet else others_named program last findings
+-- AC-3 and enhanced AC-3 (EN 300 468, annex D): what these say stands in the stream itself
+unfoldable pub is_of_sound : ℕ → Bool
+is_of_sound tag = tag == 0x6A || tag == 0x7A
 
--- than those of the last one
-unfoldable pub map_change : Program → List FindingView → Option ℕ
-map_change program findings = option_and_then (λ last. others_named program last.streams findings) (program_map program findings)
+-- of the same tag and bytes; of AC-3 the tag alone counts
+unfoldable pub is_same_descriptor : DescriptorView → DescriptorView → Bool
+is_same_descriptor one other = one.tag == other.tag && (is_of_sound one.tag || bytes_eq one.body other.body)
+
+-- a descriptor is one of those in these bytes
+unfoldable pub has_descriptor : List ℕ → DescriptorView → Bool
+has_descriptor bytes d = list_any (λ other. is_same_descriptor other d) (descriptors_in bytes)
+
+-- all of the others are
+unfoldable pub has_descriptors : List ℕ → List ℕ → Bool
+has_descriptors bytes others = list_all (λ d. has_descriptor bytes d) (descriptors_in others)
+
+-- streams that are not the same, or the one has all descriptors of the other
+unfoldable pub keeps_one : StreamView → StreamView → Bool
+keeps_one s other = not (is_same_stream s other) || has_descriptors s.descriptors other.descriptors
+
+unfoldable pub keeps_stream : List StreamView → StreamView → Bool
+keeps_stream streams s = list_all (λ one. keeps_one one s) streams
+
+unfoldable pub keeps_streams : List StreamView → List StreamView → Bool
+keeps_streams streams others = list_all (λ s. keeps_stream streams s) others
+
+-- a table has all descriptors of the other: those of the program, and those of each stream that both have
+unfoldable pub keeps_descriptors : PmtView → PmtView → Bool
+keeps_descriptors one other = has_descriptors one.program_info other.program_info && keeps_streams one.streams other.streams
+
+-- 4. The first table that is other in a part
+
+unfoldable pub differs : MapPart → PmtView → Option PmtView → Bool
+differs part last None = false
+differs NamedStreams last (Some pmt) = not (names_same last.streams pmt.streams)
+differs Descriptors last (Some pmt) = not (keeps_descriptors last pmt)
+
+-- the packet in which the first table ends that is other than this one
+unfoldable pub first_differing : MapPart → Program → PmtView → List FindingView → Option ℕ
+first_differing part program last [] = None
+first_differing part program last (finding ∷ findings) =
+    if differs part last (pmt_found program finding) then Some finding.packet else first_differing part program last findings
+
+-- than the last one
+unfoldable pub map_change : MapPart → Program → List FindingView → Option ℕ
+map_change part program findings = option_and_then (λ last. first_differing part program last findings) (program_map program findings)

@@ -14,6 +14,7 @@ mod character_sets;
 mod character_tables;
 mod free_pids;
 mod laws;
+mod map_descriptors;
 mod networks;
 mod omission;
 mod pid_assignment;
@@ -35,7 +36,7 @@ pub use laws::{
 pub use networks::original_network;
 pub use omission::TableOmission;
 pub use pid_assignment::{ProgramPids, assigned_pids};
-pub use program_map::{last_program_map, map_change};
+pub use program_map::{MapPart, last_program_map, map_change};
 pub use programs::{FoundProgram, FoundPrograms, found_programs};
 pub use services::{FoundService, last_service};
 pub use strays::{mapped_pids, pes_count, stray_pids};

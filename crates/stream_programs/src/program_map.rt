@@ -6,10 +6,20 @@ ghost use Rattle.psi_tables.specs.Views.{section_view};
 ghost use Rattle.demux.specs.Shown.{finding_view};
 ghost use Rattle.stream_programs.specs.ProgramMaps as spec;
 
+use crate::map_descriptors::keeps_descriptors;
 use crate::sections::section_on;
 use demux::Finding;
 use psi_tables::{Pmt, Program, Section, Stream, Streams};
 use std::alloc::Allocator;
+
+/// In what a program map table may be other than the last one.
+#[derive(Clone, Copy)]
+pub enum MapPart {
+    /// It names other streams, by stream_type and PID.
+    NamedStreams,
+    /// The program, or a stream that both name, has a descriptor that it has not in the last one.
+    Descriptors,
+}
 
 // A table that is in force now, of this program.
 #[tactic(auto, unfolding(crate::specs::ProgramMaps::in_force))]
@@ -65,7 +75,7 @@ pub fn last_program_map<'f, A: Allocator>(
 
 // Whether two streams have one stream_type and PID.
 #[tactic(auto, unfolding(crate::specs::ProgramMaps::is_same_stream))]
-fn is_same_stream(one: Stream<'_>, other: Stream<'_>) -> bool
+pub(crate) fn is_same_stream(one: Stream<'_>, other: Stream<'_>) -> bool
     ensures { result ≡ spec.is_same_stream (stream_view one.entry) (stream_view other.entry) }
 {
     one.stream_type == other.stream_type && one.elementary_pid == other.elementary_pid
@@ -104,40 +114,53 @@ fn names_same(one: Streams<'_>, other: Streams<'_>) -> bool
     has_streams(one, other) && has_streams(other, one)
 }
 
-// Whether a finding has a table of the program that names other streams.
-#[tactic(auto, unfolding(crate::specs::ProgramMaps::names_others))]
-fn names_others<A: Allocator>(program: Program, last: Streams<'_>, finding: &Finding<'_, A>) -> bool
-    ensures { result ≡ spec.names_others (streams_of last.entry) (spec.pmt_found program (finding_view finding.now)) }
+// Whether a finding has a table of the program that is other than the last one in this part.
+#[tactic(auto, unfolding(crate::specs::ProgramMaps::differs))]
+fn differs<A: Allocator>(
+    part: MapPart,
+    program: Program,
+    last: &Pmt<'_>,
+    finding: &Finding<'_, A>,
+) -> bool
+    ensures { result ≡ spec.differs part (pmt_view last.now) (spec.pmt_found program (finding_view finding.now)) }
 {
     match pmt_found(program, finding) {
         None => false,
-        Some(pmt) => !names_same(last, pmt.streams),
+        Some(pmt) => match part {
+            MapPart::NamedStreams => !names_same(last.streams, pmt.streams),
+            MapPart::Descriptors => !keeps_descriptors(last, &pmt),
+        },
     }
 }
 
-fn others_named<A: Allocator>(
+fn first_differing<A: Allocator>(
+    part: MapPart,
     program: Program,
-    last: Streams<'_>,
+    last: &Pmt<'_>,
     findings: &[Finding<'_, A>],
 ) -> Option<u64>
-    ensures { result ≡ spec.others_named program (streams_of last.entry) (map finding_view findings.now) }
+    ensures { result ≡ spec.first_differing part program (pmt_view last.now) (map finding_view findings.now) }
 {
     for finding in findings {
-        if names_others(program, last, finding) {
+        if differs(part, program, last, finding) {
             return Some(finding.packet);
         }
     }
     None
 }
 
-/// The packet in which a program map section in force of this program ends that names other streams, by stream_type and
-/// PID, than the last one does; of several the first. The last one counts all the same.
+/// The packet in which a program map section in force of this program ends that is other in this part than the last one;
+/// of several the first. The last one counts all the same.
 #[tactic(auto, unfolding(crate::specs::ProgramMaps::map_change))]
-pub fn map_change<A: Allocator>(program: Program, findings: &[Finding<'_, A>]) -> Option<u64>
-    ensures { result ≡ spec.map_change program (map finding_view findings.now) }
+pub fn map_change<A: Allocator>(
+    part: MapPart,
+    program: Program,
+    findings: &[Finding<'_, A>],
+) -> Option<u64>
+    ensures { result ≡ spec.map_change part program (map finding_view findings.now) }
 {
     match last_program_map(program, findings) {
         None => None,
-        Some(last) => others_named(program, last.streams, findings),
+        Some(last) => first_differing(part, program, &last, findings),
     }
 }

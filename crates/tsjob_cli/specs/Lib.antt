@@ -7,6 +7,7 @@ pub mod WarningLines
 pub mod RefusalLine
 pub mod ReasonLines
 pub mod SlipLines
+pub mod FieldLines
 pub mod TableLines
 pub mod Streams
 pub mod Records

@@ -14,8 +14,10 @@ use Rattle.stream_jobs.specs.JobInput.{JobInputView, job_input}
 use Rattle.other_tables.specs.OtherTables.{other_tables}
 use Rattle.other_tables.specs.TableKinds.{is_loss}
 use Rattle.other_tables.specs.declared.tables.OtherTable.{OtherTable}
+use Rattle.packet_sync.specs.Fields.{is_loss as is_field_loss}
 use Rattle.packet_sync.specs.OtherPackets.{other_packets}
 use Rattle.packet_sync.specs.Slips.{carried}
+use Rattle.packet_sync.specs.declared.left_out.FieldLeftOut.{FieldLeftOut}
 use Rattle.packet_sync.specs.declared.packet_sizes.OtherPackets.{OtherPackets}
 use Rattle.packet_sync.specs.declared.slip.Slip.{Slip}
 use Rattle.stream_jobs.specs.Warnings.{are_damaged}
@@ -33,9 +35,10 @@ use Rattle.tsjob_cli.specs.declared.arguments.Subcommand.{Subcommand}
 use Rattle.tsjob_cli.specs.declared.arguments.Subcommand.TheVariants.{Whole, Describe, Units, Why}
 use Rattle.tsjob_cli.specs.Arguments.{JobArgumentsView}
 use Rattle.tsjob_cli.specs.ReasonLines.{reason_lines}
+use Rattle.tsjob_cli.specs.FieldLines.{field_lines, told_fields}
 use Rattle.tsjob_cli.specs.Records.{records_of, written}
 use Rattle.tsjob_cli.specs.RefusalLine.{refusal_line}
-use Rattle.tsjob_cli.specs.SlipLines.{packets_line, random_access_lines, slip_lines}
+use Rattle.tsjob_cli.specs.SlipLines.{packets_line, slip_lines}
 use Rattle.tsjob_cli.specs.Streams.{PacketNotesView, findings_of, notes_of}
 use Rattle.tsjob_cli.specs.TableLines.{other_table_lines}
 use Rattle.tsjob_cli.specs.WarningLines.{told_warnings, warning_lines}
@@ -82,20 +85,21 @@ Withholds Why w findings m error = IsWhyNoReasons w.rate w findings m error
 
 -- 2. The outcome for a stream
 
--- there are slips, or tables that a viewer misses, or one of the warnings says that something is lost
-abbrev pub is_less : List Slip → List OtherTable → List Warning → Bool
-is_less slips tables warnings = not (length slips == 0) || list_any (λ t. is_loss t.kind) tables || are_damaged warnings
+-- there are slips, fields or tables that a viewer misses, or one of the warnings says that something is lost
+abbrev pub is_less : List Slip → List FieldLeftOut → List OtherTable → List Warning → Bool
+is_less slips fields tables warnings =
+    not (length slips == 0) || list_any (λ f. is_field_loss f.field) fields || list_any (λ t. is_loss t.kind) tables || are_damaged warnings
 
--- a line for each slip, for each PID with random_access_indicator, for each with tables that no job is made of, and for each
--- warning that is told
-abbrev pub loss_lines : PacketNotesView → List OtherTable → List Warning → List ℕ
-loss_lines notes tables warnings = slip_lines notes.slips ++ random_access_lines notes.random_access ++ other_table_lines tables ++ warning_lines warnings
+-- a line for each slip, for each field of a PID that is not written again, for each PID with tables that no job is made of, and
+-- for each warning that is told
+abbrev pub loss_lines : List Slip → List FieldLeftOut → List OtherTable → List Warning → List ℕ
+loss_lines slips fields tables warnings = slip_lines slips ++ field_lines fields ++ other_table_lines tables ++ warning_lines warnings
 
 -- the output, the lines of what is left out, and the status 1 where one says that something is lost
 pub record IsGiven (arguments : JobArgumentsView) (notes : PacketNotesView) (findings : List FindingView) (m : JobInputView) (o : Outcome) : Type 0 where
   pub gives : Gives arguments.subcommand arguments.options findings m o.output
-  pub report_is : o.report ≡ loss_lines notes (other_tables findings) (told_warnings arguments.whole m.warnings)
-  pub status_is : o.status ≡ (if is_less notes.slips (other_tables findings) (told_warnings arguments.whole m.warnings) then 1 else 0)
+  pub report_is : o.report ≡ loss_lines notes.slips (told_fields m notes.fields) (other_tables findings) (told_warnings arguments.whole m.warnings)
+  pub status_is : o.status ≡ (if is_less notes.slips (told_fields m notes.fields) (other_tables findings) (told_warnings arguments.whole m.warnings) then 1 else 0)
 
 -- nothing is written but the line of the refusal, and the status is 1
 pub record IsRefused (arguments : JobArgumentsView) (findings : List FindingView) (m : JobInputView) (o : Outcome) : Type 0 where

@@ -1,4 +1,4 @@
--- The lines for packets: those that do not stand in step, and what is left out of them.
+-- The lines for packets: those that do not stand in step, and those of other sizes.
 use Rattle.std.specs.Prelude.{ℕ, List, ◌++◌, flat_map, codes, decimal}
 use Rattle.packet_sync.specs.declared.packet_sizes.OtherPackets.{OtherPackets}
 use Rattle.packet_sync.specs.declared.packet_sizes.OtherPackets.TheVariants.{Timed, Corrected}
@@ -10,13 +10,6 @@ slip_line s = codes "packet " ++ decimal s.packet ++ codes " slip of " ++ decima
 -- a line each
 abbrev pub slip_lines : List Slip → List ℕ
 slip_lines slips = flat_map slip_line slips
-
--- a PID with random_access_indicator
-unfoldable pub random_access_line : ℕ → List ℕ
-random_access_line pid = codes "pid " ++ decimal pid ++ codes " random access indicators left out\n"
-
-abbrev pub random_access_lines : List ℕ → List ℕ
-random_access_lines pids = flat_map random_access_line pids
 
 -- a stream of other packets
 unfoldable pub packets_line : OtherPackets → List ℕ

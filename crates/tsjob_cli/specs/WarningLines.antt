@@ -48,6 +48,7 @@ warning_line (warning.Errored packet) = codes "packet " ++ decimal packet ++ cod
 warning_line (warning.TrailingBytes size) = codes "rest of " ++ decimal size ++ codes " bytes\n"
 warning_line (warning.AssociationChanges packet) = codes "packet " ++ decimal packet ++ codes " PAT changes: the first one stands\n"
 warning_line (warning.MapChanges program packet) = codes "packet " ++ decimal packet ++ codes " PMT of program " ++ decimal program ++ codes " names other streams: the last one stands\n"
+warning_line (warning.DescriptorsChange program packet) = codes "packet " ++ decimal packet ++ codes " PMT of program " ++ decimal program ++ codes " has descriptors that the last one has not: left out\n"
 warning_line (warning.Table left_out) = table_line left_out
 warning_line (warning.StrayPes pid count) = codes "pid " ++ decimal pid ++ codes " has " ++ decimal count ++ codes " PES packets of no program: left out\n"
 warning_line (warning.NoSuchProgram program) = codes "program " ++ decimal program ++ codes " is not there\n"

@@ -10,15 +10,16 @@ ghost use Rattle.devices.specs.Outcomes.{reported};
 ghost use Rattle.tsjob_cli.specs.SlipLines.{packets_line};
 
 use crate::arguments::{JobArguments, Subcommand};
+use crate::field_lines::{are_needed, told_fields, write_fields};
 use crate::reading::{PacketNotes, packet_notes, take_carried};
 use crate::reason_lines::write_reasons;
 use crate::refusal_line::write_refusal;
-use crate::slip_lines::{write_packets, write_random_access, write_slips};
+use crate::slip_lines::{write_packets, write_slips};
 use crate::table_lines::{are_missed, write_other_tables};
 use crate::warning_lines::{is_damaged, told_warnings, write_warnings};
 use demux::Finding;
 use other_tables::{OtherTable, other_tables};
-use packet_sync::{OtherPackets, Slip, other_packets};
+use packet_sync::{FieldLeftOut, OtherPackets, Slip, other_packets};
 use pes_packet::Unit;
 use std::alloc::{AllocError, Global};
 use std::marker::Model;
@@ -163,25 +164,27 @@ fn output_for(
 #[tactic(auto, using(crate::proofs::JobOutcomes::four_texts))]
 fn loss_report(
     alloc: Global,
-    notes: &PacketNotes,
+    slips: &[Slip],
+    fields: &[FieldLeftOut],
     tables: &[OtherTable],
     told: &[Warning],
 ) -> Result<String, AllocError>
-    ensures { IfOk result (λ lines. string_bytes lines ≡ spec.loss_lines notes.now tables.now told.now) }
+    ensures { IfOk result (λ lines. string_bytes lines
+        ≡ spec.loss_lines slips.now fields.now tables.now told.now) }
 {
     let mut lines = String::new(alloc);
-    write_slips(&notes.slips, &mut lines)?;
-    write_random_access(&notes.random_access, &mut lines)?;
+    write_slips(slips, &mut lines)?;
+    write_fields(fields, &mut lines)?;
     write_other_tables(tables, &mut lines)?;
     write_warnings(told, &mut lines)?;
     Ok(lines)
 }
 
 // Whether one of these says that something is lost.
-fn is_less(slips: &[Slip], tables: &[OtherTable], told: &[Warning]) -> bool
-    ensures { result ≡ spec.is_less slips.now tables.now told.now }
+fn is_less(slips: &[Slip], fields: &[FieldLeftOut], tables: &[OtherTable], told: &[Warning]) -> bool
+    ensures { result ≡ spec.is_less slips.now fields.now tables.now told.now }
 {
-    !slips.is_empty() || are_missed(tables) || is_damaged(told)
+    !slips.is_empty() || are_needed(fields) || are_missed(tables) || is_damaged(told)
 }
 
 // The outcome for a stream that is not refused.
@@ -199,9 +202,10 @@ fn job_outcome(
         (spec.Withholds arguments.now.subcommand arguments.now.options (map finding_view findings.now) input) }
 {
     let told = told_warnings(alloc, arguments.whole, &input.warnings)?;
+    let fields = told_fields(alloc, &input, &notes.fields)?;
     let tables = other_tables(alloc, findings)?;
-    let report = loss_report(alloc, notes, &tables, &told)?;
-    let status = if is_less(&notes.slips, &tables, &told) {
+    let report = loss_report(alloc, &notes.slips, &fields, &tables, &told)?;
+    let status = if is_less(&notes.slips, &fields, &tables, &told) {
         1
     } else {
         0

@@ -5,7 +5,7 @@ ghost use Rattle.packet_sync.specs.Slips.{AreOrdered, carried_from};
 ghost use Rattle.tsjob_cli.specs.Streams.{TakesCarried, notes_of};
 
 use demux::Demux;
-use packet_sync::{Slip, random_access_pids, slips};
+use packet_sync::{FieldLeftOut, Slip, fields_left_out, slips};
 use std::alloc::{AllocError, Global};
 use std::marker::Model;
 
@@ -13,8 +13,8 @@ use std::marker::Model;
 #[derive(Drop)]
 pub(crate) struct PacketNotes {
     pub slips: Vec<Slip>,
-    /// The PIDs with random_access_indicator.
-    pub random_access: Vec<u16>,
+    /// The fields that are not written again.
+    pub fields: Vec<FieldLeftOut>,
 }
 
 // A contract sees its parts as lists.
@@ -23,7 +23,7 @@ impl Model for PacketNotes {
 
     ghost Value = { PacketNotesView };
 
-    ghost view = { λ n. record { slips = n.slips.items; random_access = n.random_access.items } };
+    ghost view = { λ n. record { slips = n.slips.items; fields = n.fields.items } };
 }
 
 /// What is said of the packets in these bytes.
@@ -32,11 +32,8 @@ pub(crate) fn packet_notes(alloc: Global, bytes: &[u8]) -> Result<PacketNotes, A
     ensures ordered { IfOk result (λ notes. AreOrdered bytes.now 0 notes.slips) }
 {
     let slips = slips(alloc, bytes)?;
-    let random_access = random_access_pids(alloc, bytes)?;
-    Ok(PacketNotes {
-        slips,
-        random_access,
-    })
+    let fields = fields_left_out(alloc, bytes)?;
+    Ok(PacketNotes { slips, fields })
 }
 
 // Takes the bytes from one place to another.

@@ -1,4 +1,4 @@
-//! The lines for packets: those that do not stand in step, and what is left out of them.
+//! The lines for packets: those that do not stand in step, and those of other sizes.
 
 ghost use Rattle.std.specs.Prelude.{◌≡◌, ◌++◌, OnOk, string_bytes};
 ghost use Rattle.tsjob_cli.specs.SlipLines as spec;
@@ -22,24 +22,6 @@ pub(crate) fn write_slips(slips: &[Slip], text: &mut String) -> Result<(), Alloc
 {
     for slip in slips {
         write_slip(slip, text)?;
-    }
-    Ok(())
-}
-
-// The line of a PID with random_access_indicator.
-#[tactic(auto, unfolding(crate::specs::SlipLines::random_access_line))]
-fn write_pid(pid: u16, text: &mut String) -> Result<(), AllocError>
-    ensures { OnOk result (string_bytes text.new ≡ string_bytes text.old ++ spec.random_access_line pid) }
-{
-    write!(text, "pid {pid} random access indicators left out\n")
-}
-
-/// A line for each PID with random_access_indicator.
-pub(crate) fn write_random_access(pids: &[u16], text: &mut String) -> Result<(), AllocError>
-    ensures { OnOk result (string_bytes text.new ≡ string_bytes text.old ++ spec.random_access_lines pids.now) }
-{
-    for pid in pids {
-        write_pid(*pid, text)?;
     }
     Ok(())
 }

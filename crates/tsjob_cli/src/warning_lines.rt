@@ -122,6 +122,10 @@ fn write_warning(warning: Warning, text: &mut String) -> Result<(), AllocError>
             text,
             "packet {packet} PMT of program {program} names other streams: the last one stands\n"
         ),
+        Warning::DescriptorsChange { program, packet } => write!(
+            text,
+            "packet {packet} PMT of program {program} has descriptors that the last one has not: left out\n"
+        ),
         Warning::Table(left_out) => write_table(left_out, text),
         Warning::StrayPes { pid, count } => write!(
             text,

@@ -9,7 +9,7 @@ use psi_tables::Program;
 use std::alloc::{AllocError, Global};
 use stream_programs::{
     Association, FoundPrograms, FoundStream, ProgramPids, StreamTables, TableOmission,
-    association_change, found_programs, free_pid, last_service, map_change, named_programs,
+    MapPart, association_change, found_programs, free_pid, last_service, map_change, named_programs,
     original_network, stream_tables,
 };
 use vectors::{EMPTY_MAP, FIRST_MAP, LAST_MAP, MORE, NEXT_PAT, OTHER_PAT, PAT, PMT, SDT};
@@ -131,7 +131,7 @@ fn are_changes(findings: &[Finding<'_>]) -> bool {
             program_number: *program_number,
             pid: *pid,
         };
-        if map_change(program, findings) != *wanted {
+        if map_change(MapPart::NamedStreams, program, findings) != *wanted {
             return false;
         }
     }

@@ -1,0 +1,104 @@
+-- The fields of packets and of PES headers that are not written again (ISO/IEC 13818-1, 2.4.3.5 and 2.4.3.7).
+use Rattle.std.specs.Prelude.{ℕ, ◌+◌, ◌*◌, ◌/◌, ◌%◌, ◌==◌, ◌&&◌, ◌||◌, not, nat_lt, nat_le, Bool, true, false, if◌then◌else◌, List, [], length, slice_index, slice_range}
+use Rattle.pes_packet.specs.StreamIds.{has_flags}
+use Rattle.packet_sync.specs.declared.field.Field.{Field}
+use Rattle.packet_sync.specs.declared.field.Field.TheVariants.{RandomAccess, AdaptationData, Alignment, Flags, Scrambling, LongHeader, PrivateData, OtherHeaderData, UnreadHeader}
+
+-- 1. The adaptation field of the packet at a place
+
+-- its flag byte; 0 where there is none, or an empty one
+unfoldable pub adaptation_flags : List ℕ → ℕ → ℕ
+adaptation_flags bs at = if slice_index bs (at + 3) / 32 % 2 == 1 && not (slice_index bs (at + 4) == 0) then slice_index bs (at + 5) else 0
+
+-- random_access_indicator
+abbrev pub is_random_access : ℕ → Bool
+is_random_access flags = flags / 64 % 2 == 1
+
+-- splicing_point_flag, transport_private_data_flag, adaptation_field_extension_flag
+abbrev pub has_adaptation_data : ℕ → Bool
+has_adaptation_data flags = not (flags % 8 == 0)
+
+-- 2. The payload in which a PES packet begins
+
+-- payload_unit_start_indicator and a payload, without transport_error_indicator, not scrambled
+unfoldable pub is_clear_start : List ℕ → ℕ → Bool
+is_clear_start bs at =
+    slice_index bs (at + 1) / 64 == 1
+    && slice_index bs (at + 3) / 64 == 0
+    && slice_index bs (at + 3) / 16 % 2 == 1
+
+-- where it begins: after the four bytes of the header and an adaptation field
+unfoldable pub payload_place : List ℕ → ℕ → ℕ
+payload_place bs at = if slice_index bs (at + 3) / 32 % 2 == 1 then at + 5 + slice_index bs (at + 4) else at + 4
+
+-- the payload; empty where none begins
+unfoldable pub start_payload : List ℕ → ℕ → List ℕ
+start_payload bs at = if is_clear_start bs at && nat_le (payload_place bs at) (at + 188) then slice_range bs (payload_place bs at) (at + 188) else []
+
+-- packet_start_code_prefix and a stream_id that flag bytes follow
+unfoldable pub is_flagged : List ℕ → Bool
+is_flagged p = slice_index p 0 == 0 && slice_index p 1 == 0 && slice_index p 2 == 1 && has_flags (slice_index p 3)
+
+-- 3. Its PES header: two flag bytes, PES_header_data_length, and what they announce
+
+-- data_alignment_indicator
+abbrev pub is_aligned : List ℕ → Bool
+is_aligned p = slice_index p 6 / 4 % 2 == 1
+
+-- PES_priority, copyright, original_or_copy
+abbrev pub has_other_flags : List ℕ → Bool
+has_other_flags p = slice_index p 6 / 8 % 2 == 1 || not (slice_index p 6 % 4 == 0)
+
+-- PES_scrambling_control
+abbrev pub is_scrambled : List ℕ → Bool
+is_scrambled p = not (slice_index p 6 / 16 % 4 == 0)
+
+-- 36 bytes of header data in private_stream_1: the header of teletext (EN 300 472, 4.2) and of VBI data (EN 301 775, 4.3)
+abbrev pub is_long : List ℕ → Bool
+is_long p = slice_index p 3 == 189 && slice_index p 8 == 36
+
+-- where the flags of PES_extension stand: after PTS and DTS, ESCR, ES_rate, DSM_trick_mode, additional_copy_info, PES_CRC
+unfoldable pub extension_place : ℕ → ℕ
+extension_place flags =
+    9 + flags / 128 * 5 + flags / 64 % 2 * 5 + flags / 32 % 2 * 6 + flags / 16 % 2 * 3 + flags / 8 % 2 + flags / 4 % 2 + flags / 2 % 2 * 2
+
+-- these flags; 0 where there are none
+unfoldable pub extension_flags : List ℕ → ℕ
+extension_flags p =
+    if slice_index p 7 % 2 == 1 && nat_lt (extension_place (slice_index p 7)) (9 + slice_index p 8) && nat_lt (extension_place (slice_index p 7)) (length p)
+    then slice_index p (extension_place (slice_index p 7)) else 0
+
+-- PES_private_data_flag
+abbrev pub has_private_data : ℕ → Bool
+has_private_data extension = extension / 128 == 1
+
+-- ESCR, ES_rate, DSM_trick_mode, additional_copy_info, PES_CRC; of the extension pack_header, program_packet_sequence_counter,
+-- P-STD_buffer and PES_extension_flag_2
+abbrev pub has_other_data : ℕ → ℕ → Bool
+has_other_data flags extension = not (flags / 2 % 32 == 0) || not (extension / 16 % 8 == 0) || extension % 2 == 1
+
+-- the header goes on in another packet
+abbrev pub is_cut : List ℕ → Bool
+is_cut p = nat_lt (length p) (9 + slice_index p 8)
+
+-- 4. What a receiver loses
+
+-- a viewer may lose something without it
+unfoldable pub is_loss : Field → Bool
+is_loss Scrambling = true
+is_loss LongHeader = true
+is_loss PrivateData = true
+is_loss UnreadHeader = true
+is_loss _ = false
+
+-- the number of a field
+unfoldable pub number_of : Field → ℕ
+number_of RandomAccess = 0
+number_of AdaptationData = 1
+number_of Alignment = 2
+number_of Flags = 3
+number_of Scrambling = 4
+number_of LongHeader = 5
+number_of PrivateData = 6
+number_of OtherHeaderData = 7
+number_of UnreadHeader = 8

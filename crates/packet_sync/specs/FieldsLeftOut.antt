@@ -1,0 +1,64 @@
+-- The fields that are not written again, each once of a PID, in packets that stand in step.
+use Rattle.std.specs.Prelude.{ℕ, zero, suc, ◌+◌, ◌*◌, ◌%◌, ◌==◌, ◌&&◌, not, nat_lt, Bool, true, if◌then◌else◌, List, [], ◌∷◌, ◌++◌, length, slice_index, Option, None, Some}
+use Rattle.std.specs.List.{list_any}
+use Rattle.packet_sync.specs.Slips.{slip_size}
+use Rattle.packet_sync.specs.Fields.{adaptation_flags, extension_flags, has_adaptation_data, has_other_data, has_other_flags, has_private_data, is_aligned, is_cut, is_flagged, is_long, is_random_access, is_scrambled, number_of, start_payload}
+use Rattle.packet_sync.specs.declared.field.Field.{Field}
+use Rattle.packet_sync.specs.declared.field.Field.TheVariants.{RandomAccess, AdaptationData, Alignment, Flags, Scrambling, LongHeader, PrivateData, OtherHeaderData, UnreadHeader}
+use Rattle.packet_sync.specs.declared.left_out.FieldLeftOut.{FieldLeftOut}
+
+-- 1. One packet
+
+unfoldable pub pid_at : List ℕ → ℕ → ℕ
+pid_at bs at = slice_index bs (at + 1) % 32 * 256 + slice_index bs (at + 2)
+
+-- the field of this PID is there already
+abbrev pub is_noted : List FieldLeftOut → ℕ → Field → Bool
+is_noted found pid field = list_any (λ f. f.pid == pid && number_of f.field == number_of field) found
+
+-- with a field of a PID, if it stands in the packet and is not there yet
+unfoldable pub with_field : ℕ → Field → Bool → List FieldLeftOut → List FieldLeftOut
+with_field pid field stands found = if stands && not (is_noted found pid field) then found ++ record { pid = pid; field = field } ∷ [] else found
+
+-- with those of an adaptation field
+unfoldable pub with_adaptation : ℕ → ℕ → List FieldLeftOut → List FieldLeftOut
+with_adaptation pid flags found =
+    with_field pid AdaptationData (has_adaptation_data flags) (with_field pid RandomAccess (is_random_access flags) found)
+
+-- with those of the first flag byte of a PES header
+unfoldable pub with_flags : ℕ → List ℕ → List FieldLeftOut → List FieldLeftOut
+with_flags pid p found =
+    with_field pid Scrambling (is_scrambled p) (with_field pid Flags (has_other_flags p) (with_field pid Alignment (is_aligned p) found))
+
+-- with those of its header data
+unfoldable pub with_data : ℕ → List ℕ → List FieldLeftOut → List FieldLeftOut
+with_data pid p found =
+    with_field pid UnreadHeader (is_cut p)
+    (with_field pid OtherHeaderData (has_other_data (slice_index p 7) (extension_flags p)) (with_field pid PrivateData (has_private_data (extension_flags p)) (with_field pid LongHeader (is_long p) found)))
+
+-- with those of the PES header at the front of a payload; of one that is cut before its header data nothing is read
+unfoldable pub with_header : ℕ → List ℕ → List FieldLeftOut → List FieldLeftOut
+with_header pid p found =
+    if length p == 0 then found
+    else (if nat_lt (length p) 9 then with_field pid UnreadHeader true found
+    else (if is_flagged p then with_data pid p (with_flags pid p found) else found))
+
+-- with those of the packet at a place
+unfoldable pub with_packet : List ℕ → ℕ → List FieldLeftOut → List FieldLeftOut
+with_packet bs at found = with_header (pid_at bs at) (start_payload bs at) (with_adaptation (pid_at bs at) (adaptation_flags bs at) found)
+
+-- 2. All packets
+
+-- the packet at a place, or a slip there, and then those after it
+unfoldable pub with_next : List ℕ → Option ℕ → ℕ → List FieldLeftOut → (ℕ → List FieldLeftOut → List FieldLeftOut) → List FieldLeftOut
+with_next bs None at found after = after (at + 188) (with_packet bs at found)
+with_next bs (Some size) at found after = after (at + size) found
+
+-- from a place on, in at most n steps
+unfoldable pub fields_from : ℕ → List ℕ → ℕ → List FieldLeftOut → List FieldLeftOut
+fields_from zero bs at found = found
+fields_from (suc n) bs at found = if nat_lt (length bs) (at + 188) then found else with_next bs (slip_size bs at) at found (fields_from n bs)
+
+-- each step takes a byte at least
+unfoldable pub fields_left_out : List ℕ → List FieldLeftOut
+fields_left_out bs = fields_from (length bs) bs 0 []

@@ -1,0 +1,144 @@
+//! The fields of packets and of PES headers that are not written again (ISO/IEC 13818-1, 2.4.3.5 and 2.4.3.7).
+
+ghost use Rattle.std.specs.Prelude.{◌≡◌, ◌≤◌, ◌<◌, ◌+◌, length};
+ghost use Rattle.packet_sync.specs.Fields as spec;
+
+use crate::sync_bytes::PACKET_SIZE;
+use pes_packet::has_flags;
+
+/// A field that is not written again.
+#[derive(Clone, Copy)]
+pub enum Field {
+    /// random_access_indicator of an adaptation field.
+    RandomAccess,
+    /// splice_countdown, transport_private_data or the extension of an adaptation field.
+    AdaptationData,
+    /// data_alignment_indicator of a PES header.
+    Alignment,
+    /// PES_priority, copyright or original_or_copy.
+    Flags,
+    /// PES_scrambling_control: the PES packet is scrambled.
+    Scrambling,
+    /// The header of 45 bytes that teletext (EN 300 472, 4.2) and VBI data (EN 301 775, 4.3) have, so that their data
+    /// units stand in step with packets.
+    LongHeader,
+    /// PES_private_data, 16 bytes: where audio description has its levels (ETSI TS 101 154, annex E).
+    PrivateData,
+    /// ESCR, ES_rate, DSM_trick_mode, additional_copy_info, PES_CRC, or another part of PES_extension.
+    OtherHeaderData,
+    /// A PES header that goes on in another packet: what it carries there is not read.
+    UnreadHeader,
+}
+
+impl Field {
+    /// Its number.
+    #[tactic(auto, unfolding(crate::specs::Fields::number_of))]
+    pub(crate) fn number(self) -> u8
+        ensures { result ≡ spec.number_of self }
+    {
+        match self {
+            Field::RandomAccess => 0,
+            Field::AdaptationData => 1,
+            Field::Alignment => 2,
+            Field::Flags => 3,
+            Field::Scrambling => 4,
+            Field::LongHeader => 5,
+            Field::PrivateData => 6,
+            Field::OtherHeaderData => 7,
+            Field::UnreadHeader => 8,
+        }
+    }
+
+    /// Whether a viewer may lose something without it.
+    #[tactic(auto, unfolding(crate::specs::Fields::is_loss))]
+    pub fn is_loss(self) -> bool
+        ensures { result ≡ spec.is_loss self }
+    {
+        match self {
+            Field::Scrambling | Field::LongHeader | Field::PrivateData | Field::UnreadHeader =>
+                true,
+            _ => false,
+        }
+    }
+}
+
+/// The flag byte of the adaptation field of the packet at a place; 0 where there is none.
+#[tactic(auto, unfolding(crate::specs::Fields::adaptation_flags))]
+pub(crate) fn adaptation_flags(bytes: &[u8], at: usize) -> u8
+    requires { at + 188 ≤ length bytes.now }
+    ensures { result ≡ spec.adaptation_flags bytes.now at }
+{
+    if bytes[at + 3] / 32 % 2 == 1 && bytes[at + 4] != 0 {
+        bytes[at + 5]
+    } else {
+        0
+    }
+}
+
+// Whether a clear payload begins with a PES packet or a section.
+#[tactic(auto, unfolding(crate::specs::Fields::is_clear_start))]
+fn is_clear_start(bytes: &[u8], at: usize) -> bool
+    requires { at + 188 ≤ length bytes.now }
+    ensures { result ≡ spec.is_clear_start bytes.now at }
+{
+    bytes[at + 1] / 64 == 1 && bytes[at + 3] / 64 == 0 && bytes[at + 3] / 16 % 2 == 1
+}
+
+// Where the payload of the packet at a place begins.
+#[tactic(auto, unfolding(crate::specs::Fields::payload_place))]
+fn payload_place(bytes: &[u8], at: usize) -> usize
+    requires { at + 188 ≤ length bytes.now }
+    ensures { result ≡ spec.payload_place bytes.now at }
+{
+    if bytes[at + 3] / 32 % 2 == 1 {
+        at + 5 + bytes[at + 4] as usize
+    } else {
+        at + 4
+    }
+}
+
+/// The clear payload at whose front a PES packet or a section begins; empty where none does.
+#[tactic(auto, unfolding(crate::specs::Fields::start_payload))]
+pub(crate) fn start_payload(bytes: &[u8], at: usize) -> &[u8]
+    requires { at + 188 ≤ length bytes.now }
+    ensures { result.now ≡ spec.start_payload bytes.now at }
+{
+    let place = payload_place(bytes, at);
+    if is_clear_start(bytes, at) && place <= at + PACKET_SIZE {
+        &bytes[place..at + PACKET_SIZE]
+    } else {
+        &[]
+    }
+}
+
+/// Whether a PES packet begins there that has flag bytes.
+#[tactic(auto, unfolding(crate::specs::Fields::is_flagged))]
+pub(crate) fn is_flagged(payload: &[u8]) -> bool
+    requires { 9 ≤ length payload.now }
+    ensures { result ≡ spec.is_flagged payload.now }
+{
+    payload[0] == 0 && payload[1] == 0 && payload[2] == 1 && has_flags(payload[3])
+}
+
+// Where the flags of PES_extension stand, by the second flag byte.
+#[tactic(auto, unfolding(crate::specs::Fields::extension_place))]
+fn extension_place(flags: u8) -> usize
+    ensures { result ≡ spec.extension_place flags }
+{
+    let bit = |by: u8| (flags / by % 2) as usize;
+    9 + bit(128) * 5 + bit(64) * 5 + bit(32) * 6 + bit(16) * 3 + bit(8) + bit(4) + bit(2) * 2
+}
+
+/// The flags of PES_extension; 0 where there are none.
+#[tactic(auto, unfolding(crate::specs::Fields::extension_flags))]
+pub(crate) fn extension_flags(payload: &[u8]) -> u8
+    requires { 9 ≤ length payload.now }
+    ensures { result ≡ spec.extension_flags payload.now }
+{
+    let place = extension_place(payload[7]);
+    if payload[7] % 2 == 1 && place < 9 + payload[8] as usize && place < payload.len() {
+        payload[place]
+    } else {
+        0
+    }
+}

@@ -1,0 +1,28 @@
+-- The lines for fields of packets and of PES headers that are not written again.
+use Rattle.std.specs.Prelude.{ℕ, List, ◌++◌, flat_map, filter, codes, decimal}
+use Rattle.packet_sync.specs.declared.field.Field.{Field}
+use Rattle.packet_sync.specs.declared.field.Field.TheVariants.{RandomAccess, AdaptationData, Alignment, Flags, Scrambling, LongHeader, PrivateData, OtherHeaderData, UnreadHeader}
+use Rattle.packet_sync.specs.declared.left_out.FieldLeftOut.{FieldLeftOut}
+use Rattle.stream_jobs.specs.JobInput.{JobInputView, has_stream}
+
+unfoldable pub field_text : Field → List ℕ
+field_text RandomAccess = codes " random access indicators left out\n"
+field_text AdaptationData = codes " splice countdown, private data or extension of adaptation fields left out\n"
+field_text Alignment = codes " data alignment indicators left out\n"
+field_text Flags = codes " priority, copyright or original flags of PES headers left out\n"
+field_text Scrambling = codes " scrambled in PES packets: taken as it is\n"
+field_text LongHeader = codes " PES headers of 45 bytes: written without stuffing\n"
+field_text PrivateData = codes " private data of PES headers left out\n"
+field_text OtherHeaderData = codes " other data of PES headers left out\n"
+field_text UnreadHeader = codes " PES header goes on in another packet: not read\n"
+
+unfoldable pub field_line : FieldLeftOut → List ℕ
+field_line f = codes "pid " ++ decimal f.pid ++ field_text f.field
+
+-- a line each
+abbrev pub field_lines : List FieldLeftOut → List ℕ
+field_lines fields = flat_map field_line fields
+
+-- those of streams that are carried
+abbrev pub told_fields : JobInputView → List FieldLeftOut → List FieldLeftOut
+told_fields m fields = filter (λ f. has_stream m f.pid) fields
