@@ -11,8 +11,8 @@ use demux::{Finding, What};
 use psi_tables::Program;
 use std::alloc::{AllocError, Global};
 use stream_programs::{
-    Association, MapPart, TableOmission, association_change, found_programs, map_change, mapped_pids,
-    pes_count, stray_pids,
+    Association, MapPart, TableOmission, association_change, found_programs, map_change,
+    mapped_pids, pes_count, stray_pids,
 };
 use stream_units::{UnitWarning, unit_warnings};
 

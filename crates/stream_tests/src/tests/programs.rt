@@ -8,8 +8,8 @@ use demux::{Finding, Kind, Part, What};
 use psi_tables::Program;
 use std::alloc::{AllocError, Global};
 use stream_programs::{
-    Association, FoundPrograms, FoundStream, ProgramPids, StreamTables, TableOmission,
-    MapPart, association_change, found_programs, free_pid, last_service, map_change, named_programs,
+    Association, FoundPrograms, FoundStream, MapPart, ProgramPids, StreamTables, TableOmission,
+    association_change, found_programs, free_pid, last_service, map_change, named_programs,
     original_network, stream_tables,
 };
 use vectors::{EMPTY_MAP, FIRST_MAP, LAST_MAP, MORE, NEXT_PAT, OTHER_PAT, PAT, PMT, SDT};
