@@ -1,1 +1,2 @@
+pub mod PidCounts
 pub mod TableSteps

@@ -1,9 +1,9 @@
 -- Tables, finding by finding.
-use Rattle.std.proofs.Common.{◌≡◌, ◌≤◌, ◌<◌, ℕ, ◌+◌, List, ◌∷◌, ◌++◌, length, map, drop, get_or, refl, sym, add-one, arith}
+use Rattle.std.proofs.Common.{◌≡◌, ◌≤◌, ◌<◌, ℕ, ◌+◌, List, ◌∷◌, ◌++◌, length, map, drop, get_or, refl, sym, add-one}
 use Rattle.std.proofs.Math.Seq.{drop-cons}
 use Rattle.std.proofs.lemmas.List.{drop_all}
 use Rattle.demux.specs.Views.{FindingView}
-use Rattle.other_tables.specs.OtherTables.{table_at, tables_from, section_number, section_count}
+use Rattle.other_tables.specs.OtherTables.{table_at, tables_from}
 use Rattle.other_tables.specs.declared.tables.OtherTable.{OtherTable}
 
 next : {X : Type 0} (view : X → FindingView) (i : ℕ) (fs : List X) (f : X) → i < length fs → f ≡ get_or fs i f → map view (drop i fs) ≡ view f ∷ map view (drop (i + 1) fs)
@@ -18,12 +18,3 @@ pub tables_end : {X : Type 0} (view : X → FindingView) (all : List FindingView
     tables_from all found (map view (drop i fs)) ≡ found
 unfolding tables_from
 tables_end view all i fs found over = rw (drop_all i fs over) refl
-
-pub count_more : {X : Type 0} (view : X → FindingView) (pid i : ℕ) (fs : List X) (f : X) (count one : ℕ) → i < length fs → f ≡ get_or fs i f → one ≡ section_number pid (view f) →
-    count + section_count pid (map view (drop i fs)) ≡ (count + one) + section_count pid (map view (drop (i + 1) fs))
-unfolding section_count
-count_more view pid i fs f count one below at is = rw (next view i fs f below at, is) (omega (arith))
-
-pub count_end : {X : Type 0} (view : X → FindingView) (pid i : ℕ) (fs : List X) (count : ℕ) → length fs ≤ i → count + section_count pid (map view (drop i fs)) ≡ count
-unfolding section_count
-count_end view pid i fs count over = rw (drop_all i fs over) (omega (arith))

@@ -1,2 +1,3 @@
 pub mod OtherTables
+pub mod PidCounts
 pub mod TableKinds

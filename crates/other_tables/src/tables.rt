@@ -1,12 +1,16 @@
 //! The PIDs with tables that no job is made of.
 
-ghost use Rattle.std.specs.Prelude.{◌≡◌, ◌≤◌, ◌++◌, IfOk, OnOk, is_some, map, option_to_list};
+ghost use Rattle.std.specs.Prelude.{◌≡◌, ◌<◌, ◌-◌, ◌^◌, ◌++◌, [], ℕ, IfOk, OnOk, Some, length, map, option_to_list, slice_index};
 ghost use Rattle.demux.specs.Shown.{finding_view, what_view};
 ghost use Rattle.other_tables.specs.OtherTables as spec;
+ghost use Rattle.other_tables.specs.PidCounts as counted;
 
 use crate::kinds::{TableKind, kind_of};
 use demux::{Finding, What};
 use std::alloc::{AllocError, Global};
+
+/// How many numbers 16 bits have; a PID has 13.
+const PID_NUMBERS: usize = 65_536;
 
 /// A table that no job is made of.
 #[derive(Clone, Copy)]
@@ -32,64 +36,99 @@ fn kind_at(what: &What<'_>) -> Option<TableKind>
     }
 }
 
-// 1 for such a section of a PID, else 0.
-#[tactic(auto, unfolding(crate::specs::OtherTables::section_number))]
-fn section_number(pid: u16, finding: &Finding<'_>) -> usize
-    ensures value { result ≡ spec.section_number pid (finding_view finding.now) }
-    ensures bound { result ≤ 1 }
+// The PID of a finding that is such a section.
+#[tactic(auto, unfolding(crate::specs::PidCounts::table_pid))]
+fn table_pid(finding: &Finding<'_>) -> Option<u16>
+    ensures { result ≡ counted.table_pid (finding_view finding.now) }
 {
-    if finding.pid == Some(pid) && kind_at(&finding.what).is_some() {
-        1
+    if kind_at(&finding.what).is_some() {
+        finding.pid
     } else {
-        0
+        None
     }
 }
 
-// The number of such sections of a PID.
-fn section_count(pid: u16, findings: &[Finding<'_>]) -> usize
-    ensures { result ≡ spec.section_count pid (map finding_view findings.now) }
+// A count of none for each PID.
+fn no_counts(alloc: Global) -> Result<Vec<usize>, AllocError>
+    ensures { IfOk result (λ counts. counted.AreCounts counts.items []) }
 {
-    let mut count = 0;
-    for finding in findings {
-        count += section_number(pid, finding);
+    Ok(vec![in alloc; 0usize; PID_NUMBERS]?)
+}
+
+// No table is found on any PID.
+fn none_seen(alloc: Global) -> Result<Vec<bool>, AllocError>
+    ensures { IfOk result (λ seen. counted.AreSeen seen.items []) }
+{
+    Ok(vec![in alloc; false; PID_NUMBERS]?)
+}
+
+// Counts one more where a finding is such a section.
+#[tactic(auto, unfolding(crate::specs::PidCounts::counted_on))]
+fn count_section(finding: &Finding<'_>, counts: &mut Vec<usize>)
+    requires size { length counts.old.items ≡ 65_536 }
+    requires room { (pid : ℕ) → pid < 65_536 → slice_index counts.old.items pid < 2 ^ 64 - 1 }
+    ensures counts { counts.new.items ≡ counted.counted_with counts.old.items (finding_view finding.now) }
+    ensures fits { (pid : ℕ) → counted.table_pid (finding_view finding.now) ≡ Some pid → pid < 65_536 }
+{
+    if let Some(pid) = table_pid(finding) {
+        counts[pid as usize] += 1;
     }
-    count
 }
 
-// Whether a table on this PID is found already.
-fn is_found(found: &[OtherTable], pid: u16) -> bool
-    ensures { result ≡ spec.is_found found.now pid }
+// How many such sections each PID has, counted from the last to the first.
+fn section_counts(alloc: Global, findings: &[Finding<'_>]) -> Result<Vec<usize>, AllocError>
+    ensures { IfOk result (λ counts. counted.AreCounts counts.items (map finding_view findings.now)) }
 {
-    found.iter().any(|table| table.pid == pid)
+    let mut counts = no_counts(alloc)?;
+    let mut left = findings.len();
+    'findings: while left > 0 {
+        left -= 1;
+        count_section(&findings[left], &mut counts);
+    }
+    Ok(counts)
 }
 
-// The table that a finding is the first section of, with all sections of its PID.
-#[tactic(auto, unfolding(crate::specs::OtherTables::table_at, crate::specs::OtherTables::table_on))]
-fn table_at(all: &[Finding<'_>], found: &[OtherTable], finding: &Finding<'_>) -> Option<OtherTable>
-    ensures { option_to_list result ≡ spec.table_at (map finding_view all.now) found.now (finding_view finding.now) }
+// The table that a finding is the first section of, with the count of its PID.
+#[tactic(auto, unfolding(crate::specs::PidCounts::table_with, crate::specs::PidCounts::table_of))]
+fn table_with(counts: &[usize], seen: &[bool], finding: &Finding<'_>) -> Option<OtherTable>
+    requires counts { length counts.now ≡ 65_536 }
+    requires seen { length seen.now ≡ 65_536 }
+    ensures { option_to_list result ≡ counted.table_with counts.now seen.now (finding_view finding.now) }
 {
     let kind = kind_at(&finding.what)?;
     let pid = finding.pid?;
-    if is_found(found, pid) {
+    if seen[pid as usize] {
         return None;
     }
-    Some(OtherTable {
-        pid,
-        kind,
-        count: section_count(pid, all),
-    })
+    let count = counts[pid as usize];
+    Some(OtherTable { pid, kind, count })
+}
+
+// Notes that a table is found on the PID of a finding.
+#[tactic(auto, unfolding(crate::specs::PidCounts::seen_on))]
+fn note_seen(finding: &Finding<'_>, seen: &mut Vec<bool>)
+    requires { length seen.old.items ≡ 65_536 }
+    ensures seen { seen.new.items ≡ counted.seen_with seen.old.items (finding_view finding.now) }
+    ensures fits { (pid : ℕ) → counted.table_pid (finding_view finding.now) ≡ Some pid → pid < 65_536 }
+{
+    if let Some(pid) = table_pid(finding) {
+        seen[pid as usize] = true;
+    }
 }
 
 // Appends the table that a finding is the first section of.
 fn push_table(
-    all: &[Finding<'_>],
+    counts: &[usize],
+    seen: &[bool],
     finding: &Finding<'_>,
     found: &mut Vec<OtherTable>,
 ) -> Result<(), AllocError>
+    requires counts { length counts.now ≡ 65_536 }
+    requires seen { length seen.now ≡ 65_536 }
     ensures { OnOk result (found.new.items ≡ found.old.items
-        ++ spec.table_at (map finding_view all.now) found.old.items (finding_view finding.now)) }
+        ++ counted.table_with counts.now seen.now (finding_view finding.now)) }
 {
-    if let Some(table) = table_at(all, found, finding) {
+    if let Some(table) = table_with(counts, seen, finding) {
         found.push(table)?;
     }
     Ok(())
@@ -100,9 +139,12 @@ fn push_table(
 pub fn other_tables(alloc: Global, findings: &[Finding<'_>]) -> Result<Vec<OtherTable>, AllocError>
     ensures { IfOk result (λ found. found.items ≡ spec.other_tables (map finding_view findings.now)) }
 {
+    let counts = section_counts(alloc, findings)?;
+    let mut seen = none_seen(alloc)?;
     let mut found = Vec::new(alloc);
     for finding in findings {
-        push_table(findings, finding, &mut found)?;
+        push_table(&counts, &seen, finding, &mut found)?;
+        note_seen(finding, &mut seen);
     }
     Ok(found)
 }
