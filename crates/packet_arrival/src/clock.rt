@@ -173,6 +173,21 @@ impl ProgramClock {
         }
     }
 
+    /// The last reference.
+    pub fn last(&self) -> Option<TimedSample>
+        ensures { result ≡ self.now.last }
+    {
+        self.last
+    }
+
+    /// The line that ends there, if the clock went on to it.
+    pub fn line(&self) -> Option<Line>
+        ensures line { result ≡ self.now.line }
+        ensures clock { IfSome result IsClockLine }
+    {
+        self.line
+    }
+
     /// The next reference comes.
     pub fn take(&mut self, sample: PcrSample) -> Passed
         requires { IsInRange sample }

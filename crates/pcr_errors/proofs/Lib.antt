@@ -1,0 +1,3 @@
+pub mod Rounding
+pub mod Clocks
+pub mod WholeTicks

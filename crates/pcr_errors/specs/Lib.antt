@@ -1,0 +1,6 @@
+pub mod Samples
+pub mod Measures
+pub mod Errors
+pub mod Counts
+pub mod Watches
+pub mod Laws

@@ -1,0 +1,76 @@
+-- The entry of a key is that of its own sections.
+use Rattle.std.proofs.Common.{◌≡◌, ◌∙◌, ℕ, ◌-◌, ◌*◌, ◌==◌, Bool, true, false, cond, nat_eq, nat_lt, List, [], ◌∷◌, map, filter, Option, Some, refl, ap, subst, arith}
+use Rattle.std.specs.Prelude.{max}
+use Rattle.std.specs.Map.{lookup}
+use Rattle.std.proofs.lemmas.Bool.Decides.{nat_tests}
+use Rattle.std.proofs.Math.Nat.{lt_of_mul-lt-mul_right, mul-le-mul_right}
+use Rattle.std.proofs.lemmas.Grind.{div_ceil_times}
+use Rattle.indexmap.specs.IndexMap.{insert_entry}
+use Rattle.table_intervals.specs.declared.intervals.SectionPlaces.{SectionPlaces}
+use Rattle.table_intervals.specs.Intervals.{section_key, places_after, places_at}
+use Rattle.table_intervals.specs.Laws.{state_of, packets_of, places_of, greatest_gap, EntryLaw, GreatestLaw, TimeLaw}
+
+same_number : (a b : ℕ) → (a == b) ≡ true → a ≡ b
+same_number a b e = grind (arith, nat_tests)
+
+turned_test : (a b : ℕ) → (a == b) ≡ (b == a)
+turned_test a b = by (a == b) (b == a) refl refl
+  where
+    by : (s t : Bool) → (a == b) ≡ s → (b == a) ≡ t → s ≡ t
+    by true true p q = refl
+    by false false p q = refl
+    by true false p q = absurd (grind (arith, nat_tests))
+    by false true p q = absurd (grind (arith, nat_tests))
+
+-- a key's entry after another's is inserted
+found : (key k : ℕ) (x : SectionPlaces) (es : List (ℕ × SectionPlaces)) (t : Bool) → (k == key) ≡ t →
+    lookup (nat_eq key) (insert_entry nat_eq es k x) ≡ cond t (Some x) (lookup (nat_eq key) es)
+found key k x [] t e = rw (turned_test key k ∙ e) refl
+found key k x (y ∷ es) t e = by t e (k == y.0) refl (found key k x es t e)
+  where
+    by : (t : Bool) → (k == key) ≡ t → (u : Bool) → (k == y.0) ≡ u → lookup (nat_eq key) (insert_entry nat_eq es k x) ≡ cond t (Some x) (lookup (nat_eq key) es) →
+        lookup (nat_eq key) (cond u ((y.0, x) ∷ es) (y ∷ insert_entry nat_eq es k x)) ≡ cond t (Some x) (cond (nat_eq key y.0) (Some y.1) (lookup (nat_eq key) es))
+    by true e true f h = let g : (key == y.0) ≡ true = subst (λ (n : ℕ). (n == y.0) ≡ true) (same_number k key e) f in rw g refl
+    by false e true f h = let g : (key == y.0) ≡ false = subst (λ (n : ℕ). (key == n) ≡ false) (same_number k y.0 f) (turned_test key k ∙ e) in rw g refl
+    by true e false f h = let g : (key == y.0) ≡ false = subst (λ (n : ℕ). (n == y.0) ≡ false) (same_number k key e) f in rw g h
+    by false e false f h = ap (λ (o : Option SectionPlaces). cond (nat_eq key y.0) (Some y.1) o) h
+
+pub entry_law : EntryLaw
+unfolding state_of places_of
+entry_law rate key [] = refl
+entry_law rate key (s ∷ earlier) =
+    found key (section_key s) (places_after (places_at (state_of rate earlier) (section_key s)) s.packet) (state_of rate earlier).entries (section_key s == key) refl
+    ∙ by (section_key s == key) refl (entry_law rate key earlier)
+  where
+    by : (t : Bool) → (section_key s == key) ≡ t → places_at (state_of rate earlier) key ≡ places_of (packets_of key earlier) →
+        cond t (Some (places_after (places_at (state_of rate earlier) (section_key s)) s.packet)) (places_at (state_of rate earlier) key)
+        ≡ places_of (map (λ s. s.packet) (cond t (s ∷ filter (λ s. section_key s == key) earlier) (filter (λ s. section_key s == key) earlier)))
+    by true e rest =
+        ap (λ (k : ℕ). Some (places_after (places_at (state_of rate earlier) k) s.packet)) (same_number (section_key s) key e)
+        ∙ ap (λ (before : Option SectionPlaces). Some (places_after before s.packet)) rest
+    by false e rest = rest
+
+-- the greater of two
+greater : (a b : ℕ) → cond (nat_lt a b) b a ≡ max b a
+greater a b = by (nat_lt a b) refl
+  where
+    by : (t : Bool) → nat_lt a b ≡ t → cond t b a ≡ max b a
+    by true e = grind (arith, nat_tests)
+    by false e = grind (arith, nat_tests)
+
+step : (p : SectionPlaces) (packet before gap : ℕ) → p.greatest ≡ gap → p.last ≡ before → (places_after (Some p) packet).greatest ≡ max (packet - before) gap
+unfolding places_after
+step p packet before gap g l = rw (g, l) (greater gap (packet - before))
+
+pub greatest_law : GreatestLaw
+unfolding places_of greatest_gap places_after
+greatest_law packet [] = (refl, refl)
+greatest_law packet (before ∷ earlier) =
+    let h = greatest_law before earlier in
+    (step (places_after (places_of earlier) before) packet before (greatest_gap (before ∷ earlier)) h.0 h.1, refl)
+
+pub time_law : TimeLaw
+time_law rate packets limit some = (
+  λ more. let m = mul-le-mul_right rate more in omega (arith, (div_ceil_times (packets * 40608000000) rate some).1, m),
+  λ more. lt_of_mul-lt-mul_right rate (omega (arith, more, (div_ceil_times (packets * 40608000000) rate some).0)),
+)

@@ -1,0 +1,190 @@
+//! Where sections begin, one after another.
+ghost use Rattle.std.specs.Prelude.{◌≡◌, IfOk, OnOk, nat_eq};
+ghost use Rattle.std.specs.Map.{lookup};
+ghost use Rattle.table_intervals.specs.Intervals as spec;
+
+use crate::limits::limit_of;
+use clock27::Rate;
+use indexmap::IndexMap;
+use std::alloc::{AllocError, Allocator};
+use std::hash::{BuildHasherDefault, FoldHasher};
+use std::marker::Model;
+
+// How long a packet lasts at 1 bit a second, in ticks of 27 MHz: 188 * 8 * 27,000,000.
+const PACKET_TICKS_AT_1BPS: u128 = 40_608_000_000;
+
+/// A section of a table_id begins in a packet of a PID.
+#[derive(Clone, Copy)]
+pub struct SectionBegin {
+    pub pid: u16,
+    pub table_id: u8,
+    pub packet: u64,
+}
+
+/// The sections of a table_id on a PID: their number, which stops at 2^64 - 1, the packet in which the last one begins, the
+/// greatest number of packets from one to the next, and the first packet that ends so long a time.
+#[derive(Clone, Copy)]
+pub struct SectionPlaces {
+    pub sections: u64,
+    pub last: u64,
+    pub greatest: u64,
+    pub at: u64,
+}
+
+/// A section begins too long after the one before it of its table_id: the time between in ticks, and the limit.
+#[derive(Clone, Copy)]
+pub struct TableError {
+    pub section: SectionBegin,
+    pub value: u128,
+    pub limit: u64,
+}
+
+/// Sections by PID and table_id, in the order in which these were first seen: `pid_of` and `table_id_of` of a key say
+/// which these are.
+pub type TableEntries<A> = IndexMap<u32, SectionPlaces, BuildHasherDefault<FoldHasher>, A>;
+
+/// The sections of a stream as far as they have come, at a constant rate.
+#[derive(Drop)]
+pub struct TableIntervals<A: Allocator> {
+    rate: Rate,
+    entries: TableEntries<A>,
+}
+
+impl<A: Allocator> Model for TableIntervals<A> {
+    ghost use Rattle.table_intervals.specs.Intervals.{IntervalState};
+
+    ghost Value = { IntervalState };
+
+    ghost view = { λ t. record { rate = t.rate; entries = t.entries.entries } };
+}
+
+/// The key of a PID and a table_id.
+pub fn key_of(pid: u16, table_id: u8) -> u32
+    ensures { result ≡ spec.key_of pid table_id }
+{
+    u32::from(pid) * 256 + u32::from(table_id)
+}
+
+/// The PID of a key.
+pub fn pid_of(key: u32) -> u32
+    ensures { result ≡ spec.pid_of key }
+{
+    key / 256
+}
+
+/// The table_id of a key.
+pub fn table_id_of(key: u32) -> u8
+    ensures { result ≡ spec.table_id_of key }
+{
+    (key % 256) as u8
+}
+
+/// The time of packets at a rate, in ticks, rounded up.
+pub fn time_of_packets(rate: Rate, packets: u64) -> u128
+    ensures { result ≡ spec.time_of_packets rate packets }
+{
+    (u128::from(packets) * PACKET_TICKS_AT_1BPS).div_ceil(u128::from(rate.bits_per_second()))
+}
+
+// After a section that begins in a packet.
+#[tactic(auto, unfolding(crate::specs::Intervals::places_after))]
+fn places_after(before: &Option<SectionPlaces>, packet: u64) -> SectionPlaces
+    ensures { result ≡ spec.places_after before.now packet }
+{
+    match before {
+        None => SectionPlaces {
+            sections: 1,
+            last: packet,
+            greatest: 0,
+            at: packet,
+        },
+        Some(before) => {
+            let gap = packet.saturating_sub(before.last);
+            let longer = gap > before.greatest;
+            SectionPlaces {
+                sections: before.sections.saturating_add(1),
+                last: packet,
+                greatest: if longer { gap } else { before.greatest },
+                at: if longer { packet } else { before.at },
+            }
+        }
+    }
+}
+
+// A time that is beyond its limit.
+fn beyond(section: SectionBegin, value: u128, limit: u64) -> Option<TableError>
+    ensures { result ≡ spec.beyond section value limit }
+{
+    if value > u128::from(limit) {
+        Some(TableError {
+            section,
+            value,
+            limit,
+        })
+    } else {
+        None
+    }
+}
+
+// Whether a section begins too long after the one before it.
+#[tactic(auto, unfolding(crate::specs::Intervals::error_if))]
+fn error_if(
+    rate: Rate,
+    section: SectionBegin,
+    before: &Option<SectionPlaces>,
+    limit: Option<u64>,
+) -> Option<TableError>
+    ensures { result ≡ spec.error_if rate section before.now limit }
+{
+    match (before, limit) {
+        (Some(before), Some(limit)) => {
+            let packets = section.packet.saturating_sub(before.last);
+            beyond(section, time_of_packets(rate, packets), limit)
+        }
+        _ => None,
+    }
+}
+
+fn places_at<A: Allocator>(entries: &TableEntries<A>, key: u32) -> Option<SectionPlaces>
+    ensures { result ≡ lookup (nat_eq key) entries.now.entries }
+{
+    match entries.get(&key) {
+        None => None,
+        Some(places) => Some(*places),
+    }
+}
+
+impl<A: Allocator + Copy> TableIntervals<A> {
+    /// Before the first section.
+    pub fn new(alloc: A, rate: Rate) -> TableIntervals<A>
+        ensures { result ≡ spec.no_section rate }
+    {
+        TableIntervals {
+            rate,
+            entries: IndexMap::new(alloc),
+        }
+    }
+
+    /// The sections of each PID and table_id.
+    pub fn entries(&self) -> &TableEntries<A>
+        ensures { result.now.entries ≡ self.now.entries }
+    {
+        &self.entries
+    }
+
+    /// The next section, and its error.
+    ///
+    /// After an `AllocError` the intervals are those of no stream: drop it.
+    pub fn take(&mut self, section: SectionBegin) -> Result<Option<TableError>, AllocError>
+        ensures intervals { OnOk result (self.new ≡ spec.taken self.old section) }
+        ensures error { IfOk result (λ error. error ≡ spec.error_at self.old section) }
+    {
+        let key = key_of(section.pid, section.table_id);
+        let before = places_at(&self.entries, key);
+        let limit = limit_of(section.pid, section.table_id);
+        let error = error_if(self.rate, section, &before, limit);
+        let places = places_after(&before, section.packet);
+        self.entries.insert(key, places)?;
+        Ok(error)
+    }
+}

@@ -1,0 +1,21 @@
+//! How long the tables of a stream stay away (ETSI TR 101 290, 5.2.1 and 5.2.3; ETSI TR 101 211, 4.4): the greatest time from
+//! one section of a table_id on a PID to the next, and which of these times are too long.
+//!
+//! - [`TableIntervals`]: takes where sections begin; keeps one entry for each PID and table_id, whatever the length of
+//!   the stream.
+//! - [`limit_of`]: the time within which a table has to come again.
+//! - [`laws`]: an entry is that of all sections of its PID and table_id.
+//!
+//! A packet lasts 40,608,000,000 / R ticks of 27 MHz at R bits a second. Times are rounded up to whole ticks, so that one is
+//! beyond its limit exactly where the exact one is.
+#![tactic(auto)]
+
+mod intervals;
+pub mod laws;
+mod limits;
+
+pub use intervals::{
+    SectionBegin, SectionPlaces, TableEntries, TableError, TableIntervals, key_of, pid_of,
+    table_id_of, time_of_packets,
+};
+pub use limits::limit_of;
