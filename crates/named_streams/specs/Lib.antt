@@ -1,1 +1,2 @@
 pub mod NamedStreams
+pub mod Laws

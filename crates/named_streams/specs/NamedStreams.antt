@@ -1,5 +1,5 @@
 -- The elementary streams that the first packets of a stream name.
-use Rattle.std.specs.Prelude.{ℕ, ◌+◌, ◌-◌, ◌^◌, ◌==◌, ◌||◌, not, min, nat_le, is_some, Bool, false, if◌then◌else◌, List, [], ◌∷◌, length, Option, Some, None}
+use Rattle.std.specs.Prelude.{◌≡◌, ℕ, ◌+◌, ◌-◌, ◌^◌, ◌==◌, ◌||◌, min, nat_le, is_some, Bool, false, if◌then◌else◌, List, [], ◌∷◌, Option, Some, None}
 use Rattle.std.specs.List.{list_all}
 use Rattle.psi_tables.specs.declared.pat.programs.Program.{Program}
 use Rattle.demux.specs.Views.{FindingView}
@@ -26,33 +26,40 @@ streams_at last found = streams_by last found (association found)
 pub record NamedView : Type 0 where
   pub demux : StreamState
   pub packets : ℕ
-  pub looked : ℕ
   pub streams : Option FoundProgramsView
 
 -- before the first packet
 abbrev pub none_taken : NamedView
-none_taken = record { demux = start; packets = 0; looked = 0; streams = None }
+none_taken = record { demux = start; packets = 0; streams = None }
 
 -- so many packets are looked at
 abbrev pub is_last : ℕ → Bool
 is_last packets = nat_le FIRST_PACKETS packets
 
--- after a packet: it is looked for streams where something more is found, and at the last packet
-abbrev pub looked_at : ℕ → ℕ → StreamState → NamedView
-looked_at packets looked demux = record {
-  demux = demux;
-  packets = packets;
-  looked = length demux.found;
-  streams = if is_last packets || not (length demux.found == looked) then streams_at (is_last packets) demux.found else None;
+-- numbers of packets stop at 2^32 - 1
+abbrev pub next_packet : ℕ → ℕ
+next_packet packets = min (packets + 1) (2 ^ 32 - 1)
+
+-- with another packet: the streams as what is found with it names them
+abbrev pub looked_at : NamedView → List ℕ → NamedView
+looked_at s bytes = record {
+  demux = pushed s.demux bytes;
+  packets = next_packet s.packets;
+  streams = streams_at (is_last (next_packet s.packets)) (pushed s.demux bytes).found;
 }
 
 -- once the streams are known, nothing more is looked at
 unfoldable pub taken_if : NamedView → Option FoundProgramsView → List ℕ → NamedView
-taken_if s None bytes = looked_at (min (s.packets + 1) (2 ^ 32 - 1)) s.looked (pushed s.demux bytes)
+taken_if s None bytes = looked_at s bytes
 taken_if s (Some streams) bytes = s
 
 abbrev pub taken : NamedView → List ℕ → NamedView
 taken s bytes = taken_if s s.streams bytes
+
+-- streams that are not known are not named by what is found
+unfoldable pub AreUnknown : Option FoundProgramsView → List FindingView → Type 0
+AreUnknown None found = streams_at false found ≡ None
+AreUnknown (Some streams) found = Unit {0}
 
 -- the stream of a PID among these
 unfoldable pub stream_in : ℕ → List FoundStreamView → Option FoundStreamView

@@ -1,9 +1,7 @@
 //! The streams that the tables name.
-ghost use Rattle.std.specs.Prelude.{◌≡◌, IfOk, OnOk, is_some, map, option_map};
-ghost use Rattle.std.specs.List.{list_all};
+ghost use Rattle.std.specs.Prelude.{◌≡◌, None, false, IfOk, OnErr, OnOk, length, map, option_map};
 ghost use Rattle.demux.specs.Shown.{finding_view};
 ghost use Rattle.demux.specs.Stream.{pushed};
-ghost use Rattle.stream_programs.specs.Association.{association};
 ghost use Rattle.named_streams.specs.NamedStreams as spec;
 
 use demux::{Demux, Finding};
@@ -20,23 +18,23 @@ pub const FIRST_PACKETS: u32 = 32_768;
 /// The streams of the programs that the first packets of a stream name: those of the first packets by which each program
 /// of the association table has a map, or of the first 32,768.
 ///
-/// After an `AllocError` it is that of no stream: drop it.
+/// After an `AllocError` no packet was taken.
 #[derive(Drop)]
 pub struct NamedStreams {
     alloc: Global,
     demux: Demux,
     packets: u32,
-    looked: usize,
     found: Option<FoundPrograms>,
 }
 
 impl Model for NamedStreams {
-    ghost use Rattle.std.specs.Prelude.{option_map};
-    ghost use Rattle.named_streams.specs.NamedStreams.{NamedView};
+    ghost use Rattle.named_streams.specs.NamedStreams.{AreUnknown, NamedView};
 
     ghost Value = { NamedView };
 
-    ghost view = { λ n. record { demux = n.demux; packets = n.packets; looked = n.looked; streams = n.found } };
+    ghost view = { λ n. record { demux = n.demux; packets = n.packets; streams = n.found } };
+
+    ghost invariant = { λ n. AreUnknown n.found n.demux.found };
 }
 
 // Whether each of these programs has a map.
@@ -90,6 +88,40 @@ fn streams_at(
     streams_by(alloc, last, findings, &table)
 }
 
+// The same, where `before` findings did not name them: without more, nothing is looked for.
+fn streams_if_more(
+    alloc: Global,
+    last: bool,
+    before: usize,
+    findings: &[Finding<'_>],
+) -> Result<Option<FoundPrograms>, AllocError>
+    requires { length findings.now ≡ before → spec.streams_at false (map finding_view findings.now) ≡ None }
+    ensures { IfOk result (λ found. found ≡ spec.streams_at last (map finding_view findings.now)) }
+{
+    if !last && findings.len() == before {
+        return Ok(None);
+    }
+    streams_at(alloc, last, findings)
+}
+
+// The streams with another packet, where they are not known without it.
+fn streams_with(
+    alloc: Global,
+    demux: &mut Demux,
+    last: bool,
+    bytes: &[u8; 188],
+) -> Result<Option<FoundPrograms>, AllocError>
+    requires { spec.streams_at false demux.old.found ≡ None }
+    ensures demux { OnOk result (demux.new ≡ pushed demux.old bytes.now) }
+    ensures streams { IfOk result (λ found. found ≡ spec.streams_at last demux.new.found) }
+{
+    let before = demux.findings().len();
+    let Ok(()) = demux.push(bytes) else {
+        return Err(AllocError);
+    };
+    streams_if_more(alloc, last, before, demux.findings())
+}
+
 // The stream of a PID.
 #[tactic(auto, unfolding(crate::specs::NamedStreams::stream_in))]
 fn stream_in<'s>(pid: u16, streams: &'s [FoundStream]) -> Option<&'s FoundStream>
@@ -112,39 +144,55 @@ impl NamedStreams {
             alloc,
             demux: Demux::new(alloc),
             packets: 0,
-            looked: 0,
             found: None,
         }
     }
 
-    // Looks for the streams where something more was found.
-    fn look(&mut self) -> Result<(), AllocError>
-        ensures { OnOk result (self.new ≡ spec.looked_at self.old.packets self.old.looked self.old.demux) }
+    // Another packet, where the streams are not known yet.
+    fn look(&mut self, bytes: &[u8; 188]) -> Result<(), AllocError>
+        requires { self.old.streams ≡ None }
+        ensures taken { OnOk result (self.new ≡ spec.looked_at self.old bytes.now) }
+        ensures none { OnErr result (self.new ≡ spec.none_taken) }
     {
-        let last = self.packets >= FIRST_PACKETS;
-        let count = self.demux.findings().len();
-        self.found = if last || count != self.looked {
-            streams_at(self.alloc, last, self.demux.findings())?
-        } else {
-            None
-        };
-        self.looked = count;
-        Ok(())
+        let packets = self.packets.saturating_add(1);
+        match streams_with(self.alloc, &mut self.demux, packets >= FIRST_PACKETS, bytes) {
+            Ok(found) => {
+                self.packets = packets;
+                self.found = found;
+                Ok(())
+            }
+            Err(error) => {
+                self.demux = Demux::new(self.alloc);
+                self.packets = 0;
+                Err(error)
+            }
+        }
     }
 
     /// The next packet. Once the streams are known, nothing more is looked at.
     #[tactic(auto, unfolding(crate::specs::NamedStreams::taken_if))]
     pub fn take(&mut self, bytes: &[u8; 188]) -> Result<(), AllocError>
-        ensures { OnOk result (self.new ≡ spec.taken self.old bytes.now) }
+        ensures taken { OnOk result (self.new ≡ spec.taken self.old bytes.now) }
+        ensures none { OnErr result (self.new ≡ spec.none_taken) }
     {
         if self.found.is_some() {
             return Ok(());
         }
-        let Ok(()) = self.demux.push(bytes) else {
-            return Err(AllocError);
-        };
-        self.packets = self.packets.saturating_add(1);
-        self.look()
+        self.look(bytes)
+    }
+
+    /// What is found of the packets that were looked at.
+    pub fn findings(&self) -> &[Finding<'static>]
+        ensures { map finding_view result.now ≡ self.now.demux.found }
+    {
+        self.demux.findings()
+    }
+
+    /// The programs and their streams, once these are known.
+    pub fn found(&self) -> Option<&FoundPrograms>
+        ensures { option_map (λ found. found.now) result ≡ self.now.streams }
+    {
+        self.found.as_ref()
     }
 
     /// The stream of a PID, once the streams are known.
