@@ -1,3 +1,4 @@
 pub mod Rounding
 pub mod Clocks
 pub mod WholeTicks
+pub mod Examples
