@@ -1,6 +1,6 @@
 -- The definitions at numbers.
-use Rattle.std.proofs.Common.{◌≡◌, Some, None, refl, ◌+◌, ◌*◌}
-use Rattle.pcr_errors.specs.Measures.{rate_on, time_of_bytes, parts_off, nanoseconds_off, off_neighbours}
+use Rattle.std.proofs.Common.{◌≡◌, refl}
+use Rattle.pcr_errors.specs.Measures.{rate_on, time_of_bytes, nanoseconds_off, off_neighbours}
 
 -- 52,500 bytes at 4,200,000 bits a second take 100 ms, and one byte more 51 ticks and a part of one
 in_time : time_of_bytes 4200000 52500 ≡ 2700000

@@ -4,3 +4,4 @@ pub mod Errors
 pub mod Counts
 pub mod Watches
 pub mod Laws
+pub mod PidWatches

@@ -2,7 +2,8 @@
 //! 5.2.2, 2.3a, 2.3b and 2.4), reference by reference, in constant memory.
 //!
 //! - [`pcr_sample`]: the reference of a packet.
-//! - [`PcrWatch`]: takes the references of a PID, and gives a report on each.
+//! - [`PcrWatches`]: takes the packets of a stream, and gives a report on each reference: one watch a PID is kept.
+//! - [`PcrWatch`]: so of the references of one PID.
 //! - [`PcrReport`]: where the clock goes on or begins anew, the rate that two references give, the time between them, how
 //!   far one lies from where it ought to; and which of these is an error.
 //! - [`PcrCounts`]: reports counted, with their greatest values.
@@ -18,8 +19,10 @@ mod measures;
 mod report;
 mod sample;
 mod watch;
+mod watches;
 
 pub use counts::PcrCounts;
 pub use report::{GREATEST_INACCURACY, GREATEST_INTERVAL, Inaccuracy, PcrError, PcrReport};
 pub use sample::pcr_sample;
 pub use watch::{PcrTiming, PcrWatch};
+pub use watches::{PcrEntries, PcrWatches};

@@ -1,3 +1,4 @@
 pub mod Limits
 pub mod Intervals
+pub mod Sections
 pub mod Laws

@@ -3,6 +3,7 @@
 //!
 //! - [`TableIntervals`]: takes where sections begin; keeps one entry for each PID and table_id, whatever the length of
 //!   the stream.
+//! - [`section_begin`]: where the section of a finding begins.
 //! - [`limit_of`]: the time within which a table has to come again.
 //! - [`laws`]: an entry is that of all sections of its PID and table_id.
 //!
@@ -13,9 +14,11 @@
 mod intervals;
 pub mod laws;
 mod limits;
+mod sections;
 
 pub use intervals::{
     SectionBegin, SectionPlaces, TableEntries, TableError, TableIntervals, key_of, pid_of,
     table_id_of, time_of_packets,
 };
 pub use limits::limit_of;
+pub use sections::section_begin;

@@ -1,0 +1,21 @@
+-- The definitions at numbers.
+use Rattle.std.proofs.Common.{◌≡◌, Some, refl}
+use Rattle.table_intervals.specs.Intervals.{time_of_packets, no_section, taken, error_at, error_if, places_after}
+use Rattle.table_intervals.specs.Limits.{milliseconds}
+
+-- 1,504,000 bits a second are 1,000 packets a second: 500 of them take 500 ms, and one more a millisecond more
+in_time : time_of_packets 1504000 500 ≡ 13500000
+in_time = refl
+
+late : time_of_packets 1504000 501 ≡ 13527000
+late = refl
+
+-- at 1 bit a second more a tick and less
+rounded : time_of_packets 1504001 500 ≡ 13499992
+rounded = refl
+
+-- so the second of these sections of a PAT is late
+error : error_at (taken (no_section 1504000) (record { pid = 0; table_id = 0; packet = 7 })) (record { pid = 0; table_id = 0; packet = 508 })
+    ≡ Some (record { section = record { pid = 0; table_id = 0; packet = 508 }; value = 13527000; limit = 13500000 })
+unfolding milliseconds error_if places_after
+error = refl
