@@ -1,2 +1,3 @@
 pub mod References
 pub mod Packets
+pub mod Laws
