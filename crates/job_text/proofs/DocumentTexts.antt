@@ -1,5 +1,5 @@
--- The texts of a heading, of programs and of streams are one document.
-use Rattle.std.proofs.Common.{◌≡◌, ℕ, suc, pos, ◌≤◌, Bool, true, false, ◌==◌, List, [], ◌∷◌, ◌++◌, length, map, codes, refl, sym, ap, ap₂, subst, ◌∙◌, arith, append_assoc, append-nil}
+-- The texts of a heading, of a network, of programs and of streams are one document.
+use Rattle.std.proofs.Common.{◌≡◌, ℕ, suc, pos, ◌≤◌, Bool, true, false, ◌==◌, Option, Some, None, option_map, List, [], ◌∷◌, ◌++◌, length, map, codes, refl, sym, ap, ap₂, subst, ◌∙◌, arith, append_assoc, append-nil}
 use Rattle.std.proofs.lemmas.Bool.Decides.{nat_tests}
 use Rattle.std.specs.Prelude.{All}
 use Rattle.std.specs.List.{flat_map}
@@ -14,14 +14,15 @@ use Rattle.toml.specs.Text.{IsLinesText, IsDocumentText, expressions, pairs, sec
 use Rattle.toml.specs.Tables.{Expression}
 use Rattle.toml.proofs.Lines.{IsLinesText-append, after}
 use Rattle.toml.proofs.ReadBack.{parse_document-printed}
-use Rattle.job_text.specs.DescriptionParts.{HeadingView, ProgramPartView, StreamPartView}
+use Rattle.job_text.specs.DescriptionParts.{HeadingView, NetworkPartView, ProgramPartView, StreamPartView}
 use Rattle.job_text.specs.KeyLines.{with_numbers, with_hex, hex_line, key_line, number_lines}
 use Rattle.job_text.specs.Fields.{program_numbers, burst_numbers, group_numbers, time_numbers, pace_numbers, last_numbers}
-use Rattle.job_text.specs.Documents.{document, elements_of, with_tables, program_table, stream_rest, stream_members, stream_table}
-use Rattle.job_text.specs.Texts.{heading_text, program_text, stream_text}
-use Rattle.job_text.specs.Laws.{Fits, FitsHeading, FitsProgram, FitsAllowance, FitsStream, TextsAreRead}
+use Rattle.job_text.specs.Documents.{document, elements_of, with_table, with_tables, network_table, program_table, stream_rest, stream_members, stream_table}
+use Rattle.job_text.specs.Texts.{heading_text, network_text, network_if_any, program_text, stream_text}
+use Rattle.job_text.specs.Laws.{Fits, FitsHeading, FitsNetwork, FitsProgram, FitsAllowance, FitsStream, TextsAreRead}
 use Rattle.job_text.proofs.Scalars.{AreScalars, IsScalar, scalar_lines, lines_are_text}
 use Rattle.job_text.proofs.TableArrays.{AreTables, element_lines, elements_are_text, pairs_past, sections_with, shallow, dated_past, sorted_past, before_tables}
+use Rattle.job_text.proofs.SingleTables.{IsTable, lines_if_any, expressions_if_any, table_is_text, pairs_past_table, sections_with_table, shallow_table, dated_past_table, sorted_past_table, before_table}
 
 -- numbers are scalars
 small : (n : ℕ) → Fits n → IsScalar (integer (pos n))
@@ -66,6 +67,31 @@ hex_after key (b ∷ bytes) more first last = ap (is_before key) (hex_some b byt
 hex_lines : (bytes : List ℕ) (more : Members) → scalar_lines (with_hex (codes "descriptors") bytes more) ≡ hex_line (codes "descriptors") bytes ++ scalar_lines more
 hex_lines [] more = ap scalar_lines (hex_none more) ∙ ap (λ (l : List ℕ). l ++ scalar_lines more) (sym line_none)
 hex_lines (b ∷ bytes) more = ap scalar_lines (hex_some b bytes more) ∙ ap (λ (l : List ℕ). l ++ scalar_lines more) (sym (line_some b bytes))
+
+-- a network
+network_rest : NetworkPartView → Members
+network_rest n = member (codes "id") (integer (pos n.id)) (member (codes "name") (string n.name) no_members)
+
+network_scalars : (n : NetworkPartView) → Fits n.id → AreScalars (network_table n)
+unfolding key_text network_rest
+network_scalars n h = hex_scalars n.descriptors (network_rest n) (refl, small n.id h, (refl, tt, tt))
+
+network_sorted : (n : NetworkPartView) → members_are_sorted (network_table n) ≡ true
+unfolding network_rest
+network_sorted n = hex_sorted n.descriptors (network_rest n) refl refl
+
+network_lines : (n : NetworkPartView) → lines_if_any (codes "network") (Some (network_table n)) ≡ network_text n
+unfolding network_rest
+network_lines n = rw (hex_lines n.descriptors (network_rest n)) (simp (append_assoc, append-nil))
+
+-- if there is one
+network_table_fits : (n : Option NetworkPartView) → FitsNetwork n → IsTable (option_map network_table n)
+network_table_fits None h = tt
+network_table_fits (Some n) h = (network_scalars n h, network_sorted n)
+
+network_lines_if_any : (n : Option NetworkPartView) → lines_if_any (codes "network") (option_map network_table n) ≡ network_if_any n
+network_lines_if_any None = refl
+network_lines_if_any (Some n) = network_lines n
 
 -- a program
 program_rest : ProgramPartView → Members
@@ -143,15 +169,15 @@ streams_lines [] = refl
 streams_lines (s ∷ ss) = ap₂ (λ (a b : List ℕ). a ++ b) (stream_lines s) (streams_lines ss)
 
 -- the heading
-heading_scalars : (h : HeadingView) → FitsHeading h → AreScalars (document h [] [])
+heading_scalars : (h : HeadingView) → FitsHeading h → AreScalars (document h None [] [])
 unfolding key_text
 heading_scalars h f =
     (refl, small h.base0 f.base0, (refl, small h.original_network_id f.original_network_id, (refl, small h.rate f.rate, (refl, tt, (refl, tt, (refl, tt, (refl, small h.transport_stream_id f.transport_stream_id, tt)))))))
 
-heading_lines : (h : HeadingView) → scalar_lines (document h [] []) ≡ heading_text h
+heading_lines : (h : HeadingView) → scalar_lines (document h None [] []) ≡ heading_text h
 heading_lines h = simp (append_assoc, append-nil)
 
--- the document after its programs, and after its streams
+-- the document after its network, after its programs, and after its streams
 abbrev after_streams : HeadingView → Members
 after_streams h = member (codes "tdt") (boolean h.tdt) (member (codes "ts_id") (integer (pos h.transport_stream_id)) no_members)
 
@@ -162,21 +188,40 @@ after_programs h us =
     (member (codes "start") (string h.start)
     (with_tables (codes "stream") us (after_streams h))))
 
-whole_pairs : (h : HeadingView) (ts us : List Members) → pairs (document h ts us) ≡ pairs (document h [] [])
-whole_pairs h ts us = rw (pairs_past (codes "program") ts (after_programs h us), pairs_past (codes "stream") us (after_streams h))
+abbrev after_network : HeadingView → List Members → List Members → Members
+after_network h ts us = member (codes "original_network_id") (integer (pos h.original_network_id)) (with_tables (codes "program") ts (after_programs h us))
 
-whole_sections : (h : HeadingView) (ts us : List Members)
-    → sections [] (document h ts us) ≡ elements ([], codes "program") (elements_of ts) ++ (elements ([], codes "stream") (elements_of us) ++ [])
-whole_sections h ts us = rw (sections_with (codes "program") ts (after_programs h us), sections_with (codes "stream") us (after_streams h))
+whole_pairs : (h : HeadingView) (n : Option Members) (ts us : List Members) → pairs (document h n ts us) ≡ pairs (document h None [] [])
+whole_pairs h n ts us =
+    rw (
+      pairs_past_table (codes "network") n (after_network h ts us),
+      pairs_past (codes "program") ts (after_programs h us),
+      pairs_past (codes "stream") us (after_streams h),
+    )
+
+-- its tables
+abbrev tables : Option Members → List Members → List Members → List Expression
+tables n ts us = expressions_if_any (codes "network") n ++ (elements ([], codes "program") (elements_of ts) ++ (elements ([], codes "stream") (elements_of us) ++ []))
+
+abbrev table_lines : Option Members → List Members → List Members → List ℕ
+table_lines n ts us = lines_if_any (codes "network") n ++ (flat_map (element_lines (codes "program")) ts ++ flat_map (element_lines (codes "stream")) us)
+
+whole_sections : (h : HeadingView) (n : Option Members) (ts us : List Members) → sections [] (document h n ts us) ≡ tables n ts us
+whole_sections h n ts us =
+    rw (
+      sections_with_table (codes "network") n (after_network h ts us),
+      sections_with (codes "program") ts (after_programs h us),
+      sections_with (codes "stream") us (after_streams h),
+    )
 
 begun : (es : List Expression) → 1 ≤ length es → after false es ≡ true
 begun es some = grind (arith, nat_tests)
 
-tables_are_text : (ts us : List Members) → AreTables ts → AreTables us
+arrays_are_text : (ts us : List Members) → AreTables ts → AreTables us
     → IsLinesText false true (elements ([], codes "program") (elements_of ts) ++ (elements ([], codes "stream") (elements_of us) ++ []))
     (flat_map (element_lines (codes "program")) ts ++ flat_map (element_lines (codes "stream")) us)
 unfolding key_text
-tables_are_text ts us a b =
+arrays_are_text ts us a b =
     let programs = elements_are_text (codes "program") ts refl a in
     let streams = elements_are_text (codes "stream") us refl b in
     let last : IsLinesText false true (elements ([], codes "stream") (elements_of us) ++ []) (flat_map (element_lines (codes "stream")) us) =
@@ -184,34 +229,50 @@ tables_are_text ts us a b =
     IsLinesText-append false true (elements ([], codes "program") (elements_of ts)) (elements ([], codes "stream") (elements_of us) ++ [])
     (flat_map (element_lines (codes "program")) ts) (flat_map (element_lines (codes "stream")) us) programs last
 
-document_is_text : (h : HeadingView) (ts us : List Members) → FitsHeading h → AreTables ts → AreTables us
-    → IsDocumentText false (document h ts us) (heading_text h ++ (flat_map (element_lines (codes "program")) ts ++ flat_map (element_lines (codes "stream")) us))
-document_is_text h ts us f a b =
-    let head = pairs (document h [] []) in
-    let rest = elements ([], codes "program") (elements_of ts) ++ (elements ([], codes "stream") (elements_of us) ++ []) in
-    let text = flat_map (element_lines (codes "program")) ts ++ flat_map (element_lines (codes "stream")) us in
+tables_are_text : (n : Option Members) (ts us : List Members) → IsTable n → AreTables ts → AreTables us → IsLinesText false true (tables n ts us) (table_lines n ts us)
+unfolding key_text
+tables_are_text n ts us t a b =
+    IsLinesText-append false true (expressions_if_any (codes "network") n) (elements ([], codes "program") (elements_of ts) ++ (elements ([], codes "stream") (elements_of us) ++ []))
+    (lines_if_any (codes "network") n) (flat_map (element_lines (codes "program")) ts ++ flat_map (element_lines (codes "stream")) us)
+    (table_is_text (codes "network") n refl t) (arrays_are_text ts us a b)
+
+document_is_text : (h : HeadingView) (n : Option Members) (ts us : List Members) → FitsHeading h → IsTable n → AreTables ts → AreTables us
+    → IsDocumentText false (document h n ts us) (heading_text h ++ table_lines n ts us)
+document_is_text h n ts us f t a b =
+    let head = pairs (document h None [] []) in
+    let rest = tables n ts us in
+    let text = table_lines n ts us in
     let first : IsLinesText false false head (heading_text h) =
-    subst (λ (t : List ℕ). IsLinesText false false head t) (heading_lines h) (lines_are_text false (document h [] []) (heading_scalars h f)) in
+    subst (λ (t : List ℕ). IsLinesText false false head t) (heading_lines h) (lines_are_text false (document h None [] []) (heading_scalars h f)) in
     let second : IsLinesText false (after false head) rest text =
-    subst (λ (s : Bool). IsLinesText false s rest text) (sym (begun head (omega arith))) (tables_are_text ts us a b) in
+    subst (λ (s : Bool). IsLinesText false s rest text) (sym (begun head (omega arith))) (tables_are_text n ts us t a b) in
     let whole = IsLinesText-append false false head rest (heading_text h) text first second in
-    let same : expressions (document h ts us) ≡ head ++ rest = ap₂ (λ (xs ys : List Expression). xs ++ ys) (whole_pairs h ts us) (whole_sections h ts us) in
+    let same : expressions (document h n ts us) ≡ head ++ rest = ap₂ (λ (xs ys : List Expression). xs ++ ys) (whole_pairs h n ts us) (whole_sections h n ts us) in
     subst (λ (es : List Expression). IsLinesText false false es (heading_text h ++ text)) (sym same) whole
 
-document_shallow : (h : HeadingView) (ts us : List Members) → AreTables ts → AreTables us → members_depth (document h ts us) ≤ 80
-document_shallow h ts us a b =
+document_shallow : (h : HeadingView) (n : Option Members) (ts us : List Members) → IsTable n → AreTables ts → AreTables us → members_depth (document h n ts us) ≤ 80
+document_shallow h n ts us t a b =
     let last : members_depth (after_streams h) ≤ 2 = grind (arith, nat_tests) in
     let inner = shallow (codes "stream") us (after_streams h) b last in
     let middle : members_depth (after_programs h us) ≤ 2 = grind (arith, nat_tests) in
     let outer = shallow (codes "program") ts (after_programs h us) a middle in
+    let named : members_depth (after_network h ts us) ≤ 2 = grind (arith, nat_tests) in
+    let all = shallow_table (codes "network") n (after_network h ts us) t named in
     grind (arith, nat_tests)
 
-document_dated : (h : HeadingView) (ts us : List Members) → AreTables ts → AreTables us → members_have_valid_dates (document h ts us) ≡ true
-document_dated h ts us a b = rw (dated_past (codes "program") ts (after_programs h us) a, dated_past (codes "stream") us (after_streams h) b)
-
-document_sorted : (h : HeadingView) (ts us : List Members) → AreTables ts → AreTables us → members_are_sorted (document h ts us) ≡ true
-document_sorted h ts us a b =
+document_dated : (h : HeadingView) (n : Option Members) (ts us : List Members) → IsTable n → AreTables ts → AreTables us → members_have_valid_dates (document h n ts us) ≡ true
+document_dated h n ts us t a b =
     rw (
+      dated_past_table (codes "network") n (after_network h ts us) t,
+      dated_past (codes "program") ts (after_programs h us) a,
+      dated_past (codes "stream") us (after_streams h) b,
+    )
+
+document_sorted : (h : HeadingView) (n : Option Members) (ts us : List Members) → IsTable n → AreTables ts → AreTables us → members_are_sorted (document h n ts us) ≡ true
+document_sorted h n ts us t a b =
+    rw (
+      before_table (codes "base0") (codes "network") n (after_network h ts us) refl refl,
+      sorted_past_table (codes "network") n (after_network h ts us) refl t,
       before_tables (codes "original_network_id") (codes "program") ts (after_programs h us) refl refl,
       sorted_past (codes "program") ts (after_programs h us) refl a,
       before_tables (codes "start") (codes "stream") us (after_streams h) refl refl,
@@ -219,12 +280,15 @@ document_sorted h ts us a b =
     )
 
 pub texts_are_read : TextsAreRead
-texts_are_read h ps ss f p s =
+texts_are_read h n ps ss f m p s =
+    let t = option_map network_table n in
     let ts = map program_table ps in
     let us = map stream_table ss in
+    let fits = network_table_fits n m in
     let a = program_tables ps p in
     let b = stream_tables ss s in
-    let text : IsDocumentText false (document h ts us) (heading_text h ++ (flat_map program_text ps ++ flat_map stream_text ss)) =
-    subst (λ (t : List ℕ). IsDocumentText false (document h ts us) (heading_text h ++ t))
-    (ap₂ (λ (xs ys : List ℕ). xs ++ ys) (programs_lines ps) (streams_lines ss)) (document_is_text h ts us f a b) in
-    parse_document-printed false (document h ts us) _ text (document_shallow h ts us a b) (document_dated h ts us a b) (document_sorted h ts us a b)
+    let lines : table_lines t ts us ≡ network_if_any n ++ (flat_map program_text ps ++ flat_map stream_text ss) =
+    ap₂ (λ (xs ys : List ℕ). xs ++ ys) (network_lines_if_any n) (ap₂ (λ (xs ys : List ℕ). xs ++ ys) (programs_lines ps) (streams_lines ss)) in
+    let text : IsDocumentText false (document h t ts us) (heading_text h ++ (network_if_any n ++ (flat_map program_text ps ++ flat_map stream_text ss))) =
+    subst (λ (l : List ℕ). IsDocumentText false (document h t ts us) (heading_text h ++ l)) lines (document_is_text h t ts us f fits a b) in
+    parse_document-printed false (document h t ts us) _ text (document_shallow h t ts us fits a b) (document_dated h t ts us fits a b) (document_sorted h t ts us fits a b)

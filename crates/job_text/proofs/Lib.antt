@@ -1,3 +1,4 @@
 pub mod Scalars
 pub mod TableArrays
+pub mod SingleTables
 pub mod DocumentTexts

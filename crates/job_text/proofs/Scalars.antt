@@ -34,7 +34,7 @@ value_is_text (datetime x) h = absurd h
 value_is_text (array x) h = absurd h
 value_is_text (table x) h = absurd h
 
-is_no_section : (d : Data) → IsScalar d → is_section d ≡ false
+pub is_no_section : (d : Data) → IsScalar d → is_section d ≡ false
 is_no_section (string s) h = refl
 is_no_section (integer z) h = refl
 is_no_section (boolean b) h = refl

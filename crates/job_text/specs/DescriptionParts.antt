@@ -2,6 +2,7 @@
 use Rattle.std.specs.Prelude.{ℕ, Bool, List}
 use Rattle.unit_timing.specs.declared.allowance.Allowance.{Allowance}
 use Rattle.job_text.specs.declared.heading.Heading.{Heading}
+use Rattle.job_text.specs.declared.network_part.NetworkPart.{NetworkPart}
 use Rattle.job_text.specs.declared.program_part.ProgramPart.{ProgramPart}
 use Rattle.job_text.specs.declared.stream_part.StreamPart.{StreamPart}
 
@@ -13,6 +14,11 @@ pub record HeadingView : Type 0 where
   pub original_network_id : ℕ
   pub sdt : Bool
   pub tdt : Bool
+
+pub record NetworkPartView : Type 0 where
+  pub id : ℕ
+  pub name : List ℕ
+  pub descriptors : List ℕ
 
 pub record ProgramPartView : Type 0 where
   pub number : ℕ
@@ -48,6 +54,9 @@ heading_view h = record {
   sdt = h.sdt;
   tdt = h.tdt;
 }
+
+abbrev pub network_view : NetworkPart → NetworkPartView
+network_view n = record { id = n.id; name = n.name.now; descriptors = n.descriptors.now }
 
 abbrev pub program_view : ProgramPart → ProgramPartView
 program_view p = record {

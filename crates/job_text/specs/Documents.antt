@@ -1,10 +1,10 @@
 -- What the texts say, as tables of TOML.
-use Rattle.std.specs.Prelude.{ℕ, pos, List, [], ◌∷◌, codes}
+use Rattle.std.specs.Prelude.{ℕ, pos, List, [], ◌∷◌, codes, Option, Some, None}
 use Rattle.toml.specs.Data.{string, integer, boolean, array, table, Items, no_items, item, Members, no_members, member}
 use Rattle.unit_timing.specs.declared.allowance.Allowance.{Allowance}
-use Rattle.job_text.specs.DescriptionParts.{HeadingView, ProgramPartView, StreamPartView}
+use Rattle.job_text.specs.DescriptionParts.{HeadingView, NetworkPartView, ProgramPartView, StreamPartView}
 use Rattle.job_text.specs.KeyLines.{with_numbers, with_hex}
-use Rattle.job_text.specs.Fields.{first_numbers, program_numbers, burst_numbers, group_numbers, time_numbers, pace_numbers, last_numbers}
+use Rattle.job_text.specs.Fields.{program_numbers, burst_numbers, group_numbers, time_numbers, pace_numbers, last_numbers}
 
 -- tables as the elements of an array
 abbrev pub elements_of : List Members → Items
@@ -15,6 +15,14 @@ elements_of (t ∷ ts) = item (table t) (elements_of ts)
 abbrev pub with_tables : List ℕ → List Members → Members → Members
 with_tables key [] more = more
 with_tables key (t ∷ ts) more = member key (array (elements_of (t ∷ ts))) more
+
+-- a table at a key before the others, if there is one
+abbrev pub with_table : List ℕ → Option Members → Members → Members
+with_table key None more = more
+with_table key (Some t) more = member key (table t) more
+
+abbrev pub network_table : NetworkPartView → Members
+network_table n = with_hex (codes "descriptors") n.descriptors (member (codes "id") (integer (pos n.id)) (member (codes "name") (string n.name) no_members))
 
 abbrev pub program_table : ProgramPartView → Members
 program_table p =
@@ -34,14 +42,16 @@ stream_members a s = with_numbers (burst_numbers a) (with_hex (codes "descriptor
 abbrev pub stream_table : StreamPartView → Members
 stream_table s = stream_members s.allowance s
 
--- a description of this heading, with the tables of its programs and streams
-abbrev pub document : HeadingView → List Members → List Members → Members
-document h programs streams =
-    with_numbers (first_numbers h)
+-- a description of this heading, with the tables of its network, its programs and its streams
+abbrev pub document : HeadingView → Option Members → List Members → List Members → Members
+document h network programs streams =
+    member (codes "base0") (integer (pos h.base0))
+    (with_table (codes "network") network
+    (member (codes "original_network_id") (integer (pos h.original_network_id))
     (with_tables (codes "program") programs
     (member (codes "rate") (integer (pos h.rate))
     (member (codes "sdt") (boolean h.sdt)
     (member (codes "start") (string h.start)
     (with_tables (codes "stream") streams
     (member (codes "tdt") (boolean h.tdt)
-    (member (codes "ts_id") (integer (pos h.transport_stream_id)) no_members)))))))
+    (member (codes "ts_id") (integer (pos h.transport_stream_id)) no_members)))))))))

@@ -43,6 +43,10 @@ hex_line key bytes = if length bytes == 0 then [] else key_line key (string (enc
 unfoldable pub with_hex : List ℕ → List ℕ → Members → Members
 with_hex key bytes more = if length bytes == 0 then more else member key (string (encode_lower bytes)) more
 
--- an empty line, and the header of an element of an array of tables
+-- an empty line, and the header of a table
+unfoldable pub table_header : List ℕ → List ℕ
+table_header key = codes "\n[" ++ (key ++ codes "]\n")
+
+-- of an element of an array of tables
 unfoldable pub header : List ℕ → List ℕ
 header key = codes "\n[[" ++ (key ++ codes "]]\n")

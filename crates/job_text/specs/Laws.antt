@@ -1,12 +1,12 @@
 -- What the laws of this crate say.
-use Rattle.std.specs.Prelude.{◌≡◌, ◌<◌, ◌^◌, ℕ, List, ◌++◌, map, All, Some}
+use Rattle.std.specs.Prelude.{◌≡◌, ◌<◌, ◌^◌, ℕ, List, ◌++◌, map, All, IfSome, Option, Some, option_map}
 use Rattle.std.specs.List.{flat_map}
 use Rattle.toml.specs.Parse.{parse_document}
 use Rattle.unit_timing.specs.declared.allowance.Allowance.{Allowance}
 use Rattle.unit_timing.specs.declared.allowance.Allowance.TheVariants.{Groups, Pace}
-use Rattle.job_text.specs.DescriptionParts.{HeadingView, ProgramPartView, StreamPartView}
-use Rattle.job_text.specs.Documents.{document, program_table, stream_table}
-use Rattle.job_text.specs.Texts.{heading_text, program_text, stream_text}
+use Rattle.job_text.specs.DescriptionParts.{HeadingView, NetworkPartView, ProgramPartView, StreamPartView}
+use Rattle.job_text.specs.Documents.{document, network_table, program_table, stream_table}
+use Rattle.job_text.specs.Texts.{heading_text, network_if_any, program_text, stream_text}
 
 -- TOML's numbers have 64 bits with a sign
 abbrev pub Fits : ℕ → Type 0
@@ -18,6 +18,10 @@ pub record FitsHeading (h : HeadingView) : Type 0 where
   pub original_network_id : Fits h.original_network_id
   pub rate : Fits h.rate
   pub transport_stream_id : Fits h.transport_stream_id
+
+-- that of a network
+abbrev pub FitsNetwork : Option NetworkPartView → Type 0
+FitsNetwork n = IfSome n (λ n. Fits n.id)
 
 -- those of a program
 pub record FitsProgram (p : ProgramPartView) : Type 0 where
@@ -44,8 +48,10 @@ pub record FitsStream (s : StreamPartView) : Type 0 where
   pub size : Fits s.size
   pub stream_type : Fits s.stream_type
 
--- a heading's text, the programs' and the streams' are one document
+-- a heading's text, the network's, the programs' and the streams' are one document
 abbrev pub TextsAreRead : Type 0
 TextsAreRead =
-    (h : HeadingView) (ps : List ProgramPartView) (ss : List StreamPartView) → FitsHeading h → All FitsProgram ps → All FitsStream ss
-    → parse_document (heading_text h ++ (flat_map program_text ps ++ flat_map stream_text ss)) ≡ Some (document h (map program_table ps) (map stream_table ss))
+    (h : HeadingView) (n : Option NetworkPartView) (ps : List ProgramPartView) (ss : List StreamPartView)
+    → FitsHeading h → FitsNetwork n → All FitsProgram ps → All FitsStream ss
+    → parse_document (heading_text h ++ (network_if_any n ++ (flat_map program_text ps ++ flat_map stream_text ss)))
+    ≡ Some (document h (option_map network_table n) (map program_table ps) (map stream_table ss))

@@ -1,8 +1,8 @@
 -- The texts of a service description's parts: every key on its line, in ascending order.
-use Rattle.std.specs.Prelude.{ℕ, List, ◌++◌, codes}
+use Rattle.std.specs.Prelude.{ℕ, List, [], ◌++◌, codes, Option, Some, None}
 use Rattle.toml.specs.Data.{string, boolean}
-use Rattle.job_text.specs.DescriptionParts.{HeadingView, ProgramPartView, StreamPartView}
-use Rattle.job_text.specs.KeyLines.{key_line, number_line, number_lines, hex_line, header}
+use Rattle.job_text.specs.DescriptionParts.{HeadingView, NetworkPartView, ProgramPartView, StreamPartView}
+use Rattle.job_text.specs.KeyLines.{key_line, number_line, number_lines, hex_line, table_header, header}
 use Rattle.job_text.specs.Fields.{first_numbers, program_numbers, burst_numbers, group_numbers, time_numbers, pace_numbers, last_numbers}
 
 -- the keys of the document itself
@@ -14,6 +14,16 @@ heading_text h =
     ++ (key_line (codes "start") (string h.start)
     ++ (key_line (codes "tdt") (boolean h.tdt)
     ++ number_line (codes "ts_id", h.transport_stream_id)))))
+
+-- the table `network`, if there is one
+abbrev pub network_text : NetworkPartView → List ℕ
+network_text n =
+    table_header (codes "network")
+    ++ (hex_line (codes "descriptors") n.descriptors ++ (number_line (codes "id", n.id) ++ key_line (codes "name") (string n.name)))
+
+abbrev pub network_if_any : Option NetworkPartView → List ℕ
+network_if_any None = []
+network_if_any (Some n) = network_text n
 
 -- of a program: the lines up to its name, and those of its service after the numbers
 abbrev pub program_front : ProgramPartView → List ℕ

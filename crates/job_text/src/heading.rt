@@ -7,8 +7,7 @@ ghost use Rattle.job_text.specs.Texts.{heading_text};
 use crate::key_line::{write_flag, write_number, write_numbers, write_string};
 use std::alloc::{AllocError, Allocator};
 
-/// What a description says of the whole transport stream. There is no network: a description with one has a table
-/// `[network]` besides.
+/// What a description says of the whole transport stream.
 #[derive(Clone, Copy)]
 pub struct Heading<'a> {
     /// The rate, in bits a second.

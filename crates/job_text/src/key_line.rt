@@ -3,7 +3,7 @@
 ghost use Rattle.std.specs.Prelude.{◌≡◌, ◌++◌, OnOk, string_bytes};
 ghost use Rattle.std.specs.List.{flat_map};
 ghost use Rattle.toml.specs.Data.{string, boolean};
-ghost use Rattle.job_text.specs.KeyLines.{key_line, number_line, field_line, header, hex_line};
+ghost use Rattle.job_text.specs.KeyLines.{key_line, number_line, field_line, table_header, header, hex_line};
 
 use std::alloc::{AllocError, Allocator};
 use std::fmt;
@@ -95,6 +95,17 @@ pub(crate) fn write_hex<A: Allocator + Clone>(
     }
     let digits = hex::encode(text.allocator().clone()?, bytes)?;
     write_string(text, key, digits.as_str())
+}
+
+/// The header of a table.
+#[tactic(auto, unfolding(crate::specs::KeyLines::table_header))]
+pub(crate) fn write_table_header<A: Allocator>(
+    text: &mut String<A>,
+    key: &str,
+) -> Result<(), AllocError>
+    ensures { OnOk result (string_bytes text.new ≡ string_bytes text.old ++ table_header key.now) }
+{
+    write!(text, "\n[{key}]\n")
 }
 
 /// The header of an element of an array of tables.

@@ -1,7 +1,7 @@
 //! A service description written in TOML, part by part.
 //!
-//! `Heading`, `ProgramPart` and `StreamPart` are the parts of a description; each appends its lines. The heading comes
-//! first, then the programs, then the streams. `specs/Documents` says which keys with which values a part has,
+//! `Heading`, `NetworkPart`, `ProgramPart` and `StreamPart` are the parts of a description; each appends its lines. The
+//! heading comes first, then the network if there is one, the programs and the streams. `specs/Documents` says which keys with which values a part has,
 //! `specs/Texts` how they are written, and the law `texts_are_read` that TOML's grammar reads the whole as that
 //! document.
 #![tactic(auto)]
@@ -9,10 +9,12 @@
 mod heading;
 mod key_line;
 mod laws;
+mod network_part;
 mod program_part;
 mod stream_part;
 
 pub use heading::Heading;
 pub use laws::texts_are_read;
+pub use network_part::NetworkPart;
 pub use program_part::ProgramPart;
 pub use stream_part::StreamPart;
