@@ -15,13 +15,14 @@ mkdir -p "$results"
 sh "$here/make-streams" "$streams" > "$results/made" || { cat "$results/made"; exit 3; }
 status=0
 
-# try NAME OPTIONS..: one stream, which is no capture
+# try NAME OPTIONS..: one stream, which is no capture, on the clock of the input
 try() {
     name=$1
     shift
     stream=$streams/$name.ts
     result=$results/$name$(echo "$*" | tr -d ' ')
     printf '%-28s ' "$name${*:+ $*}"
+    set -- --base input "$@"
     if ! "$tsjob" --whole "$@" < "$stream" > "$result.job" 2> "$result.lines"; then
         echo "tsjob: $(tail -n 1 "$result.lines")"
         status=1

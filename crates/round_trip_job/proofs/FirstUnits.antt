@@ -22,6 +22,7 @@ use Rattle.stream_jobs.specs.declared.refusal.JobRefusal.TheVariants as refusals
 use Rattle.stream_jobs.specs.Answers.{and_then, unless, each}
 use Rattle.stream_jobs.specs.Declarations.{UnitCountsView, too_many, too_long, all_unit_counts, choices}
 use Rattle.stream_jobs.specs.JobInput.{JobInputView, job_input, with_association, with_programs, with_pids, with_streams, with_moved, with_unit_counts, job_warnings, named_of, nothing_carried}
+use Rattle.stream_jobs.specs.ClockBases.{base0_of}
 use Rattle.stream_jobs.specs.JobOptions.{JobOptionsView}
 use Rattle.stream_jobs.specs.JobPrograms.{JobProgramView, job_programs}
 use Rattle.stream_jobs.specs.JobStreams.{TimedStreamView, WireStreamView}
@@ -237,7 +238,7 @@ moved_of options count findings input is =
     let streams = on_wire.value in
     let programs = job_programs streams found.programs assigned.value in
     let warnings = job_warnings options count findings a (named_of options a) found assigned.value streams in
-    let base = first_base (earliest programs streams) streams in
+    let base = base0_of options.base (first_base (earliest programs streams) streams) in
     let timed = comes (with_moved options a.transport_stream_id base programs warnings) (moved_streams findings (earliest programs streams) streams) input
     (granted (nothing_carried warnings streams) (and_then (with_moved options a.transport_stream_id base programs warnings) (moved_streams findings (earliest programs streams) streams))
     input on_wire.last_is) in

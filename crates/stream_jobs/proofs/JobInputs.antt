@@ -23,7 +23,7 @@ pub all_warnings : (options : JobOptionsView) (count : ℕ) (findings : List Fin
     empties ≡ tables ++ all_empty_stream_warnings count options.without findings found.streams →
     programs ≡ empties ++ all_program_warnings streams found.programs assigned →
     units ≡ programs ++ flat_map (λ s. pid_warnings count findings s.pid) streams →
-    all ≡ units ++ text_warnings findings (job_programs streams found.programs assigned) →
+    all ≡ units ++ text_warnings options.names findings (job_programs streams found.programs assigned) →
     all ≡ job_warnings options count findings a named found assigned streams
 unfolding stream_warnings job_warnings
 all_warnings options count findings a named found assigned streams tables empties programs units all one two three four five = rw (five, four, three, two, one) refl

@@ -16,6 +16,7 @@ use Rattle.stream_jobs.specs.declared.refusal.JobRefusal.TheVariants as refusals
 use Rattle.stream_jobs.specs.declared.warning.Warning.{Warning}
 use Rattle.stream_jobs.specs.declared.warning.Warning.TheVariants as warnings
 use Rattle.stream_jobs.specs.Answers.{and_then, unless}
+use Rattle.stream_jobs.specs.ClockBases.{base0_of}
 use Rattle.stream_jobs.specs.Declarations.{UnitCountsView, too_many, too_long, all_unit_counts, choices}
 use Rattle.stream_jobs.specs.JobPrograms.{JobProgramView, job_programs, all_program_warnings, text_warnings}
 use Rattle.stream_jobs.specs.Moments.{earliest, first_base, moved_streams}
@@ -25,7 +26,7 @@ use Rattle.stream_jobs.specs.WireStreams.{wire_streams, all_empty_stream_warning
 use Rattle.stream_jobs.specs.JobOptions.{JobOptionsView, is_selected_program}
 use Rattle.stream_jobs.specs.JobStreams.{TimedStreamView, WireStreamView}
 
--- base0 is what the clock of the first stream's program shows at moment 0; each stream has what is counted of it and what it
+-- base0 is what the system clock shows as the run begins; each stream has what is counted of it and what it
 -- declares; the warnings say what is not taken as it stands
 pub record JobInputView : Type 0 where
   pub transport_stream_id : ℕ
@@ -52,7 +53,7 @@ change_warnings a named findings =
 unfoldable pub table_warnings : JobOptionsView → AssociationView → List Program → List FindingView → FoundProgramsView → List Warning
 table_warnings options a named findings found =
     ((change_warnings a named findings ++ map warnings.Table found.left_out) ++ stray_warnings options.without a findings)
-    ++ option_warnings options.programs options.without options.buffers a found.streams
+    ++ option_warnings options.programs options.without options.buffers options.names a found.streams
 
 -- and about streams that are not carried
 unfoldable pub stream_warnings : JobOptionsView → ℕ → List FindingView → AssociationView → List Program → FoundProgramsView → List Warning
@@ -64,7 +65,7 @@ unfoldable pub job_warnings : JobOptionsView → ℕ → List FindingView → As
 job_warnings options count findings a named found assigned streams =
     ((stream_warnings options count findings a named found ++ all_program_warnings streams found.programs assigned)
     ++ flat_map (λ s. pid_warnings count findings s.pid) streams)
-    ++ text_warnings findings (job_programs streams found.programs assigned)
+    ++ text_warnings options.names findings (job_programs streams found.programs assigned)
 
 -- 2. What it is made of, step by step
 
@@ -104,7 +105,7 @@ nothing_carried all_warnings streams = if length streams == 0 then first_why all
 unfoldable pub with_streams : JobOptionsView → List FindingView → ℕ → List JobProgramView → List Warning → List WireStreamView → Result JobInputView JobRefusal
 with_streams options findings id programs all_warnings streams =
     unless (nothing_carried all_warnings streams)
-    (and_then (with_moved options id (first_base (earliest programs streams) streams) programs all_warnings)
+    (and_then (with_moved options id (base0_of options.base (first_base (earliest programs streams) streams)) programs all_warnings)
     (moved_streams findings (earliest programs streams) streams))
 
 -- programs, and the PIDs that they are given

@@ -3,11 +3,14 @@ use Rattle.std.specs.Prelude.{ℕ, ◌==◌, ◌||◌, not, Bool, List, length, 
 use Rattle.std.specs.List.{list_any}
 use Rattle.psi_tables.specs.declared.pat.programs.Program.{Program}
 use Rattle.stream_programs.specs.Streams.{FoundStreamView}
+use Rattle.stream_jobs.specs.GivenNames.{NetworkNameView, ServiceNameView}
+use Rattle.stream_jobs.specs.declared.clock_base.ClockBase.{ClockBase}
 use Rattle.stream_jobs.specs.declared.job_options.DeclareBy.{DeclareBy}
 use Rattle.stream_jobs.specs.declared.job_options.PidBuffers.{PidBuffers}
 
 -- the rate in bits a second, if one is asked for; the moment of the first slot as its characters; limits in ms and in units
--- of 90 kHz; by what the packets of units are declared; the programs that are taken, none for all; PIDs that are left out; and buffers in place of those by coding
+-- of 90 kHz; by what the packets of units are declared; what the
+-- system clock shows as the run begins; the network and the names of services in place of those of the stream; the programs that are taken, none for all; PIDs that are left out; and buffers in place of those by coding
 pub record JobOptionsView : Type 0 where
   pub rate : Option ℕ
   pub start : List ℕ
@@ -15,6 +18,9 @@ pub record JobOptionsView : Type 0 where
   pub lead : ℕ
   pub declare_by : DeclareBy
   pub make_dts : Bool
+  pub base : ClockBase
+  pub network : Option NetworkNameView
+  pub names : List ServiceNameView
   pub programs : List ℕ
   pub without : List ℕ
   pub buffers : List PidBuffers

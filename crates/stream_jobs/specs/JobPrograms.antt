@@ -1,5 +1,5 @@
 -- The programs of a job.
-use Rattle.std.specs.Prelude.{ℕ, ◌==◌, ◌||◌, Bool, false, if◌then◌else◌, List, [], ◌∷◌, map, filter, flat_map, zip, Option, Some, None}
+use Rattle.std.specs.Prelude.{ℕ, ◌==◌, ◌||◌, ◌&&◌, Bool, false, is_none, if◌then◌else◌, List, [], ◌∷◌, map, filter, flat_map, zip, Option, Some, None}
 use Rattle.std.specs.List.{list_any}
 use Rattle.demux.specs.Views.{FindingView}
 use Rattle.stream_programs.specs.Programs.{FoundProgramView}
@@ -8,6 +8,7 @@ use Rattle.stream_programs.specs.Texts.{has_unread}
 use Rattle.stream_programs.specs.declared.pid_assignment.ProgramPids.{ProgramPids}
 use Rattle.stream_jobs.specs.declared.warning.Warning.{Warning}
 use Rattle.stream_jobs.specs.declared.warning.Warning.TheVariants.{NoStream, MapMoved, UnreadText}
+use Rattle.stream_jobs.specs.GivenNames.{ServiceNameView, name_given}
 use Rattle.stream_jobs.specs.JobStreams.{WireStreamView}
 
 -- a program, with the PIDs that its map and its clock references have in the new stream
@@ -37,14 +38,15 @@ program_warnings streams p =
 abbrev pub all_program_warnings : List WireStreamView → List FoundProgramView → List ProgramPids → List Warning
 all_program_warnings streams programs assigned = flat_map (program_warnings streams) (zip programs assigned)
 
--- the provider or the name of a service has characters that can't be read
-unfoldable pub is_unread : Option FoundServiceView → Bool
-is_unread None = false
-is_unread (Some s) = has_unread s.provider || has_unread s.name
+-- the provider or the name of a service, if no other is given, has characters that can't be read
+unfoldable pub is_unread : Option ServiceNameView → Option FoundServiceView → Bool
+is_unread given None = false
+is_unread None (Some s) = has_unread s.provider || has_unread s.name
+is_unread (Some n) (Some s) = is_none n.provider && has_unread s.provider
 
 -- that of a program's service
-unfoldable pub text_warning : List FindingView → JobProgramView → List Warning
-text_warning findings p = if is_unread (service p.number findings) then UnreadText p.number ∷ [] else []
+unfoldable pub text_warning : List ServiceNameView → List FindingView → JobProgramView → List Warning
+text_warning names findings p = if is_unread (name_given p.number names) (service p.number findings) then UnreadText p.number ∷ [] else []
 
-abbrev pub text_warnings : List FindingView → List JobProgramView → List Warning
-text_warnings findings programs = flat_map (text_warning findings) programs
+abbrev pub text_warnings : List ServiceNameView → List FindingView → List JobProgramView → List Warning
+text_warnings names findings programs = flat_map (text_warning names findings) programs

@@ -1,3 +1,5 @@
+pub mod ClockBases
+pub mod GivenNames
 pub mod JobOptions
 pub mod Answers
 pub mod Packets

@@ -1,14 +1,16 @@
 -- The description of a job as text.
-use Rattle.std.specs.Prelude.{ℕ, ◌-◌, ◌^◌, min, Bool, false, List, [], ◌++◌, flat_map, zip, is_some, unwrap_or, Option, Some, None}
+use Rattle.std.specs.Prelude.{ℕ, ◌-◌, ◌^◌, ◌||◌, min, Bool, false, List, [], ◌++◌, flat_map, zip, is_some, unwrap_or, Option, Some, None, option_map}
+use Rattle.std.specs.Option.{option_or}
 use Rattle.std.specs.List.{list_any}
 use Rattle.demux.specs.Views.{FindingView}
-use Rattle.job_text.specs.DescriptionParts.{HeadingView, ProgramPartView, StreamPartView}
-use Rattle.job_text.specs.Texts.{heading_text, program_text, stream_text}
+use Rattle.job_text.specs.DescriptionParts.{HeadingView, NetworkPartView, ProgramPartView, StreamPartView}
+use Rattle.job_text.specs.Texts.{heading_text, network_if_any, program_text, stream_text}
 use Rattle.stream_choice.specs.declared.choice.Choice.{Choice}
 use Rattle.stream_programs.specs.Networks.{network}
 use Rattle.stream_programs.specs.Services.{FoundServiceView, service}
 use Rattle.stream_programs.specs.Texts.{decode_text}
 use Rattle.stream_jobs.specs.Declarations.{UnitCountsView}
+use Rattle.stream_jobs.specs.GivenNames.{NetworkNameView, ServiceNameView, name_given, original_given}
 use Rattle.stream_jobs.specs.JobPrograms.{JobProgramView}
 use Rattle.stream_jobs.specs.JobInput.{JobInputView}
 use Rattle.stream_jobs.specs.JobOptions.{JobOptionsView}
@@ -16,21 +18,31 @@ use Rattle.stream_jobs.specs.JobStreams.{TimedStreamView}
 
 -- 1. The head
 
--- a service of one of these programs is described
-unfoldable pub has_services : List FindingView → List JobProgramView → Bool
-has_services findings programs = list_any (λ p. is_some (service p.number findings)) programs
+-- a service of one of these programs is described, or given a name
+unfoldable pub has_service : List ServiceNameView → List FindingView → ℕ → Bool
+has_service names findings number = is_some (service number findings) || is_some (name_given number names)
 
--- at a rate in bits a second, a number of 32 bits; without a service description original_network_id is one for private use (ETSI TS 101 162)
+unfoldable pub has_services : List ServiceNameView → List FindingView → List JobProgramView → Bool
+has_services names findings programs = list_any (λ p. has_service names findings p.number) programs
+
+-- at a rate in bits a second, a number of 32 bits; without a service description original_network_id, if none is given, is one for private use (ETSI TS 101 162)
 unfoldable pub heading_of : JobOptionsView → List FindingView → JobInputView → ℕ → HeadingView
 heading_of options findings input rate = record {
   rate = min rate (2 ^ 32 - 1);
   start = options.start;
   base0 = input.base0;
   transport_stream_id = input.transport_stream_id;
-  original_network_id = unwrap_or (network findings) 0xFF01;
-  sdt = has_services findings input.programs;
+  original_network_id = unwrap_or (option_or (original_given options.network) (network findings)) 0xFF01;
+  sdt = has_services options.names findings input.programs;
   tdt = false;
 }
+
+-- the network that is given
+unfoldable pub network_of : NetworkNameView → NetworkPartView
+network_of n = record { id = n.id; name = n.name; descriptors = [] }
+
+unfoldable pub network_part : JobOptionsView → Option NetworkPartView
+network_part options = option_map network_of options.network
 
 -- 2. Programs, each with its service
 
@@ -39,6 +51,17 @@ heading_of options findings input rate = record {
 unfoldable pub named_service : Option FoundServiceView → FoundServiceView
 named_service (Some s) = record { service_type = s.service_type; provider = decode_text 100 s.provider; name = decode_text 100 s.name }
 named_service None = record { service_type = 1; provider = []; name = [] }
+
+-- with the name that is given to it, and the provider if that is given too
+unfoldable pub renamed : ServiceNameView → FoundServiceView → FoundServiceView
+renamed n s = record { service_type = s.service_type; provider = unwrap_or n.provider s.provider; name = n.name }
+
+unfoldable pub service_with : Option ServiceNameView → FoundServiceView → FoundServiceView
+service_with None s = s
+service_with (Some n) s = renamed n s
+
+abbrev pub service_of : List ServiceNameView → List FindingView → ℕ → FoundServiceView
+service_of names findings number = service_with (name_given number names) (named_service (service number findings))
 
 unfoldable pub program_with : ℕ → JobProgramView → FoundServiceView → ProgramPartView
 program_with pcr_limit p s = record {
@@ -53,7 +76,7 @@ program_with pcr_limit p s = record {
 }
 
 unfoldable pub program_part : JobOptionsView → List FindingView → JobProgramView → ProgramPartView
-program_part options findings p = program_with options.pcr_limit p (named_service (service p.number findings))
+program_part options findings p = program_with options.pcr_limit p (service_of options.names findings p.number)
 
 -- 3. Streams
 
@@ -87,4 +110,7 @@ abbrev pub streams_text : List TimedStreamView → List UnitCountsView → List 
 streams_text streams unit_counts choices = flat_map stream_lines (zip streams (zip unit_counts choices))
 
 unfoldable pub description_text : JobOptionsView → List FindingView → JobInputView → ℕ → List ℕ
-description_text options findings input rate = heading_text (heading_of options findings input rate) ++ (programs_text options findings input.programs ++ streams_text input.streams input.unit_counts input.choices)
+description_text options findings input rate =
+    heading_text (heading_of options findings input rate)
+    ++ (network_if_any (network_part options)
+    ++ (programs_text options findings input.programs ++ streams_text input.streams input.unit_counts input.choices))

@@ -13,6 +13,7 @@ use Rattle.stream_programs.specs.StrayPids.{mapped_pids, pes_count, stray_pids}
 use Rattle.stream_programs.specs.Streams.{FoundStreamView}
 use Rattle.stream_units.specs.UnitWarnings.{unit_warnings}
 use Rattle.stream_units.specs.Damage as units
+use Rattle.stream_jobs.specs.GivenNames.{ServiceNameView}
 use Rattle.stream_jobs.specs.declared.job_options.PidBuffers.{PidBuffers}
 use Rattle.stream_jobs.specs.declared.warning.Warning.{Warning}
 use Rattle.stream_jobs.specs.declared.warning.Warning.TheVariants.{BadPacket, Errored, TrailingBytes, AssociationChanges, MapChanges, DescriptorsChange, Table, StrayPes, NoSuchProgram, NoSuchStream, Units, NoUnit, StreamId, NoStream, UnreadText, MapMoved}
@@ -75,9 +76,12 @@ pid_option_warning streams pid = if list_any (λ s. s.pid == pid) streams then [
 unfoldable pub buffer_warning : List FoundStreamView → PidBuffers → List Warning
 buffer_warning streams b = pid_option_warning streams b.pid
 
-unfoldable pub option_warnings : List ℕ → List ℕ → List PidBuffers → AssociationView → List FoundStreamView → List Warning
-option_warnings programs without buffers a streams =
-    (flat_map (selection_warning a) programs ++ flat_map (pid_option_warning streams) without) ++ flat_map (buffer_warning streams) buffers
+unfoldable pub name_warning : AssociationView → ServiceNameView → List Warning
+name_warning a n = selection_warning a n.program
+
+unfoldable pub option_warnings : List ℕ → List ℕ → List PidBuffers → List ServiceNameView → AssociationView → List FoundStreamView → List Warning
+option_warnings programs without buffers names a streams =
+    ((flat_map (selection_warning a) programs ++ flat_map (pid_option_warning streams) without) ++ flat_map (buffer_warning streams) buffers) ++ flat_map (name_warning a) names
 
 -- 6. Which warnings say that something is lost
 

@@ -8,6 +8,7 @@ ghost use Rattle.stream_jobs.specs.JobInput as spec;
 ghost use Rattle.stream_jobs.specs.JobOptions.{is_selected_program};
 
 use crate::choices::choices;
+use crate::clock_base::base0_of;
 use crate::declarations::{UnitCounts, count_units, too_long, too_many};
 use crate::earliest::earliest_of;
 use crate::job_options::{JobOptions, is_among};
@@ -135,6 +136,7 @@ fn table_warnings(
         options.programs,
         options.without,
         options.buffers,
+        options.names,
         association,
         &found.streams,
         &mut warnings,
@@ -204,7 +206,7 @@ fn with_streams(
         return Err(JobError::Refused(refusal));
     }
     let earliest = earliest_of(&programs, &streams);
-    let base0 = first_base(alloc, earliest, &streams)?;
+    let base0 = base0_of(options.base, first_base(alloc, earliest, &streams)?);
     let moved = moved_streams(alloc, options.make_dts, earliest, streams, findings)?;
     with_moved(
         alloc,
@@ -245,7 +247,7 @@ fn with_pids(
     )?;
     let programs = job_programs(alloc, &streams, found.programs, assigned, &mut warnings)?;
     push_stream_warnings(alloc, count, &streams, findings, &mut warnings)?;
-    push_text_warnings(alloc, &programs, findings, &mut warnings)?;
+    push_text_warnings(alloc, options.names, &programs, findings, &mut warnings)?;
     let id = association.transport_stream_id;
     with_streams(alloc, options, findings, id, programs, warnings, streams)
 }

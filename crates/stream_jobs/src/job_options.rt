@@ -3,6 +3,8 @@
 ghost use Rattle.std.specs.Prelude.{◌≡◌};
 ghost use Rattle.stream_jobs.specs.JobOptions.{is_among};
 
+use crate::clock_base::ClockBase;
+use crate::given_names::{NetworkName, ServiceName};
 use std::marker::Model;
 use stream_coding::Buffers;
 
@@ -39,6 +41,12 @@ pub struct JobOptions<'a> {
     pub declare_by: DeclareBy,
     /// Whether DTS are made from the PTS.
     pub make_dts: bool,
+    /// What the system clock shows as the run begins.
+    pub base: ClockBase,
+    /// The network, in place of that of the stream.
+    pub network: Option<NetworkName<'a>>,
+    /// Names of services in place of those of the stream.
+    pub names: &'a [ServiceName<'a>],
     /// The programs that are taken; none: all.
     pub programs: &'a [u16],
     /// The PIDs that are left out.
@@ -49,6 +57,8 @@ pub struct JobOptions<'a> {
 
 // A contract sees its texts and lists.
 impl<'a> Model for JobOptions<'a> {
+    ghost use Rattle.std.specs.Prelude.{option_map};
+    ghost use Rattle.stream_jobs.specs.GivenNames.{network_name_view};
     ghost use Rattle.stream_jobs.specs.JobOptions.{JobOptionsView};
 
     ghost Value = { JobOptionsView };
@@ -60,6 +70,9 @@ impl<'a> Model for JobOptions<'a> {
       lead = o.lead;
       declare_by = o.declare_by;
       make_dts = o.make_dts;
+      base = o.base;
+      network = option_map network_name_view o.network;
+      names = o.names.now;
       programs = o.programs.now;
       without = o.without.now;
       buffers = o.buffers.now;

@@ -2,17 +2,19 @@
 //!
 //! `job_input` says what a job takes from what a demultiplexer finds, with which warnings, and what it refuses
 //! (`specs/JobInput`). Step by step: the packets (`specs/Packets`), the programs and streams that the options select
-//! (`specs/JobOptions`, `specs/JobPrograms`), their units with the stamps on the wire (`specs/WireStreams`) and at
-//! moments of a run (`specs/Moments`), and what is declared of them (`specs/Declarations`). `specs/Warnings` has the
+//! (`specs/JobOptions`, `specs/GivenNames`, `specs/JobPrograms`), their units with the stamps on the wire (`specs/WireStreams`) and at
+//! moments of a run (`specs/Moments`, `specs/ClockBases`), and what is declared of them (`specs/Declarations`). `specs/Warnings` has the
 //! warnings. `describe` and `make_job` write the description (`specs/Texts`), find a rate with a plan (`specs/Rates`),
 //! and give the units in order (`specs/Jobs`), or say why there is no job (`specs/WhyNoJob`).
 #![tactic(auto)]
 
 mod choices;
+mod clock_base;
 mod declaration_check;
 mod declarations;
 mod description_draft;
 mod earliest;
+mod given_names;
 mod input;
 mod job;
 mod job_options;
@@ -29,6 +31,8 @@ mod warning;
 mod warnings;
 mod wire_streams;
 
+pub use clock_base::ClockBase;
+pub use given_names::{NetworkName, ServiceName};
 pub use input::{JobInput, job_input};
 pub use job::{Job, describe, make_job, reasons_against, units};
 pub use job_options::{DeclareBy, JobOptions, PidBuffers};

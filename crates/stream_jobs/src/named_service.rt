@@ -1,11 +1,13 @@
 //! What the description of a job says of a program's service.
 
-ghost use Rattle.std.specs.Prelude.{◌≡◌, ◌++◌, IfOk, OnOk, is_some, map, option_map};
+ghost use Rattle.std.specs.Prelude.{◌≡◌, ◌++◌, IfOk, OnOk, is_some, map, option_map, string_bytes};
 ghost use Rattle.demux.specs.Shown.{finding_view};
 ghost use Rattle.stream_programs.specs.Services.{service, found_service_view};
+ghost use Rattle.stream_jobs.specs.GivenNames.{name_given};
 ghost use Rattle.stream_jobs.specs.JobPrograms as spec_programs;
 ghost use Rattle.stream_jobs.specs.Texts as spec;
 
+use crate::given_names::{ServiceName, name_given};
 use crate::job_programs::JobProgram;
 use crate::warning::Warning;
 use demux::Finding;
@@ -42,7 +44,7 @@ impl Model for NamedService {
 }
 
 // Whether the service of a program is described.
-fn has_service(findings: &[Finding<'_>], number: u16) -> bool
+fn is_described(findings: &[Finding<'_>], number: u16) -> bool
     ensures { result ≡ is_some (service number (map finding_view findings.now)) }
 {
     match last_service(number, findings) {
@@ -51,14 +53,36 @@ fn has_service(findings: &[Finding<'_>], number: u16) -> bool
     }
 }
 
-/// Whether a service of one of these programs is described.
+// Whether the service of a program is given a name.
+fn is_named(names: &[ServiceName<'_>], number: u16) -> bool
+    ensures { result ≡ is_some (name_given number names.now) }
+{
+    match name_given(number, names) {
+        Some(_) => true,
+        None => false,
+    }
+}
+
+// Whether it is described, or given a name.
+#[tactic(auto, unfolding(crate::specs::Texts::has_service))]
+fn has_service(names: &[ServiceName<'_>], findings: &[Finding<'_>], number: u16) -> bool
+    ensures { result ≡ spec.has_service names.now (map finding_view findings.now) number }
+{
+    is_described(findings, number) || is_named(names, number)
+}
+
+/// Whether a service of one of these programs is described, or given a name.
 #[tactic(auto, unfolding(crate::specs::Texts::has_services))]
-pub(crate) fn has_services(findings: &[Finding<'_>], programs: &[JobProgram]) -> bool
-    ensures { result ≡ spec.has_services (map finding_view findings.now) programs.now }
+pub(crate) fn has_services(
+    names: &[ServiceName<'_>],
+    findings: &[Finding<'_>],
+    programs: &[JobProgram],
+) -> bool
+    ensures { result ≡ spec.has_services names.now (map finding_view findings.now) programs.now }
 {
     programs
         .iter()
-        .any(|program| has_service(findings, program.number))
+        .any(|program| has_service(names, findings, program.number))
 }
 
 // A service, or a television service without a name.
@@ -83,29 +107,73 @@ fn named_service(
     }
 }
 
+// The bytes of a text as a text of its own.
+fn copied(alloc: Global, text: &str) -> Result<String, AllocError>
+    ensures { IfOk result (λ copy. string_bytes copy ≡ text.now) }
+{
+    let mut copy = String::new(alloc);
+    copy.push_str(text)?;
+    Ok(copy)
+}
+
+// A service with the name that is given to it, and with the provider if that is given too.
+#[tactic(auto, unfolding(crate::specs::Texts::renamed))]
+fn renamed(
+    alloc: Global,
+    given: &ServiceName<'_>,
+    service: NamedService,
+) -> Result<NamedService, AllocError>
+    ensures { IfOk result (λ named. named ≡ spec.renamed given.now service) }
+{
+    let provider = given.provider;
+    let name = copied(alloc, given.name)?;
+    match provider {
+        Some(provider) => Ok(NamedService {
+            service_type: service.service_type,
+            provider: copied(alloc, provider)?,
+            name,
+        }),
+        None => Ok(NamedService { name, ..service }),
+    }
+}
+
 /// What is said of the service of a program.
+#[tactic(auto, unfolding(crate::specs::Texts::service_with))]
 pub(crate) fn service_of(
     alloc: Global,
+    names: &[ServiceName<'_>],
     number: u16,
     findings: &[Finding<'_>],
 ) -> Result<NamedService, AllocError>
-    ensures { IfOk result (λ named. named ≡ spec.named_service (service number (map finding_view findings.now))) }
+    ensures { IfOk result (λ named. named ≡ spec.service_of names.now (map finding_view findings.now) number) }
 {
-    named_service(alloc, last_service(number, findings))
+    let named = named_service(alloc, last_service(number, findings))?;
+    match name_given(number, names) {
+        Some(given) => renamed(alloc, given, named),
+        None => Ok(named),
+    }
 }
 
-// Whether a text of a service has characters that can't be read.
+// Whether a text of a service, if no other is given, has characters that can't be read.
 #[tactic(auto, unfolding(crate::specs::JobPrograms::is_unread))]
-fn is_unread(alloc: Global, service: Option<FoundService<'_>>) -> Result<bool, AllocError>
-    ensures { IfOk result (λ unread. unread ≡ spec_programs.is_unread (option_map found_service_view service.entry)) }
+fn is_unread(
+    alloc: Global,
+    given: Option<&ServiceName<'_>>,
+    service: Option<FoundService<'_>>,
+) -> Result<bool, AllocError>
+    ensures { IfOk result (λ unread. unread
+        ≡ spec_programs.is_unread (option_map (λ n. n.now) given.entry) (option_map found_service_view service.entry)) }
 {
-    match service {
-        Some(service) => {
-            let provider = has_unread(alloc, service.provider)?;
+    let Some(service) = service else {
+        return Ok(false);
+    };
+    let provider = has_unread(alloc, service.provider)?;
+    match given {
+        None => {
             let name = has_unread(alloc, service.name)?;
             Ok(provider || name)
         }
-        None => Ok(false),
+        Some(given) => Ok(given.provider.is_none() && provider),
     }
 }
 
@@ -113,17 +181,21 @@ fn is_unread(alloc: Global, service: Option<FoundService<'_>>) -> Result<bool, A
 #[tactic(auto, unfolding(crate::specs::JobPrograms::text_warning))]
 fn push_text_warning(
     alloc: Global,
+    names: &[ServiceName<'_>],
     program: &JobProgram,
     findings: &[Finding<'_>],
     warnings: &mut Vec<Warning>,
 ) -> Result<(), AllocError>
     ensures { OnOk result (warnings.new.items ≡ warnings.old.items
-        ++ spec_programs.text_warning (map finding_view findings.now) program.now) }
+        ++ spec_programs.text_warning names.now (map finding_view findings.now) program.now) }
 {
-    if is_unread(alloc, last_service(program.number, findings))? {
-        warnings.push(Warning::UnreadText {
-            program: program.number,
-        })?;
+    let number = program.number;
+    if is_unread(
+        alloc,
+        name_given(number, names),
+        last_service(number, findings),
+    )? {
+        warnings.push(Warning::UnreadText { program: number })?;
     }
     Ok(())
 }
@@ -131,15 +203,16 @@ fn push_text_warning(
 /// Appends the warnings about the texts of services.
 pub(crate) fn push_text_warnings(
     alloc: Global,
+    names: &[ServiceName<'_>],
     programs: &[JobProgram],
     findings: &[Finding<'_>],
     warnings: &mut Vec<Warning>,
 ) -> Result<(), AllocError>
     ensures { OnOk result (warnings.new.items ≡ warnings.old.items
-        ++ spec_programs.text_warnings (map finding_view findings.now) programs.now) }
+        ++ spec_programs.text_warnings names.now (map finding_view findings.now) programs.now) }
 {
     for program in programs {
-        push_text_warning(alloc, program, findings, warnings)?;
+        push_text_warning(alloc, names, program, findings, warnings)?;
     }
     Ok(())
 }

@@ -5,6 +5,7 @@ ghost use Rattle.std.specs.List.{list_any};
 ghost use Rattle.stream_programs.specs.Association.{is_named};
 ghost use Rattle.stream_jobs.specs.Warnings as spec;
 
+use crate::given_names::ServiceName;
 use crate::job_options::PidBuffers;
 use crate::warning::Warning;
 use std::alloc::AllocError;
@@ -115,20 +116,49 @@ fn push_buffers(
     Ok(())
 }
 
+// Appends the warning about a program whose service is given a name.
+#[tactic(auto, unfolding(crate::specs::Warnings::name_warning))]
+fn push_name(
+    association: &Association,
+    name: &ServiceName<'_>,
+    warnings: &mut Vec<Warning>,
+) -> Result<(), AllocError>
+    ensures { OnOk result (warnings.new.items ≡ warnings.old.items ++ spec.name_warning association.now name.now) }
+{
+    push_selection(association, name.program, warnings)
+}
+
+// Appends the warnings about programs whose services are given names.
+fn push_names(
+    association: &Association,
+    names: &[ServiceName<'_>],
+    warnings: &mut Vec<Warning>,
+) -> Result<(), AllocError>
+    ensures { OnOk result (warnings.new.items ≡ warnings.old.items
+        ++ flat_map (spec.name_warning association.now) names.now) }
+{
+    for name in names {
+        push_name(association, name, warnings)?;
+    }
+    Ok(())
+}
+
 /// Appends the warnings about programs and PIDs that options name and that are not there.
 pub(crate) fn push_option_warnings(
     programs: &[u16],
     without: &[u16],
     buffers: &[PidBuffers],
+    names: &[ServiceName<'_>],
     association: &Association,
     streams: &[FoundStream],
     warnings: &mut Vec<Warning>,
 ) -> Result<(), AllocError>
     ensures { OnOk result (warnings.new.items ≡ warnings.old.items
-        ++ spec.option_warnings programs.now without.now buffers.now association.now streams.now) }
+        ++ spec.option_warnings programs.now without.now buffers.now names.now association.now streams.now) }
 {
     push_selections(association, programs, warnings)?;
     push_without(streams, without, warnings)?;
     push_buffers(streams, buffers, warnings)?;
+    push_names(association, names, warnings)?;
     Ok(())
 }

@@ -1,11 +1,14 @@
 -- What the command line asks for.
-use Rattle.std.specs.Prelude.{ℕ, ◌==◌, ◌||◌, Bool, List, [], ◌∷◌, Option, Some, None, if◌then◌else◌, codes, map}
+use Rattle.std.specs.Prelude.{ℕ, ◌==◌, ◌||◌, Bool, List, [], ◌∷◌, Option, Some, None, if◌then◌else◌, codes, map, option_map}
 use Rattle.std.specs.Borrow.{Bor}
 use Rattle.std.specs.Char.{is_ascii_digit}
 use Rattle.std.specs.List.{list_all}
 use Rattle.std.specs.Str.{bytes_eq}
 use Rattle.clap.specs.Words.{Kinds, Row, Text, fault_of, first_of, matches_of}
 use Rattle.stream_jobs.specs.JobOptions.{JobOptionsView}
+use Rattle.stream_jobs.specs.GivenNames.{NetworkNameView, ServiceNameView}
+use Rattle.stream_jobs.specs.declared.clock_base.ClockBase.{ClockBase}
+use Rattle.stream_jobs.specs.declared.clock_base.ClockBase.TheVariants.{Lasting, Input, At}
 use Rattle.stream_jobs.specs.declared.job_options.DeclareBy.{DeclareBy}
 use Rattle.stream_jobs.specs.declared.job_options.DeclareBy.TheVariants as by
 use Rattle.stream_jobs.specs.declared.job_options.PidBuffers.{PidBuffers}
@@ -13,7 +16,7 @@ use Rattle.devices.specs.Options.{is_given, number_if_given, number_option}
 use Rattle.tsjob_cli.specs.declared.arguments.Subcommand.{Subcommand}
 use Rattle.tsjob_cli.specs.declared.arguments.Subcommand.TheVariants.{Whole, Describe, Units, Why}
 use Rattle.tsjob_cli.specs.CommandLine.{tsjob_app}
-use Rattle.tsjob_cli.specs.Lists.{buffer_list, given, number_list}
+use Rattle.tsjob_cli.specs.Lists.{buffer_list, given, name_list, network_if_given, number_in, number_list}
 
 -- the ranges of numbers: a rate in bits a second, a limit in milliseconds, a lead in units of 90 kHz
 abbrev pub least_rate : ℕ
@@ -41,6 +44,10 @@ least_lead = 1
 abbrev pub greatest_lead : ℕ
 greatest_lead = 90000
 
+-- the system clock in units of 90 kHz
+abbrev pub greatest_base : ℕ
+greatest_base = 8589934591
+
 -- 1. One value each
 
 -- without a subcommand, the whole job
@@ -57,6 +64,11 @@ declare_by_of None = Some by.Either
 declare_by_of (Some text) =
     if bytes_eq text (codes "groups") then Some by.Groups
     else (if bytes_eq text (codes "time") then Some by.Pace else None)
+
+-- a number, or the word for that of the input; without one, a clock that lasts
+unfoldable pub base_of : Option Text → Option ClockBase
+base_of None = Some Lasting
+base_of (Some text) = if bytes_eq text (codes "input") then Some Input else option_map At (number_in 0 greatest_base text)
 
 -- digits, `-`, `:` and `T`
 abbrev pub is_of_time : ℕ → Bool
@@ -76,8 +88,8 @@ pub record JobArgumentsView : Type 0 where
   pub options : JobOptionsView
 
 -- with empty lists
-abbrev pub plain : Subcommand → Bool → Option ℕ → Text → ℕ → ℕ → DeclareBy → Bool → JobArgumentsView
-plain subcommand whole rate start pcr_limit lead declare_by make_dts = record {
+abbrev pub plain : Subcommand → Bool → Option ℕ → Text → ℕ → ℕ → DeclareBy → Bool → ClockBase → JobArgumentsView
+plain subcommand whole rate start pcr_limit lead declare_by make_dts base = record {
   subcommand = subcommand;
   whole = whole;
   options = record {
@@ -87,6 +99,9 @@ plain subcommand whole rate start pcr_limit lead declare_by make_dts = record {
     lead = lead;
     declare_by = declare_by;
     make_dts = make_dts;
+    base = base;
+    network = None;
+    names = [];
     programs = [];
     without = [];
     buffers = [];
@@ -102,11 +117,13 @@ values_of rows =
     given (number_option least_limit greatest_limit 40 (first_of (codes "pcr") rows)) (λ pcr_limit.
     given (number_option least_lead greatest_lead greatest_lead (first_of (codes "lead") rows)) (λ lead.
     given (declare_by_of (first_of (codes "declare") rows)) (λ declare_by.
-    Some (plain subcommand (is_given (first_of (codes "whole") rows)) rate start pcr_limit lead declare_by (is_given (first_of (codes "make-dts") rows)))))))))
+    given (base_of (first_of (codes "base") rows)) (λ base.
+    Some (plain subcommand (is_given (first_of (codes "whole") rows)) rate start pcr_limit lead declare_by (is_given (first_of (codes "make-dts") rows)) base))))))))
 
 -- with lists
-abbrev pub with_lists : List ℕ → List ℕ → List PidBuffers → JobArgumentsView → JobArgumentsView
-with_lists programs without buffers arguments = record arguments { options = record arguments.options { programs = programs; without = without; buffers = buffers } }
+abbrev pub with_lists : List ℕ → List ℕ → List PidBuffers → Option NetworkNameView → List ServiceNameView → JobArgumentsView → JobArgumentsView
+with_lists programs without buffers network names arguments =
+    record arguments { options = record arguments.options { programs = programs; without = without; buffers = buffers; network = network; names = names } }
 
 unfoldable pub arguments_of : List Row → Option JobArgumentsView
 arguments_of rows =
@@ -114,7 +131,9 @@ arguments_of rows =
     given (number_list greatest_program (first_of (codes "program") rows)) (λ programs.
     given (number_list greatest_pid (first_of (codes "without") rows)) (λ without.
     given (buffer_list (first_of (codes "buffers") rows)) (λ buffers.
-    Some (with_lists programs without buffers values)))))
+    given (network_if_given (first_of (codes "network") rows)) (λ network.
+    given (name_list (first_of (codes "name") rows)) (λ names.
+    Some (with_lists programs without buffers network names values)))))))
 
 -- 3. From words
 

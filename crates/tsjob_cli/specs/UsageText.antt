@@ -2,7 +2,7 @@
 use Rattle.std.specs.Prelude.{ℕ, List, [], ◌∷◌, ◌++◌, codes}
 use Rattle.std.specs.List.{concat}
 use Rattle.devices.specs.Usage.{range_text}
-use Rattle.tsjob_cli.specs.Arguments.{least_rate, greatest_rate, least_limit, greatest_limit, least_lead, greatest_lead}
+use Rattle.tsjob_cli.specs.Arguments.{least_rate, greatest_rate, least_limit, greatest_limit, least_lead, greatest_lead, greatest_base}
 
 abbrev pub usage_text : List ℕ
 usage_text = concat
@@ -15,6 +15,9 @@ usage_text = concat
     ∷ codes "  --declare groups|time          by what packets are declared; else by groups where they ask for little more\n"
     ∷ codes "  --pcr " ∷ range_text least_limit greatest_limit ∷ codes "                   the greatest time between clock references, in ms\n"
     ∷ codes "  --start YYYY-MM-DDThh:mm:ss    the moment of the first packet\n"
+    ∷ codes "  --base " ∷ range_text 0 greatest_base ∷ codes "|input     the system clock as the run begins, in units of 90 kHz, or that of the input\n"
+    ∷ codes "  --network ID:NAME[:ORIGINAL]   the network, and original_network_id\n"
+    ∷ codes "  --name N:NAME[:PROVIDER],..    the names of the services of programs\n"
     ∷ codes "  --make-dts                     DTS are made from PTS\n"
     ∷ codes "  --whole                        the input is no capture: its last PES packets are whole\n"
     ∷ codes "  --version                      alone: the version, and the kit that proved it\n" ∷ [])

@@ -3,16 +3,18 @@
 ghost use Rattle.std.specs.Prelude.{◌≡◌, IfOk, option_map};
 ghost use Rattle.std.specs.List.{list_all};
 ghost use Rattle.clap.specs.Words.{found_of, rows_of};
+ghost use Rattle.stream_jobs.specs.GivenNames.{network_name_view};
 ghost use Rattle.tsjob_cli.specs.Arguments as spec;
+ghost use Rattle.tsjob_cli.specs.Lists.{network_if_given};
 
 use crate::command_line::matches_for;
-use crate::lists::{buffer_list, number_list};
+use crate::lists::{buffer_list, name_list, network_in, number_list};
 use clap::ArgMatches;
 use clap::error::ErrorKind;
-use devices::{is_given, number_if_given, number_option, text_of};
+use devices::{is_given, number_if_given, number_in, number_option, text_of};
 use std::alloc::{AllocError, Global};
 use std::marker::Model;
-use stream_jobs::{DeclareBy, JobOptions, PidBuffers};
+use stream_jobs::{ClockBase, DeclareBy, JobOptions, NetworkName, PidBuffers, ServiceName};
 
 /// The moment of the first slot without `--start`.
 const DEFAULT_START: &str = "2000-01-01T00:00:00";
@@ -48,6 +50,12 @@ pub struct JobArguments<'a> {
     pub declare_by: DeclareBy,
     /// Whether DTS are made from PTS.
     pub make_dts: bool,
+    /// What the system clock shows as the run begins.
+    pub base: ClockBase,
+    /// The network, in place of that of the stream.
+    pub network: Option<NetworkName<'a>>,
+    /// Names of services in place of those of the stream.
+    pub names: Vec<ServiceName<'a>>,
     /// The programs that are taken; none: all.
     pub programs: Vec<u16>,
     /// The PIDs that are left out.
@@ -58,6 +66,8 @@ pub struct JobArguments<'a> {
 
 // A contract sees its lists and its text.
 impl<'a> Model for JobArguments<'a> {
+    ghost use Rattle.std.specs.Prelude.{option_map};
+    ghost use Rattle.stream_jobs.specs.GivenNames.{network_name_view};
     ghost use Rattle.tsjob_cli.specs.Arguments.{JobArgumentsView};
 
     ghost Value = { JobArgumentsView };
@@ -72,6 +82,9 @@ impl<'a> Model for JobArguments<'a> {
         lead = a.lead;
         declare_by = a.declare_by;
         make_dts = a.make_dts;
+        base = a.base;
+        network = option_map network_name_view a.network;
+        names = a.names.items;
         programs = a.programs.items;
         without = a.without.items;
         buffers = a.buffers.items;
@@ -91,6 +104,9 @@ impl JobArguments<'_> {
             lead: self.lead,
             declare_by: self.declare_by,
             make_dts: self.make_dts,
+            base: self.base,
+            network: self.network,
+            names: &self.names,
             programs: &self.programs,
             without: &self.without,
             buffers: &self.buffers,
@@ -122,6 +138,36 @@ pub(crate) fn declare_by_of(text: Option<&str>) -> Option<DeclareBy>
         Some("groups") => Some(DeclareBy::Groups),
         Some("time") => Some(DeclareBy::Pace),
         Some(_) => None,
+    }
+}
+
+// What the system clock shows as the run begins; without a word, what lasts.
+#[tactic(auto, unfolding(crate::specs::Arguments::base_of))]
+pub(crate) fn base_of(text: Option<&str>) -> Option<ClockBase>
+    ensures { result ≡ spec.base_of (option_map (λ s. s.now) text.entry) }
+{
+    match text {
+        None => Some(ClockBase::Lasting),
+        Some("input") => Some(ClockBase::Input),
+        Some(text) => Some(ClockBase::At(number_in(text, 0, 8_589_934_591)?)),
+    }
+}
+
+// The network, if the option is given; none where it is none.
+#[tactic(auto, unfolding(crate::specs::Lists::network_if_given))]
+fn network_if_given<'a>(
+    alloc: Global,
+    text: Option<&'a str>,
+) -> Result<Option<Option<NetworkName<'a>>>, AllocError>
+    ensures { IfOk result (λ r. option_map (option_map network_name_view) r
+        ≡ network_if_given (option_map (λ s. s.now) text.entry)) }
+{
+    let Some(text) = text else {
+        return Ok(Some(None));
+    };
+    match network_in(alloc, text)? {
+        Some(network) => Ok(Some(Some(network))),
+        None => Ok(None),
     }
 }
 
@@ -161,6 +207,7 @@ fn values_of<'a>(alloc: Global, matches: &ArgMatches<'a>) -> Option<JobArguments
     let pcr_limit = number_option(text_of(matches, "pcr"), 1, 100, 40)?;
     let lead = number_option(text_of(matches, "lead"), 1, 90_000, 90_000)?;
     let declare_by = declare_by_of(text_of(matches, "declare"))?;
+    let base = base_of(text_of(matches, "base"))?;
     Some(JobArguments {
         subcommand,
         whole: is_given(text_of(matches, "whole")),
@@ -170,6 +217,9 @@ fn values_of<'a>(alloc: Global, matches: &ArgMatches<'a>) -> Option<JobArguments
         lead: lead as u32,
         declare_by,
         make_dts: is_given(text_of(matches, "make-dts")),
+        base,
+        network: None,
+        names: Vec::new(alloc),
         programs: Vec::new(alloc),
         without: Vec::new(alloc),
         buffers: Vec::new(alloc),
@@ -196,7 +246,15 @@ fn arguments_of<'a>(
     let Some(buffers) = buffer_list(alloc, text_of(matches, "buffers"))? else {
         return Ok(None);
     };
+    let Some(network) = network_if_given(alloc, text_of(matches, "network"))? else {
+        return Ok(None);
+    };
+    let Some(names) = name_list(alloc, text_of(matches, "name"))? else {
+        return Ok(None);
+    };
     Ok(Some(JobArguments {
+        network,
+        names,
         programs,
         without,
         buffers,

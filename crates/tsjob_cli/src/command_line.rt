@@ -2,7 +2,7 @@
 
 ghost use Rattle.std.specs.Prelude.{◌≡◌, IfOk, map};
 ghost use Rattle.clap.specs.Words.{FailsBy, app_of, fault_of, found_of, matches_of, rows_of};
-ghost use Rattle.tsjob_cli.specs.CommandLine.{flags_app, rate_app, times_app, tsjob_app};
+ghost use Rattle.tsjob_cli.specs.CommandLine.{flags_app, names_app, rate_app, times_app, tsjob_app};
 
 use clap::{Arg, ArgMatches, Command, Error};
 use devices::{flag, option};
@@ -38,12 +38,22 @@ fn with_flags<'a>(alloc: Global) -> Result<Command<'a>, AllocError>
         .arg(flag(alloc, "whole"))
 }
 
+// With the clock and the names of the new stream.
+fn with_names<'a>(alloc: Global) -> Result<Command<'a>, AllocError>
+    ensures { IfOk result (λ c. app_of c ≡ names_app) }
+{
+    with_flags(alloc)?
+        .arg(option(alloc, "base"))?
+        .arg(option(alloc, "network"))?
+        .arg(option(alloc, "name"))
+}
+
 // The program's command line.
 #[tactic(auto, unfolding(crate::specs::CommandLine::tsjob_app))]
 fn tsjob<'a>(alloc: Global) -> Result<Command<'a>, AllocError>
     ensures { IfOk result (λ c. app_of c ≡ tsjob_app) }
 {
-    with_flags(alloc)?
+    with_names(alloc)?
         .arg(option(alloc, "program"))?
         .arg(option(alloc, "without"))?
         .arg(option(alloc, "buffers"))

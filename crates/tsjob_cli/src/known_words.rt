@@ -2,8 +2,8 @@
 ghost use Rattle.std.specs.Prelude.{◌≡◌, IfOk};
 ghost use Rattle.tsjob_cli.specs.KnownWords as spec;
 
-use crate::arguments::{declare_by_of, start_of, subcommand_of};
-use crate::lists::{buffer_list, number_list};
+use crate::arguments::{base_of, declare_by_of, start_of, subcommand_of};
+use crate::lists::{buffer_list, name_list, network_in, number_list};
 use devices::number_in;
 use std::alloc::{AllocError, Global};
 use word_faults::CommandLine;
@@ -25,6 +25,12 @@ pub enum ValueKind {
     Start,
     /// By what packets are declared.
     Declare,
+    /// A moment of the system clock.
+    Base,
+    /// `ID:NAME[:ORIGINAL]`
+    Network,
+    /// `N:NAME[:PROVIDER],..`
+    Names,
 }
 
 // The values of an option; none where it takes none.
@@ -41,6 +47,9 @@ fn kind_of(option: &str) -> Option<ValueKind>
         "--buffers" => Some(ValueKind::Buffers),
         "--start" => Some(ValueKind::Start),
         "--declare" => Some(ValueKind::Declare),
+        "--base" => Some(ValueKind::Base),
+        "--network" => Some(ValueKind::Network),
+        "--name" => Some(ValueKind::Names),
         _ => None,
     }
 }
@@ -63,6 +72,9 @@ fn is_value(alloc: Global, kind: ValueKind, value: &str) -> Result<bool, AllocEr
         ValueKind::Buffers => Ok(buffer_list(alloc, Some(value))?.is_some()),
         ValueKind::Start => Ok(start_of(Some(value)).is_some()),
         ValueKind::Declare => Ok(declare_by_of(Some(value)).is_some()),
+        ValueKind::Base => Ok(base_of(Some(value)).is_some()),
+        ValueKind::Network => Ok(network_in(alloc, value)?.is_some()),
+        ValueKind::Names => Ok(name_list(alloc, Some(value))?.is_some()),
     }
 }
 

@@ -30,6 +30,9 @@ const USAGE: &str = "usage: tsjob [describe|units|why] [OPTIONS] < PACKETS > JOB
   --declare groups|time          by what packets are declared; else by groups where they ask for little more
   --pcr 1..100                   the greatest time between clock references, in ms
   --start YYYY-MM-DDThh:mm:ss    the moment of the first packet
+  --base 0..8589934591|input     the system clock as the run begins, in units of 90 kHz, or that of the input
+  --network ID:NAME[:ORIGINAL]   the network, and original_network_id
+  --name N:NAME[:PROVIDER],..    the names of the services of programs
   --make-dts                     DTS are made from PTS
   --whole                        the input is no capture: its last PES packets are whole
   --version                      alone: the version, and the kit that proved it

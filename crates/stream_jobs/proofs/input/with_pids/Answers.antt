@@ -19,9 +19,9 @@ returns-clause-value c =
     let programs : c.job_programs.new.warnings.items ≡ c.wire_streams.new.warnings.items ++ all_program_warnings streams c.args.found.programs c.args.assigned.items = search rules in
     let pids : c.push_stream_warnings.new.warnings.items ≡ c.job_programs.new.warnings.items ++ flat_map (λ s. pid_warnings c.args.count findings s.pid) streams = search rules in
     let made : c.in_ok-programs.programs.items ≡ job_programs streams c.args.found.programs c.args.assigned.items = search rules in
-    let pushed : c.push_text_warnings.new.warnings.items ≡ c.push_stream_warnings.new.warnings.items ++ text_warnings findings c.in_ok-programs.programs.items = search rules in
-    let texts : c.push_text_warnings.new.warnings.items ≡ c.push_stream_warnings.new.warnings.items ++ text_warnings findings (job_programs streams c.args.found.programs c.args.assigned.items) =
-    pushed ∙ ap (λ (ps : List JobProgramView). c.push_stream_warnings.new.warnings.items ++ text_warnings findings ps) made in
+    let pushed : c.push_text_warnings.new.warnings.items ≡ c.push_stream_warnings.new.warnings.items ++ text_warnings options.names findings c.in_ok-programs.programs.items = search rules in
+    let texts : c.push_text_warnings.new.warnings.items ≡ c.push_stream_warnings.new.warnings.items ++ text_warnings options.names findings (job_programs streams c.args.found.programs c.args.assigned.items) =
+    pushed ∙ ap (λ (ps : List JobProgramView). c.push_stream_warnings.new.warnings.items ++ text_warnings options.names findings ps) made in
     let value : Answers (with_streams options findings c.args.association.now.transport_stream_id c.in_ok-programs.programs.items c.push_text_warnings.new.warnings.items streams) c.with_streams.result = search rules in
     let warnings = all_warnings options c.args.count findings c.args.association.now c.args.named.now c.args.found c.args.assigned.items streams
     c.in_ok-warnings.warnings.items c.wire_streams.new.warnings.items c.job_programs.new.warnings.items c.push_stream_warnings.new.warnings.items c.push_text_warnings.new.warnings.items

@@ -5,5 +5,5 @@ use Rattle.stream_jobs.proofs.named_service.push_text_warnings.Given as goal
 
 abbrev pub invariant-loop-program : goal.invariant-loop-program
 invariant-loop-program l =
-    l.fn.warnings.items ++ flat_map (text_warning (map finding_view l.findings)) l.programs
-    ≡ l.warnings.items ++ flat_map (text_warning (map finding_view l.findings)) (drop l.program-index l.programs)
+    l.fn.warnings.items ++ flat_map (text_warning l.names (map finding_view l.findings)) l.programs
+    ≡ l.warnings.items ++ flat_map (text_warning l.names (map finding_view l.findings)) (drop l.program-index l.programs)

@@ -3,10 +3,14 @@ use Rattle.stream_jobs.specs.Warnings.{option_warnings}
 use Rattle.stream_jobs.specs.declared.warning.Warning.{Warning}
 use Rattle.stream_jobs.proofs.option_warnings.push_option_warnings.Goals as goal
 
--- three lists, one after the other
+-- lists, one after the other
 three : (old a b c one two all : List Warning) → one ≡ old ++ a → two ≡ one ++ b → all ≡ two ++ c → all ≡ old ++ ((a ++ b) ++ c)
 three old a b c one two all first second third = rw (third, second, first) (ap (λ (ws : List Warning). ws ++ c) (append_assoc old a b) ∙ append_assoc old (a ++ b) c)
 
+four : (old a b c d one two more all : List Warning) → one ≡ old ++ a → two ≡ one ++ b → more ≡ two ++ c → all ≡ more ++ d → all ≡ old ++ (((a ++ b) ++ c) ++ d)
+four old a b c d one two more all first second third fourth =
+    fourth ∙ ap (λ (ws : List Warning). ws ++ d) (three old a b c one two more first second third) ∙ append_assoc old ((a ++ b) ++ c) d
+
 pub returns : goal.returns
 unfolding option_warnings
-returns c = three _ _ _ _ _ _ _ c.in_ok-push_selections.ensures c.in_ok-push_without.ensures c.in_ok-push_buffers.ensures
+returns c = four _ _ _ _ _ _ _ _ _ c.in_ok-push_selections.ensures c.in_ok-push_without.ensures c.in_ok-push_buffers.ensures c.in_ok-push_names.ensures

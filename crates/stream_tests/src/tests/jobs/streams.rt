@@ -4,7 +4,7 @@ use demux::{Finding, Kind, Part, What};
 use pes_packet::{PesHeader, Stamps};
 use psi_tables::check_word;
 use std::alloc::{AllocError, Global};
-use stream_jobs::{DeclareBy, JobInput, JobOptions, job_input};
+use stream_jobs::{ClockBase, DeclareBy, JobInput, JobOptions, job_input};
 
 /// Findings, one after another.
 pub type Found = Vec<Finding<'static>>;
@@ -18,6 +18,9 @@ pub fn usual() -> JobOptions<'static> {
         lead: 90_000,
         declare_by: DeclareBy::Groups,
         make_dts: false,
+        base: ClockBase::Input,
+        network: None,
+        names: &[],
         programs: &[],
         without: &[],
         buffers: &[],

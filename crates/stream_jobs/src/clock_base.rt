@@ -1,0 +1,40 @@
+//! What the system clock shows as a run begins.
+
+ghost use Rattle.std.specs.Prelude.{◌≡◌};
+ghost use Rattle.stream_jobs.specs.ClockBases as spec;
+
+use clock27::STAMP_MODULUS;
+
+/// 12 hours in units of 90 kHz.
+const TWELVE_HOURS: u64 = 3_888_000_000;
+
+/// What the system clock shows as the run begins.
+#[derive(Clone, Copy, Debug, PartialEq, Eq)]
+pub enum ClockBase {
+    /// What the first program's shows, if that does not pass the end of its 33 bits within 12 hours; else 0.
+    Lasting,
+    /// What the first program's shows, so that its stamps on the wire stay what they are.
+    Input,
+    /// This, in units of 90 kHz.
+    At(u64),
+}
+
+// Whether a clock that shows this does not pass the end of its 33 bits within 12 hours.
+#[tactic(auto, unfolding(crate::specs::ClockBases::lasts))]
+fn lasts(base: u64) -> bool
+    ensures { result ≡ spec.lasts base }
+{
+    base <= STAMP_MODULUS - TWELVE_HOURS
+}
+
+/// By what is asked for, and what the first program's shows.
+#[tactic(auto, unfolding(crate::specs::ClockBases::base0_of))]
+pub(crate) fn base0_of(base: ClockBase, own: u64) -> u64
+    ensures { result ≡ spec.base0_of base own }
+{
+    match base {
+        ClockBase::Lasting => { if lasts(own) { own } else { 0 } }
+        ClockBase::Input => own,
+        ClockBase::At(base) => base,
+    }
+}
