@@ -89,6 +89,18 @@ most_more step peak held before ts pos same is =
     let later = greatest_from held f until (last_of step before) ds ds climbs same in
     omega (arith, ext, both, first, later, is)
 
+-- the most when one of these enters
+pub row_most : (step : ℕ) (held : ℕ → ℕ) (before : List Part) (ts : List ℕ) → 0 < step → ((x : ℕ) → last_of step before ≤ x → held x ≡ main_fullness step before x) →
+    greatest_at (λ x. held x + entered (until_of before) x (left_after step before ts)) (left_after step before ts)
+    ≡ greatest_at (main_fullness step (Carries ts ∷ before)) (left_after step before ts)
+unfolding main_fullness
+row_most step held before ts pos same =
+    let ds = left_after step before ts in
+    let until = until_of before in
+    let f : ℕ → ℕ = main_fullness step before in
+    greatest_from held f until (last_of step before) ds ds (departures_climb step (last_of step before) ts pos) same
+    ∙ sym (greatest_ext (main_fullness step (Carries ts ∷ before)) (λ x. f x + entered until x ds) ds (λ x. refl))
+
 -- and what is there
 held_more : (step x last last' until until' now here before : ℕ) (ts : List ℕ) → last ≡ last' → until ≡ until' → here ≡ before →
     now ≡ here + entered until x (departures step last ts) → now ≡ before + entered until' x (departures step last' ts)

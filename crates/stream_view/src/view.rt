@@ -134,6 +134,8 @@ impl<A: Allocator> StreamView<A> {
         ensures before { IfOk result (λ unit. unit ≡ self.old.unit) }
         ensures refused { Answers result (length self.old.main.earlier.items) }
         ensures err { OnErr result ((parts : List Part) → IsViewOf self.old parts → IsViewOf self.new parts) }
+        ensures transport { self.new.transport ≡ self.old.transport }
+        ensures watch { self.new.watch ≡ self.old.watch }
     {
         if self.main.earlier.len() >= MOST_WAITING {
             return Err(BeginError::TooManyWaiting);
