@@ -6,7 +6,7 @@ use Rattle.demux.specs.Views.{FindingView}
 use Rattle.demux.specs.Stream.{StreamState, start, pushed}
 use Rattle.stream_programs.specs.Association.{AssociationView, association}
 use Rattle.stream_programs.specs.ProgramMaps.{program_map}
-use Rattle.stream_programs.specs.Programs.{FoundProgramsView, programs_of}
+use Rattle.stream_programs.specs.Programs.{FoundProgramView, FoundProgramsView, programs_of}
 use Rattle.stream_programs.specs.Streams.{FoundStreamView}
 use Rattle.named_streams.specs.declared.named_streams.TheConstants.{FIRST_PACKETS}
 
@@ -73,3 +73,15 @@ stream_by pid (Some found) = stream_in pid found.streams
 -- among those that are known
 abbrev pub stream_of : NamedView → ℕ → Option FoundStreamView
 stream_of s pid = stream_by pid s.streams
+
+-- PCR_PID of a program among these; 8191, that of no clock reference, where there is no such program
+unfoldable pub clock_in : ℕ → List FoundProgramView → ℕ
+clock_in number [] = 8191
+clock_in number (program ∷ programs) = if program.number == number then program.pcr_pid else clock_in number programs
+
+unfoldable pub clock_by : ℕ → Option FoundProgramsView → ℕ
+clock_by number None = 8191
+clock_by number (Some found) = clock_in number found.programs
+
+abbrev pub clock_of : NamedView → ℕ → ℕ
+clock_of s number = clock_by number s.streams

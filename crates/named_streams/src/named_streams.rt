@@ -9,7 +9,8 @@ use psi_tables::Program;
 use std::alloc::{AllocError, Global};
 use std::marker::Model;
 use stream_programs::{
-    Association, FoundPrograms, FoundStream, found_programs, last_program_map, named_programs,
+    Association, FoundProgram, FoundPrograms, FoundStream, found_programs, last_program_map,
+    named_programs,
 };
 
 /// The number of packets that are looked at at most.
@@ -135,6 +136,19 @@ fn stream_in<'s>(pid: u16, streams: &'s [FoundStream]) -> Option<&'s FoundStream
     None
 }
 
+// PCR_PID of a program, 8191 where it is not among these.
+#[tactic(auto, unfolding(crate::specs::NamedStreams::clock_in))]
+fn clock_in(number: u16, programs: &[FoundProgram]) -> u16
+    ensures { result ≡ spec.clock_in number programs.now }
+{
+    for program in programs {
+        if program.number == number {
+            return program.pcr_pid;
+        }
+    }
+    8191
+}
+
 impl NamedStreams {
     /// Before the first packet.
     pub fn new(alloc: Global) -> NamedStreams
@@ -203,6 +217,17 @@ impl NamedStreams {
         match &self.found {
             None => None,
             Some(found) => stream_in(pid, &found.streams),
+        }
+    }
+
+    /// PCR_PID of a program: 8191, which is that of no clock reference, where it is not known.
+    #[tactic(auto, unfolding(crate::specs::NamedStreams::clock_by))]
+    pub fn clock_pid(&self, number: u16) -> u16
+        ensures { result ≡ spec.clock_of self.now number }
+    {
+        match &self.found {
+            None => 8191,
+            Some(found) => clock_in(number, &found.programs),
         }
     }
 }
