@@ -1,1 +1,4 @@
 pub mod Fields
+pub mod Entries
+pub mod Packets
+pub mod Tables

@@ -1,4 +1,9 @@
 pub mod ReportLines
 pub mod WindowLines
-pub mod StreamLines
+pub mod Clocks
+pub mod Tallies
+pub mod EntryLines
+pub mod Entries
+pub mod StreamTables
+pub mod Seen
 pub mod Views

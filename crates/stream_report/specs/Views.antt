@@ -1,67 +1,71 @@
 -- A stream packet by packet: what is kept of it, and the lines that each packet settles.
-use Rattle.std.specs.Prelude.{ℕ, ◌+◌, ◌-◌, ◌^◌, ◌==◌, min, Bool, false, not, if◌then◌else◌, List, [], ◌∷◌, ◌++◌, codes, Result, Ok, Err}
+use Rattle.std.specs.Prelude.{◌≡◌, ℕ, ◌==◌, ◌&&◌, Bool, false, if◌then◌else◌, List, [], ◌∷◌, ◌++◌, Result, Ok, Err}
 use Rattle.ts_packet.specs.declared.packet.PacketError.{PacketError}
 use Rattle.ts_packet.specs.Views.{PacketView}
 use Rattle.ts_packet.specs.Reading.{packet_at}
-use Rattle.ts_packet.specs.PcrBytes.{has_pcr}
-use Rattle.pid_windows.specs.Windows.{WindowView, no_packet, one_more, taken}
-use Rattle.named_streams.specs.NamedStreams.{NamedView, none_taken}
-use Rattle.named_streams.specs.NamedStreams as naming
+use Rattle.stream_report.specs.declared.view.View.{View}
 use Rattle.stream_report.specs.declared.view_options.ViewOptions.{ViewOptions}
-use Rattle.stream_report.specs.ReportLines.{line_of, number_field}
-use Rattle.stream_report.specs.StreamLines.{Buffers, begin_lines, begun, buffer_lines, enter_lines, entered, no_buffers, none_over}
-use Rattle.stream_report.specs.WindowLines.{window_of, window_lines, pid_lines}
+use Rattle.stream_report.specs.Seen.{SeenState, counted, end_line, next_window, nothing_seen, with_clock}
+use Rattle.stream_report.specs.Seen as seeing
+use Rattle.stream_report.specs.StreamTables.{IsTable, TableState, begin_lines, begun, lines_of, no_streams, table_end, table_units, taken}
+use Rattle.stream_report.specs.StreamTables as tables
+use Rattle.stream_report.specs.WindowLines.{window_lines, pid_lines}
 
--- what is kept: the number of packets, and of those that are refused or have transport_error_indicator; the window of the
--- last packet that is not; the packets of each PID; and the streams that are named, with their buffers
+-- what is kept: what was seen, and the streams whose buffers have begun
 pub record ViewState : Type 0 where
-  pub options : ViewOptions
-  pub packets : ℕ
-  pub refused : ℕ
-  pub window : WindowView
-  pub totals : WindowView
-  pub named : NamedView
-  pub buffers : Buffers
+  pub seen : SeenState
+  pub table : TableState
+
+pub record IsView (view : View) (s : ViewState) : Type 0 where
+  pub seen : view.seen ≡ s.seen
+  pub table : IsTable view.table s.table
 
 -- before the first packet
 abbrev pub start : ViewOptions → ViewState
-start options = record { options = options; packets = 0; refused = 0; window = no_packet; totals = no_packet; named = none_taken; buffers = no_buffers }
+start options = record { seen = nothing_seen options; table = no_streams }
 
 -- a packet that can't be read, or says that it is wrong
 abbrev pub without : ViewState → ViewState
-without s = record s { packets = one_more s.packets; refused = one_more s.refused }
+without s = record { seen = seeing.without s.seen; table = s.table }
 
--- the buffers once a packet has entered
-abbrev pub with_begun : ViewState → PacketView → Buffers
-with_begun s packet = begun s.options s.named s.buffers packet
+-- one that can: its stream's buffers begin with it, if they do, and it enters them
+abbrev pub with_begun : ViewState → PacketView → TableState
+with_begun s packet = begun s.seen.options s.seen.named s.table packet
 
 abbrev pub with_buffers : ViewState → PacketView → ViewState
-with_buffers s packet = record s { buffers = entered (with_begun s packet) packet.header.pid s.packets }
+with_buffers s packet = record {
+  seen = s.seen;
+  table = taken s.seen.options s.seen.packets (next_window s.seen) s.seen.clocks (with_begun s packet) packet;
+}
 
--- one that can
+abbrev pub clocked : ViewState → PacketView → ViewState
+clocked s packet = record { seen = with_clock s.seen packet; table = s.table }
+
 abbrev pub with_packet : ViewState → PacketView → ViewState
-with_packet s packet = record s {
-  packets = one_more s.packets;
-  window = taken s.window (window_of s.options s.packets) packet.header.pid (has_pcr packet.adaptation);
-  totals = taken s.totals 0 packet.header.pid (has_pcr packet.adaptation);
-  buffers = entered (with_begun s packet) packet.header.pid s.packets;
+with_packet s packet = record {
+  seen = counted (with_clock s.seen packet) packet;
+  table = (with_buffers (clocked s packet) packet).table;
 }
 
 unfoldable pub after_read : ViewState → Result PacketView PacketError → ViewState
 after_read s (Err error) = without s
 after_read s (Ok packet) = if packet.header.transport_error_indicator then without s else with_packet s packet
 
--- a packet of another window than the last one's settles the lines of that
-abbrev pub last_window : ViewState → List ℕ
-last_window s = if s.window.number == window_of s.options s.packets then [] else window_lines s.options s.window
+-- the lines of the last packet's window: bit rates by PID, and units by stream
+abbrev pub all_window_lines : ViewState → List ℕ
+all_window_lines s = window_lines s.seen.options s.seen.window ++ table_units s.seen.options s.seen.window.number s.table
 
--- and then those of a buffer that begins with it, and of an excess that has ended
+-- a packet of another window settles them
+abbrev pub last_window : ViewState → List ℕ
+last_window s = if s.seen.window.number == next_window s.seen then [] else all_window_lines s
+
+-- and then those of buffers that begin with it, and of what ends with it
 abbrev pub buffer_lines_at : ViewState → PacketView → List ℕ
-buffer_lines_at s packet = begin_lines s.options s.packets s.named s.buffers packet
-    ++ enter_lines s.options (with_begun s packet) packet.header.pid s.packets
+buffer_lines_at s packet = begin_lines s.seen.options s.seen.packets s.seen.named s.table packet
+    ++ lines_of s.seen.options s.seen.packets s.seen.clocks (with_begun s packet) packet
 
 abbrev pub packet_lines : ViewState → PacketView → List ℕ
-packet_lines s packet = last_window s ++ buffer_lines_at s packet
+packet_lines s packet = last_window s ++ buffer_lines_at (clocked s packet) packet
 
 unfoldable pub lines_read : ViewState → Result PacketView PacketError → List ℕ
 lines_read s (Err error) = []
@@ -69,7 +73,7 @@ lines_read s (Ok packet) = if packet.header.transport_error_indicator then [] el
 
 -- after 188 bytes, and the lines that they settle; what they name counts from the next on
 abbrev pub with_named : ViewState → List ℕ → ViewState
-with_named s bytes = record s { named = naming.taken s.named bytes }
+with_named s bytes = record { seen = seeing.with_named s.seen bytes; table = s.table }
 
 abbrev pub after_packet : ViewState → List ℕ → ViewState
 after_packet s bytes = with_named (after_read s (packet_at bytes)) bytes
@@ -86,15 +90,11 @@ unfoldable pub lines_all : ViewState → List (List ℕ) → List ℕ
 lines_all s [] = []
 lines_all s (bytes ∷ packets) = lines_at s bytes ++ lines_all (after_packet s bytes) packets
 
--- the last line: `end packets N refused N left N`, with the bytes that are left after the last whole packet
-abbrev pub end_line : ViewState → ℕ → List ℕ
-end_line s left = line_of s.options.json (codes "end")
-    (number_field (codes "packets") s.packets ∷ number_field (codes "refused") s.refused ∷ number_field (codes "left") left ∷ [])
-
 -- the lines at the end of a stream
 abbrev pub end_lines : ViewState → ℕ → List ℕ
-end_lines s left = window_lines s.options s.window ++ (buffer_lines s.options s.packets s.buffers ++ (pid_lines s.options s.totals ++ end_line s left))
+end_lines s left = window_lines s.seen.options s.seen.window
+    ++ (table_end s.seen.options s.seen.packets s.seen.window.number s.table ++ (pid_lines s.seen.options s.seen.totals ++ end_line s.seen left))
 
 -- nothing is wrong
 abbrev pub is_good : ViewState → ℕ → Bool
-is_good s left = if s.refused == 0 then (if left == 0 then none_over s.buffers else false) else false
+is_good s left = if s.seen.refused == 0 then (if left == 0 then tables.is_good s.table else false) else false

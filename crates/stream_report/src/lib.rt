@@ -4,12 +4,17 @@
 //! - [`ViewOptions`]: the rate at which the packets arrive, the length of a window, and the form of the lines.
 //!
 //! A line is a word and fields, each a name and a number or a word: plain text with spaces between, or one JSON object.
-//! What is kept does not grow with the stream: the counts of the PIDs, what the first packets name, and a
-//! transport buffer for each stream that they name.
+//! What is kept does not grow with the stream: the counts and the last clock reference of each PID, what the first packets
+//! name, and for each stream that they name its buffers, with up to 4,096 units that wait in the main buffer.
 #![tactic(auto)]
 
+mod clocks;
+mod entry_lines;
 mod lines;
-mod stream_lines;
+mod seen;
+mod stream_entry;
+mod stream_table;
+mod tally;
 mod view;
 mod view_options;
 mod window_lines;

@@ -4,109 +4,83 @@ ghost use Rattle.bit_fields.specs.Reading.{Gives};
 ghost use Rattle.ts_packet.specs.Views.{PacketView, packet_view};
 ghost use Rattle.ts_packet.specs.declared.packet.PacketError.{PacketError};
 ghost use Rattle.stream_report.specs.Views as spec;
-ghost use Rattle.stream_report.specs.WindowLines.{window_of};
+ghost use Rattle.stream_report.specs.Views.{IsView, ViewState};
 
-use crate::lines::{number, write_line};
-use crate::stream_lines::StreamBuffers;
+use crate::seen::Seen;
+use crate::stream_table::StreamTable;
 use crate::view_options::ViewOptions;
-use crate::window_lines::{window_of, write_pids, write_window};
-use named_streams::NamedStreams;
-use pid_windows::PidWindow;
+use crate::window_lines::{write_pids, write_window};
 use std::alloc::{AllocError, Global};
-use std::marker::Model;
-use ts_packet::{Packet, PacketError, has_pcr, read_packet};
+use ts_packet::{Packet, PacketError, read_packet};
 
 /// A stream as far as it has come: no packet is kept.
 ///
 /// After an `AllocError` it is that of no stream: drop it.
 #[derive(Drop)]
 pub struct View {
-    options: ViewOptions,
-    packets: u64,
-    refused: u64,
-    window: PidWindow<Global>,
-    totals: PidWindow<Global>,
-    named: NamedStreams,
-    buffers: StreamBuffers,
-}
-
-impl Model for View {
-    ghost use Rattle.stream_report.specs.Views.{ViewState};
-
-    ghost Value = { ViewState };
-
-    ghost view = { λ v. record {
-      options = v.options;
-      packets = v.packets;
-      refused = v.refused;
-      window = v.window;
-      totals = v.totals;
-      named = v.named;
-      buffers = v.buffers;
-    } };
+    pub seen: Seen,
+    pub table: StreamTable,
 }
 
 impl View {
     /// Before the first packet.
     pub fn new(alloc: Global, options: ViewOptions) -> View
-        ensures { result ≡ spec.start options }
+        ensures { IsView result (spec.start options) }
     {
         View {
-            options,
-            packets: 0,
-            refused: 0,
-            window: PidWindow::new(alloc),
-            totals: PidWindow::new(alloc),
-            named: NamedStreams::new(alloc),
-            buffers: StreamBuffers::new(alloc),
+            seen: Seen::new(alloc, options),
+            table: StreamTable::new(alloc),
         }
     }
 
-    fn refuse(&mut self)
-        ensures { self.new ≡ spec.without self.old }
+    // Appends the lines of the last packet's window.
+    fn write_window(&self, text: &mut String) -> Result<(), AllocError>
+        ensures { (s : ViewState) → IsView self.now s → OnOk result (string_bytes text.new
+            ≡ string_bytes text.old ++ spec.all_window_lines s) }
     {
-        self.packets = self.packets.saturating_add(1);
-        self.refused = self.refused.saturating_add(1);
+        write_window(text, &self.seen.options, &self.seen.window)?;
+        self.table
+            .write_units(text, &self.seen.options, self.seen.window.number())
     }
 
     // The lines of the last packet's window, if a packet lies in another one.
-    fn end_window(&self, window: u64, text: &mut String) -> Result<(), AllocError>
-        requires { window ≡ window_of self.now.options self.now.packets }
-        ensures { OnOk result (string_bytes text.new ≡ string_bytes text.old ++ spec.last_window self.now) }
+    fn end_window(&self, text: &mut String) -> Result<(), AllocError>
+        ensures { (s : ViewState) → IsView self.now s → OnOk result (string_bytes text.new
+            ≡ string_bytes text.old ++ spec.last_window s) }
     {
-        if self.window.number() == window {
+        if self.seen.window.number() == self.seen.next_window() {
             return Ok(());
         }
-        write_window(text, &self.options, &self.window)
+        self.write_window(text)
     }
 
-    // A packet of a PID in the buffer of its stream.
+    // A packet of a PID in the buffers of its stream.
     fn buffer(&mut self, packet: &Packet<'_>, text: &mut String) -> Result<(), AllocError>
-        ensures view { OnOk result (self.new ≡ spec.with_buffers self.old (packet_view packet.now)) }
-        ensures lines { OnOk result
-            (string_bytes text.new ≡ string_bytes text.old ++ spec.buffer_lines_at self.old (packet_view packet.now)) }
+        ensures view { (s : ViewState) → IsView self.old s → OnOk result
+            (IsView self.new (spec.with_buffers s (packet_view packet.now))) }
+        ensures lines { (s : ViewState) → IsView self.old s → OnOk result
+            (string_bytes text.new ≡ string_bytes text.old ++ spec.buffer_lines_at s (packet_view packet.now)) }
     {
-        let (options, index) = (self.options, self.packets);
-        self.buffers
-            .begin(&options, index, &self.named, packet, text)?;
-        self.buffers.enter(&options, index, packet.header.pid, text)
+        let options = self.seen.options;
+        let index = self.seen.packets;
+        let window = self.seen.next_window();
+        self.table
+            .begin(&options, index, &self.seen.named, packet, text)?;
+        self.table
+            .take(&options, index, window, &self.seen.clocks, packet, text)
     }
 
     // A packet that is not known to be wrong.
     fn count(&mut self, packet: &Packet<'_>, text: &mut String) -> Result<(), AllocError>
-        ensures view { OnOk result (self.new ≡ spec.with_packet self.old (packet_view packet.now)) }
-        ensures lines { OnOk result
-            (string_bytes text.new ≡ string_bytes text.old ++ spec.packet_lines self.old (packet_view packet.now)) }
+        ensures view { (s : ViewState) → IsView self.old s → OnOk result
+            (IsView self.new (spec.with_packet s (packet_view packet.now))) }
+        ensures lines { (s : ViewState) → IsView self.old s → OnOk result
+            (string_bytes text.new ≡ string_bytes text.old ++ spec.packet_lines s (packet_view packet.now)) }
     {
-        let window = window_of(&self.options, self.packets);
-        self.end_window(window, text)?;
+        self.end_window(text)?;
+        self.seen.take_clock(packet)?;
         self.buffer(packet, text)?;
-        let pid = packet.header.pid;
-        let pcr = has_pcr(packet);
-        self.window.take(window, pid, pcr)?;
-        self.totals.take(0, pid, pcr)?;
-        self.packets = self.packets.saturating_add(1);
-        Ok(())
+        self.seen.count(packet)
     }
 
     // A packet as it was read.
@@ -116,19 +90,20 @@ impl View {
         read: &Result<Packet<'_>, PacketError>,
         text: &mut String,
     ) -> Result<(), AllocError>
-        ensures view { (packet : Result PacketView PacketError) → Gives packet_view read.now packet →
-            OnOk result (self.new ≡ spec.after_read self.old packet) }
-        ensures lines { (packet : Result PacketView PacketError) → Gives packet_view read.now packet →
-            OnOk result (string_bytes text.new ≡ string_bytes text.old ++ spec.lines_read self.old packet) }
+        ensures view { (s : ViewState) (packet : Result PacketView PacketError) → IsView self.old s →
+            Gives packet_view read.now packet → OnOk result (IsView self.new (spec.after_read s packet)) }
+        ensures lines { (s : ViewState) (packet : Result PacketView PacketError) → IsView self.old s →
+            Gives packet_view read.now packet →
+            OnOk result (string_bytes text.new ≡ string_bytes text.old ++ spec.lines_read s packet) }
     {
         match read {
             Err(_) => {
-                self.refuse();
+                self.seen.refuse();
                 Ok(())
             }
             Ok(packet) => {
                 if packet.header.transport_error_indicator {
-                    self.refuse();
+                    self.seen.refuse();
                     return Ok(());
                 }
                 self.count(packet, text)
@@ -138,18 +113,20 @@ impl View {
 
     /// The next packet: the lines that it settles are appended to the text.
     pub fn take(&mut self, bytes: &[u8; 188], text: &mut String) -> Result<(), AllocError>
-        ensures view { OnOk result (self.new ≡ spec.after_packet self.old bytes.now) }
-        ensures lines { OnOk result (string_bytes text.new ≡ string_bytes text.old ++ spec.lines_at self.old bytes.now) }
+        ensures view { (s : ViewState) → IsView self.old s → OnOk result (IsView self.new (spec.after_packet s bytes.now)) }
+        ensures lines { (s : ViewState) → IsView self.old s →
+            OnOk result (string_bytes text.new ≡ string_bytes text.old ++ spec.lines_at s bytes.now) }
     {
         self.note(&read_packet(bytes), text)?;
-        self.named.take(bytes)
+        self.seen.name(bytes)
     }
 
     /// The next packets.
     #[tactic(auto, unfolding(crate::specs::Views::after_all, crate::specs::Views::lines_all))]
     pub fn take_all(&mut self, packets: &[[u8; 188]], text: &mut String) -> Result<(), AllocError>
-        ensures view { OnOk result (self.new ≡ spec.after_all self.old packets.now) }
-        ensures lines { OnOk result (string_bytes text.new ≡ string_bytes text.old ++ spec.lines_all self.old packets.now) }
+        ensures view { (s : ViewState) → IsView self.old s → OnOk result (IsView self.new (spec.after_all s packets.now)) }
+        ensures lines { (s : ViewState) → IsView self.old s →
+            OnOk result (string_bytes text.new ≡ string_bytes text.old ++ spec.lines_all s packets.now) }
     {
         for packet in packets {
             self.take(packet, text)?;
@@ -157,31 +134,24 @@ impl View {
         Ok(())
     }
 
-    fn write_end(&self, left: usize, text: &mut String) -> Result<(), AllocError>
-        ensures { OnOk result (string_bytes text.new ≡ string_bytes text.old ++ spec.end_line self.now left) }
-    {
-        let fields = [
-            number("packets", u128::from(self.packets)),
-            number("refused", u128::from(self.refused)),
-            number("left", left as u128),
-        ];
-        write_line(text, self.options.json, "end", &fields)
-    }
-
     /// The stream ends, `left` bytes after its last whole packet: the last lines are appended to the text.
     pub fn end(&self, left: usize, text: &mut String) -> Result<(), AllocError>
-        ensures { OnOk result (string_bytes text.new ≡ string_bytes text.old ++ spec.end_lines self.now left) }
+        ensures { (s : ViewState) → IsView self.now s →
+            OnOk result (string_bytes text.new ≡ string_bytes text.old ++ spec.end_lines s left) }
     {
-        write_window(text, &self.options, &self.window)?;
-        self.buffers.write_end(text, &self.options, self.packets)?;
-        write_pids(text, &self.options, &self.totals)?;
-        self.write_end(left, text)
+        let options = &self.seen.options;
+        let window = self.seen.window.number();
+        write_window(text, options, &self.seen.window)?;
+        self.table
+            .write_end(text, options, self.seen.packets, window)?;
+        write_pids(text, options, &self.seen.totals)?;
+        self.seen.write_end(left, text)
     }
 
     /// Whether nothing is wrong in a stream that ends, `left` bytes after its last whole packet.
     pub fn is_good(&self, left: usize) -> bool
-        ensures { result ≡ spec.is_good self.now left }
+        ensures { (s : ViewState) → IsView self.now s → result ≡ spec.is_good s left }
     {
-        self.refused == 0 && left == 0 && self.buffers.none_over()
+        self.seen.refused == 0 && left == 0 && self.table.is_good()
     }
 }

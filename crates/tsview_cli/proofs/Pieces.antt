@@ -5,7 +5,8 @@ use Rattle.std.proofs.lemmas.List.{length-drop, length-take-le, take-append-drop
 use Rattle.std.specs.Io.KnownBytes.{Appends}
 use Rattle.ts_packet.specs.PidList.{cut_packets}
 use Rattle.ts_packet.proofs.Listing.{first_cut}
-use Rattle.stream_report.specs.Views.{ViewState, after_all, after_packet, lines_all, lines_at}
+use Rattle.stream_report.specs.declared.view.View.{View}
+use Rattle.stream_report.specs.Views.{IsView, ViewState, after_all, after_packet, lines_all, lines_at}
 use Rattle.counted_io.specs.Device.{Failed, IsFront}
 use Rattle.devices.specs.Devices.{Port, Device, between, HasFailed}
 use Rattle.devices.specs.Lines.{Stopped, WritesLine}
@@ -61,29 +62,28 @@ kept_joined first bytes piece whole =
 
 -- 2. Pieces that were viewed
 
-pub seen_none : (first : ViewState) (port : Port) → Seen first (between port port) first []
+pub seen_none : (first : ViewState) (view : View) (port : Port) → IsView view first → Seen first (between port port) view []
 unfolding after_all lines_all
-seen_none first port = record { kept = refl; written = Appends-nil port.bytes; clean = refl }
+seen_none first view port k = record { kept = k; written = Appends-nil port.bytes; clean = refl }
 
-pub seen_more : (first before now : ViewState) (old mid new : Port) (bytes piece : List ℕ) → now ≡ after_all before (cut_packets piece) →
-    Appends mid.bytes new.bytes (lines_all before (cut_packets piece)) → new.failed ≡ mid.failed → length bytes % 188 ≡ 0 → Seen first (between old mid) before bytes →
-    Seen first (between old new) now (bytes ++ piece)
+pub seen_more : (first : ViewState) (before now : View) (old mid new : Port) (bytes piece : List ℕ) → ((s : ViewState) → IsView before s → IsView now (after_all s (cut_packets piece))) →
+    ((s : ViewState) → IsView before s → Appends mid.bytes new.bytes (lines_all s (cut_packets piece))) → new.failed ≡ mid.failed → length bytes % 188 ≡ 0 →
+    Seen first (between old mid) before bytes → Seen first (between old new) now (bytes ++ piece)
 seen_more first before now old mid new bytes piece kept written clean whole s =
-    let lines : lines_all first (cut_packets bytes) ++ lines_all before (cut_packets piece) ≡ lines_all first (cut_packets (bytes ++ piece)) =
-    ap (λ (v : ViewState). lines_all first (cut_packets bytes) ++ lines_all v (cut_packets piece)) s.kept ∙ sym (lines_joined first bytes piece whole) in
+    let t : ViewState = after_all first (cut_packets bytes) in
     record {
-      kept = kept ∙ ap (λ (v : ViewState). after_all v (cut_packets piece)) s.kept ∙ sym (kept_joined first bytes piece whole);
-      written = subst (Appends old.bytes new.bytes) lines
-          (Appends-trans old.bytes mid.bytes new.bytes (lines_all first (cut_packets bytes)) (lines_all before (cut_packets piece)) s.written written);
+      kept = subst (IsView now) (sym (kept_joined first bytes piece whole)) (kept t s.kept);
+      written = subst (Appends old.bytes new.bytes) (sym (lines_joined first bytes piece whole))
+          (Appends-trans old.bytes mid.bytes new.bytes (lines_all first (cut_packets bytes)) (lines_all t (cut_packets piece)) s.written (written t s.kept));
       clean = clean ∙ s.clean;
     }
 
 -- with the lines of a piece that were written
-pub seen_then : (first before now : ViewState) (begin middle end : Port) (text piece : List ℕ) → text ≡ lines_all before (cut_packets piece) → now ≡ after_all before (cut_packets piece) →
-    Appends middle.bytes end.bytes text → end.failed ≡ middle.failed → (bytes : List ℕ) → length bytes % 188 ≡ 0 → Seen first (between begin middle) before bytes →
-    Seen first (between begin end) now (bytes ++ piece)
+pub seen_then : (first : ViewState) (before now : View) (begin middle end : Port) (text piece : List ℕ) → ((s : ViewState) → IsView before s → text ≡ lines_all s (cut_packets piece)) →
+    ((s : ViewState) → IsView before s → IsView now (after_all s (cut_packets piece))) → Appends middle.bytes end.bytes text → end.failed ≡ middle.failed → (bytes : List ℕ) →
+    length bytes % 188 ≡ 0 → Seen first (between begin middle) before bytes → Seen first (between begin end) now (bytes ++ piece)
 seen_then first before now begin middle end text piece is kept written clean bytes whole s =
-    seen_more first before now begin middle end bytes piece kept (subst (Appends middle.bytes end.bytes) is written) clean whole s
+    seen_more first before now begin middle end bytes piece kept (λ t k. subst (Appends middle.bytes end.bytes) (is t k) written) clean whole s
 
 -- 3. Where it ends early
 
@@ -101,7 +101,7 @@ begins : (old mid : Port) (bytes : List ℕ) → IsAfter old mid bytes → Begin
 begins old mid bytes after xs e = let h = after xs e in (h.0, h.1)
 
 -- the reader failed
-pub read_failed : (first before : ViewState) (old mid new : Port) (output : Device) (size : ℕ) → TakesFront (Seen first output before) 188 old mid size →
+pub read_failed : (first : ViewState) (before : View) (old mid new : Port) (output : Device) (size : ℕ) → TakesFront (Seen first output before) 188 old mid size →
     Failed mid.failed new.failed → Breaks first (between old new) output Read
 read_failed first before old mid new output size f failed = record {
   bytes = f.bytes;
@@ -110,7 +110,7 @@ read_failed first before old mid new output size f failed = record {
 }
 
 -- there was no memory for the lines of a piece
-pub no_memory : (first before : ViewState) (old mid new : Port) (output : Device) (size : ℕ) → TakesFront (Seen first output before) 188 old mid size →
+pub no_memory : (first : ViewState) (before : View) (old mid new : Port) (output : Device) (size : ℕ) → TakesFront (Seen first output before) 188 old mid size →
     new.failed ≡ mid.failed → Breaks first (between old new) output Memory
 no_memory first before old mid new output size f clean = record {
   bytes = f.bytes;
@@ -126,7 +126,7 @@ long_if (Some xs) bytes s h =
     let all : length xs ≡ length bytes + length k.0 = ap length k.1 ∙ length-append bytes k.0 in
     omega (arith, all, s)
 
-pub too_long : (first before : ViewState) (old mid : Port) (output : Device) (size : ℕ) → TakesFront (Seen first output before) 188 old mid size → longest_input < size →
+pub too_long : (first : ViewState) (before : View) (old mid : Port) (output : Device) (size : ℕ) → TakesFront (Seen first output before) 188 old mid size → longest_input < size →
     Breaks first (between old mid) output Read
 too_long first before old mid output size f long = record {
   bytes = f.bytes;
@@ -135,7 +135,7 @@ too_long first before old mid output size f long = record {
 }
 
 -- and within its last piece
-pub too_long_then : (first now : ViewState) (old mid new : Port) (output : Device) (bytes piece : List ℕ) (n : ℕ) → IsAfter old mid bytes → ReadsFront (between mid new) piece n →
+pub too_long_then : (first : ViewState) (now : View) (old mid new : Port) (output : Device) (bytes piece : List ℕ) (n : ℕ) → IsAfter old mid bytes → ReadsFront (between mid new) piece n →
     Seen first output now (bytes ++ take n piece) → ReadsInput (between old new) (Err Read) → Breaks first (between old new) output Read
 too_long_then first now old mid new output bytes piece n known r s why = record {
   bytes = bytes ++ take n piece;
@@ -150,35 +150,36 @@ take_past (x ∷ xs) ys n =
     let e : length (x ∷ xs) + n ≡ suc (length xs + n) = omega arith in
     rw e (ap (λ (l : List ℕ). x ∷ l) (take_past xs ys n))
 
-pub write_failed : (first before : ViewState) (old mid new : Port) (begin middle end : Port) (size n : ℕ) (piece : List ℕ) →
+pub write_failed : (first : ViewState) (before : View) (old mid new : Port) (begin middle end : Port) (size n : ℕ) (text piece : List ℕ) →
     TakesFront (Seen first (between begin middle) before) 188 old mid size → ReadsFront (between mid new) piece n →
-    Stopped (lines_all before (cut_packets (take n piece))) (between middle end) → Failed middle.failed end.failed → Breaks first (between old new) (between begin end) Write
-write_failed first before old mid new begin middle end size n piece f r stopped failed =
+    ((s : ViewState) → IsView before s → text ≡ lines_all s (cut_packets (take n piece))) → Stopped text (between middle end) → Failed middle.failed end.failed →
+    Breaks first (between old new) (between begin end) Write
+write_failed first before old mid new begin middle end size n text piece f r is stopped failed =
     let bytes = f.bytes ++ take n piece in
     let a = lines_all first (cut_packets f.bytes) in
-    let b = lines_all before (cut_packets (take n piece)) in
-    let lines : a ++ b ≡ lines_all first (cut_packets bytes) =
-    ap (λ (v : ViewState). a ++ lines_all v (cut_packets (take n piece))) f.taken.kept ∙ sym (lines_joined first f.bytes (take n piece) f.whole) in
-    let front : a ++ take stopped.taken b ≡ take (length a + stopped.taken) (lines_all first (cut_packets bytes)) =
-    sym (take_past a b stopped.taken) ∙ ap (take (length a + stopped.taken)) lines in
+    let lines : a ++ text ≡ lines_all first (cut_packets bytes) =
+    ap (λ (l : List ℕ). a ++ l) (is (after_all first (cut_packets f.bytes)) f.taken.kept) ∙ sym (lines_joined first f.bytes (take n piece) f.whole) in
+    let front : a ++ take stopped.taken text ≡ take (length a + stopped.taken) (lines_all first (cut_packets bytes)) =
+    sym (take_past a text stopped.taken) ∙ ap (take (length a + stopped.taken)) lines in
     record {
       bytes = bytes;
       front = after_more old mid new f.bytes piece n f.known r.known;
       at = (
         record {
           taken = length a + stopped.taken;
-          appends = subst (Appends begin.bytes end.bytes) front (Appends-trans begin.bytes middle.bytes end.bytes a (take stopped.taken b) f.taken.written stopped.appends);
+          appends = subst (Appends begin.bytes end.bytes) front (Appends-trans begin.bytes middle.bytes end.bytes a (take stopped.taken text) f.taken.written stopped.appends);
         },
         subst (λ (k : ℕ). Failed k end.failed) f.taken.clean failed,
       );
     }
 
-pub write_stopped : (V : Type 0) (first before : ViewState) (old mid new begin middle end : Port) (size n : ℕ) (text piece : List ℕ) (halt : Halt) →
-    TakesFront (Seen first (between begin middle) before) 188 old mid size → ReadsFront (between mid new) piece n → text ≡ lines_all before (cut_packets (take n piece)) →
+pub write_stopped : (V : Type 0) (first : ViewState) (before : View) (old mid new begin middle end : Port) (size n : ℕ) (text piece : List ℕ) (halt : Halt) →
+    TakesFront (Seen first (between begin middle) before) 188 old mid size → ReadsFront (between mid new) piece n →
+    ((s : ViewState) → IsView before s → text ≡ lines_all s (cut_packets (take n piece))) →
     WritesLine {V = V} text (between middle end) (Err halt) → Breaks first (between old new) (between begin end) halt
 write_stopped V first before old mid new begin middle end size n text piece Read f r is w = absurd w
 write_stopped V first before old mid new begin middle end size n text piece Write f r is w =
-    write_failed first before old mid new begin middle end size n piece f r (subst (λ (t : List ℕ). Stopped t (between middle end)) is w.0) w.1
+    write_failed first before old mid new begin middle end size n text piece f r is w.0 w.1
 write_stopped V first before old mid new begin middle end size n text piece Memory f r is w = absurd w
 
 -- 4. The end of the input
@@ -187,7 +188,7 @@ pub if_ok : (HasTaken : List ℕ → Type 0) (input : Device) (r : Result ℕ Ha
 if_ok HasTaken input (Ok size) t = t
 if_ok HasTaken input (Err halt) t = tt
 
-pub if_err : (HasTaken : List ℕ → Type 0) (first now : ViewState) (old mid new : Port) (output : Device) (size n : ℕ) (piece : List ℕ) (before : ViewState) (middle : Device) (r : Result ℕ Halt) →
+pub if_err : (HasTaken : List ℕ → Type 0) (first : ViewState) (now : View) (old mid new : Port) (output : Device) (size n : ℕ) (piece : List ℕ) (before : View) (middle : Device) (r : Result ℕ Halt) →
     TakesFront (Seen first middle before) 188 old mid size → ReadsFront (between mid new) piece n →
     ((bytes : List ℕ) → length bytes % 188 ≡ 0 → Seen first middle before bytes → Seen first output now (bytes ++ take n piece)) →
     IfErr r (λ halt. (halt ≡ Read) × (longest_input < size + n)) → TakesInput HasTaken (between old new) r → IfErr r (Breaks first (between old new) output)

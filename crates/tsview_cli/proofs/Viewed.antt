@@ -4,7 +4,8 @@ use Rattle.std.proofs.KnownBytes.{Appends-nil, Appends-trans}
 use Rattle.std.specs.Io.KnownBytes.{Appends}
 use Rattle.ts_packet.specs.PidList.{cut_packets}
 use Rattle.stream_report.specs.declared.view_options.ViewOptions.{ViewOptions}
-use Rattle.stream_report.specs.Views.{ViewState, start, after_all, lines_all, end_lines, is_good}
+use Rattle.stream_report.specs.declared.view.View.{View}
+use Rattle.stream_report.specs.Views.{IsView, ViewState, start, after_all, lines_all, end_lines, is_good}
 use Rattle.counted_io.specs.Device.{Failed}
 use Rattle.devices.specs.Devices.{Port, Device, between}
 use Rattle.devices.specs.Lines.{Stopped, WritesLine}
@@ -37,7 +38,7 @@ whole_front None bytes w xs e = absurd cc
 whole_front (Some ys) bytes w xs e = let same : ys ≡ xs = cc in ([], sym same ∙ sym w ∙ sym (append-nil bytes))
 
 -- before its last lines
-pub no_end : (options : ViewOptions) (input output : Device) (now : ViewState) (size : ℕ) (halt : Halt) → halt ≡ Memory → TakesAll (Seen (start options) output now) input size →
+pub no_end : (options : ViewOptions) (input output : Device) (now : View) (size : ℕ) (halt : Halt) → halt ≡ Memory → TakesAll (Seen (start options) output now) input size →
     BreaksOff options input output halt
 no_end options input output now size halt is t = subst (BreaksOff options input output) (sym is) (record {
   bytes = t.bytes;
@@ -48,14 +49,14 @@ no_end options input output now size halt is t = subst (BreaksOff options input 
 })
 
 -- the last lines
-last_lines : (options : ViewOptions) (now : ViewState) (size : ℕ) (bytes text : List ℕ) → now ≡ after_all (start options) (cut_packets bytes) → size ≡ length bytes →
-    text ≡ end_lines now (size % 188) → settled options bytes ++ text ≡ all_lines options bytes
+last_lines : (options : ViewOptions) (now : View) (size : ℕ) (bytes text : List ℕ) → IsView now (kept_of options bytes) → size ≡ length bytes →
+    ((s : ViewState) → IsView now s → text ≡ end_lines s (size % 188)) → settled options bytes ++ text ≡ all_lines options bytes
 last_lines options now size bytes text kept count is =
-    ap (λ (t : List ℕ). settled options bytes ++ t) (is ∙ ap₂ (λ (v : ViewState) (n : ℕ). end_lines v (n % 188)) kept count)
+    ap (λ (t : List ℕ). settled options bytes ++ t) (is (kept_of options bytes) kept ∙ ap (λ (n : ℕ). end_lines (kept_of options bytes) (n % 188)) count)
 
 -- within them
-pub not_ended : (V : Type 0) (options : ViewOptions) (input : Device) (begin mid end : Port) (now : ViewState) (size : ℕ) (text : List ℕ) (halt : Halt) →
-    TakesAll (Seen (start options) (between begin mid) now) input size → text ≡ end_lines now (size % 188) → WritesLine {V = V} text (between mid end) (Err halt) →
+pub not_ended : (V : Type 0) (options : ViewOptions) (input : Device) (begin mid end : Port) (now : View) (size : ℕ) (text : List ℕ) (halt : Halt) →
+    TakesAll (Seen (start options) (between begin mid) now) input size → ((s : ViewState) → IsView now s → text ≡ end_lines s (size % 188)) → WritesLine {V = V} text (between mid end) (Err halt) →
     BreaksOff options input (between begin end) halt
 not_ended V options input begin mid end now size text Read t is w = absurd w
 not_ended V options input begin mid end now size text Write t is w =
@@ -79,16 +80,16 @@ not_ended V options input begin mid end now size text Write t is w =
 not_ended V options input begin mid end now size text Memory t is w = absurd w
 
 -- to its end
-pub all_seen : (options : ViewOptions) (input : Device) (begin mid end : Port) (now : ViewState) (size : ℕ) (text : List ℕ) (good : Bool) →
-    TakesAll (Seen (start options) (between begin mid) now) input size → text ≡ end_lines now (size % 188) → Appends mid.bytes end.bytes text → end.failed ≡ mid.failed →
-    good ≡ is_good now (size % 188) → SeesAll options input (between begin end) good
+pub all_seen : (options : ViewOptions) (input : Device) (begin mid end : Port) (now : View) (size : ℕ) (text : List ℕ) (good : Bool) →
+    TakesAll (Seen (start options) (between begin mid) now) input size → ((s : ViewState) → IsView now s → text ≡ end_lines s (size % 188)) → Appends mid.bytes end.bytes text →
+    end.failed ≡ mid.failed → ((s : ViewState) → IsView now s → good ≡ is_good s (size % 188)) → SeesAll options input (between begin end) good
 all_seen options input begin mid end now size text good t is written clean g = record {
   bytes = t.bytes;
   read = t.read;
   written = subst (Appends begin.bytes end.bytes) (last_lines options now size t.bytes text t.taken.kept t.size_is is)
       (Appends-trans begin.bytes mid.bytes end.bytes (settled options t.bytes) text t.taken.written written);
   clean = clean ∙ t.taken.clean;
-  good_is = g ∙ ap₂ (λ (v : ViewState) (n : ℕ). is_good v (n % 188)) t.taken.kept t.size_is;
+  good_is = g (kept_of options t.bytes) t.taken.kept ∙ ap (λ (n : ℕ). is_good (kept_of options t.bytes) (n % 188)) t.size_is;
 }
 
 whole_is : (bytes : Option (List ℕ)) (read xs : List ℕ) → IsWhole bytes read → bytes ≡ Some xs → read ≡ xs

@@ -2,7 +2,8 @@
 use Rattle.std.specs.Prelude.{◌≡◌, ◌⊎◌, ℕ, ◌%◌, Bool, if◌then◌else◌, List, [], ◌++◌, length, Option, Some, Result, Ok, Err}
 use Rattle.ts_packet.specs.PidList.{cut_packets}
 use Rattle.stream_report.specs.declared.view_options.ViewOptions.{ViewOptions}
-use Rattle.stream_report.specs.Views.{ViewState, start, after_all, lines_all, end_lines, is_good}
+use Rattle.stream_report.specs.declared.view.View.{View}
+use Rattle.stream_report.specs.Views.{IsView, ViewState, start, after_all, lines_all, end_lines, is_good}
 use Rattle.devices.specs.Devices.{Device, HasFailed, IsClean, Takes}
 use Rattle.devices.specs.Lines.{Reports, Stopped}
 use Rattle.devices.specs.Outcomes.{Outcome, halt_line, printed}
@@ -41,8 +42,8 @@ abbrev pub BeginsWith : Option (List ℕ) → List ℕ → Type 0
 BeginsWith known bytes = (xs : List ℕ) → known ≡ Some xs → (rest : List ℕ) × (xs ≡ bytes ++ rest)
 
 -- these bytes were viewed, and the lines that they settle were written
-pub record Seen (first : ViewState) (output : Device) (now : ViewState) (bytes : List ℕ) : Type 0 where
-  pub kept : now ≡ after_all first (cut_packets bytes)
+pub record Seen (first : ViewState) (output : Device) (now : View) (bytes : List ℕ) : Type 0 where
+  pub kept : IsView now (after_all first (cut_packets bytes))
   pub written : Takes output (lines_all first (cut_packets bytes))
   pub clean : IsClean output
 

@@ -1,7 +1,7 @@
 //! The input, read piece by piece, and the lines that each piece settles.
 ghost use Rattle.std.specs.Prelude.{◌≡◌, ◌%◌, ◌<◌, ◌≤◌, ◌^◌, ◌++◌, [], IfOk, IfErr, OnOk, Ok, length, string_bytes};
 ghost use Rattle.ts_packet.specs.PidList.{cut_packets};
-ghost use Rattle.stream_report.specs.Views.{after_all, end_lines, lines_all, start};
+ghost use Rattle.stream_report.specs.Views.{IsView, ViewState, after_all, end_lines, lines_all, start};
 ghost use Rattle.devices.specs.Devices.{reads, writes};
 ghost use Rattle.devices.specs.Lines.{WritesLine};
 ghost use Rattle.devices.specs.WholeInput.{ReadsNext, TakesInput, longest_input};
@@ -43,9 +43,10 @@ fn within(size: usize) -> Result<usize, Halt>
 
 // Views the next piece: the lines that it settles are appended to the text.
 fn view_piece(view: &mut View, piece: &[u8], text: &mut String) -> Result<(), Halt>
-    ensures view { OnOk result (view.new ≡ after_all view.old (cut_packets piece.now)) }
-    ensures lines { OnOk result (string_bytes text.new
-        ≡ string_bytes text.old ++ lines_all view.old (cut_packets piece.now)) }
+    ensures view { (s : ViewState) → IsView view.old s →
+        OnOk result (IsView view.new (after_all s (cut_packets piece.now))) }
+    ensures lines { (s : ViewState) → IsView view.old s → OnOk result (string_bytes text.new
+        ≡ string_bytes text.old ++ lines_all s (cut_packets piece.now)) }
     ensures memory { IfErr result (λ halt. halt ≡ Halt.Memory) }
 {
     let (packets, _) = piece.as_chunks::<188>();
@@ -77,9 +78,10 @@ fn view_pieces<R: Source, W: Sink>(
     requires bound { length piece.old ≤ 2 ^ 32 }
     requires whole { length piece.old % 188 ≡ 0 }
     requires text { string_bytes text.old ≡ [] }
-    ensures ok { IfOk result (λ size. TakesInput (Seen view.old (writes W.Sink output.old output.new) view.new)
+    ensures ok { (s : ViewState) → IsView view.old s →
+        IfOk result (λ size. TakesInput (Seen s (writes W.Sink output.old output.new) view.new)
         (reads R.Source input.old input.new) (Ok size)) }
-    ensures err { IfErr result (Breaks view.old (reads R.Source input.old input.new)
+    ensures err { (s : ViewState) → IsView view.old s → IfErr result (Breaks s (reads R.Source input.old input.new)
         (writes W.Sink output.old output.new)) }
     ensures text { OnOk result (string_bytes text.new ≡ []) }
 {
@@ -101,7 +103,8 @@ fn view_pieces<R: Source, W: Sink>(
 
 // Appends the lines at the end of a stream.
 fn end_view(view: &View, left: usize, text: &mut String) -> Result<(), Halt>
-    ensures lines { OnOk result (string_bytes text.new ≡ string_bytes text.old ++ end_lines view.now left) }
+    ensures lines { (s : ViewState) → IsView view.now s →
+        OnOk result (string_bytes text.new ≡ string_bytes text.old ++ end_lines s left) }
     ensures memory { IfErr result (λ halt. halt ≡ Halt.Memory) }
 {
     match view.end(left, text) {
@@ -133,7 +136,7 @@ fn view_whole<R: Source, W: Sink>(
     requires bound { length piece.old ≤ 2 ^ 32 }
     requires whole { length piece.old % 188 ≡ 0 }
     requires text { string_bytes text.old ≡ [] }
-    ensures { (o : ViewOptions) → view.old ≡ start o →
+    ensures { (o : ViewOptions) → IsView view.old (start o) →
         Sees o (reads R.Source input.old input.new) (writes W.Sink output.old output.new) result }
 {
     let size = match view_pieces(input, output, piece, view, text) {

@@ -1,5 +1,5 @@
 use Rattle.std.proofs.Common.{◌≡◌, ◌%◌, ◌++◌, ℕ, List, [], ap, subst, ◌∙◌, string_bytes}
-use Rattle.stream_report.specs.Views.{ViewState, end_lines}
+use Rattle.stream_report.specs.Views.{IsView, ViewState, end_lines, start}
 use Rattle.devices.specs.Devices.{Device, Port, between}
 use Rattle.devices.specs.WholeInput.{TakesAll}
 use Rattle.tsview_cli.specs.Viewing.{Breaks, Seen}
@@ -12,7 +12,7 @@ returns-in-Err g c = λ o e.
     (record { bytes = g.R.Read.remaining c.view_pieces.new.input; failed = g.R.Source.fault_count c.view_pieces.new.input }) in
     let output : Device = between (record { bytes = g.W.Write.contents c.args.output.now; failed = g.W.Sink.fault_count c.args.output.now })
     (record { bytes = g.W.Write.contents c.view_pieces.new.output; failed = g.W.Sink.fault_count c.view_pieces.new.output }) in
-    broken o input output c.in-Err.halt (subst (λ (v : ViewState). Breaks v input output c.in-Err.halt) e c.in-Err.ensures.err)
+    broken o input output c.in-Err.halt (c.in-Err.ensures.err (start o) e)
 
 pub returns-in-Err-end_view : goal.returns-in-Err-end_view
 returns-in-Err-end_view g c = λ o e.
@@ -21,7 +21,7 @@ returns-in-Err-end_view g c = λ o e.
     let output : Device = between (record { bytes = g.W.Write.contents c.args.output.now; failed = g.W.Sink.fault_count c.args.output.now })
     (record { bytes = g.W.Write.contents c.view_pieces.new.output; failed = g.W.Sink.fault_count c.view_pieces.new.output }) in
     no_end o input output c.view_pieces.new.view c.in-Ok.size c.in-Err-end_view.halt c.in-Err-end_view.ensures.memory
-    (subst (λ (v : ViewState). TakesAll (Seen v output c.view_pieces.new.view) input c.in-Ok.size) e c.in-Ok.ensures.ok)
+    (c.in-Ok.ensures.ok (start o) e)
 
 pub returns-in-Err-write_text : goal.returns-in-Err-write_text
 returns-in-Err-write_text g c = λ o e.
@@ -30,10 +30,10 @@ returns-in-Err-write_text g c = λ o e.
     let begin : Port = record { bytes = g.W.Write.contents c.args.output.now; failed = g.W.Sink.fault_count c.args.output.now } in
     let mid : Port = record { bytes = g.W.Write.contents c.view_pieces.new.output; failed = g.W.Sink.fault_count c.view_pieces.new.output } in
     let end : Port = record { bytes = g.W.Write.contents c.write_text.new.to; failed = g.W.Sink.fault_count c.write_text.new.to } in
-    let lines : c.as_str.result.now ≡ end_lines c.view_pieces.new.view (c.in-Ok.size % 188) =
-    c.as_str.ensures.value ∙ c.in-Ok-end_view.ensures.lines ∙ ap (λ (t : List ℕ). t ++ end_lines c.view_pieces.new.view (c.in-Ok.size % 188)) c.in-Ok.ensures.text in
+    let lines : (s : ViewState) → IsView c.view_pieces.new.view s → c.as_str.result.now ≡ end_lines s (c.in-Ok.size % 188) =
+    λ s k. c.as_str.ensures.value ∙ c.in-Ok-end_view.ensures.lines s k ∙ ap (λ (t : List ℕ). t ++ end_lines s (c.in-Ok.size % 188)) c.in-Ok.ensures.text in
     not_ended (Unit {0}) o input begin mid end c.view_pieces.new.view c.in-Ok.size c.as_str.result.now c.in-Err-write_text.halt
-    (subst (λ (v : ViewState). TakesAll (Seen v (between begin mid) c.view_pieces.new.view) input c.in-Ok.size) e c.in-Ok.ensures.ok) lines c.in-Err-write_text.ensures
+    (c.in-Ok.ensures.ok (start o) e) lines c.in-Err-write_text.ensures
 
 pub returns-in-Ok-write_text : goal.returns-in-Ok-write_text
 returns-in-Ok-write_text g c = λ o e.
@@ -42,8 +42,8 @@ returns-in-Ok-write_text g c = λ o e.
     let begin : Port = record { bytes = g.W.Write.contents c.args.output.now; failed = g.W.Sink.fault_count c.args.output.now } in
     let mid : Port = record { bytes = g.W.Write.contents c.view_pieces.new.output; failed = g.W.Sink.fault_count c.view_pieces.new.output } in
     let end : Port = record { bytes = g.W.Write.contents c.write_text.new.to; failed = g.W.Sink.fault_count c.write_text.new.to } in
-    let lines : c.as_str.result.now ≡ end_lines c.view_pieces.new.view (c.in-Ok.size % 188) =
-    c.as_str.ensures.value ∙ c.in-Ok-end_view.ensures.lines ∙ ap (λ (t : List ℕ). t ++ end_lines c.view_pieces.new.view (c.in-Ok.size % 188)) c.in-Ok.ensures.text in
+    let lines : (s : ViewState) → IsView c.view_pieces.new.view s → c.as_str.result.now ≡ end_lines s (c.in-Ok.size % 188) =
+    λ s k. c.as_str.ensures.value ∙ c.in-Ok-end_view.ensures.lines s k ∙ ap (λ (t : List ℕ). t ++ end_lines s (c.in-Ok.size % 188)) c.in-Ok.ensures.text in
     all_seen o input begin mid end c.view_pieces.new.view c.in-Ok.size c.as_str.result.now c.is_good.result
-    (subst (λ (v : ViewState). TakesAll (Seen v (between begin mid) c.view_pieces.new.view) input c.in-Ok.size) e c.in-Ok.ensures.ok) lines
+    (c.in-Ok.ensures.ok (start o) e) lines
     c.in-Ok-write_text.ensures.0 c.in-Ok-write_text.ensures.1 c.is_good.ensures

@@ -1,0 +1,92 @@
+-- Bytes of a unit that enter both buffers, and the excess of the main buffer.
+use Rattle.std.proofs.Common.{◌≡◌, ◌∙◌, sym, ℕ, ◌+◌, ◌≤◌, ◌<◌, List, [], ◌∷◌, ◌++◌, Option, Some, None, refl, ap, ap₂, subst, arith}
+use Rattle.clock27.specs.Departure.{departures, last_left}
+use Rattle.clock27.specs.Peak.{greatest_at}
+use Rattle.clock27.proofs.Departures.{last_left-append}
+use Rattle.main_buffer_rows.specs.RowEntry.{entered, fullness_with}
+use Rattle.transport_buffer.specs.Buffers.{entered as buffer_entered}
+use Rattle.transport_buffer.specs.declared.transport_buffer.TransportBuffer.{TransportBuffer}
+use Rattle.transport_buffer.specs.declared.excess.Excess.{Excess}
+use Rattle.decoder_buffers.specs.BufferState.{fullness_at}
+use Rattle.std.specs.Option.{option_to_list}
+use Rattle.stream_view.specs.History.{Part, arrivals_of, transport_of, last_of, left_after, main_fullness, until_of}
+use Rattle.stream_view.specs.History.Part.{Passes, Carries, Begins}
+use Rattle.stream_view.specs.Viewed.{IsViewOf}
+use Rattle.stream_view.specs.MainExcess.{after_row, ended_by}
+use Rattle.stream_view.specs.declared.buffers.StreamView.{StreamView}
+use Rattle.stream_view.specs.declared.row_seen.RowSeen.{RowSeen}
+use Rattle.stream_view.specs.declared.main_watch.MainWatch.{MainWatch}
+use Rattle.stream_view.proofs.Views.{row_most}
+use Rattle.stream_buffers.specs.Held.{Held, IsHeld, carried, main_ended, row_of}
+use Rattle.stream_buffers.specs.declared.buffers.StreamBuffers.{StreamBuffers}
+
+-- an excess of the main buffer depends on the most that a row finds, and on when its last byte enters
+pub same_after : (size : ℕ) (under_way : Option Excess) (a b : RowSeen) → a.main ≡ b.main → a.last ≡ b.last → after_row size under_way a ≡ after_row size under_way b
+unfolding Rattle.stream_view.specs.MainExcess.grown
+same_after size None a b p q = rw (p, q) refl
+same_after size (Some e) a b p q = rw (p, q) refl
+
+pub same_ended : (size : ℕ) (under_way : Option Excess) (a b : RowSeen) → a.main ≡ b.main → a.last ≡ b.last → ended_by size under_way a ≡ ended_by size under_way b
+unfolding Rattle.stream_view.specs.MainExcess.ended_at
+same_ended size None a b p q = rw p refl
+same_ended size (Some e) a b p q = rw (p, q) refl
+
+-- the most in the main buffer when one of these bytes enters
+pub main_row : {A : Type 0} (view : StreamView A) (rate : ℕ) (parts : List Part) (ts : List ℕ) → IsViewOf view parts → view.transport.step ≡ rate → 0 < view.transport.step →
+    greatest_at (fullness_with view.main (departures view.transport.step view.transport.last ts)) (departures view.transport.step view.transport.last ts)
+    ≡ greatest_at (main_fullness rate (Carries ts ∷ parts)) (left_after rate parts ts)
+main_row view rate parts ts v step pos =
+    let s : ℕ = view.transport.step in
+    let last : view.transport.last ≡ last_of s parts = ap (λ (b : TransportBuffer). b.last) v.arrived in
+    ap₂ (λ (u l : ℕ). greatest_at (λ x. fullness_at view.main x + entered u x (departures s l ts)) (departures s l ts)) v.until last
+    ∙ row_most s (fullness_at view.main) parts ts pos (λ x le. v.held x (omega (arith, le, last)))
+    ∙ ap (λ (n : ℕ). greatest_at (main_fullness n (Carries ts ∷ parts)) (left_after n parts ts)) step
+
+-- and when the last of them leaves the transport buffer
+pub last_row : {A : Type 0} (view : StreamView A) (after : TransportBuffer) (rate : ℕ) (parts : List Part) (ts : List ℕ) → IsViewOf view parts → view.transport.step ≡ rate →
+    after ≡ buffer_entered view.transport ts → after.last ≡ last_of rate (Carries ts ∷ parts)
+unfolding arrivals_of
+last_row view after rate parts ts v step is =
+    let s : ℕ = view.transport.step in
+    let last : view.transport.last ≡ last_of s parts = ap (λ (b : TransportBuffer). b.last) v.arrived in
+    let left : after.last ≡ last_left s view.transport.last ts = ap (λ (b : TransportBuffer). b.last) is in
+    left ∙ rw last (sym (last_left-append s 0 (arrivals_of parts) ts)) ∙ ap (λ (n : ℕ). last_of n (Carries ts ∷ parts)) step
+
+-- bytes of a unit enter buffers that hold what came
+pub carried_held : (old new : StreamBuffers) (h : Held) (ts times : List ℕ) (seen : RowSeen) → IsHeld old h → ts ≡ times → new.rx ≡ old.rx →
+    ((parts : List Part) → IsViewOf old.view parts → IsViewOf new.view (Carries ts ∷ parts)) → new.view.transport ≡ buffer_entered old.view.transport ts →
+    new.view.watch.size ≡ old.view.watch.size → 0 < old.view.transport.step →
+    seen.main ≡ greatest_at (fullness_with old.view.main (departures old.view.transport.step old.view.transport.last ts)) (departures old.view.transport.step old.view.transport.last ts) →
+    seen.last ≡ new.view.transport.last → new.main.size ≡ old.main.size → new.main.under_way ≡ after_row old.main.size old.main.under_way seen → IsHeld new (carried h times)
+carried_held old new h ts times seen k same rx views enters size pos most last main_size main =
+    let found : seen.main ≡ (row_of h ts).main = most ∙ main_row old.view h.rate h.parts ts k.view k.step pos in
+    let ends : seen.last ≡ (row_of h ts).last = last ∙ last_row old.view new.view.transport h.rate h.parts ts k.view k.step enters in
+    let size_is : new.main.size ≡ h.main.size = main_size ∙ ap (λ (m : MainWatch). m.size) k.main in
+    let grows : new.main.under_way ≡ after_row h.main.size h.main.under_way (row_of h ts) =
+    main ∙ ap (λ (m : MainWatch). after_row m.size m.under_way seen) k.main ∙ same_after h.main.size h.main.under_way seen (row_of h ts) found ends in
+    let watch : new.main ≡ record { size = h.main.size; under_way = after_row h.main.size h.main.under_way (row_of h ts) } =
+    ap₂ {C = MainWatch} (λ (n : ℕ) (u : Option Excess). record { size = n; under_way = u }) size_is grows in
+    subst (λ (t : List ℕ). IsHeld new (carried h t)) same (record {
+      rx = rx ∙ k.rx;
+      step = ap (λ (b : TransportBuffer). b.step) enters ∙ k.step;
+      size = size ∙ k.size;
+      view = views h.parts k.view;
+      main = watch;
+    })
+
+-- and the excess of the main buffer that has ended
+pub carried_ended : (old : StreamBuffers) (after : TransportBuffer) (h : Held) (ts times : List ℕ) (seen : RowSeen) (result : Option Excess) → IsHeld old h → ts ≡ times →
+    after ≡ buffer_entered old.view.transport ts → 0 < old.view.transport.step →
+    seen.main ≡ greatest_at (fullness_with old.view.main (departures old.view.transport.step old.view.transport.last ts)) (departures old.view.transport.step old.view.transport.last ts) →
+    seen.last ≡ after.last → result ≡ ended_by old.main.size old.main.under_way seen → option_to_list result ≡ main_ended h times
+carried_ended old after h ts times seen result k same enters pos most last is =
+    let found : seen.main ≡ (row_of h ts).main = most ∙ main_row old.view h.rate h.parts ts k.view k.step pos in
+    let ends : seen.last ≡ (row_of h ts).last = last ∙ last_row old.view after h.rate h.parts ts k.view k.step enters in
+    ap (λ (e : Option Excess). option_to_list e)
+    (is ∙ ap (λ (m : MainWatch). ended_by m.size m.under_way seen) k.main ∙ same_ended h.main.size h.main.under_way seen (row_of h ts) found ends)
+    ∙ ap (λ (t : List ℕ). main_ended h t) same
+
+-- how many bytes have come
+pub bytes_held : (buffers : StreamBuffers) (h : Held) → IsHeld buffers h → buffers.view.transport.bytes ≡ (transport_of h.rate h.parts).bytes
+bytes_held buffers h k =
+    ap (λ (b : TransportBuffer). b.bytes) k.view.arrived ∙ ap (λ (n : ℕ). (transport_of n h.parts).bytes) k.step

@@ -1,0 +1,14 @@
+//! What has ended with a packet.
+
+use stream_view::UnitSeen;
+use transport_buffer::Excess;
+
+/// What has ended with a packet: an excess of the transport buffer before a byte of its header, or before one of its payload; one of the
+/// main buffer; and the unit before one that begins.
+#[derive(Clone, Copy)]
+pub struct Entered {
+    pub header: Option<Excess>,
+    pub payload: Option<Excess>,
+    pub main: Option<Excess>,
+    pub unit: Option<UnitSeen>,
+}

@@ -1,0 +1,171 @@
+//! Both buffers of a stream.
+ghost use Rattle.std.specs.Prelude.{◌≡◌, ◌+◌, ◌<◌, ◌≤◌, ◌^◌, IfOk, OnOk};
+ghost use Rattle.std.specs.Option.{option_to_list};
+ghost use Rattle.clock27.specs.Arrival.{bytes_from};
+ghost use Rattle.stream_buffers.specs.Held.{Held, IsHeld, carried, empty, main_ended, main_most, passed, transport_ended, transport_most, transport_under_way, unit_before};
+ghost use Rattle.stream_buffers.specs.Entering.{after, after_begin, after_payload, entered, entered_view, payload_main, payload_transport, unit_ended};
+
+use crate::arriving::Arriving;
+use crate::buffers::StreamBuffers;
+use crate::entered::Entered;
+use clock27::Rate;
+use packet_arrival::Row;
+use std::alloc::{AllocError, Global};
+use stream_view::{DueTime, MainWatch, StreamView, UnitSeen};
+use transport_buffer::Excess;
+
+/// The size of a transport buffer in bytes (ISO/IEC 13818-1, 2.4.2.3).
+pub const TRANSPORT_BYTES: u64 = 512;
+
+// Packets from this one on enter no buffer: the stream is longer than 2^40 bytes.
+const LAST_INDEX: u64 = 5_848_000_000;
+
+// What may have entered a buffer before a packet.
+const LAST_BYTES: u64 = (1 << 40) - 188;
+
+impl StreamBuffers {
+    /// Empty ones, the main buffer of `size` bytes.
+    pub fn new(alloc: Global, rate: Rate, rx: u32, size: u64) -> StreamBuffers
+        requires { rx ≤ 200000000 }
+        ensures { IsHeld result (empty rate rx size) }
+    {
+        StreamBuffers {
+            rx,
+            view: StreamView::new(alloc, rate.bits_per_second(), TRANSPORT_BYTES),
+            main: MainWatch::new(size),
+        }
+    }
+
+    /// The most bytes that were in the transport buffer.
+    pub fn transport_most(&self) -> u128
+        ensures { (h : Held) → IsHeld self.now h → result ≡ transport_most h }
+    {
+        self.view.transport.most
+    }
+
+    /// The most bytes that were in the main buffer.
+    pub fn main_most(&self) -> u64
+        ensures { (h : Held) → IsHeld self.now h → result ≡ main_most h }
+    {
+        self.view.main.peak
+    }
+
+    /// The excess of the transport buffer that is under way.
+    pub fn transport_excess(&self) -> Option<Excess>
+        ensures { (h : Held) → IsHeld self.now h → result ≡ transport_under_way h }
+    {
+        self.view.watch.under_way
+    }
+
+    /// The excess of the main buffer that is under way.
+    pub fn main_excess(&self) -> Option<Excess>
+        ensures { (h : Held) → IsHeld self.now h → result ≡ h.main.under_way }
+    {
+        self.main.under_way
+    }
+
+    /// The unit under way.
+    pub fn unit(&self) -> Option<UnitSeen>
+        ensures { (h : Held) → IsHeld self.now h → result ≡ unit_before h }
+    {
+        self.view.unit
+    }
+
+    // Bytes of the stream that go no further than the transport buffer, from byte `byte` on.
+    fn pass(&mut self, byte: u64, count: u64) -> Option<Excess>
+        requires some { 0 < count }
+        requires few { count ≤ 188 }
+        requires end { byte + count ≤ 2 ^ 40 }
+        requires room { self.old.view.transport.bytes + count ≤ 2 ^ 40 }
+        ensures held { (h : Held) → IsHeld self.old h → IsHeld self.new (passed h (bytes_from h.rx byte count)) }
+        ensures ended { (h : Held) → IsHeld self.old h →
+            option_to_list result ≡ transport_ended h (bytes_from h.rx byte count) }
+        ensures bytes { self.new.view.transport.bytes ≡ self.old.view.transport.bytes + count }
+    {
+        let row = Row::at_constant_rate(u64::from(self.rx), byte, count);
+        self.view.pass(&row).ended
+    }
+
+    // Bytes of the unit under way: the excesses of both buffers that have ended.
+    fn carry(&mut self, byte: u64, count: u64) -> (Option<Excess>, Option<Excess>)
+        requires some { 0 < count }
+        requires few { count ≤ 188 }
+        requires end { byte + count ≤ 2 ^ 40 }
+        requires room { self.old.view.transport.bytes + count ≤ 2 ^ 40 }
+        ensures held { (h : Held) → IsHeld self.old h → IsHeld self.new (carried h (bytes_from h.rx byte count)) }
+        ensures ended { (h : Held) → IsHeld self.old h →
+            option_to_list result.0 ≡ transport_ended h (bytes_from h.rx byte count) }
+        ensures main { (h : Held) → IsHeld self.old h →
+            option_to_list result.1 ≡ main_ended h (bytes_from h.rx byte count) }
+    {
+        let row = Row::at_constant_rate(u64::from(self.rx), byte, count);
+        let seen = self.view.carry(&row);
+        (seen.ended, self.main.see(&seen))
+    }
+
+    // A unit begins, if one does: the one before it.
+    #[tactic(auto, unfolding(crate::specs::Entering::after_begin, crate::specs::Entering::unit_ended))]
+    fn begin(&mut self, due: Option<DueTime>) -> Result<Option<UnitSeen>, AllocError>
+        ensures held { (h : Held) → IsHeld self.old h → OnOk result (IsHeld self.new (after_begin h due)) }
+        ensures unit { (h : Held) → IsHeld self.old h → IfOk result (λ unit. unit ≡ unit_ended h due) }
+        ensures bytes { self.new.view.transport.bytes ≡ self.old.view.transport.bytes }
+    {
+        let Some(due) = due else {
+            return Ok(None);
+        };
+        match self.view.begin(due) {
+            Ok(unit) => Ok(unit),
+            Err(_) => Err(AllocError),
+        }
+    }
+
+    // The payload of a packet.
+    #[tactic(auto, unfolding(crate::specs::Entering::after_payload, crate::specs::Entering::payload_transport, crate::specs::Entering::payload_main))]
+    fn payload(&mut self, byte: u64, count: u64, enters: bool) -> (Option<Excess>, Option<Excess>)
+        requires few { count ≤ 188 }
+        requires end { byte + count ≤ 2 ^ 40 }
+        requires room { self.old.view.transport.bytes + count ≤ 2 ^ 40 }
+        ensures held { (h : Held) → IsHeld self.old h →
+            IsHeld self.new (after_payload h enters count (bytes_from h.rx byte count)) }
+        ensures ended { (h : Held) → IsHeld self.old h →
+            option_to_list result.0 ≡ payload_transport h count (bytes_from h.rx byte count) }
+        ensures main { (h : Held) → IsHeld self.old h →
+            option_to_list result.1 ≡ payload_main h enters count (bytes_from h.rx byte count) }
+    {
+        if count == 0 {
+            (None, None)
+        } else if enters {
+            self.carry(byte, count)
+        } else {
+            (self.pass(byte, count), None)
+        }
+    }
+
+    /// A packet of the stream enters: what has ended. There is no memory where 4,096 units wait in the main buffer, or none is left for
+    /// one more; then drop them.
+    #[tactic(auto, unfolding(crate::specs::Entering::after, crate::specs::Entering::entered))]
+    pub fn enter(&mut self, packet: &Arriving) -> Result<Entered, AllocError>
+        ensures held { (h : Held) → IsHeld self.old h → OnOk result (IsHeld self.new (after h packet.now)) }
+        ensures entered { (h : Held) → IsHeld self.old h → IfOk result (λ e. entered_view e ≡ entered h packet.now) }
+    {
+        if packet.index >= LAST_INDEX || self.view.transport.bytes > LAST_BYTES {
+            return Ok(Entered {
+                header: None,
+                payload: None,
+                main: None,
+                unit: None,
+            });
+        }
+        let size = packet.size.min(184);
+        let byte = 188 * packet.index;
+        let header = self.pass(byte, 188 - size);
+        let unit = self.begin(packet.begins)?;
+        let (payload, main) = self.payload(byte + (188 - size), size, packet.enters);
+        Ok(Entered {
+            header,
+            payload,
+            main,
+            unit,
+        })
+    }
+}

@@ -1,0 +1,20 @@
+//! Both buffers of an elementary stream (ISO/IEC 13818-1, 2.4.2.3), in a stream of constant rate, packet by packet.
+//!
+//! - [`StreamBuffers`]: the transport buffer and the main buffer of one PID; what they hold, and the unit under way.
+//! - [`Arriving`]: a packet of it, as its buffers see it.
+//! - [`Entered`]: what has ended with a packet: excesses of both buffers, and the unit before one that begins.
+//!
+//! All bytes of the packets enter the transport buffer, and those of payloads the main buffer after it, up to the moment at
+//! which their unit is decoded. What is held is said by the history of the stream (`specs/Held`); the laws of `stream_view` say
+//! that its figures are the greatest over all moments.
+#![tactic(auto)]
+
+mod arriving;
+mod buffers;
+mod entered;
+mod entering;
+
+pub use arriving::Arriving;
+pub use buffers::StreamBuffers;
+pub use entered::Entered;
+pub use entering::TRANSPORT_BYTES;

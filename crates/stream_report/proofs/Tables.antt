@@ -1,0 +1,42 @@
+-- A packet enters the buffers of its PID, or there are none; texts one after another.
+use Rattle.std.proofs.Common.{◌≡◌, ◌∙◌, sym, ℕ, List, [], ◌∷◌, ◌++◌, Option, Some, None, Result, Ok, Err, refl, ap, subst, append_assoc, nat_eq}
+use Rattle.std.specs.Prelude.{OnOk, set, slice_get}
+use Rattle.std.specs.Map.{lookup}
+use Rattle.ts_packet.specs.Views.{PacketView}
+use Rattle.stream_report.specs.declared.view_options.ViewOptions.{ViewOptions}
+use Rattle.stream_report.specs.Clocks.{ClockEntries, clock_of}
+use Rattle.stream_report.specs.Entries.{EntryState, entry_lines}
+use Rattle.stream_report.specs.StreamTables.{TableState, entry_taken, lines_of, taken}
+
+pub on_ok : {V E A B : Type 0} (r : Result V E) → (A → B) → OnOk r A → OnOk r B
+on_ok (Ok v) f a = f a
+on_ok (Err e) f a = tt
+
+-- where there are none
+pub taken_none : (options : ViewOptions) (index window : ℕ) (clocks : ClockEntries) (t : TableState) (packet : PacketView) (place : ℕ) →
+    lookup (nat_eq packet.header.pid) t.places ≡ Some place → slice_get t.entries place ≡ None → taken options index window clocks t packet ≡ t
+unfolding Rattle.stream_report.specs.StreamTables.taken_if Rattle.stream_report.specs.StreamTables.taken_at
+taken_none options index window clocks t packet place p q = rw (p, q) refl
+
+pub lines_none : (options : ViewOptions) (index : ℕ) (clocks : ClockEntries) (t : TableState) (packet : PacketView) (place : ℕ) →
+    lookup (nat_eq packet.header.pid) t.places ≡ Some place → slice_get t.entries place ≡ None → lines_of options index clocks t packet ≡ []
+unfolding Rattle.stream_report.specs.StreamTables.lines_if Rattle.stream_report.specs.StreamTables.lines_in
+lines_none options index clocks t packet place p q = rw (p, q) refl
+
+-- where there are some
+pub taken_some : (options : ViewOptions) (index window : ℕ) (clocks : ClockEntries) (t : TableState) (packet : PacketView) (place : ℕ) (e : EntryState) →
+    lookup (nat_eq packet.header.pid) t.places ≡ Some place → slice_get t.entries place ≡ Some e →
+    taken options index window clocks t packet ≡ record { places = t.places; entries = set t.entries place (entry_taken options index window clocks packet e) }
+unfolding Rattle.stream_report.specs.StreamTables.taken_if Rattle.stream_report.specs.StreamTables.taken_at
+taken_some options index window clocks t packet place e p q = rw (p, q) refl
+
+pub lines_some : (options : ViewOptions) (index : ℕ) (clocks : ClockEntries) (t : TableState) (packet : PacketView) (place : ℕ) (e : EntryState) →
+    lookup (nat_eq packet.header.pid) t.places ≡ Some place → slice_get t.entries place ≡ Some e →
+    lines_of options index clocks t packet ≡ entry_lines options index (clock_of clocks e.clock_pid) e packet
+unfolding Rattle.stream_report.specs.StreamTables.lines_if Rattle.stream_report.specs.StreamTables.lines_in
+lines_some options index clocks t packet place e p q = rw (p, q) refl
+
+-- three texts one after another
+pub three : (t0 t1 t2 t3 a b c : List ℕ) → t1 ≡ t0 ++ a → t2 ≡ t1 ++ b → t3 ≡ t2 ++ c → t3 ≡ t0 ++ (a ++ (b ++ c))
+three t0 t1 t2 t3 a b c p q r =
+    r ∙ ap (λ (t : List ℕ). t ++ c) (q ∙ ap (λ (t : List ℕ). t ++ b) p) ∙ append_assoc (t0 ++ a) b c ∙ append_assoc t0 a (b ++ c)

@@ -1,0 +1,19 @@
+use Rattle.std.proofs.Common.{rules, ◌≡◌, ◌++◌, ◌-◌, List, ℕ, subst, string_bytes}
+use Rattle.std.specs.Prelude.{OnOk, codes}
+use Rattle.stream_report.specs.ReportLines.{FieldView, field_view, line_of, number_field}
+use Rattle.stream_report.specs.EntryLines.{ticks_of}
+use Rattle.stream_report.proofs.Fields.{six}
+use Rattle.stream_report.proofs.entry_lines.write_excess.Goals as goal
+
+pub returns : goal.returns
+returns c =
+    let f_pid : field_view c.number.result ≡ number_field (codes "pid") (c.args.place.now.pid) = search rules in
+    let f_packet : field_view c.number-2.result ≡ number_field (codes "packet") (c.args.place.now.packet) = search rules in
+    let f_begin : field_view c.number-3.result ≡ number_field (codes "begin") (ticks_of c.args.options.now.rate c.args.place.now.rx c.args.excess.now.begin) = search rules in
+    let f_end : field_view c.number-4.result ≡ number_field (codes "end") (ticks_of c.args.options.now.rate c.args.place.now.rx c.args.excess.now.end) = search rules in
+    let f_peak : field_view c.number-5.result ≡ number_field (codes "peak") (c.args.excess.now.peak) = search rules in
+    let f_size : field_view c.number-6.result ≡ number_field (codes "size") (c.args.place.now.size) = search rules in
+    subst (λ (fields : List FieldView). OnOk c.write_line.result (string_bytes c.write_line.new.text
+    ≡ string_bytes c.args.text.now ++ line_of c.args.options.now.json c.args.line.now fields))
+    (six c.number.result c.number-2.result c.number-3.result c.number-4.result c.number-5.result c.number-6.result _ _ _ _ _ _ f_pid f_packet f_begin f_end f_peak f_size)
+    c.write_line.ensures

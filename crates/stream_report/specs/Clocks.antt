@@ -1,0 +1,89 @@
+-- The clocks of programs, and when units are due by them (ISO/IEC 13818-1, 2.4.2.2, 2.4.3.5 and 2.4.3.7).
+--
+-- A stream at a constant rate is one line of time, and the last clock reference of a program before a unit says what the
+-- clock shows on it.
+use Rattle.std.specs.Prelude.{ℕ, ◌+◌, ◌-◌, ◌*◌, ◌/◌, ◌%◌, ◌^◌, min, nat_eq, nat_lt, Bool, if◌then◌else◌, List, [], Option, Some, None, Result, Ok, Err}
+use Rattle.std.specs.Map.{lookup}
+use Rattle.std.specs.Option.{option_map}
+use Rattle.indexmap.specs.IndexMap.{insert_entry}
+use Rattle.clock27.specs.Reference.{Reference}
+use Rattle.ts_packet.specs.Views.{AdaptationView, PacketView, NoFlags, WithFlags}
+use Rattle.pes_packet.specs.Reading.{header_at}
+use Rattle.pes_packet.specs.declared.refusal.PesError.{PesError}
+use Rattle.pes_packet.specs.declared.reading.PesHeader.{PesHeader}
+use Rattle.pes_packet.specs.declared.time_stamps.Stamps.{Stamps}
+use Rattle.pes_packet.specs.declared.time_stamps.Stamps.TheVariants.{Absent, Pts, PtsDts}
+use Rattle.packet_arrival.specs.declared.clock.TheConstants.{PCR_PERIOD}
+use Rattle.packet_arrival.specs.declared.clock.PcrSample.{PcrSample}
+use Rattle.stream_view.specs.declared.unit_seen.DueTime.{DueTime}
+use Rattle.stream_report.specs.declared.clocks.TheConstants.{LAST_BYTE, LONGEST_STAY}
+use Rattle.stream_report.specs.declared.clocks.Beginning.{Beginning}
+use Rattle.stream_report.specs.declared.clocks.Beginning.TheVariants.{Nothing, Unread, Stamped}
+
+-- 1. Clock references
+
+-- the last one of each PID
+abbrev pub ClockEntries : Type 0
+ClockEntries = List (ℕ × PcrSample)
+
+abbrev pub no_clocks : ClockEntries
+no_clocks = []
+
+abbrev pub clock_of : ClockEntries → ℕ → Option PcrSample
+clock_of clocks pid = lookup (nat_eq pid) clocks
+
+-- the reference of the packet at an index: byte 10 of it ends its base
+abbrev pub sample_of : ℕ → Bool → Reference → PcrSample
+sample_of index discontinuity r = record {
+  byte = min (min (index * 188) (2 ^ 64 - 1) + 10) (2 ^ 64 - 1);
+  ticks = r.base % 2 ^ 33 * 300 + r.extension;
+  discontinuity = discontinuity;
+}
+
+unfoldable pub sample_in : ℕ → Option AdaptationView → Option PcrSample
+sample_in index None = None
+sample_in index (Some NoFlags) = None
+sample_in index (Some (WithFlags parts)) = option_map (sample_of index parts.discontinuity_indicator) parts.pcr
+
+unfoldable pub with_sample : ClockEntries → ℕ → Option PcrSample → ClockEntries
+with_sample clocks pid None = clocks
+with_sample clocks pid (Some sample) = insert_entry nat_eq clocks pid sample
+
+abbrev pub clocks_after : ClockEntries → ℕ → PacketView → ClockEntries
+clocks_after clocks index packet = with_sample clocks packet.header.pid (sample_in index packet.adaptation)
+
+-- 2. What begins with the payload of a packet
+
+unfoldable pub by_stamps : Stamps → Beginning
+by_stamps Absent = Nothing
+by_stamps (Pts pts) = Stamped pts
+by_stamps (PtsDts pts dts) = Stamped dts
+
+unfoldable pub by_header : Result (PesHeader × ℕ) PesError → Beginning
+by_header (Err error) = Unread
+by_header (Ok read) = by_stamps read.0.stamps
+
+unfoldable pub by_payload : Bool → Option (List ℕ) → Beginning
+by_payload starts None = Nothing
+by_payload starts (Some payload) = if starts then by_header (header_at payload) else Nothing
+
+abbrev pub beginning_of : PacketView → Beginning
+beginning_of packet = by_payload packet.header.payload_unit_start_indicator packet.payload
+
+-- 3. When a unit is due
+
+-- how long after a reference the clock next shows a stamp, in ticks
+abbrev pub ahead_of : PcrSample → ℕ → ℕ
+ahead_of clock dts = (dts % 2 ^ 33 * 300 + PCR_PERIOD - clock.ticks % PCR_PERIOD) % PCR_PERIOD
+
+-- when it is due: before the reference, where that is nearer; and no later than a unit may stay after it. In units of time at its
+-- buffer, 216,000,000 of which are 8 / (rate * rx) seconds
+abbrev pub due_parts : ℕ → ℕ → PcrSample → ℕ → ℕ
+due_parts rate rx clock dts =
+    if nat_lt (ahead_of clock dts) (PCR_PERIOD / 2) then min clock.byte LAST_BYTE * rx * 216000000 + min (ahead_of clock dts) LONGEST_STAY * (rate * rx)
+    else min clock.byte LAST_BYTE * rx * 216000000 - (PCR_PERIOD - ahead_of clock dts) * (rate * rx)
+
+-- its bytes stay until the first whole moment from then on, and its last byte may leave the transport buffer up to the last one
+-- before
+abbrev pub due_at : ℕ → ℕ → PcrSample → ℕ → DueTime
+due_at rate rx clock dts = record { until = (due_parts rate rx clock dts + 215999999) / 216000000; deadline = due_parts rate rx clock dts / 216000000 }

@@ -1,0 +1,53 @@
+-- What is kept of a stream beside its buffers.
+use Rattle.std.specs.Prelude.{ℕ, List, [], ◌∷◌, codes}
+use Rattle.ts_packet.specs.Views.{PacketView}
+use Rattle.ts_packet.specs.PcrBytes.{has_pcr}
+use Rattle.pid_windows.specs.Windows.{WindowView, no_packet, one_more, taken}
+use Rattle.named_streams.specs.NamedStreams.{NamedView, none_taken}
+use Rattle.named_streams.specs.NamedStreams as naming
+use Rattle.stream_report.specs.declared.view_options.ViewOptions.{ViewOptions}
+use Rattle.stream_report.specs.Clocks.{ClockEntries, clocks_after, no_clocks}
+use Rattle.stream_report.specs.ReportLines.{line_of, number_field}
+use Rattle.stream_report.specs.WindowLines.{window_of}
+
+-- the number of packets, and of those that are refused or have transport_error_indicator; the window of the last packet that is
+-- not; the packets of each PID; the last clock reference of each; and the streams that are named
+pub record SeenState : Type 0 where
+  pub options : ViewOptions
+  pub packets : ℕ
+  pub refused : ℕ
+  pub window : WindowView
+  pub totals : WindowView
+  pub clocks : ClockEntries
+  pub named : NamedView
+
+-- before the first packet
+abbrev pub nothing_seen : ViewOptions → SeenState
+nothing_seen options = record { options = options; packets = 0; refused = 0; window = no_packet; totals = no_packet; clocks = no_clocks; named = none_taken }
+
+-- a packet that can't be read, or says that it is wrong
+abbrev pub without : SeenState → SeenState
+without s = record s { packets = one_more s.packets; refused = one_more s.refused }
+
+-- one that can: its clock reference, and then its PID is counted
+abbrev pub with_clock : SeenState → PacketView → SeenState
+with_clock s packet = record s { clocks = clocks_after s.clocks s.packets packet }
+
+abbrev pub next_window : SeenState → ℕ
+next_window s = window_of s.options s.packets
+
+abbrev pub counted : SeenState → PacketView → SeenState
+counted s packet = record s {
+  packets = one_more s.packets;
+  window = taken s.window (next_window s) packet.header.pid (has_pcr packet.adaptation);
+  totals = taken s.totals 0 packet.header.pid (has_pcr packet.adaptation);
+}
+
+-- what 188 bytes name counts from the next packet on
+abbrev pub with_named : SeenState → List ℕ → SeenState
+with_named s bytes = record s { named = naming.taken s.named bytes }
+
+-- the last line: `end packets N refused N left N`, with the bytes that are left after the last whole packet
+abbrev pub end_line : SeenState → ℕ → List ℕ
+end_line s left = line_of s.options.json (codes "end")
+    (number_field (codes "packets") s.packets ∷ number_field (codes "refused") s.refused ∷ number_field (codes "left") left ∷ [])

@@ -1,0 +1,157 @@
+//! The clocks of programs, and when units are due by them.
+ghost use Rattle.std.specs.Prelude.{◌≡◌, ◌<◌, OnOk};
+ghost use Rattle.ts_packet.specs.Views.{packet_view};
+ghost use Rattle.stream_report.specs.Clocks as spec;
+
+use indexmap::IndexMap;
+use packet_arrival::{PCR_PERIOD, PcrSample};
+use pes_packet::{PesError, PesHeader, Stamps, read_header};
+use std::alloc::{AllocError, Global};
+use std::hash::{BuildHasherDefault, FoldHasher};
+use std::marker::Model;
+use stream_view::DueTime;
+use ts_packet::{Adaptation, Packet};
+
+// A byte at 1 bit a second in ticks of 27 MHz.
+const BYTE_TICKS: u128 = 216_000_000;
+
+// No byte that counts comes after this one.
+const LAST_BYTE: u64 = 1 << 40;
+
+/// The longest time in ticks that a unit may stay in a decoder: one minute (ISO/IEC 13818-1, 2.4.2.6).
+pub const LONGEST_STAY: u64 = 1_620_000_000;
+
+/// The last clock reference of each PID.
+#[derive(Drop)]
+pub struct Clocks {
+    last: IndexMap<u16, PcrSample, BuildHasherDefault<FoldHasher>, Global>,
+}
+
+impl Model for Clocks {
+    ghost use Rattle.stream_report.specs.Clocks.{ClockEntries};
+
+    ghost Value = { ClockEntries };
+
+    ghost view = { λ c. c.last.entries };
+}
+
+/// What begins with the payload of a packet.
+#[derive(Clone, Copy)]
+pub enum Beginning {
+    /// No PES packet, or one without stamps: its bytes are of the unit under way.
+    Nothing,
+    /// A PES packet whose header does not stand whole in the packet, or is wrong: so are its bytes.
+    Unread,
+    /// A PES packet with a unit of this DTS, or of this PTS where it has no DTS.
+    Stamped(u64),
+}
+
+// The clock reference in the packet at an index.
+#[tactic(auto, unfolding(crate::specs::Clocks::sample_in))]
+fn sample_in(index: u64, packet: &Packet<'_>) -> Option<PcrSample>
+    ensures { result ≡ spec.sample_in index (packet_view packet.now).adaptation }
+{
+    match packet.adaptation {
+        Some(Adaptation::Flagged(parts)) => {
+            let reference = parts.pcr?;
+            Some(PcrSample {
+                byte: index.saturating_mul(188).saturating_add(10),
+                ticks: reference.base % (1 << 33) * 300 + u64::from(reference.extension),
+                discontinuity: parts.discontinuity_indicator,
+            })
+        }
+        _ => None,
+    }
+}
+
+impl Clocks {
+    /// No reference has come.
+    pub fn new(alloc: Global) -> Clocks
+        ensures { result ≡ spec.no_clocks }
+    {
+        Clocks {
+            last: IndexMap::new(alloc),
+        }
+    }
+
+    /// The last reference of a PID.
+    pub fn last(&self, pid: u16) -> Option<PcrSample>
+        ensures { result ≡ spec.clock_of self.now pid }
+    {
+        self.last.get(&pid).copied()
+    }
+
+    /// The packet at an index comes.
+    #[tactic(auto, unfolding(crate::specs::Clocks::with_sample))]
+    pub fn take(&mut self, index: u64, packet: &Packet<'_>) -> Result<(), AllocError>
+        ensures { OnOk result (self.new ≡ spec.clocks_after self.old index (packet_view packet.now)) }
+    {
+        if let Some(sample) = sample_in(index, packet) {
+            self.last.insert(packet.header.pid, sample)?;
+        }
+        Ok(())
+    }
+}
+
+#[tactic(auto, unfolding(crate::specs::Clocks::by_header, crate::specs::Clocks::by_stamps))]
+fn by_header(read: Result<(PesHeader, usize), PesError>) -> Beginning
+    ensures { result ≡ spec.by_header read }
+{
+    match read {
+        Err(_) => Beginning::Unread,
+        Ok((header, _)) => match header.stamps {
+            Stamps::Absent => Beginning::Nothing,
+            Stamps::Pts(pts) => Beginning::Stamped(pts),
+            Stamps::PtsDts { dts, .. } => Beginning::Stamped(dts),
+        },
+    }
+}
+
+/// What begins with the payload of a packet.
+#[tactic(auto, unfolding(crate::specs::Clocks::by_payload))]
+pub(crate) fn beginning_of(packet: &Packet<'_>) -> Beginning
+    ensures { result ≡ spec.beginning_of (packet_view packet.now) }
+{
+    if !packet.header.payload_unit_start_indicator {
+        return Beginning::Nothing;
+    }
+    match packet.payload {
+        None => Beginning::Nothing,
+        Some(payload) => by_header(read_header(payload)),
+    }
+}
+
+/// How long after a clock reference the clock next shows a stamp, in ticks.
+pub(crate) fn ahead_of(clock: &PcrSample, dts: u64) -> u64
+    ensures { result ≡ spec.ahead_of clock.now dts }
+{
+    (dts % (1 << 33) * 300 + PCR_PERIOD - clock.ticks % PCR_PERIOD) % PCR_PERIOD
+}
+
+// When a unit is due, in units of time at its buffer of which 216,000,000 are one.
+fn due_parts(rate: u64, rx: u32, clock: &PcrSample, dts: u64) -> u128
+    requires { rate < 4294967296 }
+    ensures { result ≡ spec.due_parts rate rx clock.now dts }
+{
+    let scale = u128::from(rate) * u128::from(rx);
+    let at = u128::from(clock.byte.min(LAST_BYTE)) * u128::from(rx) * BYTE_TICKS;
+    let ahead = ahead_of(clock, dts);
+    if ahead < PCR_PERIOD / 2 {
+        at + u128::from(ahead.min(LONGEST_STAY)) * scale
+    } else {
+        at.saturating_sub(u128::from(PCR_PERIOD - ahead) * scale)
+    }
+}
+
+/// When a unit is due with that DTS, by the last clock reference before it, in a stream of this rate at a buffer that is drained at
+/// `rx` bits a second.
+pub(crate) fn due_at(rate: u64, rx: u32, clock: &PcrSample, dts: u64) -> DueTime
+    requires { rate < 4294967296 }
+    ensures { result ≡ spec.due_at rate rx clock.now dts }
+{
+    let parts = due_parts(rate, rx, clock, dts);
+    DueTime {
+        until: parts.div_ceil(BYTE_TICKS),
+        deadline: parts / BYTE_TICKS,
+    }
+}

@@ -1,0 +1,234 @@
+//! A stream that the tables name, from the first packet of its buffers on.
+ghost use Rattle.std.specs.Prelude.{◌≡◌, ◌++◌, OnOk, string_bytes};
+ghost use Rattle.stream_buffers.specs.Entering.{entered_view};
+ghost use Rattle.ts_packet.specs.Views.{packet_view};
+ghost use Rattle.stream_report.specs.Entries as spec;
+ghost use Rattle.stream_report.specs.Entries.{EntryState, IsEntry};
+
+use crate::clocks::{Beginning, LONGEST_STAY, ahead_of, beginning_of, due_at};
+use crate::entry_lines::{Place, write_ahead_if, write_closing, write_ended, write_units_if};
+use crate::tally::Tally;
+use crate::view_options::ViewOptions;
+use packet_arrival::{PCR_PERIOD, PcrSample};
+use std::alloc::AllocError;
+use stream_buffers::{Arriving, Entered, StreamBuffers, TRANSPORT_BYTES};
+use stream_view::DueTime;
+use ts_packet::Packet;
+
+/// A stream: its PID, the PID of its program's clock references, the counter of its last packet with a payload, its buffers, and what is
+/// counted of it.
+#[derive(Drop)]
+pub(crate) struct StreamEntry {
+    pub pid: u16,
+    pub clock_pid: u16,
+    pub counter: Option<u8>,
+    pub buffers: StreamBuffers,
+    pub tally: Tally,
+}
+
+#[tactic(auto, unfolding(crate::specs::Entries::same_counter))]
+fn same_counter(before: Option<u8>, counter: u8) -> bool
+    ensures { result ≡ spec.same_counter before counter }
+{
+    match before {
+        None => false,
+        Some(before) => before == counter,
+    }
+}
+
+// Whether a packet repeats the one before it on its PID.
+fn is_repeated(counter: Option<u8>, packet: &Packet<'_>) -> bool
+    ensures { result ≡ spec.is_repeated counter (packet_view packet.now) }
+{
+    packet.payload.is_some() && same_counter(counter, packet.header.continuity_counter)
+}
+
+fn counter_after(counter: Option<u8>, packet: &Packet<'_>) -> Option<u8>
+    ensures { result ≡ spec.counter_after counter (packet_view packet.now) }
+{
+    if packet.payload.is_some() {
+        Some(packet.header.continuity_counter)
+    } else {
+        counter
+    }
+}
+
+// What begins with a packet.
+fn beginning_in(counter: Option<u8>, packet: &Packet<'_>) -> Beginning
+    ensures { result ≡ spec.beginning_in counter (packet_view packet.now) }
+{
+    if is_repeated(counter, packet) {
+        Beginning::Nothing
+    } else {
+        beginning_of(packet)
+    }
+}
+
+// When the unit is due that begins; none where none does, or no clock reference has come.
+#[tactic(auto, unfolding(crate::specs::Entries::due_by))]
+fn due_by(
+    options: &ViewOptions,
+    rx: u32,
+    clock: &Option<PcrSample>,
+    beginning: Beginning,
+) -> Option<DueTime>
+    ensures { result ≡ spec.due_by options.now rx clock.now beginning }
+{
+    match beginning {
+        Beginning::Stamped(dts) => {
+            let clock = clock.as_ref()?;
+            Some(due_at(options.rate.bits_per_second(), rx, clock, dts))
+        }
+        _ => None,
+    }
+}
+
+// How long a unit would stay that begins, where that is longer than any may.
+#[tactic(auto, unfolding(crate::specs::Entries::ahead_by))]
+fn ahead_by(clock: &Option<PcrSample>, beginning: Beginning) -> Option<u64>
+    ensures { result ≡ spec.ahead_by clock.now beginning }
+{
+    let (Some(clock), Beginning::Stamped(dts)) = (clock, beginning) else {
+        return None;
+    };
+    let ahead = ahead_of(clock, dts);
+    if ahead > LONGEST_STAY && ahead < PCR_PERIOD / 2 {
+        Some(ahead)
+    } else {
+        None
+    }
+}
+
+// Whether a header was not read.
+#[tactic(auto, unfolding(crate::specs::Entries::is_unread))]
+fn is_unread(beginning: Beginning) -> bool
+    ensures { result ≡ spec.is_unread beginning }
+{
+    match beginning {
+        Beginning::Unread => true,
+        _ => false,
+    }
+}
+
+// A packet as its buffers see it.
+fn arriving(
+    options: &ViewOptions,
+    index: u64,
+    rx: u32,
+    counter: Option<u8>,
+    clock: &Option<PcrSample>,
+    packet: &Packet<'_>,
+) -> Arriving
+    ensures { result ≡ spec.arriving options.now index rx counter clock.now (packet_view packet.now) }
+{
+    let payload = packet.payload.unwrap_or(&[]);
+    Arriving {
+        index,
+        size: payload.len() as u64,
+        begins: due_by(options, rx, clock, beginning_in(counter, packet)),
+        enters: !is_repeated(counter, packet),
+    }
+}
+
+// The number of excesses that ended.
+fn excess_counts(entered: &Entered) -> (u64, u64)
+    ensures { result ≡ spec.excess_counts (entered_view entered.now) }
+{
+    let transport = u64::from(entered.header.is_some()) + u64::from(entered.payload.is_some());
+    (transport, u64::from(entered.main.is_some()))
+}
+
+fn tally_after(tally: Tally, window: u64, unread: bool, entered: &Entered) -> Tally
+    ensures { result ≡ spec.tally_after tally window unread (entered_view entered.now) }
+{
+    let (transport, main) = excess_counts(entered);
+    tally
+        .with_excesses(transport, main, unread)
+        .with_unit_if(window, &entered.unit)
+}
+
+impl StreamEntry {
+    /// Where a line of it is told at a packet.
+    pub fn place(&self, packet: u64) -> Place
+        ensures { (e : EntryState) → IsEntry self.now e → result ≡ spec.place_at packet e }
+    {
+        Place {
+            pid: self.pid,
+            packet,
+            rx: self.buffers.rx,
+            size: self.buffers.main.size,
+        }
+    }
+
+    /// A packet of the stream, in a window: the lines that it settles.
+    pub fn take(
+        &mut self,
+        options: &ViewOptions,
+        index: u64,
+        window: u64,
+        clock: &Option<PcrSample>,
+        packet: &Packet<'_>,
+        text: &mut String,
+    ) -> Result<(), AllocError>
+        ensures entry { (e : EntryState) → IsEntry self.old e → OnOk result
+            (IsEntry self.new (spec.entry_after options.now index window clock.now e (packet_view packet.now))) }
+        ensures lines { (e : EntryState) → IsEntry self.old e → OnOk result (string_bytes text.new
+            ≡ string_bytes text.old ++ spec.entry_lines options.now index clock.now e (packet_view packet.now)) }
+    {
+        let place = self.place(index);
+        let beginning = beginning_in(self.counter, packet);
+        let arriving = arriving(options, index, self.buffers.rx, self.counter, clock, packet);
+        let entered = self.buffers.enter(&arriving)?;
+        write_ahead_if(text, options, &place, ahead_by(clock, beginning))?;
+        write_ended(text, options, &place, &entered)?;
+        self.counter = counter_after(self.counter, packet);
+        self.tally = tally_after(self.tally, window, is_unread(beginning), &entered);
+        Ok(())
+    }
+
+    // What is counted, with the unit under way as the last one.
+    fn closed(&self, window: u64) -> Tally
+        ensures { (e : EntryState) → IsEntry self.now e → result ≡ spec.closed window e }
+    {
+        self.tally.with_unit_if(window, &self.buffers.unit())
+    }
+
+    /// Appends the line of the units that ended in a window, if some did.
+    pub fn write_units(
+        &self,
+        text: &mut String,
+        options: &ViewOptions,
+        window: u64,
+    ) -> Result<(), AllocError>
+        ensures { (e : EntryState) → IsEntry self.now e → OnOk result (string_bytes text.new
+            ≡ string_bytes text.old ++ spec.units_of options.now window e) }
+    {
+        write_units_if(text, options, window, &self.place(0), &self.tally)
+    }
+
+    /// Appends its lines at the end, after so many packets, the last of them in a window.
+    pub fn write_end(
+        &self,
+        text: &mut String,
+        options: &ViewOptions,
+        packets: u64,
+        window: u64,
+    ) -> Result<(), AllocError>
+        ensures { (e : EntryState) → IsEntry self.now e → OnOk result (string_bytes text.new
+            ≡ string_bytes text.old ++ spec.end_lines options.now packets window e) }
+    {
+        let tally = self.closed(window);
+        let place = self.place(packets);
+        write_units_if(text, options, window, &place, &tally)?;
+        write_closing(text, options, &place, &self.buffers, &tally)
+    }
+
+    /// Whether neither buffer held more than its size, and no unit was late.
+    pub fn is_good(&self) -> bool
+        ensures { (e : EntryState) → IsEntry self.now e → result ≡ spec.is_good e }
+    {
+        self.buffers.transport_most() <= u128::from(TRANSPORT_BYTES)
+            && self.buffers.main_most() <= self.buffers.main.size
+            && self.closed(0).late == 0
+    }
+}

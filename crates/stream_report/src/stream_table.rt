@@ -1,0 +1,249 @@
+//! The streams whose buffers have begun.
+ghost use Rattle.std.specs.Prelude.{◌≡◌, ◌++◌, ◌≤◌, List, OnOk, flat_map, option_map, string_bytes};
+ghost use Rattle.std.specs.List.{list_all};
+ghost use Rattle.ts_packet.specs.Views.{packet_view};
+ghost use Rattle.stream_report.specs.StreamTables as spec;
+ghost use Rattle.stream_report.specs.Entries.{EntryState, IsEntry, end_lines, units_of};
+ghost use Rattle.stream_report.specs.Entries.{is_good as entry_is_good};
+ghost use Rattle.stream_report.specs.StreamTables.{AreEntries, IsTable, TableState};
+
+use crate::clocks::Clocks;
+use crate::entry_lines::write_stream;
+use crate::stream_entry::StreamEntry;
+use crate::tally::Tally;
+use crate::view_options::ViewOptions;
+use indexmap::IndexMap;
+use named_streams::NamedStreams;
+use std::alloc::{AllocError, Global};
+use std::hash::{BuildHasherDefault, FoldHasher};
+use stream_buffers::StreamBuffers;
+use stream_coding::{Buffers, Coding, buffers_of, coding_of};
+use stream_programs::FoundStream;
+use ts_packet::Packet;
+
+/// The streams whose buffers have begun, and the place of each PID among them.
+#[derive(Drop)]
+pub struct StreamTable {
+    alloc: Global,
+    places: IndexMap<u16, usize, BuildHasherDefault<FoldHasher>, Global>,
+    entries: Vec<StreamEntry>,
+}
+
+// The bytes of a payload after the header of the PES packet that it begins.
+#[tactic(auto, unfolding(crate::specs::StreamTables::unit_after))]
+fn unit_in(payload: &[u8]) -> &[u8]
+    ensures { result.now ≡ spec.unit_in payload.now }
+{
+    match payload.get(8) {
+        None => &[],
+        Some(length) => match payload.get(9 + usize::from(*length)..) {
+            None => &[],
+            Some(unit) => unit,
+        },
+    }
+}
+
+fn coding_by(stream: &FoundStream, packet: &Packet<'_>) -> Coding
+    ensures { result ≡ spec.coding_by stream.now (packet_view packet.now) }
+{
+    let payload = packet.payload.unwrap_or(&[]);
+    coding_of(stream.stream_type, &stream.descriptors, unit_in(payload))
+}
+
+// Its buffers.
+fn coded_buffers(coding: Coding) -> Buffers
+    ensures { result ≡ spec.coded_buffers coding }
+{
+    let buffers = buffers_of(coding);
+    Buffers {
+        rx: buffers.rx.min(200_000_000),
+        main: buffers.main,
+    }
+}
+
+// A stream before its first packet.
+fn new_entry(
+    alloc: Global,
+    options: &ViewOptions,
+    pid: u16,
+    clock_pid: u16,
+    buffers: Buffers,
+) -> StreamEntry
+    requires { buffers.rx ≤ 200000000 }
+    ensures { IsEntry result (spec.new_entry options.now pid clock_pid buffers) }
+{
+    StreamEntry {
+        pid,
+        clock_pid,
+        counter: None,
+        buffers: StreamBuffers::new(alloc, options.rate, buffers.rx, u64::from(buffers.main)),
+        tally: Tally::new(),
+    }
+}
+
+fn write_all_units(
+    text: &mut String,
+    options: &ViewOptions,
+    window: u64,
+    entries: &[StreamEntry],
+) -> Result<(), AllocError>
+    ensures { (es : List EntryState) → AreEntries entries.now es → OnOk result (string_bytes text.new
+        ≡ string_bytes text.old ++ flat_map (units_of options.now window) es) }
+{
+    for entry in entries {
+        entry.write_units(text, options, window)?;
+    }
+    Ok(())
+}
+
+fn write_all_ends(
+    text: &mut String,
+    options: &ViewOptions,
+    packets: u64,
+    window: u64,
+    entries: &[StreamEntry],
+) -> Result<(), AllocError>
+    ensures { (es : List EntryState) → AreEntries entries.now es → OnOk result (string_bytes text.new
+        ≡ string_bytes text.old ++ flat_map (end_lines options.now packets window) es) }
+{
+    for entry in entries {
+        entry.write_end(text, options, packets, window)?;
+    }
+    Ok(())
+}
+
+fn are_good(entries: &[StreamEntry]) -> bool
+    ensures { (es : List EntryState) → AreEntries entries.now es → result ≡ list_all entry_is_good es }
+{
+    for entry in entries {
+        if !entry.is_good() {
+            return false;
+        }
+    }
+    true
+}
+
+impl StreamTable {
+    /// None has begun.
+    #[tactic(auto, unfolding(crate::specs::StreamTables::AreEntries))]
+    pub fn new(alloc: Global) -> StreamTable
+        ensures { IsTable result spec.no_streams }
+    {
+        StreamTable {
+            alloc,
+            places: IndexMap::new(alloc),
+            entries: Vec::new(alloc),
+        }
+    }
+
+    // The stream whose buffers begin with a packet.
+    fn beginning<'n>(&self, named: &'n NamedStreams, packet: &Packet<'_>) -> Option<&'n FoundStream>
+        ensures { (t : TableState) → IsTable self.now t →
+            option_map (λ s. s.now) result ≡ spec.beginning named.now t (packet_view packet.now) }
+    {
+        if packet.header.payload_unit_start_indicator
+            && self.places.get(&packet.header.pid).is_none()
+        {
+            named.stream(packet.header.pid)
+        } else {
+            None
+        }
+    }
+
+    // A stream more.
+    fn add(&mut self, pid: u16, entry: StreamEntry) -> Result<(), AllocError>
+        ensures { (t : TableState) (e : EntryState) → IsTable self.old t → IsEntry entry e →
+            OnOk result (IsTable self.new (spec.with_entry t pid e)) }
+    {
+        self.places.insert(pid, self.entries.len())?;
+        self.entries.push(entry)?;
+        Ok(())
+    }
+
+    /// The buffers of a packet's stream begin with it, if the packet is the first that begins a PES packet of a stream that
+    /// is named.
+    #[tactic(auto, unfolding(crate::specs::StreamTables::begun_if, crate::specs::StreamTables::begin_lines_if))]
+    pub fn begin(
+        &mut self,
+        options: &ViewOptions,
+        index: u64,
+        named: &NamedStreams,
+        packet: &Packet<'_>,
+        text: &mut String,
+    ) -> Result<(), AllocError>
+        ensures table { (t : TableState) → IsTable self.old t → OnOk result
+            (IsTable self.new (spec.begun options.now named.now t (packet_view packet.now))) }
+        ensures lines { (t : TableState) → IsTable self.old t → OnOk result (string_bytes text.new
+            ≡ string_bytes text.old ++ spec.begin_lines options.now index named.now t (packet_view packet.now)) }
+    {
+        let Some(stream) = self.beginning(named, packet) else {
+            return Ok(());
+        };
+        let coding = coding_by(stream, packet);
+        let buffers = coded_buffers(coding);
+        write_stream(text, options, index, stream, coding, buffers)?;
+        let clock_pid = named.clock_pid(stream.program);
+        let entry = new_entry(self.alloc, options, packet.header.pid, clock_pid, buffers);
+        self.add(packet.header.pid, entry)
+    }
+
+    /// The packet at an index enters the buffers of its PID, if there are any.
+    #[tactic(auto, unfolding(crate::specs::StreamTables::taken_at, crate::specs::StreamTables::taken_if, crate::specs::StreamTables::lines_in, crate::specs::StreamTables::lines_if))]
+    pub fn take(
+        &mut self,
+        options: &ViewOptions,
+        index: u64,
+        window: u64,
+        clocks: &Clocks,
+        packet: &Packet<'_>,
+        text: &mut String,
+    ) -> Result<(), AllocError>
+        ensures table { (t : TableState) → IsTable self.old t → OnOk result
+            (IsTable self.new (spec.taken options.now index window clocks.now t (packet_view packet.now))) }
+        ensures lines { (t : TableState) → IsTable self.old t → OnOk result (string_bytes text.new
+            ≡ string_bytes text.old ++ spec.lines_of options.now index clocks.now t (packet_view packet.now)) }
+    {
+        let Some(place) = self.places.get(&packet.header.pid).copied() else {
+            return Ok(());
+        };
+        let Some(entry) = self.entries.get_mut(place) else {
+            return Ok(());
+        };
+        let clock = clocks.last(entry.clock_pid);
+        entry.take(options, index, window, &clock, packet, text)
+    }
+
+    /// Appends a line for each stream of which a unit ended in a window.
+    pub fn write_units(
+        &self,
+        text: &mut String,
+        options: &ViewOptions,
+        window: u64,
+    ) -> Result<(), AllocError>
+        ensures { (t : TableState) → IsTable self.now t → OnOk result (string_bytes text.new
+            ≡ string_bytes text.old ++ spec.table_units options.now window t) }
+    {
+        write_all_units(text, options, window, &self.entries)
+    }
+
+    /// Appends the lines of all streams at the end of a stream of `packets` packets, the last of them in a window.
+    pub fn write_end(
+        &self,
+        text: &mut String,
+        options: &ViewOptions,
+        packets: u64,
+        window: u64,
+    ) -> Result<(), AllocError>
+        ensures { (t : TableState) → IsTable self.now t → OnOk result (string_bytes text.new
+            ≡ string_bytes text.old ++ spec.table_end options.now packets window t) }
+    {
+        write_all_ends(text, options, packets, window, &self.entries)
+    }
+
+    /// Whether no buffer held more than its size, and no unit was late.
+    pub fn is_good(&self) -> bool
+        ensures { (t : TableState) → IsTable self.now t → result ≡ spec.is_good t }
+    {
+        are_good(&self.entries)
+    }
+}

@@ -1,0 +1,97 @@
+//! What is counted of a stream.
+ghost use Rattle.std.specs.Prelude.{◌≡◌};
+ghost use Rattle.stream_report.specs.Tallies as spec;
+
+use stream_view::UnitSeen;
+
+/// What is counted of a stream. Numbers stop at 2^64 - 1.
+#[derive(Clone, Copy)]
+pub struct Tally {
+    /// Excesses that have ended, of the transport buffer and of the main buffer.
+    pub excesses: u64,
+    pub main_excesses: u64,
+    /// Units, and those of them that were late.
+    pub units: u64,
+    pub late: u64,
+    /// PES packets whose header was not read.
+    pub unread: u64,
+    /// The window of the last unit; the units that ended in it, those of them that were late, and the least slack of one.
+    pub window: u64,
+    pub window_units: u64,
+    pub window_late: u64,
+    pub slack: u128,
+}
+
+impl Tally {
+    /// Nothing has come.
+    pub fn new() -> Tally
+        ensures { result ≡ spec.none_counted }
+    {
+        Tally {
+            excesses: 0,
+            main_excesses: 0,
+            units: 0,
+            late: 0,
+            unread: 0,
+            window: 0,
+            window_units: 0,
+            window_late: 0,
+            slack: u128::MAX,
+        }
+    }
+
+    // With nothing in the window, if it is another one than the last unit's.
+    fn in_window(self, window: u64) -> Tally
+        ensures { result ≡ spec.in_window self window }
+    {
+        if self.window == window {
+            return self;
+        }
+        Tally {
+            window,
+            window_units: 0,
+            window_late: 0,
+            slack: u128::MAX,
+            ..self
+        }
+    }
+
+    /// A unit has ended in a window.
+    pub fn with_unit(self, window: u64, unit: &UnitSeen) -> Tally
+        ensures { result ≡ spec.with_unit self window unit.now }
+    {
+        let tally = self.in_window(window);
+        let late = u64::from(unit.lateness() > 0);
+        Tally {
+            units: tally.units.saturating_add(1),
+            late: tally.late.saturating_add(late),
+            window_units: tally.window_units.saturating_add(1),
+            window_late: tally.window_late.saturating_add(late),
+            slack: tally.slack.min(unit.slack()),
+            ..tally
+        }
+    }
+
+    /// A unit has ended, if one has.
+    #[tactic(auto, unfolding(crate::specs::Tallies::with_unit_if))]
+    pub fn with_unit_if(self, window: u64, unit: &Option<UnitSeen>) -> Tally
+        ensures { result ≡ spec.with_unit_if self window unit.now }
+    {
+        match unit {
+            None => self,
+            Some(unit) => self.with_unit(window, unit),
+        }
+    }
+
+    /// So many excesses have ended, and a header was not read or none.
+    pub fn with_excesses(self, transport: u64, main: u64, unread: bool) -> Tally
+        ensures { result ≡ spec.with_excesses self transport main unread }
+    {
+        Tally {
+            excesses: self.excesses.saturating_add(transport),
+            main_excesses: self.main_excesses.saturating_add(main),
+            unread: self.unread.saturating_add(u64::from(unread)),
+            ..self
+        }
+    }
+}
