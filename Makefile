@@ -78,7 +78,7 @@ edits:
 
 # Speed, beside a program that reads, copies and writes as many packets and beside a copy of them in memory, in the same run
 # (docs/SPEED.md), and how full a multiplex `plan` fills. Needs python3 and cc beside the kit.
-bench: binary tsjob tsair
+bench: binary tsjob tsair tsview
 	python3 bench/mux.py $(BINARY)
 	python3 bench/air.py $(BINARY) $(TSAIR)
 	python3 bench/slots.py $(BINARY)
@@ -86,6 +86,7 @@ bench: binary tsjob tsair
 	python3 bench/demux.py $(BINARY)
 	python3 bench/monitor.py $(BINARY)
 	python3 bench/tsjob.py $(TSJOB) $(BINARY)
+	python3 bench/tsview.py $(TSVIEW) $(BINARY)
 	python3 bench/packets.py
 	python3 bench/check.py
 	python3 bench/measure.py
