@@ -1,5 +1,5 @@
 -- A packet enters: its header, the begin of a unit, and its payload, one after another.
-use Rattle.std.proofs.Common.{◌≡◌, ◌∙◌, sym, ℕ, ◌+◌, ◌-◌, ◌*◌, ◌≤◌, ◌<◌, ◌&&◌, nat_le, nat_lt, min, true, Bool, List, ◌++◌, Option, Some, None, refl, ap, ap₂, subst, arith}
+use Rattle.std.proofs.Common.{◌≡◌, ◌∙◌, ℕ, ◌+◌, ◌-◌, ◌*◌, ◌≤◌, ◌<◌, ◌&&◌, nat_le, nat_lt, true, List, ◌++◌, Option, Some, None, refl, subst, arith}
 use Rattle.std.proofs.lemmas.Bool.Decides.{nat_tests}
 use Rattle.std.specs.Option.{option_to_list}
 use Rattle.clock27.specs.Arrival.{bytes_from}
@@ -12,7 +12,7 @@ use Rattle.stream_buffers.specs.declared.entered.Entered.{Entered}
 use Rattle.stream_buffers.specs.declared.buffers.StreamBuffers.{StreamBuffers}
 use Rattle.stream_buffers.specs.declared.entering.TheConstants.{LAST_INDEX, LAST_BYTES}
 use Rattle.stream_buffers.specs.Held.{Held, IsHeld, passed, transport_ended}
-use Rattle.stream_buffers.specs.Entering.{EnteredView, after, after_begin, after_header, after_payload, ended_with, entered, entered_view, header_times, payload_main, payload_times, payload_transport, size_of, takes_in, unit_ended, with_packet}
+use Rattle.stream_buffers.specs.Entering.{after, after_begin, after_header, after_payload, ended_with, entered, entered_view, header_times, payload_main, payload_times, payload_transport, size_of, takes_in, unit_ended, with_packet}
 use Rattle.stream_buffers.proofs.Rows.{bytes_held}
 
 -- a packet is taken in

@@ -1,5 +1,5 @@
 -- Bytes of a unit that enter both buffers, and the excess of the main buffer.
-use Rattle.std.proofs.Common.{◌≡◌, ◌∙◌, sym, ℕ, ◌+◌, ◌≤◌, ◌<◌, List, [], ◌∷◌, ◌++◌, Option, Some, None, refl, ap, ap₂, subst, arith}
+use Rattle.std.proofs.Common.{◌≡◌, ◌∙◌, sym, ℕ, ◌+◌, ◌<◌, List, ◌∷◌, Option, Some, None, refl, ap, ap₂, subst, arith}
 use Rattle.clock27.specs.Departure.{departures, last_left}
 use Rattle.clock27.specs.Peak.{greatest_at}
 use Rattle.clock27.proofs.Departures.{last_left-append}
@@ -9,8 +9,8 @@ use Rattle.transport_buffer.specs.declared.transport_buffer.TransportBuffer.{Tra
 use Rattle.transport_buffer.specs.declared.excess.Excess.{Excess}
 use Rattle.decoder_buffers.specs.BufferState.{fullness_at}
 use Rattle.std.specs.Option.{option_to_list}
-use Rattle.stream_view.specs.History.{Part, arrivals_of, transport_of, last_of, left_after, main_fullness, until_of}
-use Rattle.stream_view.specs.History.Part.{Passes, Carries, Begins}
+use Rattle.stream_view.specs.History.{Part, arrivals_of, transport_of, last_of, left_after, main_fullness}
+use Rattle.stream_view.specs.History.Part.{Carries}
 use Rattle.stream_view.specs.Viewed.{IsViewOf}
 use Rattle.stream_view.specs.MainExcess.{after_row, ended_by}
 use Rattle.stream_view.specs.declared.buffers.StreamView.{StreamView}

@@ -1,6 +1,6 @@
 -- What the buffers of a stream hold, by all that came of it: its rate and that out of its transport buffer in bits a second, the
 -- parts of it (the last one first), and the excess of the main buffer that is under way.
-use Rattle.std.specs.Prelude.{◌≡◌, ℕ, List, [], ◌∷◌, Option, Some, None}
+use Rattle.std.specs.Prelude.{◌≡◌, ℕ, List, [], ◌∷◌, Option, None}
 use Rattle.std.specs.Option.{option_to_list}
 use Rattle.clock27.specs.Peak.{greatest_at}
 use Rattle.transport_buffer.specs.declared.excess.Excess.{Excess}

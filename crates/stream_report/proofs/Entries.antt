@@ -1,5 +1,5 @@
 -- Streams one by one.
-use Rattle.std.proofs.Common.{◌≡◌, ◌∙◌, sym, ℕ, zero, suc, Bool, true, false, ◌&&◌, List, [], ◌∷◌, ◌++◌, length, Option, Some, None, ◌≤◌, drop, refl, ap, subst, append_assoc, append-nil, arith}
+use Rattle.std.proofs.Common.{◌≡◌, ◌∙◌, sym, ℕ, zero, suc, Bool, true, false, ◌&&◌, List, [], ◌∷◌, ◌++◌, length, Some, None, ◌≤◌, drop, refl, ap, subst, append_assoc, append-nil, arith}
 use Rattle.std.specs.Prelude.{flat_map, set, slice_get}
 use Rattle.std.specs.List.{list_all}
 use Rattle.stream_report.specs.declared.stream_entry.StreamEntry.{StreamEntry}

@@ -1,5 +1,5 @@
 -- The fields of a line, each by what it says.
-use Rattle.std.proofs.Common.{◌≡◌, List, [], ◌∷◌, map, refl}
+use Rattle.std.proofs.Common.{◌≡◌, [], ◌∷◌, map, refl}
 use Rattle.stream_report.specs.declared.lines.Field.{Field}
 use Rattle.stream_report.specs.ReportLines.{FieldView, field_view}
 

@@ -1,5 +1,5 @@
 -- Packets one by one.
-use Rattle.std.proofs.Common.{◌≡◌, ◌∙◌, sym, ℕ, List, [], ◌∷◌, ◌++◌, refl, ap, subst, append_assoc, append-nil}
+use Rattle.std.proofs.Common.{◌≡◌, ◌∙◌, sym, ℕ, List, [], ◌∷◌, ◌++◌, ap, subst, append_assoc, append-nil}
 use Rattle.stream_report.specs.declared.view.View.{View}
 use Rattle.stream_report.specs.Views.{IsView, ViewState, after_all, after_packet, lines_all, lines_at}
 

@@ -1,5 +1,5 @@
 -- A packet enters the buffers of its PID, or there are none; texts one after another.
-use Rattle.std.proofs.Common.{◌≡◌, ◌∙◌, sym, ℕ, List, [], ◌∷◌, ◌++◌, Option, Some, None, Result, Ok, Err, refl, ap, subst, append_assoc, nat_eq}
+use Rattle.std.proofs.Common.{◌≡◌, ◌∙◌, ℕ, List, [], ◌++◌, Some, None, Result, Ok, Err, refl, ap, append_assoc, nat_eq}
 use Rattle.std.specs.Prelude.{OnOk, set, slice_get}
 use Rattle.std.specs.Map.{lookup}
 use Rattle.ts_packet.specs.Views.{PacketView}

@@ -1,4 +1,4 @@
-use Rattle.std.proofs.Common.{rules, ◌≡◌, ◌++◌, ◌-◌, List, ℕ, subst, string_bytes}
+use Rattle.std.proofs.Common.{rules, ◌≡◌, ◌++◌, List, subst, string_bytes}
 use Rattle.std.specs.Prelude.{OnOk, codes}
 use Rattle.stream_report.specs.ReportLines.{FieldView, field_view, line_of, number_field}
 use Rattle.stream_buffers.specs.declared.entering.TheConstants.{TRANSPORT_BYTES}

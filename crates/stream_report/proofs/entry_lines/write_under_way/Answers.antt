@@ -1,4 +1,4 @@
-use Rattle.std.proofs.Common.{◌≡◌, ◌∙◌, ℕ, List, ◌++◌, Option, ap}
+use Rattle.std.proofs.Common.{◌∙◌, ◌++◌, Option, ap}
 use Rattle.std.specs.Prelude.{codes, string_bytes}
 use Rattle.std.specs.Option.{option_to_list}
 use Rattle.transport_buffer.specs.declared.excess.Excess.{Excess}

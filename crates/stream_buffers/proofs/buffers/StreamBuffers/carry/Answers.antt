@@ -1,7 +1,6 @@
-use Rattle.std.proofs.Common.{◌≡◌, ◌∙◌, ℕ, List, refl, ap}
+use Rattle.std.proofs.Common.{◌≡◌, ◌∙◌, ℕ, refl, ap}
 use Rattle.clock27.specs.Arrival.{bytes_from}
 use Rattle.packet_arrival.specs.Rows.{times_of}
-use Rattle.stream_buffers.specs.Held.{Held}
 use Rattle.stream_buffers.proofs.Rows.{carried_ended, carried_held}
 use Rattle.stream_buffers.proofs.buffers.StreamBuffers.carry.Goals as goal
 

@@ -1,6 +1,5 @@
-use Rattle.std.proofs.Common.{◌≡◌, ◌<◌, ◌≤◌, ℕ, arith}
+use Rattle.std.proofs.Common.{◌≡◌, arith}
 use Rattle.stream_buffers.specs.Entering.{size_of}
-use Rattle.stream_buffers.specs.declared.entering.TheConstants.{LAST_INDEX, LAST_BYTES}
 use Rattle.stream_buffers.proofs.Packets.{packet_entered, packet_held}
 use Rattle.stream_buffers.proofs.buffers.StreamBuffers.enter.Goals as goal
 

@@ -1,4 +1,4 @@
-use Rattle.std.proofs.Common.{◌≡◌, ◌∙◌, ℕ, List, ◌++◌, ap, append_assoc}
+use Rattle.std.proofs.Common.{◌∙◌, ℕ, List, ◌++◌, ap, append_assoc}
 use Rattle.std.specs.Prelude.{string_bytes}
 use Rattle.ts_packet.specs.Views.{packet_view}
 use Rattle.stream_report.specs.Seen.{SeenState, counted}

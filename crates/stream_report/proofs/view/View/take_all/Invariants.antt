@@ -1,4 +1,4 @@
-use Rattle.std.proofs.Common.{◌≡◌, ◌++◌, drop, string_bytes}
+use Rattle.std.proofs.Common.{◌++◌, drop, string_bytes}
 use Rattle.stream_report.specs.Views.{IsView, ViewState, after_all, lines_all}
 use Rattle.stream_report.proofs.Packets.{Settled}
 use Rattle.stream_report.proofs.view.View.take_all.Given as goal
