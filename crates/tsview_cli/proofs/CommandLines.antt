@@ -1,7 +1,7 @@
 -- The command line is one of which `clap` says what it reads.
-use Rattle.std.proofs.Common.{◌≡◌, true, List, [], ◌∷◌, ap, refl, sym, subst, ◌∙◌, Option, None, Result, Ok, Err}
+use Rattle.std.proofs.Common.{◌≡◌, true, List, [], ◌∷◌, refl, sym, subst, Option, None, Result, Ok, Err}
 use Rattle.std.specs.Prelude.{IfOk}
-use Rattle.clap.specs.Words.{App, FailsBy, HasMatchesOf, IsAmong, Kinds, Row, Text, fault_of, found_of, is_simple, is_simple_and_free, matches_of, rows_of}
+use Rattle.clap.specs.Words.{App, FailsBy, HasMatchesOf, IsAmong, Kinds, Text, fault_of, found_of, is_simple, is_simple_and_free, matches_of, rows_of}
 use Rattle.clap.specs.declared.error.Error.{Error}
 use Rattle.clap.specs.declared.error.kind.ErrorKind.{ErrorKind}
 use Rattle.clap.specs.declared.parser.matches.ArgMatches.{ArgMatches}

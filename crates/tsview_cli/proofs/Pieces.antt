@@ -1,5 +1,5 @@
 -- A stream that is viewed piece by piece, whole packets in each but the last.
-use Rattle.std.proofs.Common.{◌≡◌, ◌⊎◌, ℕ, zero, suc, ◌+◌, ◌*◌, ◌/◌, ◌%◌, ◌<◌, ◌≤◌, min, List, [], ◌∷◌, ◌++◌, length, take, drop, refl, sym, ap, ap₂, subst, ◌∙◌, arith, append_assoc, append-nil, length-append, Option, Some, None, Result, Ok, Err, inl, inr}
+use Rattle.std.proofs.Common.{◌≡◌, ℕ, zero, suc, ◌+◌, ◌*◌, ◌/◌, ◌%◌, ◌<◌, min, List, [], ◌∷◌, ◌++◌, length, take, drop, refl, sym, ap, subst, ◌∙◌, arith, append_assoc, length-append, Option, Some, None, Result, Ok, Err, inl, inr}
 use Rattle.std.proofs.KnownBytes.{Appends-nil, Appends-trans}
 use Rattle.std.proofs.lemmas.List.{length-drop, length-take-le, take-append-drop}
 use Rattle.std.specs.Io.KnownBytes.{Appends}
@@ -8,7 +8,7 @@ use Rattle.ts_packet.proofs.Listing.{first_cut}
 use Rattle.stream_report.specs.declared.view.View.{View}
 use Rattle.stream_report.specs.Views.{IsView, ViewState, after_all, after_packet, lines_all, lines_at}
 use Rattle.counted_io.specs.Device.{Failed, IsFront}
-use Rattle.devices.specs.Devices.{Port, Device, between, HasFailed}
+use Rattle.devices.specs.Devices.{Port, Device, between}
 use Rattle.devices.specs.Lines.{Stopped, WritesLine}
 use Rattle.devices.specs.WholeInput.{IsLong, ReadsFront, ReadsInput, TakesInput, longest_input}
 use Rattle.devices.specs.declared.halt.Halt.{Halt}

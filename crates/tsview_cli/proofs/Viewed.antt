@@ -1,22 +1,19 @@
 -- All lines of an input, or those of a front of it.
-use Rattle.std.proofs.Common.{◌≡◌, ℕ, ◌+◌, ◌%◌, Bool, cond, List, [], ◌∷◌, ◌++◌, length, take, refl, sym, ap, ap₂, subst, ◌∙◌, inl, inr, append-nil, Option, Some, None, Result, Ok, Err}
+use Rattle.std.proofs.Common.{◌≡◌, ℕ, ◌+◌, ◌%◌, Bool, cond, List, [], ◌++◌, length, take, refl, sym, ap, subst, ◌∙◌, inl, inr, append-nil, Option, Some, None, Err}
 use Rattle.std.proofs.KnownBytes.{Appends-nil, Appends-trans}
 use Rattle.std.specs.Io.KnownBytes.{Appends}
-use Rattle.ts_packet.specs.PidList.{cut_packets}
 use Rattle.stream_report.specs.declared.view_options.ViewOptions.{ViewOptions}
 use Rattle.stream_report.specs.declared.view.View.{View}
-use Rattle.stream_report.specs.Views.{IsView, ViewState, start, after_all, lines_all, end_lines, is_good}
+use Rattle.stream_report.specs.Views.{IsView, ViewState, start, lines_all, end_lines, is_good}
 use Rattle.counted_io.specs.Device.{Failed}
 use Rattle.devices.specs.Devices.{Port, Device, between}
 use Rattle.devices.specs.Lines.{Stopped, WritesLine}
-use Rattle.devices.specs.Outcomes.{Outcome, halt_line}
-use Rattle.devices.specs.Runs.{IsLedTo}
-use Rattle.devices.specs.WholeInput.{IsWhole, ReadsInput, TakesAll}
+use Rattle.devices.specs.WholeInput.{IsWhole, TakesAll}
 use Rattle.devices.specs.declared.halt.Halt.{Halt}
 use Rattle.devices.specs.declared.halt.Halt.TheVariants.{Read, Write, Memory}
 use Rattle.devices.proofs.Performances.{reports_none}
 use Rattle.tsview_cli.proofs.Pieces.{take_past}
-use Rattle.tsview_cli.specs.Viewing.{BeginsWith, Breaks, BreaksOff, Leads, Seen, SeesAll, Views, all_lines, kept_of, left_in, settled, viewed}
+use Rattle.tsview_cli.specs.Viewing.{BeginsWith, Breaks, BreaksOff, Seen, SeesAll, Views, all_lines, kept_of, settled, viewed}
 
 -- before the first byte
 pub none_seen : (options : ViewOptions) (input output : Port) (halt : Halt) → halt ≡ Memory → BreaksOff options (between input input) (between output output) halt

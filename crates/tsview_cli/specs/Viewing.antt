@@ -1,5 +1,5 @@
 -- A stream that is viewed as it comes: the lines that each piece of it settles are written before the next is read.
-use Rattle.std.specs.Prelude.{◌≡◌, ◌⊎◌, ℕ, ◌%◌, Bool, if◌then◌else◌, List, [], ◌++◌, length, Option, Some, Result, Ok, Err}
+use Rattle.std.specs.Prelude.{◌≡◌, ◌⊎◌, ℕ, ◌%◌, Bool, if◌then◌else◌, List, ◌++◌, length, Option, Some, Result, Ok, Err}
 use Rattle.ts_packet.specs.PidList.{cut_packets}
 use Rattle.stream_report.specs.declared.view_options.ViewOptions.{ViewOptions}
 use Rattle.stream_report.specs.declared.view.View.{View}

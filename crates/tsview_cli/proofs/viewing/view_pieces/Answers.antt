@@ -1,4 +1,4 @@
-use Rattle.std.proofs.Common.{rules, ◌≡◌, ◌+◌, ◌%◌, ◌<◌, ◌≤◌, ◌++◌, ℕ, List, [], length, take, refl, sym, ap, subst, ◌∙◌, arith, string_bytes}
+use Rattle.std.proofs.Common.{rules, ◌≡◌, ◌%◌, ◌++◌, ℕ, List, length, take, refl, sym, ap, subst, ◌∙◌, arith, string_bytes}
 use Rattle.ts_packet.specs.PidList.{cut_packets}
 use Rattle.stream_report.specs.Views.{IsView, ViewState, lines_all}
 use Rattle.devices.specs.Devices.{Port, between}

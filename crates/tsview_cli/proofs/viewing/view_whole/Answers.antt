@@ -1,8 +1,6 @@
-use Rattle.std.proofs.Common.{◌≡◌, ◌%◌, ◌++◌, ℕ, List, [], ap, subst, ◌∙◌, string_bytes}
+use Rattle.std.proofs.Common.{◌≡◌, ◌%◌, ◌++◌, ℕ, List, ap, ◌∙◌}
 use Rattle.stream_report.specs.Views.{IsView, ViewState, end_lines, start}
 use Rattle.devices.specs.Devices.{Device, Port, between}
-use Rattle.devices.specs.WholeInput.{TakesAll}
-use Rattle.tsview_cli.specs.Viewing.{Breaks, Seen}
 use Rattle.tsview_cli.proofs.Viewed.{all_seen, broken, no_end, not_ended}
 use Rattle.tsview_cli.proofs.viewing.view_whole.Goals as goal
 
