@@ -1,7 +1,7 @@
 #!/usr/bin/env python3
 """tsjob.py TSJOB TSMUX: the speed and the memory of `tsjob` on about 46 MB and 150 MB of packets that `tsmux mux` made, of 1 and of 32
-streams of audio and of television, with all tables: the whole job, its description alone (`describe`), its records alone (`units`), as
-processor time, beside a program that reads, copies and writes the packets, and a copy of them in memory. It needs cc."""
+streams of audio and of television, with all tables: the whole job, its description alone (`describe`), its records alone (`units`), its
+records while the stream comes (`units --stream`, by that description), as processor time, beside a program that reads, copies and writes the packets, and a copy of them in memory. It needs cc."""
 
 import subprocess
 import sys
@@ -24,9 +24,12 @@ for name, job in jobs:
                 subprocess.run([tsmux, "mux"], input=job(wanted), stdout=sink, check=True)
             size = stream.stat().st_size
             limit, copy = limit_spent(stream), copy_seconds(size // 188)
-            for word in ([], ["describe"], ["units"]):
+            description = Path(scratch, "description")
+            with open(stream, "rb") as source, open(description, "wb") as sink:
+                subprocess.run([tsjob, "describe"], stdin=source, stdout=sink, check=True)
+            for word in ([], ["describe"], ["units"], ["units", "--stream", str(description)]):
                 done = subprocess.run([tsjob, *word], stdin=open(stream, "rb"), capture_output=True)
                 assert done.returncode == 0, done.stderr[-500:]
                 most = peak_bytes([tsjob, *word], stream)
-                print(beside(" ".join(["tsjob", *word]) + f", {name}, {size / 1e6:.0f} MB", size // 188, least([tsjob, *word], stream), limit, copy)
+                print(beside(" ".join(["tsjob", *word[:2]]) + f", {name}, {size / 1e6:.0f} MB", size // 188, least([tsjob, *word], stream), limit, copy)
                       + f"; {len(done.stdout) / 1e6:.1f} MB of job, at most {most / 1e6:.0f} MB of memory, {most / size:.2f} times the stream")

@@ -1,7 +1,8 @@
 #!/bin/sh
-# run.sh TSJOB TSMUX TSAIR [SECONDS [STREAM]]: a stream of ffmpeg (of so many seconds, 60 where none are named; or STREAM) on air: its job by `tsjob`, its units given as
-# they come due, `tsair`, a pacer, datagrams of seven packets to a loopback socket, and what came there beside `tsmux mux` of the same job, and
-# by the monitor. Status 1 where it differs, or the monitor finds a fault. ffmpeg, mbuffer and socat are Debian's packages of these names.
+# run.sh TSJOB TSMUX TSAIR [SECONDS [STREAM]]: a stream of ffmpeg (of so many seconds, 60 where none are named; or STREAM) on air: a description of it by `tsjob`, the stream
+# in its own time (`ffmpeg -re`), its units as they become whole (`tsjob units --stream`), `tsair`, a pacer, datagrams of seven packets to a loopback socket, and what came there
+# beside `tsmux mux` of the same units in order of DTS, and by the monitor. Status 1 where it differs, or the monitor finds a fault. ffmpeg, mbuffer and socat are Debian's
+# packages of these names.
 set -eu
 here=$(cd "$(dirname "$0")" && pwd)
 tsjob=$1 tsmux=$2 tsair=$3 seconds=${4:-60}
@@ -14,8 +15,6 @@ if [ $# -lt 5 ]; then
 fi
 "$tsjob" describe --whole < "$stream" > "$work/description"
 "$tsmux" plan < "$work/description" > "$work/plan"
-"$tsjob" units --whole < "$stream" > "$work/units"
-cat "$work/description" "$work/plan" "$work/units" | "$tsmux" mux > "$work/wanted.ts"
 rate=$(sed -n 's/^rate = //p' "$work/description")
 
 # One datagram after the other, as they come; a receiver has one of its own socket for each run.
@@ -24,11 +23,14 @@ timeout $((seconds + 30)) socat -u -b 65536 UDP4-RECV:5004,bind=127.0.0.1,so-rcv
 receiver=$!
 sleep 1
 # A pacer counts from its own start, so it begins with the first packets.
-( cat "$work/description" "$work/plan"; "$here/paced-records" < "$work/units" ) | "$tsair" \
+ffmpeg -nostdin -loglevel error -re -i "$stream" -map 0 -c copy -copyts -f mpegts - | tee "$work/aired.ts" | "$tsjob" units --stream "$work/description" \
+    | cat "$work/description" "$work/plan" - | "$tsair" --wait 90000 \
     | ( dd bs=1316 count=1 iflag=fullblock status=none; exec mbuffer -q -m 1M -s 1316 -R $((rate / 8)) ) \
     | socat -u -b 1316 - UDP4-SENDTO:127.0.0.1:5004
 sleep 2
 kill $receiver 2> /dev/null || true
+"$tsjob" units --stream "$work/description" < "$work/aired.ts" | "$here/records-by-dts" > "$work/units"
+cat "$work/description" "$work/plan" "$work/units" | "$tsmux" mux > "$work/wanted.ts"
 ls -l "$work/wanted.ts" "$work/came.ts"
 cmp "$work/wanted.ts" "$work/came.ts"
 "$tsmux" monitor --rate "$rate" < "$work/came.ts" | tail -n 3

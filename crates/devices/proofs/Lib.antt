@@ -1,3 +1,4 @@
 pub mod Numerals
 pub mod TakenInput
 pub mod Performances
+pub mod Telling

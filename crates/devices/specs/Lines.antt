@@ -1,6 +1,6 @@
 -- Lines of text on an output: a name, numbers in decimal digits, and LF.
 use Rattle.std.specs.Prelude.{◌≡◌, ◌⊎◌, ℕ, List, [], ◌∷◌, ◌++◌, length, take, decimal, Result, Ok, Err}
-use Rattle.devices.specs.Devices.{Device, HasFailed, IsClean, Takes}
+use Rattle.devices.specs.Devices.{Device, Port, HasFailed, IsClean, Takes, between}
 use Rattle.devices.specs.declared.halt.Halt.{Halt}
 use Rattle.devices.specs.declared.halt.Halt.TheVariants.{Read, Write, Memory}
 
@@ -18,6 +18,11 @@ pub record Reports (faults : Device) (text : List ℕ) : Type 0 where
   pub taken : ℕ
   pub written : Takes faults (take taken text)
   pub whole : (taken ≡ length text) ⊎ HasFailed faults
+
+-- texts were reported one after another
+unfoldable pub Tells : Port → Port → List (List ℕ) → Type 0
+Tells before after [] = after ≡ before
+Tells before after (text ∷ texts) = (mid : Port) × Reports (between before mid) text × Tells mid after texts
 
 -- a front of the text is written
 pub record Stopped (text : List ℕ) (output : Device) : Type 0 where

@@ -2,6 +2,7 @@
 ghost use Rattle.std.specs.Prelude.{◌≡◌, ◌⊎◌};
 ghost use Rattle.std.specs.Process.{exit_status};
 
+use crate::files::NamedFiles;
 use crate::halt::{Halt, report_halt};
 use counted_io::{Counted, Sink, Source};
 use std::alloc::Global;
@@ -13,12 +14,13 @@ use std::process::ExitCode;
 /// the buffer.
 const INPUT_ROOM: usize = 1 << 16;
 
-/// A program over any reader and two writers.
+/// A program over any files, a reader and two writers.
 pub trait Program {
-    /// Reads the input, writes the output, reports faults, and returns the exit status.
-    fn run<R: Source, W: Sink, E: Sink>(
+    /// Reads the input, writes the output, reports faults, and returns the exit status. It may open files by name.
+    fn run<F: NamedFiles, R: Source, W: Sink, E: Sink>(
         alloc: Global,
         words: &[&str],
+        files: &F,
         input: &mut R,
         output: &mut W,
         faults: &mut E,
@@ -70,9 +72,10 @@ fn status_of<P: Program>(rt: &HostRuntime, writers: &mut Writers) -> u8 {
     let Ok(reader) = BufReader::with_capacity(rt.alloc(), INPUT_ROOM, rt.stdin()) else {
         return report_halt(&mut writers.faults, Halt::Memory);
     };
-    P::run::<_, Counted<Stdout>, Counted<Stderr>>(
+    P::run::<HostRuntime, _, Counted<Stdout>, Counted<Stderr>>(
         rt.alloc(),
         texts.as_slice(),
+        rt,
         &mut Counted::new(reader),
         &mut writers.output,
         &mut writers.faults,

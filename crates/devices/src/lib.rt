@@ -6,9 +6,10 @@
 //! writes a text, and lines of a name and numbers; `halt` is why a program ends early, with the line and the status.
 //! `specs/Runs` says what a program does that reads its whole input and takes all its memory before the first byte
 //! that it writes: to its end, or until a device fails or memory runs out. `options` are the numbers and flags of a
-//! command line. `host` runs a program over the real reader and writers.
+//! command line. `files` opens a file by its name; `host` runs a program over the real reader, writers and files.
 #![tactic(auto)]
 
+mod files;
 mod halt;
 mod host;
 mod lines;
@@ -16,6 +17,7 @@ mod options;
 mod piece_taker;
 mod whole_input;
 
+pub use files::NamedFiles;
 pub use halt::{Halt, report_halt};
 pub use host::{Program, run_program};
 pub use lines::{report_line, report_text, write_line, write_text};

@@ -4,7 +4,7 @@
 #![tactic(auto)]
 
 use counted_io::{Sink, Source};
-use devices::{Program, run_program};
+use devices::{NamedFiles, Program, run_program};
 use std::alloc::Global;
 use std::process::ExitCode;
 use tsair_cli::{report_usage, run};
@@ -12,9 +12,10 @@ use tsair_cli::{report_usage, run};
 struct Tsair;
 
 impl Program for Tsair {
-    fn run<R: Source, W: Sink, E: Sink>(
+    fn run<F: NamedFiles, R: Source, W: Sink, E: Sink>(
         alloc: Global,
         words: &[&str],
+        _files: &F,
         input: &mut R,
         output: &mut W,
         faults: &mut E,

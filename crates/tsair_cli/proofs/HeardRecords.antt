@@ -3,7 +3,8 @@ use Rattle.std.proofs.Common.{◌≡◌, ◌<◌, ◌+◌, ℕ, Bool, true, fals
 use Rattle.std.proofs.lemmas.List.{map-append}
 use Rattle.std.proofs.lemmas.Bool.{lt-ltb}
 use Rattle.devices.specs.Devices.{Device, Port, HasFailed, IsClean, between}
-use Rattle.devices.specs.Lines.{Reports}
+use Rattle.devices.specs.Lines.{Reports, Tells}
+use Rattle.devices.proofs.Telling.{told_more, told_none}
 use Rattle.packet_output.specs.declared.output.OutputFault.{OutputFault}
 use Rattle.unit_records.specs.declared.reading.UnitFileError.TheVariants.{Cut, Size, Device as AtReader, Memory}
 use Rattle.carry.specs.RecordRuns.{after_records}
@@ -15,18 +16,9 @@ use Rattle.on_air.specs.Airing.{Run, Air, heard, silence}
 use Rattle.on_air.specs.AirStates.{AirState, IsOnAir}
 use Rattle.on_air.specs.Hearing.{HasHeard, HeardOn, HearsOn, NamesDevice}
 use Rattle.tsair_cli.specs.declared.hearing.RecordsEnd.{RecordsEnd}
-use Rattle.tsair_cli.specs.HeardRecords.{Airs, EndsRecords, FailsRecords, HearsAll, NamesReader, Tells, has_refused, refusal_line}
+use Rattle.tsair_cli.specs.HeardRecords.{Airs, EndsRecords, FailsRecords, HearsAll, NamesReader, has_refused, refusal_line}
 
 -- 1. Lines
-
-pub told_none : (port : Port) → Tells port port []
-unfolding Tells
-told_none port = refl
-
-pub told_more : (before mid after : Port) (lines : List (List ℕ)) (line : List ℕ) → Tells before mid lines → Reports (between mid after) line → Tells before after (lines ++ (line ∷ []))
-unfolding Tells
-told_more before mid after [] line t r = (after, subst (λ (p : Port). Reports (between p after) line) t r, refl)
-told_more before mid after (first ∷ lines) line t r = (t.0, t.1, told_more t.0 mid after lines line t.2 r)
 
 told_refused : (before mid after : Port) (old new : List (ℕ × AirRefusal)) (refused : ℕ × AirRefusal) → new ≡ old ++ (refused ∷ []) → Tells before mid (map refusal_line old) →
     Reports (between mid after) (refusal_line refused) → Tells before after (map refusal_line new)

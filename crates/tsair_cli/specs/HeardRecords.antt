@@ -1,7 +1,7 @@
 -- The records of a run, heard one after another, and the lines of those that are refused.
 use Rattle.std.specs.Prelude.{◌≡◌, ◌<◌, ℕ, Bool, true, nat_lt, List, [], ◌∷◌, length, map, Option, Some, None, Result, Ok, Err, codes}
 use Rattle.devices.specs.Devices.{Device, Port, HasFailed, IsClean, between}
-use Rattle.devices.specs.Lines.{Reports, line_text}
+use Rattle.devices.specs.Lines.{Tells, line_text}
 use Rattle.packet_output.specs.declared.output.OutputFault.{OutputFault}
 use Rattle.unit_records.specs.declared.reading.UnitFileError.TheVariants.{Cut, Size, Device as AtReader, Memory}
 use Rattle.on_air.specs.declared.refusals.AirRefusal.{AirRefusal}
@@ -17,11 +17,6 @@ use Rattle.tsair_cli.specs.declared.hearing.RecordsEnd.{RecordsEnd}
 -- its number, and why
 abbrev pub refusal_line : ℕ × AirRefusal → List ℕ
 refusal_line refused = line_text (codes "unit") (refused.0 ∷ air_code refused.1 ∷ [])
-
--- lines were reported one after another
-unfoldable pub Tells : Port → Port → List (List ℕ) → Type 0
-Tells before after [] = after ≡ before
-Tells before after (line ∷ lines) = (mid : Port) × Reports (between before mid) line × Tells mid after lines
 
 abbrev pub has_refused : Air → Bool
 has_refused a = nat_lt 0 (length a.refused)

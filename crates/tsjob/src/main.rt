@@ -4,7 +4,7 @@
 #![tactic(auto)]
 
 use counted_io::{Sink, Source};
-use devices::{Program, run_program};
+use devices::{NamedFiles, Program, run_program};
 use std::alloc::Global;
 use std::process::ExitCode;
 use tsjob_cli::{report_usage, run};
@@ -12,14 +12,15 @@ use tsjob_cli::{report_usage, run};
 struct Tsjob;
 
 impl Program for Tsjob {
-    fn run<R: Source, W: Sink, E: Sink>(
+    fn run<F: NamedFiles, R: Source, W: Sink, E: Sink>(
         alloc: Global,
         words: &[&str],
+        files: &F,
         input: &mut R,
         output: &mut W,
         faults: &mut E,
     ) -> u8 {
-        run(alloc, words, input, output, faults)
+        run(alloc, words, files, input, output, faults)
     }
 
     fn report_usage<E: Sink>(faults: &mut E) -> u8 {

@@ -27,7 +27,7 @@ use Rattle.tsjob_cli.specs.declared.arguments.Subcommand.TheVariants.{Whole, Des
 use Rattle.tsjob_cli.specs.Arguments.{JobArgumentsView}
 use Rattle.packet_sync.specs.Slips.{carried_from}
 use Rattle.tsjob_cli.specs.Outcomes.{BytesLead, FindingsLead, GivesJob, IsWritten, Leads, InputLeads, ReportsWhy, Withholds}
-use Rattle.tsjob_cli.specs.Records.{written}
+use Rattle.unit_output.specs.Records.{written}
 use Rattle.tsjob_cli.specs.Streams.{PacketNotesView, TakesCarried, findings_of, notes_of}
 
 -- 1. What a subcommand gives
@@ -119,11 +119,6 @@ pub no_memory_left : (arguments : JobArgumentsView) (bytes : List ℕ) (input ou
 no_memory_left arguments bytes input output faults status r u m s = no_room (Leads arguments) bytes input output faults status r u m s
 
 -- 4. What the words lead to
-
-pub job_for_arguments : (x : Option JobArgumentsView) (a b : JobArgumentsView) (input output faults : Device) (status : ℕ) → Some a ≡ x → x ≡ Some b →
-    Performs (Leads a) input output faults status → Performs (Leads b) input output faults status
-job_for_arguments x a b input output faults status e f p =
-    let same : a ≡ b = (let both : Some a ≡ Some b = e ∙ f in cc) in subst (λ (y : JobArgumentsView). Performs (Leads y) input output faults status) same p
 
 pub no_memory_for_words : (Leads : List ℕ → Outcome → Type 0) (input output faults : Device) (status : ℕ) → IsUntouched input → IsUntouched output →
     Reports faults (halt_line halt.Memory) → status ≡ 3 → Performs Leads input output faults status

@@ -2,5 +2,5 @@ pub mod CommandLines
 pub mod AllOf
 pub mod WarningLines
 pub mod Taking
-pub mod PendingOutput
 pub mod JobOutcomes
+pub mod StreamedUnits

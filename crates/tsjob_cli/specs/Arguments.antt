@@ -79,18 +79,28 @@ unfoldable pub start_of : Option Text → Option Text
 start_of None = Some (codes "2000-01-01T00:00:00")
 start_of (Some text) = if list_all is_of_time text then Some text else None
 
+-- the file of a description whose units are written while the stream comes, where one is named: for units alone
+unfoldable pub stream_of : Subcommand → Option Text → Option (Option Text)
+stream_of subcommand None = Some None
+stream_of Whole (Some name) = None
+stream_of Describe (Some name) = None
+stream_of Units (Some name) = Some (Some name)
+stream_of Why (Some name) = None
+
 -- 2. All of them
 
--- what is written, whether the input is said to be whole, and the options of the job
+-- what is written, the file of a description for a stream that comes, whether the input is said to be whole, and the options of the job
 pub record JobArgumentsView : Type 0 where
   pub subcommand : Subcommand
+  pub stream : Option Text
   pub whole : Bool
   pub options : JobOptionsView
 
 -- with empty lists
-abbrev pub plain : Subcommand → Bool → Option ℕ → Text → ℕ → ℕ → DeclareBy → Bool → ClockBase → JobArgumentsView
-plain subcommand whole rate start pcr_limit lead declare_by make_dts base = record {
+abbrev pub plain : Subcommand → Option Text → Bool → Option ℕ → Text → ℕ → ℕ → DeclareBy → Bool → ClockBase → JobArgumentsView
+plain subcommand stream whole rate start pcr_limit lead declare_by make_dts base = record {
   subcommand = subcommand;
+  stream = stream;
   whole = whole;
   options = record {
     rate = rate;
@@ -112,13 +122,14 @@ plain subcommand whole rate start pcr_limit lead declare_by make_dts base = reco
 unfoldable pub values_of : List Row → Option JobArgumentsView
 values_of rows =
     given (subcommand_of (first_of (codes "subcommand") rows)) (λ subcommand.
+    given (stream_of subcommand (first_of (codes "stream") rows)) (λ stream.
     given (number_if_given least_rate greatest_rate (first_of (codes "rate") rows)) (λ rate.
     given (start_of (first_of (codes "start") rows)) (λ start.
     given (number_option least_limit greatest_limit 40 (first_of (codes "pcr") rows)) (λ pcr_limit.
     given (number_option least_lead greatest_lead greatest_lead (first_of (codes "lead") rows)) (λ lead.
     given (declare_by_of (first_of (codes "declare") rows)) (λ declare_by.
     given (base_of (first_of (codes "base") rows)) (λ base.
-    Some (plain subcommand (is_given (first_of (codes "whole") rows)) rate start pcr_limit lead declare_by (is_given (first_of (codes "make-dts") rows)) base))))))))
+    Some (plain subcommand stream (is_given (first_of (codes "whole") rows)) rate start pcr_limit lead declare_by (is_given (first_of (codes "make-dts") rows)) base)))))))))
 
 -- with lists
 abbrev pub with_lists : List ℕ → List ℕ → List PidBuffers → Option NetworkNameView → List ServiceNameView → JobArgumentsView → JobArgumentsView

@@ -22,6 +22,6 @@ flags_app = with_rule (with_rule times_app (flag_rule (codes "make-dts"))) (flag
 abbrev pub names_app : App
 names_app = with_rule (with_rule (with_rule flags_app (option_rule (codes "base"))) (option_rule (codes "network"))) (option_rule (codes "name"))
 
--- and [--program N,..] [--without PID,..] [--buffers PID:RX:MAIN,..]
+-- and [--program N,..] [--without PID,..] [--buffers PID:RX:MAIN,..] [--stream FILE]
 unfoldable pub tsjob_app : App
-tsjob_app = with_rule (with_rule (with_rule names_app (option_rule (codes "program"))) (option_rule (codes "without"))) (option_rule (codes "buffers"))
+tsjob_app = with_rule (with_rule (with_rule (with_rule names_app (option_rule (codes "program"))) (option_rule (codes "without"))) (option_rule (codes "buffers"))) (option_rule (codes "stream"))

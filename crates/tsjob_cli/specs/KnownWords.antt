@@ -6,7 +6,7 @@ use Rattle.word_faults.specs.CommandLine.{CommandLine, Text}
 use Rattle.tsjob_cli.specs.Arguments.{subcommand_of, base_of, declare_by_of, start_of, least_rate, greatest_rate, least_limit, greatest_limit, least_lead, greatest_lead, greatest_program, greatest_pid}
 use Rattle.tsjob_cli.specs.Lists.{buffer_list, name_list, network_in, number_in, number_list}
 use Rattle.tsjob_cli.specs.declared.known_words.ValueKind.{ValueKind}
-use Rattle.tsjob_cli.specs.declared.known_words.ValueKind.TheVariants.{Number, Numbers, Buffers, Start, Declare, Base, Network, Names}
+use Rattle.tsjob_cli.specs.declared.known_words.ValueKind.TheVariants.{Number, Numbers, Buffers, Start, Declare, Base, Network, Names, FileName}
 
 -- the values of an option, none where it takes none
 unfoldable pub kind_of : Text → Option ValueKind
@@ -21,7 +21,8 @@ kind_of option =
     else (if bytes_eq option (codes "--declare") then Some Declare
     else (if bytes_eq option (codes "--base") then Some Base
     else (if bytes_eq option (codes "--network") then Some Network
-    else (if bytes_eq option (codes "--name") then Some Names else None))))))))))
+    else (if bytes_eq option (codes "--name") then Some Names
+    else (if bytes_eq option (codes "--stream") then Some FileName else None)))))))))))
 
 abbrev pub is_flag : Text → Bool
 is_flag option = bytes_eq option (codes "--make-dts") || bytes_eq option (codes "--whole")
@@ -40,6 +41,7 @@ is_value Declare value = is_some (declare_by_of (Some value))
 is_value Base value = is_some (base_of (Some value))
 is_value Network value = is_some (network_in value)
 is_value Names value = is_some (name_list (Some value))
+is_value FileName value = true
 
 abbrev pub reads_by : Option ValueKind → Text → Bool
 reads_by None value = false

@@ -10,5 +10,5 @@ pub mod SlipLines
 pub mod FieldLines
 pub mod TableLines
 pub mod Streams
-pub mod Records
 pub mod Outcomes
+pub mod StreamedUnits

@@ -36,7 +36,7 @@ use Rattle.tsjob_cli.specs.declared.arguments.Subcommand.TheVariants.{Whole, Des
 use Rattle.tsjob_cli.specs.Arguments.{JobArgumentsView}
 use Rattle.tsjob_cli.specs.ReasonLines.{reason_lines}
 use Rattle.tsjob_cli.specs.FieldLines.{field_lines, told_fields}
-use Rattle.tsjob_cli.specs.Records.{records_of, written}
+use Rattle.unit_output.specs.Records.{records_of, written}
 use Rattle.tsjob_cli.specs.RefusalLine.{refusal_line}
 use Rattle.tsjob_cli.specs.SlipLines.{packets_line, slip_lines}
 use Rattle.tsjob_cli.specs.Streams.{PacketNotesView, findings_of, notes_of}

@@ -20,4 +20,5 @@ usage_text = concat
     ∷ codes "  --name N:NAME[:PROVIDER],..    the names of the services of programs\n"
     ∷ codes "  --make-dts                     DTS are made from PTS\n"
     ∷ codes "  --whole                        the input is no capture: its last PES packets are whole\n"
+    ∷ codes "  --stream FILE                  with units: those of the streams of this description, while the stream comes\n"
     ∷ codes "  --version                      alone: the version, and the kit that proved it\n" ∷ [])

@@ -36,6 +36,8 @@ pub enum Subcommand {
 #[derive(Drop)]
 pub struct JobArguments<'a> {
     pub subcommand: Subcommand,
+    /// The file of a description whose units are written while the stream comes.
+    pub stream: Option<&'a str>,
     /// Whether the input is said to end with its last PES packets: then it is no warning that an end is not known.
     pub whole: bool,
     /// The rate in bits a second, 100,000 to 100,000,000; none: the least rate at which a plan is found.
@@ -74,6 +76,7 @@ impl<'a> Model for JobArguments<'a> {
 
     ghost view = { λ a. record {
       subcommand = a.subcommand;
+      stream = option_map (λ s. s.now) a.stream;
       whole = a.whole;
       options = record {
         rate = a.rate;
@@ -93,6 +96,13 @@ impl<'a> Model for JobArguments<'a> {
 }
 
 impl JobArguments<'_> {
+    /// The file of a description, where one is named.
+    pub fn stream(&self) -> Option<&str>
+        ensures { option_map (λ s. s.now) result ≡ self.now.stream }
+    {
+        self.stream
+    }
+
     /// The options of the job.
     pub fn options(&self) -> JobOptions<'_>
         ensures { result ≡ self.now.options }
@@ -196,12 +206,28 @@ pub(crate) fn start_of<'a>(text: Option<&'a str>) -> Option<&'a str>
     if is_moment(text) { Some(text) } else { None }
 }
 
+// The file of a description, where one is named; none where it is and not units are asked for.
+#[tactic(auto, unfolding(crate::specs::Arguments::stream_of))]
+fn stream_of<'a>(subcommand: Subcommand, text: Option<&'a str>) -> Option<Option<&'a str>>
+    ensures { option_map (λ o. option_map (λ s. s.now) o) result
+        ≡ spec.stream_of subcommand (option_map (λ s. s.now) text.entry) }
+{
+    let Some(name) = text else {
+        return Some(None);
+    };
+    match subcommand {
+        Subcommand::Units => Some(Some(name)),
+        Subcommand::Whole | Subcommand::Describe | Subcommand::Why => None,
+    }
+}
+
 // The options with one value each.
 #[tactic(auto, unfolding(crate::specs::Arguments::values_of))]
 fn values_of<'a>(alloc: Global, matches: &ArgMatches<'a>) -> Option<JobArguments<'a>>
     ensures { result ≡ spec.values_of (rows_of (found_of matches.now)) }
 {
     let subcommand = subcommand_of(text_of(matches, "subcommand"))?;
+    let stream = stream_of(subcommand, text_of(matches, "stream"))?;
     let rate = number_if_given(text_of(matches, "rate"), 100_000, 100_000_000)?;
     let start = start_of(text_of(matches, "start"))?;
     let pcr_limit = number_option(text_of(matches, "pcr"), 1, 100, 40)?;
@@ -210,6 +236,7 @@ fn values_of<'a>(alloc: Global, matches: &ArgMatches<'a>) -> Option<JobArguments
     let base = base_of(text_of(matches, "base"))?;
     Some(JobArguments {
         subcommand,
+        stream,
         whole: is_given(text_of(matches, "whole")),
         rate,
         start,

@@ -56,7 +56,8 @@ fn tsjob<'a>(alloc: Global) -> Result<Command<'a>, AllocError>
     with_names(alloc)?
         .arg(option(alloc, "program"))?
         .arg(option(alloc, "without"))?
-        .arg(option(alloc, "buffers"))
+        .arg(option(alloc, "buffers"))?
+        .arg(option(alloc, "stream"))
 }
 
 /// The values of the options in the words.

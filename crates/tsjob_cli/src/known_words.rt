@@ -31,6 +31,8 @@ pub enum ValueKind {
     Network,
     /// `N:NAME[:PROVIDER],..`
     Names,
+    /// The name of a file.
+    FileName,
 }
 
 // The values of an option; none where it takes none.
@@ -50,6 +52,7 @@ fn kind_of(option: &str) -> Option<ValueKind>
         "--base" => Some(ValueKind::Base),
         "--network" => Some(ValueKind::Network),
         "--name" => Some(ValueKind::Names),
+        "--stream" => Some(ValueKind::FileName),
         _ => None,
     }
 }
@@ -75,6 +78,7 @@ fn is_value(alloc: Global, kind: ValueKind, value: &str) -> Result<bool, AllocEr
         ValueKind::Base => Ok(base_of(Some(value)).is_some()),
         ValueKind::Network => Ok(network_in(alloc, value)?.is_some()),
         ValueKind::Names => Ok(name_list(alloc, Some(value))?.is_some()),
+        ValueKind::FileName => Ok(true),
     }
 }
 

@@ -57,7 +57,7 @@ pub(crate) struct JobText {
 // A contract sees the bytes that are written.
 impl Model for JobText {
     ghost use Rattle.std.specs.Prelude.{ℕ, List, string_bytes};
-    ghost use Rattle.tsjob_cli.specs.Records.{written};
+    ghost use Rattle.unit_output.specs.Records.{written};
 
     ghost Value = { List ℕ };
 

@@ -1,4 +1,4 @@
-//! The program over any reader and two writers.
+//! The program over any files, a reader and two writers.
 
 ghost use Rattle.std.specs.Prelude.{◌≡◌, ◌⊎◌, None, Some, true, false, codes, map};
 ghost use Rattle.devices.specs.Devices.{reads, writes};
@@ -8,16 +8,19 @@ ghost use Rattle.devices.specs.Usage.{TellsUsage};
 ghost use Rattle.tsjob_cli.specs.Arguments.{JobArgumentsView, arguments};
 ghost use Rattle.tsjob_cli.specs.KnownWords.{known_words};
 ghost use Rattle.tsjob_cli.specs.Outcomes as spec;
+ghost use Rattle.tsjob_cli.specs.StreamedUnits.{StreamsUnits};
 ghost use Rattle.tsjob_cli.specs.UsageText.{usage_text};
+ghost use Rattle.word_faults.specs.CommandLine.{Text};
 ghost use Rattle.word_faults.specs.UsageReport.{Prints, is_version, usage_report, version_text};
 
 use crate::arguments::{JobArguments, read_arguments};
 use crate::known_words::KnownWords;
 use crate::outcome::{JobOutcome, JobText, bytes_outcome};
-use crate::records::write_job;
+use crate::streaming::stream_units;
 use counted_io::{Sink, Source};
-use devices::{Halt, read_whole, report_halt, report_text};
+use devices::{Halt, NamedFiles, read_whole, report_halt, report_text};
 use std::alloc::Global;
+use unit_output::write_job;
 use word_faults::answer_other_words;
 
 /// The usage, written to the second writer on a usage error.
@@ -35,6 +38,7 @@ const USAGE: &str = "usage: tsjob [describe|units|why] [OPTIONS] < PACKETS > JOB
   --name N:NAME[:PROVIDER],..    the names of the services of programs
   --make-dts                     DTS are made from PTS
   --whole                        the input is no capture: its last PES packets are whole
+  --stream FILE                  with units: those of the streams of this description, while the stream comes
   --version                      alone: the version, and the kit that proved it
 ";
 
@@ -91,21 +95,47 @@ fn perform<R: Source, W: Sink, E: Sink>(
     }
 }
 
+// Does what the command line asks for, and returns the status.
+fn answer<F: NamedFiles, R: Source, W: Sink, E: Sink>(
+    alloc: Global,
+    files: &F,
+    arguments: &JobArguments<'_>,
+    input: &mut R,
+    output: &mut W,
+    faults: &mut E,
+) -> u8
+    ensures job { arguments.now.stream ≡ None → Performs (spec.Leads arguments.now) (reads R.Source input.old input.new)
+        (writes W.Sink output.old output.new) (writes E.Sink faults.old faults.new) result }
+    ensures stream { (name : Text) → arguments.now.stream ≡ Some name →
+        StreamsUnits (F.contents_of files.now name) (reads R.Source input.old input.new)
+        (writes W.Sink output.old output.new) (writes E.Sink faults.old faults.new) result }
+{
+    match arguments.stream() {
+        Some(name) => stream_units(alloc, files, name, input, output, faults),
+        None => perform(alloc, arguments, input, output, faults),
+    }
+}
+
 /// The whole program: it reads the input, writes the output, writes warnings or the refusal to the second writer, and
 /// returns the exit status: 0 all is carried, 1 refused or a warning of what is lost, 2 a usage error, 3 a device failed or out of
 /// memory.
-#[tactic(auto, using(crate::proofs::JobOutcomes::job_for_arguments, crate::proofs::JobOutcomes::no_memory_for_words))]
-pub fn run<R: Source, W: Sink, E: Sink>(
+#[tactic(auto, using(crate::proofs::JobOutcomes::no_memory_for_words, crate::proofs::StreamedUnits::no_memory_for_stream))]
+pub fn run<F: NamedFiles, R: Source, W: Sink, E: Sink>(
     alloc: Global,
     words: &[&str],
+    files: &F,
     input: &mut R,
     output: &mut W,
     faults: &mut E,
 ) -> u8
     // A transport stream to what the command line asks for.
-    ensures job { (a : JobArgumentsView) → arguments words.now ≡ Some a →
+    ensures job { (a : JobArgumentsView) → arguments words.now ≡ Some a → a.stream ≡ None →
         Performs (spec.Leads a) (reads R.Source input.old input.new) (writes W.Sink output.old output.new)
         (writes E.Sink faults.old faults.new) result }
+    // A stream that comes, to the units of the streams of a description that stands in a file.
+    ensures stream { (a : JobArgumentsView) (name : Text) → arguments words.now ≡ Some a → a.stream ≡ Some name →
+        StreamsUnits (F.contents_of files.now name) (reads R.Source input.old input.new)
+        (writes W.Sink output.old output.new) (writes E.Sink faults.old faults.new) result }
     // `--version` alone.
     ensures version { arguments words.now ≡ None → is_version (map (λ s. s.now) words.now) ≡ true →
         Prints (version_text (codes "tsjob")) (reads R.Source input.old input.new)
@@ -119,7 +149,7 @@ pub fn run<R: Source, W: Sink, E: Sink>(
         (writes E.Sink faults.old faults.new) result }
 {
     match read_arguments(alloc, words) {
-        Ok(Some(arguments)) => perform(alloc, &arguments, input, output, faults),
+        Ok(Some(arguments)) => answer(alloc, files, &arguments, input, output, faults),
         Ok(None) => {
             answer_other_words(alloc, "tsjob", KnownWords, words, usage(), output, faults)
         }

@@ -5,7 +5,7 @@
 #![tactic(auto)]
 
 use counted_io::{Sink, Source};
-use devices::{Program, run_program};
+use devices::{NamedFiles, Program, run_program};
 use std::alloc::Global;
 use std::process::ExitCode;
 use tsview_cli::{report_usage, run};
@@ -13,9 +13,10 @@ use tsview_cli::{report_usage, run};
 struct Tsview;
 
 impl Program for Tsview {
-    fn run<R: Source, W: Sink, E: Sink>(
+    fn run<F: NamedFiles, R: Source, W: Sink, E: Sink>(
         alloc: Global,
         words: &[&str],
+        _files: &F,
         input: &mut R,
         output: &mut W,
         faults: &mut E,

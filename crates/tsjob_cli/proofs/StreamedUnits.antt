@@ -1,0 +1,119 @@
+-- The streams of a description, and a stream that goes by it.
+use Rattle.std.proofs.Common.{◌≡◌, ◌∙◌, ◌<◌, ◌≤◌, ◌+◌, ◌++◌, ℕ, List, [], ◌∷◌, length, drop, get_or, Bool, true, false, Option, Some, None, Result, Ok, Err, refl, sym, ap, subst, add-one, inl, inr, arith}
+use Rattle.std.specs.Prelude.{codes, if◌then◌else◌}
+use Rattle.std.specs.Str.{IsUtf8, is_utf8}
+use Rattle.std.proofs.lemmas.Str.{IsUtf8-from_is_utf8, is_utf8-from_IsUtf8}
+use Rattle.std.proofs.Math.Seq.{drop-cons}
+use Rattle.toml.specs.Parse.{parse_document}
+use Rattle.description.specs.Reading.{description_of}
+use Rattle.description.specs.declared.fault.DescFault.TheVariants as fault
+use Rattle.std.proofs.lemmas.List.{append_assoc, append-nil, drop_all}
+use Rattle.clap.specs.Words.{Text}
+use Rattle.description.specs.Described.{Described, DescribedStream}
+use Rattle.description.specs.declared.fault.DescError.TheVariants as refused_by
+use Rattle.stream_units.specs.UnitSteps.{none_so_far}
+use Rattle.unit_feed.specs.Feeding.{FeedView, FedStreamView}
+use Rattle.unit_output.specs.Passing.{RunsStream}
+use Rattle.devices.specs.Devices.{Device, IsUntouched, Port}
+use Rattle.devices.specs.Lines.{Reports, line_text}
+use Rattle.description.specs.Codes.{fault_code, fault_item}
+use Rattle.description.specs.declared.fault.DescFault.{DescFault}
+use Rattle.devices.specs.Outcomes.{halt_line}
+use Rattle.devices.specs.declared.halt.Halt.TheVariants as halt
+use Rattle.devices.specs.Runs.{Performs}
+use Rattle.description.specs.Ranges.{IsInRange}
+use Rattle.tsjob_cli.specs.Arguments.{JobArgumentsView}
+use Rattle.tsjob_cli.specs.Outcomes.{Leads}
+use Rattle.tsjob_cli.specs.StreamedUnits.{GoesBy, IsDescriptionIn, IsNamedDescription, StreamsUnits, described, fed_stream, none_outcome, refused_line, streams_from}
+use Rattle.tsjob_cli.specs.declared.streaming.NoDescription.{NoDescription}
+use Rattle.tsjob_cli.specs.declared.streaming.NoDescription.TheVariants.{Unopened, Stopped, Refused}
+
+-- 1. The streams of a description, one after another
+
+streams_step : (streams : List DescribedStream) (k : ℕ) (s : DescribedStream) → k < length streams → s ≡ get_or streams k s →
+    streams_from k (drop k streams) ≡ fed_stream k s.pid ∷ streams_from (k + 1) (drop (k + 1) streams)
+unfolding streams_from
+streams_step streams k s below at = rw (drop-cons streams k s below, add-one k, sym at) refl
+
+pub streams_more : (streams : List DescribedStream) (k : ℕ) (s : DescribedStream) (fed next all : List FedStreamView) → k < length streams → s ≡ get_or streams k s →
+    next ≡ fed ++ (fed_stream k s.pid ∷ []) → fed ++ streams_from k (drop k streams) ≡ all → next ++ streams_from (k + 1) (drop (k + 1) streams) ≡ all
+streams_more streams k s fed next all below at grown so =
+    let one : FedStreamView = fed_stream k s.pid in
+    ap (λ (x : List FedStreamView). x ++ streams_from (k + 1) (drop (k + 1) streams)) grown
+    ∙ append_assoc fed (one ∷ []) (streams_from (k + 1) (drop (k + 1) streams))
+    ∙ ap (λ (x : List FedStreamView). fed ++ x) (sym (streams_step streams k s below at)) ∙ so
+
+no_streams : (k : ℕ) → streams_from k [] ≡ []
+unfolding streams_from
+no_streams k = refl
+
+pub streams_all : (streams : List DescribedStream) (k : ℕ) (fed all : List FedStreamView) → length streams ≤ k → fed ++ streams_from k (drop k streams) ≡ all → fed ≡ all
+streams_all streams k fed all over so =
+    sym (append-nil fed) ∙ ap (λ (x : List FedStreamView). fed ++ x) (sym (ap (λ (ss : List DescribedStream). streams_from k ss) (drop_all k streams over) ∙ no_streams k)) ∙ so
+
+-- 2. A description in a file
+
+pub described_text : (bytes text : List ℕ) → text ≡ bytes → IsUtf8 bytes → description_of (parse_document text) ≡ described bytes
+unfolding described
+described_text bytes text e u = ap (λ (x : List ℕ). description_of (parse_document x)) e
+    ∙ sym (ap (λ (b : Bool). if b then description_of (parse_document bytes) else Err (refused_by.Refused fault.Text)) (is_utf8-from_IsUtf8 bytes u))
+
+not_utf8 : (bytes : List ℕ) (b : Bool) → is_utf8 bytes ≡ b → ¬ (IsUtf8 bytes) → b ≡ false
+not_utf8 bytes true e n = absurd (n (IsUtf8-from_is_utf8 bytes e))
+not_utf8 bytes false e n = cc
+
+pub no_text : (bytes : List ℕ) → ¬ (IsUtf8 bytes) → Err (refused_by.Refused fault.Text) ≡ described bytes
+unfolding described
+no_text bytes n = sym (ap (λ (b : Bool). if b then description_of (parse_document bytes) else Err (refused_by.Refused fault.Text)) (not_utf8 bytes (is_utf8 bytes) (let same : is_utf8 bytes ≡ is_utf8 bytes = cc in same) n))
+
+-- whose bytes are those that were read, where they are known
+pub of_text : (known : Option (List ℕ)) (text : List ℕ) (r : Result Described NoDescription) → ((xs : List ℕ) → known ≡ Some xs → text ≡ xs) → IsDescriptionIn text r → IsNamedDescription known r
+of_text known text (Ok d) same is = λ xs e. subst (λ (t : List ℕ). described t ≡ Ok d) (same xs e) is
+of_text known text (Err Unopened) same is = absurd is
+of_text known text (Err (Stopped halt.Read)) same is = tt
+of_text known text (Err (Stopped halt.Write)) same is = absurd (not_memory is)
+  where
+    not_memory : halt.Write ≡ halt.Memory → ⊥
+    not_memory e = absurd cc
+of_text known text (Err (Stopped halt.Memory)) same is = tt
+of_text known text (Err (Refused f)) same is = λ xs e. subst (λ (t : List ℕ). described t ≡ Err (refused_by.Refused f)) (same xs e) is
+
+-- 3. What the words lead to
+
+pub no_memory_for_stream : (known : Option (List ℕ)) (input output faults : Device) (status : ℕ) → IsUntouched input → IsUntouched output → Reports faults (halt_line halt.Memory) → status ≡ 3 →
+    StreamsUnits known input output faults status
+unfolding none_outcome
+no_memory_for_stream known input output faults status i o r s = inr (record { why = Stopped halt.Memory; is = tt; unread = i; unwritten = o; reports = r; status_is = s })
+
+same_arguments : (x : Option JobArgumentsView) (a b : JobArgumentsView) → Some a ≡ x → x ≡ Some b → a ≡ b
+same_arguments x a b e f = let both : Some a ≡ Some b = e ∙ f in cc
+
+pub job_asked : (x : Option JobArgumentsView) (a b : JobArgumentsView) (input output faults : Device) (status : ℕ) → Some a ≡ x → x ≡ Some b → (a.stream ≡ None → Performs (Leads a) input output faults status) →
+    b.stream ≡ None → Performs (Leads b) input output faults status
+job_asked x a b input output faults status e f p =
+    subst (λ (v : JobArgumentsView). v.stream ≡ None → Performs (Leads v) input output faults status) (same_arguments x a b e f) p
+
+pub stream_asked : (x : Option JobArgumentsView) (a b : JobArgumentsView) (known : Option (List ℕ)) (name : Text) (input output faults : Device) (status : ℕ) → Some a ≡ x → x ≡ Some b →
+    (a.stream ≡ Some name → StreamsUnits known input output faults status) → b.stream ≡ Some name → StreamsUnits known input output faults status
+stream_asked x a b known name input output faults status e f p =
+    subst (λ (v : JobArgumentsView). v.stream ≡ Some name → StreamsUnits known input output faults status) (same_arguments x a b e f) p
+
+-- the name of the file is the one that was asked for
+pub same_name : (shown name : Text) (asked : Option Text) → Some shown ≡ asked → asked ≡ Some name → shown ≡ name
+same_name shown name asked e f = let both : Some shown ≡ Some name = e ∙ f in cc
+
+pub named_and_not : (shown : Text) (asked : Option Text) → Some shown ≡ asked → asked ≡ None → ⊥
+named_and_not shown asked e f = let both : Some shown ≡ None = e ∙ f in absurd cc
+
+pub not_and_named : (name : Text) (asked : Option Text) → None ≡ asked → asked ≡ Some name → ⊥
+not_and_named name asked e f = let both : None ≡ Some name = e ∙ f in absurd cc
+
+-- so few streams have numbers of 8 bits
+pub few_streams : (d : Described) (streams : List DescribedStream) → streams ≡ d.streams → IsInRange d → length streams ≤ 256
+few_streams d streams e r = let size : length streams ≡ length d.streams = ap (length {A = DescribedStream}) e in omega (arith, size, r.most_streams)
+
+-- the line of a refusal, by its numbers
+pub refused_reported : (faults : Device) (f : DescFault) (code item : ℕ) → code ≡ fault_code f → item ≡ fault_item f → Reports faults (line_text (codes "description") (code ∷ item ∷ [])) →
+    Reports faults (refused_line f)
+refused_reported faults f code item c i r =
+    subst (λ (n : ℕ). Reports faults (line_text (codes "description") (n ∷ fault_item f ∷ []))) c (subst (λ (n : ℕ). Reports faults (line_text (codes "description") (code ∷ n ∷ []))) i r)

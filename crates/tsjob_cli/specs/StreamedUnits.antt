@@ -1,0 +1,97 @@
+-- The units of the streams of a description, while a stream comes.
+use Rattle.std.specs.Str.{is_utf8}
+use Rattle.std.specs.Prelude.{◌≡◌, ◌⊎◌, ℕ, ◌+◌, true, List, [], ◌∷◌, map, Option, Some, None, Result, Ok, Err, codes, if◌then◌else◌, ⊤}
+use Rattle.description.specs.Described.{Described, DescribedStream}
+use Rattle.description.specs.declared.fault.DescError.{DescError}
+use Rattle.description.specs.declared.fault.DescError.TheVariants as refused_by
+use Rattle.stream_units.specs.UnitSteps.{none_so_far}
+use Rattle.unit_feed.specs.Feeding.{FeedView, FedStreamView}
+use Rattle.unit_output.specs.Passing.{RunsStream}
+use Rattle.description.specs.Codes.{fault_code, fault_item}
+use Rattle.description.specs.Reading.{description_of}
+use Rattle.description.specs.declared.fault.DescFault.{DescFault}
+use Rattle.description.specs.declared.fault.DescFault.TheVariants as fault
+use Rattle.toml.specs.Parse.{parse_document}
+use Rattle.devices.specs.Devices.{Device, IsUntouched}
+use Rattle.devices.specs.Lines.{Reports, line_text}
+use Rattle.devices.specs.Outcomes.{Outcome, halted, reported}
+use Rattle.devices.specs.Runs.{LacksMemory}
+use Rattle.devices.specs.declared.halt.Halt.TheVariants.{Read, Write, Memory}
+use Rattle.tsjob_cli.specs.declared.streaming.NoDescription.{NoDescription}
+use Rattle.tsjob_cli.specs.declared.streaming.NoDescription.TheVariants.{Unopened, Stopped, Refused}
+
+-- 1. The streams of a description
+
+-- the first unit of all is due so late, in units of 90 kHz: a unit leaves a second before it is due at most, and streams that
+-- begin up to 2 s earlier are then still due late enough
+abbrev pub earliest : ℕ
+earliest = 270000
+
+-- one with its number, before its first unit
+abbrev pub fed_stream : ℕ → ℕ → FedStreamView
+fed_stream number pid = record { number = number; before = None; units = none_so_far pid true }
+
+-- all of them, the first of these with number k
+unfoldable pub streams_from : ℕ → List DescribedStream → List FedStreamView
+streams_from k [] = []
+streams_from k (s ∷ streams) = fed_stream k s.pid ∷ streams_from (k + 1) streams
+
+abbrev pub feed_of : Described → FeedView
+feed_of d = record { earliest = earliest; base = None; streams = streams_from 0 d.streams }
+
+abbrev pub pids_of : Described → List ℕ
+pids_of d = map (λ s. s.pid) d.streams
+
+-- 2. The description in a file, of which these bytes are known
+
+-- the description in bytes; bytes that are no UTF-8 are no TOML
+unfoldable pub described : List ℕ → Result Described DescError
+described bytes = if is_utf8 bytes then description_of (parse_document bytes) else Err (refused_by.Refused fault.Text)
+
+abbrev pub IsDescriptionIn : List ℕ → Result Described NoDescription → Type 0
+IsDescriptionIn text (Ok d) = described text ≡ Ok d
+IsDescriptionIn text (Err Unopened) = ⊥
+IsDescriptionIn text (Err (Stopped halt)) = halt ≡ Memory
+IsDescriptionIn text (Err (Refused f)) = described text ≡ Err (refused_by.Refused f)
+
+-- of a file that is opened and read; where its bytes are not known, nothing is said of the description
+abbrev pub IsNamedDescription : Option (List ℕ) → Result Described NoDescription → Type 0
+IsNamedDescription known (Ok d) = (text : List ℕ) → known ≡ Some text → described text ≡ Ok d
+IsNamedDescription known (Err Unopened) = ⊤
+IsNamedDescription known (Err (Stopped Read)) = ⊤
+IsNamedDescription known (Err (Stopped Write)) = ⊥
+IsNamedDescription known (Err (Stopped Memory)) = ⊤
+IsNamedDescription known (Err (Refused f)) = (text : List ℕ) → known ≡ Some text → described text ≡ Err (refused_by.Refused f)
+
+-- what is told where there is none
+abbrev pub refused_line : DescFault → List ℕ
+refused_line f = line_text (codes "description") (fault_code f ∷ fault_item f ∷ [])
+
+unfoldable pub none_outcome : NoDescription → Outcome
+none_outcome Unopened = record { output = []; report = line_text (codes "open") []; status = 3 }
+none_outcome (Stopped halt) = halted halt
+none_outcome (Refused f) = reported (refused_line f)
+
+-- 3. What is done
+
+-- the stream goes by a description; or there is no memory for what is kept of its streams
+abbrev pub GoesBy : Described → Device → Device → Device → ℕ → Type 0
+GoesBy d input output faults status = RunsStream (feed_of d) (pids_of d) input output faults status ⊎ LacksMemory input output faults status
+
+-- there is a description in the file
+pub record GoesByFile (known : Option (List ℕ)) (input output faults : Device) (status : ℕ) : Type 0 where
+  pub description : Described
+  pub is : IsNamedDescription known (Ok description)
+  pub goes : GoesBy description input output faults status
+
+-- there is none: nothing is read and nothing written
+pub record HasNoDescription (known : Option (List ℕ)) (input output faults : Device) (status : ℕ) : Type 0 where
+  pub why : NoDescription
+  pub is : IsNamedDescription known (Err why)
+  pub unread : IsUntouched input
+  pub unwritten : IsUntouched output
+  pub reports : Reports faults (none_outcome why).report
+  pub status_is : status ≡ (none_outcome why).status
+
+abbrev pub StreamsUnits : Option (List ℕ) → Device → Device → Device → ℕ → Type 0
+StreamsUnits known input output faults status = GoesByFile known input output faults status ⊎ HasNoDescription known input output faults status

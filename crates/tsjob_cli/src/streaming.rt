@@ -1,0 +1,172 @@
+//! The units of the streams of a description, while a stream comes.
+
+ghost use Rattle.std.specs.Prelude.{◌≡◌, ◌⊎◌, ◌≤◌, ◌<◌, ◌++◌, ◌∷◌, [], Err, IfOk, OnOk, length};
+ghost use Rattle.devices.specs.Devices.{reads, writes};
+ghost use Rattle.devices.specs.Lines.{Reports};
+ghost use Rattle.tsjob_cli.specs.StreamedUnits as spec;
+
+use counted_io::{Sink, Source};
+use description::{DescError, DescFault, Description, StreamDescription};
+use devices::{Halt, NamedFiles, read_whole, report_halt, report_line};
+use std::alloc::{AllocError, Global};
+use unit_feed::{FedStream, UnitFeed};
+use unit_output::pass_stream;
+
+/// When the first unit of all is due, in units of 90 kHz.
+const EARLIEST: u64 = 270_000;
+
+/// Why no description is had of a file.
+#[derive(Clone, Copy)]
+pub(crate) enum NoDescription {
+    /// No file of this name can be opened.
+    Unopened,
+    /// It can't be read, or out of memory.
+    Stopped(Halt),
+    /// The description is refused.
+    Refused(DescFault),
+}
+
+// Adds the stream of a number and a PID, before its first unit.
+fn push_stream(fed: &mut Vec<FedStream>, number: usize, pid: u16) -> Result<(), AllocError>
+    requires { number < 256 }
+    ensures { OnOk result (fed.new.items ≡ fed.old.items ++ (spec.fed_stream number pid ∷ [])) }
+{
+    fed.push(FedStream::new(number as u8, pid))?;
+    Ok(())
+}
+
+// Each stream of a description, before its first unit.
+fn fed_streams(alloc: Global, streams: &[StreamDescription]) -> Result<Vec<FedStream>, AllocError>
+    requires { length streams.now ≤ 256 }
+    ensures { IfOk result (λ fed. fed.items ≡ spec.streams_from 0 streams.now) }
+{
+    let mut fed = Vec::new(alloc);
+    for (k, stream) in streams.iter().enumerate() {
+        push_stream(&mut fed, k, stream.pid)?;
+    }
+    Ok(fed)
+}
+
+// The PID of each stream of a description.
+fn pids_of(alloc: Global, description: &Description) -> Result<Vec<u16>, AllocError>
+    ensures { IfOk result (λ pids. pids.items ≡ spec.pids_of description.now) }
+{
+    description
+        .streams()
+        .iter()
+        .map(|stream| stream.pid)
+        .collect(alloc)
+}
+
+// The streams of a description, before the first byte.
+#[tactic(auto, using(crate::proofs::StreamedUnits::few_streams))]
+fn feed_of(alloc: Global, description: &Description) -> Result<UnitFeed, AllocError>
+    ensures { IfOk result (λ feed. feed ≡ spec.feed_of description.now) }
+{
+    let streams = fed_streams(alloc, description.streams())?;
+    Ok(UnitFeed::new(EARLIEST, streams))
+}
+
+// The description in bytes.
+fn read_description(alloc: Global, bytes: &[u8]) -> Result<Description, DescError>
+    ensures { (result ≡ Err DescError.Memory) ⊎ (result ≡ spec.described bytes.now) }
+{
+    match str::from_utf8(bytes) {
+        Ok(text) => Description::read(alloc, text),
+        Err(_) => Err(DescError::Refused(DescFault::Text)),
+    }
+}
+
+// The description in the bytes of a file.
+fn description_in(alloc: Global, text: &[u8]) -> Result<Description, NoDescription>
+    ensures { spec.IsDescriptionIn text.now result }
+{
+    match read_description(alloc, text) {
+        Ok(description) => Ok(description),
+        Err(DescError::Refused(fault)) => Err(NoDescription::Refused(fault)),
+        Err(DescError::Memory) => Err(NoDescription::Stopped(Halt::Memory)),
+    }
+}
+
+// The description in the file of a name.
+fn named_description<F: NamedFiles>(
+    alloc: Global,
+    files: &F,
+    name: &str,
+) -> Result<Description, NoDescription>
+    ensures { spec.IsNamedDescription (F.contents_of files.now name.now) result }
+{
+    let Some(mut file) = files.open_named(name) else {
+        return Err(NoDescription::Unopened);
+    };
+    match read_whole(alloc, &mut file) {
+        Ok(text) => description_in(alloc, &text),
+        Err(halt) => Err(NoDescription::Stopped(halt)),
+    }
+}
+
+// Reports that a description is refused.
+fn report_refused<E: Sink>(faults: &mut E, fault: DescFault)
+    ensures { Reports (writes E.Sink faults.old faults.new) (spec.refused_line fault) }
+{
+    let numbers = [fault.code() as u128, fault.item() as u128];
+    report_line(faults, "description", &numbers);
+}
+
+// Reports why no description is had, and returns the status.
+#[tactic(auto, unfolding(crate::specs::StreamedUnits::none_outcome))]
+fn report_none<E: Sink>(faults: &mut E, why: NoDescription) -> u8
+    ensures report { Reports (writes E.Sink faults.old faults.new) (spec.none_outcome why).report }
+    ensures status { result ≡ (spec.none_outcome why).status }
+{
+    match why {
+        NoDescription::Unopened => {
+            report_line(faults, "open", &[]);
+            3
+        }
+        NoDescription::Stopped(halt) => report_halt(faults, halt),
+        NoDescription::Refused(fault) => {
+            report_refused(faults, fault);
+            1
+        }
+    }
+}
+
+// Goes by a description: the units of its streams are written while the stream comes. Returns the status.
+fn stream_by<R: Source, W: Sink, E: Sink>(
+    alloc: Global,
+    description: &Description,
+    input: &mut R,
+    output: &mut W,
+    faults: &mut E,
+) -> u8
+    ensures { spec.GoesBy description.now (reads R.Source input.old input.new) (writes W.Sink output.old output.new)
+        (writes E.Sink faults.old faults.new) result }
+{
+    let Ok(feed) = feed_of(alloc, description) else {
+        return report_halt(faults, Halt::Memory);
+    };
+    let Ok(pids) = pids_of(alloc, description) else {
+        return report_halt(faults, Halt::Memory);
+    };
+    pass_stream(alloc, feed, &pids, input, output, faults)
+}
+
+/// Writes the units of the streams of a description while the stream comes; the description is in the file of a name. Returns the
+/// status.
+pub(crate) fn stream_units<F: NamedFiles, R: Source, W: Sink, E: Sink>(
+    alloc: Global,
+    files: &F,
+    name: &str,
+    input: &mut R,
+    output: &mut W,
+    faults: &mut E,
+) -> u8
+    ensures { spec.StreamsUnits (F.contents_of files.now name.now) (reads R.Source input.old input.new)
+        (writes W.Sink output.old output.new) (writes E.Sink faults.old faults.new) result }
+{
+    match named_description(alloc, files, name) {
+        Ok(description) => stream_by(alloc, &description, input, output, faults),
+        Err(why) => report_none(faults, why),
+    }
+}

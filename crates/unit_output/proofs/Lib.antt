@@ -1,0 +1,2 @@
+pub mod PendingOutput
+pub mod PassedStreams

@@ -1,0 +1,41 @@
+-- What goes out of what a stream feeds: the records of its units, and a line for each unit that has no moment.
+use Rattle.std.specs.Prelude.{ℕ, Bool, true, false, List, [], ◌∷◌, Ok, Err, codes, slice_get, unwrap_or}
+use Rattle.std.specs.List.{flat_map, list_any}
+use Rattle.unit_records.specs.Records.{record_bytes}
+use Rattle.stream_units.specs.declared.stamps.StampFault.{StampFault}
+use Rattle.stream_units.specs.declared.stamps.StampFault.TheVariants.{DtsNotIncreasing, PtsOutOfRange, DtsTooFar}
+use Rattle.unit_feed.specs.Feeding.{Fed}
+use Rattle.devices.specs.Lines.{line_text}
+
+-- the record of a unit with the number of its stream
+unfoldable pub fed_record : Fed → List ℕ
+fed_record (n, Ok u) = record_bytes n u
+fed_record (n, Err fault) = []
+
+abbrev pub fed_records : List Fed → List ℕ
+fed_records fed = flat_map fed_record fed
+
+-- why a unit of a PID has no moment, and by how much, in units of 90 kHz
+unfoldable pub fault_line : ℕ → StampFault → List ℕ
+fault_line pid (DtsNotIncreasing by) = line_text (codes "dts-falls") (pid ∷ by ∷ [])
+fault_line pid (PtsOutOfRange by) = line_text (codes "pts-range") (pid ∷ by ∷ [])
+fault_line pid DtsTooFar = line_text (codes "dts-far") (pid ∷ [])
+
+-- the PID of the stream of a number
+abbrev pub pid_at : List ℕ → ℕ → ℕ
+pid_at pids n = unwrap_or (slice_get pids n) 0
+
+-- a line where it has none
+unfoldable pub lines_of : List ℕ → Fed → List (List ℕ)
+lines_of pids (n, Ok u) = []
+lines_of pids (n, Err fault) = fault_line (pid_at pids n) fault ∷ []
+
+abbrev pub fed_lines : List ℕ → List Fed → List (List ℕ)
+fed_lines pids fed = flat_map (lines_of pids) fed
+
+unfoldable pub has_fault : Fed → Bool
+has_fault (n, Ok u) = false
+has_fault (n, Err fault) = true
+
+abbrev pub have_fault : List Fed → Bool
+have_fault fed = list_any has_fault fed

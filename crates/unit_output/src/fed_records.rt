@@ -1,0 +1,122 @@
+//! What a stream feeds: records on an output, and lines for units that have no moment.
+
+ghost use Rattle.std.specs.Prelude.{◌≡◌, ◌++◌};
+ghost use Rattle.devices.specs.Devices.{writes};
+ghost use Rattle.devices.specs.Lines.{Reports, Tells, WritesLine};
+ghost use Rattle.unit_output.specs.FedLines as spec;
+ghost use Rattle.unit_output.specs.Records.{Puts};
+
+use crate::records::{ROOM, flush, put_record};
+use arrayvec::ArrayVec;
+use counted_io::Sink;
+use devices::{Halt, report_line};
+use pes_packet::Unit;
+use stream_units::StampFault;
+
+// Puts the record of a unit that is fed, where it has a moment.
+#[tactic(auto, unfolding(crate::specs::FedLines::fed_record))]
+fn put_fed<W: Sink>(
+    to: &mut W,
+    pending: &mut ArrayVec<u8, ROOM>,
+    fed: &(u8, Result<Unit, StampFault>),
+) -> Result<(), Halt>
+    ensures { Puts (writes W.Sink to.old to.new) (pending.old.items ++ spec.fed_record fed.now) pending.new.items result }
+{
+    match &fed.1 {
+        Ok(unit) => put_record(to, pending, fed.0, unit),
+        Err(_) => Ok(()),
+    }
+}
+
+// Puts the records of all that is fed.
+fn put_all_fed<W: Sink>(
+    to: &mut W,
+    pending: &mut ArrayVec<u8, ROOM>,
+    fed: &[(u8, Result<Unit, StampFault>)],
+) -> Result<(), Halt>
+    ensures { Puts (writes W.Sink to.old to.new) (pending.old.items ++ spec.fed_records fed.now) pending.new.items result }
+{
+    for one in fed {
+        match put_fed(to, pending, one) {
+            Ok(()) => {}
+            Err(halt) => return Err(halt),
+        }
+    }
+    Ok(())
+}
+
+/// Writes the records of all that is fed.
+pub(crate) fn write_fed<W: Sink>(
+    to: &mut W,
+    fed: &[(u8, Result<Unit, StampFault>)],
+) -> Result<(), Halt>
+    ensures { WritesLine (spec.fed_records fed.now) (writes W.Sink to.old to.new) result }
+{
+    let mut pending = ArrayVec::new();
+    match put_all_fed(to, &mut pending, fed) {
+        Ok(()) => flush(to, &mut pending),
+        Err(halt) => Err(halt),
+    }
+}
+
+// The PID of the stream of a number.
+fn pid_at(pids: &[u16], number: u8) -> u16
+    ensures { result ≡ spec.pid_at pids.now number }
+{
+    match pids.get(number as usize) {
+        Some(pid) => *pid,
+        None => 0,
+    }
+}
+
+// Reports why a unit of a PID has no moment.
+#[tactic(auto, unfolding(crate::specs::FedLines::fault_line))]
+fn report_fault<E: Sink>(faults: &mut E, pid: u16, fault: StampFault)
+    ensures { Reports (writes E.Sink faults.old faults.new) (spec.fault_line pid fault) }
+{
+    let pid = u128::from(pid);
+    match fault {
+        StampFault::DtsNotIncreasing(by) => report_line(
+            faults,
+            "dts-falls",
+            &[pid, u128::from(by)],
+        ),
+        StampFault::PtsOutOfRange(by) => report_line(faults, "pts-range", &[pid, u128::from(by)]),
+        StampFault::DtsTooFar => report_line(faults, "dts-far", &[pid]),
+    }
+}
+
+// Reports a unit that is fed, where it has no moment, and returns whether it has none.
+#[tactic(auto, unfolding(crate::specs::FedLines::has_fault))]
+fn tell_one<E: Sink>(faults: &mut E, pids: &[u16], fed: &(u8, Result<Unit, StampFault>)) -> bool
+    ensures tells { Tells (writes E.Sink faults.old faults.new).before (writes E.Sink faults.old faults.new).after
+        (spec.lines_of pids.now fed.now) }
+    ensures found { result ≡ spec.has_fault fed.now }
+{
+    match &fed.1 {
+        Ok(_) => false,
+        Err(fault) => {
+            report_fault(faults, pid_at(pids, fed.0), *fault);
+            true
+        }
+    }
+}
+
+/// Reports each unit that has no moment, and returns whether there is one.
+pub(crate) fn tell_faults<E: Sink>(
+    faults: &mut E,
+    pids: &[u16],
+    fed: &[(u8, Result<Unit, StampFault>)],
+) -> bool
+    ensures tells { Tells (writes E.Sink faults.old faults.new).before (writes E.Sink faults.old faults.new).after
+        (spec.fed_lines pids.now fed.now) }
+    ensures found { result ≡ spec.have_fault fed.now }
+{
+    let mut found = false;
+    for one in fed {
+        if tell_one(faults, pids, one) {
+            found = true;
+        }
+    }
+    found
+}
