@@ -1,0 +1,110 @@
+//! The lines for the conditions that a plan does not keep: the first.
+
+ghost use Rattle.std.specs.Prelude.{◌≡◌, ◌++◌, OnOk, option_map, string_bytes};
+ghost use Rattle.plan_checker.specs.Refusals.{entry_of};
+ghost use Rattle.reason_lines.specs.ConditionLines as spec;
+
+use crate::buffer_conditions::{write_lead, write_main_buffer, write_system, write_transport};
+use crate::item_names::write_stream_name;
+use crate::shape_conditions::write_shape;
+use crate::slot_conditions::{write_claim, write_pcr_gap, write_stream_rate, write_table_gap};
+use description::Description;
+use plan_checker::{Condition, Refusal, check};
+use slot_plan::Plan;
+use std::alloc::AllocError;
+use std::fmt::Write;
+
+// Appends the line of a claim of spread.
+fn write_spread(
+    description: &Description,
+    refusal: Refusal,
+    text: &mut String,
+) -> Result<(), AllocError>
+    ensures { OnOk result (string_bytes text.new
+        ≡ string_bytes text.old ++ spec.spread_line description.now (entry_of refusal)) }
+{
+    write_stream_name(description, refusal.item as usize, text)?;
+    write_claim("spread", refusal.right, refusal.left, text)
+}
+
+// Appends the line of a condition on two plans.
+fn write_switch(refusal: Refusal, text: &mut String) -> Result<(), AllocError>
+    ensures { OnOk result (string_bytes text.new ≡ string_bytes text.old ++ spec.switch_line (entry_of refusal)) }
+{
+    let Refusal {
+        condition,
+        part,
+        item,
+        left,
+        right,
+        ..
+    } = refusal;
+    let code = condition.code();
+    write!(
+        text,
+        "condition {code} part {part} item {item}: {left}, at most {right}\n"
+    )
+}
+
+// Appends the line of a condition.
+#[tactic(auto, unfolding(crate::specs::ConditionLines::line_for))]
+fn write_condition(
+    description: &Description,
+    refusal: Refusal,
+    text: &mut String,
+) -> Result<(), AllocError>
+    ensures { OnOk result (string_bytes text.new
+        ≡ string_bytes text.old ++ spec.condition_line description.now (entry_of refusal)) }
+{
+    let item = refusal.item as usize;
+    let streams = description.streams();
+    match refusal.condition {
+        Condition::Shape => write_shape(description, refusal, text),
+        Condition::PcrGap => write_pcr_gap(description, refusal, text),
+        Condition::TableGap => write_table_gap(description, refusal, text),
+        Condition::Spread => write_spread(description, refusal, text),
+        Condition::StreamRate => {
+            write_stream_rate(description.rate(), refusal, streams.get(item), text)
+        }
+        Condition::TransportBuffer => write_transport(description, refusal, text),
+        Condition::StreamLead => write_lead(refusal, streams.get(item), text),
+        Condition::MainBuffer => write_main_buffer(refusal, streams.get(item), text),
+        Condition::SystemBuffer => write_system(description, refusal, text),
+        Condition::PcrSwitch
+        | Condition::TableSwitch
+        | Condition::WorkSwitch
+        | Condition::LeadSwitch
+        | Condition::MainSwitch => write_switch(refusal, text),
+    }
+}
+
+// Appends the line of a refusal, where there is one.
+#[tactic(auto, unfolding(crate::specs::ConditionLines::line_of_first))]
+fn write_refusal(
+    description: &Description,
+    refusal: Option<Refusal>,
+    text: &mut String,
+) -> Result<(), AllocError>
+    ensures { OnOk result (string_bytes text.new
+        ≡ string_bytes text.old ++ spec.line_of_first description.now (option_map entry_of refusal)) }
+{
+    match refusal {
+        Some(refusal) => write_condition(description, refusal, text),
+        None => Ok(()),
+    }
+}
+
+/// Appends the line of the first condition that a plan does not keep.
+pub fn write_first_condition(
+    description: Description,
+    plan: Plan,
+    text: &mut String,
+) -> Result<(), AllocError>
+    ensures { OnOk result (string_bytes text.new
+        ≡ string_bytes text.old ++ spec.first_condition_line description plan) }
+{
+    match check(description, plan) {
+        Ok(checked) => write_refusal(checked.description(), None, text),
+        Err((refusal, description, _)) => write_refusal(&description, Some(refusal), text),
+    }
+}
