@@ -1,5 +1,5 @@
 -- Rates that are tried one after another.
-use Rattle.std.proofs.Common.{◌≡◌, ◌≤◌, ◌<◌, ℕ, zero, suc, ◌+◌, ◌-◌, true, false, nat_le, List, [], ◌∷◌, ◌++◌, map, All, refl, sym, subst, ap, ◌∙◌, arith, append_assoc, append-nil, Option, Some, None}
+use Rattle.std.proofs.Common.{◌≡◌, ◌≤◌, ◌<◌, ℕ, zero, suc, ◌+◌, ◌-◌, true, false, nat_le, List, [], ◌∷◌, ◌++◌, map, All, refl, sym, subst, ap, ◌∙◌, arith, append_assoc, append-nil}
 use Rattle.std.proofs.lemmas.Bool.Decides.{nat_tests}
 use Rattle.std.proofs.lemmas.List.Elements.{All-nil, All-cons, All-append}
 use Rattle.std.proofs.lemmas.List.FromFn.{map-range_with_len_more}
@@ -7,9 +7,7 @@ use Rattle.std.specs.List.{range_with_len}
 use Rattle.demux.specs.Views.{FindingView}
 use Rattle.stream_jobs.specs.JobInput.{JobInputView}
 use Rattle.stream_jobs.specs.Rates.{IsTriedFrom, IsUnserved, next_rate, rates_from, tried_rates}
-use Rattle.stream_jobs.specs.WhyNoJob.{IsWhyNoReasons}
 use Rattle.stream_jobs.specs.JobOptions.{JobOptionsView}
-use Rattle.stream_jobs.specs.declared.refusal.JobError.TheVariants.{Memory}
 
 low : (rate : ℕ) → rate ≤ 100_000_000 → nat_le rate 100_000_000 ≡ true
 low rate h = grind (arith, nat_tests)
@@ -88,8 +86,3 @@ pushed_table f old now n so_far = rw (so_far, tables_more f n) (append_assoc old
 
 pub all_tables : {X : Type 0} (f : ℕ → X) (old : List X) (now : List X) (n count : ℕ) → now ≡ old ++ map f (range_with_len 0 n) → n ≡ count → now ≡ old ++ map f (range_with_len 0 count)
 all_tables f old now n count so_far same = so_far ∙ ap (λ k. old ++ map f (range_with_len 0 k)) same
-
--- there is no memory for reasons
-pub memory_is_why : (rate : Option ℕ) (options : JobOptionsView) (findings : List FindingView) (input : JobInputView) → IsWhyNoReasons rate options findings input Memory
-memory_is_why (Some asked) options findings input = tt
-memory_is_why None options findings input = tt

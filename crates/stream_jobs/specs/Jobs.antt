@@ -5,8 +5,6 @@ use Rattle.pes_packet.specs.AccessUnits.{AccessUnit}
 use Rattle.pes_packet.specs.Units.{units_of}
 use Rattle.demux.specs.Views.{FindingView}
 use Rattle.description.specs.Described.{Described, DescribedStream}
-use Rattle.plan_search.specs.Reasons.{reasons_of}
-use Rattle.plan_search.specs.declared.reason.Reason.{Reason}
 use Rattle.unit_timing.specs.declared.allowance.Allowance.{Allowance}
 use Rattle.unit_timing.specs.declared.allowance.Allowance.TheVariants.{Groups, Pace}
 use Rattle.stream_units.specs.Declaration.{min_interval, max_unit_size, group_packets, burst_packets}
@@ -126,12 +124,10 @@ pub record IsJob (options : JobOptionsView) (findings : List FindingView) (input
   pub read : IsText d text
   pub merged : AreMerged (map (λ s. s.units) input.streams) units
 
--- 5. The reasons why no plan serves a description
+-- 5. The description for which reasons are looked for
 
 -- at the rate that is asked for, else at the least at which all have slots
-pub record AreReasons (options : JobOptionsView) (findings : List FindingView) (input : JobInputView) (reasons : List Reason) : Type 0 where
+pub record IsUnplanned (options : JobOptionsView) (findings : List FindingView) (input : JobInputView) (description : Described) : Type 0 where
   pub rate : ℕ
   pub rate_is : IsAskedOrFirst options.rate options findings input rate
-  pub description : Described
   pub read : IsText description (description_text options findings input rate)
-  pub are : reasons ≡ reasons_of description

@@ -1,12 +1,12 @@
 //! A job: a description, a plan that serves it, and the units of its streams.
 
-ghost use Rattle.std.specs.Prelude.{◌≡◌, ◌≤◌, IfErr, IfOk, length, map, string_bytes};
+ghost use Rattle.std.specs.Prelude.{◌≡◌, ◌≤◌, IfErr, IfOk, None, length, map, string_bytes};
 ghost use Rattle.demux.specs.Shown.{finding_view};
 ghost use Rattle.slot_plan.specs.Conditions.{IsServing};
 ghost use Rattle.unit_order.specs.Merging.{AreMerged};
-ghost use Rattle.stream_jobs.specs.Jobs.{AllAgree, AreReasons, AreStreams, AreUnits, IsDescription, IsJob, IsText};
-ghost use Rattle.stream_jobs.specs.Rates.{IsAskedOrFirst, IsPlanned, IsRate};
-ghost use Rattle.stream_jobs.specs.WhyNoJob.{IsWhyNoDescription, IsWhyNoJob, IsWhyNoReasons};
+ghost use Rattle.stream_jobs.specs.Jobs.{AllAgree, AreStreams, AreUnits, IsDescription, IsJob, IsText, IsUnplanned};
+ghost use Rattle.stream_jobs.specs.Rates.{IsAskedOrFirst, IsPlanned, IsRate, IsServed, IsTried};
+ghost use Rattle.stream_jobs.specs.WhyNoJob.{IsWhyNoDescription, IsWhyNoJob, IsWhyNoPlan, IsWhyNoReasons};
 ghost use Rattle.stream_jobs.specs.declared.refusal.JobError.TheVariants.{Memory};
 
 use crate::declaration_check::disagreeing;
@@ -14,12 +14,12 @@ use crate::description_draft::{DescriptionDraft, described};
 use crate::input::JobInput;
 use crate::job_options::JobOptions;
 use crate::job_stream::TimedStream;
-use crate::rates::{PlannedDescription, first_rate, plan_draft};
+use crate::rates::{PlannedDescription, first_plan, first_rate, plan_draft};
 use crate::refusal::{JobError, JobRefusal};
 use demux::Finding;
+use description::Description;
 use pes_packet::Unit;
 use plan_checker::CheckedPlan;
-use plan_search::{Reason, reasons};
 use std::alloc::{AllocError, Global};
 use std::collections::VecDeque;
 use unit_order::merged;
@@ -115,6 +115,15 @@ fn served_text(planned: PlannedDescription) -> String
     planned.text
 }
 
+// The rate of a description that a plan serves.
+fn served_rate(planned: PlannedDescription) -> u64
+    ensures rate { result ≡ planned.rate }
+    ensures serving { IsServing planned.plan.description planned.plan.plan }
+{
+    let _plan = planned.plan.plan();
+    planned.rate
+}
+
 /// The text of the description of a job, at the rate of the options, else at the least at which a plan is found.
 pub fn describe(
     alloc: Global,
@@ -161,16 +170,15 @@ fn rate_of(alloc: Global, draft: &DescriptionDraft<'_, '_>) -> Result<u64, JobEr
     }
 }
 
-/// The reasons why no plan serves the description of a job at the rate of the options, else at the least at which all
-/// have slots.
-pub fn reasons_against(
+/// The description of a job at the rate of the options, else at the least at which all have slots, whether or not a plan
+/// serves it.
+pub fn unplanned_description(
     alloc: Global,
     options: &JobOptions<'_>,
     findings: &[Finding<'_>],
     input: &JobInput,
-) -> Result<Vec<Reason>, JobError>
-    ensures reasons { IfOk result (λ reasons. AreReasons options.now (map finding_view findings.now) input.now
-        reasons.items) }
+) -> Result<Description, JobError>
+    ensures described { IfOk result (IsUnplanned options.now (map finding_view findings.now) input.now) }
     ensures refused { IfErr result (IsWhyNoReasons options.now.rate options.now (map finding_view findings.now)
         input.now) }
 {
@@ -181,6 +189,24 @@ pub fn reasons_against(
     };
     let rate = rate_of(alloc, &draft)?;
     let text = draft.text(alloc, rate)?;
-    let description = described(alloc, &text)?;
-    Ok(reasons(alloc, &description)?)
+    described(alloc, &text)
+}
+
+/// The least of the rates that are tried at which a plan is found, whatever rate is asked for.
+pub fn found_rate(
+    alloc: Global,
+    options: &JobOptions<'_>,
+    findings: &[Finding<'_>],
+    input: &JobInput,
+) -> Result<u64, JobError>
+    ensures tried { IfOk result (IsTried options.now (map finding_view findings.now) input.now) }
+    ensures served { IfOk result (IsServed options.now (map finding_view findings.now) input.now) }
+    ensures refused { IfErr result (IsWhyNoPlan None options.now (map finding_view findings.now) input.now) }
+{
+    let draft = DescriptionDraft {
+        options,
+        findings,
+        input,
+    };
+    Ok(served_rate(first_plan(alloc, &draft)?))
 }

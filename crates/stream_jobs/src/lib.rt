@@ -34,7 +34,7 @@ mod wire_streams;
 pub use clock_base::ClockBase;
 pub use given_names::{NetworkName, ServiceName};
 pub use input::{JobInput, job_input};
-pub use job::{Job, describe, make_job, reasons_against, units};
+pub use job::{Job, describe, found_rate, make_job, units, unplanned_description};
 pub use job_options::{DeclareBy, JobOptions, PidBuffers};
 pub use refusal::{JobError, JobRefusal};
 pub use warning::Warning;

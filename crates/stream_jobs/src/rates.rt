@@ -181,8 +181,8 @@ fn plan_from(
     Ok(None)
 }
 
-// The first plan that is found from the least rate on.
-fn first_plan(
+/// The first plan that is found from the least rate on.
+pub(crate) fn first_plan(
     alloc: Global,
     draft: &DescriptionDraft<'_, '_>,
 ) -> Result<PlannedDescription, JobError>

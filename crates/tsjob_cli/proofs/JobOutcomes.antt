@@ -1,5 +1,6 @@
 -- What is written of an answer, and what the input that was read leads to.
-use Rattle.std.proofs.Common.{◌≡◌, ◌∙◌, ◌++◌, ◌/◌, ℕ, List, [], length, refl, sym, ap, subst, append-nil, Option, Some, None, Result, Ok, Err, inl, inr}
+use Rattle.std.proofs.Common.{◌≡◌, ◌∙◌, ◌++◌, ◌∷◌, ◌/◌, ◌==◌, ◌&&◌, ℕ, suc, Bool, true, false, List, [], length, refl, sym, ap, subst, append-nil, Option, Some, None, Result, Ok, Err, inl, inr, arith}
+use Rattle.std.proofs.lemmas.Bool.Decides.{nat_tests}
 use Rattle.pes_packet.specs.AccessUnits.{AccessUnit}
 use Rattle.description.specs.Described.{Described}
 use Rattle.slot_plan.specs.Conditions.{IsServing}
@@ -26,8 +27,10 @@ use Rattle.tsjob_cli.specs.declared.arguments.Subcommand.{Subcommand}
 use Rattle.tsjob_cli.specs.declared.arguments.Subcommand.TheVariants.{Whole, Describe, Units, Why}
 use Rattle.tsjob_cli.specs.Arguments.{JobArgumentsView}
 use Rattle.packet_sync.specs.Slips.{carried_from}
-use Rattle.tsjob_cli.specs.Outcomes.{BytesLead, FindingsLead, GivesJob, IsWritten, Leads, InputLeads, ReportsWhy, Withholds}
-use Rattle.unit_output.specs.Records.{written}
+use Rattle.tsjob_cli.specs.Outcomes.{BytesLead, FindingsLead, GivesJob, IsFound, IsTold, IsWritten, Leads, InputLeads, ReportsWhy, Withholds, found_line}
+use Rattle.std.specs.Int.{bytes_high_first}
+use Rattle.unit_records.specs.Records.{record_head}
+use Rattle.unit_output.specs.Records.{records_of, written}
 use Rattle.tsjob_cli.specs.Streams.{PacketNotesView, TakesCarried, findings_of, notes_of}
 
 -- 1. What a subcommand gives
@@ -36,6 +39,25 @@ use Rattle.tsjob_cli.specs.Streams.{PacketNotesView, TakesCarried, findings_of, 
 pub text_alone : (text plan : List ℕ) (units : List (ℕ × AccessUnit)) → plan ≡ [] → units ≡ [] → written text plan units ≡ text
 text_alone text plan units p u =
     ap (λ (x : List ℕ). written text x units) p ∙ (ap (λ (x : List (ℕ × AccessUnit)). written text [] x) u ∙ (append-nil (text ++ []) ∙ append-nil text))
+
+-- a list with an element is not empty
+suc_is_not : (n : ℕ) → (suc n == 0) ≡ false
+suc_is_not n = grind (arith, nat_tests)
+
+cons_is_not : {A : Type 0} (x : A) (xs : List A) → (length (x ∷ xs) == 0) ≡ false
+cons_is_not x xs = suc_is_not (length xs)
+
+record_is_not : (stream size dts pts : ℕ) (unit more : List ℕ) → (length ((record_head stream size dts pts ++ unit) ++ more) == 0) ≡ false
+unfolding record_head
+record_is_not stream size dts pts unit more =
+    cons_is_not stream (((bytes_high_first 4 size ++ (bytes_high_first 8 dts ++ bytes_high_first 8 pts)) ++ unit) ++ more)
+
+-- nothing is written where there is no text, no plan and no unit
+pub nothing_written : (text plan : List ℕ) (units : List (ℕ × AccessUnit)) → ((length text == 0) && ((length plan == 0) && (length units == 0))) ≡ (length (written text plan units) == 0)
+nothing_written [] [] [] = refl
+nothing_written [] [] (u ∷ units) = cons_is_not u units ∙ sym (record_is_not u.0 (length u.1.bytes) u.1.dts u.1.pts u.1.bytes (records_of units))
+nothing_written [] (p ∷ plan) units = rw (cons_is_not p plan) (sym (cons_is_not p (plan ++ records_of units)))
+nothing_written (t ∷ text) plan units = rw (cons_is_not t text) (sym (cons_is_not t ((text ++ plan) ++ records_of units)))
 
 pub given_job : (w : JobOptionsView) (findings : List FindingView) (m : JobInputView) (text plan : List ℕ) (d : Described) (p q : Planned) (units : List (ℕ × AccessUnit)) →
     IsJob w findings m d text units → AreUnits w.make_dts findings d units → IsServing d p → plan ≡ plan_text q → q ≡ p →
@@ -55,6 +77,16 @@ given_job w findings m text plan d p q units j u s e f = record {
 pub four_texts : (a b c d first second third fourth : List ℕ) → a ≡ first → b ≡ a ++ second → c ≡ b ++ third → d ≡ c ++ fourth → d ≡ first ++ second ++ third ++ fourth
 four_texts a b c d first second third fourth e f h k =
     k ∙ ap (λ (x : List ℕ). x ++ fourth) (h ∙ ap (λ (x : List ℕ). x ++ third) (f ∙ ap (λ (x : List ℕ). x ++ second) e))
+
+-- reasons, and what is found by trying rates
+pub told_nothing : (w : JobOptionsView) (findings : List FindingView) (m : JobInputView) (lines output : List ℕ) → (length lines == 0) ≡ true → output ≡ lines →
+    IsTold (length lines == 0) w findings m lines output
+told_nothing w findings m lines output e h = subst (λ (b : Bool). IsTold b w findings m lines output) (sym e) h
+
+pub told_found : (w : JobOptionsView) (findings : List FindingView) (m : JobInputView) (lines output : List ℕ) (found : Option ℕ) → (length lines == 0) ≡ false →
+    IsFound w findings m found → output ≡ lines ++ found_line found → IsTold (length lines == 0) w findings m lines output
+told_found w findings m lines output found e f h =
+    subst (λ (b : Bool). IsTold b w findings m lines output) (sym e) (record { found = found; tried = f; is = h })
 
 -- 2. What a job input leads to
 

@@ -5,7 +5,6 @@ pub mod Arguments
 pub mod UsageText
 pub mod WarningLines
 pub mod RefusalLine
-pub mod ReasonLines
 pub mod SlipLines
 pub mod FieldLines
 pub mod TableLines

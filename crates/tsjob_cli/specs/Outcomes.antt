@@ -1,15 +1,15 @@
 -- The outcome for a transport stream.
-use Rattle.std.specs.Prelude.{◌≡◌, ◌⊎◌, ℕ, ◌/◌, ◌==◌, ◌||◌, not, Bool, List, ◌++◌, length, map, if◌then◌else◌, Option, Some, None, Result, Ok, Err}
+use Rattle.std.specs.Prelude.{◌≡◌, ◌⊎◌, ℕ, ◌/◌, ◌==◌, ◌||◌, not, Bool, true, false, List, ◌++◌, length, map, codes, decimal, if◌then◌else◌, Option, Some, None, Result, Ok, Err}
 use Rattle.std.specs.List.{list_any}
 use Rattle.pes_packet.specs.AccessUnits.{AccessUnit}
 use Rattle.demux.specs.Views.{FindingView}
 use Rattle.description.specs.Described.{Described}
-use Rattle.plan_search.specs.declared.reason.Reason.{Reason}
+use Rattle.reason_lines.specs.ReasonLines.{reason_lines}
 use Rattle.slot_plan.specs.Conditions.{IsServing}
 use Rattle.slot_plan.specs.Planned.{Planned}
 use Rattle.slot_plan.specs.Text.{plan_text}
 use Rattle.unit_order.specs.Merging.{AreMerged}
-use Rattle.stream_jobs.specs.Jobs.{AreReasons, AreUnits, IsDescription, IsJob}
+use Rattle.stream_jobs.specs.Jobs.{AreUnits, IsDescription, IsJob, IsUnplanned}
 use Rattle.stream_jobs.specs.JobInput.{JobInputView, job_input}
 use Rattle.other_tables.specs.OtherTables.{other_tables}
 use Rattle.other_tables.specs.TableKinds.{is_loss}
@@ -22,7 +22,8 @@ use Rattle.packet_sync.specs.declared.packet_sizes.OtherPackets.{OtherPackets}
 use Rattle.packet_sync.specs.declared.slip.Slip.{Slip}
 use Rattle.stream_jobs.specs.Warnings.{are_damaged}
 use Rattle.stream_jobs.specs.declared.warning.Warning.{Warning}
-use Rattle.stream_jobs.specs.WhyNoJob.{IsWhyNoDescription, IsWhyNoJob, IsWhyNoReasons}
+use Rattle.stream_jobs.specs.WhyNoJob.{IsWhyNoDescription, IsWhyNoJob, IsWhyNoPlan, IsWhyNoReasons}
+use Rattle.stream_jobs.specs.Rates.{IsServed, IsTried}
 use Rattle.stream_jobs.specs.JobOptions.{JobOptionsView}
 use Rattle.stream_jobs.specs.declared.refusal.JobError.{JobError}
 use Rattle.stream_jobs.specs.declared.refusal.JobError.TheVariants.{Memory, Refused}
@@ -34,7 +35,6 @@ use Rattle.devices.specs.declared.halt.Halt.TheVariants.{Write}
 use Rattle.tsjob_cli.specs.declared.arguments.Subcommand.{Subcommand}
 use Rattle.tsjob_cli.specs.declared.arguments.Subcommand.TheVariants.{Whole, Describe, Units, Why}
 use Rattle.tsjob_cli.specs.Arguments.{JobArgumentsView}
-use Rattle.tsjob_cli.specs.ReasonLines.{reason_lines}
 use Rattle.tsjob_cli.specs.FieldLines.{field_lines, told_fields}
 use Rattle.unit_output.specs.Records.{records_of, written}
 use Rattle.tsjob_cli.specs.RefusalLine.{refusal_line}
@@ -63,11 +63,37 @@ pub record GivesUnits (m : JobInputView) (output : List ℕ) : Type 0 where
   pub merged : AreMerged (map (λ s. s.units) m.streams) units
   pub is : output ≡ records_of units
 
--- a line for each reason why no plan serves
+-- the line of the first rate at which a plan is found, of those that are tried
+unfoldable pub found_line : Option ℕ → List ℕ
+found_line (Some rate) = codes "rate " ++ decimal rate ++ codes " has a plan, the first of those tried\n"
+found_line None = codes "no rate that was tried has a plan\n"
+
+-- no plan is found, or rates cannot be tried
+pub record IsNotFound (w : JobOptionsView) (findings : List FindingView) (m : JobInputView) : Type 0 where
+  pub refusal : JobRefusal
+  pub why : IsWhyNoPlan None w findings m (Refused refusal)
+
+-- what is found by trying rates, whatever rate is asked for
+abbrev pub IsFound : JobOptionsView → List FindingView → JobInputView → Option ℕ → Type 0
+IsFound w findings m (Some rate) = IsTried w findings m rate × IsServed w findings m rate
+IsFound w findings m None = IsNotFound w findings m
+
+-- a line for what is found stands after those for reasons
+pub record IsFoundAfter (w : JobOptionsView) (findings : List FindingView) (m : JobInputView) (lines output : List ℕ) : Type 0 where
+  pub found : Option ℕ
+  pub tried : IsFound w findings m found
+  pub is : output ≡ lines ++ found_line found
+
+-- nothing is tried where there are none
+abbrev pub IsTold : Bool → JobOptionsView → List FindingView → JobInputView → List ℕ → List ℕ → Type 0
+IsTold true w findings m lines output = output ≡ lines
+IsTold false w findings m lines output = IsFoundAfter w findings m lines output
+
+-- a line for each reason why no plan serves the description
 pub record GivesReasons (w : JobOptionsView) (findings : List FindingView) (m : JobInputView) (output : List ℕ) : Type 0 where
-  pub reasons : List Reason
-  pub are : AreReasons w findings m reasons
-  pub is : output ≡ reason_lines reasons
+  pub description : Described
+  pub unplanned : IsUnplanned w findings m description
+  pub told : IsTold (length (reason_lines description) == 0) w findings m (reason_lines description) output
 
 -- the output of a subcommand
 abbrev pub Gives : Subcommand → JobOptionsView → List FindingView → JobInputView → List ℕ → Type 0
@@ -95,11 +121,18 @@ is_less slips fields tables warnings =
 abbrev pub loss_lines : List Slip → List FieldLeftOut → List OtherTable → List Warning → List ℕ
 loss_lines slips fields tables warnings = slip_lines slips ++ field_lines fields ++ other_table_lines tables ++ warning_lines warnings
 
--- the output, the lines of what is left out, and the status 1 where one says that something is lost
+-- the status 1: of reasons where there is one, else where something is lost
+abbrev pub status_of : Subcommand → List ℕ → Bool → ℕ
+status_of Whole output less = if less then 1 else 0
+status_of Describe output less = if less then 1 else 0
+status_of Units output less = if less then 1 else 0
+status_of Why output less = if length output == 0 then 0 else 1
+
+-- the output, the lines of what is left out, and the status
 pub record IsGiven (arguments : JobArgumentsView) (notes : PacketNotesView) (findings : List FindingView) (m : JobInputView) (o : Outcome) : Type 0 where
   pub gives : Gives arguments.subcommand arguments.options findings m o.output
   pub report_is : o.report ≡ loss_lines notes.slips (told_fields m notes.fields) (other_tables findings) (told_warnings arguments.whole m.warnings)
-  pub status_is : o.status ≡ (if is_less notes.slips (told_fields m notes.fields) (other_tables findings) (told_warnings arguments.whole m.warnings) then 1 else 0)
+  pub status_is : o.status ≡ status_of arguments.subcommand o.output (is_less notes.slips (told_fields m notes.fields) (other_tables findings) (told_warnings arguments.whole m.warnings))
 
 -- nothing is written but the line of the refusal, and the status is 1
 pub record IsRefused (arguments : JobArgumentsView) (findings : List FindingView) (m : JobInputView) (o : Outcome) : Type 0 where

@@ -1,10 +1,9 @@
 //! What the program `tsjob` does, over any files, a reader and two writers (`run`).
 //!
 //! `command_line`, `lists` and `arguments` read the command line, and `known_words` says what it may have. `reading` puts the packets
-//! that stand in step through a demultiplexer; `outcome` makes the job of what it finds, with the lines of `slip_lines`,
-//! `field_lines`, `table_lines`,
-//! `warning_lines`, `refusal_line` and `reason_lines`. `streaming` has the units of the streams of a description that stands in a file
-//! written while the stream comes. `program` is `run`.
+//! that stand in step through a demultiplexer; `outcome` makes the job of what it finds, `reason_output` says why there is no
+//! plan, with the lines of `slip_lines`, `field_lines`, `table_lines`, `warning_lines` and `refusal_line`. `streaming` has the
+//! units of the streams of a description that stands in a file written while the stream comes. `program` is `run`.
 #![tactic(auto)]
 
 mod arguments;
@@ -15,7 +14,7 @@ mod lists;
 mod outcome;
 mod program;
 mod reading;
-mod reason_lines;
+mod reason_output;
 mod refusal_line;
 mod slip_lines;
 mod streaming;

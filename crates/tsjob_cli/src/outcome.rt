@@ -1,6 +1,6 @@
 //! The outcome for a stream, from its findings.
 
-ghost use Rattle.std.specs.Prelude.{◌≡◌, ◌≤◌, ◌++◌, IfErr, IfOk, None, Ok, length, map, string_bytes};
+ghost use Rattle.std.specs.Prelude.{◌≡◌, ◌==◌, ◌&&◌, ◌≤◌, ◌++◌, IfErr, IfOk, None, Ok, length, map, string_bytes};
 ghost use Rattle.demux.specs.Shown.{finding_view};
 ghost use Rattle.stream_jobs.specs.Jobs.{AreStreams, IsDescription};
 ghost use Rattle.stream_jobs.specs.WhyNoJob.{IsWhyNoDescription, IsWhyNoJob, IsWhyNoReasons};
@@ -12,7 +12,7 @@ ghost use Rattle.tsjob_cli.specs.SlipLines.{packets_line};
 use crate::arguments::{JobArguments, Subcommand};
 use crate::field_lines::{are_needed, told_fields, write_fields};
 use crate::reading::{PacketNotes, packet_notes, take_carried};
-use crate::reason_lines::write_reasons;
+use crate::reason_output::reason_output;
 use crate::refusal_line::write_refusal;
 use crate::slip_lines::{write_packets, write_slips};
 use crate::table_lines::{are_missed, write_other_tables};
@@ -24,8 +24,7 @@ use pes_packet::Unit;
 use std::alloc::{AllocError, Global};
 use std::marker::Model;
 use stream_jobs::{
-    Job, JobError, JobInput, JobOptions, Warning, describe, job_input, make_job, reasons_against,
-    units,
+    Job, JobError, JobInput, JobOptions, Warning, describe, job_input, make_job, units,
 };
 
 /// The output, the lines for the second writer, and the status.
@@ -64,9 +63,9 @@ impl Model for JobText {
     ghost view = { λ p. written (string_bytes p.text) (string_bytes p.plan) p.units.items };
 }
 
-// A text alone.
+/// A text alone.
 #[tactic(auto, using(crate::proofs::JobOutcomes::text_alone))]
-fn only_text(alloc: Global, text: String) -> JobText
+pub(crate) fn only_text(alloc: Global, text: String) -> JobText
     ensures { result ≡ string_bytes text }
 {
     JobText {
@@ -121,23 +120,6 @@ fn unit_output(alloc: Global, input: JobInput) -> Result<JobText, JobError>
     })
 }
 
-// Why no plan serves it.
-fn reason_output(
-    alloc: Global,
-    options: &JobOptions<'_>,
-    findings: &[Finding<'_>],
-    input: &JobInput,
-) -> Result<JobText, JobError>
-    ensures given { IfOk result (λ p. spec.GivesReasons options.now (map finding_view findings.now) input.now p) }
-    ensures withheld { IfErr result
-        (IsWhyNoReasons options.now.rate options.now (map finding_view findings.now) input.now) }
-{
-    let reasons = reasons_against(alloc, options, findings, input)?;
-    let mut lines = String::new(alloc);
-    write_reasons(&reasons, &mut lines)?;
-    Ok(only_text(alloc, lines))
-}
-
 // The output of a subcommand.
 fn output_for(
     alloc: Global,
@@ -187,6 +169,35 @@ fn is_less(slips: &[Slip], fields: &[FieldLeftOut], tables: &[OtherTable], told:
     !slips.is_empty() || are_needed(fields) || are_missed(tables) || is_damaged(told)
 }
 
+// Whether all three hold.
+fn are_all(text: bool, plan: bool, units: bool) -> bool
+    ensures { result ≡ (text && (plan && units)) }
+{
+    text && (plan && units)
+}
+
+// Whether nothing is to be written.
+#[tactic(auto, using(crate::proofs::JobOutcomes::nothing_written))]
+fn is_empty(output: &JobText) -> bool
+    ensures { result ≡ (length output.now == 0) }
+{
+    let text = output.text.as_str();
+    let plan = output.plan.as_str();
+    let units = output.units.as_slice();
+    are_all(text.is_empty(), plan.is_empty(), units.is_empty())
+}
+
+// The status of an output, beside which something is lost or not.
+fn status_of(subcommand: Subcommand, output: &JobText, less: bool) -> u8
+    ensures { result ≡ spec.status_of subcommand output.now less }
+{
+    let bad = match subcommand {
+        Subcommand::Why => !is_empty(output),
+        Subcommand::Whole | Subcommand::Describe | Subcommand::Units => less,
+    };
+    if bad { 1 } else { 0 }
+}
+
 // The outcome for a stream that is not refused.
 #[tactic(auto, using(crate::proofs::JobOutcomes::no_memory))]
 fn job_outcome(
@@ -205,12 +216,9 @@ fn job_outcome(
     let fields = told_fields(alloc, &input, &notes.fields)?;
     let tables = other_tables(alloc, findings)?;
     let report = loss_report(alloc, &notes.slips, &fields, &tables, &told)?;
-    let status = if is_less(&notes.slips, &fields, &tables, &told) {
-        1
-    } else {
-        0
-    };
+    let less = is_less(&notes.slips, &fields, &tables, &told);
     let output = output_for(alloc, arguments, findings, input)?;
+    let status = status_of(arguments.subcommand, &output, less);
     Ok(JobOutcome {
         output,
         report,
