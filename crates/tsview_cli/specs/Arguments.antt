@@ -6,6 +6,19 @@ use Rattle.devices.specs.Options.{is_given, number_given, number_option}
 use Rattle.stream_report.specs.declared.view_options.ViewOptions.{ViewOptions}
 use Rattle.tsview_cli.specs.CommandLine.{tsview_app}
 
+-- the least and the greatest numbers: of a rate in bits a second, and of the length of a window in milliseconds
+abbrev pub least_rate : ℕ
+least_rate = 100000
+
+abbrev pub greatest_rate : ℕ
+greatest_rate = 100000000
+
+abbrev pub least_window : ℕ
+least_window = 10
+
+abbrev pub greatest_window : ℕ
+greatest_window = 3600000
+
 abbrev pub options : ℕ → ℕ → Bool → ViewOptions
 options rate window json = record { rate = rate; window = window; json = json }
 
@@ -15,8 +28,8 @@ options_of rows =
     option_and_then (λ rate.
     option_and_then (λ window.
     Some (options rate window (is_given (first_of (codes "json") rows))))
-    (number_option 10 3600000 1000 (first_of (codes "window") rows)))
-    (number_given 100000 100000000 (first_of (codes "rate") rows))
+    (number_option least_window greatest_window 1000 (first_of (codes "window") rows)))
+    (number_given least_rate greatest_rate (first_of (codes "rate") rows))
 
 unfoldable pub unless_faulty : Kinds → Option ViewOptions → Option ViewOptions
 unless_faulty [] asked = asked

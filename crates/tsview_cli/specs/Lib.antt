@@ -1,3 +1,5 @@
 pub mod CommandLine
 pub mod Arguments
+pub mod KnownWords
+pub mod UsageText
 pub mod Viewing

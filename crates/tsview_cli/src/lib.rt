@@ -1,11 +1,13 @@
 //! The words of `tsview`, over any reader and two writers (`run`): a stream is viewed as it comes.
 //!
-//! `command_line` and `arguments` read the command line; `viewing` reads the input piece by piece, and writes the lines
-//! that each piece settles before it reads the next; `program` is `run`.
+//! `command_line` and `arguments` read the command line, and `known_words` says what it may have, for the line of a usage
+//! error; `viewing` reads the input piece by piece, and writes the lines that each piece settles before it reads the next;
+//! `program` is `run`.
 #![tactic(auto)]
 
 mod arguments;
 mod command_line;
+mod known_words;
 mod program;
 mod viewing;
 

@@ -1,6 +1,7 @@
 use Rattle.std.proofs.Common.{refl, inr}
 use Rattle.devices.specs.Devices.{Port}
 use Rattle.devices.specs.declared.halt.Halt.TheVariants.{Memory}
+use Rattle.word_faults.proofs.UsageReports.{of_usage}
 use Rattle.tsview_cli.proofs.Viewed.{none_seen}
 use Rattle.tsview_cli.proofs.program.run.Goals as goal
 
@@ -9,3 +10,9 @@ returns-in-Err-clause-view g c = λ o e.
     let input : Port = record { bytes = g.R.Read.remaining c.args.input.now; failed = g.R.Source.fault_count c.args.input.now } in
     let output : Port = record { bytes = g.W.Write.contents c.args.output.now; failed = g.W.Sink.fault_count c.args.output.now } in
     inr (record { halt = Memory; breaks = none_seen o input output Memory refl; reports = c.report_halt.ensures.reports; status_is = c.report_halt.ensures.status })
+
+pub returns-in-Ok-None-clause-version : goal.returns-in-Ok-None-clause-version
+returns-in-Ok-None-clause-version g c = λ none is. c.answer_other_words.ensures.version _ refl is
+
+pub returns-in-Ok-None-clause-usage : goal.returns-in-Ok-None-clause-usage
+returns-in-Ok-None-clause-usage g c = λ none is. of_usage _ _ _ _ _ _ _ _ c.usage.ensures (c.answer_other_words.ensures.usage _ refl is)
