@@ -5,5 +5,7 @@ pub mod Tallies
 pub mod EntryLines
 pub mod Entries
 pub mod StreamTables
+pub mod ClockLines
+pub mod ReferenceLines
 pub mod Seen
 pub mod Views

@@ -1,17 +1,24 @@
 -- What is kept of a stream beside its buffers.
-use Rattle.std.specs.Prelude.{ℕ, List, [], ◌∷◌, codes}
+use Rattle.std.specs.Prelude.{ℕ, ◌+◌, ◌-◌, ◌^◌, min, List, [], ◌∷◌, ◌++◌, codes, Option}
 use Rattle.ts_packet.specs.Views.{PacketView}
 use Rattle.ts_packet.specs.PcrBytes.{has_pcr}
 use Rattle.pid_windows.specs.Windows.{WindowView, no_packet, one_more, taken}
 use Rattle.named_streams.specs.NamedStreams.{NamedView, none_taken}
 use Rattle.named_streams.specs.NamedStreams as naming
+use Rattle.pcr_errors.specs.PidWatches.{WatchesState, report_at}
+use Rattle.pcr_errors.specs.PidWatches as watching
+use Rattle.pcr_errors.specs.declared.report.PcrReport.{PcrReport}
+use Rattle.pcr_errors.specs.declared.watch.PcrTiming.TheVariants.{ConstantRate}
 use Rattle.stream_report.specs.declared.view_options.ViewOptions.{ViewOptions}
 use Rattle.stream_report.specs.Clocks.{ClockEntries, clocks_after, no_clocks}
+use Rattle.stream_report.specs.ClockLines.{clock_lines, errors_in, report_lines_if}
+use Rattle.stream_report.specs.ReferenceLines.{reference_lines}
 use Rattle.stream_report.specs.ReportLines.{line_of, number_field}
-use Rattle.stream_report.specs.WindowLines.{window_of}
+use Rattle.stream_report.specs.WindowLines.{pid_lines, window_of}
 
 -- the number of packets, and of those that are refused or have transport_error_indicator; the window of the last packet that is
--- not; the packets of each PID; the last clock reference of each; and the streams that are named
+-- not; the packets of each PID; the last clock reference of each, and what all of them came to, by the rate, with the number of
+-- their errors; and the streams that are named
 pub record SeenState : Type 0 where
   pub options : ViewOptions
   pub packets : ℕ
@@ -19,19 +26,41 @@ pub record SeenState : Type 0 where
   pub window : WindowView
   pub totals : WindowView
   pub clocks : ClockEntries
+  pub watches : WatchesState
+  pub errors : ℕ
   pub named : NamedView
 
 -- before the first packet
 abbrev pub nothing_seen : ViewOptions → SeenState
-nothing_seen options = record { options = options; packets = 0; refused = 0; window = no_packet; totals = no_packet; clocks = no_clocks; named = none_taken }
+nothing_seen options = record {
+  options = options;
+  packets = 0;
+  refused = 0;
+  window = no_packet;
+  totals = no_packet;
+  clocks = no_clocks;
+  watches = watching.no_packet (ConstantRate options.rate);
+  errors = 0;
+  named = none_taken;
+}
 
 -- a packet that can't be read, or says that it is wrong
 abbrev pub without : SeenState → SeenState
 without s = record s { packets = one_more s.packets; refused = one_more s.refused }
 
--- one that can: its clock reference, and then its PID is counted
+-- one that can: its clock reference, with the lines of its errors, and then its PID is counted
+abbrev pub report_on : SeenState → PacketView → Option PcrReport
+report_on s packet = report_at s.watches s.packets packet
+
 abbrev pub with_clock : SeenState → PacketView → SeenState
-with_clock s packet = record s { clocks = clocks_after s.clocks s.packets packet }
+with_clock s packet = record s {
+  clocks = clocks_after s.clocks s.packets packet;
+  watches = watching.taken s.watches s.packets packet;
+  errors = min (s.errors + errors_in (report_on s packet)) (2 ^ 64 - 1);
+}
+
+abbrev pub clock_errors : SeenState → PacketView → List ℕ
+clock_errors s packet = report_lines_if s.options packet.header.pid (report_on s packet)
 
 abbrev pub next_window : SeenState → ℕ
 next_window s = window_of s.options s.packets
@@ -46,6 +75,10 @@ counted s packet = record s {
 -- what 188 bytes name counts from the next packet on
 abbrev pub with_named : SeenState → List ℕ → SeenState
 with_named s bytes = record s { named = naming.taken s.named bytes }
+
+-- at the end: clock references by PID, all packets by PID, and which of these are not named or have none
+abbrev pub pid_ends : SeenState → List ℕ
+pid_ends s = clock_lines s.options s.watches ++ (pid_lines s.options s.totals ++ reference_lines s.options s.named s.totals)
 
 -- the last line: `end packets N refused N left N`, with the bytes that are left after the last whole packet
 abbrev pub end_line : SeenState → ℕ → List ℕ

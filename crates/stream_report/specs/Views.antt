@@ -5,11 +5,11 @@ use Rattle.ts_packet.specs.Views.{PacketView}
 use Rattle.ts_packet.specs.Reading.{packet_at}
 use Rattle.stream_report.specs.declared.view.View.{View}
 use Rattle.stream_report.specs.declared.view_options.ViewOptions.{ViewOptions}
-use Rattle.stream_report.specs.Seen.{SeenState, counted, end_line, next_window, nothing_seen, with_clock}
+use Rattle.stream_report.specs.Seen.{SeenState, clock_errors, counted, end_line, next_window, nothing_seen, pid_ends, with_clock}
 use Rattle.stream_report.specs.Seen as seeing
 use Rattle.stream_report.specs.StreamTables.{IsTable, TableState, begin_lines, begun, lines_of, no_streams, table_end, table_units, taken}
 use Rattle.stream_report.specs.StreamTables as tables
-use Rattle.stream_report.specs.WindowLines.{window_lines, pid_lines}
+use Rattle.stream_report.specs.WindowLines.{window_lines}
 
 -- what is kept: what was seen, and the streams whose buffers have begun
 pub record ViewState : Type 0 where
@@ -59,13 +59,13 @@ all_window_lines s = window_lines s.seen.options s.seen.window ++ table_units s.
 abbrev pub last_window : ViewState → List ℕ
 last_window s = if s.seen.window.number == next_window s.seen then [] else all_window_lines s
 
--- and then those of buffers that begin with it, and of what ends with it
+-- and then those of the errors of its clock reference, of buffers that begin with it, and of what ends with it
 abbrev pub buffer_lines_at : ViewState → PacketView → List ℕ
 buffer_lines_at s packet = begin_lines s.seen.options s.seen.packets s.seen.named s.table packet
     ++ lines_of s.seen.options s.seen.packets s.seen.clocks (with_begun s packet) packet
 
 abbrev pub packet_lines : ViewState → PacketView → List ℕ
-packet_lines s packet = last_window s ++ buffer_lines_at (clocked s packet) packet
+packet_lines s packet = last_window s ++ (clock_errors s.seen packet ++ buffer_lines_at (clocked s packet) packet)
 
 unfoldable pub lines_read : ViewState → Result PacketView PacketError → List ℕ
 lines_read s (Err error) = []
@@ -93,8 +93,8 @@ lines_all s (bytes ∷ packets) = lines_at s bytes ++ lines_all (after_packet s 
 -- the lines at the end of a stream
 abbrev pub end_lines : ViewState → ℕ → List ℕ
 end_lines s left = window_lines s.seen.options s.seen.window
-    ++ (table_end s.seen.options s.seen.packets s.seen.window.number s.table ++ (pid_lines s.seen.options s.seen.totals ++ end_line s.seen left))
+    ++ (table_end s.seen.options s.seen.packets s.seen.window.number s.table ++ (pid_ends s.seen ++ end_line s.seen left))
 
 -- nothing is wrong
 abbrev pub is_good : ViewState → ℕ → Bool
-is_good s left = if s.seen.refused == 0 then (if left == 0 then tables.is_good s.table else false) else false
+is_good s left = if s.seen.refused == 0 then (if s.seen.errors == 0 then (if left == 0 then tables.is_good s.table else false) else false) else false

@@ -8,9 +8,11 @@
 //! name, and for each stream that they name its buffers, with up to 4,096 units that wait in the main buffer.
 #![tactic(auto)]
 
+mod clock_lines;
 mod clocks;
 mod entry_lines;
 mod lines;
+mod reference_lines;
 mod seen;
 mod stream_entry;
 mod stream_table;

@@ -3,26 +3,33 @@ ghost use Rattle.std.specs.Prelude.{◌≡◌, ◌++◌, OnOk, string_bytes};
 ghost use Rattle.ts_packet.specs.Views.{packet_view};
 ghost use Rattle.stream_report.specs.Seen as spec;
 
+use crate::clock_lines::{errors_in, write_clocks, write_report};
 use crate::clocks::Clocks;
 use crate::lines::{number, write_line};
+use crate::reference_lines::write_references;
 use crate::view_options::ViewOptions;
-use crate::window_lines::window_of;
+use crate::window_lines::{window_of, write_pids};
 use named_streams::NamedStreams;
+use pcr_errors::{PcrTiming, PcrWatches};
 use pid_windows::PidWindow;
 use std::alloc::{AllocError, Global};
 use std::marker::Model;
 use ts_packet::{Packet, has_pcr};
 
 /// What is kept of a stream beside its buffers: the number of packets, and of those that are refused; the window of the last packet; the
-/// packets of each PID; the last clock reference of each; and the streams that are named.
+/// packets of each PID; the last clock reference of each, and what all of them came to, with the number of their errors; and the
+/// streams that are named.
 #[derive(Drop)]
 pub struct Seen {
+    alloc: Global,
     pub options: ViewOptions,
     pub packets: u64,
     pub refused: u64,
     pub window: PidWindow<Global>,
     pub totals: PidWindow<Global>,
     pub clocks: Clocks,
+    pub watches: PcrWatches<Global>,
+    pub errors: u64,
     pub named: NamedStreams,
 }
 
@@ -38,6 +45,8 @@ impl Model for Seen {
       window = s.window;
       totals = s.totals;
       clocks = s.clocks;
+      watches = s.watches;
+      errors = s.errors;
       named = s.named;
     } };
 }
@@ -48,12 +57,15 @@ impl Seen {
         ensures { result ≡ spec.nothing_seen options }
     {
         Seen {
+            alloc,
             options,
             packets: 0,
             refused: 0,
             window: PidWindow::new(alloc),
             totals: PidWindow::new(alloc),
             clocks: Clocks::new(alloc),
+            watches: PcrWatches::new(alloc, PcrTiming::ConstantRate(options.rate)),
+            errors: 0,
             named: NamedStreams::new(alloc),
         }
     }
@@ -66,11 +78,17 @@ impl Seen {
         self.refused = self.refused.saturating_add(1);
     }
 
-    /// The clock reference of a packet, if it has one.
-    pub fn take_clock(&mut self, packet: &Packet<'_>) -> Result<(), AllocError>
-        ensures { OnOk result (self.new ≡ spec.with_clock self.old (packet_view packet.now)) }
+    /// The clock reference of a packet, if it has one: the lines of its errors are appended.
+    pub fn take_clock(&mut self, packet: &Packet<'_>, text: &mut String) -> Result<(), AllocError>
+        ensures seen { OnOk result (self.new ≡ spec.with_clock self.old (packet_view packet.now)) }
+        ensures lines { OnOk result (string_bytes text.new
+            ≡ string_bytes text.old ++ spec.clock_errors self.old (packet_view packet.now)) }
     {
-        self.clocks.take(self.packets, packet)
+        self.clocks.take(self.packets, packet)?;
+        let report = self.watches.take(self.packets, packet)?;
+        write_report(text, &self.options, packet.header.pid, &report)?;
+        self.errors = self.errors.saturating_add(errors_in(&report));
+        Ok(())
     }
 
     /// The window in which the next packet begins.
@@ -98,6 +116,15 @@ impl Seen {
         ensures { OnOk result (self.new ≡ spec.with_named self.old bytes.now) }
     {
         self.named.take(bytes)
+    }
+
+    /// Appends the lines of clock references by PID, of all packets by PID, and of PIDs that are not named or have no packet.
+    pub fn write_pid_ends(&self, text: &mut String) -> Result<(), AllocError>
+        ensures { OnOk result (string_bytes text.new ≡ string_bytes text.old ++ spec.pid_ends self.now) }
+    {
+        write_clocks(text, &self.options, &self.watches)?;
+        write_pids(text, &self.options, &self.totals)?;
+        write_references(self.alloc, text, &self.options, &self.named, &self.totals)
     }
 
     /// Appends the last line.

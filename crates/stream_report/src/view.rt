@@ -9,7 +9,7 @@ ghost use Rattle.stream_report.specs.Views.{IsView, ViewState};
 use crate::seen::Seen;
 use crate::stream_table::StreamTable;
 use crate::view_options::ViewOptions;
-use crate::window_lines::{write_pids, write_window};
+use crate::window_lines::write_window;
 use std::alloc::{AllocError, Global};
 use ts_packet::{Packet, PacketError, read_packet};
 
@@ -78,7 +78,7 @@ impl View {
             (string_bytes text.new ≡ string_bytes text.old ++ spec.packet_lines s (packet_view packet.now)) }
     {
         self.end_window(text)?;
-        self.seen.take_clock(packet)?;
+        self.seen.take_clock(packet, text)?;
         self.buffer(packet, text)?;
         self.seen.count(packet)
     }
@@ -144,7 +144,7 @@ impl View {
         write_window(text, options, &self.seen.window)?;
         self.table
             .write_end(text, options, self.seen.packets, window)?;
-        write_pids(text, options, &self.seen.totals)?;
+        self.seen.write_pid_ends(text)?;
         self.seen.write_end(left, text)
     }
 
@@ -152,6 +152,6 @@ impl View {
     pub fn is_good(&self, left: usize) -> bool
         ensures { (s : ViewState) → IsView self.now s → result ≡ spec.is_good s left }
     {
-        self.seen.refused == 0 && left == 0 && self.table.is_good()
+        self.seen.refused == 0 && self.seen.errors == 0 && left == 0 && self.table.is_good()
     }
 }

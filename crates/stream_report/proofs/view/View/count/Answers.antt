@@ -1,16 +1,16 @@
-use Rattle.std.proofs.Common.{◌∙◌, ℕ, List, ◌++◌, ap, append_assoc}
+use Rattle.std.proofs.Common.{◌≡◌, ◌∙◌, ◌++◌, ap}
 use Rattle.std.specs.Prelude.{string_bytes}
 use Rattle.ts_packet.specs.Views.{packet_view}
-use Rattle.stream_report.specs.Seen.{SeenState, counted}
+use Rattle.stream_report.specs.Seen.{SeenState, clock_errors, counted}
 use Rattle.stream_report.specs.Views.{IsView, buffer_lines_at, clocked, last_window}
-use Rattle.stream_report.proofs.Tables.{on_ok}
+use Rattle.stream_report.proofs.Tables.{on_ok, three}
 use Rattle.stream_report.proofs.view.View.count.Goals as goal
 
 pub returns-clause-view : goal.returns-clause-view
 returns-clause-view c = λ s k.
     let packet = packet_view c.args.packet.now in
     let clock : IsView (record { seen = c.take_clock.new.self; table = c.args.self.now.table }) (clocked s packet) =
-    record { seen = c.in_ok-take_clock.ensures ∙ ap (λ (x : SeenState). (clocked (record { seen = x; table = s.table }) packet).seen) k.seen; table = k.table } in
+    record { seen = c.in_ok-take_clock.ensures.seen ∙ ap (λ (x : SeenState). (clocked (record { seen = x; table = s.table }) packet).seen) k.seen; table = k.table } in
     let buffered = c.in_ok-buffer.ensures.view (clocked s packet) clock in
     on_ok c.count.result (λ e. record { seen = e ∙ ap (λ (x : SeenState). counted x packet) buffered.seen; table = buffered.table }) c.count.ensures
 
@@ -18,8 +18,10 @@ pub returns-clause-lines : goal.returns-clause-lines
 returns-clause-lines c = λ s k.
     let packet = packet_view c.args.packet.now in
     let clock : IsView (record { seen = c.take_clock.new.self; table = c.args.self.now.table }) (clocked s packet) =
-    record { seen = c.in_ok-take_clock.ensures ∙ ap (λ (x : SeenState). (clocked (record { seen = x; table = s.table }) packet).seen) k.seen; table = k.table } in
+    record { seen = c.in_ok-take_clock.ensures.seen ∙ ap (λ (x : SeenState). (clocked (record { seen = x; table = s.table }) packet).seen) k.seen; table = k.table } in
     let text = string_bytes c.args.text.now in
-    on_ok c.count.result (λ e. c.in_ok-buffer.ensures.lines (clocked s packet) clock
-    ∙ ap (λ (t : List ℕ). t ++ buffer_lines_at (clocked s packet) packet) (c.in_ok-end_window.ensures s k)
-    ∙ append_assoc text (last_window s) (buffer_lines_at (clocked s packet) packet)) c.count.ensures
+    let buffers = buffer_lines_at (clocked s packet) packet in
+    let errors : string_bytes c.take_clock.new.text ≡ string_bytes c.end_window.new.text ++ clock_errors s.seen packet =
+    c.in_ok-take_clock.ensures.lines ∙ ap (λ (x : SeenState). string_bytes c.end_window.new.text ++ clock_errors x packet) k.seen in
+    on_ok c.count.result (λ e. three text (string_bytes c.end_window.new.text) (string_bytes c.take_clock.new.text) (string_bytes c.buffer.new.text) (last_window s) (clock_errors s.seen packet) buffers
+    (c.in_ok-end_window.ensures s k) errors (c.in_ok-buffer.ensures.lines (clocked s packet) clock)) c.count.ensures
