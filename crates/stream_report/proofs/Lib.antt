@@ -2,3 +2,4 @@ pub mod Fields
 pub mod Entries
 pub mod Packets
 pub mod Tables
+pub mod Sections

@@ -7,5 +7,6 @@ pub mod Entries
 pub mod StreamTables
 pub mod ClockLines
 pub mod ReferenceLines
+pub mod TableLines
 pub mod Seen
 pub mod Views

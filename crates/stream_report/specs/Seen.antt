@@ -13,12 +13,14 @@ use Rattle.stream_report.specs.declared.view_options.ViewOptions.{ViewOptions}
 use Rattle.stream_report.specs.Clocks.{ClockEntries, clocks_after, no_clocks}
 use Rattle.stream_report.specs.ClockLines.{clock_lines, errors_in, report_lines_if}
 use Rattle.stream_report.specs.ReferenceLines.{reference_lines}
+use Rattle.stream_report.specs.TableLines.{TablesState, no_tables, table_lines}
+use Rattle.stream_report.specs.TableLines as tables
 use Rattle.stream_report.specs.ReportLines.{line_of, number_field}
 use Rattle.stream_report.specs.WindowLines.{pid_lines, window_of}
 
 -- the number of packets, and of those that are refused or have transport_error_indicator; the window of the last packet that is
 -- not; the packets of each PID; the last clock reference of each, and what all of them came to, by the rate, with the number of
--- their errors; and the streams that are named
+-- their errors; the sections of tables; and the streams that are named
 pub record SeenState : Type 0 where
   pub options : ViewOptions
   pub packets : ℕ
@@ -28,6 +30,7 @@ pub record SeenState : Type 0 where
   pub clocks : ClockEntries
   pub watches : WatchesState
   pub errors : ℕ
+  pub tables : TablesState
   pub named : NamedView
 
 -- before the first packet
@@ -41,6 +44,7 @@ nothing_seen options = record {
   clocks = no_clocks;
   watches = watching.no_packet (ConstantRate options.rate);
   errors = 0;
+  tables = no_tables options.rate;
   named = none_taken;
 }
 
@@ -72,13 +76,21 @@ counted s packet = record s {
   totals = taken s.totals 0 packet.header.pid (has_pcr packet.adaptation);
 }
 
+-- the sections of tables in 188 bytes, and the lines of those that begin too late
+abbrev pub with_sections : SeenState → List ℕ → SeenState
+with_sections s bytes = record s { tables = tables.with_packet s.tables bytes }
+
+abbrev pub section_lines : SeenState → List ℕ → List ℕ
+section_lines s bytes = tables.packet_lines s.options s.tables bytes
+
 -- what 188 bytes name counts from the next packet on
 abbrev pub with_named : SeenState → List ℕ → SeenState
 with_named s bytes = record s { named = naming.taken s.named bytes }
 
--- at the end: clock references by PID, all packets by PID, and which of these are not named or have none
+-- at the end: clock references by PID, tables, all packets by PID, and which of these are not named or have none
 abbrev pub pid_ends : SeenState → List ℕ
-pid_ends s = clock_lines s.options s.watches ++ (pid_lines s.options s.totals ++ reference_lines s.options s.named s.totals)
+pid_ends s = clock_lines s.options s.watches
+    ++ (table_lines s.options s.tables ++ (pid_lines s.options s.totals ++ reference_lines s.options s.named s.totals))
 
 -- the last line: `end packets N refused N left N`, with the bytes that are left after the last whole packet
 abbrev pub end_line : SeenState → ℕ → List ℕ

@@ -121,6 +121,10 @@ lines_of options index clocks t packet = lines_if options index clocks t packet 
 
 -- 3. All streams
 
+-- the buffers of a PID have begun
+abbrev pub has_stream : TableState → ℕ → Bool
+has_stream t pid = is_some (lookup (nat_eq pid) t.places)
+
 abbrev pub table_units : ViewOptions → ℕ → TableState → List ℕ
 table_units options window t = flat_map (units_of options window) t.entries
 

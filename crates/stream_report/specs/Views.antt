@@ -3,11 +3,12 @@ use Rattle.std.specs.Prelude.{◌≡◌, ℕ, ◌==◌, Bool, false, if◌then�
 use Rattle.ts_packet.specs.declared.packet.PacketError.{PacketError}
 use Rattle.ts_packet.specs.Views.{PacketView}
 use Rattle.ts_packet.specs.Reading.{packet_at}
+use Rattle.ts_packet.specs.Packets.{null_packet}
 use Rattle.stream_report.specs.declared.view.View.{View}
 use Rattle.stream_report.specs.declared.view_options.ViewOptions.{ViewOptions}
-use Rattle.stream_report.specs.Seen.{SeenState, clock_errors, counted, end_line, next_window, nothing_seen, pid_ends, with_clock}
+use Rattle.stream_report.specs.Seen.{SeenState, clock_errors, counted, section_lines, end_line, next_window, nothing_seen, pid_ends, with_clock}
 use Rattle.stream_report.specs.Seen as seeing
-use Rattle.stream_report.specs.StreamTables.{IsTable, TableState, begin_lines, begun, lines_of, no_streams, table_end, table_units, taken}
+use Rattle.stream_report.specs.StreamTables.{IsTable, TableState, begin_lines, begun, has_stream, lines_of, no_streams, table_end, table_units, taken}
 use Rattle.stream_report.specs.StreamTables as tables
 use Rattle.stream_report.specs.WindowLines.{window_lines}
 
@@ -71,15 +72,26 @@ unfoldable pub lines_read : ViewState → Result PacketView PacketError → List
 lines_read s (Err error) = []
 lines_read s (Ok packet) = if packet.header.transport_error_indicator then [] else packet_lines s packet
 
+-- the 188 bytes as tables are looked for in them: a packet of a stream whose buffers have begun counts as a null packet
+unfoldable pub without_stream : ViewState → List ℕ → Result PacketView PacketError → List ℕ
+without_stream s bytes (Err error) = bytes
+without_stream s bytes (Ok packet) = if has_stream s.table packet.header.pid then null_packet else bytes
+
+abbrev pub with_sections : ViewState → List ℕ → ViewState
+with_sections s bytes = record { seen = seeing.with_sections s.seen (without_stream s bytes (packet_at bytes)); table = s.table }
+
+abbrev pub table_lines_at : ViewState → List ℕ → List ℕ
+table_lines_at s bytes = section_lines s.seen (without_stream s bytes (packet_at bytes))
+
 -- after 188 bytes, and the lines that they settle; what they name counts from the next on
 abbrev pub with_named : ViewState → List ℕ → ViewState
 with_named s bytes = record { seen = seeing.with_named s.seen bytes; table = s.table }
 
 abbrev pub after_packet : ViewState → List ℕ → ViewState
-after_packet s bytes = with_named (after_read s (packet_at bytes)) bytes
+after_packet s bytes = with_named (with_sections (after_read s (packet_at bytes)) bytes) bytes
 
 abbrev pub lines_at : ViewState → List ℕ → List ℕ
-lines_at s bytes = lines_read s (packet_at bytes)
+lines_at s bytes = lines_read s (packet_at bytes) ++ table_lines_at (after_read s (packet_at bytes)) bytes
 
 -- after packets
 unfoldable pub after_all : ViewState → List (List ℕ) → ViewState
@@ -97,4 +109,4 @@ end_lines s left = window_lines s.seen.options s.seen.window
 
 -- nothing is wrong
 abbrev pub is_good : ViewState → ℕ → Bool
-is_good s left = if s.seen.refused == 0 then (if s.seen.errors == 0 then (if left == 0 then tables.is_good s.table else false) else false) else false
+is_good s left = if s.seen.refused == 0 then (if s.seen.errors == 0 then (if s.seen.tables.times.errors == 0 then (if left == 0 then tables.is_good s.table else false) else false) else false) else false

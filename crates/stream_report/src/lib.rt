@@ -16,6 +16,7 @@ mod reference_lines;
 mod seen;
 mod stream_entry;
 mod stream_table;
+mod table_watch;
 mod tally;
 mod view;
 mod view_options;

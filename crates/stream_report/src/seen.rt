@@ -7,6 +7,7 @@ use crate::clock_lines::{errors_in, write_clocks, write_report};
 use crate::clocks::Clocks;
 use crate::lines::{number, write_line};
 use crate::reference_lines::write_references;
+use crate::table_watch::TableWatch;
 use crate::view_options::ViewOptions;
 use crate::window_lines::{window_of, write_pids};
 use named_streams::NamedStreams;
@@ -17,8 +18,8 @@ use std::marker::Model;
 use ts_packet::{Packet, has_pcr};
 
 /// What is kept of a stream beside its buffers: the number of packets, and of those that are refused; the window of the last packet; the
-/// packets of each PID; the last clock reference of each, and what all of them came to, with the number of their errors; and the
-/// streams that are named.
+/// packets of each PID; the last clock reference of each, and what all of them came to, with the number of their errors; the
+/// sections of tables; and the streams that are named.
 #[derive(Drop)]
 pub struct Seen {
     alloc: Global,
@@ -30,6 +31,7 @@ pub struct Seen {
     pub clocks: Clocks,
     pub watches: PcrWatches<Global>,
     pub errors: u64,
+    pub tables: TableWatch,
     pub named: NamedStreams,
 }
 
@@ -47,6 +49,7 @@ impl Model for Seen {
       clocks = s.clocks;
       watches = s.watches;
       errors = s.errors;
+      tables = s.tables;
       named = s.named;
     } };
 }
@@ -66,6 +69,7 @@ impl Seen {
             clocks: Clocks::new(alloc),
             watches: PcrWatches::new(alloc, PcrTiming::ConstantRate(options.rate)),
             errors: 0,
+            tables: TableWatch::new(alloc, options.rate),
             named: NamedStreams::new(alloc),
         }
     }
@@ -111,6 +115,15 @@ impl Seen {
         Ok(())
     }
 
+    /// The sections of tables in 188 bytes: the lines of those that begin too late are appended.
+    pub fn take_sections(&mut self, bytes: &[u8; 188], text: &mut String) -> Result<(), AllocError>
+        ensures seen { OnOk result (self.new ≡ spec.with_sections self.old bytes.now) }
+        ensures lines { OnOk result (string_bytes text.new
+            ≡ string_bytes text.old ++ spec.section_lines self.old bytes.now) }
+    {
+        self.tables.take(&self.options, bytes, text)
+    }
+
     /// What 188 bytes name counts from the next packet on.
     pub fn name(&mut self, bytes: &[u8; 188]) -> Result<(), AllocError>
         ensures { OnOk result (self.new ≡ spec.with_named self.old bytes.now) }
@@ -118,11 +131,12 @@ impl Seen {
         self.named.take(bytes)
     }
 
-    /// Appends the lines of clock references by PID, of all packets by PID, and of PIDs that are not named or have no packet.
+    /// Appends the lines of clock references by PID, of tables, of all packets by PID, and of PIDs that are not named or have no packet.
     pub fn write_pid_ends(&self, text: &mut String) -> Result<(), AllocError>
         ensures { OnOk result (string_bytes text.new ≡ string_bytes text.old ++ spec.pid_ends self.now) }
     {
         write_clocks(text, &self.options, &self.watches)?;
+        self.tables.write_end(text, &self.options)?;
         write_pids(text, &self.options, &self.totals)?;
         write_references(self.alloc, text, &self.options, &self.named, &self.totals)
     }

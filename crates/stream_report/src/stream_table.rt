@@ -213,6 +213,13 @@ impl StreamTable {
         entry.take(options, index, window, &clock, packet, text)
     }
 
+    /// Whether the buffers of a PID have begun.
+    pub fn has_stream(&self, pid: u16) -> bool
+        ensures { (t : TableState) → IsTable self.now t → result ≡ spec.has_stream t pid }
+    {
+        self.places.get(&pid).is_some()
+    }
+
     /// Appends a line for each stream of which a unit ended in a window.
     pub fn write_units(
         &self,

@@ -1,6 +1,7 @@
 //! A stream, packet by packet.
 ghost use Rattle.std.specs.Prelude.{◌≡◌, ◌++◌, OnOk, Result, string_bytes};
 ghost use Rattle.bit_fields.specs.Reading.{Gives};
+ghost use Rattle.ts_packet.specs.Reading.{packet_at};
 ghost use Rattle.ts_packet.specs.Views.{PacketView, packet_view};
 ghost use Rattle.ts_packet.specs.declared.packet.PacketError.{PacketError};
 ghost use Rattle.stream_report.specs.Views as spec;
@@ -11,7 +12,7 @@ use crate::stream_table::StreamTable;
 use crate::view_options::ViewOptions;
 use crate::window_lines::write_window;
 use std::alloc::{AllocError, Global};
-use ts_packet::{Packet, PacketError, read_packet};
+use ts_packet::{Packet, PacketError, null_packet, read_packet};
 
 /// A stream as far as it has come: no packet is kept.
 ///
@@ -111,13 +112,41 @@ impl View {
         }
     }
 
+    // The sections of tables in 188 bytes, which were read.
+    #[tactic(auto, unfolding(crate::specs::Views::without_stream))]
+    fn watch_tables(
+        &mut self,
+        bytes: &[u8; 188],
+        read: &Result<Packet<'_>, PacketError>,
+        text: &mut String,
+    ) -> Result<(), AllocError>
+        requires { Gives packet_view read.now (packet_at bytes.now) }
+        ensures view { (s : ViewState) → IsView self.old s →
+            OnOk result (IsView self.new (spec.with_sections s bytes.now)) }
+        ensures lines { (s : ViewState) → IsView self.old s → OnOk result (string_bytes text.new
+            ≡ string_bytes text.old ++ spec.table_lines_at s bytes.now) }
+    {
+        match read {
+            Err(_) => self.seen.take_sections(bytes, text),
+            Ok(packet) => {
+                if self.table.has_stream(packet.header.pid) {
+                    self.seen.take_sections(&null_packet(), text)
+                } else {
+                    self.seen.take_sections(bytes, text)
+                }
+            }
+        }
+    }
+
     /// The next packet: the lines that it settles are appended to the text.
     pub fn take(&mut self, bytes: &[u8; 188], text: &mut String) -> Result<(), AllocError>
         ensures view { (s : ViewState) → IsView self.old s → OnOk result (IsView self.new (spec.after_packet s bytes.now)) }
         ensures lines { (s : ViewState) → IsView self.old s →
             OnOk result (string_bytes text.new ≡ string_bytes text.old ++ spec.lines_at s bytes.now) }
     {
-        self.note(&read_packet(bytes), text)?;
+        let read = read_packet(bytes);
+        self.note(&read, text)?;
+        self.watch_tables(bytes, &read, text)?;
         self.seen.name(bytes)
     }
 
@@ -152,6 +181,10 @@ impl View {
     pub fn is_good(&self, left: usize) -> bool
         ensures { (s : ViewState) → IsView self.now s → result ≡ spec.is_good s left }
     {
-        self.seen.refused == 0 && self.seen.errors == 0 && left == 0 && self.table.is_good()
+        self.seen.refused == 0
+            && self.seen.errors == 0
+            && self.seen.tables.is_good()
+            && left == 0
+            && self.table.is_good()
     }
 }
