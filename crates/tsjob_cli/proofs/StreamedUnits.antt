@@ -1,14 +1,10 @@
 -- The streams of a description, and a stream that goes by it.
-use Rattle.std.proofs.Common.{◌≡◌, ◌∙◌, ◌<◌, ◌≤◌, ◌+◌, ◌++◌, ℕ, List, [], ◌∷◌, length, drop, get_or, Bool, true, false, Option, Some, None, Result, Ok, Err, refl, sym, ap, subst, add-one, inl, inr, arith}
-use Rattle.std.specs.Prelude.{codes, if◌then◌else◌}
-use Rattle.std.specs.Str.{IsUtf8, is_utf8}
-use Rattle.std.proofs.lemmas.Str.{IsUtf8-from_is_utf8, is_utf8-from_IsUtf8}
+use Rattle.std.proofs.Common.{◌≡◌, ◌∙◌, ◌<◌, ◌≤◌, ◌+◌, ◌++◌, ℕ, List, [], ◌∷◌, length, drop, get_or, Option, Some, None, Result, Ok, Err, refl, sym, ap, subst, add-one, inl, inr, arith}
+use Rattle.std.specs.Prelude.{codes}
 use Rattle.std.proofs.Math.Seq.{drop-cons}
-use Rattle.toml.specs.Parse.{parse_document}
-use Rattle.description.specs.Reading.{description_of}
-use Rattle.description.specs.declared.fault.DescFault.TheVariants as fault
 use Rattle.std.proofs.lemmas.List.{append_assoc, append-nil, drop_all}
 use Rattle.clap.specs.Words.{Text}
+use Rattle.checked_jobs.specs.Jobs.{described}
 use Rattle.description.specs.Described.{Described, DescribedStream}
 use Rattle.description.specs.declared.fault.DescError.TheVariants as refused_by
 use Rattle.stream_units.specs.UnitSteps.{none_so_far}
@@ -24,7 +20,7 @@ use Rattle.devices.specs.Runs.{Performs}
 use Rattle.description.specs.Ranges.{IsInRange}
 use Rattle.tsjob_cli.specs.Arguments.{JobArgumentsView}
 use Rattle.tsjob_cli.specs.Outcomes.{Leads}
-use Rattle.tsjob_cli.specs.StreamedUnits.{GoesBy, IsDescriptionIn, IsNamedDescription, StreamsUnits, described, fed_stream, none_outcome, refused_line, streams_from}
+use Rattle.tsjob_cli.specs.StreamedUnits.{GoesBy, IsDescriptionIn, IsNamedDescription, StreamsUnits, fed_stream, none_outcome, refused_line, streams_from}
 use Rattle.tsjob_cli.specs.declared.streaming.NoDescription.{NoDescription}
 use Rattle.tsjob_cli.specs.declared.streaming.NoDescription.TheVariants.{Unopened, Stopped, Refused}
 
@@ -52,19 +48,6 @@ streams_all streams k fed all over so =
     sym (append-nil fed) ∙ ap (λ (x : List FedStreamView). fed ++ x) (sym (ap (λ (ss : List DescribedStream). streams_from k ss) (drop_all k streams over) ∙ no_streams k)) ∙ so
 
 -- 2. A description in a file
-
-pub described_text : (bytes text : List ℕ) → text ≡ bytes → IsUtf8 bytes → description_of (parse_document text) ≡ described bytes
-unfolding described
-described_text bytes text e u = ap (λ (x : List ℕ). description_of (parse_document x)) e
-    ∙ sym (ap (λ (b : Bool). if b then description_of (parse_document bytes) else Err (refused_by.Refused fault.Text)) (is_utf8-from_IsUtf8 bytes u))
-
-not_utf8 : (bytes : List ℕ) (b : Bool) → is_utf8 bytes ≡ b → ¬ (IsUtf8 bytes) → b ≡ false
-not_utf8 bytes true e n = absurd (n (IsUtf8-from_is_utf8 bytes e))
-not_utf8 bytes false e n = cc
-
-pub no_text : (bytes : List ℕ) → ¬ (IsUtf8 bytes) → Err (refused_by.Refused fault.Text) ≡ described bytes
-unfolding described
-no_text bytes n = sym (ap (λ (b : Bool). if b then description_of (parse_document bytes) else Err (refused_by.Refused fault.Text)) (not_utf8 bytes (is_utf8 bytes) (let same : is_utf8 bytes ≡ is_utf8 bytes = cc in same) n))
 
 -- whose bytes are those that were read, where they are known
 pub of_text : (known : Option (List ℕ)) (text : List ℕ) (r : Result Described NoDescription) → ((xs : List ℕ) → known ≡ Some xs → text ≡ xs) → IsDescriptionIn text r → IsNamedDescription known r

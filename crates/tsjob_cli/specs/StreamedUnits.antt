@@ -1,17 +1,13 @@
 -- The units of the streams of a description, while a stream comes.
-use Rattle.std.specs.Str.{is_utf8}
-use Rattle.std.specs.Prelude.{◌≡◌, ◌⊎◌, ℕ, ◌+◌, true, List, [], ◌∷◌, map, Option, Some, None, Result, Ok, Err, codes, if◌then◌else◌, ⊤}
+use Rattle.std.specs.Prelude.{◌≡◌, ◌⊎◌, ℕ, ◌+◌, true, List, [], ◌∷◌, map, Option, Some, None, Result, Ok, Err, codes, ⊤}
 use Rattle.description.specs.Described.{Described, DescribedStream}
-use Rattle.description.specs.declared.fault.DescError.{DescError}
 use Rattle.description.specs.declared.fault.DescError.TheVariants as refused_by
 use Rattle.stream_units.specs.UnitSteps.{none_so_far}
 use Rattle.unit_feed.specs.Feeding.{FeedView, FedStreamView}
 use Rattle.unit_output.specs.Passing.{RunsStream}
+use Rattle.checked_jobs.specs.Jobs.{described}
 use Rattle.description.specs.Codes.{fault_code, fault_item}
-use Rattle.description.specs.Reading.{description_of}
 use Rattle.description.specs.declared.fault.DescFault.{DescFault}
-use Rattle.description.specs.declared.fault.DescFault.TheVariants as fault
-use Rattle.toml.specs.Parse.{parse_document}
 use Rattle.devices.specs.Devices.{Device, IsUntouched}
 use Rattle.devices.specs.Lines.{Reports, line_text}
 use Rattle.devices.specs.Outcomes.{Outcome, halted, reported}
@@ -43,10 +39,6 @@ abbrev pub pids_of : Described → List ℕ
 pids_of d = map (λ s. s.pid) d.streams
 
 -- 2. The description in a file, of which these bytes are known
-
--- the description in bytes; bytes that are no UTF-8 are no TOML
-unfoldable pub described : List ℕ → Result Described DescError
-described bytes = if is_utf8 bytes then description_of (parse_document bytes) else Err (refused_by.Refused fault.Text)
 
 abbrev pub IsDescriptionIn : List ℕ → Result Described NoDescription → Type 0
 IsDescriptionIn text (Ok d) = described text ≡ Ok d

@@ -1,10 +1,11 @@
 //! The units of the streams of a description, while a stream comes.
 
-ghost use Rattle.std.specs.Prelude.{◌≡◌, ◌⊎◌, ◌≤◌, ◌<◌, ◌++◌, ◌∷◌, [], Err, IfOk, OnOk, length};
+ghost use Rattle.std.specs.Prelude.{◌≡◌, ◌≤◌, ◌<◌, ◌++◌, ◌∷◌, [], IfOk, OnOk, length};
 ghost use Rattle.devices.specs.Devices.{reads, writes};
 ghost use Rattle.devices.specs.Lines.{Reports};
 ghost use Rattle.tsjob_cli.specs.StreamedUnits as spec;
 
+use checked_jobs::read_description;
 use counted_io::{Sink, Source};
 use description::{DescError, DescFault, Description, StreamDescription};
 use devices::{Halt, NamedFiles, read_whole, report_halt, report_line};
@@ -65,16 +66,6 @@ fn feed_of(alloc: Global, description: &Description) -> Result<UnitFeed, AllocEr
 {
     let streams = fed_streams(alloc, description.streams())?;
     Ok(UnitFeed::new(EARLIEST, streams))
-}
-
-// The description in bytes.
-fn read_description(alloc: Global, bytes: &[u8]) -> Result<Description, DescError>
-    ensures { (result ≡ Err DescError.Memory) ⊎ (result ≡ spec.described bytes.now) }
-{
-    match str::from_utf8(bytes) {
-        Ok(text) => Description::read(alloc, text),
-        Err(_) => Err(DescError::Refused(DescFault::Text)),
-    }
 }
 
 // The description in the bytes of a file.
