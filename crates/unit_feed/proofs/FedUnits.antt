@@ -1,5 +1,5 @@
 -- What is fed, finding by finding.
-use Rattle.std.proofs.Common.{◌≡◌, ◌∙◌, ◌<◌, ℕ, ◌+◌, ◌++◌, Bool, true, false, if◌then◌else◌, Option, Some, None, Result, Ok, List, [], ◌∷◌, length, map, drop, get_or, slice_get, slice_set, refl, sym, ap, subst, add-one, inl, inr, ◌⊎◌, ◌≤◌, arith}
+use Rattle.std.proofs.Common.{◌≡◌, ◌∙◌, ◌<◌, ℕ, ◌+◌, ◌++◌, ◌||◌, ◌&&◌, Bool, true, false, if◌then◌else◌, Option, Some, None, Result, Ok, List, [], ◌∷◌, length, map, drop, get_or, slice_get, slice_set, refl, sym, ap, subst, add-one, inl, inr, ◌⊎◌, ◌≤◌, arith}
 use Rattle.std.specs.Option.{option_to_list}
 use Rattle.std.proofs.Math.Seq.{drop-cons}
 use Rattle.std.proofs.lemmas.List.{append_assoc, append-nil, drop_all}
@@ -11,9 +11,11 @@ use Rattle.stream_units.specs.CarriedUnits.{CarriedUnit, Ignored, role_of, carri
 use Rattle.stream_units.specs.Stamps.{distance, dts_at, unit_at, moved, unit_fault, fault_or, first_fault}
 use Rattle.stream_units.specs.UnitSteps.{after_findings, ended_unit, given, goes_on_as, made_whole, none_so_far}
 use Rattle.stream_units.specs.declared.stamps.StampFault.{StampFault}
-use Rattle.unit_feed.specs.Feeding.{FedStreamView, Fed, FeedView, unless_fault, at_moment, last_dts, base_by, base_after, before_with, fed_with, stream_with, fed_by, whole_by, after_found, place_from, feed_with, after_at, fed_at, after_place, fed_place, after_one, fed_one, after_all, fed_all, fed_last, fed_to_end}
+use Rattle.unit_feed.specs.declared.feed_fault.FeedFault.{FeedFault}
+use Rattle.unit_feed.specs.declared.feed_fault.Loss.{Loss}
+use Rattle.unit_feed.specs.Feeding.{FedStreamView, Fed, FeedView, unless_fault, at_moment, last_dts, base_by, base_after, before_with, fed_with, stream_with, fed_by, whole_by, after_found, lost_by, lost_fed, told_of, place_from, feed_with, after_at, fed_at, after_place, fed_place, after_one, fed_one, after_all, fed_all, fed_last, fed_to_end}
 use Rattle.stream_units.proofs.UnitSteps.{uncut_carried}
-use Rattle.unit_feed.specs.Laws.{FedAsCarried, FedInTurn}
+use Rattle.unit_feed.specs.Laws.{FedAsCarried, FedInTurn, has_loss, is_loss}
 
 -- 1. In turn
 
@@ -54,7 +56,7 @@ unfolding after_place after_at
 after_is feed f k s at is = rw (sym at) (rw is refl)
 
 fed_is : (feed : FeedView) (f : FindingView) (k : ℕ) (s : FedStreamView) → Some k ≡ place_from f.pid 0 feed.streams → slice_get feed.streams k ≡ Some s →
-    fed_one feed f ≡ option_to_list (fed_by feed.earliest feed.base s (whole_by s f))
+    fed_one feed f ≡ option_to_list (fed_by feed.earliest feed.base s (whole_by s f)) ++ option_to_list (lost_fed s f)
 unfolding fed_place fed_at
 fed_is feed f k s at is = rw (sym at) (rw is refl)
 
@@ -68,12 +70,17 @@ placed_after feed f k base streams at below sets fixes =
     ∙ ap (λ (b : Option ℕ). record { earliest = feed.earliest; base = b; streams = slice_set feed.streams k (stream_with feed.earliest feed.base (after_found s.0 f) (whole_by s.0 f)) }) (fixes s.0 s.1)
     ∙ sym (after_is feed f k s.0 at s.1)
 
-pub placed_fed : (feed : FeedView) (f : FindingView) (k : ℕ) (one : Option Fed) → Some k ≡ place_from f.pid 0 feed.streams → k < length feed.streams →
+pub placed_fed : (feed : FeedView) (f : FindingView) (k : ℕ) (one loss : Option Fed) (before middle after : List Fed) → Some k ≡ place_from f.pid 0 feed.streams → k < length feed.streams →
     ((s : FedStreamView) → slice_get feed.streams k ≡ Some s → one ≡ fed_by feed.earliest feed.base s (whole_by s f)) →
-    option_to_list one ≡ fed_one feed f
-placed_fed feed f k one at below feeds =
+    ((s : FedStreamView) → slice_get feed.streams k ≡ Some s → loss ≡ lost_fed s f) →
+    middle ≡ before ++ option_to_list one → after ≡ middle ++ option_to_list loss → after ≡ before ++ fed_one feed f
+placed_fed feed f k one loss before middle after at below feeds loses first last =
     let s = there feed.streams k below (slice_get_cases feed.streams k).1 in
-    ap (λ (o : Option Fed). option_to_list o) (feeds s.0 s.1) ∙ sym (fed_is feed f k s.0 at s.1)
+    last ∙ ap (λ (xs : List Fed). xs ++ option_to_list loss) first
+    ∙ append_assoc before (option_to_list one) (option_to_list loss)
+    ∙ ap (λ (o : Option Fed). before ++ (option_to_list o ++ option_to_list loss)) (feeds s.0 s.1)
+    ∙ ap (λ (o : Option Fed). before ++ (option_to_list (fed_by feed.earliest feed.base s.0 (whole_by s.0 f)) ++ option_to_list o)) (loses s.0 s.1)
+    ∙ ap (λ (xs : List Fed). before ++ xs) (sym (fed_is feed f k s.0 at s.1))
 
 -- 3. A list that is gone through
 
@@ -149,11 +156,20 @@ unfolding place_from after_place after_at base_after before_with made_whole goes
 single_after_by e b s f true own = rw own refl
 single_after_by e b s f false own = rw (own, other_role s.units.pid f own) refl
 
-single_fed_by : (e : ℕ) (b : Option ℕ) (s : FedStreamView) (f : FindingView) (own : Bool) → has_pid s.units.pid f.pid ≡ own →
+not_told : (number : ℕ) (loss : Option Loss) → is_loss loss ≡ false → told_of number loss ≡ None
+unfolding is_loss told_of
+not_told number None none = refl
+not_told number (Some loss) none = absurd cc
+
+single_fed_by : (e : ℕ) (b : Option ℕ) (s : FedStreamView) (f : FindingView) (own : Bool) → has_pid s.units.pid f.pid ≡ own → (own && is_loss (lost_by f.packet f.what)) ≡ false →
     fed_one (single e b s) f ≡ option_to_list (fed_by e b s (whole_by s f))
 unfolding place_from fed_place fed_at fed_with made_whole
-single_fed_by e b s f true own = rw own refl
-single_fed_by e b s f false own = rw (own, other_role s.units.pid f own) refl
+single_fed_by e b s f true own none = rw (own, not_told s.number (lost_by f.packet f.what) none) (append-nil (option_to_list (fed_by e b s (whole_by s f))))
+single_fed_by e b s f false own none = rw (own, other_role s.units.pid f own) refl
+
+neither : (a b : Bool) → (a || b) ≡ false → (a ≡ false) × (b ≡ false)
+neither true b none = absurd cc
+neither false b none = (refl, none)
 
 fed_more : (feed : FeedView) (f : FindingView) (fs : List FindingView) → fed_to_end feed (f ∷ fs) ≡ fed_one feed f ++ fed_to_end (after_one feed f) fs
 unfolding fed_all after_all
@@ -161,20 +177,21 @@ fed_more feed f fs =
     let last = after_all (after_one feed f) fs in
     append_assoc (fed_one feed f) (fed_all (after_one feed f) fs) (fed_last last.earliest last.base last.streams)
 
-single_timed : (e : ℕ) (b : Option ℕ) (s : FedStreamView) (fs : List FindingView) →
+single_timed : (e : ℕ) (b : Option ℕ) (s : FedStreamView) (fs : List FindingView) → has_loss s.units.pid fs ≡ false →
     fed_to_end (single e b s) fs ≡ timed e b s.number s.before (given s.units fs ++ option_to_list (ended_unit false (after_findings s.units fs).unit))
 unfolding fed_all after_all fed_last given after_findings timed
-single_timed e b s [] =
+single_timed e b s [] unlost =
     let w = ended_unit false s.units.unit in
     sym (ap (λ (ws : List CarriedUnit). timed e b s.number s.before ws) (sym (append-nil (option_to_list w))) ∙ timed_one e b s.number s.before w [])
-single_timed e b s (f ∷ fs) =
+single_timed e b s (f ∷ fs) unlost =
+    let none = neither (has_pid s.units.pid f.pid && is_loss (lost_by f.packet f.what)) (has_loss s.units.pid fs) unlost in
     let w = whole_by s f in
     let t = stream_with e b (after_found s f) w in
     let later = given t.units fs ++ option_to_list (ended_unit false (after_findings t.units fs).unit) in
     fed_more (single e b s) f fs
-    ∙ ap (λ (xs : List Fed). xs ++ fed_to_end (after_one (single e b s) f) fs) (single_fed_by e b s f (has_pid s.units.pid f.pid) refl)
+    ∙ ap (λ (xs : List Fed). xs ++ fed_to_end (after_one (single e b s) f) fs) (single_fed_by e b s f (has_pid s.units.pid f.pid) refl none.0)
     ∙ ap (λ (feed : FeedView). option_to_list (fed_by e b s w) ++ fed_to_end feed fs) (single_after_by e b s f (has_pid s.units.pid f.pid) refl)
-    ∙ ap (λ (xs : List Fed). option_to_list (fed_by e b s w) ++ xs) (single_timed e (base_after e b w) t fs)
+    ∙ ap (λ (xs : List Fed). option_to_list (fed_by e b s w) ++ xs) (single_timed e (base_after e b w) t fs none.1)
     ∙ sym (timed_one e b s.number s.before w later)
     ∙ ap (λ (ws : List CarriedUnit). timed e b s.number s.before ws) (sym (append_assoc (option_to_list w) (given t.units fs) (option_to_list (ended_unit false (after_findings t.units fs).unit))))
 
@@ -197,7 +214,7 @@ timed_moved e base n place before (w ∷ ws) sound =
     let u = w.unit in
     let two = no_fault place (unit_fault base before u) (first_fault base (Some (dts_at base before u.dts)) (place + 1) (map (λ w. w.unit) ws)) sound in
     let here : at_moment base before u ≡ Ok (unit_at base before u) = ap (λ (o : Option StampFault). unless_fault o (unit_at base before u)) two.0 in
-    ap (λ (r : Result AccessUnit StampFault). (n, r) ∷ timed e (Some base) n (last_dts before r) ws) here
+    ap (λ (r : Result AccessUnit FeedFault). (n, r) ∷ timed e (Some base) n (last_dts before r) ws) here
     ∙ ap (λ (d : ℕ). (n, Ok (unit_at base before u)) ∷ timed e (Some base) n (Some d) ws) (unit_dts base before u)
     ∙ ap (λ (xs : List Fed). (n, Ok (unit_at base before u)) ∷ xs) (timed_moved e base n (place + 1) (Some (dts_at base before u.dts)) ws two.1)
 
@@ -219,8 +236,8 @@ moved_by_first e n (w ∷ ws) u us is sound =
     ∙ ap (λ (l : List AccessUnit). map (λ (x : AccessUnit). (n, Ok x)) (moved (distance e u.dts) None l)) is
 
 pub as_carried : FedAsCarried
-as_carried earliest number pid fs u us uncut is sound =
+as_carried earliest number pid fs u us uncut unlost is sound =
     let s : FedStreamView = record { number = number; before = None; units = none_so_far pid true } in
-    single_timed earliest None s fs
+    single_timed earliest None s fs unlost
     ∙ ap (λ (ws : List CarriedUnit). timed earliest None number None ws) (sym (uncut_carried true pid fs uncut))
     ∙ moved_by_first earliest number (carried_units pid fs) u us is sound

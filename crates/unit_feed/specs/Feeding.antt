@@ -3,12 +3,15 @@
 use Rattle.std.specs.Prelude.{ℕ, ◌+◌, ◌++◌, false, if◌then◌else◌, Option, Some, None, Result, Ok, Err, List, [], ◌∷◌, slice_get, slice_set}
 use Rattle.std.specs.Option.{option_to_list}
 use Rattle.pes_packet.specs.AccessUnits.{AccessUnit}
-use Rattle.demux.specs.Views.{FindingView}
+use Rattle.demux.specs.Views.{FindingView, WhatView, BreaksCounter}
 use Rattle.demux.specs.Laws.{has_pid}
 use Rattle.stream_units.specs.CarriedUnits.{CarriedUnit, role_of}
 use Rattle.stream_units.specs.Stamps.{distance, unit_at, unit_fault}
 use Rattle.stream_units.specs.UnitSteps.{UnitsSoFar, after_finding, ended_unit, made_whole}
 use Rattle.stream_units.specs.declared.stamps.StampFault.{StampFault}
+use Rattle.unit_feed.specs.declared.feed_fault.FeedFault.{FeedFault}
+use Rattle.unit_feed.specs.declared.feed_fault.FeedFault.TheVariants.{Stamp, Lost}
+use Rattle.unit_feed.specs.declared.feed_fault.Loss.{Loss}
 
 -- 1. A stream
 
@@ -18,20 +21,20 @@ pub record FedStreamView : Type 0 where
   pub before : Option ℕ
   pub units : UnitsSoFar
 
--- a unit at its moment with the number of its stream, or why it can't have one
+-- a unit at its moment with the number of its stream, or what is told in its place
 abbrev pub Fed : Type 0
-Fed = ℕ × Result AccessUnit StampFault
+Fed = ℕ × Result AccessUnit FeedFault
 
-unfoldable pub unless_fault : Option StampFault → AccessUnit → Result AccessUnit StampFault
+unfoldable pub unless_fault : Option StampFault → AccessUnit → Result AccessUnit FeedFault
 unless_fault None u = Ok u
-unless_fault (Some fault) u = Err fault
+unless_fault (Some fault) u = Err (Stamp fault)
 
 -- a unit at its moment after a DTS or after none, where the clock shows `base` at moment 0
-abbrev pub at_moment : ℕ → Option ℕ → AccessUnit → Result AccessUnit StampFault
+abbrev pub at_moment : ℕ → Option ℕ → AccessUnit → Result AccessUnit FeedFault
 at_moment base before u = unless_fault (unit_fault base before u) (unit_at base before u)
 
 -- the last DTS after it: a unit that has no moment is left out, and moves nothing
-unfoldable pub last_dts : Option ℕ → Result AccessUnit StampFault → Option ℕ
+unfoldable pub last_dts : Option ℕ → Result AccessUnit FeedFault → Option ℕ
 last_dts before (Ok u) = Some u.dts
 last_dts before (Err fault) = before
 
@@ -69,6 +72,18 @@ whole_by s f = made_whole s.units.split s.units.unit (role_of s.units.pid f)
 abbrev pub after_found : FedStreamView → FindingView → FedStreamView
 after_found s f = record s { units = after_finding s.units f }
 
+-- the packets before it that are lost: a continuity_counter does not follow the one before (2.4.3.3)
+unfoldable pub lost_by : ℕ → WhatView → Option Loss
+lost_by packet (BreaksCounter expected found) = Some (record { packet = packet; expected = expected; found = found })
+lost_by packet _ = None
+
+unfoldable pub told_of : ℕ → Option Loss → Option Fed
+told_of number None = None
+told_of number (Some loss) = Some (number, Err (Lost loss))
+
+abbrev pub lost_fed : FedStreamView → FindingView → Option Fed
+lost_fed s f = told_of s.number (lost_by f.packet f.what)
+
 -- all streams, with the moment at which the first unit is due, and what the clock shows at moment 0, once that is fixed
 pub record FeedView : Type 0 where
   pub earliest : ℕ
@@ -88,16 +103,16 @@ unfoldable pub after_at : FeedView → FindingView → ℕ → Option FedStreamV
 after_at feed f k None = feed
 after_at feed f k (Some s) = feed_with feed k (after_found s f) (whole_by s f)
 
-unfoldable pub fed_at : FeedView → FindingView → Option FedStreamView → Option Fed
-fed_at feed f None = None
-fed_at feed f (Some s) = fed_by feed.earliest feed.base s (whole_by s f)
+unfoldable pub fed_at : FeedView → FindingView → Option FedStreamView → List Fed
+fed_at feed f None = []
+fed_at feed f (Some s) = option_to_list (fed_by feed.earliest feed.base s (whole_by s f)) ++ option_to_list (lost_fed s f)
 
 unfoldable pub after_place : FeedView → FindingView → Option ℕ → FeedView
 after_place feed f None = feed
 after_place feed f (Some k) = after_at feed f k (slice_get feed.streams k)
 
-unfoldable pub fed_place : FeedView → FindingView → Option ℕ → Option Fed
-fed_place feed f None = None
+unfoldable pub fed_place : FeedView → FindingView → Option ℕ → List Fed
+fed_place feed f None = []
 fed_place feed f (Some k) = fed_at feed f (slice_get feed.streams k)
 
 -- after a finding, and what it feeds
@@ -105,7 +120,7 @@ abbrev pub after_one : FeedView → FindingView → FeedView
 after_one feed f = after_place feed f (place_from f.pid 0 feed.streams)
 
 abbrev pub fed_one : FeedView → FindingView → List Fed
-fed_one feed f = option_to_list (fed_place feed f (place_from f.pid 0 feed.streams))
+fed_one feed f = fed_place feed f (place_from f.pid 0 feed.streams)
 
 -- 4. Findings one after another
 

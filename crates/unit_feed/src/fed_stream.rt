@@ -6,11 +6,12 @@ ghost use Rattle.demux.specs.Shown.{finding_view};
 ghost use Rattle.stream_units.specs.UnitSteps.{ended_unit, none_so_far};
 ghost use Rattle.unit_feed.specs.Feeding as spec;
 
-use demux::Finding;
+use crate::feed_fault::{FeedFault, Loss};
+use demux::{Finding, What};
 use pes_packet::Unit;
 use std::alloc::{AllocError, Global};
 use std::marker::Model;
-use stream_units::{StampFault, UnitTaker, WireUnit, distance, moved_unit};
+use stream_units::{UnitTaker, WireUnit, distance, moved_unit};
 
 /// A stream: its number, its PID, its unit under way, and the DTS of its last unit.
 #[derive(Drop)]
@@ -54,7 +55,7 @@ fn feed(
     earliest: u64,
     base: &mut Option<u64>,
     whole: Option<WireUnit>,
-) -> Option<(u8, Result<Unit, StampFault>)>
+) -> Option<(u8, Result<Unit, FeedFault>)>
     requires base { IfSome base.old (λ base. base < 2 ^ 33) }
     requires before { IfSome before.old (λ dts. dts ≤ 2 ^ 52) }
     ensures fed { result ≡ spec.fed_with earliest base.old number before.old whole }
@@ -73,7 +74,22 @@ fn feed(
             *before = Some(unit.dts);
             Some((number, Ok(unit)))
         }
-        Err(fault) => Some((number, Err(fault))),
+        Err(fault) => Some((number, Err(FeedFault::Stamp(fault)))),
+    }
+}
+
+// The loss that a finding tells of, if it tells of one.
+#[tactic(auto, unfolding(crate::specs::Feeding::lost_by))]
+fn loss_of(finding: &Finding<'_>) -> Option<Loss>
+    ensures { result ≡ spec.lost_by (finding_view finding.now).packet (finding_view finding.now).what }
+{
+    match &finding.what {
+        What::CounterBreak { expected, found } => Some(Loss {
+            packet: finding.packet,
+            expected: *expected,
+            found: *found,
+        }),
+        _ => None,
     }
 }
 
@@ -109,7 +125,7 @@ impl FedStream {
         earliest: u64,
         base: &mut Option<u64>,
         finding: &Finding<'_>,
-    ) -> Result<Option<(u8, Result<Unit, StampFault>)>, AllocError>
+    ) -> Result<Option<(u8, Result<Unit, FeedFault>)>, AllocError>
         requires { IfSome base.old (λ base. base < 2 ^ 33) }
         ensures fed { IfOk result (λ fed. fed
             ≡ spec.fed_by earliest base.old self.old (spec.whole_by self.old (finding_view finding.now))) }
@@ -123,12 +139,23 @@ impl FedStream {
         Ok(feed(self.number, &mut self.before, earliest, base, whole))
     }
 
+    /// The loss of packets that a finding of its PID tells of, if it tells of one.
+    #[tactic(auto, unfolding(crate::specs::Feeding::told_of))]
+    pub(crate) fn loss(&self, finding: &Finding<'_>) -> Option<(u8, Result<Unit, FeedFault>)>
+        ensures { result ≡ spec.lost_fed self.now (finding_view finding.now) }
+    {
+        match loss_of(finding) {
+            None => None,
+            Some(loss) => Some((self.number, Err(FeedFault::Lost(loss)))),
+        }
+    }
+
     /// The findings end: the last unit at its moment, if there is one.
     pub(crate) fn finish(
         self,
         earliest: u64,
         base: &mut Option<u64>,
-    ) -> Option<(u8, Result<Unit, StampFault>)>
+    ) -> Option<(u8, Result<Unit, FeedFault>)>
         requires { IfSome base.old (λ base. base < 2 ^ 33) }
         ensures fed { result ≡ spec.fed_by earliest base.old self (ended_unit false self.units.unit) }
         ensures base { base.new ≡ spec.base_after earliest base.old (ended_unit false self.units.unit) }

@@ -6,13 +6,13 @@ ghost use Rattle.demux.specs.Stream.{pushed};
 ghost use Rattle.unit_feed.specs.Feeding.{Fed, FeedView, after_all, fed_all};
 ghost use Rattle.unit_feed.specs.StreamFeeding as spec;
 
+use crate::feed_fault::FeedFault;
 use crate::unit_feed::UnitFeed;
 use demux::Demux;
 use packet_sync::next_stretch;
 use pes_packet::Unit;
 use std::alloc::{AllocError, Global};
 use std::marker::Model;
-use stream_units::StampFault;
 
 /// A stream of which the bytes come piece by piece. It holds at most 1,127 bytes of the stream beside what the demultiplexer
 /// and the units under way have.
@@ -39,7 +39,7 @@ fn take_bytes(
     demux: &mut Demux,
     feed: &mut UnitFeed,
     bytes: &[u8],
-    fed: &mut Vec<(u8, Result<Unit, StampFault>)>,
+    fed: &mut Vec<(u8, Result<Unit, FeedFault>)>,
 ) -> Result<(), AllocError>
     ensures demux { OnOk result (demux.new ≡ with_found [] (pushed demux.old bytes.now)) }
     ensures feed { OnOk result (feed.new ≡ after_all feed.old (pushed demux.old bytes.now).found) }
@@ -60,7 +60,7 @@ fn take_decided(
     feed: &mut UnitFeed,
     bytes: &[u8],
     ended: bool,
-    fed: &mut Vec<(u8, Result<Unit, StampFault>)>,
+    fed: &mut Vec<(u8, Result<Unit, FeedFault>)>,
 ) -> Result<usize, AllocError>
     ensures taken { (first : FeedView) (stream : List ℕ) (gone : List Fed) →
         spec.IsFedBy first stream ended (record { held = bytes.now; demux = demux.old; feed = feed.old }) (gone ++ fed.old.items) →
@@ -98,11 +98,11 @@ impl StreamFeed {
     }
 
     /// Takes a piece of the stream, of any size; each unit that is whole then goes to `fed`, at its moment with the number of
-    /// its stream, or why it can't have one. The caller may take these away as they come: `gone` went before.
+    /// its stream, or why it can't have one, and what is lost. The caller may take these away as they come: `gone` went before.
     pub fn push(
         &mut self,
         piece: &[u8],
-        fed: &mut Vec<(u8, Result<Unit, StampFault>)>,
+        fed: &mut Vec<(u8, Result<Unit, FeedFault>)>,
     ) -> Result<(), AllocError>
         ensures taken { (first : FeedView) (stream : List ℕ) (gone : List Fed) →
             spec.IsFedBy first stream false self.old (gone ++ fed.old.items) →
@@ -126,7 +126,7 @@ impl StreamFeed {
     }
 
     /// The stream ends: what that decides is fed, and then the last unit of each stream, in the order of the streams.
-    pub fn finish(self, fed: &mut Vec<(u8, Result<Unit, StampFault>)>) -> Result<(), AllocError>
+    pub fn finish(self, fed: &mut Vec<(u8, Result<Unit, FeedFault>)>) -> Result<(), AllocError>
         ensures { (first : FeedView) (stream : List ℕ) (gone : List Fed) →
             spec.IsFedBy first stream false self (gone ++ fed.old.items) →
             OnOk result (gone ++ fed.new.items ≡ spec.fed_of first stream) }

@@ -6,12 +6,12 @@ ghost use Rattle.std.specs.Option.{option_to_list};
 ghost use Rattle.unit_feed.specs.Feeding as spec;
 
 use crate::fed_stream::FedStream;
+use crate::feed_fault::FeedFault;
 use demux::Finding;
 use pes_packet::Unit;
 use std::alloc::{AllocError, Global};
 use std::collections::VecDeque;
 use std::marker::Model;
-use stream_units::StampFault;
 
 /// The streams of a description and their units under way.
 #[derive(Drop)]
@@ -48,8 +48,8 @@ fn place_of(pid: Option<u16>, streams: &[FedStream]) -> Option<usize>
 
 // Appends what is fed, if anything is.
 fn push_fed(
-    fed: &mut Vec<(u8, Result<Unit, StampFault>)>,
-    one: Option<(u8, Result<Unit, StampFault>)>,
+    fed: &mut Vec<(u8, Result<Unit, FeedFault>)>,
+    one: Option<(u8, Result<Unit, FeedFault>)>,
 ) -> Result<(), AllocError>
     ensures { OnOk result (fed.new.items ≡ fed.old.items ++ option_to_list one) }
 {
@@ -68,7 +68,7 @@ fn take_at(
     earliest: u64,
     base: &mut Option<u64>,
     finding: &Finding<'_>,
-) -> Result<Option<(u8, Result<Unit, StampFault>)>, AllocError>
+) -> Result<Option<(u8, Result<Unit, FeedFault>)>, AllocError>
     requires there { k < length streams.old.items }
     requires base { IfSome base.old (λ base. base < 2 ^ 33) }
     ensures fed { (s : spec.FedStreamView) → slice_get streams.old.items k ≡ Some s → IfOk result (λ fed. fed
@@ -82,6 +82,20 @@ fn take_at(
 {
     let stream = &mut streams[k];
     stream.take(alloc, earliest, base, finding)
+}
+
+// The loss of packets that a finding tells of, for the stream at a place.
+fn loss_at(
+    streams: &[FedStream],
+    k: usize,
+    finding: &Finding<'_>,
+) -> Option<(u8, Result<Unit, FeedFault>)>
+    requires { k < length streams.now }
+    ensures { (s : spec.FedStreamView) → slice_get streams.now k ≡ Some s →
+        result ≡ spec.lost_fed s (finding_view finding.now) }
+{
+    let stream = &streams[k];
+    stream.loss(finding)
 }
 
 impl UnitFeed {
@@ -98,12 +112,12 @@ impl UnitFeed {
     }
 
     /// Takes a finding; the unit that it makes whole goes to `fed`, at its moment with the number of its stream, or why it
-    /// can't have one.
+    /// can't have one, and the loss of packets of a stream that it tells of.
     pub fn take(
         &mut self,
         alloc: &Global,
         finding: &Finding<'_>,
-        fed: &mut Vec<(u8, Result<Unit, StampFault>)>,
+        fed: &mut Vec<(u8, Result<Unit, FeedFault>)>,
     ) -> Result<(), AllocError>
         ensures feed { OnOk result (self.new ≡ spec.after_one self.old (finding_view finding.now)) }
         ensures fed { OnOk result (fed.new.items ≡ fed.old.items ++ spec.fed_one self.old (finding_view finding.now)) }
@@ -111,6 +125,7 @@ impl UnitFeed {
         let Some(k) = place_of(finding.pid, &self.streams) else {
             return Ok(());
         };
+        let loss = loss_at(&self.streams, k, finding);
         let earliest = self.earliest;
         let one = take_at(
             &mut self.streams,
@@ -121,6 +136,7 @@ impl UnitFeed {
             finding,
         )?;
         push_fed(fed, one)?;
+        push_fed(fed, loss)?;
         Ok(())
     }
 
@@ -129,7 +145,7 @@ impl UnitFeed {
         &mut self,
         alloc: &Global,
         findings: &[Finding<'_>],
-        fed: &mut Vec<(u8, Result<Unit, StampFault>)>,
+        fed: &mut Vec<(u8, Result<Unit, FeedFault>)>,
     ) -> Result<(), AllocError>
         ensures feed { OnOk result (self.new ≡ spec.after_all self.old (map finding_view findings.now)) }
         ensures fed { OnOk result (fed.new.items ≡ fed.old.items ++ spec.fed_all self.old (map finding_view findings.now)) }
@@ -141,7 +157,7 @@ impl UnitFeed {
     }
 
     /// The findings end: the last unit of each stream, in the order of the streams.
-    pub fn finish(self, fed: &mut Vec<(u8, Result<Unit, StampFault>)>) -> Result<(), AllocError>
+    pub fn finish(self, fed: &mut Vec<(u8, Result<Unit, FeedFault>)>) -> Result<(), AllocError>
         ensures { OnOk result (fed.new.items ≡ fed.old.items ++ spec.fed_last self.earliest self.base self.streams) }
     {
         let earliest = self.earliest;

@@ -14,7 +14,7 @@ use Rattle.devices.specs.declared.halt.Halt.{Halt}
 use Rattle.devices.specs.declared.halt.Halt.TheVariants.{Read, Write, Memory}
 use Rattle.devices.proofs.Telling.{told_all, told_more, told_none}
 use Rattle.pes_packet.specs.AccessUnits.{AccessUnit}
-use Rattle.stream_units.specs.declared.stamps.StampFault.{StampFault}
+use Rattle.unit_feed.specs.declared.feed_fault.FeedFault.{FeedFault}
 use Rattle.demux.proofs.FoundSoFar.{nothing_at_first}
 use Rattle.unit_feed.specs.Feeding.{Fed, FeedView, after_all, fed_all}
 use Rattle.unit_feed.specs.StreamFeeding.{IsFedBy, StreamFeedView, at_first, fed_of}
@@ -62,13 +62,13 @@ tells_none pids port fed = record { texts = []; tells = told_none port; left = r
 
 pub told_none_of : (pids : List ℕ) (port : Port) (one : Fed) (u : AccessUnit) → one.1 ≡ Ok u → Tells port port (lines_of pids one)
 unfolding lines_of
-told_none_of pids port one u is = subst (λ (x : Result AccessUnit StampFault). Tells port port (lines_of pids (one.0, x))) (sym is) (told_none port)
+told_none_of pids port one u is = subst (λ (x : Result AccessUnit FeedFault). Tells port port (lines_of pids (one.0, x))) (sym is) (told_none port)
 
-pub told_one_of : (pids : List ℕ) (before after : Port) (one : Fed) (fault : StampFault) (pid : ℕ) → one.1 ≡ Err fault → pid ≡ pid_at pids one.0 → Reports (between before after) (fault_line pid fault) →
+pub told_one_of : (pids : List ℕ) (before after : Port) (one : Fed) (fault : FeedFault) (pid : ℕ) → one.1 ≡ Err fault → pid ≡ pid_at pids one.0 → Reports (between before after) (fault_line pid fault) →
     Tells before after (lines_of pids one)
 unfolding lines_of
 told_one_of pids before after one fault pid is at r =
-    subst (λ (x : Result AccessUnit StampFault). Tells before after (lines_of pids (one.0, x))) (sym is)
+    subst (λ (x : Result AccessUnit FeedFault). Tells before after (lines_of pids (one.0, x))) (sym is)
     (subst (λ (p : ℕ). Tells before after (fault_line p fault ∷ [])) at (told_more before before after [] (fault_line pid fault) (told_none before) r))
 
 any_step : (fed : List Fed) (i : ℕ) (one : Fed) → i < length fed → one ≡ get_or fed i one → have_fault (drop i fed) ≡ (has_fault one || have_fault (drop (i + 1) fed))

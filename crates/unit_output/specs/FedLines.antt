@@ -1,10 +1,14 @@
--- What goes out of what a stream feeds: the records of its units, and a line for each unit that has no moment.
+-- What goes out of what a stream feeds: the records of its units, and a line for each unit that has no moment and for each loss of
+-- packets.
 use Rattle.std.specs.Prelude.{ℕ, Bool, true, false, List, [], ◌∷◌, Ok, Err, codes, slice_get, unwrap_or}
 use Rattle.std.specs.List.{flat_map, list_any}
 use Rattle.unit_records.specs.Records.{record_bytes}
 use Rattle.stream_units.specs.declared.stamps.StampFault.{StampFault}
 use Rattle.stream_units.specs.declared.stamps.StampFault.TheVariants.{DtsNotIncreasing, PtsOutOfRange, DtsTooFar}
 use Rattle.unit_feed.specs.Feeding.{Fed}
+use Rattle.unit_feed.specs.declared.feed_fault.FeedFault.{FeedFault}
+use Rattle.unit_feed.specs.declared.feed_fault.FeedFault.TheVariants.{Stamp, Lost}
+use Rattle.unit_feed.specs.declared.feed_fault.Loss.{Loss}
 use Rattle.devices.specs.Lines.{line_text}
 
 -- the record of a unit with the number of its stream
@@ -16,16 +20,24 @@ abbrev pub fed_records : List Fed → List ℕ
 fed_records fed = flat_map fed_record fed
 
 -- why a unit of a PID has no moment, and by how much, in units of 90 kHz
-unfoldable pub fault_line : ℕ → StampFault → List ℕ
-fault_line pid (DtsNotIncreasing by) = line_text (codes "dts-falls") (pid ∷ by ∷ [])
-fault_line pid (PtsOutOfRange by) = line_text (codes "pts-range") (pid ∷ by ∷ [])
-fault_line pid DtsTooFar = line_text (codes "dts-far") (pid ∷ [])
+unfoldable pub stamp_line : ℕ → StampFault → List ℕ
+stamp_line pid (DtsNotIncreasing by) = line_text (codes "dts-falls") (pid ∷ by ∷ [])
+stamp_line pid (PtsOutOfRange by) = line_text (codes "pts-range") (pid ∷ by ∷ [])
+stamp_line pid DtsTooFar = line_text (codes "dts-far") (pid ∷ [])
+
+-- packets of a PID are lost before a packet, whose counter is another than the one that was to come
+abbrev pub loss_line : ℕ → Loss → List ℕ
+loss_line pid loss = line_text (codes "lost") (pid ∷ loss.packet ∷ loss.expected ∷ loss.found ∷ [])
+
+unfoldable pub fault_line : ℕ → FeedFault → List ℕ
+fault_line pid (Stamp fault) = stamp_line pid fault
+fault_line pid (Lost loss) = loss_line pid loss
 
 -- the PID of the stream of a number
 abbrev pub pid_at : List ℕ → ℕ → ℕ
 pid_at pids n = unwrap_or (slice_get pids n) 0
 
--- a line where it has none
+-- a line where it is no unit at its moment
 unfoldable pub lines_of : List ℕ → Fed → List (List ℕ)
 lines_of pids (n, Ok u) = []
 lines_of pids (n, Err fault) = fault_line (pid_at pids n) fault ∷ []

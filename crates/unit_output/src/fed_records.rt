@@ -1,4 +1,4 @@
-//! What a stream feeds: records on an output, and lines for units that have no moment.
+//! What a stream feeds: records on an output, and lines for units that have no moment and for lost packets.
 
 ghost use Rattle.std.specs.Prelude.{◌≡◌, ◌++◌};
 ghost use Rattle.devices.specs.Devices.{writes};
@@ -12,13 +12,14 @@ use counted_io::Sink;
 use devices::{Halt, report_line};
 use pes_packet::Unit;
 use stream_units::StampFault;
+use unit_feed::{FeedFault, Loss};
 
 // Puts the record of a unit that is fed, where it has a moment.
 #[tactic(auto, unfolding(crate::specs::FedLines::fed_record))]
 fn put_fed<W: Sink>(
     to: &mut W,
     pending: &mut ArrayVec<u8, ROOM>,
-    fed: &(u8, Result<Unit, StampFault>),
+    fed: &(u8, Result<Unit, FeedFault>),
 ) -> Result<(), Halt>
     ensures { Puts (writes W.Sink to.old to.new) (pending.old.items ++ spec.fed_record fed.now) pending.new.items result }
 {
@@ -32,7 +33,7 @@ fn put_fed<W: Sink>(
 fn put_all_fed<W: Sink>(
     to: &mut W,
     pending: &mut ArrayVec<u8, ROOM>,
-    fed: &[(u8, Result<Unit, StampFault>)],
+    fed: &[(u8, Result<Unit, FeedFault>)],
 ) -> Result<(), Halt>
     ensures { Puts (writes W.Sink to.old to.new) (pending.old.items ++ spec.fed_records fed.now) pending.new.items result }
 {
@@ -48,7 +49,7 @@ fn put_all_fed<W: Sink>(
 /// Writes the records of all that is fed.
 pub(crate) fn write_fed<W: Sink>(
     to: &mut W,
-    fed: &[(u8, Result<Unit, StampFault>)],
+    fed: &[(u8, Result<Unit, FeedFault>)],
 ) -> Result<(), Halt>
     ensures { WritesLine (spec.fed_records fed.now) (writes W.Sink to.old to.new) result }
 {
@@ -70,9 +71,9 @@ fn pid_at(pids: &[u16], number: u8) -> u16
 }
 
 // Reports why a unit of a PID has no moment.
-#[tactic(auto, unfolding(crate::specs::FedLines::fault_line))]
-fn report_fault<E: Sink>(faults: &mut E, pid: u16, fault: StampFault)
-    ensures { Reports (writes E.Sink faults.old faults.new) (spec.fault_line pid fault) }
+#[tactic(auto, unfolding(crate::specs::FedLines::stamp_line))]
+fn report_stamp<E: Sink>(faults: &mut E, pid: u16, fault: StampFault)
+    ensures { Reports (writes E.Sink faults.old faults.new) (spec.stamp_line pid fault) }
 {
     let pid = u128::from(pid);
     match fault {
@@ -86,9 +87,33 @@ fn report_fault<E: Sink>(faults: &mut E, pid: u16, fault: StampFault)
     }
 }
 
-// Reports a unit that is fed, where it has no moment, and returns whether it has none.
+// Reports that packets of a PID are lost.
+fn report_loss<E: Sink>(faults: &mut E, pid: u16, loss: Loss)
+    ensures { Reports (writes E.Sink faults.old faults.new) (spec.loss_line pid loss) }
+{
+    let numbers = [
+        u128::from(pid),
+        u128::from(loss.packet),
+        u128::from(loss.expected),
+        u128::from(loss.found),
+    ];
+    report_line(faults, "lost", &numbers);
+}
+
+// Reports what is told of the stream of a PID.
+#[tactic(auto, unfolding(crate::specs::FedLines::fault_line))]
+fn report_fault<E: Sink>(faults: &mut E, pid: u16, fault: FeedFault)
+    ensures { Reports (writes E.Sink faults.old faults.new) (spec.fault_line pid fault) }
+{
+    match fault {
+        FeedFault::Stamp(fault) => report_stamp(faults, pid, fault),
+        FeedFault::Lost(loss) => report_loss(faults, pid, loss),
+    }
+}
+
+// Reports what is fed where it is no unit at its moment, and returns whether it is none.
 #[tactic(auto, unfolding(crate::specs::FedLines::has_fault))]
-fn tell_one<E: Sink>(faults: &mut E, pids: &[u16], fed: &(u8, Result<Unit, StampFault>)) -> bool
+fn tell_one<E: Sink>(faults: &mut E, pids: &[u16], fed: &(u8, Result<Unit, FeedFault>)) -> bool
     ensures tells { Tells (writes E.Sink faults.old faults.new).before (writes E.Sink faults.old faults.new).after
         (spec.lines_of pids.now fed.now) }
     ensures found { result ≡ spec.has_fault fed.now }
@@ -102,11 +127,11 @@ fn tell_one<E: Sink>(faults: &mut E, pids: &[u16], fed: &(u8, Result<Unit, Stamp
     }
 }
 
-/// Reports each unit that has no moment, and returns whether there is one.
+/// Reports each unit that has no moment and each loss of packets, and returns whether there is one.
 pub(crate) fn tell_faults<E: Sink>(
     faults: &mut E,
     pids: &[u16],
-    fed: &[(u8, Result<Unit, StampFault>)],
+    fed: &[(u8, Result<Unit, FeedFault>)],
 ) -> bool
     ensures tells { Tells (writes E.Sink faults.old faults.new).before (writes E.Sink faults.old faults.new).after
         (spec.fed_lines pids.now fed.now) }

@@ -11,16 +11,15 @@ use counted_io::{Sink, Source};
 use devices::{Halt, report_halt};
 use pes_packet::Unit;
 use std::alloc::Global;
-use stream_units::StampFault;
-use unit_feed::{StreamFeed, UnitFeed};
+use unit_feed::{FeedFault, StreamFeed, UnitFeed};
 
 /// The most bytes of one read.
 const PIECE: usize = 1 << 16;
 
-// What is fed goes out: the records, and then a line for each unit that has no moment. Returns whether there is one.
+// What is fed goes out: the records, and then a line for each unit that has no moment and each loss. Returns whether there is one.
 fn pass_fed<W: Sink, E: Sink>(
     pids: &[u16],
-    fed: &[(u8, Result<Unit, StampFault>)],
+    fed: &[(u8, Result<Unit, FeedFault>)],
     output: &mut W,
     faults: &mut E,
 ) -> Result<bool, Halt>
@@ -33,7 +32,7 @@ fn pass_fed<W: Sink, E: Sink>(
     }
 }
 
-// Reads a stream to the end of the input; what each read feeds goes out before the next. Returns whether a unit had no moment.
+// Reads a stream to the end of the input; what each read feeds goes out before the next. Returns whether a line was told.
 fn pass_pieces<R: Source, W: Sink, E: Sink>(
     alloc: Global,
     pids: &[u16],
@@ -70,7 +69,7 @@ fn pass_pieces<R: Source, W: Sink, E: Sink>(
     Err(Halt::Read)
 }
 
-// The input has ended: what that feeds goes out. Returns whether a unit of it had no moment.
+// The input has ended: what that feeds goes out. Returns whether a line was told.
 fn pass_last<W: Sink, E: Sink>(
     alloc: Global,
     pids: &[u16],
@@ -96,7 +95,7 @@ fn either(early: bool, late: bool) -> bool
     early || late
 }
 
-// Reads a whole stream, and what it feeds goes out. Returns whether a unit had no moment.
+// Reads a whole stream, and what it feeds goes out. Returns whether a line was told.
 fn pass_all<R: Source, W: Sink, E: Sink>(
     alloc: Global,
     feed: UnitFeed,
@@ -128,7 +127,8 @@ fn pass_all<R: Source, W: Sink, E: Sink>(
 }
 
 /// Reads a stream as it comes, writes the record of each unit that it feeds before the next read, reports each unit that has
-/// no moment, and returns the status: 0 all went out, 1 a unit had no moment, 3 a device failed or out of memory.
+/// no moment and each loss of packets, and returns the status: 0 all went out, 1 one of these was reported, 3 a device failed
+/// or out of memory.
 pub fn pass_stream<R: Source, W: Sink, E: Sink>(
     alloc: Global,
     feed: UnitFeed,

@@ -1,6 +1,6 @@
-use Rattle.std.proofs.Common.{◌≡◌, ◌<◌, ◌++◌, ◌∙◌, None, List, length, sym, ap, subst, rules, arith}
+use Rattle.std.proofs.Common.{◌≡◌, ◌<◌, ◌++◌, ◌∙◌, Some, None, List, length, slice_get, sym, ap, subst, rules, arith}
 use Rattle.demux.specs.Shown.{finding_view}
-use Rattle.unit_feed.specs.Feeding.{FedStreamView, Fed, FeedView, place_from, after_one, fed_one}
+use Rattle.unit_feed.specs.Feeding.{FedStreamView, FeedView, lost_fed, place_from, after_one, fed_one}
 use Rattle.unit_feed.proofs.FedUnits.{no_place_after, no_place_fed, placed_after, placed_fed}
 use Rattle.unit_feed.proofs.unit_feed.UnitFeed.take.Goals as goal
 
@@ -35,6 +35,8 @@ returns-clause-fed c =
     let feed : FeedView = record { earliest = c.self.inside.earliest; base = c.self.inside.base; streams = c.self.inside.streams.items } in
     let at = c.in-Some.ensures.value ∙ ap (λ (ss : List FedStreamView). place_from f.pid 0 ss) c.deref.ensures.value in
     let below : c.in-Some.k < length feed.streams = omega (arith, c.in-Some.ensures.bound, ap (length {A = FedStreamView}) c.deref.ensures.value) in
-    c.in_ok-push_fed.ensures
-    ∙ ap (λ (xs : List Fed). c.args.fed.now.items ++ xs) (placed_fed feed f c.in-Some.k c.in_ok-one.one at below c.in_ok-one.ensures.fed
-    ∙ ap (λ (v : FeedView). fed_one v f) c.self.view_is)
+    let loses : (s : FedStreamView) → slice_get feed.streams c.in-Some.k ≡ Some s → c.loss_at-loss.result ≡ lost_fed s f =
+    λ s is. c.loss_at-loss.ensures s (ap (λ (ss : List FedStreamView). slice_get ss c.in-Some.k) c.deref-2.ensures.value ∙ is) in
+    placed_fed feed f c.in-Some.k c.in_ok-one.one c.loss_at-loss.result c.args.fed.now.items c.push_fed.new.fed.items c.push_fed-2.new.fed.items at below c.in_ok-one.ensures.fed
+    loses c.in_ok-push_fed.ensures c.in_ok-push_fed-2.ensures
+    ∙ ap (λ (v : FeedView). c.args.fed.now.items ++ fed_one v f) c.self.view_is
