@@ -17,7 +17,7 @@ use Rattle.toml.proofs.ReadBack.{parse_document-printed}
 use Rattle.job_text.specs.DescriptionParts.{HeadingView, NetworkPartView, ProgramPartView, StreamPartView}
 use Rattle.job_text.specs.KeyLines.{with_numbers, with_hex, hex_line, key_line, number_lines}
 use Rattle.job_text.specs.Fields.{program_numbers, burst_numbers, group_numbers, time_numbers, pace_numbers, last_numbers}
-use Rattle.job_text.specs.Documents.{document, elements_of, with_table, with_tables, network_table, program_table, stream_rest, stream_members, stream_table}
+use Rattle.job_text.specs.Documents.{document, elements_of, with_tables, network_table, program_table, stream_rest, stream_members, stream_table}
 use Rattle.job_text.specs.Texts.{heading_text, network_text, network_if_any, program_text, stream_text}
 use Rattle.job_text.specs.Laws.{Fits, FitsHeading, FitsNetwork, FitsProgram, FitsAllowance, FitsStream, TextsAreRead}
 use Rattle.job_text.proofs.Scalars.{AreScalars, IsScalar, scalar_lines, lines_are_text}

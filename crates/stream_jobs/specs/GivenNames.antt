@@ -1,5 +1,5 @@
 -- The names that options give to services and to the network.
-use Rattle.std.specs.Prelude.{ℕ, ◌==◌, List, Option, option_map, option_and_then}
+use Rattle.std.specs.Prelude.{ℕ, ◌==◌, List, Option, option_and_then}
 use Rattle.std.specs.List.{find}
 use Rattle.stream_jobs.specs.declared.given_names.NetworkName.{NetworkName}
 
