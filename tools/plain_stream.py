@@ -211,10 +211,45 @@ def service(stream, number):
     return last
 
 
-def network(stream):
-    """original_network_id of the first service description, 0xFF01 without one."""
+def original(stream):
+    """original_network_id of the first service description; None without one."""
     said = (s[8] << 8 | s[9] for _, s in stream.sections(0x11, 0x42) if loops(s[11:-4], 5) is not None)
-    return next(said, 0xFF01)
+    return next(said, None)
+
+
+def network_table(s):
+    """network_id, the network's descriptors, and (transport_stream_id, original_network_id, descriptors) of its streams. None where a loop does
+    not fit."""
+    size = (s[8] & 15) << 8 | s[9] if len(s) >= 16 else 4096
+    rest = s[10 + size: -4]
+    entries = loops(rest[2:], 6) if len(s) >= 16 + size and (rest[0] & 15) << 8 | rest[1] == len(rest) - 2 else None
+    return entries and (s[3] << 8 | s[4], s[10: 10 + size], [(h[0] << 8 | h[1], h[2] << 8 | h[3], d) for h, d in entries])
+
+
+def network(stream, ts_id):
+    """What the first network information section in force says that has this stream: network_id, original_network_id, the coded name and the
+    stream's descriptors. And the packet in which the first section ends that says anything else."""
+    known, first = original(stream), None
+    whole = lambda d: len(d) <= 700 and sum(2 + len(body) for _, body in descriptors(d)) == len(d)
+    alone = lambda d: not d or d[0] == 0x40 and len(d) > 1 and d[1] == len(d) - 2
+
+    def said(s):
+        table = network_table(s)
+        entry = next(((o, d) for t, o, d in table[2] if t == ts_id and known in (None, o)), None) if table else None
+        name = next((body for tag, body in descriptors(table[1]) if tag == 0x40), b"") if table else b""
+        return ((table[0], entry[0], name, entry[1]), alone(table[1]) and len(table[2]) == 1) if entry and whole(entry[1]) else (None, False)
+
+    tables = [(packet, said(s)) for packet, s in stream.sections(0x10, 0x40)]
+    found = next((network for _, (network, _) in tables if network), None)
+    carried = [packet for packet, (network, only) in tables if only and network == found]
+    for pid in stream.pids:
+        for packet, _, kind, value in stream.found(pid):
+            if kind == "section" and value[0] == 0x40:
+                if pid == 0x10 and packet in carried:
+                    carried.remove(packet)
+                else:
+                    first = packet if first is None else min(first, packet)
+    return found, first
 
 
 def texts_of(body):
@@ -225,9 +260,9 @@ def texts_of(body):
     return body[0], readable(provider), readable(name), any(texts.UNREAD in texts.characters(text) for text in (provider, name))
 
 
-def readable(data):
-    """A text of EN 300 468, annex A, of at most 100 bytes as it is written again."""
+def readable(data, most=100):
+    """A text of EN 300 468, annex A, of at most that many bytes as it is written again."""
     text = texts.shown(data)
-    while jobs.written(text) > 100:
+    while jobs.written(text) > most:
         text = text[:-1]
     return text

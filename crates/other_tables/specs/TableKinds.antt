@@ -14,11 +14,11 @@ kind_in_range id =
     else (if is_between 0x4E 0x6F id then Events
     else (if is_between 0x80 0x8F id then ConditionalAccess else Private)))
 
--- none for PAT, PMT and the SDT of this stream, of which a job is made, and for stuffing
+-- none for PAT, PMT, the NIT of the actual network and the SDT of this stream, of which a job is made, and for stuffing
 unfoldable pub kind_of : ℕ → Option TableKind
 kind_of id =
-    if id == 0x00 || id == 0x02 || id == 0x42 || id == 0x72 then None
-    else (if id == 0x40 || id == 0x41 then Some Network
+    if id == 0x00 || id == 0x02 || id == 0x40 || id == 0x42 || id == 0x72 then None
+    else (if id == 0x41 then Some Network
     else (if id == 0x46 || id == 0x4A then Some Services
     else (if id == 0x70 || id == 0x73 then Some Time
     else (if id == 0x71 then Some Running

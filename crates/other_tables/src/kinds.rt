@@ -10,7 +10,7 @@ pub enum TableKind {
     ConditionalAccess,
     /// DSM-CC (ISO/IEC 13818-6).
     Objects,
-    /// NIT.
+    /// NIT of another network.
     Network,
     /// SDT of other streams, and BAT.
     Services,
@@ -34,8 +34,8 @@ pub fn kind_of(table_id: u8) -> Option<TableKind>
     ensures { result ≡ spec.kind_of table_id }
 {
     match table_id {
-        0x00 | 0x02 | 0x42 | 0x72 => None,
-        0x40 | 0x41 => Some(TableKind::Network),
+        0x00 | 0x02 | 0x40 | 0x42 | 0x72 => None,
+        0x41 => Some(TableKind::Network),
         0x46 | 0x4A => Some(TableKind::Services),
         0x70 | 0x73 => Some(TableKind::Time),
         0x71 => Some(TableKind::Running),

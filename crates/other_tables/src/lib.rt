@@ -1,6 +1,7 @@
 //! The tables of a stream that no job is made of, in what `demux` finds.
 //!
-//! A job is made of the program association, the program maps and the service descriptions of the stream itself. Of each
+//! A job is made of the program association, the program maps, the network information of the actual network
+//! and the service descriptions of the stream itself. Of each
 //! PID with other sections [`other_tables`] says what table the first of them is of (`specs/TableKinds`) and how many there
 //! are (`specs/OtherTables`).
 #![tactic(auto)]

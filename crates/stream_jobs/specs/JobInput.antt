@@ -21,7 +21,7 @@ use Rattle.stream_jobs.specs.Declarations.{UnitCountsView, too_many, too_long, a
 use Rattle.stream_jobs.specs.JobPrograms.{JobProgramView, job_programs, all_program_warnings, text_warnings}
 use Rattle.stream_jobs.specs.Moments.{earliest, first_base, moved_streams}
 use Rattle.stream_jobs.specs.Packets.{no_packets}
-use Rattle.stream_jobs.specs.Warnings.{packet_warnings, association_warnings, all_map_warnings, stray_warnings, option_warnings, pid_warnings}
+use Rattle.stream_jobs.specs.Warnings.{packet_warnings, association_warnings, all_map_warnings, stray_warnings, option_warnings, network_warnings, pid_warnings}
 use Rattle.stream_jobs.specs.WireStreams.{wire_streams, all_empty_stream_warnings}
 use Rattle.stream_jobs.specs.JobOptions.{JobOptionsView, is_selected_program}
 use Rattle.stream_jobs.specs.JobStreams.{TimedStreamView, WireStreamView}
@@ -49,11 +49,12 @@ change_warnings a named findings =
     ((packet_warnings findings ++ association_warnings a findings) ++ all_map_warnings NamedStreams findings named)
     ++ all_map_warnings Descriptors findings named
 
--- and about what is left out of the tables, PES packets of no program, and what options name and is not there
+-- and about what is left out of the tables, PES packets of no program, what options name and is not there, and the network
 unfoldable pub table_warnings : JobOptionsView → AssociationView → List Program → List FindingView → FoundProgramsView → List Warning
 table_warnings options a named findings found =
-    ((change_warnings a named findings ++ map warnings.Table found.left_out) ++ stray_warnings options.without a findings)
-    ++ option_warnings options.programs options.without options.buffers options.names a found.streams
+    (((change_warnings a named findings ++ map warnings.Table found.left_out) ++ stray_warnings options.without a findings)
+    ++ option_warnings options.programs options.without options.buffers options.names a found.streams)
+    ++ network_warnings options.network a.transport_stream_id findings
 
 -- and about streams that are not carried
 unfoldable pub stream_warnings : JobOptionsView → ℕ → List FindingView → AssociationView → List Program → FoundProgramsView → List Warning

@@ -6,6 +6,7 @@ use Rattle.demux.specs.Views.{FindingView}
 use Rattle.job_text.specs.DescriptionParts.{HeadingView, NetworkPartView, ProgramPartView, StreamPartView}
 use Rattle.job_text.specs.Texts.{heading_text, network_if_any, program_text, stream_text}
 use Rattle.stream_choice.specs.declared.choice.Choice.{Choice}
+use Rattle.stream_programs.specs.NetworkInformation.{FoundNetworkView, stream_network}
 use Rattle.stream_programs.specs.Networks.{network}
 use Rattle.stream_programs.specs.Services.{FoundServiceView, service}
 use Rattle.stream_programs.specs.Texts.{decode_text}
@@ -25,14 +26,18 @@ has_service names findings number = is_some (service number findings) || is_some
 unfoldable pub has_services : List ServiceNameView → List FindingView → List JobProgramView → Bool
 has_services names findings programs = list_any (λ p. has_service names findings p.number) programs
 
--- at a rate in bits a second, a number of 32 bits; without a service description original_network_id, if none is given, is one for private use (ETSI TS 101 162)
+-- original_network_id: the one that is given, that of the services, or that of the network information table
+unfoldable pub original_of : Option NetworkNameView → ℕ → List FindingView → Option ℕ
+original_of given id findings = option_or (option_or (original_given given) (network findings)) (option_map (λ n. n.original) (stream_network id findings))
+
+-- at a rate in bits a second, a number of 32 bits; where nothing says original_network_id it is one for private use (ETSI TS 101 162)
 unfoldable pub heading_of : JobOptionsView → List FindingView → JobInputView → ℕ → HeadingView
 heading_of options findings input rate = record {
   rate = min rate (2 ^ 32 - 1);
   start = options.start;
   base0 = input.base0;
   transport_stream_id = input.transport_stream_id;
-  original_network_id = unwrap_or (option_or (original_given options.network) (network findings)) 0xFF01;
+  original_network_id = unwrap_or (original_of options.network input.transport_stream_id findings) 0xFF01;
   sdt = has_services options.names findings input.programs;
   tdt = false;
 }
@@ -41,8 +46,16 @@ heading_of options findings input rate = record {
 unfoldable pub network_of : NetworkNameView → NetworkPartView
 network_of n = record { id = n.id; name = n.name; descriptors = [] }
 
-unfoldable pub network_part : JobOptionsView → Option NetworkPartView
-network_part options = option_map network_of options.network
+-- that of the stream, its name with at most 200 bytes
+unfoldable pub network_found : FoundNetworkView → NetworkPartView
+network_found n = record { id = n.id; name = decode_text 200 n.name; descriptors = n.descriptors }
+
+unfoldable pub network_or : Option NetworkNameView → Option FoundNetworkView → Option NetworkPartView
+network_or None found = option_map network_found found
+network_or (Some n) found = Some (network_of n)
+
+abbrev pub network_part : JobOptionsView → ℕ → List FindingView → Option NetworkPartView
+network_part options id findings = network_or options.network (stream_network id findings)
 
 -- 2. Programs, each with its service
 
@@ -112,5 +125,5 @@ streams_text streams unit_counts choices = flat_map stream_lines (zip streams (z
 unfoldable pub description_text : JobOptionsView → List FindingView → JobInputView → ℕ → List ℕ
 description_text options findings input rate =
     heading_text (heading_of options findings input rate)
-    ++ (network_if_any (network_part options)
+    ++ (network_if_any (network_part options input.transport_stream_id findings)
     ++ (programs_text options findings input.programs ++ streams_text input.streams input.unit_counts input.choices))

@@ -1,9 +1,10 @@
 -- Warnings about a stream that is not taken as it stands.
-use Rattle.std.specs.Prelude.{ℕ, ◌==◌, Bool, true, false, is_some, if◌then◌else◌, List, [], ◌∷◌, ◌++◌, length, map, flat_map, option_to_list}
+use Rattle.std.specs.Prelude.{ℕ, ◌==◌, Bool, true, false, is_some, if◌then◌else◌, List, [], ◌∷◌, ◌++◌, length, map, flat_map, Option, Some, None, option_to_list}
 use Rattle.std.specs.List.{list_any}
 use Rattle.psi_tables.specs.declared.pat.programs.Program.{Program}
 use Rattle.demux.specs.Views.{WhatView, IsTruncated, IsBadPacket, IsErrored, FindingView}
 use Rattle.stream_programs.specs.Association.{AssociationView, association_change, is_named}
+use Rattle.stream_programs.specs.NetworkInformation.{FoundNetworkView, network_surplus, stream_network}
 use Rattle.stream_programs.specs.Omissions.{is_loss}
 use Rattle.stream_programs.specs.ProgramMaps.{map_change}
 use Rattle.stream_programs.specs.declared.program_map.MapPart.{MapPart}
@@ -11,12 +12,13 @@ use Rattle.stream_programs.specs.declared.program_map.MapPart.TheVariants.{Named
 use Rattle.stream_programs.specs.Programs.{programs_of}
 use Rattle.stream_programs.specs.StrayPids.{mapped_pids, pes_count, stray_pids}
 use Rattle.stream_programs.specs.Streams.{FoundStreamView}
+use Rattle.stream_programs.specs.Texts.{has_unread}
 use Rattle.stream_units.specs.UnitWarnings.{unit_warnings}
 use Rattle.stream_units.specs.Damage as units
-use Rattle.stream_jobs.specs.GivenNames.{ServiceNameView}
+use Rattle.stream_jobs.specs.GivenNames.{NetworkNameView, ServiceNameView}
 use Rattle.stream_jobs.specs.declared.job_options.PidBuffers.{PidBuffers}
 use Rattle.stream_jobs.specs.declared.warning.Warning.{Warning}
-use Rattle.stream_jobs.specs.declared.warning.Warning.TheVariants.{BadPacket, Errored, TrailingBytes, AssociationChanges, MapChanges, DescriptorsChange, Table, StrayPes, NoSuchProgram, NoSuchStream, Units, NoUnit, StreamId, NoStream, UnreadText, MapMoved}
+use Rattle.stream_jobs.specs.declared.warning.Warning.TheVariants.{BadPacket, Errored, TrailingBytes, AssociationChanges, MapChanges, DescriptorsChange, Table, StrayPes, NoSuchProgram, NoSuchStream, Units, NoUnit, StreamId, NoStream, UnreadText, NetworkSurplus, UnreadNetwork, MapMoved}
 
 -- 1. Packets: what is found on no PID
 
@@ -83,7 +85,17 @@ unfoldable pub option_warnings : List ℕ → List ℕ → List PidBuffers → L
 option_warnings programs without buffers names a streams =
     ((flat_map (selection_warning a) programs ++ flat_map (pid_option_warning streams) without) ++ flat_map (buffer_warning streams) buffers) ++ flat_map (name_warning a) names
 
--- 6. Which warnings say that something is lost
+-- 6. The network of the stream, if no other is given: what its tables say that is not carried, and a name that can't be read
+
+unfoldable pub unread_network : Option FoundNetworkView → List Warning
+unread_network None = []
+unread_network (Some n) = if has_unread n.name then UnreadNetwork ∷ [] else []
+
+unfoldable pub network_warnings : Option NetworkNameView → ℕ → List FindingView → List Warning
+network_warnings None id findings = map NetworkSurplus (option_to_list (network_surplus id findings)) ++ unread_network (stream_network id findings)
+network_warnings (Some n) id findings = []
+
+-- 7. Which warnings say that something is lost
 
 unfoldable pub is_damage : Warning → Bool
 is_damage (BadPacket packet) = true
@@ -101,6 +113,8 @@ is_damage (NoUnit program pid) = false
 is_damage (StreamId program pid packet id) = true
 is_damage (NoStream program) = false
 is_damage (UnreadText program) = true
+is_damage (NetworkSurplus packet) = true
+is_damage UnreadNetwork = true
 is_damage (MapMoved program from to) = false
 
 abbrev pub are_damaged : List Warning → Bool

@@ -2,15 +2,14 @@
 
 ghost use Rattle.std.specs.Prelude.{◌≡◌, ◌++◌, IfOk, IfErr, OnOk, Ok, map, option_map, string_bytes};
 ghost use Rattle.demux.specs.Shown.{finding_view};
-ghost use Rattle.job_text.specs.Texts.{heading_text, network_if_any, program_text, stream_text};
-ghost use Rattle.stream_jobs.specs.GivenNames.{network_name_view};
+ghost use Rattle.job_text.specs.Texts.{heading_text, program_text, stream_text};
 ghost use Rattle.stream_jobs.specs.Rates.{IsText};
 ghost use Rattle.stream_jobs.specs.Texts as spec;
 ghost use Rattle.stream_jobs.specs.WhyNoJob.{IsWhyNotRead};
 
 use crate::declarations::UnitCounts;
-use crate::given_names::{NetworkName, original_given};
 use crate::input::JobInput;
+use crate::job_network::{original_of, write_network};
 use crate::job_options::JobOptions;
 use crate::job_programs::JobProgram;
 use crate::job_stream::TimedStream;
@@ -18,12 +17,12 @@ use crate::named_service::{NamedService, has_services, service_of};
 use crate::refusal::{JobError, JobRefusal};
 use demux::Finding;
 use description::{DescError, Description};
-use job_text::{Heading, NetworkPart, ProgramPart, StreamPart};
+use job_text::{Heading, ProgramPart, StreamPart};
 use std::alloc::{AllocError, Global};
 use stream_choice::Choice;
-use stream_programs::original_network;
+use stream_programs::stream_network;
 
-/// original_network_id where a stream has no service description (ETSI TS 101 162: 0xFF00 to 0xFFFF are for private
+/// original_network_id where nothing says it (ETSI TS 101 162: 0xFF00 to 0xFFFF are for private
 /// use).
 const PRIVATE_NETWORK: u16 = 0xff01;
 
@@ -49,9 +48,11 @@ impl<'a, 'f> DescriptionDraft<'a, 'f> {
             start: options.start,
             base0: input.base0,
             transport_stream_id: input.transport_stream_id,
-            original_network_id: original_given(options.network)
-                .or(original_network(self.findings))
-                .unwrap_or(PRIVATE_NETWORK),
+            original_network_id: original_of(
+                options.network,
+                input.transport_stream_id,
+                self.findings,
+            ).unwrap_or(PRIVATE_NETWORK),
             sdt: has_services(options.names, self.findings, &input.programs),
             tdt: false,
         };
@@ -59,7 +60,7 @@ impl<'a, 'f> DescriptionDraft<'a, 'f> {
     }
 
     /// The text of the description at a rate in bits a second.
-    #[tactic(auto, unfolding(crate::specs::Texts::description_text, crate::specs::Texts::network_part))]
+    #[tactic(auto, unfolding(crate::specs::Texts::description_text))]
     pub fn text(&self, alloc: Global, rate: u64) -> Result<String, AllocError>
         ensures { IfOk result (λ text. string_bytes text
             ≡ spec.description_text self.now.options.now (map finding_view self.now.findings.now) self.now.input.now
@@ -69,7 +70,8 @@ impl<'a, 'f> DescriptionDraft<'a, 'f> {
         let input = self.input;
         let mut text = String::new(alloc);
         self.write_heading(rate, &mut text)?;
-        write_network(options.network, &mut text)?;
+        let found = stream_network(input.transport_stream_id, self.findings);
+        write_network(alloc, options.network, found, &mut text)?;
         write_programs(alloc, options, self.findings, &input.programs, &mut text)?;
         write_streams(
             &input.streams,
@@ -78,25 +80,6 @@ impl<'a, 'f> DescriptionDraft<'a, 'f> {
             &mut text,
         )?;
         Ok(text)
-    }
-}
-
-// The lines of the network, if one is given.
-#[tactic(auto, unfolding(crate::specs::Texts::network_of))]
-fn write_network(network: Option<NetworkName<'_>>, text: &mut String) -> Result<(), AllocError>
-    ensures { OnOk result (string_bytes text.new ≡ string_bytes text.old
-        ++ network_if_any (option_map spec.network_of (option_map network_name_view network.entry))) }
-{
-    match network {
-        Some(network) => {
-            let entry = NetworkPart {
-                id: network.id,
-                name: network.name,
-                descriptors: &[],
-            };
-            entry.write_text(text)
-        }
-        None => Ok(()),
     }
 }
 

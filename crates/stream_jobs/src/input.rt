@@ -11,6 +11,7 @@ use crate::choices::choices;
 use crate::clock_base::base0_of;
 use crate::declarations::{UnitCounts, count_units, too_long, too_many};
 use crate::earliest::earliest_of;
+use crate::job_network::push_network_warnings;
 use crate::job_options::{JobOptions, is_among};
 use crate::job_programs::{JobProgram, job_programs};
 use crate::job_stream::{TimedStream, WireStream};
@@ -116,7 +117,7 @@ fn change_warnings(
     Ok(warnings)
 }
 
-// The warnings about packets, about the tables, and about what options name.
+// The warnings about packets, about the tables, about what options name, and about the network.
 #[tactic(auto, unfolding(crate::specs::JobInput::table_warnings))]
 fn table_warnings(
     alloc: Global,
@@ -141,6 +142,8 @@ fn table_warnings(
         &found.streams,
         &mut warnings,
     )?;
+    let id = association.transport_stream_id;
+    push_network_warnings(alloc, options.network, id, findings, &mut warnings)?;
     Ok(warnings)
 }
 

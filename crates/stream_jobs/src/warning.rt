@@ -75,6 +75,13 @@ pub enum Warning {
     UnreadText {
         program: u16,
     },
+    /// A network information section of the actual network ends in this packet that is not carried as it stands: not in force,
+    /// not readable, of another network, or with other or more descriptors or transport streams than `[network]` has.
+    NetworkSurplus {
+        packet: u64,
+    },
+    /// The name of the network has characters that can't be read.
+    UnreadNetwork,
     /// The program map table of this program is on another PID.
     MapMoved {
         program: u16,
@@ -101,6 +108,8 @@ impl Warning {
             Warning::NoSuchStream { .. } => true,
             Warning::StreamId { .. } => true,
             Warning::UnreadText { .. } => true,
+            Warning::NetworkSurplus { .. } => true,
+            Warning::UnreadNetwork => true,
             Warning::Units { warning, .. } => warning.cause.is_damage(),
             _ => false,
         }

@@ -4,6 +4,7 @@ pub mod PidHolders
 pub mod LastMaps
 pub mod LastServices
 pub mod FirstNetworks
+pub mod NetworkSteps
 pub mod ProgramSteps
 pub mod TakenPids
 pub mod LeastFreePid

@@ -10,6 +10,7 @@ pub mod PidAssignment
 pub mod ServiceDescriptions
 pub mod Services
 pub mod Networks
+pub mod NetworkInformation
 pub mod CharacterTables
 pub mod Texts
 pub mod Tables

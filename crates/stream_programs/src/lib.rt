@@ -2,7 +2,8 @@
 //!
 //! The program association table in force names the programs (`specs/Association`), and the last program map table of
 //! each its streams (`specs/ProgramMaps`, `specs/Streams`, `specs/Programs`); the service description has its name
-//! (`specs/Services`), as characters (`specs/Texts`, `specs/CharacterTables`), and the network in which it began (`specs/Networks`). Maps and
+//! (`specs/Services`), as characters (`specs/Texts`, `specs/CharacterTables`), and the network in which it began (`specs/Networks`);
+//! the network information table has its network (`specs/NetworkInformation`). Maps and
 //! PCRs are assigned PIDs that nothing else has (`specs/PidAssignment`); PES packets of no program are counted by PID
 //! (`specs/StrayPids`). What is left out of the tables is said, and in
 //! which packets they change. The laws say that the findings of PID 0 and of the maps' PIDs alone decide, and that no
@@ -15,6 +16,7 @@ mod character_tables;
 mod free_pids;
 mod laws;
 mod map_descriptors;
+mod network_information;
 mod networks;
 mod omission;
 mod pid_assignment;
@@ -33,6 +35,7 @@ pub use free_pids::free_pid;
 pub use laws::{
     each_has_pids, findings_of_pid_zero, findings_of_the_map, maps_decide, pids_are_distinct,
 };
+pub use network_information::{FoundNetwork, network_surplus, stream_network};
 pub use networks::original_network;
 pub use omission::TableOmission;
 pub use pid_assignment::{ProgramPids, assigned_pids};

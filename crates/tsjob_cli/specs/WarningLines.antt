@@ -58,6 +58,8 @@ warning_line (warning.NoUnit program pid) = codes "pid " ++ decimal pid ++ codes
 warning_line (warning.StreamId program pid packet id) = id_line program pid packet id
 warning_line (warning.NoStream program) = codes "program " ++ decimal program ++ codes " has no stream with units: left out\n"
 warning_line (warning.UnreadText program) = codes "name of program " ++ decimal program ++ codes " has characters that cannot be read\n"
+warning_line (warning.NetworkSurplus packet) = codes "packet " ++ decimal packet ++ codes " NIT says other or more than one network and this stream: left out\n"
+warning_line warning.UnreadNetwork = codes "name of the network has characters that cannot be read\n"
 warning_line (warning.MapMoved program from to) = codes "PMT of program " ++ decimal program ++ codes " moved from pid " ++ decimal from ++ codes " to " ++ decimal to ++ codes "\n"
 
 -- 2. All of them

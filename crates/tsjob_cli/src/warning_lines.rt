@@ -152,6 +152,13 @@ fn write_warning(warning: Warning, text: &mut String) -> Result<(), AllocError>
             text,
             "name of program {program} has characters that cannot be read\n"
         ),
+        Warning::NetworkSurplus { packet } => write!(
+            text,
+            "packet {packet} NIT says other or more than one network and this stream: left out\n"
+        ),
+        Warning::UnreadNetwork => {
+            text.push_str("name of the network has characters that cannot be read\n")
+        }
         Warning::MapMoved { program, from, to } => write!(
             text,
             "PMT of program {program} moved from pid {from} to {to}\n"

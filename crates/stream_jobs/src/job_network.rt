@@ -1,0 +1,171 @@
+//! The network of a job: the one that is given, or that of the stream.
+
+ghost use Rattle.std.specs.Prelude.{◌≡◌, ◌++◌, OnOk, map, option_map, option_to_list, string_bytes};
+ghost use Rattle.demux.specs.Shown.{finding_view};
+ghost use Rattle.job_text.specs.Texts.{network_if_any, network_text};
+ghost use Rattle.stream_programs.specs.NetworkInformation.{found_network_view, network_surplus};
+ghost use Rattle.stream_jobs.specs.GivenNames.{network_name_view};
+ghost use Rattle.stream_jobs.specs.Texts as spec;
+ghost use Rattle.stream_jobs.specs.Warnings as spec_warnings;
+ghost use Rattle.stream_jobs.specs.declared.warning.Warning.TheVariants.{NetworkSurplus};
+
+use crate::given_names::{NetworkName, original_given};
+use crate::warning::Warning;
+use demux::Finding;
+use job_text::NetworkPart;
+use std::alloc::{AllocError, Global};
+use stream_programs::{
+    FoundNetwork, decode_text, has_unread, network_surplus, original_network, stream_network,
+};
+
+/// The most bytes of a network's name, as written in a descriptor.
+const LONGEST_NAME: usize = 200;
+
+// original_network_id of the network that is found.
+fn original_found(network: Option<FoundNetwork<'_>>) -> Option<u16>
+    ensures { result ≡ option_map (λ n. n.original) (option_map found_network_view network.entry) }
+{
+    match network {
+        Some(network) => Some(network.original),
+        None => None,
+    }
+}
+
+/// original_network_id, if it is given or the stream says it.
+#[tactic(auto, unfolding(crate::specs::Texts::original_of))]
+pub(crate) fn original_of(
+    given: Option<NetworkName<'_>>,
+    transport_stream_id: u16,
+    findings: &[Finding<'_>],
+) -> Option<u16>
+    ensures { result ≡ spec.original_of (option_map network_name_view given.entry) transport_stream_id
+        (map finding_view findings.now) }
+{
+    let found = original_found(stream_network(transport_stream_id, findings));
+    original_given(given)
+        .or(original_network(findings))
+        .or(found)
+}
+
+// The lines of the network that is given.
+#[tactic(auto, unfolding(crate::specs::Texts::network_of))]
+fn write_given(network: NetworkName<'_>, text: &mut String) -> Result<(), AllocError>
+    ensures { OnOk result (string_bytes text.new ≡ string_bytes text.old
+        ++ network_text (spec.network_of (network_name_view network.entry))) }
+{
+    let entry = NetworkPart {
+        id: network.id,
+        name: network.name,
+        descriptors: &[],
+    };
+    entry.write_text(text)
+}
+
+// The lines of the network that is found.
+#[tactic(auto, unfolding(crate::specs::Texts::network_found))]
+fn write_found(
+    alloc: Global,
+    network: FoundNetwork<'_>,
+    text: &mut String,
+) -> Result<(), AllocError>
+    ensures { OnOk result (string_bytes text.new ≡ string_bytes text.old
+        ++ network_text (spec.network_found (found_network_view network.entry))) }
+{
+    let name = decode_text(alloc, network.name, LONGEST_NAME)?;
+    let entry = NetworkPart {
+        id: network.id,
+        name: &name,
+        descriptors: network.descriptors,
+    };
+    entry.write_text(text)
+}
+
+// The lines of the network that is found, if there is one.
+fn write_if_found(
+    alloc: Global,
+    found: Option<FoundNetwork<'_>>,
+    text: &mut String,
+) -> Result<(), AllocError>
+    ensures { OnOk result (string_bytes text.new ≡ string_bytes text.old
+        ++ network_if_any (option_map spec.network_found (option_map found_network_view found.entry))) }
+{
+    match found {
+        Some(network) => write_found(alloc, network, text),
+        None => Ok(()),
+    }
+}
+
+/// The lines of the network, if one is given or the stream has one.
+#[tactic(auto, unfolding(crate::specs::Texts::network_or))]
+pub(crate) fn write_network(
+    alloc: Global,
+    given: Option<NetworkName<'_>>,
+    found: Option<FoundNetwork<'_>>,
+    text: &mut String,
+) -> Result<(), AllocError>
+    ensures { OnOk result (string_bytes text.new ≡ string_bytes text.old
+        ++ network_if_any (spec.network_or (option_map network_name_view given.entry)
+        (option_map found_network_view found.entry))) }
+{
+    match given {
+        Some(network) => write_given(network, text),
+        None => write_if_found(alloc, found, text),
+    }
+}
+
+// Appends the warning about network information sections that are not carried.
+fn push_surplus(
+    transport_stream_id: u16,
+    findings: &[Finding<'_>],
+    warnings: &mut Vec<Warning>,
+) -> Result<(), AllocError>
+    ensures { OnOk result (warnings.new.items ≡ warnings.old.items ++ map NetworkSurplus
+        (option_to_list (network_surplus transport_stream_id (map finding_view findings.now)))) }
+{
+    if let Some(packet) = network_surplus(transport_stream_id, findings) {
+        warnings.push(Warning::NetworkSurplus { packet })?;
+    }
+    Ok(())
+}
+
+// Appends the warning about the name of the network.
+#[tactic(auto, unfolding(crate::specs::Warnings::unread_network))]
+fn push_unread(
+    alloc: Global,
+    found: Option<FoundNetwork<'_>>,
+    warnings: &mut Vec<Warning>,
+) -> Result<(), AllocError>
+    ensures { OnOk result (warnings.new.items ≡ warnings.old.items
+        ++ spec_warnings.unread_network (option_map found_network_view found.entry)) }
+{
+    if let Some(network) = found {
+        if has_unread(alloc, network.name)? {
+            warnings.push(Warning::UnreadNetwork)?;
+        }
+    }
+    Ok(())
+}
+
+/// Appends the warnings about the network of the stream, if no other is given.
+#[tactic(auto, unfolding(crate::specs::Warnings::network_warnings))]
+pub(crate) fn push_network_warnings(
+    alloc: Global,
+    given: Option<NetworkName<'_>>,
+    transport_stream_id: u16,
+    findings: &[Finding<'_>],
+    warnings: &mut Vec<Warning>,
+) -> Result<(), AllocError>
+    ensures { OnOk result (warnings.new.items ≡ warnings.old.items
+        ++ spec_warnings.network_warnings (option_map network_name_view given.entry) transport_stream_id
+        (map finding_view findings.now)) }
+{
+    if given.is_some() {
+        return Ok(());
+    }
+    push_surplus(transport_stream_id, findings, warnings)?;
+    push_unread(
+        alloc,
+        stream_network(transport_stream_id, findings),
+        warnings,
+    )
+}
