@@ -1,0 +1,2 @@
+pub mod KeyRows
+pub mod Explained

@@ -1,0 +1,4 @@
+pub mod KeyPlaces
+pub mod KeyWords
+pub mod FaultLines
+pub mod Explained
