@@ -4,3 +4,4 @@ pub mod WarningLines
 pub mod Taking
 pub mod JobOutcomes
 pub mod StreamedUnits
+pub mod Explaining

@@ -11,3 +11,4 @@ pub mod TableLines
 pub mod Streams
 pub mod Outcomes
 pub mod StreamedUnits
+pub mod Explaining

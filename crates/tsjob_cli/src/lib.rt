@@ -3,11 +3,13 @@
 //! `command_line`, `lists` and `arguments` read the command line, and `known_words` says what it may have. `reading` puts the packets
 //! that stand in step through a demultiplexer; `outcome` makes the job of what it finds, `reason_output` says why there is no
 //! plan, with the lines of `slip_lines`, `field_lines`, `table_lines`, `warning_lines` and `refusal_line`. `streaming` has the
-//! units of the streams of a description that stands in a file written while the stream comes. `program` is `run`.
+//! units of the streams of a description that stands in a file written while the stream comes; `explained_input` says what is
+//! wrong with a description. `program` is `run`.
 #![tactic(auto)]
 
 mod arguments;
 mod command_line;
+mod explained_input;
 mod field_lines;
 mod known_words;
 mod lists;

@@ -6,6 +6,7 @@ ghost use Rattle.devices.specs.Lines.{Reports};
 ghost use Rattle.devices.specs.Runs.{LacksMemory, Performs};
 ghost use Rattle.devices.specs.Usage.{TellsUsage};
 ghost use Rattle.tsjob_cli.specs.Arguments.{JobArgumentsView, arguments};
+ghost use Rattle.tsjob_cli.specs.Explaining.{ExplainLeads, is_explain};
 ghost use Rattle.tsjob_cli.specs.KnownWords.{known_words};
 ghost use Rattle.tsjob_cli.specs.Outcomes as spec;
 ghost use Rattle.tsjob_cli.specs.StreamedUnits.{StreamsUnits};
@@ -14,6 +15,7 @@ ghost use Rattle.word_faults.specs.CommandLine.{Text};
 ghost use Rattle.word_faults.specs.UsageReport.{Prints, is_version, usage_report, version_text};
 
 use crate::arguments::{JobArguments, read_arguments};
+use crate::explained_input::{explain_input, is_explain};
 use crate::known_words::KnownWords;
 use crate::outcome::{JobOutcome, JobText, bytes_outcome};
 use crate::streaming::stream_units;
@@ -25,6 +27,7 @@ use word_faults::answer_other_words;
 
 /// The usage, written to the second writer on a usage error.
 const USAGE: &str = "usage: tsjob [describe|units|why] [OPTIONS] < PACKETS > JOB
+       tsjob explain < DESCRIPTION [PLAN]
   --rate 100000..100000000       bits a second; else the least at which a plan is found
   --program N,..                 the programs that are taken
   --without PID,..               PIDs that are left out
@@ -58,8 +61,12 @@ pub fn report_usage<E: Sink>(faults: &mut E) -> u8
     2
 }
 
-// Writes an outcome, and returns the status.
-fn write_outcome<W: Sink, E: Sink>(outcome: &JobOutcome, output: &mut W, faults: &mut E) -> u8
+/// Writes an outcome, and returns the status.
+pub(crate) fn write_outcome<W: Sink, E: Sink>(
+    outcome: &JobOutcome,
+    output: &mut W,
+    faults: &mut E,
+) -> u8
     ensures { spec.IsWritten outcome.now (writes W.Sink output.old output.new)
         (writes E.Sink faults.old faults.new) result }
 {
@@ -116,11 +123,9 @@ fn answer<F: NamedFiles, R: Source, W: Sink, E: Sink>(
     }
 }
 
-/// The whole program: it reads the input, writes the output, writes warnings or the refusal to the second writer, and
-/// returns the exit status: 0 all is carried, 1 refused or a warning of what is lost, 2 a usage error, 3 a device failed or out of
-/// memory.
+// The program for a transport stream in the input, or a usage error.
 #[tactic(auto, using(crate::proofs::JobOutcomes::no_memory_for_words, crate::proofs::StreamedUnits::no_memory_for_stream))]
-pub fn run<F: NamedFiles, R: Source, W: Sink, E: Sink>(
+fn run_on_stream<F: NamedFiles, R: Source, W: Sink, E: Sink>(
     alloc: Global,
     words: &[&str],
     files: &F,
@@ -154,5 +159,51 @@ pub fn run<F: NamedFiles, R: Source, W: Sink, E: Sink>(
             answer_other_words(alloc, "tsjob", KnownWords, words, usage(), output, faults)
         }
         Err(_) => report_halt(faults, Halt::Memory),
+    }
+}
+
+/// The whole program: it reads the input, writes the output, writes warnings or the refusal to the second writer, and
+/// returns the exit status: 0 all is carried, or nothing is wrong; 1 refused, a warning of what is lost, or what is wrong; 2 a
+/// usage error; 3 a device failed or out of memory.
+pub fn run<F: NamedFiles, R: Source, W: Sink, E: Sink>(
+    alloc: Global,
+    words: &[&str],
+    files: &F,
+    input: &mut R,
+    output: &mut W,
+    faults: &mut E,
+) -> u8
+    // `explain` alone: a description, or a description and a plan, to what is wrong with it.
+    ensures explain { is_explain (map (λ s. s.now) words.now) ≡ true →
+        Performs ExplainLeads (reads R.Source input.old input.new)
+        (writes W.Sink output.old output.new) (writes E.Sink faults.old faults.new) result }
+    // A transport stream to what the command line asks for.
+    ensures job { is_explain (map (λ s. s.now) words.now) ≡ false → (a : JobArgumentsView) → arguments words.now ≡ Some a →
+        a.stream ≡ None →
+        Performs (spec.Leads a) (reads R.Source input.old input.new) (writes W.Sink output.old output.new)
+        (writes E.Sink faults.old faults.new) result }
+    // A stream that comes, to the units of the streams of a description that stands in a file.
+    ensures stream { is_explain (map (λ s. s.now) words.now) ≡ false → (a : JobArgumentsView) (name : Text) →
+        arguments words.now ≡ Some a → a.stream ≡ Some name →
+        StreamsUnits (F.contents_of files.now name) (reads R.Source input.old input.new)
+        (writes W.Sink output.old output.new) (writes E.Sink faults.old faults.new) result }
+    // `--version` alone.
+    ensures version { is_explain (map (λ s. s.now) words.now) ≡ false → arguments words.now ≡ None →
+        is_version (map (λ s. s.now) words.now) ≡ true →
+        Prints (version_text (codes "tsjob")) (reads R.Source input.old input.new)
+        (writes W.Sink output.old output.new) (writes E.Sink faults.old faults.new) result }
+    // Anything else: the first word that cannot be taken and the usage are told.
+    ensures usage { is_explain (map (λ s. s.now) words.now) ≡ false → arguments words.now ≡ None →
+        is_version (map (λ s. s.now) words.now) ≡ false →
+        TellsUsage (usage_report known_words (map (λ s. s.now) words.now) usage_text)
+        (reads R.Source input.old input.new) (writes W.Sink output.old output.new)
+        (writes E.Sink faults.old faults.new) result
+        ⊎ LacksMemory (reads R.Source input.old input.new) (writes W.Sink output.old output.new)
+        (writes E.Sink faults.old faults.new) result }
+{
+    if is_explain(words) {
+        explain_input(alloc, input, output, faults)
+    } else {
+        run_on_stream(alloc, words, files, input, output, faults)
     }
 }

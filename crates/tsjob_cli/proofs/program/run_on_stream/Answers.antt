@@ -1,7 +1,7 @@
 use Rattle.std.proofs.Common.{◌∙◌, refl, sym}
 use Rattle.word_faults.proofs.UsageReports.{of_usage}
 use Rattle.tsjob_cli.proofs.StreamedUnits.{job_asked, stream_asked}
-use Rattle.tsjob_cli.proofs.program.run.Goals as goal
+use Rattle.tsjob_cli.proofs.program.run_on_stream.Goals as goal
 
 pub returns-in-Ok-None-clause-version : goal.returns-in-Ok-None-clause-version
 returns-in-Ok-None-clause-version g c = λ none is. c.answer_other_words.ensures.version _ refl is
