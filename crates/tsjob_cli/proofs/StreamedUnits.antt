@@ -1,5 +1,5 @@
 -- The streams of a description, and a stream that goes by it.
-use Rattle.std.proofs.Common.{◌≡◌, ◌∙◌, ◌<◌, ◌≤◌, ◌+◌, ◌++◌, ℕ, List, [], ◌∷◌, length, drop, get_or, Option, Some, None, Result, Ok, Err, refl, sym, ap, subst, add-one, inl, inr, arith}
+use Rattle.std.proofs.Common.{◌≡◌, ◌∙◌, ◌<◌, ◌≤◌, ◌+◌, ◌++◌, ℕ, List, [], ◌∷◌, length, drop, get_or, Option, Some, None, Result, Ok, Err, refl, sym, ap, subst, add-one, inr, arith}
 use Rattle.std.specs.Prelude.{codes}
 use Rattle.std.proofs.Math.Seq.{drop-cons}
 use Rattle.std.proofs.lemmas.List.{append_assoc, append-nil, drop_all}
@@ -7,10 +7,8 @@ use Rattle.clap.specs.Words.{Text}
 use Rattle.checked_jobs.specs.Jobs.{described}
 use Rattle.description.specs.Described.{Described, DescribedStream}
 use Rattle.description.specs.declared.fault.DescError.TheVariants as refused_by
-use Rattle.stream_units.specs.UnitSteps.{none_so_far}
-use Rattle.unit_feed.specs.Feeding.{FeedView, FedStreamView}
-use Rattle.unit_output.specs.Passing.{RunsStream}
-use Rattle.devices.specs.Devices.{Device, IsUntouched, Port}
+use Rattle.unit_feed.specs.Feeding.{FedStreamView}
+use Rattle.devices.specs.Devices.{Device, IsUntouched}
 use Rattle.devices.specs.Lines.{Reports, line_text}
 use Rattle.description.specs.Codes.{fault_code, fault_item}
 use Rattle.description.specs.declared.fault.DescFault.{DescFault}
@@ -20,7 +18,7 @@ use Rattle.devices.specs.Runs.{Performs}
 use Rattle.description.specs.Ranges.{IsInRange}
 use Rattle.tsjob_cli.specs.Arguments.{JobArgumentsView}
 use Rattle.tsjob_cli.specs.Outcomes.{Leads}
-use Rattle.tsjob_cli.specs.StreamedUnits.{GoesBy, IsDescriptionIn, IsNamedDescription, StreamsUnits, fed_stream, none_outcome, refused_line, streams_from}
+use Rattle.tsjob_cli.specs.StreamedUnits.{IsDescriptionIn, IsNamedDescription, StreamsUnits, fed_stream, none_outcome, refused_line, streams_from}
 use Rattle.tsjob_cli.specs.declared.streaming.NoDescription.{NoDescription}
 use Rattle.tsjob_cli.specs.declared.streaming.NoDescription.TheVariants.{Unopened, Stopped, Refused}
 

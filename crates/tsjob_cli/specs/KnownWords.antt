@@ -1,7 +1,6 @@
 -- The options and subcommands that the program knows, and the values that each option takes.
-use Rattle.std.specs.Prelude.{ℕ, ◌||◌, Bool, true, false, if◌then◌else◌, Option, Some, None, codes, is_some}
+use Rattle.std.specs.Prelude.{◌||◌, Bool, true, false, if◌then◌else◌, Option, Some, None, codes, is_some}
 use Rattle.std.specs.Str.{bytes_eq}
-use Rattle.devices.specs.Options.{number_if_given}
 use Rattle.word_faults.specs.CommandLine.{CommandLine, Text}
 use Rattle.tsjob_cli.specs.Arguments.{subcommand_of, base_of, declare_by_of, start_of, least_rate, greatest_rate, least_limit, greatest_limit, least_lead, greatest_lead, greatest_program, greatest_pid}
 use Rattle.tsjob_cli.specs.Lists.{buffer_list, name_list, network_in, number_in, number_list}
