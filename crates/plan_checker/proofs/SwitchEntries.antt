@@ -6,7 +6,7 @@ use Rattle.slot_plan.specs.Planned.{Planned}
 use Rattle.slot_plan.specs.Entries.{Entry, first_failing}
 use Rattle.slot_plan.specs.Conditions.{entries}
 use Rattle.slot_plan.specs.SwitchConditions.{joint_entries, switch_entries}
-use Rattle.plan_checker.proofs.FirstFailing.{then_after}
+use Rattle.plan_checker.proofs.FailingSearch.{then_after}
 
 -- a condition of the second plan alone fails
 pub second_fails : (d : Described) (first second : Planned) (e : Entry) → Some e ≡ first_failing (entries d second) → Some e ≡ first_failing (switch_entries d first second)

@@ -2,3 +2,4 @@ pub mod Refusals
 pub mod Served
 pub mod SwitchShares
 pub mod Followed
+pub mod Failing

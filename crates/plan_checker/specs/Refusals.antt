@@ -16,8 +16,3 @@ failed (Err r) = Some (entry_of r)
 abbrev pub refusal_of : {V D P : Type 0} → Result V (Refusal × D × P) → Option Entry
 refusal_of (Ok v) = None
 refusal_of (Err e) = Some (entry_of e.0)
-
--- the first that fails of two
-abbrev pub first_of : Option Entry → Option Entry → Option Entry
-first_of None next = next
-first_of (Some e) next = Some e

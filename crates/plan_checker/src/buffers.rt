@@ -1,15 +1,15 @@
 //! Transport and system buffers never overflow (ISO/IEC 13818-1, 2.4.2.3).
 
 ghost use Rattle.std.specs.Prelude.{◌≡◌, ◌∷◌, []};
-ghost use Rattle.slot_plan.specs.Entries.{at_most, first_failing};
+ghost use Rattle.slot_plan.specs.Entries.{at_most};
 ghost use Rattle.slot_plan.specs.Conditions.{stream_buffer_entries, transport_buffer_entries, system_buffer_entries};
-ghost use Rattle.plan_checker.specs.Refusals.{failed};
+ghost use Rattle.plan_checker.specs.Failing.{after, search_of};
 
 use crate::claims::{claim_of_program, claim_of_stream};
 use crate::comparison::at_most;
 use crate::conditions::ItemCondition;
+use crate::failure_search::FailureSearch;
 use crate::plans::ShapedPlan;
-use crate::refusal::Refusal;
 use crate::work::{Work, work_of};
 use slot_plan::{Condition, Item, ProgramDescription, StreamDescription};
 use std::alloc::Allocator;
@@ -24,15 +24,17 @@ fn buffer(
     room: u64,
     start: u64,
     peak: u64,
-) -> Result<(), Refusal>
-    ensures { failed result ≡ first_failing (
+    search: &mut FailureSearch,
+)
+    ensures { search_of search.new ≡ after (search_of search.old) (
         at_most condition 1 item work.most_before room
         ∷ at_most condition 2 item work.most_after peak
         ∷ at_most condition 3 item work.left start ∷ []) }
 {
-    at_most(condition, 1, item, work.most_before as u128, room as u128)?;
-    at_most(condition, 2, item, work.most_after as u128, peak as u128)?;
-    at_most(condition, 3, item, work.left as u128, start as u128)
+    let (before, after) = (work.most_before as u128, work.most_after as u128);
+    at_most(condition, 1, item, before, room as u128, search);
+    at_most(condition, 2, item, after, peak as u128, search);
+    at_most(condition, 3, item, work.left as u128, start as u128, search);
 }
 
 /// The transport buffer of each stream.
@@ -49,7 +51,7 @@ impl<A: Allocator> ItemCondition<ShapedPlan<'_, A>> for StreamBuffers {
         plans.description.streams().len()
     }
 
-    fn check_item(plans: &ShapedPlan<'_, A>, i: usize) -> Result<(), Refusal> {
+    fn check_item(plans: &ShapedPlan<'_, A>, i: usize, search: &mut FailureSearch) {
         let claim = claim_of_stream(plans.plan, i);
         let rate = plans.description.rate().bits_per_second();
         let drain = plans.description.streams()[i].rx as u64;
@@ -62,7 +64,8 @@ impl<A: Allocator> ItemCondition<ShapedPlan<'_, A>> for StreamBuffers {
             TB_SIZE * rate,
             claim.start,
             claim.peak,
-        )
+            search,
+        );
     }
 }
 
@@ -80,7 +83,7 @@ impl<A: Allocator> ItemCondition<ShapedPlan<'_, A>> for TransportBuffers {
         plans.description.programs().len()
     }
 
-    fn check_item(plans: &ShapedPlan<'_, A>, i: usize) -> Result<(), Refusal> {
+    fn check_item(plans: &ShapedPlan<'_, A>, i: usize, search: &mut FailureSearch) {
         let number = plans.description.streams().len() + i;
         let claim = claim_of_program(plans.plan, i);
         let start = claim.transport_start;
@@ -94,7 +97,8 @@ impl<A: Allocator> ItemCondition<ShapedPlan<'_, A>> for TransportBuffers {
             TB_SIZE * rate,
             start,
             claim.transport_peak,
-        )
+            search,
+        );
     }
 }
 
@@ -112,7 +116,7 @@ impl<A: Allocator> ItemCondition<ShapedPlan<'_, A>> for SystemBuffers {
         plans.description.programs().len()
     }
 
-    fn check_item(plans: &ShapedPlan<'_, A>, i: usize) -> Result<(), Refusal> {
+    fn check_item(plans: &ShapedPlan<'_, A>, i: usize, search: &mut FailureSearch) {
         plans.description.keeps_ranges();
         let claim = claim_of_program(plans.plan, i);
         let start = claim.system_start;
@@ -126,6 +130,7 @@ impl<A: Allocator> ItemCondition<ShapedPlan<'_, A>> for SystemBuffers {
             BSYS_SIZE * rate,
             start,
             claim.system_peak,
-        )
+            search,
+        );
     }
 }

@@ -1,26 +1,71 @@
 //! Whether a plan serves a description.
 
-ghost use Rattle.std.specs.Prelude.{◌≡◌, IfOk, IfErr};
+ghost use Rattle.std.specs.Prelude.{◌≡◌, IfOk, IfErr, map, option_map, slice_get};
 ghost use Rattle.slot_plan.specs.Entries.{first_failing};
 ghost use Rattle.slot_plan.specs.Conditions.{entries};
-ghost use Rattle.plan_checker.specs.Refusals.{failed, refusal_of};
+ghost use Rattle.plan_checker.specs.Failing.{after, asked_entries, failing, search_of};
+ghost use Rattle.plan_checker.specs.Refusals.{entry_of, refusal_of};
 
 use crate::checked_plan::CheckedPlan;
+use crate::failure_search::FailureSearch;
 use crate::refusal::Refusal;
-use crate::shape::shape;
+use crate::shape::{is_shaped, shape};
 use crate::timing::timing;
 use slot_plan::{Description, Plan};
-use std::alloc::Allocator;
+use std::alloc::{AllocError, Allocator};
 
-/// Checks the conditions of a plan for a description, in their order.
-pub fn check_conditions<A: Allocator>(
+/// Goes on with a search through the conditions of a plan for a description: those of its shape, or those of its timing
+/// where it has its shape.
+fn search_conditions<A: Allocator>(
     description: &Description,
     plan: &Plan<A>,
-) -> Result<(), Refusal>
-    ensures { failed result ≡ first_failing (entries description.now plan.now) }
+    search: &mut FailureSearch,
+)
+    ensures { search_of search.new ≡ after (search_of search.old) (asked_entries description.now plan.now) }
 {
-    shape(description, plan)?;
-    timing(description, plan)
+    if is_shaped(description, plan) {
+        timing(description, plan, search);
+    } else {
+        shape(description, plan, search);
+    }
+}
+
+/// The condition of a number, from 0, among those that a plan for a description does not keep.
+fn failing_condition<A: Allocator>(
+    description: &Description,
+    plan: &Plan<A>,
+    number: usize,
+) -> Option<Refusal>
+    ensures { option_map entry_of result ≡ slice_get (failing description.now plan.now) number }
+{
+    let mut search = FailureSearch::new(number);
+    search_conditions(description, plan, &mut search);
+    search.found
+}
+
+/// The first condition that a plan for a description does not keep.
+pub fn first_failing<A: Allocator>(description: &Description, plan: &Plan<A>) -> Option<Refusal>
+    ensures { option_map entry_of result ≡ first_failing (entries description.now plan.now) }
+{
+    failing_condition(description, plan, 0)
+}
+
+/// Each condition that a plan for a description does not keep, in their order: the first is that by which [`check`]
+/// refuses it. Each is found by a walk of its own over the plan.
+pub fn failing<A: Allocator>(
+    alloc: A,
+    description: &Description,
+    plan: &Plan<A>,
+) -> Result<Vec<Refusal, A>, AllocError>
+    ensures each { IfOk result (λ found. map entry_of found.items ≡ failing description.now plan.now) }
+    ensures first { IfOk result (λ found. slice_get (map entry_of found.items) 0
+        ≡ first_failing (entries description.now plan.now)) }
+{
+    let mut found = Vec::new(alloc);
+    'numbers: while let Some(refusal) = failing_condition(description, plan, found.len()) {
+        found.push(refusal)?;
+    }
+    Ok(found)
 }
 
 /// The plan as one that serves the description, where it keeps every condition. Else the first that it does not keep,
@@ -34,8 +79,8 @@ pub fn check<A: Allocator>(
     ensures checked { IfOk result (λ c. c ≡ record { description = description; plan = plan }) }
     ensures handed_back { IfErr result (λ e. (e.1 ≡ description) × (e.2 ≡ plan)) }
 {
-    match check_conditions(&description, &plan) {
-        Ok(()) => Ok(CheckedPlan { description, plan }),
-        Err(refusal) => Err((refusal, description, plan)),
+    match first_failing(&description, &plan) {
+        None => Ok(CheckedPlan { description, plan }),
+        Some(refusal) => Err((refusal, description, plan)),
     }
 }

@@ -1,9 +1,10 @@
 //! One condition: its two numbers compared.
 
 ghost use Rattle.std.specs.Prelude.{◌≡◌, ◌∷◌, []};
-ghost use Rattle.slot_plan.specs.Entries.{at_most, equal_counts, first_failing};
-ghost use Rattle.plan_checker.specs.Refusals.{failed, first_of};
+ghost use Rattle.slot_plan.specs.Entries.{at_most, equal_counts};
+ghost use Rattle.plan_checker.specs.Failing.{after, search_of};
 
+use crate::failure_search::FailureSearch;
 use crate::refusal::Refusal;
 use slot_plan::{Condition, Relation};
 
@@ -14,20 +15,19 @@ pub fn at_most(
     item: u32,
     left: u128,
     right: u128,
-) -> Result<(), Refusal>
-    ensures { failed result ≡ first_failing (at_most condition part item left right ∷ []) }
+    search: &mut FailureSearch,
+)
+    ensures { search_of search.new ≡ after (search_of search.old) (at_most condition part item left right ∷ []) }
 {
-    if left <= right {
-        Ok(())
-    } else {
-        Err(Refusal {
+    if left > right {
+        search.pass(Refusal {
             condition,
             part,
             item,
             relation: Relation::AtMost,
             left,
             right,
-        })
+        });
     }
 }
 
@@ -38,29 +38,18 @@ pub fn equal_counts(
     item: u32,
     left: u128,
     right: u128,
-) -> Result<(), Refusal>
-    ensures { failed result ≡ first_failing (equal_counts condition part item left right ∷ []) }
+    search: &mut FailureSearch,
+)
+    ensures { search_of search.new ≡ after (search_of search.old) (equal_counts condition part item left right ∷ []) }
 {
-    if left == right {
-        Ok(())
-    } else {
-        Err(Refusal {
+    if left != right {
+        search.pass(Refusal {
             condition,
             part,
             item,
             relation: Relation::Equal,
             left,
             right,
-        })
-    }
-}
-
-/// The first of two refusals.
-pub fn first_of(one: Result<(), Refusal>, next: Result<(), Refusal>) -> Result<(), Refusal>
-    ensures { failed result ≡ first_of (failed one) (failed next) }
-{
-    match one {
-        Ok(()) => next,
-        Err(refusal) => Err(refusal),
+        });
     }
 }

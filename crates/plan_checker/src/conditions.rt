@@ -2,10 +2,10 @@
 
 ghost use Rattle.std.specs.Prelude.{◌≡◌, ◌<◌, ℕ, List, Some, length, slice_get};
 ghost use Rattle.slot_plan.specs.Numbered.{numbered};
-ghost use Rattle.slot_plan.specs.Entries.{Entry, first_failing};
-ghost use Rattle.plan_checker.specs.Refusals.{failed, first_of};
+ghost use Rattle.slot_plan.specs.Entries.{Entry};
+ghost use Rattle.plan_checker.specs.Failing.{after, search_of};
 
-use crate::refusal::Refusal;
+use crate::failure_search::FailureSearch;
 
 /// A condition on each item of one kind, as on each stream, where `P` are the plans.
 pub trait ItemCondition<P> {
@@ -20,32 +20,21 @@ pub trait ItemCondition<P> {
         ensures { result ≡ length (items plans.now) };
 
     /// Checks item number `i`.
-    fn check_item(plans: &P, i: usize) -> Result<(), Refusal>
+    fn check_item(plans: &P, i: usize, search: &mut FailureSearch)
         requires { i < length (items plans.now) }
         ensures { (x : Self.Item) → slice_get (items plans.now) i ≡ Some x
-            → failed result ≡ first_failing (entries plans.now i x) };
+            → search_of search.new ≡ after (search_of search.old) (entries plans.now i x) };
 }
 
 /// Checks all items, in their order.
-pub fn check_each<C: ItemCondition<P>, P>(plans: &P) -> Result<(), Refusal>
-    ensures { failed result ≡ first_failing (numbered (C.entries plans.now) 0 (C.items plans.now)) }
+pub fn check_each<C: ItemCondition<P>, P>(plans: &P, search: &mut FailureSearch)
+    ensures { search_of search.new
+        ≡ after (search_of search.old) (numbered (C.entries plans.now) 0 (C.items plans.now)) }
 {
     for i in 0..C::count(plans) {
-        C::check_item(plans, i)?;
-    }
-    Ok(())
-}
-
-/// Checks all items where no condition before has failed.
-pub fn then_check_each<C: ItemCondition<P>, P>(
-    before: Result<(), Refusal>,
-    plans: &P,
-) -> Result<(), Refusal>
-    ensures { failed result
-        ≡ first_of (failed before) (first_failing (numbered (C.entries plans.now) 0 (C.items plans.now))) }
-{
-    match before {
-        Ok(()) => check_each::<C, P>(plans),
-        Err(refusal) => Err(refusal),
+        if search.is_done() {
+            return;
+        }
+        C::check_item(plans, i, search);
     }
 }

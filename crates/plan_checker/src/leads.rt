@@ -8,17 +8,16 @@ ghost use Rattle.unit_timing.specs.Allowances.{allowance_rows};
 ghost use Rattle.unit_timing.specs.Conditions.{packets_in_row};
 ghost use Rattle.slot_plan.specs.Claims.{declaration};
 ghost use Rattle.slot_plan.specs.Items.{marks};
-ghost use Rattle.slot_plan.specs.Entries.{first_failing};
 ghost use Rattle.slot_plan.specs.Conditions.{entries_from, group_part, stream_lead_entry};
-ghost use Rattle.plan_checker.specs.Refusals.{failed};
+ghost use Rattle.plan_checker.specs.Failing.{after, search_of};
 
 use crate::claims::claim_of_stream;
 use crate::comparison::at_most;
 use crate::condition_terms::{time_given, time_needed};
 use crate::conditions::ItemCondition;
+use crate::failure_search::FailureSearch;
 use crate::own_counts::own_count;
 use crate::plans::ShapedPlan;
-use crate::refusal::Refusal;
 use slot_plan::{Condition, Item, StreamDescription};
 use std::alloc::Allocator;
 use unit_timing::allowance::Allowance;
@@ -71,8 +70,8 @@ impl<A: Allocator> ItemCondition<ShapedPlan<'_, A>> for StreamLeads {
         plans.description.streams().len()
     }
 
-    fn check_item(plans: &ShapedPlan<'_, A>, i: usize) -> Result<(), Refusal> {
-        stream_lead(plans, i, &plans.description.streams()[i])
+    fn check_item(plans: &ShapedPlan<'_, A>, i: usize, search: &mut FailureSearch) {
+        stream_lead(plans, i, &plans.description.streams()[i], search);
     }
 }
 
@@ -81,19 +80,19 @@ fn stream_lead<A: Allocator>(
     plans: &ShapedPlan<'_, A>,
     i: usize,
     stream: &StreamDescription,
-) -> Result<(), Refusal>
+    search: &mut FailureSearch,
+)
     requires stream { i < length plans.now.description.now.streams }
     requires small { i < 256 }
     requires ranges { IsStream stream.now }
-    ensures { failed result ≡ first_failing (entries_from
+    ensures { search_of search.new ≡ after (search_of search.old) (entries_from
         (stream_lead_entry plans.now.description.now plans.now.plan.now i stream.now) 1
         (allowance_rows stream.now.allowance)) }
 {
     let count = own_count(plans.plan.slots(), Item::Stream(i as u8));
     for before in 0..stream.allowance.rows() {
-        units_lead(plans, i, stream, count, before + 1)?;
+        units_lead(plans, i, stream, count, before + 1, search);
     }
-    Ok(())
 }
 
 /// `units` units in a row of stream number `i`, which has `count` own slots a period.
@@ -104,7 +103,8 @@ fn units_lead<A: Allocator>(
     stream: &StreamDescription,
     count: u64,
     units: u8,
-) -> Result<(), Refusal>
+    search: &mut FailureSearch,
+)
     requires stream { i < length plans.now.description.now.streams }
     requires small { i < 256 }
     requires ranges { IsStream stream.now }
@@ -112,7 +112,7 @@ fn units_lead<A: Allocator>(
     requires bound { count ≤ 65536 }
     requires positive { 0 < units }
     requires rows { units ≤ allowance_rows stream.now.allowance }
-    ensures { failed result ≡ first_failing
+    ensures { search_of search.new ≡ after (search_of search.old)
         (stream_lead_entry plans.now.description.now plans.now.plan.now i stream.now units ∷ []) }
 {
     let claim = claim_of_stream(plans.plan, i);
@@ -131,5 +131,5 @@ fn units_lead<A: Allocator>(
         rx,
     );
     let part = group_part(stream, units);
-    at_most(Condition::StreamLead, part, i as u32, needed, given)
+    at_most(Condition::StreamLead, part, i as u32, needed, given, search);
 }

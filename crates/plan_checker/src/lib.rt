@@ -1,7 +1,8 @@
 //! Whether a plan serves a service description, alone or after another plan: the first condition on slots, gaps,
-//! buffers and deadlines that it does not keep.
+//! buffers and deadlines that it does not keep, or every one.
 //!
 //! - [`check`]: one plan, to a [`CheckedPlan`] or a [`Refusal`].
+//! - [`failing`]: every condition that one plan does not keep.
 //! - [`check_switch`]: a second plan after a checked one, to a [`CheckedSwitch`] or a [`Refusal`].
 //! - [`own_count`], [`spread_of`], [`work_of`]: the numbers of an item's own slots that the conditions compare, each in
 //!   one walk over a period.
@@ -17,6 +18,7 @@ mod claims;
 mod comparison;
 mod condition_terms;
 mod conditions;
+mod failure_search;
 mod gap;
 mod leads;
 mod main_buffers;
@@ -34,7 +36,7 @@ mod work;
 
 pub use checked_plan::CheckedPlan;
 pub use checked_switch::CheckedSwitch;
-pub use checking::check;
+pub use checking::{check, failing};
 pub use leads::packets_in_row;
 pub use main_buffers::{bytes_by_units, waiting_slots};
 pub use own_counts::own_count;

@@ -12,10 +12,10 @@ use crate::claims::claim_of_stream;
 use crate::comparison::at_most;
 use crate::condition_terms::slots_within;
 use crate::conditions::ItemCondition;
+use crate::failure_search::FailureSearch;
 use crate::leads::packets_of_unit;
 use crate::own_counts::own_count;
 use crate::plans::ShapedPlan;
-use crate::refusal::Refusal;
 use clock27::SLOT_UNITS_AT_1BPS;
 use slot_plan::{Condition, Description, Item, Plan, StreamDescription};
 use std::alloc::Allocator;
@@ -103,7 +103,7 @@ impl<A: Allocator> ItemCondition<ShapedPlan<'_, A>> for MainBuffers {
         plans.description.streams().len()
     }
 
-    fn check_item(plans: &ShapedPlan<'_, A>, i: usize) -> Result<(), Refusal> {
+    fn check_item(plans: &ShapedPlan<'_, A>, i: usize, search: &mut FailureSearch) {
         let stream = &plans.description.streams()[i];
         let by_units = bytes_by_units(stream) as u128;
         let by_slots = bytes_by_slots(plans.description, plans.plan, i, stream);
@@ -113,6 +113,7 @@ impl<A: Allocator> ItemCondition<ShapedPlan<'_, A>> for MainBuffers {
             i as u32,
             by_units.min(by_slots),
             stream.main as u128,
-        )
+            search,
+        );
     }
 }

@@ -6,9 +6,9 @@ ghost use Rattle.slot_plan.specs.Conditions.{pcr_gap_entry, table_gap_entry};
 
 use crate::comparison::at_most;
 use crate::conditions::ItemCondition;
+use crate::failure_search::FailureSearch;
 use crate::gap::greatest_gap;
 use crate::plans::ShapedPlan;
-use crate::refusal::Refusal;
 use clock27::SLOT_MS_AT_1BPS;
 use slot_plan::{Condition, Item, ProgramDescription, TableKind};
 use std::alloc::Allocator;
@@ -27,7 +27,7 @@ impl<A: Allocator> ItemCondition<ShapedPlan<'_, A>> for PcrGaps {
         plans.description.programs().len()
     }
 
-    fn check_item(plans: &ShapedPlan<'_, A>, i: usize) -> Result<(), Refusal> {
+    fn check_item(plans: &ShapedPlan<'_, A>, i: usize, search: &mut FailureSearch) {
         let gap = greatest_gap(plans.plan.slots(), Item::Pcr(i as u8), 1);
         let limit = plans.description.programs()[i].pcr_limit();
         at_most(
@@ -36,7 +36,8 @@ impl<A: Allocator> ItemCondition<ShapedPlan<'_, A>> for PcrGaps {
             i as u32,
             gap as u128 * SLOT_MS_AT_1BPS,
             limit as u128 * plans.description.rate().bits_per_second() as u128,
-        )
+            search,
+        );
     }
 }
 
@@ -54,7 +55,7 @@ impl<A: Allocator> ItemCondition<ShapedPlan<'_, A>> for TableGaps {
         plans.description.tables()
     }
 
-    fn check_item(plans: &ShapedPlan<'_, A>, i: usize) -> Result<(), Refusal> {
+    fn check_item(plans: &ShapedPlan<'_, A>, i: usize, search: &mut FailureSearch) {
         plans.description.keeps_ranges();
         let places = plans.description.round_packets(i) as u64;
         let gap = greatest_gap(plans.plan.slots(), Item::Table(i as u8), places);
@@ -65,6 +66,7 @@ impl<A: Allocator> ItemCondition<ShapedPlan<'_, A>> for TableGaps {
             i as u32,
             gap as u128 * SLOT_MS_AT_1BPS,
             limit as u128 * plans.description.rate().bits_per_second() as u128,
-        )
+            search,
+        );
     }
 }

@@ -1,19 +1,19 @@
 //! The shape of a plan: its period, the items that its slots name, the items that have slots, the entries of its
 //! certificate.
 
-ghost use Rattle.std.specs.Prelude.{◌≡◌, ◌+◌, ◌<◌, ◌∷◌, [], length};
+ghost use Rattle.std.specs.Prelude.{◌≡◌, ◌+◌, ◌<◌, ◌∷◌, [], is_none, length};
 ghost use Rattle.description.specs.Tables.{table_kinds};
 ghost use Rattle.slot_plan.specs.declared.slot.Item.TheVariants.{Stream as StreamItem, Pcr as PcrItem};
 ghost use Rattle.slot_plan.specs.declared.slot.Item.TheVariants.{Table as TableItem};
 ghost use Rattle.slot_plan.specs.Entries.{first_failing};
 ghost use Rattle.slot_plan.specs.Conditions.{named_entry, length_entries, claim_entries, shape_entries, owner_entry};
-ghost use Rattle.plan_checker.specs.Refusals.{failed};
+ghost use Rattle.plan_checker.specs.Failing.{after, search_of};
 
-use crate::comparison::{at_most, equal_counts, first_of};
-use crate::conditions::{ItemCondition, then_check_each};
+use crate::comparison::{at_most, equal_counts};
+use crate::conditions::{ItemCondition, check_each};
+use crate::failure_search::FailureSearch;
 use crate::own_counts::own_count;
 use crate::plans::AnyPlan;
-use crate::refusal::Refusal;
 use slot_plan::{
     Condition, Description, Item, Plan, ProgramDescription, Slot, StreamDescription, TableKind,
 };
@@ -23,25 +23,34 @@ use std::alloc::Allocator;
 const MAX_PERIOD: u128 = 65_536;
 
 /// The conditions of code 1.
-pub fn shape<A: Allocator>(description: &Description, plan: &Plan<A>) -> Result<(), Refusal>
-    ensures { failed result ≡ first_failing (shape_entries description.now plan.now) }
+pub fn shape<A: Allocator>(description: &Description, plan: &Plan<A>, search: &mut FailureSearch)
+    ensures { search_of search.new ≡ after (search_of search.old) (shape_entries description.now plan.now) }
 {
     let plans = &AnyPlan { description, plan };
-    let length = period(plan);
-    let names = then_check_each::<Names, _>(length, plans);
-    let streams = then_check_each::<StreamOwners, _>(names, plans);
-    let programs = then_check_each::<ProgramOwners, _>(streams, plans);
-    let tables = then_check_each::<TableOwners, _>(programs, plans);
-    first_of(tables, claims(description, plan))
+    period(plan, search);
+    check_each::<Names, _>(plans, search);
+    check_each::<StreamOwners, _>(plans, search);
+    check_each::<ProgramOwners, _>(plans, search);
+    check_each::<TableOwners, _>(plans, search);
+    claims(description, plan, search);
+}
+
+/// Whether a plan keeps the conditions of code 1.
+pub fn is_shaped<A: Allocator>(description: &Description, plan: &Plan<A>) -> bool
+    ensures { result ≡ is_none (first_failing (shape_entries description.now plan.now)) }
+{
+    let mut search = FailureSearch::new(0);
+    shape(description, plan, &mut search);
+    !search.is_done()
 }
 
 /// A period has slots, and at most 65,536.
-fn period<A: Allocator>(plan: &Plan<A>) -> Result<(), Refusal>
-    ensures { failed result ≡ first_failing (length_entries plan.now) }
+fn period<A: Allocator>(plan: &Plan<A>, search: &mut FailureSearch)
+    ensures { search_of search.new ≡ after (search_of search.old) (length_entries plan.now) }
 {
     let slots = plan.slots().len() as u128;
-    at_most(Condition::Shape, 1, 0, 1, slots)?;
-    at_most(Condition::Shape, 2, 0, slots, MAX_PERIOD)
+    at_most(Condition::Shape, 1, 0, 1, slots, search);
+    at_most(Condition::Shape, 2, 0, slots, MAX_PERIOD, search);
 }
 
 /// Each slot names an item of the description.
@@ -58,21 +67,21 @@ impl<A: Allocator> ItemCondition<AnyPlan<'_, A>> for Names {
         plans.plan.slots().len()
     }
 
-    fn check_item(plans: &AnyPlan<'_, A>, i: usize) -> Result<(), Refusal> {
+    fn check_item(plans: &AnyPlan<'_, A>, i: usize, search: &mut FailureSearch) {
         let (number, count) = match plans.plan.slots()[i] {
             Slot::Stream(number) => (number as u128 + 1, plans.description.streams().len()),
             Slot::Pcr(number) => (number as u128 + 1, plans.description.programs().len()),
             Slot::Table(number) => (number as u128 + 1, plans.description.tables()),
             Slot::Null => (0, 0),
         };
-        at_most(Condition::Shape, 3, i as u32, number, count as u128)
+        at_most(Condition::Shape, 3, i as u32, number, count as u128, search);
     }
 }
 
 /// An item has a slot.
-fn owner<A: Allocator>(plan: &Plan<A>, number: usize, item: Item) -> Result<(), Refusal>
+fn owner<A: Allocator>(plan: &Plan<A>, number: usize, item: Item, search: &mut FailureSearch)
     requires { number < 100000 }
-    ensures { failed result ≡ first_failing (owner_entry plan.now number item ∷ []) }
+    ensures { search_of search.new ≡ after (search_of search.old) (owner_entry plan.now number item ∷ []) }
 {
     at_most(
         Condition::Shape,
@@ -80,7 +89,8 @@ fn owner<A: Allocator>(plan: &Plan<A>, number: usize, item: Item) -> Result<(), 
         number as u32,
         1,
         own_count(plan.slots(), item) as u128,
-    )
+        search,
+    );
 }
 
 /// Each stream has a slot.
@@ -97,9 +107,9 @@ impl<A: Allocator> ItemCondition<AnyPlan<'_, A>> for StreamOwners {
         plans.description.streams().len()
     }
 
-    fn check_item(plans: &AnyPlan<'_, A>, i: usize) -> Result<(), Refusal> {
+    fn check_item(plans: &AnyPlan<'_, A>, i: usize, search: &mut FailureSearch) {
         plans.description.keeps_ranges();
-        owner(plans.plan, i, Item::Stream(i as u8))
+        owner(plans.plan, i, Item::Stream(i as u8), search);
     }
 }
 
@@ -117,9 +127,9 @@ impl<A: Allocator> ItemCondition<AnyPlan<'_, A>> for ProgramOwners {
         plans.description.programs().len()
     }
 
-    fn check_item(plans: &AnyPlan<'_, A>, i: usize) -> Result<(), Refusal> {
+    fn check_item(plans: &AnyPlan<'_, A>, i: usize, search: &mut FailureSearch) {
         let before = plans.description.streams().len();
-        owner(plans.plan, before + i, Item::Pcr(i as u8))
+        owner(plans.plan, before + i, Item::Pcr(i as u8), search);
     }
 }
 
@@ -138,15 +148,15 @@ impl<A: Allocator> ItemCondition<AnyPlan<'_, A>> for TableOwners {
         plans.description.tables()
     }
 
-    fn check_item(plans: &AnyPlan<'_, A>, i: usize) -> Result<(), Refusal> {
+    fn check_item(plans: &AnyPlan<'_, A>, i: usize, search: &mut FailureSearch) {
         let before = plans.description.streams().len() + plans.description.programs().len();
-        owner(plans.plan, before + i, Item::Table(i as u8))
+        owner(plans.plan, before + i, Item::Table(i as u8), search);
     }
 }
 
 /// The certificate has an entry for each stream and for each program.
-fn claims<A: Allocator>(description: &Description, plan: &Plan<A>) -> Result<(), Refusal>
-    ensures { failed result ≡ first_failing (claim_entries description.now plan.now) }
+fn claims<A: Allocator>(description: &Description, plan: &Plan<A>, search: &mut FailureSearch)
+    ensures { search_of search.new ≡ after (search_of search.old) (claim_entries description.now plan.now) }
 {
     let certificate = plan.certificate();
     equal_counts(
@@ -155,12 +165,14 @@ fn claims<A: Allocator>(description: &Description, plan: &Plan<A>) -> Result<(),
         0,
         certificate.streams.len() as u128,
         description.streams().len() as u128,
-    )?;
+        search,
+    );
     equal_counts(
         Condition::Shape,
         6,
         0,
         certificate.programs.len() as u128,
         description.programs().len() as u128,
-    )
+        search,
+    );
 }

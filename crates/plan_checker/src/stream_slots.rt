@@ -9,9 +9,9 @@ use crate::claims::claim_of_stream;
 use crate::comparison::at_most;
 use crate::condition_terms::{rate_given, rate_needed};
 use crate::conditions::ItemCondition;
+use crate::failure_search::FailureSearch;
 use crate::own_counts::own_count;
 use crate::plans::ShapedPlan;
-use crate::refusal::Refusal;
 use crate::spread::spread_of;
 use clock27::SLOT_UNITS_AT_1BPS;
 use slot_plan::{Condition, Item, StreamDescription};
@@ -32,7 +32,7 @@ impl<A: Allocator> ItemCondition<ShapedPlan<'_, A>> for Spreads {
         plans.description.streams().len()
     }
 
-    fn check_item(plans: &ShapedPlan<'_, A>, i: usize) -> Result<(), Refusal> {
+    fn check_item(plans: &ShapedPlan<'_, A>, i: usize, search: &mut FailureSearch) {
         plans.description.keeps_ranges();
         let spread = spread_of(plans.plan.slots(), Item::Stream(i as u8));
         let claimed = claim_of_stream(plans.plan, i).spread;
@@ -42,7 +42,8 @@ impl<A: Allocator> ItemCondition<ShapedPlan<'_, A>> for Spreads {
             i as u32,
             spread as u128,
             claimed as u128,
-        )
+            search,
+        );
     }
 }
 
@@ -87,13 +88,13 @@ impl<A: Allocator> ItemCondition<ShapedPlan<'_, A>> for StreamRates {
         plans.description.streams().len()
     }
 
-    fn check_item(plans: &ShapedPlan<'_, A>, i: usize) -> Result<(), Refusal> {
+    fn check_item(plans: &ShapedPlan<'_, A>, i: usize, search: &mut FailureSearch) {
         let stream = &plans.description.streams()[i];
         let slots = plans.plan.slots();
         let count = own_count(slots, Item::Stream(i as u8));
         let rate = plans.description.rate().bits_per_second();
         let needed = rate_needed(steady_packets(stream), slots.len() as u64);
         let given = rate_given(count, steady_time(stream), rate);
-        at_most(Condition::StreamRate, 0, i as u32, needed, given)
+        at_most(Condition::StreamRate, 0, i as u32, needed, given, search);
     }
 }

@@ -3,20 +3,19 @@
 ghost use Rattle.std.specs.Prelude.{◌≡◌, ◌^◌, ◌<◌, ◌≤◌, ◌∷◌, [], length};
 ghost use Rattle.description.specs.Ranges.{IsStream};
 ghost use Rattle.unit_timing.specs.Allowances.{allowance_rows};
-ghost use Rattle.slot_plan.specs.Entries.{first_failing};
 ghost use Rattle.slot_plan.specs.Conditions.{entries_from};
 ghost use Rattle.slot_plan.specs.SwitchConditions.{lead_switch_entry};
-ghost use Rattle.plan_checker.specs.Refusals.{failed};
+ghost use Rattle.plan_checker.specs.Failing.{after, search_of};
 ghost use Rattle.plan_checker.specs.SwitchShares.{switch_shares, deadline_entry, AreSharesInRange};
 
 use crate::claims::claim_of_stream;
 use crate::comparison::at_most;
 use crate::condition_terms::{time_given, time_needed};
 use crate::conditions::ItemCondition;
+use crate::failure_search::FailureSearch;
 use crate::leads::{group_part, packets_in_row};
 use crate::own_counts::own_count;
 use crate::plans::PlanPair;
-use crate::refusal::Refusal;
 use crate::switch::across::shift_of;
 use crate::switch::shares::{PlanShare, SwitchShares, slots_needed};
 use slot_plan::{Condition, Item, StreamDescription};
@@ -38,10 +37,10 @@ impl<A: Allocator> ItemCondition<PlanPair<'_, A>> for LeadSwitches {
         plans.description.streams().len()
     }
 
-    fn check_item(plans: &PlanPair<'_, A>, i: usize) -> Result<(), Refusal> {
+    fn check_item(plans: &PlanPair<'_, A>, i: usize, search: &mut FailureSearch) {
         let stream = &plans.description.streams()[i];
         let rate = plans.description.rate().bits_per_second();
-        lead_switch(rate, stream, i, shares_of(plans, i))
+        lead_switch(rate, stream, i, shares_of(plans, i), search);
     }
 }
 
@@ -79,21 +78,21 @@ fn lead_switch(
     stream: &StreamDescription,
     i: usize,
     shares: SwitchShares,
-) -> Result<(), Refusal>
+    search: &mut FailureSearch,
+)
     requires rate { rate ≤ 100000000 }
     requires stream { IsStream stream.now }
     requires index { i < 32 }
     requires in_range { AreSharesInRange shares }
     requires spread { shares.first.spread < 2 ^ 33 }
     requires next_spread { shares.second.spread < 2 ^ 33 }
-    ensures { failed result
-        ≡ first_failing (entries_from (deadline_entry rate shares i stream.now) 1
+    ensures { search_of search.new
+        ≡ after (search_of search.old) (entries_from (deadline_entry rate shares i stream.now) 1
         (allowance_rows stream.now.allowance)) }
 {
     for before in 0..stream.allowance.rows() {
-        deadline(rate, stream, i, shares, before + 1)?;
+        deadline(rate, stream, i, shares, before + 1, search);
     }
-    Ok(())
 }
 
 /// The deadline of the last of `units` units in a row.
@@ -104,7 +103,8 @@ fn deadline(
     i: usize,
     shares: SwitchShares,
     units: u8,
-) -> Result<(), Refusal>
+    search: &mut FailureSearch,
+)
     requires rate { rate ≤ 100000000 }
     requires stream { IsStream stream.now }
     requires index { i < 32 }
@@ -113,7 +113,7 @@ fn deadline(
     requires next_spread { shares.second.spread < 2 ^ 33 }
     requires positive { 0 < units }
     requires units { units ≤ allowance_rows stream.now.allowance }
-    ensures { failed result ≡ first_failing (deadline_entry rate shares i stream.now units ∷ []) }
+    ensures { search_of search.new ≡ after (search_of search.old) (deadline_entry rate shares i stream.now units ∷ []) }
 {
     let packets = packets_in_row(stream, units);
     let count = shares.first.count as u128 * shares.second.count as u128;
@@ -132,5 +132,6 @@ fn deadline(
             rate,
             stream.rx as u64,
         ),
-    )
+        search,
+    );
 }

@@ -5,9 +5,9 @@ ghost use Rattle.slot_plan.specs.SwitchConditions.{main_switch_entry};
 
 use crate::comparison::at_most;
 use crate::conditions::ItemCondition;
+use crate::failure_search::FailureSearch;
 use crate::main_buffers::{bytes_by_slots, bytes_by_units};
 use crate::plans::PlanPair;
-use crate::refusal::Refusal;
 use slot_plan::{Condition, StreamDescription};
 use std::alloc::Allocator;
 
@@ -25,7 +25,7 @@ impl<A: Allocator> ItemCondition<PlanPair<'_, A>> for MainSwitches {
         plans.description.streams().len()
     }
 
-    fn check_item(plans: &PlanPair<'_, A>, i: usize) -> Result<(), Refusal> {
+    fn check_item(plans: &PlanPair<'_, A>, i: usize, search: &mut FailureSearch) {
         let stream = &plans.description.streams()[i];
         let by_units = bytes_by_units(stream) as u128;
         let by_slots = bytes_by_slots(plans.description, plans.first, i, stream)
@@ -36,6 +36,7 @@ impl<A: Allocator> ItemCondition<PlanPair<'_, A>> for MainSwitches {
             i as u32,
             by_units.min(by_slots),
             stream.main as u128,
-        )
+            search,
+        );
     }
 }

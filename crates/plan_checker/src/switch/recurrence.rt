@@ -6,8 +6,8 @@ ghost use Rattle.slot_plan.specs.SwitchConditions.{pcr_switch_entry, table_switc
 
 use crate::comparison::at_most;
 use crate::conditions::ItemCondition;
+use crate::failure_search::FailureSearch;
 use crate::plans::PlanPair;
-use crate::refusal::Refusal;
 use crate::switch::across::greatest_gap_across;
 use clock27::SLOT_MS_AT_1BPS;
 use slot_plan::{Condition, Item, ProgramDescription, TableKind};
@@ -27,7 +27,7 @@ impl<A: Allocator> ItemCondition<PlanPair<'_, A>> for PcrSwitches {
         plans.description.programs().len()
     }
 
-    fn check_item(plans: &PlanPair<'_, A>, i: usize) -> Result<(), Refusal> {
+    fn check_item(plans: &PlanPair<'_, A>, i: usize, search: &mut FailureSearch) {
         let (first, second) = (plans.first.slots(), plans.second.slots());
         let gap = greatest_gap_across(first, second, Item::Pcr(i as u8), 1);
         let limit = plans.description.programs()[i].pcr_limit();
@@ -37,7 +37,8 @@ impl<A: Allocator> ItemCondition<PlanPair<'_, A>> for PcrSwitches {
             i as u32,
             gap as u128 * SLOT_MS_AT_1BPS,
             limit as u128 * plans.description.rate().bits_per_second() as u128,
-        )
+            search,
+        );
     }
 }
 
@@ -55,7 +56,7 @@ impl<A: Allocator> ItemCondition<PlanPair<'_, A>> for TableSwitches {
         plans.description.tables()
     }
 
-    fn check_item(plans: &PlanPair<'_, A>, i: usize) -> Result<(), Refusal> {
+    fn check_item(plans: &PlanPair<'_, A>, i: usize, search: &mut FailureSearch) {
         plans.description.keeps_ranges();
         let places = plans.description.round_packets(i) as u64;
         let (first, second) = (plans.first.slots(), plans.second.slots());
@@ -67,6 +68,7 @@ impl<A: Allocator> ItemCondition<PlanPair<'_, A>> for TableSwitches {
             i as u32,
             gap as u128 * SLOT_MS_AT_1BPS,
             limit as u128 * plans.description.rate().bits_per_second() as u128,
-        )
+            search,
+        );
     }
 }

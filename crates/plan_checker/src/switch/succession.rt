@@ -1,16 +1,17 @@
 //! Whether a second plan may follow a first one.
 
-ghost use Rattle.std.specs.Prelude.{◌≡◌, None, IfOk, IfErr};
+ghost use Rattle.std.specs.Prelude.{◌≡◌, None, IfOk, IfErr, option_map};
 ghost use Rattle.slot_plan.specs.Entries.{first_failing};
 ghost use Rattle.slot_plan.specs.Shape.{IsShaped};
 ghost use Rattle.slot_plan.specs.Conditions.{IsServing, stream_leads};
 ghost use Rattle.slot_plan.specs.SwitchConditions.{joint_entries, switch_entries};
-ghost use Rattle.plan_checker.specs.Refusals.{failed, refusal_of};
+ghost use Rattle.plan_checker.specs.Refusals.{entry_of, refusal_of};
 
 use crate::checked_plan::CheckedPlan;
 use crate::checked_switch::CheckedSwitch;
-use crate::checking::check_conditions;
-use crate::conditions::{check_each, then_check_each};
+use crate::checking::first_failing;
+use crate::conditions::check_each;
+use crate::failure_search::FailureSearch;
 use crate::plans::PlanPair;
 use crate::refusal::Refusal;
 use crate::switch::leads::LeadSwitches;
@@ -20,43 +21,47 @@ use crate::switch::work::{StreamWorks, SystemWorks, TransportWorks};
 use slot_plan::{Description, Plan};
 use std::alloc::Allocator;
 
-/// The conditions of two plans together, codes 12 to 16.
+/// The first of the conditions of two plans together, codes 12 to 16, that they do not keep.
 fn joint<A: Allocator>(
     description: &Description,
     first: &Plan<A>,
     second: &Plan<A>,
-) -> Result<(), Refusal>
+) -> Option<Refusal>
     requires shaped { IsShaped description.now first.now }
     requires next_shaped { IsShaped description.now second.now }
     requires led { first_failing (stream_leads description.now first.now) ≡ None }
     requires next_led { first_failing (stream_leads description.now second.now) ≡ None }
-    ensures { failed result ≡ first_failing (joint_entries description.now first.now second.now) }
+    ensures { option_map entry_of result ≡ first_failing (joint_entries description.now first.now second.now) }
 {
     let plans = &PlanPair {
         description,
         first,
         second,
     };
-    let pcrs = check_each::<PcrSwitches, _>(plans);
-    let tables = then_check_each::<TableSwitches, _>(pcrs, plans);
-    let streams = then_check_each::<StreamWorks, _>(tables, plans);
-    let transports = then_check_each::<TransportWorks, _>(streams, plans);
-    let systems = then_check_each::<SystemWorks, _>(transports, plans);
-    let leads = then_check_each::<LeadSwitches, _>(systems, plans);
-    then_check_each::<MainSwitches, _>(leads, plans)
+    let mut search = FailureSearch::new(0);
+    check_each::<PcrSwitches, _>(plans, &mut search);
+    check_each::<TableSwitches, _>(plans, &mut search);
+    check_each::<StreamWorks, _>(plans, &mut search);
+    check_each::<TransportWorks, _>(plans, &mut search);
+    check_each::<SystemWorks, _>(plans, &mut search);
+    check_each::<LeadSwitches, _>(plans, &mut search);
+    check_each::<MainSwitches, _>(plans, &mut search);
+    search.found
 }
 
-/// The conditions of a second plan after a first one: its own, then those of the two together.
+/// The first condition that a second plan after a first one does not keep: its own, then those of the two together.
 fn switch_conditions<A: Allocator>(
     description: &Description,
     first: &Plan<A>,
     second: &Plan<A>,
-) -> Result<(), Refusal>
+) -> Option<Refusal>
     requires serving { IsServing description.now first.now }
-    ensures { failed result ≡ first_failing (switch_entries description.now first.now second.now) }
+    ensures { option_map entry_of result ≡ first_failing (switch_entries description.now first.now second.now) }
 {
-    check_conditions(description, second)?;
-    joint(description, first, second)
+    match first_failing(description, second) {
+        None => joint(description, first, second),
+        Some(refusal) => Some(refusal),
+    }
 }
 
 /// The two plans as ones of which the second may follow the first at the end of any of its periods, where the second
@@ -72,7 +77,7 @@ pub fn check_switch<A: Allocator>(
     ensures handed_back { IfErr result (λ e. (e.1 ≡ first) × (e.2 ≡ second)) }
 {
     match switch_conditions(first.description(), first.plan(), &second) {
-        Ok(()) => Ok(CheckedSwitch { first, second }),
-        Err(refusal) => Err((refusal, first, second)),
+        None => Ok(CheckedSwitch { first, second }),
+        Some(refusal) => Err((refusal, first, second)),
     }
 }

@@ -2,16 +2,15 @@
 
 ghost use Rattle.std.specs.Prelude.{◌≡◌, ◌^◌, ◌<◌, ◌≤◌, ◌∷◌, [], length};
 ghost use Rattle.slot_plan.specs.Items.{marks};
-ghost use Rattle.slot_plan.specs.Entries.{first_failing};
 ghost use Rattle.slot_plan.specs.SwitchConditions.{work_switch_entry, stream_work_entry};
 ghost use Rattle.slot_plan.specs.SwitchConditions.{transport_work_entry, system_work_entry};
-ghost use Rattle.plan_checker.specs.Refusals.{failed};
+ghost use Rattle.plan_checker.specs.Failing.{after, search_of};
 
 use crate::claims::{claim_of_program, claim_of_stream};
 use crate::comparison::at_most;
 use crate::conditions::ItemCondition;
+use crate::failure_search::FailureSearch;
 use crate::plans::PlanPair;
-use crate::refusal::Refusal;
 use crate::work::work_of;
 use slot_plan::{Condition, Item, ProgramDescription, Slot, StreamDescription};
 use std::alloc::Allocator;
@@ -26,14 +25,15 @@ fn work_switch(
     drain: u64,
     start: u64,
     next_start: u64,
-) -> Result<(), Refusal>
+    search: &mut FailureSearch,
+)
     requires short { length slots.now ≤ 65536 }
     requires number { number < 100 }
     requires rate { rate ≤ 100000000 }
     requires drain { drain ≤ 200000000 }
     requires start { start < 10 ^ 18 }
-    ensures { failed result
-        ≡ first_failing (work_switch_entry number rate drain start (marks item slots.now) next_start ∷ []) }
+    ensures { search_of search.new
+        ≡ after (search_of search.old) (work_switch_entry number rate drain start (marks item slots.now) next_start ∷ []) }
 {
     let left = work_of(slots, item, rate, drain, start).left;
     at_most(
@@ -42,7 +42,8 @@ fn work_switch(
         number as u32,
         left as u128,
         next_start as u128,
-    )
+        search,
+    );
 }
 
 /// The transport buffers of the streams.
@@ -59,7 +60,7 @@ impl<A: Allocator> ItemCondition<PlanPair<'_, A>> for StreamWorks {
         plans.description.streams().len()
     }
 
-    fn check_item(plans: &PlanPair<'_, A>, i: usize) -> Result<(), Refusal> {
+    fn check_item(plans: &PlanPair<'_, A>, i: usize, search: &mut FailureSearch) {
         work_switch(
             plans.first.slots(),
             Item::Stream(i as u8),
@@ -68,7 +69,8 @@ impl<A: Allocator> ItemCondition<PlanPair<'_, A>> for StreamWorks {
             plans.description.streams()[i].rx as u64,
             claim_of_stream(plans.first, i).start,
             claim_of_stream(plans.second, i).start,
-        )
+            search,
+        );
     }
 }
 
@@ -86,7 +88,7 @@ impl<A: Allocator> ItemCondition<PlanPair<'_, A>> for TransportWorks {
         plans.description.programs().len()
     }
 
-    fn check_item(plans: &PlanPair<'_, A>, i: usize) -> Result<(), Refusal> {
+    fn check_item(plans: &PlanPair<'_, A>, i: usize, search: &mut FailureSearch) {
         work_switch(
             plans.first.slots(),
             Item::System(i as u8),
@@ -95,7 +97,8 @@ impl<A: Allocator> ItemCondition<PlanPair<'_, A>> for TransportWorks {
             SYSTEM_TB_DRAIN,
             claim_of_program(plans.first, i).transport_start,
             claim_of_program(plans.second, i).transport_start,
-        )
+            search,
+        );
     }
 }
 
@@ -113,7 +116,7 @@ impl<A: Allocator> ItemCondition<PlanPair<'_, A>> for SystemWorks {
         plans.description.programs().len()
     }
 
-    fn check_item(plans: &PlanPair<'_, A>, i: usize) -> Result<(), Refusal> {
+    fn check_item(plans: &PlanPair<'_, A>, i: usize, search: &mut FailureSearch) {
         let streams = plans.description.streams().len();
         let programs = plans.description.programs().len();
         work_switch(
@@ -124,6 +127,7 @@ impl<A: Allocator> ItemCondition<PlanPair<'_, A>> for SystemWorks {
             BSYS_DRAIN,
             claim_of_program(plans.first, i).system_start,
             claim_of_program(plans.second, i).system_start,
-        )
+            search,
+        );
     }
 }

@@ -1,15 +1,18 @@
-use Rattle.std.proofs.Common.{◌<◌, length, rules}
-use Rattle.std.proofs.lemmas.Result.{err_from_is_err_and}
-use Rattle.plan_checker.proofs.FirstFailing.{goes_on, ends_here}
+use Rattle.std.proofs.Common.{◌<◌, ◌≤◌, ◌∙◌, length, rules, sym}
+use Rattle.plan_checker.proofs.FailingSearch.{all_gone, ends_here, from_number, goes_on}
 use Rattle.plan_checker.proofs.conditions.check_each.Goals as goal
 
-pub returns-in_err-check_item : goal.returns-in_err-check_item
-returns-in_err-check_item g c =
-    let p = err_from_is_err_and c.from_residual.result c.from_residual.ensures.1 in
-    let lt : c.loop-i.i < length (g.C.ItemCondition.items c.args.plans.now) = search rules in
-    rw (p.1, p.2) (ends_here (g.C.ItemCondition.entries c.args.plans.now) (g.C.ItemCondition.items c.args.plans.now) c.loop-i.i _ _ c.loop-i.invariant lt c.in_err-check_item.ensures)
+pub returns-then-is_done : goal.returns-then-is_done
+returns-then-is_done g c =
+    ends_here c.loop-i.search _ (from_number (g.C.ItemCondition.entries c.args.plans.now) (g.C.ItemCondition.items c.args.plans.now) c.loop-i.i)
+    c.loop-i.invariant (sym c.is_done.ensures ∙ c.if-is_done.true)
 
 pub loop-i-preserved : goal.loop-i-preserved
 loop-i-preserved g c =
     let lt : c.loop-i.i < length (g.C.ItemCondition.items c.args.plans.now) = search rules in
-    goes_on (g.C.ItemCondition.entries c.args.plans.now) (g.C.ItemCondition.items c.args.plans.now) c.loop-i.i _ c.loop-i.invariant lt c.in_ok-check_item.ensures
+    goes_on (g.C.ItemCondition.entries c.args.plans.now) (g.C.ItemCondition.items c.args.plans.now) c.loop-i.i _ _ _ c.loop-i.invariant lt c.check_item.ensures
+
+pub returns : goal.returns
+returns g c =
+    let le : length (g.C.ItemCondition.items c.args.plans.now) ≤ c.loop-i.i = search rules in
+    all_gone (g.C.ItemCondition.entries c.args.plans.now) (g.C.ItemCondition.items c.args.plans.now) c.loop-i.i _ _ c.loop-i.invariant le

@@ -1,7 +1,7 @@
 use Rattle.std.proofs.Common.{◌++◌, List}
 use Rattle.slot_plan.specs.Entries.{Entry}
 use Rattle.slot_plan.specs.Conditions.{pcr_gaps, table_gaps, spreads, stream_rates, stream_buffers, transport_buffers, stream_leads, main_buffers, system_buffers}
-use Rattle.plan_checker.proofs.FirstFailing.{then_next, then_all}
+use Rattle.plan_checker.proofs.FailingSearch.{then_next}
 use Rattle.plan_checker.proofs.timing.timing.Goals as goal
 
 pub returns : goal.returns
@@ -15,11 +15,11 @@ returns g c =
     let from_rates : List Entry = stream_rates d p ++ from_streams in
     let from_spreads : List Entry = spreads d p ++ from_rates in
     let from_tables : List Entry = table_gaps d p ++ from_spreads in
-    then_all _ _ (pcr_gaps d p) from_tables c.check_each-pcrs.ensures
-    (then_next _ _ _ (table_gaps d p) from_spreads c.then_check_each-tables.ensures
-    (then_next _ _ _ (spreads d p) from_rates c.then_check_each-spreads.ensures
-    (then_next _ _ _ (stream_rates d p) from_streams c.then_check_each-rates.ensures
-    (then_next _ _ _ (stream_buffers d p) from_transports c.then_check_each-streams.ensures
-    (then_next _ _ _ (transport_buffers d p) from_leads c.then_check_each-transports.ensures
-    (then_next _ _ _ (stream_leads d p) from_mains c.then_check_each-leads.ensures
-    (then_next _ _ _ (main_buffers d p) (system_buffers d p) c.then_check_each-mains.ensures c.then_check_each.ensures)))))))
+    then_next _ _ _ (pcr_gaps d p) from_tables c.check_each.ensures
+    (then_next _ _ _ (table_gaps d p) from_spreads c.check_each-2.ensures
+    (then_next _ _ _ (spreads d p) from_rates c.check_each-3.ensures
+    (then_next _ _ _ (stream_rates d p) from_streams c.check_each-4.ensures
+    (then_next _ _ _ (stream_buffers d p) from_transports c.check_each-5.ensures
+    (then_next _ _ _ (transport_buffers d p) from_leads c.check_each-6.ensures
+    (then_next _ _ _ (stream_leads d p) from_mains c.check_each-7.ensures
+    (then_next _ _ _ (main_buffers d p) (system_buffers d p) c.check_each-8.ensures c.check_each-9.ensures)))))))

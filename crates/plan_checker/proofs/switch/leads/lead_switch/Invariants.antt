@@ -1,10 +1,11 @@
 use Rattle.std.proofs.Common.{◌≡◌, ◌+◌, ◌-◌}
 use Rattle.unit_timing.specs.Allowances.{allowance_rows}
-use Rattle.slot_plan.specs.Entries.{first_failing}
 use Rattle.slot_plan.specs.Conditions.{entries_from}
+use Rattle.plan_checker.specs.Failing.{after, search_of}
 use Rattle.plan_checker.specs.SwitchShares.{deadline_entry}
 use Rattle.plan_checker.proofs.switch.leads.lead_switch.Given as goal
 
 abbrev pub invariant-loop-before : goal.invariant-loop-before
-invariant-loop-before l = first_failing (entries_from (deadline_entry l.rate l.shares l.i l.stream) 1 (allowance_rows l.stream.allowance))
-    ≡ first_failing (entries_from (deadline_entry l.rate l.shares l.i l.stream) (l.before + 1) (allowance_rows l.stream.allowance - l.before))
+invariant-loop-before l =
+    after (search_of l.fn.search) (entries_from (deadline_entry l.rate l.shares l.i l.stream) 1 (allowance_rows l.stream.allowance))
+    ≡ after (search_of l.search) (entries_from (deadline_entry l.rate l.shares l.i l.stream) (l.before + 1) (allowance_rows l.stream.allowance - l.before))

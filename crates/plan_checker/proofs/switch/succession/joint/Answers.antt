@@ -1,7 +1,8 @@
-use Rattle.std.proofs.Common.{◌++◌, List}
+use Rattle.std.proofs.Common.{◌++◌, ◌∙◌, List, ap}
 use Rattle.slot_plan.specs.Entries.{Entry}
-use Rattle.slot_plan.specs.SwitchConditions.{pcr_switches, table_switches, stream_works, transport_works, system_works, lead_switches, main_switches}
-use Rattle.plan_checker.proofs.FirstFailing.{then_next, then_all}
+use Rattle.slot_plan.specs.SwitchConditions.{joint_entries, pcr_switches, table_switches, stream_works, transport_works, system_works, lead_switches, main_switches}
+use Rattle.plan_checker.specs.Failing.{Search, after}
+use Rattle.plan_checker.proofs.FailingSearch.{found_first, then_next}
 use Rattle.plan_checker.proofs.switch.succession.joint.Goals as goal
 
 pub returns : goal.returns
@@ -14,9 +15,10 @@ returns g c =
     let from_transports : List Entry = transport_works d p q ++ from_systems in
     let from_streams : List Entry = stream_works d p q ++ from_transports in
     let from_tables : List Entry = table_switches d p q ++ from_streams in
-    then_all _ _ (pcr_switches d p q) from_tables c.check_each-pcrs.ensures
-    (then_next _ _ _ (table_switches d p q) from_streams c.then_check_each-tables.ensures
-    (then_next _ _ _ (stream_works d p q) from_transports c.then_check_each-streams.ensures
-    (then_next _ _ _ (transport_works d p q) from_systems c.then_check_each-transports.ensures
-    (then_next _ _ _ (system_works d p q) from_leads c.then_check_each-systems.ensures
-    (then_next _ _ _ (lead_switches d p q) (main_switches d p q) c.then_check_each-leads.ensures c.then_check_each.ensures)))))
+    let all = then_next _ _ _ (pcr_switches d p q) from_tables c.check_each.ensures
+    (then_next _ _ _ (table_switches d p q) from_streams c.check_each-2.ensures
+    (then_next _ _ _ (stream_works d p q) from_transports c.check_each-3.ensures
+    (then_next _ _ _ (transport_works d p q) from_systems c.check_each-4.ensures
+    (then_next _ _ _ (system_works d p q) from_leads c.check_each-5.ensures
+    (then_next _ _ _ (lead_switches d p q) (main_switches d p q) c.check_each-6.ensures c.check_each-7.ensures))))) in
+    ap (λ (s : Search). s.found) (all ∙ ap (λ (s : Search). after s (joint_entries d p q)) c.new-search.ensures) ∙ found_first (joint_entries d p q)

@@ -1,5 +1,5 @@
 use Rattle.plan_checker.proofs.SpreadClaims.{spread_small}
-use Rattle.plan_checker.proofs.FirstFailing.{the_item}
+use Rattle.plan_checker.proofs.FailingSearch.{the_item}
 use Rattle.plan_checker.proofs.switch.leads.LeadSwitchesItemConditionPlanPair.check_item.Goals as goal
 
 pub lead_switch-requires-clause-spread : goal.lead_switch-requires-clause-spread

@@ -1,4 +1,4 @@
-use Rattle.plan_checker.proofs.FirstFailing.{the_item}
+use Rattle.plan_checker.proofs.FailingSearch.{the_item}
 use Rattle.plan_checker.proofs.switch.main_buffers.MainSwitchesItemConditionPlanPair.check_item.Goals as goal
 
 pub returns : goal.returns
