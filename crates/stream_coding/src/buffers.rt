@@ -12,6 +12,13 @@ pub struct Buffers {
     pub main: u32,
 }
 
+/// Buffers for the stream of a PID.
+#[derive(Clone, Copy)]
+pub struct PidBuffers {
+    pub pid: u16,
+    pub buffers: Buffers,
+}
+
 // The greatest rate and the video buffer of a level, in bits.
 #[tactic(auto, unfolding(crate::specs::Buffers::mpeg_limits))]
 fn mpeg_limits(level: u8) -> (u32, u32)

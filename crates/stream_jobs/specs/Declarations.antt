@@ -15,12 +15,12 @@ use Rattle.stream_choice.specs.declared.needs.Needs.{Needs}
 use Rattle.stream_coding.specs.Buffers.{buffers_of}
 use Rattle.stream_coding.specs.Codings.{coding_of}
 use Rattle.stream_coding.specs.declared.buffers.Buffers.{Buffers}
+use Rattle.stream_coding.specs.declared.buffers.PidBuffers.{PidBuffers}
 use Rattle.stream_units.specs.Declaration.{min_interval, max_unit_size, group_packets, burst_packets}
 use Rattle.stream_jobs.specs.declared.refusal.JobRefusal.{JobRefusal}
 use Rattle.stream_jobs.specs.declared.refusal.JobRefusal.TheVariants as refusals
 use Rattle.stream_jobs.specs.declared.job_options.DeclareBy.{DeclareBy}
 use Rattle.stream_jobs.specs.declared.job_options.DeclareBy.TheVariants as by
-use Rattle.stream_jobs.specs.declared.job_options.PidBuffers.{PidBuffers}
 use Rattle.stream_jobs.specs.Answers.{unless, each}
 use Rattle.stream_jobs.specs.JobStreams.{TimedStreamView}
 

@@ -6,7 +6,7 @@ use Rattle.stream_programs.specs.Streams.{FoundStreamView}
 use Rattle.stream_jobs.specs.GivenNames.{NetworkNameView, ServiceNameView}
 use Rattle.stream_jobs.specs.declared.clock_base.ClockBase.{ClockBase}
 use Rattle.stream_jobs.specs.declared.job_options.DeclareBy.{DeclareBy}
-use Rattle.stream_jobs.specs.declared.job_options.PidBuffers.{PidBuffers}
+use Rattle.stream_coding.specs.declared.buffers.PidBuffers.{PidBuffers}
 
 -- the rate in bits a second, if one is asked for; the moment of the first slot as its characters; limits in ms and in units
 -- of 90 kHz; by what the packets of units are declared; what the

@@ -16,7 +16,7 @@ use Rattle.stream_programs.specs.Texts.{has_unread}
 use Rattle.stream_units.specs.UnitWarnings.{unit_warnings}
 use Rattle.stream_units.specs.Damage as units
 use Rattle.stream_jobs.specs.GivenNames.{NetworkNameView, ServiceNameView}
-use Rattle.stream_jobs.specs.declared.job_options.PidBuffers.{PidBuffers}
+use Rattle.stream_coding.specs.declared.buffers.PidBuffers.{PidBuffers}
 use Rattle.stream_jobs.specs.declared.warning.Warning.{Warning}
 use Rattle.stream_jobs.specs.declared.warning.Warning.TheVariants.{BadPacket, Errored, TrailingBytes, AssociationChanges, MapChanges, DescriptorsChange, Table, StrayPes, NoSuchProgram, NoSuchStream, Units, NoUnit, StreamId, NoStream, UnreadText, NetworkSurplus, UnreadNetwork, MapMoved}
 

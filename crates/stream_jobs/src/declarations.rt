@@ -6,14 +6,13 @@ ghost use Rattle.stream_jobs.specs.Answers.{Answers, Refuses};
 ghost use Rattle.stream_jobs.specs.Declarations as spec;
 ghost use Rattle.stream_jobs.specs.Jobs.{FitsQueue};
 
-use crate::job_options::PidBuffers;
 use crate::job_stream::TimedStream;
 use crate::refusal::{JobError, JobRefusal};
 use pes_packet::greatest_size;
 use std::alloc::{AllocError, Global};
 use std::marker::Model;
 use stream_choice::Needs;
-use stream_coding::{Buffers, buffers_of, coding_of};
+use stream_coding::{Buffers, PidBuffers, buffers_of, coding_of};
 use stream_units::{group_packets, max_unit_size, min_interval};
 
 /// The greatest number of programs, and of streams, in a description.

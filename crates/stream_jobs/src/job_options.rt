@@ -6,14 +6,7 @@ ghost use Rattle.stream_jobs.specs.JobOptions.{is_among};
 use crate::clock_base::ClockBase;
 use crate::given_names::{NetworkName, ServiceName};
 use std::marker::Model;
-use stream_coding::Buffers;
-
-/// Buffers for the stream of a PID.
-#[derive(Clone, Copy)]
-pub struct PidBuffers {
-    pub pid: u16,
-    pub buffers: Buffers,
-}
+use stream_coding::PidBuffers;
 
 /// By what the packets of a stream's units are declared.
 #[derive(Clone, Copy, Debug, PartialEq, Eq)]

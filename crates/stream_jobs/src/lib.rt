@@ -36,6 +36,6 @@ pub use clock_base::ClockBase;
 pub use given_names::{NetworkName, ServiceName};
 pub use input::{JobInput, job_input};
 pub use job::{Job, describe, found_rate, make_job, units, unplanned_description};
-pub use job_options::{DeclareBy, JobOptions, PidBuffers};
+pub use job_options::{DeclareBy, JobOptions};
 pub use refusal::{JobError, JobRefusal};
 pub use warning::Warning;

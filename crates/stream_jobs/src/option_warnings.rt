@@ -6,9 +6,9 @@ ghost use Rattle.stream_programs.specs.Association.{is_named};
 ghost use Rattle.stream_jobs.specs.Warnings as spec;
 
 use crate::given_names::ServiceName;
-use crate::job_options::PidBuffers;
 use crate::warning::Warning;
 use std::alloc::AllocError;
+use stream_coding::PidBuffers;
 use stream_programs::{Association, FoundStream};
 
 // Whether a program is named.

@@ -11,7 +11,7 @@ use Rattle.stream_jobs.specs.declared.clock_base.ClockBase.{ClockBase}
 use Rattle.stream_jobs.specs.declared.clock_base.ClockBase.TheVariants.{Lasting, Input, At}
 use Rattle.stream_jobs.specs.declared.job_options.DeclareBy.{DeclareBy}
 use Rattle.stream_jobs.specs.declared.job_options.DeclareBy.TheVariants as by
-use Rattle.stream_jobs.specs.declared.job_options.PidBuffers.{PidBuffers}
+use Rattle.stream_coding.specs.declared.buffers.PidBuffers.{PidBuffers}
 use Rattle.devices.specs.Options.{is_given, number_if_given, number_option}
 use Rattle.tsjob_cli.specs.declared.arguments.Subcommand.{Subcommand}
 use Rattle.tsjob_cli.specs.declared.arguments.Subcommand.TheVariants.{Whole, Describe, Units, Why}

@@ -3,7 +3,7 @@ use Rattle.std.specs.Prelude.{ℕ, ◌==◌, ◌&&◌, nat_le, not, Bool, if◌t
 use Rattle.std.specs.List.{list_all, slice_split}
 use Rattle.clap.specs.Words.{Text}
 use Rattle.stream_jobs.specs.GivenNames.{NetworkNameView, ServiceNameView}
-use Rattle.stream_jobs.specs.declared.job_options.PidBuffers.{PidBuffers}
+use Rattle.stream_coding.specs.declared.buffers.PidBuffers.{PidBuffers}
 use Rattle.devices.specs.Options.{decimal, within}
 
 -- the parts of a text between commas, and between colons

@@ -14,7 +14,8 @@ use clap::error::ErrorKind;
 use devices::{is_given, number_if_given, number_in, number_option, text_of};
 use std::alloc::{AllocError, Global};
 use std::marker::Model;
-use stream_jobs::{ClockBase, DeclareBy, JobOptions, NetworkName, PidBuffers, ServiceName};
+use stream_coding::PidBuffers;
+use stream_jobs::{ClockBase, DeclareBy, JobOptions, NetworkName, ServiceName};
 
 /// The moment of the first slot without `--start`.
 const DEFAULT_START: &str = "2000-01-01T00:00:00";

@@ -6,8 +6,8 @@ ghost use Rattle.tsjob_cli.specs.Lists as spec;
 
 use devices::number_in;
 use std::alloc::{AllocError, Global};
-use stream_coding::Buffers;
-use stream_jobs::{NetworkName, PidBuffers, ServiceName};
+use stream_coding::{Buffers, PidBuffers};
+use stream_jobs::{NetworkName, ServiceName};
 
 // The parts of a text between commas.
 fn comma_parts<'a>(alloc: Global, text: &'a str) -> Result<Vec<&'a str>, AllocError>
