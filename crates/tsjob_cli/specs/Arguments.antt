@@ -16,7 +16,8 @@ use Rattle.devices.specs.Options.{is_given, number_if_given, number_option}
 use Rattle.tsjob_cli.specs.declared.arguments.Subcommand.{Subcommand}
 use Rattle.tsjob_cli.specs.declared.arguments.Subcommand.TheVariants.{Whole, Describe, Units, Why}
 use Rattle.tsjob_cli.specs.CommandLine.{tsjob_app}
-use Rattle.tsjob_cli.specs.Lists.{buffer_list, given, name_list, network_if_given, number_in, number_list}
+use Rattle.option_lists.specs.Lists.{buffer_list, given, number_in, number_list}
+use Rattle.tsjob_cli.specs.NameLists.{name_list, network_if_given}
 
 -- the ranges of numbers: a rate in bits a second, a limit in milliseconds, a lead in units of 90 kHz
 abbrev pub least_rate : ℕ

@@ -3,7 +3,8 @@ use Rattle.std.specs.Prelude.{◌||◌, Bool, true, false, if◌then◌else◌, 
 use Rattle.std.specs.Str.{bytes_eq}
 use Rattle.word_faults.specs.CommandLine.{CommandLine, Text}
 use Rattle.tsjob_cli.specs.Arguments.{subcommand_of, base_of, declare_by_of, start_of, least_rate, greatest_rate, least_limit, greatest_limit, least_lead, greatest_lead, greatest_program, greatest_pid}
-use Rattle.tsjob_cli.specs.Lists.{buffer_list, name_list, network_in, number_in, number_list}
+use Rattle.option_lists.specs.Lists.{buffer_list, number_in, number_list}
+use Rattle.tsjob_cli.specs.NameLists.{name_list, network_in}
 use Rattle.tsjob_cli.specs.declared.known_words.ValueKind.{ValueKind}
 use Rattle.tsjob_cli.specs.declared.known_words.ValueKind.TheVariants.{Number, Numbers, Buffers, Start, Declare, Base, Network, Names, FileName}
 

@@ -1,6 +1,6 @@
 pub mod CommandLine
 pub mod KnownWords
-pub mod Lists
+pub mod NameLists
 pub mod Arguments
 pub mod UsageText
 pub mod WarningLines

@@ -5,13 +5,14 @@ ghost use Rattle.std.specs.List.{list_all};
 ghost use Rattle.clap.specs.Words.{found_of, rows_of};
 ghost use Rattle.stream_jobs.specs.GivenNames.{network_name_view};
 ghost use Rattle.tsjob_cli.specs.Arguments as spec;
-ghost use Rattle.tsjob_cli.specs.Lists.{network_if_given};
+ghost use Rattle.tsjob_cli.specs.NameLists.{network_if_given};
 
 use crate::command_line::matches_for;
-use crate::lists::{buffer_list, name_list, network_in, number_list};
+use crate::name_lists::{name_list, network_in};
 use clap::ArgMatches;
 use clap::error::ErrorKind;
 use devices::{is_given, number_if_given, number_in, number_option, text_of};
+use option_lists::{buffer_list, number_list};
 use std::alloc::{AllocError, Global};
 use std::marker::Model;
 use stream_coding::PidBuffers;
@@ -165,7 +166,7 @@ pub(crate) fn base_of(text: Option<&str>) -> Option<ClockBase>
 }
 
 // The network, if the option is given; none where it is none.
-#[tactic(auto, unfolding(crate::specs::Lists::network_if_given))]
+#[tactic(auto, unfolding(crate::specs::NameLists::network_if_given))]
 fn network_if_given<'a>(
     alloc: Global,
     text: Option<&'a str>,

@@ -3,8 +3,9 @@ ghost use Rattle.std.specs.Prelude.{◌≡◌, IfOk};
 ghost use Rattle.tsjob_cli.specs.KnownWords as spec;
 
 use crate::arguments::{base_of, declare_by_of, start_of, subcommand_of};
-use crate::lists::{buffer_list, name_list, network_in, number_list};
+use crate::name_lists::{name_list, network_in};
 use devices::number_in;
+use option_lists::{buffer_list, number_list};
 use std::alloc::{AllocError, Global};
 use word_faults::CommandLine;
 

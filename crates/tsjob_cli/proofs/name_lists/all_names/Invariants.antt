@@ -1,7 +1,7 @@
 use Rattle.std.proofs.Common.{◌≡◌, ◌++◌, drop, map}
 use Rattle.std.specs.Prelude.{option_map}
-use Rattle.tsjob_cli.specs.Lists.{all_names}
-use Rattle.tsjob_cli.proofs.lists.all_names.Given as goal
+use Rattle.tsjob_cli.specs.NameLists.{all_names}
+use Rattle.tsjob_cli.proofs.name_lists.all_names.Given as goal
 
 abbrev pub invariant-loop-part : goal.invariant-loop-part
 invariant-loop-part l =

@@ -1,7 +1,7 @@
 use Rattle.std.proofs.Common.{◌≡◌, ◌++◌, drop, map}
 use Rattle.std.specs.Prelude.{option_map}
-use Rattle.tsjob_cli.specs.Lists.{numbers_of}
-use Rattle.tsjob_cli.proofs.lists.numbers_of.Given as goal
+use Rattle.option_lists.specs.Lists.{numbers_of}
+use Rattle.option_lists.proofs.lists.numbers_of.Given as goal
 
 abbrev pub invariant-loop-text : goal.invariant-loop-text
 invariant-loop-text l =

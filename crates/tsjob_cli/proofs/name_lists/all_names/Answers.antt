@@ -1,7 +1,8 @@
 use Rattle.std.proofs.Common.{◌∙◌, sym}
-use Rattle.tsjob_cli.specs.Lists.{name_of, colon_parts}
-use Rattle.tsjob_cli.proofs.AllOf.{all_taken, missing, more}
-use Rattle.tsjob_cli.proofs.lists.all_names.Goals as goal
+use Rattle.option_lists.specs.Lists.{colon_parts}
+use Rattle.tsjob_cli.specs.NameLists.{name_of}
+use Rattle.option_lists.proofs.AllOf.{all_taken, missing, more}
+use Rattle.tsjob_cli.proofs.name_lists.all_names.Goals as goal
 
 pub returns-in-None : goal.returns-in-None
 returns-in-None c =

@@ -1,7 +1,7 @@
 use Rattle.std.proofs.Common.{◌≡◌, ◌++◌, drop, map}
 use Rattle.std.specs.Prelude.{option_map}
-use Rattle.tsjob_cli.specs.Lists.{all_buffers}
-use Rattle.tsjob_cli.proofs.lists.all_buffers.Given as goal
+use Rattle.option_lists.specs.Lists.{all_buffers}
+use Rattle.option_lists.proofs.lists.all_buffers.Given as goal
 
 abbrev pub invariant-loop-part : goal.invariant-loop-part
 invariant-loop-part l =

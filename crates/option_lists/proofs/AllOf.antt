@@ -3,7 +3,7 @@ use Rattle.std.proofs.Common.{◌≡◌, ◌∙◌, ◌<◌, ◌≤◌, ◌+◌,
 use Rattle.std.proofs.Math.Seq.{drop-cons}
 use Rattle.std.proofs.lemmas.List.{drop_all}
 use Rattle.std.specs.Prelude.{option_map}
-use Rattle.tsjob_cli.specs.Lists.{all_of}
+use Rattle.option_lists.specs.Lists.{all_of}
 
 -- those from a place on, after those before it
 abbrev pub with_rest : {A B T : Type 0} → (A → Option T) → (B → A) → List T → List B → ℕ → Option (List T)

@@ -1,7 +1,7 @@
 use Rattle.std.proofs.Common.{◌∙◌, sym}
-use Rattle.tsjob_cli.specs.Lists.{number_in}
-use Rattle.tsjob_cli.proofs.AllOf.{all_taken, missing, more}
-use Rattle.tsjob_cli.proofs.lists.numbers_of.Goals as goal
+use Rattle.option_lists.specs.Lists.{number_in}
+use Rattle.option_lists.proofs.AllOf.{all_taken, missing, more}
+use Rattle.option_lists.proofs.lists.numbers_of.Goals as goal
 
 pub returns-in-None : goal.returns-in-None
 returns-in-None c =

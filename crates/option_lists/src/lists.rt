@@ -1,0 +1,111 @@
+//! Options that are lists: their parts have commas between them.
+
+ghost use Rattle.std.specs.Prelude.{◌≡◌, IfOk, [], ◌∷◌, map, option_map};
+ghost use Rattle.option_lists.specs.Lists as spec;
+
+use devices::number_in;
+use std::alloc::{AllocError, Global};
+use stream_coding::{Buffers, PidBuffers};
+
+/// The parts of a text between commas.
+pub fn comma_parts<'a>(alloc: Global, text: &'a str) -> Result<Vec<&'a str>, AllocError>
+    ensures { IfOk result (λ parts. map (λ s. s.now) parts.items ≡ spec.comma_parts text.entry.now) }
+{
+    text.split(',').collect(alloc)
+}
+
+/// The parts of a text between colons.
+pub fn colon_parts<'a>(alloc: Global, text: &'a str) -> Result<Vec<&'a str>, AllocError>
+    ensures { IfOk result (λ parts. map (λ s. s.now) parts.items ≡ spec.colon_parts text.entry.now) }
+{
+    text.split(':').collect(alloc)
+}
+
+// The numbers in texts, each up to `most`; none where a text is no such number.
+fn numbers_of(alloc: Global, most: u16, texts: &[&str]) -> Result<Option<Vec<u16>>, AllocError>
+    ensures { IfOk result
+        (λ r. option_map (λ numbers. numbers.items) r ≡ spec.numbers_of most (map (λ s. s.now) texts.now)) }
+{
+    let mut numbers = Vec::new(alloc);
+    for text in texts {
+        match number_in(text, 0, u64::from(most)) {
+            Some(number) => numbers.push(number as u16)?,
+            None => return Ok(None),
+        }
+    }
+    Ok(Some(numbers))
+}
+
+/// The numbers of a list, each up to `most`: an empty list where it is not given, none where a part is no such number.
+#[tactic(auto, unfolding(crate::specs::Lists::number_list))]
+pub fn number_list(
+    alloc: Global,
+    most: u16,
+    text: Option<&str>,
+) -> Result<Option<Vec<u16>>, AllocError>
+    ensures { IfOk result (λ r. option_map (λ numbers. numbers.items) r
+        ≡ spec.number_list most (option_map (λ s. s.now) text.entry)) }
+{
+    match text {
+        None => Ok(Some(Vec::new(alloc))),
+        Some(text) => numbers_of(alloc, most, &comma_parts(alloc, text)?),
+    }
+}
+
+// The buffers with these three numbers, each in its range.
+#[tactic(auto, unfolding(crate::specs::Lists::buffers_of))]
+fn ranged(pid: &str, rx: &str, main: &str) -> Option<PidBuffers>
+    ensures { result ≡ spec.buffers_of (pid.now ∷ rx.now ∷ main.now ∷ []) }
+{
+    let pid = number_in(pid, 0, 8191)?;
+    let rx = number_in(rx, 64_000, 200_000_000)?;
+    let main = number_in(main, 1, 10_000_000)?;
+    Some(PidBuffers {
+        pid: pid as u16,
+        buffers: Buffers {
+            rx: rx as u32,
+            main: main as u32,
+        },
+    })
+}
+
+// The buffers of a part `PID:RX:MAIN`.
+#[tactic(auto, unfolding(crate::specs::Lists::buffers_of))]
+fn buffers_in(alloc: Global, part: &str) -> Result<Option<PidBuffers>, AllocError>
+    ensures { IfOk result (λ r. r ≡ spec.buffers_of (spec.colon_parts part.now)) }
+{
+    match colon_parts(alloc, part)?.as_slice() {
+        [pid, rx, main] => Ok(ranged(pid, rx, main)),
+        _ => Ok(None),
+    }
+}
+
+// The buffers of all parts; none where a part is bad.
+fn all_buffers(alloc: Global, parts: &[&str]) -> Result<Option<Vec<PidBuffers>>, AllocError>
+    ensures { IfOk result
+        (λ r. option_map (λ buffers. buffers.items) r ≡ spec.all_buffers (map (λ s. s.now) parts.now)) }
+{
+    let mut all = Vec::new(alloc);
+    for part in parts {
+        match buffers_in(alloc, part)? {
+            Some(buffers) => all.push(buffers)?,
+            None => return Ok(None),
+        }
+    }
+    Ok(Some(all))
+}
+
+/// The buffers of a list `PID:RX:MAIN,..`: an empty list where it is not given, none where a part is out of range.
+#[tactic(auto, unfolding(crate::specs::Lists::buffer_list))]
+pub fn buffer_list(
+    alloc: Global,
+    text: Option<&str>,
+) -> Result<Option<Vec<PidBuffers>>, AllocError>
+    ensures { IfOk result (λ r. option_map (λ buffers. buffers.items) r
+        ≡ spec.buffer_list (option_map (λ s. s.now) text.entry)) }
+{
+    match text {
+        None => Ok(Some(Vec::new(alloc))),
+        Some(text) => all_buffers(alloc, &comma_parts(alloc, text)?),
+    }
+}
