@@ -1,5 +1,4 @@
 pub mod CommandLines
-pub mod WarningLines
 pub mod Taking
 pub mod JobOutcomes
 pub mod StreamedUnits

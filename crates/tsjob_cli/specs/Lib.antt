@@ -3,11 +3,6 @@ pub mod KnownWords
 pub mod NameLists
 pub mod Arguments
 pub mod UsageText
-pub mod WarningLines
-pub mod RefusalLine
-pub mod SlipLines
-pub mod FieldLines
-pub mod TableLines
 pub mod Streams
 pub mod Outcomes
 pub mod StreamedUnits

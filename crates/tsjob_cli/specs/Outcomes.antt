@@ -35,13 +35,13 @@ use Rattle.devices.specs.declared.halt.Halt.TheVariants.{Write}
 use Rattle.tsjob_cli.specs.declared.arguments.Subcommand.{Subcommand}
 use Rattle.tsjob_cli.specs.declared.arguments.Subcommand.TheVariants.{Whole, Describe, Units, Why}
 use Rattle.tsjob_cli.specs.Arguments.{JobArgumentsView}
-use Rattle.tsjob_cli.specs.FieldLines.{field_lines, told_fields}
+use Rattle.job_lines.specs.FieldLines.{field_lines, told_fields}
 use Rattle.unit_output.specs.Records.{records_of, written}
-use Rattle.tsjob_cli.specs.RefusalLine.{refusal_line}
-use Rattle.tsjob_cli.specs.SlipLines.{packets_line, slip_lines}
+use Rattle.job_lines.specs.RefusalLine.{refusal_line}
+use Rattle.job_lines.specs.SlipLines.{packets_line, slip_lines}
 use Rattle.tsjob_cli.specs.Streams.{PacketNotesView, findings_of, notes_of}
-use Rattle.tsjob_cli.specs.TableLines.{other_table_lines}
-use Rattle.tsjob_cli.specs.WarningLines.{told_warnings, warning_lines}
+use Rattle.job_lines.specs.TableLines.{other_table_lines}
+use Rattle.job_lines.specs.WarningLines.{told_warnings, warning_lines}
 
 -- 1. What is written
 

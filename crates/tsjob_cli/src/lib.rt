@@ -10,17 +10,12 @@
 mod arguments;
 mod command_line;
 mod explained_input;
-mod field_lines;
 mod known_words;
 mod name_lists;
 mod outcome;
 mod program;
 mod reading;
 mod reason_output;
-mod refusal_line;
-mod slip_lines;
 mod streaming;
-mod table_lines;
-mod warning_lines;
 
 pub use program::{report_usage, run};

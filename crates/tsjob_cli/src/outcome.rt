@@ -7,17 +7,16 @@ ghost use Rattle.stream_jobs.specs.WhyNoJob.{IsWhyNoDescription, IsWhyNoJob, IsW
 ghost use Rattle.stream_jobs.specs.declared.refusal.JobError.TheVariants.{Memory};
 ghost use Rattle.tsjob_cli.specs.Outcomes as spec;
 ghost use Rattle.devices.specs.Outcomes.{reported};
-ghost use Rattle.tsjob_cli.specs.SlipLines.{packets_line};
+ghost use Rattle.job_lines.specs.SlipLines.{packets_line};
 
 use crate::arguments::{JobArguments, Subcommand};
-use crate::field_lines::{are_needed, told_fields, write_fields};
 use crate::reading::{PacketNotes, packet_notes, take_carried};
 use crate::reason_output::reason_output;
-use crate::refusal_line::write_refusal;
-use crate::slip_lines::{write_packets, write_slips};
-use crate::table_lines::{are_missed, write_other_tables};
-use crate::warning_lines::{is_damaged, told_warnings, write_warnings};
 use demux::Finding;
+use job_lines::{
+    are_missed, are_needed, is_damaged, told_fields, told_warnings, write_fields, write_other_tables,
+    write_packets, write_refusal, write_slips, write_warnings,
+};
 use other_tables::{OtherTable, other_tables};
 use packet_sync::{FieldLeftOut, OtherPackets, Slip, other_packets};
 use pes_packet::Unit;

@@ -1,0 +1,18 @@
+//! What is told of a stream that becomes a job: a line for each thing that is left out or changed, and the line of a refusal.
+//!
+//! `slip_lines` has those for packets that do not stand in step or are of another size, `field_lines` those for fields that are not
+//! written again, `table_lines` those for tables that no job is made of, `warning_lines` those for the warnings of a job, and
+//! `refusal_line` the one for a stream that is refused. `specs/` has the text of each.
+#![tactic(auto)]
+
+mod field_lines;
+mod refusal_line;
+mod slip_lines;
+mod table_lines;
+mod warning_lines;
+
+pub use field_lines::{are_needed, told_fields, write_fields};
+pub use refusal_line::write_refusal;
+pub use slip_lines::{write_packets, write_slips};
+pub use table_lines::{are_missed, write_other_tables};
+pub use warning_lines::{is_damaged, told_warnings, write_warnings};

@@ -1,0 +1,57 @@
+//! The lines for tables that no job is made of.
+
+ghost use Rattle.std.specs.Prelude.{◌≡◌, ◌++◌, OnOk, string_bytes};
+ghost use Rattle.std.specs.List.{list_any};
+ghost use Rattle.other_tables.specs.TableKinds.{is_loss};
+ghost use Rattle.job_lines.specs.TableLines as spec;
+
+use other_tables::{OtherTable, TableKind};
+use std::alloc::AllocError;
+use std::fmt::Write;
+
+// The name of a table.
+#[tactic(auto, unfolding(crate::specs::TableLines::kind_name))]
+fn kind_name(kind: TableKind) -> &'static str
+    ensures { result.now ≡ spec.kind_name kind }
+{
+    match kind {
+        TableKind::ConditionalAccess => "CAT, ECM or EMM",
+        TableKind::Objects => "DSM-CC",
+        TableKind::Network => "NIT",
+        TableKind::Services => "SDT of other streams or BAT",
+        TableKind::Events => "EIT",
+        TableKind::Time => "TDT or TOT",
+        TableKind::Running => "RST",
+        TableKind::Applications => "AIT",
+        TableKind::Splices => "SCTE 35",
+        TableKind::Private => "another table",
+    }
+}
+
+// The line of a table.
+#[tactic(auto, unfolding(crate::specs::TableLines::other_table_line))]
+fn write_other_table(table: &OtherTable, text: &mut String) -> Result<(), AllocError>
+    ensures { OnOk result (string_bytes text.new ≡ string_bytes text.old ++ spec.other_table_line table.now) }
+{
+    let OtherTable { pid, kind, count } = *table;
+    write!(text, "pid {pid} has {count} sections of ")?;
+    text.push_str(kind_name(kind))?;
+    text.push_str(": left out\n")
+}
+
+/// A line for each table.
+pub fn write_other_tables(tables: &[OtherTable], text: &mut String) -> Result<(), AllocError>
+    ensures { OnOk result (string_bytes text.new ≡ string_bytes text.old ++ spec.other_table_lines tables.now) }
+{
+    for table in tables {
+        write_other_table(table, text)?;
+    }
+    Ok(())
+}
+
+/// Whether a viewer loses anything without these tables.
+pub fn are_missed(tables: &[OtherTable]) -> bool
+    ensures { result ≡ list_any (λ t. is_loss t.kind) tables.now }
+{
+    tables.iter().any(|table| table.kind.is_loss())
+}
