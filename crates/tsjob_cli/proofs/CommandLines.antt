@@ -5,7 +5,8 @@ use Rattle.clap.specs.Words.{App, FailsBy, HasMatchesOf, IsAmong, Kinds, Row, Te
 use Rattle.clap.specs.declared.error.Error.{Error}
 use Rattle.clap.specs.declared.error.kind.ErrorKind.{ErrorKind}
 use Rattle.clap.specs.declared.parser.matches.ArgMatches.{ArgMatches}
-use Rattle.tsjob_cli.specs.Arguments.{JobArgumentsView, arguments_of, unless_faulty}
+use Rattle.job_outcomes.specs.JobArguments.{JobArgumentsView}
+use Rattle.tsjob_cli.specs.Arguments.{arguments_of, unless_faulty}
 use Rattle.tsjob_cli.specs.CommandLine.{tsjob_app}
 
 pub simple : is_simple tsjob_app ≡ true

@@ -1,5 +1,3 @@
 pub mod CommandLines
-pub mod Taking
-pub mod JobOutcomes
 pub mod StreamedUnits
 pub mod Explaining

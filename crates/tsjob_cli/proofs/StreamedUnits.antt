@@ -1,5 +1,5 @@
 -- The streams of a description, and a stream that goes by it.
-use Rattle.std.proofs.Common.{◌≡◌, ◌∙◌, ◌<◌, ◌≤◌, ◌+◌, ◌++◌, ℕ, List, [], ◌∷◌, length, drop, get_or, Option, Some, None, Result, Ok, Err, refl, sym, ap, subst, add-one, inr, arith}
+use Rattle.std.proofs.Common.{◌≡◌, ◌∙◌, ◌<◌, ◌≤◌, ◌+◌, ◌++◌, ℕ, List, [], ◌∷◌, length, drop, get_or, Option, Some, None, Result, Ok, Err, refl, sym, ap, subst, add-one, inl, inr, arith}
 use Rattle.std.specs.Prelude.{codes}
 use Rattle.std.proofs.Math.Seq.{drop-cons}
 use Rattle.std.proofs.lemmas.List.{append_assoc, append-nil, drop_all}
@@ -8,16 +8,16 @@ use Rattle.checked_jobs.specs.Jobs.{described}
 use Rattle.description.specs.Described.{Described, DescribedStream}
 use Rattle.description.specs.declared.fault.DescError.TheVariants as refused_by
 use Rattle.unit_feed.specs.Feeding.{FedStreamView}
-use Rattle.devices.specs.Devices.{Device, IsUntouched}
+use Rattle.devices.specs.Devices.{Device, IsUntouched, Port}
 use Rattle.devices.specs.Lines.{Reports, line_text}
 use Rattle.description.specs.Codes.{fault_code, fault_item}
 use Rattle.description.specs.declared.fault.DescFault.{DescFault}
-use Rattle.devices.specs.Outcomes.{halt_line}
+use Rattle.devices.specs.Outcomes.{halt_line, Outcome}
 use Rattle.devices.specs.declared.halt.Halt.TheVariants as halt
 use Rattle.devices.specs.Runs.{Performs}
 use Rattle.description.specs.Ranges.{IsInRange}
-use Rattle.tsjob_cli.specs.Arguments.{JobArgumentsView}
-use Rattle.tsjob_cli.specs.Outcomes.{Leads}
+use Rattle.job_outcomes.specs.JobArguments.{JobArgumentsView}
+use Rattle.job_outcomes.specs.Outcomes.{Leads}
 use Rattle.tsjob_cli.specs.StreamedUnits.{IsDescriptionIn, IsNamedDescription, StreamsUnits, fed_stream, none_outcome, refused_line, streams_from}
 use Rattle.tsjob_cli.specs.declared.streaming.NoDescription.{NoDescription}
 use Rattle.tsjob_cli.specs.declared.streaming.NoDescription.TheVariants.{Unopened, Stopped, Refused}
@@ -60,6 +60,11 @@ of_text known text (Err (Stopped halt.Memory)) same is = tt
 of_text known text (Err (Refused f)) same is = λ xs e. subst (λ (t : List ℕ). described t ≡ Err (refused_by.Refused f)) (same xs e) is
 
 -- 3. What the words lead to
+
+pub no_memory_for_words : (Leads : List ℕ → Outcome → Type 0) (input output faults : Device) (status : ℕ) → IsUntouched input → IsUntouched output →
+    Reports faults (halt_line halt.Memory) → status ≡ 3 → Performs Leads input output faults status
+no_memory_for_words Leads input output faults status i o t s =
+    inr (inr (inl (record { clean = ap (λ (p : Port). p.failed) i; unwritten = o; reports = t; status_is = s })))
 
 pub no_memory_for_stream : (known : Option (List ℕ)) (input output faults : Device) (status : ℕ) → IsUntouched input → IsUntouched output → Reports faults (halt_line halt.Memory) → status ≡ 3 →
     StreamsUnits known input output faults status

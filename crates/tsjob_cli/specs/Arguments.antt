@@ -5,7 +5,6 @@ use Rattle.std.specs.Char.{is_ascii_digit}
 use Rattle.std.specs.List.{list_all}
 use Rattle.std.specs.Str.{bytes_eq}
 use Rattle.clap.specs.Words.{Kinds, Row, Text, fault_of, first_of, matches_of}
-use Rattle.stream_jobs.specs.JobOptions.{JobOptionsView}
 use Rattle.stream_jobs.specs.GivenNames.{NetworkNameView, ServiceNameView}
 use Rattle.stream_jobs.specs.declared.clock_base.ClockBase.{ClockBase}
 use Rattle.stream_jobs.specs.declared.clock_base.ClockBase.TheVariants.{Lasting, Input, At}
@@ -13,10 +12,11 @@ use Rattle.stream_jobs.specs.declared.job_options.DeclareBy.{DeclareBy}
 use Rattle.stream_jobs.specs.declared.job_options.DeclareBy.TheVariants as by
 use Rattle.stream_coding.specs.declared.buffers.PidBuffers.{PidBuffers}
 use Rattle.devices.specs.Options.{is_given, number_if_given, number_option}
-use Rattle.tsjob_cli.specs.declared.arguments.Subcommand.{Subcommand}
-use Rattle.tsjob_cli.specs.declared.arguments.Subcommand.TheVariants.{Whole, Describe, Units, Why}
+use Rattle.job_outcomes.specs.declared.job_arguments.Subcommand.{Subcommand}
+use Rattle.job_outcomes.specs.declared.job_arguments.Subcommand.TheVariants.{Whole, Describe, Units, Why}
 use Rattle.tsjob_cli.specs.CommandLine.{tsjob_app}
 use Rattle.option_lists.specs.Lists.{buffer_list, given, number_in, number_list}
+use Rattle.job_outcomes.specs.JobArguments.{JobArgumentsView}
 use Rattle.tsjob_cli.specs.NameLists.{name_list, network_if_given}
 
 -- the ranges of numbers: a rate in bits a second, a limit in milliseconds, a lead in units of 90 kHz
@@ -89,13 +89,6 @@ stream_of Units (Some name) = Some (Some name)
 stream_of Why (Some name) = None
 
 -- 2. All of them
-
--- what is written, the file of a description for a stream that comes, whether the input is said to be whole, and the options of the job
-pub record JobArgumentsView : Type 0 where
-  pub subcommand : Subcommand
-  pub stream : Option Text
-  pub whole : Bool
-  pub options : JobOptionsView
 
 -- with empty lists
 abbrev pub plain : Subcommand → Option Text → Bool → Option ℕ → Text → ℕ → ℕ → DeclareBy → Bool → ClockBase → JobArgumentsView

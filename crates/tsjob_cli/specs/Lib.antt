@@ -3,7 +3,5 @@ pub mod KnownWords
 pub mod NameLists
 pub mod Arguments
 pub mod UsageText
-pub mod Streams
-pub mod Outcomes
 pub mod StreamedUnits
 pub mod Explaining

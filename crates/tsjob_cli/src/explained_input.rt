@@ -5,11 +5,10 @@ ghost use Rattle.devices.specs.Devices.{reads, writes};
 ghost use Rattle.devices.specs.Runs.{Performs};
 ghost use Rattle.tsjob_cli.specs.Explaining as spec;
 
-use crate::outcome::{JobOutcome, only_text};
-use crate::program::write_outcome;
 use counted_io::{Sink, Source};
 use devices::{Halt, read_whole, report_halt};
 use explained_jobs::explain;
+use job_outcomes::{JobOutcome, only_text, write_outcome};
 use std::alloc::{AllocError, Global};
 
 /// Whether the words are `explain` alone.

@@ -5,24 +5,24 @@ ghost use Rattle.devices.specs.Devices.{reads, writes};
 ghost use Rattle.devices.specs.Lines.{Reports};
 ghost use Rattle.devices.specs.Runs.{LacksMemory, Performs};
 ghost use Rattle.devices.specs.Usage.{TellsUsage};
-ghost use Rattle.tsjob_cli.specs.Arguments.{JobArgumentsView, arguments};
+ghost use Rattle.job_outcomes.specs.JobArguments.{JobArgumentsView};
+ghost use Rattle.tsjob_cli.specs.Arguments.{arguments};
 ghost use Rattle.tsjob_cli.specs.Explaining.{ExplainLeads, is_explain};
 ghost use Rattle.tsjob_cli.specs.KnownWords.{known_words};
-ghost use Rattle.tsjob_cli.specs.Outcomes as spec;
+ghost use Rattle.job_outcomes.specs.Outcomes as spec;
 ghost use Rattle.tsjob_cli.specs.StreamedUnits.{StreamsUnits};
 ghost use Rattle.tsjob_cli.specs.UsageText.{usage_text};
 ghost use Rattle.word_faults.specs.CommandLine.{Text};
 ghost use Rattle.word_faults.specs.UsageReport.{Prints, is_version, usage_report, version_text};
 
-use crate::arguments::{JobArguments, read_arguments};
+use crate::arguments::read_arguments;
 use crate::explained_input::{explain_input, is_explain};
 use crate::known_words::KnownWords;
-use crate::outcome::{JobOutcome, JobText, bytes_outcome};
 use crate::streaming::stream_units;
 use counted_io::{Sink, Source};
-use devices::{Halt, NamedFiles, read_whole, report_halt, report_text};
+use devices::{Halt, NamedFiles, report_halt, report_text};
+use job_outcomes::{JobArguments, perform};
 use std::alloc::Global;
-use unit_output::write_job;
 use word_faults::answer_other_words;
 
 /// The usage, written to the second writer on a usage error.
@@ -61,47 +61,6 @@ pub fn report_usage<E: Sink>(faults: &mut E) -> u8
     2
 }
 
-/// Writes an outcome, and returns the status.
-pub(crate) fn write_outcome<W: Sink, E: Sink>(
-    outcome: &JobOutcome,
-    output: &mut W,
-    faults: &mut E,
-) -> u8
-    ensures { spec.IsWritten outcome.now (writes W.Sink output.old output.new)
-        (writes E.Sink faults.old faults.new) result }
-{
-    let JobText { text, plan, units } = &outcome.output;
-    match write_job(output, text.as_bytes(), plan.as_bytes(), units) {
-        Ok(()) => {
-            report_text(faults, outcome.report.as_str());
-            outcome.status
-        }
-        Err(halt) => report_halt(faults, halt),
-    }
-}
-
-// Writes the outcome for the stream in the input, and returns the status.
-#[tactic(auto, using(crate::proofs::JobOutcomes::outcome_written, crate::proofs::JobOutcomes::no_memory_left))]
-fn perform<R: Source, W: Sink, E: Sink>(
-    alloc: Global,
-    arguments: &JobArguments<'_>,
-    input: &mut R,
-    output: &mut W,
-    faults: &mut E,
-) -> u8
-    ensures { Performs (spec.Leads arguments.now) (reads R.Source input.old input.new)
-        (writes W.Sink output.old output.new) (writes E.Sink faults.old faults.new) result }
-{
-    let bytes = match read_whole(alloc, input) {
-        Ok(bytes) => bytes,
-        Err(halt) => return report_halt(faults, halt),
-    };
-    match bytes_outcome(alloc, arguments, bytes) {
-        Ok(outcome) => write_outcome(&outcome, output, faults),
-        Err(_) => report_halt(faults, Halt::Memory),
-    }
-}
-
 // Does what the command line asks for, and returns the status.
 fn answer<F: NamedFiles, R: Source, W: Sink, E: Sink>(
     alloc: Global,
@@ -124,7 +83,7 @@ fn answer<F: NamedFiles, R: Source, W: Sink, E: Sink>(
 }
 
 // The program for a transport stream in the input, or a usage error.
-#[tactic(auto, using(crate::proofs::JobOutcomes::no_memory_for_words, crate::proofs::StreamedUnits::no_memory_for_stream))]
+#[tactic(auto, using(crate::proofs::StreamedUnits::no_memory_for_words, crate::proofs::StreamedUnits::no_memory_for_stream))]
 fn run_on_stream<F: NamedFiles, R: Source, W: Sink, E: Sink>(
     alloc: Global,
     words: &[&str],

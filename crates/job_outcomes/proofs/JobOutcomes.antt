@@ -16,22 +16,22 @@ use Rattle.stream_jobs.specs.declared.refusal.JobError.TheVariants.{Memory, Refu
 use Rattle.stream_jobs.specs.declared.refusal.JobRefusal.{JobRefusal}
 use Rattle.demux.specs.Views.{FindingView}
 use Rattle.demux.specs.Stream.{StreamState}
-use Rattle.devices.specs.Devices.{Device, IsUntouched, Port}
+use Rattle.devices.specs.Devices.{Device, IsUntouched}
 use Rattle.devices.specs.Outcomes.{halt_line, Outcome}
 use Rattle.devices.specs.Lines.{Reports}
 use Rattle.devices.specs.Runs.{Performs}
 use Rattle.devices.specs.WholeInput.{ReadsInput}
 use Rattle.devices.specs.declared.halt.Halt.TheVariants as halt
 use Rattle.devices.proofs.Performances.{no_room, performed, unwritten}
-use Rattle.tsjob_cli.specs.declared.arguments.Subcommand.{Subcommand}
-use Rattle.tsjob_cli.specs.declared.arguments.Subcommand.TheVariants.{Whole, Describe, Units, Why}
-use Rattle.tsjob_cli.specs.Arguments.{JobArgumentsView}
+use Rattle.job_outcomes.specs.declared.job_arguments.Subcommand.{Subcommand}
+use Rattle.job_outcomes.specs.declared.job_arguments.Subcommand.TheVariants.{Whole, Describe, Units, Why}
+use Rattle.job_outcomes.specs.JobArguments.{JobArgumentsView}
 use Rattle.packet_sync.specs.Slips.{carried_from}
-use Rattle.tsjob_cli.specs.Outcomes.{BytesLead, FindingsLead, GivesJob, IsFound, IsTold, IsWritten, Leads, InputLeads, ReportsWhy, Withholds, found_line}
+use Rattle.job_outcomes.specs.Outcomes.{BytesLead, FindingsLead, GivesJob, IsFound, IsTold, IsWritten, Leads, InputLeads, ReportsWhy, Withholds, found_line}
 use Rattle.std.specs.Int.{bytes_high_first}
 use Rattle.unit_records.specs.Records.{record_head}
 use Rattle.unit_output.specs.Records.{records_of, written}
-use Rattle.tsjob_cli.specs.Streams.{PacketNotesView, TakesCarried, findings_of, notes_of}
+use Rattle.job_outcomes.specs.Streams.{PacketNotesView, TakesCarried, findings_of, notes_of}
 
 -- 1. What a subcommand gives
 
@@ -149,10 +149,3 @@ outcome_written arguments bytes o input output faults status r l (inr w) = unwri
 pub no_memory_left : (arguments : JobArgumentsView) (bytes : List ℕ) (input output faults : Device) (status : ℕ) →
     ReadsInput input (Ok bytes) → IsUntouched output → Reports faults (halt_line halt.Memory) → status ≡ 3 → Performs (Leads arguments) input output faults status
 no_memory_left arguments bytes input output faults status r u m s = no_room (Leads arguments) bytes input output faults status r u m s
-
--- 4. What the words lead to
-
-pub no_memory_for_words : (Leads : List ℕ → Outcome → Type 0) (input output faults : Device) (status : ℕ) → IsUntouched input → IsUntouched output →
-    Reports faults (halt_line halt.Memory) → status ≡ 3 → Performs Leads input output faults status
-no_memory_for_words Leads input output faults status i o t s =
-    inr (inr (inl (record { clean = ap (λ (p : Port). p.failed) i; unwritten = o; reports = t; status_is = s })))

@@ -1,15 +1,15 @@
 //! The outcome for a stream, from its findings.
 
-ghost use Rattle.std.specs.Prelude.{◌≡◌, ◌==◌, ◌&&◌, ◌≤◌, ◌++◌, IfErr, IfOk, None, Ok, length, map, string_bytes};
+ghost use Rattle.std.specs.Prelude.{◌≡◌, ◌==◌, ◌&&◌, ◌≤◌, IfErr, IfOk, None, Ok, length, map, string_bytes};
 ghost use Rattle.demux.specs.Shown.{finding_view};
 ghost use Rattle.stream_jobs.specs.Jobs.{AreStreams, IsDescription};
-ghost use Rattle.stream_jobs.specs.WhyNoJob.{IsWhyNoDescription, IsWhyNoJob, IsWhyNoReasons};
+ghost use Rattle.stream_jobs.specs.WhyNoJob.{IsWhyNoDescription, IsWhyNoJob};
 ghost use Rattle.stream_jobs.specs.declared.refusal.JobError.TheVariants.{Memory};
-ghost use Rattle.tsjob_cli.specs.Outcomes as spec;
+ghost use Rattle.job_outcomes.specs.Outcomes as spec;
 ghost use Rattle.devices.specs.Outcomes.{reported};
 ghost use Rattle.job_lines.specs.SlipLines.{packets_line};
 
-use crate::arguments::{JobArguments, Subcommand};
+use crate::job_arguments::{JobArguments, Subcommand};
 use crate::reading::{PacketNotes, packet_notes, take_carried};
 use crate::reason_output::reason_output;
 use demux::Finding;
@@ -28,7 +28,7 @@ use stream_jobs::{
 
 /// The output, the lines for the second writer, and the status.
 #[derive(Drop)]
-pub(crate) struct JobOutcome {
+pub struct JobOutcome {
     pub output: JobText,
     pub report: String,
     pub status: u8,
@@ -46,7 +46,7 @@ impl Model for JobOutcome {
 
 /// A text, the text of a plan after it, and units, whose records come after these.
 #[derive(Drop)]
-pub(crate) struct JobText {
+pub struct JobText {
     pub text: String,
     pub plan: String,
     pub units: Vec<(u8, Unit)>,
@@ -64,7 +64,7 @@ impl Model for JobText {
 
 /// A text alone.
 #[tactic(auto, using(crate::proofs::JobOutcomes::text_alone))]
-pub(crate) fn only_text(alloc: Global, text: String) -> JobText
+pub fn only_text(alloc: Global, text: String) -> JobText
     ensures { result ≡ string_bytes text }
 {
     JobText {

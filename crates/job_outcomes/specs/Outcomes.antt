@@ -32,14 +32,14 @@ use Rattle.devices.specs.Devices.{Device, HasFailed, IsClean, Takes}
 use Rattle.devices.specs.Outcomes.{halt_line, Outcome, reported}
 use Rattle.devices.specs.Lines.{Reports, Stopped}
 use Rattle.devices.specs.declared.halt.Halt.TheVariants.{Write}
-use Rattle.tsjob_cli.specs.declared.arguments.Subcommand.{Subcommand}
-use Rattle.tsjob_cli.specs.declared.arguments.Subcommand.TheVariants.{Whole, Describe, Units, Why}
-use Rattle.tsjob_cli.specs.Arguments.{JobArgumentsView}
+use Rattle.job_outcomes.specs.declared.job_arguments.Subcommand.{Subcommand}
+use Rattle.job_outcomes.specs.declared.job_arguments.Subcommand.TheVariants.{Whole, Describe, Units, Why}
+use Rattle.job_outcomes.specs.JobArguments.{JobArgumentsView}
 use Rattle.job_lines.specs.FieldLines.{field_lines, told_fields}
 use Rattle.unit_output.specs.Records.{records_of, written}
 use Rattle.job_lines.specs.RefusalLine.{refusal_line}
 use Rattle.job_lines.specs.SlipLines.{packets_line, slip_lines}
-use Rattle.tsjob_cli.specs.Streams.{PacketNotesView, findings_of, notes_of}
+use Rattle.job_outcomes.specs.Streams.{PacketNotesView, findings_of, notes_of}
 use Rattle.job_lines.specs.TableLines.{other_table_lines}
 use Rattle.job_lines.specs.WarningLines.{told_warnings, warning_lines}
 

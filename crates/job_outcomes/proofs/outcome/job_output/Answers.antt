@@ -1,7 +1,7 @@
 use Rattle.std.proofs.Common.{map, string_bytes, Global}
 use Rattle.demux.specs.Shown.{finding_view}
-use Rattle.tsjob_cli.proofs.JobOutcomes.{given_job}
-use Rattle.tsjob_cli.proofs.outcome.job_output.Goals as goal
+use Rattle.job_outcomes.proofs.JobOutcomes.{given_job}
+use Rattle.job_outcomes.proofs.outcome.job_output.Goals as goal
 
 pub returns-clause-given : goal.returns-clause-given
 returns-clause-given c =

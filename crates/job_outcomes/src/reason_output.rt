@@ -3,7 +3,7 @@
 ghost use Rattle.std.specs.Prelude.{◌≡◌, ◌==◌, ◌++◌, IfErr, IfOk, OnOk, length, map, string_bytes};
 ghost use Rattle.demux.specs.Shown.{finding_view};
 ghost use Rattle.stream_jobs.specs.WhyNoJob.{IsWhyNoReasons};
-ghost use Rattle.tsjob_cli.specs.Outcomes as spec;
+ghost use Rattle.job_outcomes.specs.Outcomes as spec;
 
 use crate::outcome::{JobText, only_text};
 use demux::Finding;

@@ -1,6 +1,6 @@
 use Rattle.std.proofs.Common.{arith}
-use Rattle.tsjob_cli.proofs.Taking.{all_pushed, at_first, next_within, no_slip, part_pushed}
-use Rattle.tsjob_cli.proofs.reading.push_carried.Goals as goal
+use Rattle.job_outcomes.proofs.Taking.{all_pushed, at_first, next_within, no_slip, part_pushed}
+use Rattle.job_outcomes.proofs.reading.push_carried.Goals as goal
 
 pub loop-slip-init : goal.loop-slip-init
 loop-slip-init c = at_first c.args.bytes.now c.args.slips.now c.args.demux.now c.requires

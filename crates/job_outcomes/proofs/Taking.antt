@@ -6,7 +6,7 @@ use Rattle.demux.specs.Stream.{StreamState, finished, pushed, start}
 use Rattle.demux.proofs.PushedBytes.{pushed_append}
 use Rattle.packet_sync.specs.Slips.{AreOrdered, carried_from}
 use Rattle.packet_sync.specs.declared.slip.Slip.{Slip}
-use Rattle.tsjob_cli.specs.Streams.{TakesCarried}
+use Rattle.job_outcomes.specs.Streams.{TakesCarried}
 
 -- so far: the rest from a place on stands in order, and what is carried is what was pushed and that rest
 pub record SoFar (bytes : List ℕ) (all : List Slip) (first demux : StreamState) (at size : ℕ) (rest : List Slip) : Type 0 where

@@ -2,7 +2,7 @@
 ghost use Rattle.std.specs.Prelude.{◌≡◌, ◌≤◌, IfOk, OnOk, length, slice_range};
 ghost use Rattle.demux.specs.Stream.{finished, pushed, start};
 ghost use Rattle.packet_sync.specs.Slips.{AreOrdered, carried_from};
-ghost use Rattle.tsjob_cli.specs.Streams.{TakesCarried, notes_of};
+ghost use Rattle.job_outcomes.specs.Streams.{TakesCarried, notes_of};
 
 use demux::Demux;
 use packet_sync::{FieldLeftOut, Slip, fields_left_out, slips};
@@ -19,7 +19,7 @@ pub(crate) struct PacketNotes {
 
 // A contract sees its parts as lists.
 impl Model for PacketNotes {
-    ghost use Rattle.tsjob_cli.specs.Streams.{PacketNotesView};
+    ghost use Rattle.job_outcomes.specs.Streams.{PacketNotesView};
 
     ghost Value = { PacketNotesView };
 

@@ -1,0 +1,3 @@
+pub mod JobArguments
+pub mod Streams
+pub mod Outcomes

@@ -1,0 +1,16 @@
+//! What a transport stream leads to: a job or a part of it, why there is none, the lines told, and the status.
+//!
+//! `job_arguments` is what is asked for. `reading` puts the packets that stand in step through a demultiplexer (`specs/Streams`);
+//! `outcome` makes the job of what it finds, and `reason_output` says why there is no plan (`specs/Outcomes`). `written` writes an
+//! outcome to the writers of a program, and all of it from the reader on.
+#![tactic(auto)]
+
+mod job_arguments;
+mod outcome;
+mod reading;
+mod reason_output;
+mod written;
+
+pub use job_arguments::{JobArguments, Subcommand};
+pub use outcome::{JobOutcome, JobText, only_text};
+pub use written::{perform, write_outcome};
