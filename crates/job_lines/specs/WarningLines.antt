@@ -5,6 +5,12 @@ use Rattle.stream_programs.specs.declared.omission.TableOmission.TheVariants as 
 use Rattle.stream_units.specs.declared.unit_warning.UnitWarning.{UnitWarning}
 use Rattle.stream_units.specs.declared.unit_warning.UnitWarningCause.{UnitWarningCause}
 use Rattle.stream_units.specs.declared.unit_warning.UnitWarningCause.TheVariants as unit
+use Rattle.stream_programs.specs.declared.program_map.MapPart.{MapPart}
+use Rattle.stream_programs.specs.declared.program_map.MapPart.TheVariants.{NamedStreams, Descriptors}
+use Rattle.stream_jobs.specs.declared.warning.PacketWarning.{PacketWarning}
+use Rattle.stream_jobs.specs.declared.warning.PacketWarning.TheVariants.{Bad, Errored, AssociationChanges, NetworkSurplus}
+use Rattle.stream_jobs.specs.declared.warning.ProgramWarning.{ProgramWarning}
+use Rattle.stream_jobs.specs.declared.warning.ProgramWarning.TheVariants.{Missing, NoStream, UnreadText}
 use Rattle.stream_jobs.specs.declared.warning.Warning.{Warning}
 use Rattle.stream_jobs.specs.declared.warning.Warning.TheVariants as warning
 
@@ -42,23 +48,41 @@ id_line program pid packet id = codes "packet " ++ decimal packet ++ codes " pid
 abbrev pub unit_line : ℕ → UnitWarning → List ℕ
 unit_line pid left_out = codes "packet " ++ decimal left_out.packet ++ codes " pid " ++ decimal pid ++ codes " " ++ reason_text left_out.cause
 
+-- a packet, or the section that ends in it
+unfoldable pub packet_text : PacketWarning → List ℕ
+packet_text Bad = codes " bad-packet\n"
+packet_text Errored = codes " errored\n"
+packet_text AssociationChanges = codes " PAT changes: the first one stands\n"
+packet_text NetworkSurplus = codes " NIT says other or more than one network and this stream: left out\n"
+
+unfoldable pub packet_line : ℕ → PacketWarning → List ℕ
+packet_line packet what = codes "packet " ++ decimal packet ++ packet_text what
+
+-- a map that is other than the last one of its program
+unfoldable pub map_text : MapPart → List ℕ
+map_text NamedStreams = codes " names other streams: the last one stands\n"
+map_text Descriptors = codes " has descriptors that the last one has not: left out\n"
+
+unfoldable pub map_line : ℕ → ℕ → MapPart → List ℕ
+map_line program packet part = codes "packet " ++ decimal packet ++ codes " PMT of program " ++ decimal program ++ map_text part
+
+-- a program
+unfoldable pub program_line : ℕ → ProgramWarning → List ℕ
+program_line program Missing = codes "program " ++ decimal program ++ codes " is not there\n"
+program_line program NoStream = codes "program " ++ decimal program ++ codes " has no stream with units: left out\n"
+program_line program UnreadText = codes "name of program " ++ decimal program ++ codes " has characters that cannot be read\n"
+
 unfoldable pub warning_line : Warning → List ℕ
-warning_line (warning.BadPacket packet) = codes "packet " ++ decimal packet ++ codes " bad-packet\n"
-warning_line (warning.Errored packet) = codes "packet " ++ decimal packet ++ codes " errored\n"
+warning_line (warning.Packet packet what) = packet_line packet what
 warning_line (warning.TrailingBytes size) = codes "rest of " ++ decimal size ++ codes " bytes\n"
-warning_line (warning.AssociationChanges packet) = codes "packet " ++ decimal packet ++ codes " PAT changes: the first one stands\n"
-warning_line (warning.MapChanges program packet) = codes "packet " ++ decimal packet ++ codes " PMT of program " ++ decimal program ++ codes " names other streams: the last one stands\n"
-warning_line (warning.DescriptorsChange program packet) = codes "packet " ++ decimal packet ++ codes " PMT of program " ++ decimal program ++ codes " has descriptors that the last one has not: left out\n"
+warning_line (warning.Map program packet part) = map_line program packet part
 warning_line (warning.Table left_out) = table_line left_out
 warning_line (warning.StrayPes pid count) = codes "pid " ++ decimal pid ++ codes " has " ++ decimal count ++ codes " PES packets of no program: left out\n"
-warning_line (warning.NoSuchProgram program) = codes "program " ++ decimal program ++ codes " is not there\n"
+warning_line (warning.Program program what) = program_line program what
 warning_line (warning.NoSuchStream pid) = codes "pid " ++ decimal pid ++ codes " is no stream\n"
 warning_line (warning.Units pid left_out) = unit_line pid left_out
 warning_line (warning.NoUnit program pid) = codes "pid " ++ decimal pid ++ codes " of program " ++ decimal program ++ codes " has no unit: left out\n"
 warning_line (warning.StreamId program pid packet id) = id_line program pid packet id
-warning_line (warning.NoStream program) = codes "program " ++ decimal program ++ codes " has no stream with units: left out\n"
-warning_line (warning.UnreadText program) = codes "name of program " ++ decimal program ++ codes " has characters that cannot be read\n"
-warning_line (warning.NetworkSurplus packet) = codes "packet " ++ decimal packet ++ codes " NIT says other or more than one network and this stream: left out\n"
 warning_line warning.UnreadNetwork = codes "name of the network has characters that cannot be read\n"
 warning_line (warning.MapMoved program from to) = codes "PMT of program " ++ decimal program ++ codes " moved from pid " ++ decimal from ++ codes " to " ++ decimal to ++ codes "\n"
 

@@ -6,8 +6,8 @@ ghost use Rattle.job_lines.specs.WarningLines as spec;
 
 use std::alloc::{AllocError, Global};
 use std::fmt::Write;
-use stream_jobs::Warning;
-use stream_programs::TableOmission;
+use stream_jobs::{PacketWarning, ProgramWarning, Warning};
+use stream_programs::{MapPart, TableOmission};
 use stream_units::{UnitWarning, UnitWarningCause};
 
 // The line for what is left out of the tables.
@@ -105,33 +105,92 @@ fn write_unit(pid: u16, warning: UnitWarning, text: &mut String) -> Result<(), A
     write_reason(warning.cause, text)
 }
 
+// What is said of a packet, after its number.
+#[tactic(auto, unfolding(crate::specs::WarningLines::packet_text))]
+fn packet_text(what: PacketWarning) -> &'static str
+    ensures { result.now ≡ spec.packet_text what }
+{
+    match what {
+        PacketWarning::Bad => " bad-packet\n",
+        PacketWarning::Errored => " errored\n",
+        PacketWarning::AssociationChanges => " PAT changes: the first one stands\n",
+        PacketWarning::NetworkSurplus => {
+            " NIT says other or more than one network and this stream: left out\n"
+        }
+    }
+}
+
+// The line for a packet.
+#[tactic(auto, unfolding(crate::specs::WarningLines::packet_line))]
+fn write_packet(packet: u64, what: PacketWarning, text: &mut String) -> Result<(), AllocError>
+    ensures { OnOk result (string_bytes text.new ≡ string_bytes text.old ++ spec.packet_line packet what) }
+{
+    write!(text, "packet {packet}")?;
+    text.push_str(packet_text(what))
+}
+
+// In what the map of a program is other, after its number.
+#[tactic(auto, unfolding(crate::specs::WarningLines::map_text))]
+fn map_text(part: MapPart) -> &'static str
+    ensures { result.now ≡ spec.map_text part }
+{
+    match part {
+        MapPart::NamedStreams => " names other streams: the last one stands\n",
+        MapPart::Descriptors => " has descriptors that the last one has not: left out\n",
+    }
+}
+
+// The line for the map of a program.
+#[tactic(auto, unfolding(crate::specs::WarningLines::map_line))]
+fn write_map(
+    program: u16,
+    packet: u64,
+    part: MapPart,
+    text: &mut String,
+) -> Result<(), AllocError>
+    ensures { OnOk result (string_bytes text.new ≡ string_bytes text.old ++ spec.map_line program packet part) }
+{
+    write!(text, "packet {packet} PMT of program {program}")?;
+    text.push_str(map_text(part))
+}
+
+// The line for a program.
+#[tactic(auto, unfolding(crate::specs::WarningLines::program_line))]
+fn write_program(program: u16, what: ProgramWarning, text: &mut String) -> Result<(), AllocError>
+    ensures { OnOk result (string_bytes text.new ≡ string_bytes text.old ++ spec.program_line program what) }
+{
+    match what {
+        ProgramWarning::Missing => write!(text, "program {program} is not there\n"),
+        ProgramWarning::NoStream => write!(
+            text,
+            "program {program} has no stream with units: left out\n"
+        ),
+        ProgramWarning::UnreadText => write!(
+            text,
+            "name of program {program} has characters that cannot be read\n"
+        ),
+    }
+}
+
 // The line of a warning.
 #[tactic(auto, unfolding(crate::specs::WarningLines::warning_line))]
 fn write_warning(warning: Warning, text: &mut String) -> Result<(), AllocError>
     ensures { OnOk result (string_bytes text.new ≡ string_bytes text.old ++ spec.warning_line warning) }
 {
     match warning {
-        Warning::BadPacket { packet } => write!(text, "packet {packet} bad-packet\n"),
-        Warning::Errored { packet } => write!(text, "packet {packet} errored\n"),
+        Warning::Packet { packet, what } => write_packet(packet, what, text),
         Warning::TrailingBytes { size } => write!(text, "rest of {size} bytes\n"),
-        Warning::AssociationChanges { packet } => write!(
-            text,
-            "packet {packet} PAT changes: the first one stands\n"
-        ),
-        Warning::MapChanges { program, packet } => write!(
-            text,
-            "packet {packet} PMT of program {program} names other streams: the last one stands\n"
-        ),
-        Warning::DescriptorsChange { program, packet } => write!(
-            text,
-            "packet {packet} PMT of program {program} has descriptors that the last one has not: left out\n"
-        ),
+        Warning::Map {
+            program,
+            packet,
+            part,
+        } => write_map(program, packet, part, text),
         Warning::Table(left_out) => write_table(left_out, text),
         Warning::StrayPes { pid, count } => write!(
             text,
             "pid {pid} has {count} PES packets of no program: left out\n"
         ),
-        Warning::NoSuchProgram { program } => write!(text, "program {program} is not there\n"),
+        Warning::Program { program, what } => write_program(program, what, text),
         Warning::NoSuchStream { pid } => write!(text, "pid {pid} is no stream\n"),
         Warning::Units { pid, warning: unit } => write_unit(pid, unit, text),
         Warning::NoUnit { program, pid } => write!(
@@ -144,18 +203,6 @@ fn write_warning(warning: Warning, text: &mut String) -> Result<(), AllocError>
             packet,
             id,
         } => write_id(program, pid, packet, id, text),
-        Warning::NoStream { program } => write!(
-            text,
-            "program {program} has no stream with units: left out\n"
-        ),
-        Warning::UnreadText { program } => write!(
-            text,
-            "name of program {program} has characters that cannot be read\n"
-        ),
-        Warning::NetworkSurplus { packet } => write!(
-            text,
-            "packet {packet} NIT says other or more than one network and this stream: left out\n"
-        ),
         Warning::UnreadNetwork => {
             text.push_str("name of the network has characters that cannot be read\n")
         }

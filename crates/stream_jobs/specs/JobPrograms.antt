@@ -7,7 +7,8 @@ use Rattle.stream_programs.specs.Services.{FoundServiceView, service}
 use Rattle.stream_programs.specs.Texts.{has_unread}
 use Rattle.stream_programs.specs.declared.pid_assignment.ProgramPids.{ProgramPids}
 use Rattle.stream_jobs.specs.declared.warning.Warning.{Warning}
-use Rattle.stream_jobs.specs.declared.warning.Warning.TheVariants.{NoStream, MapMoved, UnreadText}
+use Rattle.stream_jobs.specs.declared.warning.ProgramWarning.TheVariants.{NoStream, UnreadText}
+use Rattle.stream_jobs.specs.declared.warning.Warning.TheVariants as warning
 use Rattle.stream_jobs.specs.GivenNames.{ServiceNameView, name_given}
 use Rattle.stream_jobs.specs.JobStreams.{WireStreamView}
 
@@ -32,8 +33,8 @@ job_programs streams programs assigned = map program_with_pids (filter (has_stre
 -- the warnings about a program: it has no stream, or its map is on another PID than before
 unfoldable pub program_warnings : List WireStreamView → FoundProgramView × ProgramPids → List Warning
 program_warnings streams p =
-    if has_stream streams p then (if p.0.map_pid == p.1.map_pid then [] else MapMoved p.0.number p.0.map_pid p.1.map_pid ∷ [])
-    else NoStream p.0.number ∷ []
+    if has_stream streams p then (if p.0.map_pid == p.1.map_pid then [] else warning.MapMoved p.0.number p.0.map_pid p.1.map_pid ∷ [])
+    else warning.Program p.0.number NoStream ∷ []
 
 abbrev pub all_program_warnings : List WireStreamView → List FoundProgramView → List ProgramPids → List Warning
 all_program_warnings streams programs assigned = flat_map (program_warnings streams) (zip programs assigned)
@@ -46,7 +47,7 @@ is_unread (Some n) (Some s) = is_none n.provider && has_unread s.provider
 
 -- that of a program's service
 unfoldable pub text_warning : List ServiceNameView → List FindingView → JobProgramView → List Warning
-text_warning names findings p = if is_unread (name_given p.number names) (service p.number findings) then UnreadText p.number ∷ [] else []
+text_warning names findings p = if is_unread (name_given p.number names) (service p.number findings) then warning.Program p.number UnreadText ∷ [] else []
 
 abbrev pub text_warnings : List ServiceNameView → List FindingView → List JobProgramView → List Warning
 text_warnings names findings programs = flat_map (text_warning names findings) programs

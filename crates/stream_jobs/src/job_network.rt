@@ -7,10 +7,9 @@ ghost use Rattle.stream_programs.specs.NetworkInformation.{found_network_view, n
 ghost use Rattle.stream_jobs.specs.GivenNames.{network_name_view};
 ghost use Rattle.stream_jobs.specs.Texts as spec;
 ghost use Rattle.stream_jobs.specs.Warnings as spec_warnings;
-ghost use Rattle.stream_jobs.specs.declared.warning.Warning.TheVariants.{NetworkSurplus};
 
 use crate::given_names::{NetworkName, original_given};
-use crate::warning::Warning;
+use crate::warning::{PacketWarning, Warning};
 use demux::Finding;
 use job_text::NetworkPart;
 use std::alloc::{AllocError, Global};
@@ -119,11 +118,14 @@ fn push_surplus(
     findings: &[Finding<'_>],
     warnings: &mut Vec<Warning>,
 ) -> Result<(), AllocError>
-    ensures { OnOk result (warnings.new.items ≡ warnings.old.items ++ map NetworkSurplus
+    ensures { OnOk result (warnings.new.items ≡ warnings.old.items ++ map spec_warnings.surplus_warning
         (option_to_list (network_surplus transport_stream_id (map finding_view findings.now)))) }
 {
     if let Some(packet) = network_surplus(transport_stream_id, findings) {
-        warnings.push(Warning::NetworkSurplus { packet })?;
+        warnings.push(Warning::Packet {
+            packet,
+            what: PacketWarning::NetworkSurplus,
+        })?;
     }
     Ok(())
 }

@@ -5,7 +5,7 @@ ghost use Rattle.std.specs.List.{list_any};
 ghost use Rattle.stream_jobs.specs.JobPrograms as spec;
 
 use crate::job_stream::WireStream;
-use crate::warning::Warning;
+use crate::warning::{ProgramWarning, Warning};
 use std::alloc::{AllocError, Global};
 use std::marker::Model;
 use stream_programs::{FoundProgram, ProgramPids};
@@ -53,7 +53,10 @@ fn push_program_warnings(
 {
     let (number, from, to) = (program.number, program.map_pid, assigned.map_pid);
     if !has_stream(streams, number) {
-        warnings.push(Warning::NoStream { program: number })?;
+        warnings.push(Warning::Program {
+            program: number,
+            what: ProgramWarning::NoStream,
+        })?;
     } else if from != to {
         warnings.push(Warning::MapMoved {
             program: number,

@@ -38,4 +38,4 @@ pub use input::{JobInput, job_input};
 pub use job::{Job, describe, found_rate, make_job, units, unplanned_description};
 pub use job_options::{DeclareBy, JobOptions};
 pub use refusal::{JobError, JobRefusal};
-pub use warning::Warning;
+pub use warning::{PacketWarning, ProgramWarning, Warning};

@@ -9,7 +9,7 @@ ghost use Rattle.stream_jobs.specs.Texts as spec;
 
 use crate::given_names::{ServiceName, name_given};
 use crate::job_programs::JobProgram;
-use crate::warning::Warning;
+use crate::warning::{ProgramWarning, Warning};
 use demux::Finding;
 use std::alloc::{AllocError, Global};
 use std::marker::Model;
@@ -195,7 +195,10 @@ fn push_text_warning(
         name_given(number, names),
         last_service(number, findings),
     )? {
-        warnings.push(Warning::UnreadText { program: number })?;
+        warnings.push(Warning::Program {
+            program: number,
+            what: ProgramWarning::UnreadText,
+        })?;
     }
     Ok(())
 }

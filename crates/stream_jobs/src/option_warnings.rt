@@ -6,7 +6,7 @@ ghost use Rattle.stream_programs.specs.Association.{is_named};
 ghost use Rattle.stream_jobs.specs.Warnings as spec;
 
 use crate::given_names::ServiceName;
-use crate::warning::Warning;
+use crate::warning::{ProgramWarning, Warning};
 use std::alloc::AllocError;
 use stream_coding::PidBuffers;
 use stream_programs::{Association, FoundStream};
@@ -32,7 +32,10 @@ fn push_selection(
     ensures { OnOk result (warnings.new.items ≡ warnings.old.items ++ spec.selection_warning association.now number) }
 {
     if !is_named(association, number) {
-        warnings.push(Warning::NoSuchProgram { program: number })?;
+        warnings.push(Warning::Program {
+            program: number,
+            what: ProgramWarning::Missing,
+        })?;
     }
     Ok(())
 }

@@ -3,37 +3,51 @@
 ghost use Rattle.std.specs.Prelude.{◌≡◌};
 ghost use Rattle.stream_jobs.specs.Warnings as spec;
 
-use stream_programs::TableOmission;
+use stream_programs::{MapPart, TableOmission};
 use stream_units::UnitWarning;
 
-/// A warning: what of a stream is not taken as it stands.
-#[derive(Clone, Copy, PartialEq, Eq)]
-pub enum Warning {
+/// What is said of a packet, or of the section that ends in it.
+#[derive(Clone, Copy)]
+pub enum PacketWarning {
     /// 188 bytes that are no packet.
-    BadPacket {
+    Bad,
+    /// It has transport_error_indicator.
+    Errored,
+    /// A program association section that says something else: the first one stands.
+    AssociationChanges,
+    /// A network information section of the actual network that is not carried as it stands: not in force, not readable, of
+    /// another network, or with other or more descriptors or transport streams than `[network]` has.
+    NetworkSurplus,
+}
+
+/// What is said of a program.
+#[derive(Clone, Copy)]
+pub enum ProgramWarning {
+    /// It is asked for, and is not there.
+    Missing,
+    /// No stream of it has a unit.
+    NoStream,
+    /// The name or the provider of its service has characters that can't be read.
+    UnreadText,
+}
+
+/// A warning: what of a stream is not taken as it stands.
+#[derive(Clone, Copy)]
+pub enum Warning {
+    /// About a packet.
+    Packet {
         packet: u64,
-    },
-    /// A packet with transport_error_indicator.
-    Errored {
-        packet: u64,
+        what: PacketWarning,
     },
     /// This number of bytes follows the last whole packet.
     TrailingBytes {
         size: usize,
     },
-    /// A program association section that says something else ends in this packet: the first one stands.
-    AssociationChanges {
-        packet: u64,
-    },
-    /// An earlier program map section, which ends in this packet, names other streams: the last one stands.
-    MapChanges {
+    /// An earlier program map section, which ends in this packet, is other in this part than the last one, which stands.
+    Map {
         program: u16,
         packet: u64,
-    },
-    /// An earlier program map section, which ends in this packet, has a descriptor that the last one has not.
-    DescriptorsChange {
-        program: u16,
-        packet: u64,
+        part: MapPart,
     },
     /// Something is left out of the tables.
     Table(TableOmission),
@@ -42,9 +56,10 @@ pub enum Warning {
         pid: u16,
         count: usize,
     },
-    /// A program that is asked for is not there.
-    NoSuchProgram {
+    /// About a program.
+    Program {
         program: u16,
+        what: ProgramWarning,
     },
     /// An option names a PID that no stream has.
     NoSuchStream {
@@ -67,19 +82,6 @@ pub enum Warning {
         packet: u64,
         id: u8,
     },
-    /// No stream of this program has a unit.
-    NoStream {
-        program: u16,
-    },
-    /// The name or the provider of this program's service has characters that can't be read.
-    UnreadText {
-        program: u16,
-    },
-    /// A network information section of the actual network ends in this packet that is not carried as it stands: not in force,
-    /// not readable, of another network, or with other or more descriptors or transport streams than `[network]` has.
-    NetworkSurplus {
-        packet: u64,
-    },
     /// The name of the network has characters that can't be read.
     UnreadNetwork,
     /// The program map table of this program is on another PID.
@@ -90,6 +92,30 @@ pub enum Warning {
     },
 }
 
+impl PacketWarning {
+    // Whether it says that something is lost.
+    fn is_damage(self) -> bool
+        ensures { result ≡ spec.is_packet_damage self }
+    {
+        match self {
+            PacketWarning::Bad | PacketWarning::Errored | PacketWarning::NetworkSurplus => true,
+            PacketWarning::AssociationChanges => false,
+        }
+    }
+}
+
+impl ProgramWarning {
+    // Whether it says that something is lost.
+    fn is_damage(self) -> bool
+        ensures { result ≡ spec.is_program_damage self }
+    {
+        match self {
+            ProgramWarning::Missing | ProgramWarning::UnreadText => true,
+            ProgramWarning::NoStream => false,
+        }
+    }
+}
+
 impl Warning {
     /// Whether it says that something is lost: the stream is damaged, or a part of it or of what was asked for is left out.
     #[tactic(auto, unfolding(crate::specs::Warnings::is_damage))]
@@ -97,21 +123,18 @@ impl Warning {
         ensures { result ≡ spec.is_damage self }
     {
         match self {
-            Warning::BadPacket { .. } => true,
-            Warning::Errored { .. } => true,
+            Warning::Packet { what, .. } => what.is_damage(),
             Warning::TrailingBytes { .. } => true,
-            Warning::MapChanges { .. } => true,
-            Warning::DescriptorsChange { .. } => true,
+            Warning::Map { .. } => true,
             Warning::Table(omission) => omission.is_loss(),
             Warning::StrayPes { .. } => true,
-            Warning::NoSuchProgram { .. } => true,
+            Warning::Program { what, .. } => what.is_damage(),
             Warning::NoSuchStream { .. } => true,
-            Warning::StreamId { .. } => true,
-            Warning::UnreadText { .. } => true,
-            Warning::NetworkSurplus { .. } => true,
-            Warning::UnreadNetwork => true,
             Warning::Units { warning, .. } => warning.cause.is_damage(),
-            _ => false,
+            Warning::NoUnit { .. } => false,
+            Warning::StreamId { .. } => true,
+            Warning::UnreadNetwork => true,
+            Warning::MapMoved { .. } => false,
         }
     }
 }

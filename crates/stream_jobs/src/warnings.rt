@@ -6,7 +6,7 @@ ghost use Rattle.stream_jobs.specs.Warnings as spec;
 ghost use Rattle.stream_jobs.specs.declared.warning.Warning.TheVariants.{Table, Units};
 
 use crate::job_stream::WireStream;
-use crate::warning::Warning;
+use crate::warning::{PacketWarning, Warning};
 use demux::{Finding, What};
 use psi_tables::Program;
 use std::alloc::{AllocError, Global};
@@ -26,8 +26,14 @@ fn packet_warning(finding: &Finding<'_>) -> Option<Warning>
     }
     let packet = finding.packet;
     match &finding.what {
-        What::BadPacket(_) => Some(Warning::BadPacket { packet }),
-        What::Errored => Some(Warning::Errored { packet }),
+        What::BadPacket(_) => Some(Warning::Packet {
+            packet,
+            what: PacketWarning::Bad,
+        }),
+        What::Errored => Some(Warning::Packet {
+            packet,
+            what: PacketWarning::Errored,
+        }),
         What::Truncated(part) => Some(Warning::TrailingBytes {
             size: part.bytes().len(),
         }),
@@ -69,20 +75,12 @@ pub(crate) fn push_association_warning(
         ++ spec.association_warnings association.now (map finding_view findings.now)) }
 {
     if let Some(packet) = association_change(association, findings) {
-        warnings.push(Warning::AssociationChanges { packet })?;
+        warnings.push(Warning::Packet {
+            packet,
+            what: PacketWarning::AssociationChanges,
+        })?;
     }
     Ok(())
-}
-
-// The warning that a map of a program is other in a part than its last one.
-#[tactic(auto, unfolding(crate::specs::Warnings::map_warning))]
-fn map_warning(part: MapPart, program: u16, packet: u64) -> Warning
-    ensures { result ≡ spec.map_warning part program packet }
-{
-    match part {
-        MapPart::NamedStreams => Warning::MapChanges { program, packet },
-        MapPart::Descriptors => Warning::DescriptorsChange { program, packet },
-    }
 }
 
 // Appends the warning that the map of a program changes.
@@ -97,7 +95,11 @@ fn push_map_warning(
         ++ spec.map_warnings part (map finding_view findings.now) program) }
 {
     if let Some(packet) = map_change(part, program, findings) {
-        warnings.push(map_warning(part, program.program_number, packet))?;
+        warnings.push(Warning::Map {
+            program: program.program_number,
+            packet,
+            part,
+        })?;
     }
     Ok(())
 }
