@@ -1,4 +1,4 @@
--- The texts of a heading, of a network, of programs and of streams are one document.
+-- The texts of a heading, of events, of a network, of programs and of streams are one document.
 use Rattle.std.proofs.Common.{◌≡◌, ℕ, suc, pos, ◌≤◌, Bool, true, false, ◌==◌, Option, Some, None, option_map, List, [], ◌∷◌, ◌++◌, length, map, codes, refl, sym, ap, ap₂, subst, ◌∙◌, arith, append_assoc, append-nil}
 use Rattle.std.proofs.lemmas.Bool.Decides.{nat_tests}
 use Rattle.std.specs.Prelude.{All}
@@ -14,12 +14,12 @@ use Rattle.toml.specs.Text.{IsLinesText, IsDocumentText, expressions, pairs, sec
 use Rattle.toml.specs.Tables.{Expression}
 use Rattle.toml.proofs.Lines.{IsLinesText-append, after}
 use Rattle.toml.proofs.ReadBack.{parse_document-printed}
-use Rattle.job_text.specs.DescriptionParts.{HeadingView, NetworkPartView, ProgramPartView, StreamPartView}
+use Rattle.job_text.specs.DescriptionParts.{EventPartView, HeadingView, NetworkPartView, ProgramPartView, StreamPartView}
 use Rattle.job_text.specs.KeyLines.{with_numbers, with_hex, hex_line, key_line, number_lines}
 use Rattle.job_text.specs.Fields.{program_numbers, burst_numbers, group_numbers, time_numbers, pace_numbers, last_numbers}
-use Rattle.job_text.specs.Documents.{document, elements_of, with_tables, network_table, program_table, stream_rest, stream_members, stream_table}
-use Rattle.job_text.specs.Texts.{heading_text, network_text, network_if_any, program_text, stream_text}
-use Rattle.job_text.specs.Laws.{Fits, FitsHeading, FitsNetwork, FitsProgram, FitsAllowance, FitsStream, TextsAreRead}
+use Rattle.job_text.specs.Documents.{document, elements_of, with_table, with_tables, event_table, network_table, program_table, stream_rest, stream_members, stream_table}
+use Rattle.job_text.specs.Texts.{event_text, heading_text, network_text, network_if_any, program_text, stream_text}
+use Rattle.job_text.specs.Laws.{Fits, FitsEvent, FitsHeading, FitsNetwork, FitsProgram, FitsAllowance, FitsStream, TextsAreRead}
 use Rattle.job_text.proofs.Scalars.{AreScalars, IsScalar, scalar_lines, lines_are_text}
 use Rattle.job_text.proofs.TableArrays.{AreTables, element_lines, elements_are_text, pairs_past, sections_with, shallow, dated_past, sorted_past, before_tables}
 use Rattle.job_text.proofs.SingleTables.{IsTable, lines_if_any, expressions_if_any, table_is_text, pairs_past_table, sections_with_table, shallow_table, dated_past_table, sorted_past_table, before_table}
@@ -67,6 +67,14 @@ hex_after key (b ∷ bytes) more first last = ap (is_before key) (hex_some b byt
 hex_lines : (bytes : List ℕ) (more : Members) → scalar_lines (with_hex (codes "descriptors") bytes more) ≡ hex_line (codes "descriptors") bytes ++ scalar_lines more
 hex_lines [] more = ap scalar_lines (hex_none more) ∙ ap (λ (l : List ℕ). l ++ scalar_lines more) (sym line_none)
 hex_lines (b ∷ bytes) more = ap scalar_lines (hex_some b bytes more) ∙ ap (λ (l : List ℕ). l ++ scalar_lines more) (sym (line_some b bytes))
+
+-- an event
+event_scalars : (e : EventPartView) → FitsEvent e → AreScalars (event_table e)
+unfolding key_text
+event_scalars e h = (refl, small e.duration h.duration, (refl, small e.id h.id, (refl, tt, (refl, tt, (refl, small e.program h.program, (refl, tt, (refl, tt, tt)))))))
+
+event_lines : (e : EventPartView) → element_lines (codes "event") (event_table e) ≡ event_text e
+event_lines e = simp (append_assoc, append-nil)
 
 -- a network
 network_rest : NetworkPartView → Members
@@ -152,6 +160,10 @@ stream_lines s = rw (lines_with s.allowance s) (simp append_assoc)
 each : {X : Type 0} (P : X → Type 0) (x : X) (xs : List X) → All P (x ∷ xs) → P x × All P xs
 each P x xs h = (h 0 x (omega arith), λ k d less. h (suc k) d (omega (arith, less)))
 
+event_tables : (es : List EventPartView) → All FitsEvent es → AreTables (map event_table es)
+event_tables [] h = tt
+event_tables (e ∷ es) h = let f = each FitsEvent e es h in (event_scalars e f.0, refl, event_tables es f.1)
+
 program_tables : (ps : List ProgramPartView) → All FitsProgram ps → AreTables (map program_table ps)
 program_tables [] h = tt
 program_tables (p ∷ ps) h = let e = each FitsProgram p ps h in (program_scalars p e.0, program_sorted p, program_tables ps e.1)
@@ -159,6 +171,10 @@ program_tables (p ∷ ps) h = let e = each FitsProgram p ps h in (program_scalar
 stream_tables : (ss : List StreamPartView) → All FitsStream ss → AreTables (map stream_table ss)
 stream_tables [] h = tt
 stream_tables (s ∷ ss) h = let e = each FitsStream s ss h in (scalars_with s.allowance s e.0.allowance e.0, sorted_with s.allowance s, stream_tables ss e.1)
+
+events_lines : (es : List EventPartView) → flat_map (element_lines (codes "event")) (map event_table es) ≡ flat_map event_text es
+events_lines [] = refl
+events_lines (e ∷ es) = ap₂ (λ (a b : List ℕ). a ++ b) (event_lines e) (events_lines es)
 
 programs_lines : (ps : List ProgramPartView) → flat_map (element_lines (codes "program")) (map program_table ps) ≡ flat_map program_text ps
 programs_lines [] = refl
@@ -169,12 +185,12 @@ streams_lines [] = refl
 streams_lines (s ∷ ss) = ap₂ (λ (a b : List ℕ). a ++ b) (stream_lines s) (streams_lines ss)
 
 -- the heading
-heading_scalars : (h : HeadingView) → FitsHeading h → AreScalars (document h None [] [])
+heading_scalars : (h : HeadingView) → FitsHeading h → AreScalars (document h [] None [] [])
 unfolding key_text
 heading_scalars h f =
     (refl, small h.base0 f.base0, (refl, small h.original_network_id f.original_network_id, (refl, small h.rate f.rate, (refl, tt, (refl, tt, (refl, tt, (refl, small h.transport_stream_id f.transport_stream_id, tt)))))))
 
-heading_lines : (h : HeadingView) → scalar_lines (document h None [] []) ≡ heading_text h
+heading_lines : (h : HeadingView) → scalar_lines (document h [] None [] []) ≡ heading_text h
 heading_lines h = simp (append_assoc, append-nil)
 
 -- the document after its network, after its programs, and after its streams
@@ -191,9 +207,13 @@ after_programs h us =
 abbrev after_network : HeadingView → List Members → List Members → Members
 after_network h ts us = member (codes "original_network_id") (integer (pos h.original_network_id)) (with_tables (codes "program") ts (after_programs h us))
 
-whole_pairs : (h : HeadingView) (n : Option Members) (ts us : List Members) → pairs (document h n ts us) ≡ pairs (document h None [] [])
-whole_pairs h n ts us =
+abbrev after_events : HeadingView → Option Members → List Members → List Members → Members
+after_events h n ts us = with_table (codes "network") n (after_network h ts us)
+
+whole_pairs : (h : HeadingView) (es : List Members) (n : Option Members) (ts us : List Members) → pairs (document h es n ts us) ≡ pairs (document h [] None [] [])
+whole_pairs h es n ts us =
     rw (
+      pairs_past (codes "event") es (after_events h n ts us),
       pairs_past_table (codes "network") n (after_network h ts us),
       pairs_past (codes "program") ts (after_programs h us),
       pairs_past (codes "stream") us (after_streams h),
@@ -206,9 +226,16 @@ tables n ts us = expressions_if_any (codes "network") n ++ (elements ([], codes 
 abbrev table_lines : Option Members → List Members → List Members → List ℕ
 table_lines n ts us = lines_if_any (codes "network") n ++ (flat_map (element_lines (codes "program")) ts ++ flat_map (element_lines (codes "stream")) us)
 
-whole_sections : (h : HeadingView) (n : Option Members) (ts us : List Members) → sections [] (document h n ts us) ≡ tables n ts us
-whole_sections h n ts us =
+abbrev all_tables_of : List Members → Option Members → List Members → List Members → List Expression
+all_tables_of es n ts us = elements ([], codes "event") (elements_of es) ++ tables n ts us
+
+abbrev all_lines : List Members → Option Members → List Members → List Members → List ℕ
+all_lines es n ts us = flat_map (element_lines (codes "event")) es ++ table_lines n ts us
+
+whole_sections : (h : HeadingView) (es : List Members) (n : Option Members) (ts us : List Members) → sections [] (document h es n ts us) ≡ all_tables_of es n ts us
+whole_sections h es n ts us =
     rw (
+      sections_with (codes "event") es (after_events h n ts us),
       sections_with_table (codes "network") n (after_network h ts us),
       sections_with (codes "program") ts (after_programs h us),
       sections_with (codes "stream") us (after_streams h),
@@ -236,42 +263,57 @@ tables_are_text n ts us t a b =
     (lines_if_any (codes "network") n) (flat_map (element_lines (codes "program")) ts ++ flat_map (element_lines (codes "stream")) us)
     (table_is_text (codes "network") n refl t) (arrays_are_text ts us a b)
 
-document_is_text : (h : HeadingView) (n : Option Members) (ts us : List Members) → FitsHeading h → IsTable n → AreTables ts → AreTables us
-    → IsDocumentText false (document h n ts us) (heading_text h ++ table_lines n ts us)
-document_is_text h n ts us f t a b =
-    let head = pairs (document h None [] []) in
-    let rest = tables n ts us in
-    let text = table_lines n ts us in
+all_are_text : (es : List Members) (n : Option Members) (ts us : List Members) → AreTables es → IsTable n → AreTables ts → AreTables us
+    → IsLinesText false true (all_tables_of es n ts us) (all_lines es n ts us)
+unfolding key_text
+all_are_text es n ts us e t a b =
+    IsLinesText-append false true (elements ([], codes "event") (elements_of es)) (tables n ts us)
+    (flat_map (element_lines (codes "event")) es) (table_lines n ts us)
+    (elements_are_text (codes "event") es refl e) (tables_are_text n ts us t a b)
+
+document_is_text : (h : HeadingView) (es : List Members) (n : Option Members) (ts us : List Members) → FitsHeading h → AreTables es → IsTable n → AreTables ts → AreTables us
+    → IsDocumentText false (document h es n ts us) (heading_text h ++ all_lines es n ts us)
+document_is_text h es n ts us f e t a b =
+    let head = pairs (document h [] None [] []) in
+    let rest = all_tables_of es n ts us in
+    let text = all_lines es n ts us in
     let first : IsLinesText false false head (heading_text h) =
-    subst (λ (t : List ℕ). IsLinesText false false head t) (heading_lines h) (lines_are_text false (document h None [] []) (heading_scalars h f)) in
+    subst (λ (t : List ℕ). IsLinesText false false head t) (heading_lines h) (lines_are_text false (document h [] None [] []) (heading_scalars h f)) in
     let second : IsLinesText false (after false head) rest text =
-    subst (λ (s : Bool). IsLinesText false s rest text) (sym (begun head (omega arith))) (tables_are_text n ts us t a b) in
+    subst (λ (s : Bool). IsLinesText false s rest text) (sym (begun head (omega arith))) (all_are_text es n ts us e t a b) in
     let whole = IsLinesText-append false false head rest (heading_text h) text first second in
-    let same : expressions (document h n ts us) ≡ head ++ rest = ap₂ (λ (xs ys : List Expression). xs ++ ys) (whole_pairs h n ts us) (whole_sections h n ts us) in
+    let same : expressions (document h es n ts us) ≡ head ++ rest = ap₂ (λ (xs ys : List Expression). xs ++ ys) (whole_pairs h es n ts us) (whole_sections h es n ts us) in
     subst (λ (es : List Expression). IsLinesText false false es (heading_text h ++ text)) (sym same) whole
 
-document_shallow : (h : HeadingView) (n : Option Members) (ts us : List Members) → IsTable n → AreTables ts → AreTables us → members_depth (document h n ts us) ≤ 80
-document_shallow h n ts us t a b =
+document_shallow : (h : HeadingView) (es : List Members) (n : Option Members) (ts us : List Members) → AreTables es → IsTable n → AreTables ts → AreTables us → members_depth (document h es n ts us) ≤ 80
+document_shallow h es n ts us e t a b =
     let last : members_depth (after_streams h) ≤ 2 = grind (arith, nat_tests) in
     let inner = shallow (codes "stream") us (after_streams h) b last in
     let middle : members_depth (after_programs h us) ≤ 2 = grind (arith, nat_tests) in
     let outer = shallow (codes "program") ts (after_programs h us) a middle in
     let named : members_depth (after_network h ts us) ≤ 2 = grind (arith, nat_tests) in
-    let all = shallow_table (codes "network") n (after_network h ts us) t named in
+    let within : members_depth (after_events h n ts us) ≤ 2 = shallow_table (codes "network") n (after_network h ts us) t named in
+    let all = shallow (codes "event") es (after_events h n ts us) e within in
     grind (arith, nat_tests)
 
-document_dated : (h : HeadingView) (n : Option Members) (ts us : List Members) → IsTable n → AreTables ts → AreTables us → members_have_valid_dates (document h n ts us) ≡ true
-document_dated h n ts us t a b =
+document_dated : (h : HeadingView) (es : List Members) (n : Option Members) (ts us : List Members) → AreTables es → IsTable n → AreTables ts → AreTables us → members_have_valid_dates (document h es n ts us) ≡ true
+document_dated h es n ts us e t a b =
     rw (
+      dated_past (codes "event") es (after_events h n ts us) e,
       dated_past_table (codes "network") n (after_network h ts us) t,
       dated_past (codes "program") ts (after_programs h us) a,
       dated_past (codes "stream") us (after_streams h) b,
     )
 
-document_sorted : (h : HeadingView) (n : Option Members) (ts us : List Members) → IsTable n → AreTables ts → AreTables us → members_are_sorted (document h n ts us) ≡ true
-document_sorted h n ts us t a b =
+before_events : (other : List ℕ) (h : HeadingView) (n : Option Members) (ts us : List Members) → is_lt (slice_cmp nat_cmp other (codes "network")) ≡ true
+    → is_lt (slice_cmp nat_cmp other (codes "original_network_id")) ≡ true → is_before other (after_events h n ts us) ≡ true
+before_events other h n ts us first last = before_table other (codes "network") n (after_network h ts us) first last
+
+document_sorted : (h : HeadingView) (es : List Members) (n : Option Members) (ts us : List Members) → AreTables es → IsTable n → AreTables ts → AreTables us → members_are_sorted (document h es n ts us) ≡ true
+document_sorted h es n ts us e t a b =
     rw (
-      before_table (codes "base0") (codes "network") n (after_network h ts us) refl refl,
+      before_tables (codes "base0") (codes "event") es (after_events h n ts us) refl (before_events (codes "base0") h n ts us refl refl),
+      sorted_past (codes "event") es (after_events h n ts us) (before_events (codes "event") h n ts us refl refl) e,
       sorted_past_table (codes "network") n (after_network h ts us) refl t,
       before_tables (codes "original_network_id") (codes "program") ts (after_programs h us) refl refl,
       sorted_past (codes "program") ts (after_programs h us) refl a,
@@ -280,15 +322,19 @@ document_sorted h n ts us t a b =
     )
 
 pub texts_are_read : TextsAreRead
-texts_are_read h n ps ss f m p s =
+texts_are_read h es n ps ss f e m p s =
+    let vs = map event_table es in
     let t = option_map network_table n in
     let ts = map program_table ps in
     let us = map stream_table ss in
+    let ev = event_tables es e in
     let fits = network_table_fits n m in
     let a = program_tables ps p in
     let b = stream_tables ss s in
-    let lines : table_lines t ts us ≡ network_if_any n ++ (flat_map program_text ps ++ flat_map stream_text ss) =
+    let rest : table_lines t ts us ≡ network_if_any n ++ (flat_map program_text ps ++ flat_map stream_text ss) =
     ap₂ (λ (xs ys : List ℕ). xs ++ ys) (network_lines_if_any n) (ap₂ (λ (xs ys : List ℕ). xs ++ ys) (programs_lines ps) (streams_lines ss)) in
-    let text : IsDocumentText false (document h t ts us) (heading_text h ++ (network_if_any n ++ (flat_map program_text ps ++ flat_map stream_text ss))) =
-    subst (λ (l : List ℕ). IsDocumentText false (document h t ts us) (heading_text h ++ l)) lines (document_is_text h t ts us f fits a b) in
-    parse_document-printed false (document h t ts us) _ text (document_shallow h t ts us fits a b) (document_dated h t ts us fits a b) (document_sorted h t ts us fits a b)
+    let lines : all_lines vs t ts us ≡ flat_map event_text es ++ (network_if_any n ++ (flat_map program_text ps ++ flat_map stream_text ss)) =
+    ap₂ (λ (xs ys : List ℕ). xs ++ ys) (events_lines es) rest in
+    let text : IsDocumentText false (document h vs t ts us) (heading_text h ++ (flat_map event_text es ++ (network_if_any n ++ (flat_map program_text ps ++ flat_map stream_text ss)))) =
+    subst (λ (l : List ℕ). IsDocumentText false (document h vs t ts us) (heading_text h ++ l)) lines (document_is_text h vs t ts us f ev fits a b) in
+    parse_document-printed false (document h vs t ts us) _ text (document_shallow h vs t ts us ev fits a b) (document_dated h vs t ts us ev fits a b) (document_sorted h vs t ts us ev fits a b)

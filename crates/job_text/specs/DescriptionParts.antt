@@ -1,6 +1,7 @@
 -- The parts of a service description: numbers, and texts and descriptors as lists.
 use Rattle.std.specs.Prelude.{ℕ, Bool, List}
 use Rattle.unit_timing.specs.declared.allowance.Allowance.{Allowance}
+use Rattle.job_text.specs.declared.event_part.EventPart.{EventPart}
 use Rattle.job_text.specs.declared.heading.Heading.{Heading}
 use Rattle.job_text.specs.declared.network_part.NetworkPart.{NetworkPart}
 use Rattle.job_text.specs.declared.program_part.ProgramPart.{ProgramPart}
@@ -14,6 +15,15 @@ pub record HeadingView : Type 0 where
   pub original_network_id : ℕ
   pub sdt : Bool
   pub tdt : Bool
+
+pub record EventPartView : Type 0 where
+  pub program : ℕ
+  pub id : ℕ
+  pub start : List ℕ
+  pub duration : ℕ
+  pub language : List ℕ
+  pub name : List ℕ
+  pub text : List ℕ
 
 pub record NetworkPartView : Type 0 where
   pub id : ℕ
@@ -53,6 +63,17 @@ heading_view h = record {
   original_network_id = h.original_network_id;
   sdt = h.sdt;
   tdt = h.tdt;
+}
+
+abbrev pub event_view : EventPart → EventPartView
+event_view e = record {
+  program = e.program;
+  id = e.id;
+  start = e.start.now;
+  duration = e.duration;
+  language = e.language.now;
+  name = e.name.now;
+  text = e.text.now;
 }
 
 abbrev pub network_view : NetworkPart → NetworkPartView

@@ -2,7 +2,7 @@
 use Rattle.std.specs.Prelude.{ℕ, pos, List, [], ◌∷◌, codes, Option, Some, None}
 use Rattle.toml.specs.Data.{string, integer, boolean, array, table, Items, no_items, item, Members, no_members, member}
 use Rattle.unit_timing.specs.declared.allowance.Allowance.{Allowance}
-use Rattle.job_text.specs.DescriptionParts.{HeadingView, NetworkPartView, ProgramPartView, StreamPartView}
+use Rattle.job_text.specs.DescriptionParts.{EventPartView, HeadingView, NetworkPartView, ProgramPartView, StreamPartView}
 use Rattle.job_text.specs.KeyLines.{with_numbers, with_hex}
 use Rattle.job_text.specs.Fields.{program_numbers, burst_numbers, group_numbers, time_numbers, pace_numbers, last_numbers}
 
@@ -20,6 +20,16 @@ with_tables key (t ∷ ts) more = member key (array (elements_of (t ∷ ts))) mo
 abbrev pub with_table : List ℕ → Option Members → Members → Members
 with_table key None more = more
 with_table key (Some t) more = member key (table t) more
+
+abbrev pub event_table : EventPartView → Members
+event_table e =
+    member (codes "duration") (integer (pos e.duration))
+    (member (codes "id") (integer (pos e.id))
+    (member (codes "language") (string e.language)
+    (member (codes "name") (string e.name)
+    (member (codes "program") (integer (pos e.program))
+    (member (codes "start") (string e.start)
+    (member (codes "text") (string e.text) no_members))))))
 
 abbrev pub network_table : NetworkPartView → Members
 network_table n = with_hex (codes "descriptors") n.descriptors (member (codes "id") (integer (pos n.id)) (member (codes "name") (string n.name) no_members))
@@ -42,10 +52,11 @@ stream_members a s = with_numbers (burst_numbers a) (with_hex (codes "descriptor
 abbrev pub stream_table : StreamPartView → Members
 stream_table s = stream_members s.allowance s
 
--- a description of this heading, with the tables of its network, its programs and its streams
-abbrev pub document : HeadingView → Option Members → List Members → List Members → Members
-document h network programs streams =
+-- a description of this heading, with the tables of its events, its network, its programs and its streams
+abbrev pub document : HeadingView → List Members → Option Members → List Members → List Members → Members
+document h events network programs streams =
     member (codes "base0") (integer (pos h.base0))
+    (with_tables (codes "event") events
     (with_table (codes "network") network
     (member (codes "original_network_id") (integer (pos h.original_network_id))
     (with_tables (codes "program") programs
@@ -54,4 +65,4 @@ document h network programs streams =
     (member (codes "start") (string h.start)
     (with_tables (codes "stream") streams
     (member (codes "tdt") (boolean h.tdt)
-    (member (codes "ts_id") (integer (pos h.transport_stream_id)) no_members)))))))))
+    (member (codes "ts_id") (integer (pos h.transport_stream_id)) no_members))))))))))

@@ -4,9 +4,9 @@ use Rattle.std.specs.List.{flat_map}
 use Rattle.toml.specs.Parse.{parse_document}
 use Rattle.unit_timing.specs.declared.allowance.Allowance.{Allowance}
 use Rattle.unit_timing.specs.declared.allowance.Allowance.TheVariants.{Groups, Pace}
-use Rattle.job_text.specs.DescriptionParts.{HeadingView, NetworkPartView, ProgramPartView, StreamPartView}
-use Rattle.job_text.specs.Documents.{document, network_table, program_table, stream_table}
-use Rattle.job_text.specs.Texts.{heading_text, network_if_any, program_text, stream_text}
+use Rattle.job_text.specs.DescriptionParts.{EventPartView, HeadingView, NetworkPartView, ProgramPartView, StreamPartView}
+use Rattle.job_text.specs.Documents.{document, event_table, network_table, program_table, stream_table}
+use Rattle.job_text.specs.Texts.{event_text, heading_text, network_if_any, program_text, stream_text}
 
 -- TOML's numbers have 64 bits with a sign
 abbrev pub Fits : ℕ → Type 0
@@ -18,6 +18,12 @@ pub record FitsHeading (h : HeadingView) : Type 0 where
   pub original_network_id : Fits h.original_network_id
   pub rate : Fits h.rate
   pub transport_stream_id : Fits h.transport_stream_id
+
+-- those of an event
+pub record FitsEvent (e : EventPartView) : Type 0 where
+  pub duration : Fits e.duration
+  pub id : Fits e.id
+  pub program : Fits e.program
 
 -- that of a network
 abbrev pub FitsNetwork : Option NetworkPartView → Type 0
@@ -48,10 +54,10 @@ pub record FitsStream (s : StreamPartView) : Type 0 where
   pub size : Fits s.size
   pub stream_type : Fits s.stream_type
 
--- a heading's text, the network's, the programs' and the streams' are one document
+-- a heading's text, the events', the network's, the programs' and the streams' are one document
 abbrev pub TextsAreRead : Type 0
 TextsAreRead =
-    (h : HeadingView) (n : Option NetworkPartView) (ps : List ProgramPartView) (ss : List StreamPartView)
-    → FitsHeading h → FitsNetwork n → All FitsProgram ps → All FitsStream ss
-    → parse_document (heading_text h ++ (network_if_any n ++ (flat_map program_text ps ++ flat_map stream_text ss)))
-    ≡ Some (document h (option_map network_table n) (map program_table ps) (map stream_table ss))
+    (h : HeadingView) (es : List EventPartView) (n : Option NetworkPartView) (ps : List ProgramPartView) (ss : List StreamPartView)
+    → FitsHeading h → All FitsEvent es → FitsNetwork n → All FitsProgram ps → All FitsStream ss
+    → parse_document (heading_text h ++ (flat_map event_text es ++ (network_if_any n ++ (flat_map program_text ps ++ flat_map stream_text ss))))
+    ≡ Some (document h (map event_table es) (option_map network_table n) (map program_table ps) (map stream_table ss))

@@ -1,7 +1,7 @@
 -- The texts of a service description's parts: every key on its line, in ascending order.
-use Rattle.std.specs.Prelude.{ℕ, List, [], ◌++◌, codes, Option, Some, None}
+use Rattle.std.specs.Prelude.{ℕ, List, [], ◌∷◌, ◌++◌, codes, Option, Some, None}
 use Rattle.toml.specs.Data.{string, boolean}
-use Rattle.job_text.specs.DescriptionParts.{HeadingView, NetworkPartView, ProgramPartView, StreamPartView}
+use Rattle.job_text.specs.DescriptionParts.{EventPartView, HeadingView, NetworkPartView, ProgramPartView, StreamPartView}
 use Rattle.job_text.specs.KeyLines.{key_line, number_line, number_lines, hex_line, table_header, header}
 use Rattle.job_text.specs.Fields.{first_numbers, program_numbers, burst_numbers, group_numbers, time_numbers, pace_numbers, last_numbers}
 
@@ -14,6 +14,20 @@ heading_text h =
     ++ (key_line (codes "start") (string h.start)
     ++ (key_line (codes "tdt") (boolean h.tdt)
     ++ number_line (codes "ts_id", h.transport_stream_id)))))
+
+-- of an event: its first numbers, its language and name, and the lines after them
+abbrev pub event_numbers : EventPartView → List (List ℕ × ℕ)
+event_numbers e = (codes "duration", e.duration) ∷ (codes "id", e.id) ∷ []
+
+abbrev pub event_names : EventPartView → List ℕ
+event_names e = key_line (codes "language") (string e.language) ++ key_line (codes "name") (string e.name)
+
+abbrev pub event_back : EventPartView → List ℕ
+event_back e = number_line (codes "program", e.program) ++ (key_line (codes "start") (string e.start) ++ key_line (codes "text") (string e.text))
+
+-- an element of the array `event`
+abbrev pub event_text : EventPartView → List ℕ
+event_text e = header (codes "event") ++ (number_lines (event_numbers e) ++ (event_names e ++ event_back e))
 
 -- the table `network`, if there is one
 abbrev pub network_text : NetworkPartView → List ℕ

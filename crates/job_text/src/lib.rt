@@ -1,11 +1,12 @@
 //! A service description written in TOML, part by part.
 //!
-//! `Heading`, `NetworkPart`, `ProgramPart` and `StreamPart` are the parts of a description; each appends its lines. The
-//! heading comes first, then the network if there is one, the programs and the streams. `specs/Documents` says which keys with which values a part has,
-//! `specs/Texts` how they are written, and the law `texts_are_read` that TOML's grammar reads the whole as that
-//! document.
+//! `Heading`, `EventPart`, `NetworkPart`, `ProgramPart` and `StreamPart` are the parts of a description; each appends its
+//! lines. The heading comes first, then the events, the network if there is one, the programs and the streams.
+//! `specs/Documents` says which keys with which values a part has, `specs/Texts` how they are written, and the law
+//! `texts_are_read` that TOML's grammar reads the whole as that document.
 #![tactic(auto)]
 
+mod event_part;
 mod heading;
 mod key_line;
 mod laws;
@@ -13,6 +14,7 @@ mod network_part;
 mod program_part;
 mod stream_part;
 
+pub use event_part::EventPart;
 pub use heading::Heading;
 pub use laws::texts_are_read;
 pub use network_part::NetworkPart;
