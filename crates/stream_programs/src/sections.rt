@@ -9,7 +9,7 @@ use std::alloc::Allocator;
 
 /// The bytes of a section that is found on a PID.
 #[tactic(auto, unfolding(crate::specs::Sections::section_on, crate::specs::Sections::section_bytes))]
-pub(crate) fn section_on<'f, A: Allocator>(
+pub fn section_on<'f, A: Allocator>(
     pid: u16,
     finding: &'f Finding<'_, A>,
 ) -> Option<&'f [u8]>

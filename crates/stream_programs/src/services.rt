@@ -23,9 +23,9 @@ pub struct FoundService<'f> {
     pub name: &'f [u8],
 }
 
-// The bytes after a byte with their number, and what follows them.
+/// The bytes after a byte with their number, and what follows them, if there are as many.
 #[tactic(auto, unfolding(crate::specs::Services::length_prefixed))]
-fn length_prefixed(bytes: &[u8]) -> Option<(&[u8], &[u8])>
+pub fn length_prefixed(bytes: &[u8]) -> Option<(&[u8], &[u8])>
     ensures { option_map (λ p. (p.0.now, p.1.now)) result ≡ spec.length_prefixed bytes.now }
 {
     match bytes {

@@ -4,6 +4,7 @@ mod choice;
 mod coding;
 mod demultiplexing;
 mod descriptors;
+mod information;
 mod job_texts;
 mod jobs;
 mod monitoring;

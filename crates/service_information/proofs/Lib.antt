@@ -1,0 +1,3 @@
+pub mod FirstPackets
+pub mod EventSteps
+pub mod TimeSteps

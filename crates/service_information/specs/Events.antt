@@ -1,0 +1,84 @@
+-- The events of a stream's programs: what its present and following event information says of them (EN 300 468, 5.2.4).
+use Rattle.std.specs.Prelude.{ℕ, ◌+◌, ◌==◌, ◌&&◌, nat_lt, not, Bool, if◌then◌else◌, List, [], ◌∷◌, length, filter, insert, Option, Some, None, option_map, option_and_then}
+use Rattle.std.specs.Char.{is_ascii_alphabetic}
+use Rattle.std.specs.List.{list_all, list_any}
+use Rattle.descriptor_loops.specs.Descriptors.{descriptors_in}
+use Rattle.dvb_tables.specs.EventEntries.{EventView}
+use Rattle.demux.specs.Views.{FindingView}
+use Rattle.service_information.specs.CodedTimes.{moment_in, seconds_in}
+use Rattle.service_information.specs.EventSections.{EventSectionView, event_section_found}
+use Rattle.service_information.specs.ShortEvents.{ShortEventView, in_descriptors}
+
+-- 1. What a section says of an event
+
+-- the program's number and event_id; start in seconds since 1 January 1970, duration in seconds; a language, and the texts as they are coded there
+pub record FoundEventView : Type 0 where
+  pub program : ℕ
+  pub id : ℕ
+  pub start : ℕ
+  pub duration : ℕ
+  pub language : List ℕ
+  pub name : List ℕ
+  pub text : List ℕ
+
+-- a description can say it: its language has letters alone, and it lasts
+unfoldable pub can_be_said : FoundEventView → Bool
+can_be_said e = list_all is_ascii_alphabetic e.language && nat_lt 0 e.duration
+
+unfoldable pub if_said : FoundEventView → Option FoundEventView
+if_said e = if can_be_said e then Some e else None
+
+unfoldable pub timed_event : ℕ → EventView → ShortEventView → ℕ → ℕ → FoundEventView
+timed_event program v said start duration = record {
+  program = program;
+  id = v.event_id;
+  start = start;
+  duration = duration;
+  language = said.language;
+  name = said.name;
+  text = said.text;
+}
+
+unfoldable pub event_in : ℕ → EventView → Option FoundEventView
+event_in program v =
+    option_and_then (λ said. option_and_then (λ start. option_and_then (λ duration. if_said (timed_event program v said start duration))
+    (seconds_in v.duration)) (moment_in v.start_time)) (in_descriptors (descriptors_in v.descriptors))
+
+-- 2. Of the events that sections say, in the order in which they are found, those that overlap none before them of the same program, 256 at most; in the order of their starts
+
+unfoldable pub overlaps : FoundEventView → FoundEventView → Bool
+overlaps e f = e.program == f.program && (nat_lt e.start (f.start + f.duration) && nat_lt f.start (e.start + e.duration))
+
+unfoldable pub is_free : List FoundEventView → FoundEventView → Bool
+is_free taken e = nat_lt (length taken) 256 && not (list_any (overlaps e) taken)
+
+-- how many begin before it
+unfoldable pub place_of : List FoundEventView → FoundEventView → ℕ
+place_of taken e = length (filter (λ f. nat_lt f.start e.start) taken)
+
+unfoldable pub with_event : List FoundEventView → FoundEventView → List FoundEventView
+with_event taken e = if is_free taken e then insert taken (place_of taken e) e else taken
+
+unfoldable pub with_if_said : List FoundEventView → Option FoundEventView → List FoundEventView
+with_if_said taken None = taken
+with_if_said taken (Some e) = with_event taken e
+
+-- the events of a section
+unfoldable pub with_entries : ℕ → List FoundEventView → List EventView → List FoundEventView
+with_entries program taken [] = taken
+with_entries program taken (v ∷ vs) = with_entries program (with_if_said taken (event_in program v)) vs
+
+unfoldable pub is_among : ℕ → List ℕ → Bool
+is_among number numbers = list_any (λ other. other == number) numbers
+
+-- if it is of one of these programs
+unfoldable pub with_section : List ℕ → List FoundEventView → Option EventSectionView → List FoundEventView
+with_section numbers taken None = taken
+with_section numbers taken (Some s) = if is_among s.program numbers then with_entries s.program taken s.events else taken
+
+unfoldable pub with_findings : List ℕ → List FoundEventView → List FindingView → List FoundEventView
+with_findings numbers taken [] = taken
+with_findings numbers taken (finding ∷ findings) = with_findings numbers (with_section numbers taken (event_section_found finding)) findings
+
+unfoldable pub stream_events : List ℕ → List FindingView → List FoundEventView
+stream_events numbers findings = with_findings numbers [] findings

@@ -1,0 +1,142 @@
+//! What present and following event information says beside the events that are taken of it.
+
+ghost use Rattle.std.specs.Prelude.{◌≡◌, IfOk, map, option_map};
+ghost use Rattle.std.specs.List.{list_all};
+ghost use Rattle.demux.specs.Shown.{finding_view};
+ghost use Rattle.dvb_tables.specs.EventEntries.{event_view, events_of};
+ghost use Rattle.service_information.specs.EventSections.{event_section_view};
+ghost use Rattle.service_information.specs.EventSurplus as spec;
+
+use crate::event_sections::{EventSection, event_section_found};
+use crate::events::{FoundEvent, event_in, is_among};
+use crate::short_events::is_alone;
+use crate::table_sections::has_table_id;
+use demux::Finding;
+use dvb_tables::{EIT_TABLE_ID, EventEntries, EventEntry};
+use std::alloc::{AllocError, Global};
+use stream_programs::{decode_text, has_unread};
+
+/// The most bytes of an event's name, as written in a descriptor.
+const LONGEST_NAME: usize = 100;
+
+/// The most bytes of an event's text.
+const LONGEST_TEXT: usize = 150;
+
+// More bytes than a text has whose length stands in a byte.
+const ANY_TEXT: usize = 1_020;
+
+#[tactic(auto, unfolding(crate::specs::EventSurplus::is_same))]
+fn is_same(one: &FoundEvent<'_>, other: &FoundEvent<'_>) -> bool
+    ensures { result ≡ spec.is_same one.now other.now }
+{
+    ((one.program == other.program && one.id == other.id)
+        && (one.start == other.start && one.duration == other.duration))
+        && (one.language == other.language && (one.name == other.name && one.text == other.text))
+}
+
+#[tactic(auto, unfolding(crate::specs::EventSurplus::is_taken))]
+fn is_taken(taken: &[FoundEvent<'_>], event: Option<FoundEvent<'_>>) -> bool
+    ensures { result ≡ spec.is_taken taken.now event.entry }
+{
+    match event {
+        None => false,
+        Some(event) => taken.iter().any(|other| is_same(&event, other)),
+    }
+}
+
+// Whether an event is taken with all that is said of it.
+#[tactic(auto, unfolding(crate::specs::EventSurplus::is_said))]
+fn is_said(program: u16, taken: &[FoundEvent<'_>], entry: EventEntry<'_>) -> bool
+    ensures { result ≡ spec.is_said program taken.now (event_view entry.entry) }
+{
+    is_taken(taken, event_in(program, entry)) && is_alone(entry.descriptors)
+}
+
+fn are_said(program: u16, taken: &[FoundEvent<'_>], entries: EventEntries<'_>) -> bool
+    ensures { result ≡ list_all (spec.is_said program taken.now) (events_of entries.entry) }
+{
+    for entry in entries {
+        if !is_said(program, taken, entry) {
+            return false;
+        }
+    }
+    true
+}
+
+#[tactic(auto, unfolding(crate::specs::EventSurplus::says_more))]
+fn says_more(
+    numbers: &[u16],
+    taken: &[FoundEvent<'_>],
+    section: Option<EventSection<'_>>,
+) -> bool
+    ensures { result ≡ spec.says_more numbers.now taken.now (option_map event_section_view section.entry) }
+{
+    match section {
+        None => true,
+        Some(section) => {
+            is_among(section.program, numbers) && !are_said(section.program, taken, section.events)
+        }
+    }
+}
+
+#[tactic(auto, unfolding(crate::specs::EventSurplus::is_surplus))]
+fn is_surplus(numbers: &[u16], taken: &[FoundEvent<'_>], finding: &Finding<'_>) -> bool
+    ensures { result ≡ spec.is_surplus numbers.now taken.now (finding_view finding.now) }
+{
+    has_table_id(EIT_TABLE_ID, &finding.what)
+        && says_more(numbers, taken, event_section_found(finding))
+}
+
+/// The packet in which the first section with table_id 0x4E ends that can't be read as one in force, or says more of
+/// a program than the events that are taken.
+#[tactic(auto, unfolding(crate::specs::EventSurplus::event_surplus))]
+pub(crate) fn event_surplus(
+    numbers: &[u16],
+    taken: &[FoundEvent<'_>],
+    findings: &[Finding<'_>],
+) -> Option<u64>
+    ensures { result ≡ spec.event_surplus numbers.now taken.now (map finding_view findings.now) }
+{
+    for finding in findings {
+        if is_surplus(numbers, taken, finding) {
+            return Some(finding.packet);
+        }
+    }
+    None
+}
+
+// Whether all of a text can be read and has at most this number of bytes as it is written.
+#[tactic(auto, unfolding(crate::specs::EventSurplus::is_whole_text))]
+fn is_whole_text(alloc: Global, max_bytes: usize, bytes: &[u8]) -> Result<bool, AllocError>
+    ensures { IfOk result (λ whole. whole ≡ spec.is_whole_text max_bytes bytes.now) }
+{
+    let unread = has_unread(alloc, bytes)?;
+    let written = decode_text(alloc, bytes, max_bytes)?;
+    let all = decode_text(alloc, bytes, ANY_TEXT)?;
+    Ok(!unread && written.len() == all.len())
+}
+
+#[tactic(auto, unfolding(crate::specs::EventSurplus::has_whole_texts))]
+fn has_whole_texts(alloc: Global, event: &FoundEvent<'_>) -> Result<bool, AllocError>
+    ensures { IfOk result (λ whole. whole ≡ spec.has_whole_texts event.now) }
+{
+    let name = is_whole_text(alloc, LONGEST_NAME, event.name)?;
+    let text = is_whole_text(alloc, LONGEST_TEXT, event.text)?;
+    Ok(name && text)
+}
+
+/// Whether all texts of events are whole.
+#[tactic(auto, unfolding(crate::specs::EventSurplus::have_whole_texts))]
+pub(crate) fn have_whole_texts(
+    alloc: Global,
+    taken: &[FoundEvent<'_>],
+) -> Result<bool, AllocError>
+    ensures { IfOk result (λ whole. whole ≡ spec.have_whole_texts taken.now) }
+{
+    for event in taken {
+        if !has_whole_texts(alloc, event)? {
+            return Ok(false);
+        }
+    }
+    Ok(true)
+}

@@ -1,0 +1,83 @@
+//! What a short event descriptor says (EN 300 468, 6.2.37).
+
+ghost use Rattle.std.specs.Prelude.{◌≡◌, option_map};
+ghost use Rattle.descriptor_loops.specs.Descriptors.{descriptor_view, descriptors_in};
+ghost use Rattle.stream_programs.specs.Services.{length_prefixed};
+ghost use Rattle.service_information.specs.ShortEvents as spec;
+
+use descriptor_loops::{Descriptor, Descriptors};
+use stream_programs::length_prefixed;
+
+// The tag of a short event descriptor.
+const SHORT_EVENT: u8 = 0x4d;
+
+/// A short event descriptor. The texts are still coded (EN 300 468, annex A).
+#[derive(Clone, Copy)]
+pub(crate) struct ShortEvent<'f> {
+    /// ISO_639_language_code.
+    pub language: &'f [u8],
+    pub name: &'f [u8],
+    pub text: &'f [u8],
+}
+
+// What follows the language.
+#[tactic(auto, unfolding(crate::specs::ShortEvents::with_name))]
+fn with_texts<'f>(language: &'f [u8], rest: &'f [u8]) -> Option<ShortEvent<'f>>
+    ensures { option_map spec.short_event_view result ≡ spec.with_name language.now (length_prefixed rest.now) }
+{
+    let (name, after) = length_prefixed(rest)?;
+    let (text, _) = length_prefixed(after)?;
+    Some(ShortEvent {
+        language,
+        name,
+        text,
+    })
+}
+
+// What the body of the descriptor says.
+#[tactic(auto, unfolding(crate::specs::ShortEvents::short_event_in))]
+fn short_event_in(body: &[u8]) -> Option<ShortEvent<'_>>
+    ensures { option_map spec.short_event_view result ≡ spec.short_event_in body.now }
+{
+    if body.len() < 3 {
+        return None;
+    }
+    let (language, rest) = body.split_at(3);
+    with_texts(language, rest)
+}
+
+#[tactic(auto, unfolding(crate::specs::ShortEvents::of_descriptor))]
+fn of_descriptor<'f>(descriptor: Descriptor<'f>) -> Option<ShortEvent<'f>>
+    ensures { option_map spec.short_event_view result ≡ spec.of_descriptor (descriptor_view descriptor.entry) }
+{
+    if descriptor.tag == SHORT_EVENT {
+        short_event_in(descriptor.body)
+    } else {
+        None
+    }
+}
+
+/// What the first short event descriptor of a loop says.
+#[tactic(auto, unfolding(crate::specs::ShortEvents::in_descriptors))]
+pub(crate) fn short_event(bytes: &[u8]) -> Option<ShortEvent<'_>>
+    ensures { option_map spec.short_event_view result ≡ spec.in_descriptors (descriptors_in bytes.now) }
+{
+    for descriptor in Descriptors::of(bytes) {
+        if let Some(event) = of_descriptor(descriptor) {
+            return Some(event);
+        }
+    }
+    None
+}
+
+/// Whether a loop has a short event descriptor and nothing else.
+#[tactic(auto, unfolding(crate::specs::ShortEvents::is_alone))]
+pub(crate) fn is_alone(bytes: &[u8]) -> bool
+    ensures { result ≡ spec.is_alone bytes.now }
+{
+    match bytes {
+        [] => false,
+        [_] => false,
+        [tag, size, body @ ..] => *tag == SHORT_EVENT && *size as usize == body.len(),
+    }
+}
