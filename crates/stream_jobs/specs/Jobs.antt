@@ -1,14 +1,16 @@
 -- What a job is of what a demultiplexer finds.
 use Rattle.std.specs.Prelude.{◌≡◌, ◌≤◌, ◌<◌, ⊤, ℕ, nat_le, ◌==◌, ◌&&◌, Bool, true, if◌then◌else◌, List, [], ◌∷◌, length, map, slice_get, Option, Some, None, All}
+use Rattle.std.specs.Option.{option_or}
 use Rattle.std.specs.Str.{bytes_eq}
 use Rattle.pes_packet.specs.AccessUnits.{AccessUnit}
 use Rattle.pes_packet.specs.Units.{units_of}
 use Rattle.demux.specs.Views.{FindingView}
-use Rattle.description.specs.Described.{Described, DescribedStream}
+use Rattle.description.specs.Described.{Described, DescribedProgram, DescribedStream}
 use Rattle.unit_timing.specs.declared.allowance.Allowance.{Allowance}
 use Rattle.unit_timing.specs.declared.allowance.Allowance.TheVariants.{Groups, Pace}
 use Rattle.stream_units.specs.Declaration.{min_interval, max_unit_size, group_packets, burst_packets}
 use Rattle.unit_order.specs.Merging.{AreMerged}
+use Rattle.stream_jobs.specs.JobPrograms.{JobProgramView}
 use Rattle.stream_jobs.specs.JobInput.{JobInputView}
 use Rattle.stream_jobs.specs.FoundUnits.{AreFound, Declares, source_of}
 use Rattle.stream_jobs.specs.Rates.{IsAskedOrFirst, IsRate, IsServed}
@@ -65,11 +67,28 @@ unfoldable pub AgreeInTurn : Described → List DescribedStream → List TimedSt
 AgreeInTurn d (s ∷ ss) (t ∷ ts) = Agrees d s t × AgreeInTurn d ss ts
 AgreeInTurn d _ _ = ⊤
 
--- and at moment 0 the clock shows `base`
-pub record AllAgree (d : Described) (base : ℕ) (streams : List TimedStreamView) : Type 0 where
-  pub base_is : d.base0 ≡ base
-  pub same : length streams ≡ length d.streams
-  pub each : (k : ℕ) (s : DescribedStream) (t : TimedStreamView) → slice_get d.streams k ≡ Some s → slice_get streams k ≡ Some t → Agrees d s t
+-- a program of a description is this one: its number, and the PIDs of its map and of its clock references
+pub record IsProgram (p : DescribedProgram) (q : JobProgramView) : Type 0 where
+  pub number : p.number ≡ q.number
+  pub pmt_pid : p.pmt_pid ≡ q.map_pid
+  pub pcr_pid : p.pcr_pid ≡ q.pcr_pid
+
+-- the same as a test
+unfoldable pub is_program : DescribedProgram → JobProgramView → Bool
+is_program p q = p.number == q.number && (p.pmt_pid == q.map_pid && p.pcr_pid == q.pcr_pid)
+
+-- programs, one after another
+unfoldable pub AreInTurn : List DescribedProgram → List JobProgramView → Type 0
+AreInTurn (p ∷ ps) (q ∷ qs) = IsProgram p q × AreInTurn ps qs
+AreInTurn _ _ = ⊤
+
+-- a description has the programs and the streams of an input, and at moment 0 its clock shows what that of the input does
+pub record AllAgree (d : Described) (input : JobInputView) : Type 0 where
+  pub base_is : d.base0 ≡ input.base0
+  pub programs_same : length input.programs ≡ length d.programs
+  pub programs : (k : ℕ) (p : DescribedProgram) (q : JobProgramView) → slice_get d.programs k ≡ Some p → slice_get input.programs k ≡ Some q → IsProgram p q
+  pub same : length input.streams ≡ length d.streams
+  pub each : (k : ℕ) (s : DescribedStream) (t : TimedStreamView) → slice_get d.streams k ≡ Some s → slice_get input.streams k ≡ Some t → Agrees d s t
 
 -- the first unit is due no earlier than a moment
 unfoldable pub first_due : ℕ → List AccessUnit → Bool
@@ -88,13 +107,21 @@ keeps d s us =
     && (first_due s.lead us
     && allows_units s.allowance s.stream_id d.base0 us))
 
--- the PID of the first stream that is not the declared one in its place, and 0 if there are not as many or the clock is another
+-- the PID of the clock references of the first program that is not the declared one in its place
+unfoldable pub first_other_program : List DescribedProgram → List JobProgramView → Option ℕ
+first_other_program (p ∷ ps) (q ∷ qs) = if is_program p q then first_other_program ps qs else Some q.pcr_pid
+first_other_program _ _ = None
+
+-- the PID of the first stream that is not the declared one in its place
 unfoldable pub first_disagreeing : Described → List DescribedStream → List TimedStreamView → Option ℕ
 first_disagreeing d (s ∷ ss) (t ∷ ts) = if is_entry s t && keeps d s t.units then first_disagreeing d ss ts else Some t.pid
 first_disagreeing d _ _ = None
 
-unfoldable pub disagreeing : Described → ℕ → List TimedStreamView → Option ℕ
-disagreeing d base streams = if d.base0 == base && length d.streams == length streams then first_disagreeing d d.streams streams else Some 0
+-- 0 if there are not as many programs or streams, or the clock is another
+unfoldable pub disagreeing : Described → JobInputView → Option ℕ
+disagreeing d input =
+    if d.base0 == input.base0 && (length d.programs == length input.programs && length d.streams == length input.streams)
+    then option_or (first_other_program d.programs input.programs) (first_disagreeing d d.streams input.streams) else Some 0
 
 -- 3. Units
 

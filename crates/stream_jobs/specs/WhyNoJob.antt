@@ -73,7 +73,7 @@ abbrev pub IsWhyNoDescription : Option ℕ → JobOptionsView → List FindingVi
 IsWhyNoDescription (Some asked) options findings input error = error ≡ Memory
 IsWhyNoDescription None options findings input error = IsWhyNoPlan None options findings input error
 
--- the description that a plan serves at its rate does not declare what the units of a stream need
+-- the description that a plan serves at its rate is not that of its programs, or does not declare what the units of a stream need
 pub record Disagrees (options : JobOptionsView) (findings : List FindingView) (input : JobInputView) (pid : ℕ) : Type 0 where
   pub rate : ℕ
   pub rate_is : IsRate options.rate options findings input rate
@@ -81,7 +81,7 @@ pub record Disagrees (options : JobOptionsView) (findings : List FindingView) (i
   pub plan : Planned
   pub read : IsText description (description_text options findings input rate)
   pub serving : IsServing description plan
-  pub disagree : disagreeing description input.base0 input.streams ≡ Some pid
+  pub disagree : disagreeing description input ≡ Some pid
 
 -- job
 abbrev pub IsWhyNoJob : JobOptionsView → List FindingView → JobInputView → JobError → Type 0

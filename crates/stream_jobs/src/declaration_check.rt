@@ -1,14 +1,16 @@
-//! Whether a description declares what the units of its streams need.
+//! Whether a description has the programs of a job and declares what the units of its streams need.
 
 ghost use Rattle.std.specs.Prelude.{◌≡◌, ◌==◌, ◌&&◌, IfNone, IsTrue};
 ghost use Rattle.stream_units.specs.Declaration.{AllowsUnits};
 ghost use Rattle.stream_units.specs.Laws.{FirstDue};
-ghost use Rattle.stream_jobs.specs.Jobs.{AgreeInTurn, Agrees, AllAgree, IsEntry};
+ghost use Rattle.stream_jobs.specs.Jobs.{AgreeInTurn, Agrees, AllAgree, AreInTurn, IsEntry, IsProgram};
 ghost use Rattle.stream_jobs.specs.Jobs as spec;
 ghost use Rattle.stream_jobs.specs.FoundUnits.{Declares};
 
+use crate::input::JobInput;
+use crate::job_programs::JobProgram;
 use crate::job_stream::TimedStream;
-use description::{Description, StreamDescription};
+use description::{Description, ProgramDescription, StreamDescription};
 use pes_packet::Unit;
 use stream_units::{burst_packets, group_packets, max_unit_size, min_interval};
 use unit_timing::allowance::Allowance;
@@ -98,20 +100,54 @@ fn first_disagreeing(
     None
 }
 
-/// The PID of the first stream that is not the declared one, or of whose units the description does not declare what they
-/// need; 0 where there are not as many, or the clock does not begin with `base`.
-#[tactic(auto, using(crate::proofs::Agreement::in_turn), unfolding(crate::specs::Jobs::disagreeing))]
-pub(crate) fn disagreeing(
-    description: &Description,
-    base: u64,
-    streams: &[TimedStream],
-) -> Option<u16>
-    ensures value { result ≡ spec.disagreeing description.now base streams.now }
-    ensures agree { IfNone result (AllAgree description.now base streams.now) }
+// Whether a program is the declared one.
+#[tactic(auto, unfolding(crate::specs::Jobs::is_program), using(crate::proofs::Agreement::program_is))]
+fn is_program(declared: &ProgramDescription, program: &JobProgram) -> bool
+    ensures value { result ≡ spec.is_program declared.now program.now }
+    ensures program { IsTrue result → IsProgram declared.now program.now }
 {
-    let declared = description.streams();
-    if description.base0() != base || declared.len() != streams.len() {
+    declared.number() == program.number
+        && declared.pmt_pid() == program.map_pid
+        && declared.pcr_pid() == program.pcr_pid
+}
+
+// The PID of the clock references of the first program that is not the declared one in its place.
+#[tactic(auto, unfolding(crate::specs::Jobs::AreInTurn, crate::specs::Jobs::first_other_program))]
+fn first_other_program(declared: &[ProgramDescription], programs: &[JobProgram]) -> Option<u16>
+    ensures value { result ≡ spec.first_other_program declared.now programs.now }
+    ensures are { IfNone result (AreInTurn declared.now programs.now) }
+{
+    let mut ones = declared;
+    let mut rest = programs;
+    'programs: while let Some((one, later_ones)) = ones.split_first() {
+        let Some((program, later)) = rest.split_first() else {
+            return None;
+        };
+        if !is_program(one, program) {
+            return Some(program.pcr_pid);
+        }
+        ones = later_ones;
+        rest = later;
+    }
+    None
+}
+
+/// The PID of the clock references of the first program that is not the declared one, else that of the first stream that is not, or of
+/// whose units the description does not declare what they need; 0 where there are not as many of either, or the clock begins otherwise.
+#[tactic(auto, using(crate::proofs::Agreement::in_turn), unfolding(crate::specs::Jobs::disagreeing))]
+pub(crate) fn disagreeing(description: &Description, input: &JobInput) -> Option<u16>
+    ensures value { result ≡ spec.disagreeing description.now input.now }
+    ensures agree { IfNone result (AllAgree description.now input.now) }
+{
+    let programs = description.programs();
+    let streams = description.streams();
+    if description.base0() != input.base0
+        || programs.len() != input.programs.len()
+        || streams.len() != input.streams.len() {
         return Some(0);
     }
-    first_disagreeing(description, declared, streams)
+    match first_other_program(programs, &input.programs) {
+        Some(pid) => Some(pid),
+        None => first_disagreeing(description, streams, &input.streams),
+    }
 }

@@ -54,7 +54,7 @@ fn merged_units(alloc: Global, streams: Vec<TimedStream>) -> Result<Vec<(u8, Uni
     merged(alloc, queues_of(alloc, streams)?)
 }
 
-// A plan for the description, which declares what the units of the streams need.
+// A plan for the description, which has the programs and declares what the units of the streams need.
 fn agreed_plan(
     alloc: Global,
     options: &JobOptions<'_>,
@@ -66,7 +66,7 @@ fn agreed_plan(
     ensures rate { IfOk result (λ p. IsRate options.now.rate options.now (map finding_view findings.now) input.now
         p.rate) }
     ensures serving { IfOk result (λ p. IsServing p.plan.description p.plan.plan) }
-    ensures agree { IfOk result (λ p. AllAgree p.plan.description input.now.base0 input.now.streams) }
+    ensures agree { IfOk result (λ p. AllAgree p.plan.description input.now) }
     ensures refused { IfErr result (IsWhyNoJob options.now (map finding_view findings.now) input.now) }
 {
     let draft = DescriptionDraft {
@@ -75,7 +75,7 @@ fn agreed_plan(
         input,
     };
     let planned = plan_draft(alloc, &draft)?;
-    match disagreeing(planned.plan.description(), input.base0, &input.streams) {
+    match disagreeing(planned.plan.description(), input) {
         Some(pid) => Err(JobError::Refused(JobRefusal::Declaration(pid))),
         None => Ok(planned),
     }
@@ -94,7 +94,7 @@ pub fn make_job(
     ensures text { IfOk result (λ j. IsText j.plan.description (string_bytes j.text)) }
     ensures units { IfOk result (λ j. AreUnits options.now.make_dts (map finding_view findings.now) j.plan.description
         j.units.items) }
-    ensures agree { IfOk result (λ j. AllAgree j.plan.description input.base0 input.streams) }
+    ensures agree { IfOk result (λ j. AllAgree j.plan.description input) }
     ensures refused { IfErr result (IsWhyNoJob options.now (map finding_view findings.now) input) }
 {
     let planned = agreed_plan(alloc, options, findings, &input)?;

@@ -7,6 +7,6 @@ use Rattle.stream_jobs.proofs.job.make_job.Goals as goal
 
 pub returns-clause-units : goal.returns-clause-units
 returns-clause-units c =
-    let agree : AllAgree c.in_ok-planned.planned.plan.description c.args.input.base0 c.args.input.streams = search rules in
+    let agree : AllAgree c.in_ok-planned.planned.plan.description c.args.input = search rules in
     let merged : AreMerged (map (λ t. t.units) c.args.input.streams) c.in_ok-units.units.items = search rules in
-    job_units c.args.options.now.make_dts (map finding_view c.args.findings.now) c.in_ok-planned.planned.plan.description c.args.input.base0 c.args.input.streams c.in_ok-units.units.items c.requires.moved c.requires.fits agree merged
+    job_units c.args.options.now.make_dts (map finding_view c.args.findings.now) c.in_ok-planned.planned.plan.description c.args.input c.in_ok-units.units.items c.requires.moved c.requires.fits agree merged
