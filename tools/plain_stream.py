@@ -252,6 +252,73 @@ def network(stream, ts_id):
     return found, first
 
 
+def seconds(coded):
+    """Of hhmmss in binary coded decimals; None where a digit is none, or over 59."""
+    if any(byte >> 4 > 9 or byte & 15 > 9 for byte in coded):
+        return None
+    hours, minutes, rest = ((byte >> 4) * 10 + (byte & 15) for byte in coded)
+    return hours * 3600 + minutes * 60 + rest if minutes < 60 and rest < 60 else None
+
+
+def moment(coded):
+    """Of a Modified Julian Date and hhmmss: a time of 1970 to 2037."""
+    at, days = seconds(coded[2:]), (coded[0] << 8 | coded[1]) - 40_587
+    return days * 86_400 + at if at is not None and at < 86_400 and 0 <= days <= 24_836 else None
+
+
+def time(stream):
+    """What the first time and date section says, and the packet in which the first of that table_id ends that says nothing."""
+    first, surplus = None, []
+    for pid in stream.pids:
+        for packet, _, kind, s in stream.found(pid):
+            if kind == "section" and s[0] == 0x70:
+                said = moment(s[3:8]) if pid == 0x14 and not s[1] >> 7 and len(s) == 8 else None
+                first = said if first is None else first
+                surplus += [packet] if said is None else []
+    return first, min(surplus, default=None)
+
+
+def short_event(loop):
+    """Language, name and text of the first short event descriptor, and whether it is alone."""
+    for tag, body in descriptors(loop):
+        name = body[4: 4 + body[3]] if len(body) > 3 else b""
+        rest = body[4 + len(name):]
+        if tag == 0x4D and len(body) > 3 and len(name) == body[3] and rest and len(rest) > rest[0]:
+            return (body[:3], name, rest[1: 1 + rest[0]]), len(loop) == 2 + loop[1]
+    return None, False
+
+
+def event(number, head, loop):
+    """(start, program, event_id, duration, language, name, text) where a description can say it, and whether that is all."""
+    said, alone = short_event(loop)
+    start, duration = moment(head[2:7]), seconds(head[7:10])
+    if said is None or start is None or not duration or not (said[0].isalpha() and said[0].isascii()):
+        return None, False
+    return (start, number, head[0] << 8 | head[1], duration, *said), alone
+
+
+def events(stream, numbers):
+    """The events of programs, as they come first, if they overlap none before them; and the packet in which the first section ends of which
+    not all is among them."""
+    sections, taken, surplus = [], [], []
+    for pid in stream.pids:
+        for packet, _, kind, s in stream.found(pid):
+            if kind == "section" and s[0] == 0x4E:
+                good = pid == 0x12 and s[1] >> 7 and len(s) >= 18 and s[5] & 1
+                entries = loops(s[14:-4], 12) if good else None
+                number = s[3] << 8 | s[4] if entries is not None else None
+                sections.append((packet, number, None if entries is None else [event(number, *e) for e in entries]))
+    for packet, number, said in sorted(sections, key=lambda one: one[0]):
+        for one, _ in said or [] if number in numbers else []:
+            clash = one and any(o[1] == number and one[0] < o[0] + o[3] and o[0] < one[0] + one[3] for o in taken)
+            if one and not clash and len(taken) < 256:
+                taken.insert(sum(o[0] < one[0] for o in taken), one)
+    for packet, number, said in sections:
+        if said is None or number in numbers and not all(alone and one in taken for one, alone in said):
+            surplus.append(packet)
+    return taken, min(surplus, default=None)
+
+
 def texts_of(body):
     if len(body) < 2 or len(body) < 3 + body[1] or len(body) < 3 + body[1] + body[2 + body[1]]:
         return None

@@ -13,6 +13,7 @@ use Rattle.stream_jobs.specs.declared.warning.ProgramWarning.{ProgramWarning}
 use Rattle.stream_jobs.specs.declared.warning.ProgramWarning.TheVariants.{Missing, NoStream, UnreadText}
 use Rattle.stream_jobs.specs.declared.warning.Warning.{Warning}
 use Rattle.stream_jobs.specs.declared.warning.Warning.TheVariants as warning
+use Rattle.job_lines.specs.InformationLines.{information_line}
 
 -- 1. A line each
 
@@ -84,6 +85,7 @@ warning_line (warning.Units pid left_out) = unit_line pid left_out
 warning_line (warning.NoUnit program pid) = codes "pid " ++ decimal pid ++ codes " of program " ++ decimal program ++ codes " has no unit: left out\n"
 warning_line (warning.StreamId program pid packet id) = id_line program pid packet id
 warning_line warning.UnreadNetwork = codes "name of the network has characters that cannot be read\n"
+warning_line (warning.Information about) = information_line about
 warning_line (warning.MapMoved program from to) = codes "PMT of program " ++ decimal program ++ codes " moved from pid " ++ decimal from ++ codes " to " ++ decimal to ++ codes "\n"
 
 -- 2. All of them

@@ -20,7 +20,7 @@ fn kind_name(kind: TableKind) -> &'static str
         TableKind::Network => "NIT",
         TableKind::Services => "SDT of other streams or BAT",
         TableKind::Events => "EIT",
-        TableKind::Time => "TDT or TOT",
+        TableKind::Time => "TOT",
         TableKind::Running => "RST",
         TableKind::Applications => "AIT",
         TableKind::Splices => "SCTE 35",

@@ -4,6 +4,7 @@ ghost use Rattle.std.specs.Prelude.{◌≡◌, ◌++◌, IfOk, OnOk, string_byte
 ghost use Rattle.stream_jobs.specs.Warnings.{are_damaged};
 ghost use Rattle.job_lines.specs.WarningLines as spec;
 
+use crate::information_lines::write_information;
 use std::alloc::{AllocError, Global};
 use std::fmt::Write;
 use stream_jobs::{PacketWarning, ProgramWarning, Warning};
@@ -206,6 +207,7 @@ fn write_warning(warning: Warning, text: &mut String) -> Result<(), AllocError>
         Warning::UnreadNetwork => {
             text.push_str("name of the network has characters that cannot be read\n")
         }
+        Warning::Information(about) => write_information(about, text),
         Warning::MapMoved { program, from, to } => write!(
             text,
             "PMT of program {program} moved from pid {from} to {to}\n"

@@ -29,8 +29,8 @@ pub struct JobArguments<'a> {
     pub whole: bool,
     /// The rate in bits a second, 100,000 to 100,000,000; none: the least rate at which a plan is found.
     pub rate: Option<u64>,
-    /// The moment of the first slot.
-    pub start: &'a str,
+    /// The moment of the first slot, if it is given.
+    pub start: Option<&'a str>,
     /// The greatest time between two clock references, 1 to 100 ms.
     pub pcr_limit: u8,
     /// The longest time from a unit's arrival to its decoding, 1 to 90,000 units of 90 kHz.
@@ -67,7 +67,7 @@ impl<'a> Model for JobArguments<'a> {
       whole = a.whole;
       options = record {
         rate = a.rate;
-        start = a.start.now;
+        start = option_map (λ s. s.now) a.start;
         pcr_limit = a.pcr_limit;
         lead = a.lead;
         declare_by = a.declare_by;

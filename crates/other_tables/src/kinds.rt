@@ -14,9 +14,9 @@ pub enum TableKind {
     Network,
     /// SDT of other streams, and BAT.
     Services,
-    /// EIT.
+    /// EIT of other streams, and of schedules.
     Events,
-    /// TDT and TOT.
+    /// TOT.
     Time,
     /// RST.
     Running,
@@ -34,10 +34,10 @@ pub fn kind_of(table_id: u8) -> Option<TableKind>
     ensures { result ≡ spec.kind_of table_id }
 {
     match table_id {
-        0x00 | 0x02 | 0x40 | 0x42 | 0x72 => None,
+        0x00 | 0x02 | 0x40 | 0x42 | 0x4E | 0x70 | 0x72 => None,
         0x41 => Some(TableKind::Network),
         0x46 | 0x4A => Some(TableKind::Services),
-        0x70 | 0x73 => Some(TableKind::Time),
+        0x73 => Some(TableKind::Time),
         0x71 => Some(TableKind::Running),
         0x74 => Some(TableKind::Applications),
         0xFC => Some(TableKind::Splices),
@@ -56,7 +56,7 @@ fn kind_in_range(table_id: u8) -> TableKind
     if table_id >= 0x3A && table_id <= 0x3F {
         return TableKind::Objects;
     }
-    if table_id >= 0x4E && table_id <= 0x6F {
+    if table_id >= 0x4F && table_id <= 0x6F {
         return TableKind::Events;
     }
     if table_id >= 0x80 && table_id <= 0x8F {

@@ -9,8 +9,8 @@ use Rattle.stream_programs.specs.declared.pid_assignment.ProgramPids.{ProgramPid
 use Rattle.stream_jobs.specs.declared.refusal.JobError.{JobError}
 use Rattle.stream_jobs.specs.declared.warning.Warning.{Warning}
 use Rattle.stream_jobs.specs.Answers.{Answers, and_then}
-use Rattle.stream_jobs.specs.JobPrograms.{JobProgramView, job_programs, all_program_warnings, text_warnings}
-use Rattle.stream_jobs.specs.JobInput.{JobInputView, table_warnings, stream_warnings, job_warnings, with_pids, with_streams}
+use Rattle.stream_jobs.specs.JobPrograms.{JobProgramView, job_programs, all_program_warnings}
+use Rattle.stream_jobs.specs.JobInput.{JobInputView, service_warnings, table_warnings, stream_warnings, job_warnings, with_pids, with_streams}
 use Rattle.stream_jobs.specs.Warnings.{pid_warnings}
 use Rattle.stream_jobs.specs.WireStreams.{wire_streams, all_empty_stream_warnings}
 use Rattle.stream_jobs.specs.JobOptions.{JobOptionsView}
@@ -23,7 +23,7 @@ pub all_warnings : (options : JobOptionsView) (count : ℕ) (findings : List Fin
     empties ≡ tables ++ all_empty_stream_warnings count options.without findings found.streams →
     programs ≡ empties ++ all_program_warnings streams found.programs assigned →
     units ≡ programs ++ flat_map (λ s. pid_warnings count findings s.pid) streams →
-    all ≡ units ++ text_warnings options.names findings (job_programs streams found.programs assigned) →
+    all ≡ units ++ service_warnings options.names findings (job_programs streams found.programs assigned) →
     all ≡ job_warnings options count findings a named found assigned streams
 unfolding stream_warnings job_warnings
 all_warnings options count findings a named found assigned streams tables empties programs units all one two three four five = rw (five, four, three, two, one) refl

@@ -19,6 +19,8 @@ use Rattle.stream_jobs.specs.Answers.{and_then, unless}
 use Rattle.stream_jobs.specs.ClockBases.{base0_of}
 use Rattle.stream_jobs.specs.Declarations.{UnitCountsView, too_many, too_long, all_unit_counts, choices}
 use Rattle.stream_jobs.specs.JobPrograms.{JobProgramView, job_programs, all_program_warnings, text_warnings}
+use Rattle.stream_jobs.specs.GivenNames.{ServiceNameView}
+use Rattle.stream_jobs.specs.Events.{programs_information}
 use Rattle.stream_jobs.specs.Moments.{earliest, first_base, moved_streams}
 use Rattle.stream_jobs.specs.Packets.{no_packets}
 use Rattle.stream_jobs.specs.Warnings.{packet_warnings, association_warnings, all_map_warnings, stray_warnings, option_warnings, network_warnings, pid_warnings}
@@ -61,12 +63,16 @@ unfoldable pub stream_warnings : JobOptionsView → ℕ → List FindingView →
 stream_warnings options count findings a named found =
     table_warnings options a named findings found ++ all_empty_stream_warnings count options.without findings found.streams
 
--- and about programs, what of the streams is in no unit, and texts
+-- about the texts of services, and about service information
+unfoldable pub service_warnings : List ServiceNameView → List FindingView → List JobProgramView → List Warning
+service_warnings names findings programs = text_warnings names findings programs ++ programs_information findings programs
+
+-- and about programs, what of the streams is in no unit, and services
 unfoldable pub job_warnings : JobOptionsView → ℕ → List FindingView → AssociationView → List Program → FoundProgramsView → List ProgramPids → List WireStreamView → List Warning
 job_warnings options count findings a named found assigned streams =
     ((stream_warnings options count findings a named found ++ all_program_warnings streams found.programs assigned)
     ++ flat_map (λ s. pid_warnings count findings s.pid) streams)
-    ++ text_warnings options.names findings (job_programs streams found.programs assigned)
+    ++ service_warnings options.names findings (job_programs streams found.programs assigned)
 
 -- 2. What it is made of, step by step
 

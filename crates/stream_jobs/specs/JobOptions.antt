@@ -8,12 +8,12 @@ use Rattle.stream_jobs.specs.declared.clock_base.ClockBase.{ClockBase}
 use Rattle.stream_jobs.specs.declared.job_options.DeclareBy.{DeclareBy}
 use Rattle.stream_coding.specs.declared.buffers.PidBuffers.{PidBuffers}
 
--- the rate in bits a second, if one is asked for; the moment of the first slot as its characters; limits in ms and in units
+-- the rate in bits a second, if one is asked for; the moment of the first slot as its characters, if it is given; limits in ms and in units
 -- of 90 kHz; by what the packets of units are declared; what the
 -- system clock shows as the run begins; the network and the names of services in place of those of the stream; the programs that are taken, none for all; PIDs that are left out; and buffers in place of those by coding
 pub record JobOptionsView : Type 0 where
   pub rate : Option ℕ
-  pub start : List ℕ
+  pub start : Option (List ℕ)
   pub pcr_limit : ℕ
   pub lead : ℕ
   pub declare_by : DeclareBy

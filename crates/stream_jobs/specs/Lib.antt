@@ -7,6 +7,7 @@ pub mod Warnings
 pub mod JobStreams
 pub mod WireStreams
 pub mod JobPrograms
+pub mod Events
 pub mod Moments
 pub mod Declarations
 pub mod JobInput

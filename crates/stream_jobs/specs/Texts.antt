@@ -1,5 +1,5 @@
 -- The description of a job as text.
-use Rattle.std.specs.Prelude.{ℕ, ◌-◌, ◌^◌, ◌||◌, min, Bool, false, List, [], ◌++◌, flat_map, zip, is_some, unwrap_or, Option, Some, None, option_map}
+use Rattle.std.specs.Prelude.{ℕ, ◌-◌, ◌^◌, ◌||◌, min, Bool, List, [], ◌++◌, flat_map, zip, is_some, unwrap_or, Option, Some, None, option_map}
 use Rattle.std.specs.Option.{option_or}
 use Rattle.std.specs.List.{list_any}
 use Rattle.demux.specs.Views.{FindingView}
@@ -10,7 +10,9 @@ use Rattle.stream_programs.specs.NetworkInformation.{FoundNetworkView, stream_ne
 use Rattle.stream_programs.specs.Networks.{network}
 use Rattle.stream_programs.specs.Services.{FoundServiceView, service}
 use Rattle.stream_programs.specs.Texts.{decode_text}
+use Rattle.service_information.specs.StreamTime.{stream_time}
 use Rattle.stream_jobs.specs.Declarations.{UnitCountsView}
+use Rattle.stream_jobs.specs.Events.{job_events, events_text, start_of}
 use Rattle.stream_jobs.specs.GivenNames.{NetworkNameView, ServiceNameView, name_given, original_given}
 use Rattle.stream_jobs.specs.JobPrograms.{JobProgramView}
 use Rattle.stream_jobs.specs.JobInput.{JobInputView}
@@ -30,16 +32,16 @@ has_services names findings programs = list_any (λ p. has_service names finding
 unfoldable pub original_of : Option NetworkNameView → ℕ → List FindingView → Option ℕ
 original_of given id findings = option_or (option_or (original_given given) (network findings)) (option_map (λ n. n.original) (stream_network id findings))
 
--- at a rate in bits a second, a number of 32 bits; where nothing says original_network_id it is one for private use (ETSI TS 101 162)
-unfoldable pub heading_of : JobOptionsView → List FindingView → JobInputView → ℕ → HeadingView
-heading_of options findings input rate = record {
+-- from a moment on, at a rate in bits a second, a number of 32 bits; with a time and date table if the stream has one; where nothing says original_network_id it is one for private use (ETSI TS 101 162)
+unfoldable pub heading_of : JobOptionsView → List FindingView → JobInputView → List ℕ → ℕ → HeadingView
+heading_of options findings input start rate = record {
   rate = min rate (2 ^ 32 - 1);
-  start = options.start;
+  start = start;
   base0 = input.base0;
   transport_stream_id = input.transport_stream_id;
   original_network_id = unwrap_or (original_of options.network input.transport_stream_id findings) 0xFF01;
   sdt = has_services options.names findings input.programs;
-  tdt = false;
+  tdt = is_some (stream_time findings);
 }
 
 -- the network that is given
@@ -124,6 +126,7 @@ streams_text streams unit_counts choices = flat_map stream_lines (zip streams (z
 
 unfoldable pub description_text : JobOptionsView → List FindingView → JobInputView → ℕ → List ℕ
 description_text options findings input rate =
-    heading_text (heading_of options findings input rate)
+    heading_text (heading_of options findings input (start_of options.start (job_events findings input.programs) findings) rate)
+    ++ (events_text (job_events findings input.programs)
     ++ (network_if_any (network_part options input.transport_stream_id findings)
-    ++ (programs_text options findings input.programs ++ streams_text input.streams input.unit_counts input.choices))
+    ++ (programs_text options findings input.programs ++ streams_text input.streams input.unit_counts input.choices)))

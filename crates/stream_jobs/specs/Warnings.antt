@@ -122,6 +122,7 @@ is_damage (warning.Units pid unit) = units.is_damage unit.cause
 is_damage (warning.NoUnit program pid) = false
 is_damage (warning.StreamId program pid packet id) = true
 is_damage warning.UnreadNetwork = true
+is_damage (warning.Information about) = true
 is_damage (warning.MapMoved program from to) = false
 
 abbrev pub are_damaged : List Warning → Bool

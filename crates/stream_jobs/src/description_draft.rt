@@ -9,6 +9,7 @@ ghost use Rattle.stream_jobs.specs.WhyNoJob.{IsWhyNotRead};
 
 use crate::declarations::UnitCounts;
 use crate::input::JobInput;
+use crate::job_events::{job_events, start_of, write_events};
 use crate::job_network::{original_of, write_network};
 use crate::job_options::JobOptions;
 use crate::job_programs::JobProgram;
@@ -18,6 +19,7 @@ use crate::refusal::{JobError, JobRefusal};
 use demux::Finding;
 use description::{DescError, Description};
 use job_text::{Heading, ProgramPart, StreamPart};
+use service_information::stream_time;
 use std::alloc::{AllocError, Global};
 use stream_choice::Choice;
 use stream_programs::stream_network;
@@ -36,16 +38,16 @@ pub(crate) struct DescriptionDraft<'a, 'f> {
 
 impl<'a, 'f> DescriptionDraft<'a, 'f> {
     #[tactic(auto, unfolding(crate::specs::Texts::heading_of))]
-    fn write_heading(&self, rate: u64, text: &mut String) -> Result<(), AllocError>
+    fn write_heading(&self, start: &str, rate: u64, text: &mut String) -> Result<(), AllocError>
         ensures { OnOk result (string_bytes text.new ≡ string_bytes text.old
             ++ heading_text (spec.heading_of self.now.options.now (map finding_view self.now.findings.now)
-            self.now.input.now rate)) }
+            self.now.input.now start.now rate)) }
     {
         let options = self.options;
         let input = self.input;
         let heading = Heading {
             rate: rate.min(u64::from(u32::MAX)) as u32,
-            start: options.start,
+            start,
             base0: input.base0,
             transport_stream_id: input.transport_stream_id,
             original_network_id: original_of(
@@ -54,7 +56,7 @@ impl<'a, 'f> DescriptionDraft<'a, 'f> {
                 self.findings,
             ).unwrap_or(PRIVATE_NETWORK),
             sdt: has_services(options.names, self.findings, &input.programs),
-            tdt: false,
+            tdt: stream_time(self.findings).is_some(),
         };
         heading.write_text(text)
     }
@@ -69,7 +71,10 @@ impl<'a, 'f> DescriptionDraft<'a, 'f> {
         let options = self.options;
         let input = self.input;
         let mut text = String::new(alloc);
-        self.write_heading(rate, &mut text)?;
+        let events = job_events(alloc, &input.programs, self.findings)?;
+        let start = start_of(alloc, options.start, &events, self.findings)?;
+        self.write_heading(&start, rate, &mut text)?;
+        write_events(alloc, &events, &mut text)?;
         let found = stream_network(input.transport_stream_id, self.findings);
         write_network(alloc, options.network, found, &mut text)?;
         write_programs(alloc, options, self.findings, &input.programs, &mut text)?;

@@ -1,6 +1,6 @@
 //! What a job is made of: the programs and streams of a transport stream, and what is declared of their units.
 
-ghost use Rattle.std.specs.Prelude.{◌≡◌, ◌≤◌, IfOk, All, filter, length, map};
+ghost use Rattle.std.specs.Prelude.{◌≡◌, ◌≤◌, ◌++◌, IfOk, OnOk, All, filter, length, map};
 ghost use Rattle.demux.specs.Shown.{finding_view};
 ghost use Rattle.stream_jobs.specs.Answers.{Answers};
 ghost use Rattle.stream_jobs.specs.Jobs.{AreStreams, IsCarried, FitsQueue};
@@ -11,6 +11,8 @@ use crate::choices::choices;
 use crate::clock_base::base0_of;
 use crate::declarations::{UnitCounts, count_units, too_long, too_many};
 use crate::earliest::earliest_of;
+use crate::given_names::ServiceName;
+use crate::job_events::push_information_warnings;
 use crate::job_network::push_network_warnings;
 use crate::job_options::{JobOptions, is_among};
 use crate::job_programs::{JobProgram, job_programs};
@@ -222,6 +224,22 @@ fn with_streams(
     )
 }
 
+// Appends the warnings about the texts of services, and about service information.
+#[tactic(auto, unfolding(crate::specs::JobInput::service_warnings))]
+fn push_service_warnings(
+    alloc: Global,
+    names: &[ServiceName<'_>],
+    programs: &[JobProgram],
+    findings: &[Finding<'_>],
+    warnings: &mut Vec<Warning>,
+) -> Result<(), AllocError>
+    ensures { OnOk result (warnings.new.items ≡ warnings.old.items
+        ++ spec.service_warnings names.now (map finding_view findings.now) programs.now) }
+{
+    push_text_warnings(alloc, names, programs, findings, warnings)?;
+    push_information_warnings(alloc, programs, findings, warnings)
+}
+
 // With the streams of programs that are given PIDs.
 #[tactic(auto, unfolding(crate::specs::JobInput::with_pids, crate::specs::JobInput::job_warnings, crate::specs::JobInput::stream_warnings, crate::specs::Answers::and_then, crate::specs::Answers::Answers, crate::specs::Answers::Refuses), using(crate::proofs::AndThen::then_refuses))]
 fn with_pids(
@@ -250,7 +268,7 @@ fn with_pids(
     )?;
     let programs = job_programs(alloc, &streams, found.programs, assigned, &mut warnings)?;
     push_stream_warnings(alloc, count, &streams, findings, &mut warnings)?;
-    push_text_warnings(alloc, options.names, &programs, findings, &mut warnings)?;
+    push_service_warnings(alloc, options.names, &programs, findings, &mut warnings)?;
     let id = association.transport_stream_id;
     with_streams(alloc, options, findings, id, programs, warnings, streams)
 }

@@ -24,8 +24,8 @@ pub enum DeclareBy {
 pub struct JobOptions<'a> {
     /// The rate of the new stream in bits a second; without it the least at which a plan is found.
     pub rate: Option<u64>,
-    /// The moment of its first slot, as a description has it.
-    pub start: &'a str,
+    /// The moment of its first slot, as a description has it; without it that of the stream's time and date table.
+    pub start: Option<&'a str>,
     /// The greatest time between two clock references, 1 to 100 ms.
     pub pcr_limit: u8,
     /// The longest time from the arrival of a unit to its decoding, 1 to 90,000 units of 90 kHz.
@@ -58,7 +58,7 @@ impl<'a> Model for JobOptions<'a> {
 
     ghost view = { λ o. record {
       rate = o.rate;
-      start = o.start.now;
+      start = option_map (λ s. s.now) o.start;
       pcr_limit = o.pcr_limit;
       lead = o.lead;
       declare_by = o.declare_by;

@@ -17,6 +17,7 @@ mod earliest;
 mod given_names;
 mod input;
 mod job;
+mod job_events;
 mod job_network;
 mod job_options;
 mod job_programs;

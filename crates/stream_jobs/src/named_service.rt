@@ -107,8 +107,8 @@ fn named_service(
     }
 }
 
-// The bytes of a text as a text of its own.
-fn copied(alloc: Global, text: &str) -> Result<String, AllocError>
+/// The bytes of a text as a text of its own.
+pub(crate) fn copied(alloc: Global, text: &str) -> Result<String, AllocError>
     ensures { IfOk result (λ copy. string_bytes copy ≡ text.now) }
 {
     let mut copy = String::new(alloc);

@@ -3,6 +3,7 @@
 ghost use Rattle.std.specs.Prelude.{◌≡◌};
 ghost use Rattle.stream_jobs.specs.Warnings as spec;
 
+use service_information::InformationWarning;
 use stream_programs::{MapPart, TableOmission};
 use stream_units::UnitWarning;
 
@@ -84,6 +85,8 @@ pub enum Warning {
     },
     /// The name of the network has characters that can't be read.
     UnreadNetwork,
+    /// Service information is not taken as it stands.
+    Information(InformationWarning),
     /// The program map table of this program is on another PID.
     MapMoved {
         program: u16,
@@ -134,6 +137,7 @@ impl Warning {
             Warning::NoUnit { .. } => false,
             Warning::StreamId { .. } => true,
             Warning::UnreadNetwork => true,
+            Warning::Information(_) => true,
             Warning::MapMoved { .. } => false,
         }
     }

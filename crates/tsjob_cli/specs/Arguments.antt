@@ -75,10 +75,10 @@ base_of (Some text) = if bytes_eq text (codes "input") then Some Input else opti
 abbrev pub is_of_time : ℕ → Bool
 is_of_time byte = is_ascii_digit byte || byte == 45 || byte == 58 || byte == 84
 
--- the moment of the first slot, as it is given
-unfoldable pub start_of : Option Text → Option Text
-start_of None = Some (codes "2000-01-01T00:00:00")
-start_of (Some text) = if list_all is_of_time text then Some text else None
+-- the moment of the first slot, if it is given
+unfoldable pub start_of : Option Text → Option (Option Text)
+start_of None = Some None
+start_of (Some text) = if list_all is_of_time text then Some (Some text) else None
 
 -- the file of a description whose units are written while the stream comes, where one is named: for units alone
 unfoldable pub stream_of : Subcommand → Option Text → Option (Option Text)
@@ -91,7 +91,7 @@ stream_of Why (Some name) = None
 -- 2. All of them
 
 -- with empty lists
-abbrev pub plain : Subcommand → Option Text → Bool → Option ℕ → Text → ℕ → ℕ → DeclareBy → Bool → ClockBase → JobArgumentsView
+abbrev pub plain : Subcommand → Option Text → Bool → Option ℕ → Option Text → ℕ → ℕ → DeclareBy → Bool → ClockBase → JobArgumentsView
 plain subcommand stream whole rate start pcr_limit lead declare_by make_dts base = record {
   subcommand = subcommand;
   stream = stream;

@@ -17,9 +17,6 @@ use option_lists::{buffer_list, number_list};
 use std::alloc::{AllocError, Global};
 use stream_jobs::{ClockBase, DeclareBy, NetworkName};
 
-/// The moment of the first slot without `--start`.
-const DEFAULT_START: &str = "2000-01-01T00:00:00";
-
 // The subcommand of this name; without a name, the whole job.
 #[tactic(auto, unfolding(crate::specs::Arguments::subcommand_of))]
 pub(crate) fn subcommand_of(text: Option<&str>) -> Option<Subcommand>
@@ -91,15 +88,16 @@ fn is_moment(text: &str) -> bool
     text.bytes().all(|byte| is_of_time(byte))
 }
 
-// The moment of the first slot, as it is given; none where a character can't stand in a moment.
+// The moment of the first slot, if it is given; none where a character can't stand in a moment.
 #[tactic(auto, unfolding(crate::specs::Arguments::start_of))]
-pub(crate) fn start_of<'a>(text: Option<&'a str>) -> Option<&'a str>
-    ensures { option_map (λ s. s.now) result ≡ spec.start_of (option_map (λ s. s.now) text.entry) }
+pub(crate) fn start_of<'a>(text: Option<&'a str>) -> Option<Option<&'a str>>
+    ensures { option_map (λ o. option_map (λ s. s.now) o) result
+        ≡ spec.start_of (option_map (λ s. s.now) text.entry) }
 {
     let Some(text) = text else {
-        return Some(DEFAULT_START);
+        return Some(None);
     };
-    if is_moment(text) { Some(text) } else { None }
+    if is_moment(text) { Some(Some(text)) } else { None }
 }
 
 // The file of a description, where one is named; none where it is and not units are asked for.

@@ -104,7 +104,7 @@ fn cause(alloc: Global, options: &JobOptions<'_>, found: &[Finding<'_>]) -> Opti
 // A start that is no moment.
 fn starts_now(alloc: Global, found: &[Finding<'_>]) -> bool {
     let mut options = usual();
-    options.start = "now";
+    options.start = Some("now");
     match cause(alloc, &options, found) {
         Some(JobError::Refused(JobRefusal::Description(_))) => true,
         _ => false,

@@ -2,8 +2,8 @@ use Rattle.std.proofs.Common.{map, ◌≡◌, ◌++◌, ◌∙◌, ap, List, Ok,
 use Rattle.std.specs.Prelude.{flat_map}
 use Rattle.demux.specs.Shown.{finding_view}
 use Rattle.stream_jobs.specs.Answers.{Answers}
-use Rattle.stream_jobs.specs.JobPrograms.{JobProgramView, job_programs, all_program_warnings, text_warnings}
-use Rattle.stream_jobs.specs.JobInput.{with_streams}
+use Rattle.stream_jobs.specs.JobPrograms.{JobProgramView, job_programs, all_program_warnings}
+use Rattle.stream_jobs.specs.JobInput.{service_warnings, with_streams}
 use Rattle.stream_jobs.specs.Warnings.{pid_warnings}
 use Rattle.stream_jobs.specs.WireStreams.{wire_streams, all_empty_stream_warnings}
 use Rattle.stream_jobs.proofs.JobInputs.{all_warnings, in_pids}
@@ -19,13 +19,13 @@ returns-clause-value c =
     let programs : c.job_programs.new.warnings.items ≡ c.wire_streams.new.warnings.items ++ all_program_warnings streams c.args.found.programs c.args.assigned.items = search rules in
     let pids : c.push_stream_warnings.new.warnings.items ≡ c.job_programs.new.warnings.items ++ flat_map (λ s. pid_warnings c.args.count findings s.pid) streams = search rules in
     let made : c.in_ok-programs.programs.items ≡ job_programs streams c.args.found.programs c.args.assigned.items = search rules in
-    let pushed : c.push_text_warnings.new.warnings.items ≡ c.push_stream_warnings.new.warnings.items ++ text_warnings options.names findings c.in_ok-programs.programs.items = search rules in
-    let texts : c.push_text_warnings.new.warnings.items ≡ c.push_stream_warnings.new.warnings.items ++ text_warnings options.names findings (job_programs streams c.args.found.programs c.args.assigned.items) =
-    pushed ∙ ap (λ (ps : List JobProgramView). c.push_stream_warnings.new.warnings.items ++ text_warnings options.names findings ps) made in
-    let value : Answers (with_streams options findings c.args.association.now.transport_stream_id c.in_ok-programs.programs.items c.push_text_warnings.new.warnings.items streams) c.with_streams.result = search rules in
+    let pushed : c.push_service_warnings.new.warnings.items ≡ c.push_stream_warnings.new.warnings.items ++ service_warnings options.names findings c.in_ok-programs.programs.items = search rules in
+    let texts : c.push_service_warnings.new.warnings.items ≡ c.push_stream_warnings.new.warnings.items ++ service_warnings options.names findings (job_programs streams c.args.found.programs c.args.assigned.items) =
+    pushed ∙ ap (λ (ps : List JobProgramView). c.push_stream_warnings.new.warnings.items ++ service_warnings options.names findings ps) made in
+    let value : Answers (with_streams options findings c.args.association.now.transport_stream_id c.in_ok-programs.programs.items c.push_service_warnings.new.warnings.items streams) c.with_streams.result = search rules in
     let warnings = all_warnings options c.args.count findings c.args.association.now c.args.named.now c.args.found c.args.assigned.items streams
-    c.in_ok-warnings.warnings.items c.wire_streams.new.warnings.items c.job_programs.new.warnings.items c.push_stream_warnings.new.warnings.items c.push_text_warnings.new.warnings.items
+    c.in_ok-warnings.warnings.items c.wire_streams.new.warnings.items c.job_programs.new.warnings.items c.push_stream_warnings.new.warnings.items c.push_service_warnings.new.warnings.items
     c.in_ok-warnings.ensures empties programs pids texts in
     in_pids options c.args.count findings c.args.association.now c.args.named.now c.args.found c.args.assigned.items streams
-    c.in_ok-programs.programs.items c.push_text_warnings.new.warnings.items c.with_streams.result
+    c.in_ok-programs.programs.items c.push_service_warnings.new.warnings.items c.with_streams.result
     are made warnings value

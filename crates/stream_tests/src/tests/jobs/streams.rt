@@ -13,7 +13,7 @@ pub type Found = Vec<Finding<'static>>;
 pub fn usual() -> JobOptions<'static> {
     JobOptions {
         rate: Some(2_000_000),
-        start: "2026-03-29T00:59:50",
+        start: Some("2026-03-29T00:59:50"),
         pcr_limit: 40,
         lead: 90_000,
         declare_by: DeclareBy::Groups,
