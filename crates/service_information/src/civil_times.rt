@@ -61,12 +61,17 @@ fn write_date(day: u64, text: &mut String) -> Result<(), AllocError>
     let counted = counted_year(day);
     let month = counted_month(day, counted);
     let year = 1_900 + counted + years_on(month);
-    let before = days_before_year(counted) ;
+    let before = days_before_year(counted);
     write!(text, "{year}-")?;
-    write_two_digits(month.saturating_sub(1).saturating_sub(years_on(month) * 12), text)?;
+    write_two_digits(
+        month.saturating_sub(1).saturating_sub(years_on(month) * 12),
+        text,
+    )?;
     text.push_str("-")?;
     write_two_digits(
-        day.saturating_sub(14_956).saturating_sub(before).saturating_sub(month * 306_001 / 10_000),
+        day.saturating_sub(14_956)
+            .saturating_sub(before)
+            .saturating_sub(month * 306_001 / 10_000),
         text,
     )
 }

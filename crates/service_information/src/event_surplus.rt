@@ -1,7 +1,7 @@
 //! What present and following event information says beside the events that are taken of it.
 
 ghost use Rattle.std.specs.Prelude.{◌≡◌, IfOk, map, option_map};
-ghost use Rattle.std.specs.List.{list_all};
+ghost use Rattle.std.specs.List.{list_all, list_any};
 ghost use Rattle.demux.specs.Shown.{finding_view};
 ghost use Rattle.dvb_tables.specs.EventEntries.{event_view, events_of};
 ghost use Rattle.service_information.specs.EventSections.{event_section_view};
@@ -34,13 +34,19 @@ fn is_same(one: &FoundEvent<'_>, other: &FoundEvent<'_>) -> bool
         && (one.language == other.language && (one.name == other.name && one.text == other.text))
 }
 
+fn is_one_of(event: &FoundEvent<'_>, taken: &[FoundEvent<'_>]) -> bool
+    ensures { result ≡ list_any (spec.is_same event.now) taken.now }
+{
+    taken.iter().any(|other| is_same(event, other))
+}
+
 #[tactic(auto, unfolding(crate::specs::EventSurplus::is_taken))]
 fn is_taken(taken: &[FoundEvent<'_>], event: Option<FoundEvent<'_>>) -> bool
     ensures { result ≡ spec.is_taken taken.now event.entry }
 {
     match event {
         None => false,
-        Some(event) => taken.iter().any(|other| is_same(&event, other)),
+        Some(event) => is_one_of(&event, taken),
     }
 }
 
@@ -64,11 +70,7 @@ fn are_said(program: u16, taken: &[FoundEvent<'_>], entries: EventEntries<'_>) -
 }
 
 #[tactic(auto, unfolding(crate::specs::EventSurplus::says_more))]
-fn says_more(
-    numbers: &[u16],
-    taken: &[FoundEvent<'_>],
-    section: Option<EventSection<'_>>,
-) -> bool
+fn says_more(numbers: &[u16], taken: &[FoundEvent<'_>], section: Option<EventSection<'_>>) -> bool
     ensures { result ≡ spec.says_more numbers.now taken.now (option_map event_section_view section.entry) }
 {
     match section {
@@ -127,10 +129,7 @@ fn has_whole_texts(alloc: Global, event: &FoundEvent<'_>) -> Result<bool, AllocE
 
 /// Whether all texts of events are whole.
 #[tactic(auto, unfolding(crate::specs::EventSurplus::have_whole_texts))]
-pub(crate) fn have_whole_texts(
-    alloc: Global,
-    taken: &[FoundEvent<'_>],
-) -> Result<bool, AllocError>
+pub(crate) fn have_whole_texts(alloc: Global, taken: &[FoundEvent<'_>]) -> Result<bool, AllocError>
     ensures { IfOk result (λ whole. whole ≡ spec.have_whole_texts taken.now) }
 {
     for event in taken {

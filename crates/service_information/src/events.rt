@@ -1,6 +1,8 @@
 //! The events of a stream's programs (EN 300 468, 5.2.4).
 
 ghost use Rattle.std.specs.Prelude.{◌≡◌, ◌≤◌, IfOk, OnOk, length, map, option_map};
+ghost use Rattle.std.specs.Char.{is_ascii_alphabetic};
+ghost use Rattle.std.specs.List.{list_all, list_any};
 ghost use Rattle.demux.specs.Shown.{finding_view};
 ghost use Rattle.dvb_tables.specs.EventEntries.{event_view, events_of};
 ghost use Rattle.service_information.specs.EventSections.{event_section_view};
@@ -19,7 +21,7 @@ use std::marker::Model;
 const MOST_EVENTS: usize = 256;
 
 /// An event of a program, as its present and following event information says it. The texts are still coded (EN 300 468, annex A).
-#[derive(Clone, Copy)]
+#[derive(Drop)]
 pub struct FoundEvent<'f> {
     /// The number of its program.
     pub program: u16,
@@ -52,17 +54,24 @@ impl<'f> Model for FoundEvent<'f> {
     } };
 }
 
+// Whether all of these bytes are letters of ASCII.
+fn are_letters(bytes: &[u8]) -> bool
+    ensures { result ≡ list_all is_ascii_alphabetic bytes.now }
+{
+    bytes.iter().all(|byte| byte.is_ascii_alphabetic())
+}
+
 // Whether a description can say it.
 #[tactic(auto, unfolding(crate::specs::Events::can_be_said))]
 fn can_be_said(event: &FoundEvent<'_>) -> bool
     ensures { result ≡ spec.can_be_said event.now }
 {
-    event.language.iter().all(|byte| byte.is_ascii_alphabetic()) && event.duration > 0
+    are_letters(event.language) && event.duration > 0
 }
 
 #[tactic(auto, unfolding(crate::specs::Events::if_said))]
 fn if_said<'f>(event: FoundEvent<'f>) -> Option<FoundEvent<'f>>
-    ensures { result ≡ spec.if_said event }
+    ensures { result ≡ spec.if_said event.entry }
 {
     if can_be_said(&event) {
         Some(event)
@@ -114,12 +123,19 @@ fn overlaps(one: &FoundEvent<'_>, other: &FoundEvent<'_>) -> bool
         && (u64::from(one.start) < other_end && u64::from(other.start) < one_end)
 }
 
+// Whether an event overlaps one of these.
+fn overlaps_any(event: &FoundEvent<'_>, taken: &[FoundEvent<'_>]) -> bool
+    ensures { result ≡ list_any (spec.overlaps event.now) taken.now }
+{
+    taken.iter().any(|other| overlaps(event, other))
+}
+
 // Whether there is room for an event, and none that is taken overlaps it.
 #[tactic(auto, unfolding(crate::specs::Events::is_free))]
 fn is_free(taken: &[FoundEvent<'_>], event: &FoundEvent<'_>) -> bool
     ensures { result ≡ spec.is_free taken.now event.now }
 {
-    taken.len() < MOST_EVENTS && !taken.iter().any(|other| overlaps(event, other))
+    taken.len() < MOST_EVENTS && !overlaps_any(event, taken)
 }
 
 // How many of these events begin before one.
@@ -135,7 +151,7 @@ fn place_of(taken: &[FoundEvent<'_>], event: &FoundEvent<'_>) -> usize
 // Takes an event, unless one that is taken overlaps it.
 #[tactic(auto, unfolding(crate::specs::Events::with_event))]
 fn take_event<'f>(event: FoundEvent<'f>, taken: &mut Vec<FoundEvent<'f>>) -> Result<(), AllocError>
-    ensures { OnOk result (taken.new.items ≡ spec.with_event taken.old.items event) }
+    ensures { OnOk result (taken.new.items ≡ spec.with_event taken.old.items event.entry) }
 {
     if !is_free(taken, &event) {
         return Ok(());

@@ -13,11 +13,11 @@ mod event_sections;
 mod event_surplus;
 mod events;
 mod short_events;
-mod stream_time;
 mod table_sections;
+mod time_table;
 mod warning;
 
 pub use civil_times::civil_text;
 pub use events::{FoundEvent, stream_events};
-pub use stream_time::stream_time;
+pub use time_table::stream_time;
 pub use warning::{InformationWarning, information_warnings};

@@ -11,7 +11,7 @@ ghost use Rattle.service_information.specs.declared.warning.InformationWarning.T
 
 use crate::event_surplus::{event_surplus, have_whole_texts};
 use crate::events::{FoundEvent, stream_events};
-use crate::stream_time::time_surplus;
+use crate::time_table::time_surplus;
 use demux::{Finding, What};
 use std::alloc::{AllocError, Global};
 
@@ -23,20 +23,13 @@ const INFORMATION_PIDS: [u16; 4] = [0x10, 0x11, 0x12, 0x14];
 pub enum InformationWarning {
     /// A section of present and following events of the stream itself ends in this packet that is not carried as it stands: not
     /// in force, not readable, or with an event that is not taken, or with other descriptors than a short event descriptor.
-    EventSurplus {
-        packet: u64,
-    },
+    EventSurplus { packet: u64 },
     /// The name or the text of an event has characters that can't be read, or more bytes than a description has of it.
     EventTexts,
     /// A time and date section ends in this packet that says no time of 1970 to 2037, or is on another PID.
-    TimeSurplus {
-        packet: u64,
-    },
+    TimeSurplus { packet: u64 },
     /// A section on a PID of service information can't be read: its check word, its length or its place is wrong.
-    BadSection {
-        pid: u16,
-        packet: u64,
-    },
+    BadSection { pid: u16, packet: u64 },
 }
 
 // Whether it is a section that can't be read.

@@ -3,7 +3,7 @@ use Rattle.std.specs.Option.{option_or}
 use Rattle.demux.specs.Shown.{finding_view}
 use Rattle.service_information.specs.StreamTime.{stream_time}
 use Rattle.service_information.proofs.TimeSteps.{time_more, time_end}
-use Rattle.service_information.proofs.stream_time.stream_time.Goals as goal
+use Rattle.service_information.proofs.time_table.stream_time.Goals as goal
 
 pub loop-finding-preserved : goal.loop-finding-preserved
 loop-finding-preserved c =

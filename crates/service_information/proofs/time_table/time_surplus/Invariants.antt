@@ -2,7 +2,7 @@ use Rattle.std.proofs.Common.{◌≡◌, drop, map}
 use Rattle.demux.specs.Shown.{finding_view}
 use Rattle.service_information.specs.StreamTime.{is_surplus}
 use Rattle.service_information.specs.FirstFindings.{first_packet}
-use Rattle.service_information.proofs.stream_time.time_surplus.Given as goal
+use Rattle.service_information.proofs.time_table.time_surplus.Given as goal
 
 abbrev pub invariant-loop-finding : goal.invariant-loop-finding
 invariant-loop-finding l =

@@ -2,7 +2,7 @@ use Rattle.std.proofs.Common.{◌≡◌, ◌∙◌, Global, sym, true, false, ru
 use Rattle.demux.specs.Shown.{finding_view}
 use Rattle.service_information.specs.StreamTime.{is_surplus}
 use Rattle.service_information.proofs.FirstPackets.{packet_later, packet_here, packet_end}
-use Rattle.service_information.proofs.stream_time.time_surplus.Goals as goal
+use Rattle.service_information.proofs.time_table.time_surplus.Goals as goal
 
 pub loop-finding-preserved : goal.loop-finding-preserved
 loop-finding-preserved c =
