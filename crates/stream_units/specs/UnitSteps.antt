@@ -22,6 +22,11 @@ unfoldable pub ended_unit : Bool → Option CarriedUnit → Option CarriedUnit
 ended_unit lost None = None
 ended_unit lost (Some u) = if_whole lost u
 
+-- the packet in which it begins, and its DTS on the wire
+unfoldable pub start_of : Option CarriedUnit → Option (ℕ × ℕ)
+start_of None = None
+start_of (Some u) = Some (u.packet, u.unit.dts)
+
 -- there is one, of this stream_id
 unfoldable pub has_id : ℕ → Option CarriedUnit → Bool
 has_id id None = false

@@ -31,7 +31,7 @@ pub use laws::{
     nothing_is_lost, taken_one_by_one, units_are_kept,
 };
 pub use made_units::units_with_made_dts;
-pub use stamps::{StampFault, constant, distance};
+pub use stamps::{StampFault, constant, distance, dts_at};
 pub use stream_ids::{first_other, written_id};
 pub use unit_moments::{StampError, moved_unit, moved_units};
 pub use unit_taker::UnitTaker;

@@ -30,7 +30,7 @@ pub fn distance(from: u64, to: u64) -> u64
 
 /// The moment of a DTS after another one or after none.
 #[tactic(auto, unfolding(crate::specs::Stamps::dts_at))]
-pub(crate) fn dts_at(base: u64, before: Option<u64>, stamp: u64) -> u64
+pub fn dts_at(base: u64, before: Option<u64>, stamp: u64) -> u64
     requires base { base < 2 ^ 33 }
     requires before { IfSome before (λ dts. dts ≤ 2 ^ 52) }
     ensures value { result ≡ spec.dts_at base before stamp }

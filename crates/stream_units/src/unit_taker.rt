@@ -1,12 +1,13 @@
 //! The units of a PID, given as they become whole.
 
-ghost use Rattle.std.specs.Prelude.{◌≡◌, IfOk, OnOk, OnErr, true, false};
+ghost use Rattle.std.specs.Prelude.{◌≡◌, IfOk, OnOk, OnErr, None, true, false};
 ghost use Rattle.demux.specs.Shown.{finding_view};
 ghost use Rattle.stream_units.specs.CarriedUnits as units;
 ghost use Rattle.stream_units.specs.UnitSteps as spec;
 ghost use Rattle.stream_units.specs.Shown.{role_view, start_view};
 
 use crate::pes_role::{PesRole, UnitStart, role_of};
+use crate::unit::dts_of;
 use crate::wire_unit::WireUnit;
 use demux::Finding;
 use pes_packet::Unit;
@@ -131,6 +132,25 @@ impl<A: Allocator + Clone> UnitTaker<A> {
             }
             PesRole::Interruption(_) => Ok(ended(self.split, self.unit.take())),
         }
+    }
+
+    /// The packet in which the unit under way begins, and its DTS as it stands in the header, modulo 2^33.
+    #[tactic(auto, unfolding(crate::specs::UnitSteps::start_of))]
+    pub fn under_way(&self) -> Option<(u64, u64)>
+        ensures { result ≡ spec.start_of self.now.unit }
+    {
+        match &self.unit {
+            None => None,
+            Some(unit) => Some((unit.packet, dts_of(&unit.unit))),
+        }
+    }
+
+    /// The unit under way ends here, if there is one.
+    pub fn end(&mut self) -> Option<WireUnit<A>>
+        ensures given { result ≡ spec.ended_unit false self.old.unit }
+        ensures kept { self.new ≡ record self.old { unit = None } }
+    {
+        ended(false, self.unit.take())
     }
 
     /// The findings end: the last unit, if there is one.
