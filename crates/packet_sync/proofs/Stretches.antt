@@ -255,7 +255,7 @@ carried_slip bs size long is =
     carried_kept bs ∙ front_kept bs long ∙ kept_slip (length bs) bs size long is
     ∙ same_fuel (length bs) (length (drop size bs)) (drop size bs) fewer (omega arith) ∙ sym (carried_kept (drop size bs))
 
-carried_few : (bs : List ℕ) → length bs < 188 → carried bs ≡ bs
+pub carried_few : (bs : List ℕ) → length bs < 188 → carried bs ≡ bs
 carried_few bs short = carried_kept bs ∙ kept_short (length bs) bs short
 
 -- what is carried up to a place in the bytes that have come

@@ -1,5 +1,5 @@
 -- A stream whose bytes come piece by piece: what of them is carried, as far as those that have come tell it.
-use Rattle.std.specs.Prelude.{◌≡◌, ℕ, ◌+◌, ◌++◌, Bool, true, List, [], take, drop}
+use Rattle.std.specs.Prelude.{◌≡◌, ◌⊎◌, ℕ, ◌+◌, ◌*◌, ◌++◌, Bool, true, List, [], take, drop}
 use Rattle.packet_sync.specs.Slips.{carried}
 use Rattle.packet_sync.specs.declared.stretch.Stretch.{Stretch}
 
@@ -11,3 +11,7 @@ IsNextOf bytes more s = carried (bytes ++ more) ≡ take s.in_step bytes ++ carr
 -- where the stream has ended, no more bytes come
 abbrev pub IsStretch : List ℕ → Bool → Stretch → Type 0
 IsStretch bytes ended s = (more : List ℕ) → (ended ≡ true → more ≡ []) → IsNextOf bytes more s
+
+-- it is of whole packets, or of all bytes of a stream that has ended
+abbrev pub IsOfPackets : ℕ → Bool → Stretch → Type 0
+IsOfPackets size ended s = ((n : ℕ) × (s.in_step ≡ 188 * n)) ⊎ ((ended ≡ true) × (s.in_step ≡ size) × (s.slipped ≡ 0))

@@ -1,5 +1,5 @@
-use Rattle.std.proofs.Common.{◌≤◌, ◌+◌, length, arith}
-use Rattle.packet_sync.proofs.Stretches.{known_by, a_packet, no_packet, so_far_packet, next_slip, next_last}
+use Rattle.std.proofs.Common.{◌≡◌, ◌≤◌, suc, ◌+◌, ◌*◌, inl, inr, refl, length, arith}
+use Rattle.packet_sync.proofs.Stretches.{known_by, a_packet, no_packet, so_far_none, so_far_packet, next_slip, next_last}
 use Rattle.packet_sync.proofs.stretch.next_stretch.Goals as goal
 
 pub loop-at-preserved : goal.loop-at-preserved
@@ -10,6 +10,7 @@ loop-at-preserved c =
     let long = a_packet c.args.ended bs at c.decisive.result c.decisive.ensures i.within c.loop-at-test.true in
     record {
       within = long;
+      packets = (suc i.packets.0, omega (arith, i.packets.1));
       carried = λ more none. so_far_packet bs more at long (known_by c.args.ended bs more at c.decisive.result c.decisive.ensures i.within c.loop-at-test.true none)
           c.in-None.ensures.value (i.carried more none);
     }
@@ -31,3 +32,15 @@ returns-then-ended-clause-stretch c =
     let i = c.loop-at.invariant in
     let short = no_packet c.args.ended bs at c.decisive.result c.decisive.ensures c.if-ended.true c.loop-at-test.false in
     λ more none. next_last bs more at i.within short (none c.if-ended.true) (i.carried more none)
+
+pub loop-at-init : goal.loop-at-init
+loop-at-init c = record { within = omega arith; packets = (0, refl); carried = λ more none. so_far_none c.args.bytes.now more }
+
+pub returns-in-Some-clause-packets : goal.returns-in-Some-clause-packets
+returns-in-Some-clause-packets c = inl c.loop-at.invariant.packets
+
+pub returns-then-ended-clause-packets : goal.returns-then-ended-clause-packets
+returns-then-ended-clause-packets c = inr (c.if-ended.true, refl, refl)
+
+pub returns-else-ended-clause-packets : goal.returns-else-ended-clause-packets
+returns-else-ended-clause-packets c = inl c.loop-at.invariant.packets
