@@ -1,9 +1,10 @@
 -- The buffers that a decoder has for a stream (ISO/IEC 13818-1, 2.4.2): the rate out of its transport buffer in bits a second,
 -- and its main buffer in bytes, multiplex and elementary stream buffer together.
-use Rattle.std.specs.Prelude.{ℕ, ◌+◌, ◌*◌, ◌/◌, ◌==◌, nat_le, min, max, if◌then◌else◌}
+use Rattle.std.specs.Prelude.{ℕ, ◌+◌, ◌*◌, ◌/◌, ◌==◌, nat_le, min, max, if◌then◌else◌, List, find, Option, option_map}
 use Rattle.stream_coding.specs.declared.coding.Coding.{Coding}
 use Rattle.stream_coding.specs.declared.coding.Coding.TheVariants.{Mpeg, Avc, Hevc, Audio, Aac, Ac3, Subtitles, Teletext, Other}
 use Rattle.stream_coding.specs.declared.buffers.Buffers.{Buffers}
+use Rattle.stream_coding.specs.declared.buffers.PidBuffers.{PidBuffers}
 
 -- the bits of 4 ms for multiplexing and of a 750th of a second for headers, at a rate
 abbrev pub mux_bits : ℕ → ℕ
@@ -84,3 +85,7 @@ buffers_of Ac3 = record { rx = 2_000_000; main = 5_696 }
 buffers_of Subtitles = record { rx = 400_000; main = 24_576 }
 buffers_of Teletext = record { rx = 6_750_000; main = 1_504 }
 buffers_of Other = record { rx = 2_000_000; main = 65_536 }
+
+-- those that are given for a PID, the first where there are more
+unfoldable pub given_buffers : List PidBuffers → ℕ → Option Buffers
+given_buffers given pid = option_map (λ one. one.buffers) (find (λ one. one.pid == pid) given)

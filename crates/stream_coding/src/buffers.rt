@@ -172,3 +172,14 @@ pub fn buffers_of(coding: Coding) -> Buffers
         Coding::Other => fixed(2_000_000, 65_536),
     }
 }
+
+/// The buffers that are given for a PID: the first of them; none where there are none.
+#[tactic(auto, unfolding(crate::specs::Buffers::given_buffers))]
+pub fn given_buffers(given: &[PidBuffers], pid: u16) -> Option<Buffers>
+    ensures { result ≡ spec.given_buffers given.now pid }
+{
+    match given.iter().find(|one| one.pid == pid) {
+        Some(one) => Some(one.buffers),
+        None => None,
+    }
+}

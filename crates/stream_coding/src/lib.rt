@@ -10,5 +10,5 @@ mod coding;
 mod fields;
 
 pub use ac3::is_ac3;
-pub use buffers::{Buffers, PidBuffers, buffers_of};
+pub use buffers::{Buffers, PidBuffers, buffers_of, given_buffers};
 pub use coding::{Coding, coding_of};

@@ -12,7 +12,7 @@ use Rattle.stream_choice.specs.Ranges.{is_needs, are_max_packets}
 use Rattle.stream_choice.specs.Shares.{least_share, transport_delay}
 use Rattle.stream_choice.specs.declared.choice.Choice.{Choice}
 use Rattle.stream_choice.specs.declared.needs.Needs.{Needs}
-use Rattle.stream_coding.specs.Buffers.{buffers_of}
+use Rattle.stream_coding.specs.Buffers.{buffers_of, given_buffers}
 use Rattle.stream_coding.specs.Codings.{coding_of}
 use Rattle.stream_coding.specs.declared.buffers.Buffers.{Buffers}
 use Rattle.stream_coding.specs.declared.buffers.PidBuffers.{PidBuffers}
@@ -47,9 +47,6 @@ too_long streams = option_map units_refusal (find is_too_long streams)
 unfoldable pub first_bytes : List AccessUnit → List ℕ
 first_bytes [] = []
 first_bytes (u ∷ us) = u.bytes
-
-unfoldable pub given_buffers : List PidBuffers → ℕ → Option Buffers
-given_buffers given pid = option_map (λ one. one.buffers) (find (λ one. one.pid == pid) given)
 
 unfoldable pub buffers_for : List PidBuffers → TimedStreamView → Buffers
 buffers_for given s = unwrap_or (given_buffers given s.pid) (buffers_of (coding_of s.stream_type s.descriptors (first_bytes s.units)))

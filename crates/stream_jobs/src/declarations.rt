@@ -12,7 +12,7 @@ use pes_packet::greatest_size;
 use std::alloc::{AllocError, Global};
 use std::marker::Model;
 use stream_choice::Needs;
-use stream_coding::{Buffers, PidBuffers, buffers_of, coding_of};
+use stream_coding::{Buffers, PidBuffers, buffers_of, coding_of, given_buffers};
 use stream_units::{group_packets, max_unit_size, min_interval};
 
 /// The greatest number of programs, and of streams, in a description.
@@ -90,17 +90,6 @@ fn first_bytes(stream: &TimedStream) -> &[u8]
     match stream.units.first() {
         Some(unit) => unit.bytes.as_slice(),
         None => &[],
-    }
-}
-
-// The buffers that the options give for a PID.
-#[tactic(auto, unfolding(crate::specs::Declarations::given_buffers))]
-fn given_buffers(given: &[PidBuffers], pid: u16) -> Option<Buffers>
-    ensures { result ≡ spec.given_buffers given.now pid }
-{
-    match given.iter().find(|one| one.pid == pid) {
-        Some(one) => Some(one.buffers),
-        None => None,
     }
 }
 
