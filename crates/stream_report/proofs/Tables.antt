@@ -26,7 +26,7 @@ lines_none options index clocks t packet place p q = rw (p, q) refl
 -- where there are some
 pub taken_some : (options : ViewOptions) (index window : ℕ) (clocks : ClockEntries) (t : TableState) (packet : PacketView) (place : ℕ) (e : EntryState) →
     lookup (nat_eq packet.header.pid) t.places ≡ Some place → slice_get t.entries place ≡ Some e →
-    taken options index window clocks t packet ≡ record { places = t.places; entries = set t.entries place (entry_taken options index window clocks packet e) }
+    taken options index window clocks t packet ≡ record t { entries = set t.entries place (entry_taken options index window clocks packet e) }
 unfolding Rattle.stream_report.specs.StreamTables.taken_if Rattle.stream_report.specs.StreamTables.taken_at
 taken_some options index window clocks t packet place e p q = rw (p, q) refl
 

@@ -2,7 +2,6 @@
 use Rattle.std.specs.Prelude.{ℕ, ◌+◌, ◌/◌, is_some, unwrap_or, Bool, if◌then◌else◌, List, [], ◌∷◌, ◌++◌, codes, flat_map, Option, Some, None}
 use Rattle.pcr_errors.specs.declared.report.PcrError.{PcrError}
 use Rattle.pcr_errors.specs.declared.report.PcrReport.{PcrReport}
-use Rattle.pcr_errors.specs.declared.counts.PcrCounts.{PcrCounts}
 use Rattle.pcr_errors.specs.Counts.{rate_of}
 use Rattle.pcr_errors.specs.Errors.{accuracy_error, discontinuity_error, repetition_error}
 use Rattle.pcr_errors.specs.PidWatches.{WatchesState}

@@ -1,5 +1,6 @@
 pub mod ReportLines
 pub mod WindowLines
+pub mod Choices
 pub mod Clocks
 pub mod Tallies
 pub mod EntryLines

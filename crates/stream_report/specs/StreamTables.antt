@@ -1,5 +1,5 @@
 -- The streams whose buffers have begun.
-use Rattle.std.specs.Prelude.{◌≡◌, ℕ, ◌+◌, ◌&&◌, not, min, nat_eq, is_some, unwrap_or, Bool, if◌then◌else◌, List, [], ◌∷◌, ◌++◌, drop, length, set, slice_get, flat_map, Option, Some, None}
+use Rattle.std.specs.Prelude.{◌≡◌, ℕ, ◌+◌, ◌&&◌, not, nat_eq, is_some, unwrap_or, Bool, if◌then◌else◌, List, [], ◌∷◌, ◌++◌, drop, length, set, slice_get, flat_map, Option, Some, None}
 use Rattle.std.specs.List.{list_all}
 use Rattle.std.specs.Map.{lookup}
 use Rattle.indexmap.specs.IndexMap.{insert_entry}
@@ -7,7 +7,6 @@ use Rattle.ts_packet.specs.Views.{PacketView}
 use Rattle.stream_coding.specs.declared.coding.Coding.{Coding}
 use Rattle.stream_coding.specs.declared.buffers.Buffers.{Buffers}
 use Rattle.stream_coding.specs.Codings.{coding_of}
-use Rattle.stream_coding.specs.Buffers.{buffers_of}
 use Rattle.stream_programs.specs.Streams.{FoundStreamView}
 use Rattle.named_streams.specs.NamedStreams.{NamedView, stream_of}
 use Rattle.named_streams.specs.NamedStreams as naming
@@ -15,19 +14,21 @@ use Rattle.stream_buffers.specs.Held.{empty}
 use Rattle.stream_report.specs.declared.stream_entry.StreamEntry.{StreamEntry}
 use Rattle.stream_report.specs.declared.stream_table.StreamTable.{StreamTable}
 use Rattle.stream_report.specs.declared.view_options.ViewOptions.{ViewOptions}
+use Rattle.stream_report.specs.Choices.{ChoiceView, buffers_for, chosen}
 use Rattle.stream_report.specs.Clocks.{ClockEntries, clock_of}
 use Rattle.stream_report.specs.Entries.{EntryState, IsEntry, end_lines, entry_after, entry_lines, units_of}
 use Rattle.stream_report.specs.Entries.{is_good as entry_is_good}
 use Rattle.stream_report.specs.EntryLines.{stream_line}
 use Rattle.stream_report.specs.Tallies.{none_counted}
 
--- the place of each PID, and the streams
+-- which streams are viewed, the place of each PID, and the streams
 pub record TableState : Type 0 where
+  pub choice : ChoiceView
   pub places : List (ℕ × ℕ)
   pub entries : List EntryState
 
-abbrev pub no_streams : TableState
-no_streams = record { places = []; entries = [] }
+abbrev pub no_streams : ChoiceView → TableState
+no_streams choice = record { choice = choice; places = []; entries = [] }
 
 -- streams one by one
 unfoldable pub AreEntries : List StreamEntry → List EntryState → Type 0
@@ -37,6 +38,7 @@ AreEntries (entry ∷ more) [] = ⊥
 AreEntries (entry ∷ more) (e ∷ es) = IsEntry entry e × AreEntries more es
 
 pub record IsTable (table : StreamTable) (t : TableState) : Type 0 where
+  pub choice : table.choice ≡ t.choice
   pub places : table.places.entries ≡ t.places
   pub entries : AreEntries table.entries.items t.entries
 
@@ -56,13 +58,13 @@ abbrev pub coding_by : FoundStreamView → PacketView → Coding
 coding_by stream packet = coding_of stream.stream_type stream.descriptors (unit_in (unwrap_or packet.payload []))
 
 -- its buffers
-abbrev pub coded_buffers : Coding → Buffers
-coded_buffers coding = record { rx = min (buffers_of coding).rx 200000000; main = (buffers_of coding).main }
+abbrev pub stream_buffers : TableState → FoundStreamView → PacketView → Buffers
+stream_buffers t stream packet = buffers_for t.choice packet.header.pid (coding_by stream packet)
 
--- the stream whose buffers begin with a packet: the first that begins a PES packet of it once it is named
+-- the stream whose buffers begin with a packet: the first that begins a PES packet of it once it is named, of a program that is viewed
 abbrev pub beginning : NamedView → TableState → PacketView → Option FoundStreamView
 beginning named t packet =
-    if packet.header.payload_unit_start_indicator && not (is_some (lookup (nat_eq packet.header.pid) t.places)) then stream_of named packet.header.pid else None
+    if packet.header.payload_unit_start_indicator && not (is_some (lookup (nat_eq packet.header.pid) t.places)) then chosen t.choice (stream_of named packet.header.pid) else None
 
 abbrev pub new_entry : ViewOptions → ℕ → ℕ → Buffers → EntryState
 new_entry options pid clock_pid buffers = record {
@@ -74,22 +76,22 @@ new_entry options pid clock_pid buffers = record {
 }
 
 abbrev pub with_entry : TableState → ℕ → EntryState → TableState
-with_entry t pid e = record { places = insert_entry nat_eq t.places pid (length t.entries); entries = t.entries ++ e ∷ [] }
+with_entry t pid e = record t { places = insert_entry nat_eq t.places pid (length t.entries); entries = t.entries ++ e ∷ [] }
 
 unfoldable pub begun_if : ViewOptions → NamedView → TableState → PacketView → Option FoundStreamView → TableState
 begun_if options named t packet None = t
 begun_if options named t packet (Some stream) =
-    with_entry t packet.header.pid (new_entry options packet.header.pid (naming.clock_of named stream.program) (coded_buffers (coding_by stream packet)))
+    with_entry t packet.header.pid (new_entry options packet.header.pid (naming.clock_of named stream.program) (stream_buffers t stream packet))
 
 abbrev pub begun : ViewOptions → NamedView → TableState → PacketView → TableState
 begun options named t packet = begun_if options named t packet (beginning named t packet)
 
-unfoldable pub begin_lines_if : ViewOptions → ℕ → PacketView → Option FoundStreamView → List ℕ
-begin_lines_if options index packet None = []
-begin_lines_if options index packet (Some stream) = stream_line options index stream (coding_by stream packet) (coded_buffers (coding_by stream packet))
+unfoldable pub begin_lines_if : ViewOptions → ℕ → TableState → PacketView → Option FoundStreamView → List ℕ
+begin_lines_if options index t packet None = []
+begin_lines_if options index t packet (Some stream) = stream_line options index stream (coding_by stream packet) (stream_buffers t stream packet)
 
 abbrev pub begin_lines : ViewOptions → ℕ → NamedView → TableState → PacketView → List ℕ
-begin_lines options index named t packet = begin_lines_if options index packet (beginning named t packet)
+begin_lines options index named t packet = begin_lines_if options index t packet (beginning named t packet)
 
 -- 2. A packet enters the buffers of its PID, if there are any
 
@@ -99,7 +101,7 @@ entry_taken options index window clocks packet e = entry_after options index win
 unfoldable pub taken_at : ViewOptions → ℕ → ℕ → ClockEntries → TableState → PacketView → ℕ → Option EntryState → TableState
 taken_at options index window clocks t packet place None = t
 taken_at options index window clocks t packet place (Some e) =
-    record { places = t.places; entries = set t.entries place (entry_taken options index window clocks packet e) }
+    record t { entries = set t.entries place (entry_taken options index window clocks packet e) }
 
 unfoldable pub taken_if : ViewOptions → ℕ → ℕ → ClockEntries → TableState → PacketView → Option ℕ → TableState
 taken_if options index window clocks t packet None = t

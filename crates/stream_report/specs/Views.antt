@@ -5,7 +5,7 @@ use Rattle.ts_packet.specs.Views.{PacketView}
 use Rattle.ts_packet.specs.Reading.{packet_at}
 use Rattle.ts_packet.specs.Packets.{null_packet}
 use Rattle.stream_report.specs.declared.view.View.{View}
-use Rattle.stream_report.specs.declared.view_options.ViewOptions.{ViewOptions}
+use Rattle.stream_report.specs.Choices.{RequestView}
 use Rattle.stream_report.specs.Seen.{SeenState, clock_errors, counted, section_lines, end_line, next_window, nothing_seen, pid_ends, with_clock}
 use Rattle.stream_report.specs.Seen as seeing
 use Rattle.stream_report.specs.StreamTables.{IsTable, TableState, begin_lines, begun, has_stream, lines_of, no_streams, table_end, table_units, taken}
@@ -22,8 +22,8 @@ pub record IsView (view : View) (s : ViewState) : Type 0 where
   pub table : IsTable view.table s.table
 
 -- before the first packet
-abbrev pub start : ViewOptions → ViewState
-start options = record { seen = nothing_seen options; table = no_streams }
+abbrev pub start : RequestView → ViewState
+start request = record { seen = nothing_seen request.options; table = no_streams request.choice }
 
 -- a packet that can't be read, or says that it is wrong
 abbrev pub without : ViewState → ViewState

@@ -1,7 +1,8 @@
 //! The report on a stream, line by line as it comes: what an analyst asks first.
 //!
 //! - [`View`]: takes packets, and appends the lines that are settled to a text; `end` appends the last ones.
-//! - [`ViewOptions`]: the rate at which the packets arrive, the length of a window, and the form of the lines.
+//! - [`ViewRequest`]: what is asked of a stream, in two parts: [`ViewOptions`], the rate at which the packets arrive, the length of a
+//!   window, and the form of the lines; and [`ViewChoice`], the programs whose streams are viewed, and buffers that are given.
 //!
 //! A line is a word and fields, each a name and a number or a word: plain text with spaces between, or one JSON object.
 //! What is kept does not grow with the stream: the counts and the last clock reference of each PID, what the first packets
@@ -19,8 +20,12 @@ mod stream_table;
 mod table_watch;
 mod tally;
 mod view;
+mod view_choice;
 mod view_options;
+mod view_request;
 mod window_lines;
 
 pub use view::View;
+pub use view_choice::ViewChoice;
 pub use view_options::ViewOptions;
+pub use view_request::ViewRequest;

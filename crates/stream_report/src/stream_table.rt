@@ -2,6 +2,7 @@
 ghost use Rattle.std.specs.Prelude.{◌≡◌, ◌++◌, ◌≤◌, List, OnOk, flat_map, option_map, string_bytes};
 ghost use Rattle.std.specs.List.{list_all};
 ghost use Rattle.ts_packet.specs.Views.{packet_view};
+ghost use Rattle.stream_report.specs.Choices as choices;
 ghost use Rattle.stream_report.specs.StreamTables as spec;
 ghost use Rattle.stream_report.specs.Entries.{EntryState, IsEntry, end_lines, units_of};
 ghost use Rattle.stream_report.specs.Entries.{is_good as entry_is_good};
@@ -11,20 +12,22 @@ use crate::clocks::Clocks;
 use crate::entry_lines::write_stream;
 use crate::stream_entry::StreamEntry;
 use crate::tally::Tally;
+use crate::view_choice::ViewChoice;
 use crate::view_options::ViewOptions;
 use indexmap::IndexMap;
 use named_streams::NamedStreams;
 use std::alloc::{AllocError, Global};
 use std::hash::{BuildHasherDefault, FoldHasher};
 use stream_buffers::StreamBuffers;
-use stream_coding::{Buffers, Coding, buffers_of, coding_of};
+use stream_coding::{Buffers, Coding, coding_of};
 use stream_programs::FoundStream;
 use ts_packet::Packet;
 
-/// The streams whose buffers have begun, and the place of each PID among them.
+/// Which streams are viewed; those whose buffers have begun, and the place of each PID among them.
 #[derive(Drop)]
 pub struct StreamTable {
     alloc: Global,
+    choice: ViewChoice,
     places: IndexMap<u16, usize, BuildHasherDefault<FoldHasher>, Global>,
     entries: Vec<StreamEntry>,
 }
@@ -50,14 +53,16 @@ fn coding_by(stream: &FoundStream, packet: &Packet<'_>) -> Coding
     coding_of(stream.stream_type, &stream.descriptors, unit_in(payload))
 }
 
-// Its buffers.
-fn coded_buffers(coding: Coding) -> Buffers
-    ensures { result ≡ spec.coded_buffers coding }
+// A stream, where its program is viewed.
+#[tactic(auto, unfolding(crate::specs::Choices::chosen))]
+fn chosen<'n>(choice: &ViewChoice, stream: Option<&'n FoundStream>) -> Option<&'n FoundStream>
+    ensures { option_map (λ s. s.now) result ≡ choices.chosen choice.now (option_map (λ s. s.now) stream.entry) }
 {
-    let buffers = buffers_of(coding);
-    Buffers {
-        rx: buffers.rx.min(200_000_000),
-        main: buffers.main,
+    let stream = stream?;
+    if choice.takes(stream.program) {
+        Some(stream)
+    } else {
+        None
     }
 }
 
@@ -126,11 +131,12 @@ fn are_good(entries: &[StreamEntry]) -> bool
 impl StreamTable {
     /// None has begun.
     #[tactic(auto, unfolding(crate::specs::StreamTables::AreEntries))]
-    pub fn new(alloc: Global) -> StreamTable
-        ensures { IsTable result spec.no_streams }
+    pub fn new(alloc: Global, choice: ViewChoice) -> StreamTable
+        ensures { IsTable result (spec.no_streams choice) }
     {
         StreamTable {
             alloc,
+            choice,
             places: IndexMap::new(alloc),
             entries: Vec::new(alloc),
         }
@@ -144,7 +150,7 @@ impl StreamTable {
         if packet.header.payload_unit_start_indicator
             && self.places.get(&packet.header.pid).is_none()
         {
-            named.stream(packet.header.pid)
+            chosen(&self.choice, named.stream(packet.header.pid))
         } else {
             None
         }
@@ -161,7 +167,7 @@ impl StreamTable {
     }
 
     /// The buffers of a packet's stream begin with it, if the packet is the first that begins a PES packet of a stream that
-    /// is named.
+    /// is named, of a program that is viewed.
     #[tactic(auto, unfolding(crate::specs::StreamTables::begun_if, crate::specs::StreamTables::begin_lines_if))]
     pub fn begin(
         &mut self,
@@ -180,7 +186,7 @@ impl StreamTable {
             return Ok(());
         };
         let coding = coding_by(stream, packet);
-        let buffers = coded_buffers(coding);
+        let buffers = self.choice.buffers_for(packet.header.pid, coding);
         write_stream(text, options, index, stream, coding, buffers)?;
         let clock_pid = named.clock_pid(stream.program);
         let entry = new_entry(self.alloc, options, packet.header.pid, clock_pid, buffers);

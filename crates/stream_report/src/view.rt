@@ -9,7 +9,7 @@ ghost use Rattle.stream_report.specs.Views.{IsView, ViewState};
 
 use crate::seen::Seen;
 use crate::stream_table::StreamTable;
-use crate::view_options::ViewOptions;
+use crate::view_request::ViewRequest;
 use crate::window_lines::write_window;
 use std::alloc::{AllocError, Global};
 use ts_packet::{Packet, PacketError, null_packet, read_packet};
@@ -25,12 +25,12 @@ pub struct View {
 
 impl View {
     /// Before the first packet.
-    pub fn new(alloc: Global, options: ViewOptions) -> View
-        ensures { IsView result (spec.start options) }
+    pub fn new(alloc: Global, request: ViewRequest) -> View
+        ensures { IsView result (spec.start request) }
     {
         View {
-            seen: Seen::new(alloc, options),
-            table: StreamTable::new(alloc),
+            seen: Seen::new(alloc, request.options),
+            table: StreamTable::new(alloc, request.choice),
         }
     }
 

@@ -1,20 +1,20 @@
 -- The command line is one of which `clap` says what it reads.
-use Rattle.std.proofs.Common.{◌≡◌, true, List, [], ◌∷◌, refl, sym, subst, Option, None, Result, Ok, Err}
+use Rattle.std.proofs.Common.{◌≡◌, true, List, [], ◌∷◌, ap, refl, sym, subst, ◌∙◌, Option, None, Result, Ok, Err}
 use Rattle.std.specs.Prelude.{IfOk}
-use Rattle.clap.specs.Words.{App, FailsBy, HasMatchesOf, IsAmong, Kinds, Text, fault_of, found_of, is_simple, is_simple_and_free, matches_of, rows_of}
+use Rattle.clap.specs.Words.{App, FailsBy, HasMatchesOf, IsAmong, Kinds, Row, Text, fault_of, found_of, is_simple, is_simple_and_free, matches_of, rows_of}
 use Rattle.clap.specs.declared.error.Error.{Error}
 use Rattle.clap.specs.declared.error.kind.ErrorKind.{ErrorKind}
 use Rattle.clap.specs.declared.parser.matches.ArgMatches.{ArgMatches}
-use Rattle.stream_report.specs.declared.view_options.ViewOptions.{ViewOptions}
-use Rattle.tsview_cli.specs.Arguments.{unless_faulty}
+use Rattle.stream_report.specs.Choices.{RequestView}
+use Rattle.tsview_cli.specs.Arguments.{request_of, unless_faulty}
 use Rattle.tsview_cli.specs.CommandLine.{tsview_app}
 
 pub simple : is_simple tsview_app ≡ true
-unfolding tsview_app
+unfolding tsview_app Rattle.tsview_cli.specs.CommandLine.options_app
 simple = refl
 
 pub simple_and_free : is_simple_and_free tsview_app ≡ true
-unfolding tsview_app
+unfolding tsview_app Rattle.tsview_cli.specs.CommandLine.options_app
 simple_and_free = refl
 
 pub matched : {E : Type 0} (app : App) (words : List Text) (r : Result ArgMatches E) → is_simple app ≡ true → IfOk r (HasMatchesOf app words) →
@@ -27,11 +27,16 @@ pub faulty : {T : Type 0} (app : App) (words : List Text) (r : Result T Error) �
 faulty app words r e h = subst (λ (a : App). FailsBy (fault_of a words) r) e (h (subst (λ (a : App). is_simple_and_free a ≡ true) (sym e) simple_and_free))
 
 -- words without a fault, and with one
-pub faultless : (faults : Kinds) (asked : Option ViewOptions) → faults ≡ [] → asked ≡ unless_faulty faults asked
+faultless : (faults : Kinds) (asked : Option RequestView) → faults ≡ [] → unless_faulty faults asked ≡ asked
 unfolding unless_faulty
 faultless faults asked e = rw e refl
 
-pub refused : (k : ErrorKind) (faults : Kinds) (asked : Option ViewOptions) → IsAmong k faults → unless_faulty faults asked ≡ None
+pub accepted : {E : Type 0} (faults : Kinds) (rows found : List Row) (r : Result (Option RequestView) E) → rows ≡ found → faults ≡ [] → IfOk r (λ a. a ≡ request_of rows) →
+    IfOk r (λ a. a ≡ unless_faulty faults (request_of found))
+accepted faults rows found (Ok a) e f h = h ∙ ap request_of e ∙ sym (faultless faults (request_of found) f)
+accepted faults rows found (Err x) e f h = tt
+
+pub refused : (k : ErrorKind) (faults : Kinds) (asked : Option RequestView) → IsAmong k faults → unless_faulty faults asked ≡ None
 unfolding unless_faulty
 refused k [] asked i = absurd i
 refused k (f ∷ faults) asked i = refl

@@ -3,7 +3,10 @@ use Rattle.std.specs.Prelude.{ℕ, Bool, List, [], ◌∷◌, Option, Some, None
 use Rattle.std.specs.Borrow.{Bor}
 use Rattle.clap.specs.Words.{Kinds, Row, Text, fault_of, first_of, matches_of}
 use Rattle.devices.specs.Options.{is_given, number_given, number_option}
+use Rattle.option_lists.specs.Lists.{buffer_list, number_list}
+use Rattle.stream_coding.specs.declared.buffers.PidBuffers.{PidBuffers}
 use Rattle.stream_report.specs.declared.view_options.ViewOptions.{ViewOptions}
+use Rattle.stream_report.specs.Choices.{RequestView}
 use Rattle.tsview_cli.specs.CommandLine.{tsview_app}
 
 -- the least and the greatest numbers: of a rate in bits a second, and of the length of a window in milliseconds
@@ -31,14 +34,31 @@ options_of rows =
     (number_option least_window greatest_window 1000 (first_of (codes "window") rows)))
     (number_given least_rate greatest_rate (first_of (codes "rate") rows))
 
-unfoldable pub unless_faulty : Kinds → Option ViewOptions → Option ViewOptions
+-- which streams are viewed, and with which buffers: programs up to 65,535
+abbrev pub greatest_program : ℕ
+greatest_program = 65535
+
+abbrev pub request : ViewOptions → List ℕ → List PidBuffers → RequestView
+request options programs buffers = record { options = options; choice = record { programs = programs; buffers = buffers } }
+
+unfoldable pub request_of : List Row → Option RequestView
+request_of rows =
+    option_and_then (λ options.
+    option_and_then (λ programs.
+    option_and_then (λ buffers.
+    Some (request options programs buffers))
+    (buffer_list (first_of (codes "buffers") rows)))
+    (number_list greatest_program (first_of (codes "program") rows)))
+    (options_of rows)
+
+unfoldable pub unless_faulty : Kinds → Option RequestView → Option RequestView
 unless_faulty [] asked = asked
 unless_faulty (k ∷ ks) asked = None
 
 -- what the words ask for, none where they are a usage error
-abbrev pub asked_in : List Text → Option ViewOptions
-asked_in words = unless_faulty (fault_of tsview_app words) (options_of (matches_of tsview_app words))
+abbrev pub asked_in : List Text → Option RequestView
+asked_in words = unless_faulty (fault_of tsview_app words) (request_of (matches_of tsview_app words))
 
 -- the same of words in memory
-abbrev pub asked : List (Bor (List ℕ)) → Option ViewOptions
+abbrev pub asked : List (Bor (List ℕ)) → Option RequestView
 asked words = asked_in (map (λ s. s.now) words)

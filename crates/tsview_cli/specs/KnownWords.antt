@@ -2,31 +2,42 @@
 use Rattle.std.specs.Prelude.{ℕ, Bool, true, false, if◌then◌else◌, Option, Some, None, codes, is_some, option_and_then}
 use Rattle.std.specs.Str.{bytes_eq}
 use Rattle.devices.specs.Options.{decimal, within}
+use Rattle.option_lists.specs.Lists.{buffer_list, number_list}
 use Rattle.word_faults.specs.CommandLine.{CommandLine, Text}
-use Rattle.tsview_cli.specs.Arguments.{least_rate, greatest_rate, least_window, greatest_window}
+use Rattle.tsview_cli.specs.Arguments.{least_rate, greatest_rate, least_window, greatest_window, greatest_program}
+use Rattle.tsview_cli.specs.declared.known_words.ValueKind.{ValueKind}
+use Rattle.tsview_cli.specs.declared.known_words.ValueKind.TheVariants.{Number, Numbers, Buffers}
 
--- the least and the greatest number of an option, none where it takes no number
-unfoldable pub range_of : Text → Option (ℕ × ℕ)
-range_of option =
-    if bytes_eq option (codes "--rate") then Some (least_rate, greatest_rate)
-    else (if bytes_eq option (codes "--window") then Some (least_window, greatest_window) else None)
+-- the values of an option, none where it takes none
+unfoldable pub kind_of : Text → Option ValueKind
+kind_of option =
+    if bytes_eq option (codes "--rate") then Some (Number least_rate greatest_rate)
+    else (if bytes_eq option (codes "--window") then Some (Number least_window greatest_window)
+    else (if bytes_eq option (codes "--program") then Some (Numbers greatest_program)
+    else (if bytes_eq option (codes "--buffers") then Some Buffers else None)))
 
 abbrev pub is_flag : Text → Bool
 is_flag option = bytes_eq option (codes "--json")
 
-abbrev pub takes_by : Option (ℕ × ℕ) → Bool → Option Bool
-takes_by (Some range) flag = Some true
+abbrev pub takes_by : Option ValueKind → Bool → Option Bool
+takes_by (Some kind) flag = Some true
 takes_by None flag = if flag then Some false else None
 
-abbrev pub reads_by : Option (ℕ × ℕ) → Text → Bool
+-- a value of this kind
+unfoldable pub is_value : ValueKind → Text → Bool
+is_value (Number low high) value = is_some (option_and_then (within low high) (decimal value))
+is_value (Numbers most) value = is_some (number_list most (Some value))
+is_value Buffers value = is_some (buffer_list (Some value))
+
+abbrev pub reads_by : Option ValueKind → Text → Bool
 reads_by None value = false
-reads_by (Some range) value = is_some (option_and_then (within range.0 range.1) (decimal value))
+reads_by (Some kind) value = is_value kind value
 
 -- the rate has to be given
 abbrev pub known_words : CommandLine
 known_words = record {
-  takes_value = λ option. takes_by (range_of option) (is_flag option);
-  reads = λ option value. reads_by (range_of option) value;
+  takes_value = λ option. takes_by (kind_of option) (is_flag option);
+  reads = λ option value. reads_by (kind_of option) value;
   is_word = λ word. false;
   required = Some (codes "--rate");
 }

@@ -10,4 +10,6 @@ usage_text = concat
     ∷ codes "  --rate " ∷ range_text least_rate greatest_rate ∷ codes "       the rate of the stream in bits a second\n"
     ∷ codes "  --window " ∷ range_text least_window greatest_window ∷ codes "           the length of a window in ms; else 1000\n"
     ∷ codes "  --json                         a JSON object a line\n"
+    ∷ codes "  --program N,..                 view the streams of these programs alone\n"
+    ∷ codes "  --buffers PID:RX:MAIN,..       buffers of a PID, in bits a second and bytes\n"
     ∷ codes "  --version                      alone: the version, and the kit that proved it\n" ∷ [])

@@ -1,7 +1,7 @@
 -- A stream that is viewed as it comes: the lines that each piece of it settles are written before the next is read.
 use Rattle.std.specs.Prelude.{◌≡◌, ◌⊎◌, ℕ, ◌%◌, Bool, if◌then◌else◌, List, ◌++◌, length, Option, Some, Result, Ok, Err}
 use Rattle.ts_packet.specs.PidList.{cut_packets}
-use Rattle.stream_report.specs.declared.view_options.ViewOptions.{ViewOptions}
+use Rattle.stream_report.specs.Choices.{RequestView}
 use Rattle.stream_report.specs.declared.view.View.{View}
 use Rattle.stream_report.specs.Views.{IsView, ViewState, start, after_all, lines_all, end_lines, is_good}
 use Rattle.devices.specs.Devices.{Device, HasFailed, IsClean, Takes}
@@ -15,25 +15,25 @@ use Rattle.devices.specs.declared.halt.Halt.TheVariants.{Read, Write, Memory}
 -- 1. The lines of a stream
 
 -- what is kept of a stream, and the lines that its packets settle
-abbrev pub kept_of : ViewOptions → List ℕ → ViewState
-kept_of options bytes = after_all (start options) (cut_packets bytes)
+abbrev pub kept_of : RequestView → List ℕ → ViewState
+kept_of request bytes = after_all (start request) (cut_packets bytes)
 
-abbrev pub settled : ViewOptions → List ℕ → List ℕ
-settled options bytes = lines_all (start options) (cut_packets bytes)
+abbrev pub settled : RequestView → List ℕ → List ℕ
+settled request bytes = lines_all (start request) (cut_packets bytes)
 
 -- the bytes that are left after the last whole packet
 abbrev pub left_in : List ℕ → ℕ
 left_in bytes = length bytes % 188
 
 -- all lines, with those at its end; the status 1 where something is wrong
-abbrev pub all_lines : ViewOptions → List ℕ → List ℕ
-all_lines options bytes = settled options bytes ++ end_lines (kept_of options bytes) (left_in bytes)
+abbrev pub all_lines : RequestView → List ℕ → List ℕ
+all_lines request bytes = settled request bytes ++ end_lines (kept_of request bytes) (left_in bytes)
 
-abbrev pub viewed : ViewOptions → List ℕ → Outcome
-viewed options bytes = printed (all_lines options bytes) (if is_good (kept_of options bytes) (left_in bytes) then 0 else 1)
+abbrev pub viewed : RequestView → List ℕ → Outcome
+viewed request bytes = printed (all_lines request bytes) (if is_good (kept_of request bytes) (left_in bytes) then 0 else 1)
 
-abbrev pub Leads : ViewOptions → List ℕ → Outcome → Type 0
-Leads options bytes outcome = outcome ≡ viewed options bytes
+abbrev pub Leads : RequestView → List ℕ → Outcome → Type 0
+Leads request bytes outcome = outcome ≡ viewed request bytes
 
 -- 2. As far as it came
 
@@ -61,36 +61,36 @@ pub record Breaks (first : ViewState) (input output : Device) (halt : Halt) : Ty
   pub at : BreaksAt (lines_all first (cut_packets bytes)) input output halt
 
 -- the same, or all lines of the input that was read to its end
-abbrev pub IsText : ViewOptions → Device → List ℕ → List ℕ → Type 0
-IsText options input bytes text = (text ≡ settled options bytes) ⊎ ((text ≡ all_lines options bytes) × ReadsInput input (Ok bytes))
+abbrev pub IsText : RequestView → Device → List ℕ → List ℕ → Type 0
+IsText request input bytes text = (text ≡ settled request bytes) ⊎ ((text ≡ all_lines request bytes) × ReadsInput input (Ok bytes))
 
-pub record BreaksOff (options : ViewOptions) (input output : Device) (halt : Halt) : Type 0 where
+pub record BreaksOff (request : RequestView) (input output : Device) (halt : Halt) : Type 0 where
   pub bytes : List ℕ
   pub front : BeginsWith input.before.bytes bytes
   pub text : List ℕ
-  pub text_is : IsText options input bytes text
+  pub text_is : IsText request input bytes text
   pub at : BreaksAt text input output halt
 
 -- 3. A run
 
 -- all lines are written
-pub record SeesAll (options : ViewOptions) (input output : Device) (good : Bool) : Type 0 where
+pub record SeesAll (request : RequestView) (input output : Device) (good : Bool) : Type 0 where
   pub bytes : List ℕ
   pub read : ReadsInput input (Ok bytes)
-  pub written : Takes output (all_lines options bytes)
+  pub written : Takes output (all_lines request bytes)
   pub clean : IsClean output
-  pub good_is : good ≡ is_good (kept_of options bytes) (left_in bytes)
+  pub good_is : good ≡ is_good (kept_of request bytes) (left_in bytes)
 
-abbrev pub Sees : ViewOptions → Device → Device → Result Bool Halt → Type 0
-Sees options input output (Ok good) = SeesAll options input output good
-Sees options input output (Err halt) = BreaksOff options input output halt
+abbrev pub Sees : RequestView → Device → Device → Result Bool Halt → Type 0
+Sees request input output (Ok good) = SeesAll request input output good
+Sees request input output (Err halt) = BreaksOff request input output halt
 
 -- it ended early, and the line that says why is told
-pub record EndsEarly (options : ViewOptions) (input output faults : Device) (status : ℕ) : Type 0 where
+pub record EndsEarly (request : RequestView) (input output faults : Device) (status : ℕ) : Type 0 where
   pub halt : Halt
-  pub breaks : BreaksOff options input output halt
+  pub breaks : BreaksOff request input output halt
   pub reports : Reports faults (halt_line halt)
   pub status_is : status ≡ 3
 
-abbrev pub Views : ViewOptions → Device → Device → Device → ℕ → Type 0
-Views options input output faults status = Ends (Leads options) input output faults status ⊎ EndsEarly options input output faults status
+abbrev pub Views : RequestView → Device → Device → Device → ℕ → Type 0
+Views request input output faults status = Ends (Leads request) input output faults status ⊎ EndsEarly request input output faults status

@@ -9,8 +9,9 @@ use clap::ArgMatches;
 use clap::error::ErrorKind;
 use clock27::Rate;
 use devices::{is_given, number_given, number_option, text_of};
+use option_lists::{buffer_list, number_list};
 use std::alloc::{AllocError, Global};
-use stream_report::ViewOptions;
+use stream_report::{ViewChoice, ViewOptions, ViewRequest};
 
 // The values of the options; none where one is out of its range.
 #[tactic(auto, unfolding(crate::specs::Arguments::options_of))]
@@ -29,15 +30,33 @@ fn options_of(matches: &ArgMatches<'_>) -> Option<ViewOptions>
     })
 }
 
+// With the options that are lists.
+#[tactic(auto, unfolding(crate::specs::Arguments::request_of))]
+fn request_of(alloc: Global, matches: &ArgMatches<'_>) -> Result<Option<ViewRequest>, AllocError>
+    ensures { IfOk result (λ r. r ≡ spec.request_of (rows_of (found_of matches.now))) }
+{
+    let Some(options) = options_of(matches) else {
+        return Ok(None);
+    };
+    let Some(programs) = number_list(alloc, 65_535, text_of(matches, "program"))? else {
+        return Ok(None);
+    };
+    let Some(buffers) = buffer_list(alloc, text_of(matches, "buffers"))? else {
+        return Ok(None);
+    };
+    let choice = ViewChoice { programs, buffers };
+    Ok(Some(ViewRequest { options, choice }))
+}
+
 /// What the words ask for; none where they are a usage error.
 pub(crate) fn read_arguments(
     alloc: Global,
     words: &[&str],
-) -> Result<Option<ViewOptions>, AllocError>
+) -> Result<Option<ViewRequest>, AllocError>
     ensures { IfOk result (λ r. r ≡ spec.asked words.now) }
 {
     match matches_for(alloc, words) {
-        Ok(matches) => Ok(options_of(&matches)),
+        Ok(matches) => request_of(alloc, &matches),
         Err(error) => match error.kind() {
             ErrorKind::OutOfMemory => Err(AllocError),
             _ => Ok(None),

@@ -9,7 +9,7 @@ use devices::{flag, option};
 use std::alloc::{AllocError, Global};
 
 // The program's command line.
-#[tactic(auto, unfolding(crate::specs::CommandLine::tsview_app))]
+#[tactic(auto, unfolding(crate::specs::CommandLine::options_app, crate::specs::CommandLine::tsview_app))]
 fn tsview<'a>(alloc: Global) -> Result<Command<'a>, AllocError>
     ensures { IfOk result (λ c. app_of c ≡ tsview_app) }
 {
@@ -17,7 +17,9 @@ fn tsview<'a>(alloc: Global) -> Result<Command<'a>, AllocError>
         .no_binary_name(true)
         .arg(option(alloc, "rate"))?
         .arg(option(alloc, "window"))?
-        .arg(flag(alloc, "json"))
+        .arg(flag(alloc, "json"))?
+        .arg(option(alloc, "program"))?
+        .arg(option(alloc, "buffers"))
 }
 
 /// The values of the options in the words.

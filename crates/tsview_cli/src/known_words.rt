@@ -1,8 +1,9 @@
 //! The options that the program knows, and the values that each takes.
-ghost use Rattle.std.specs.Prelude.{◌≡◌};
+ghost use Rattle.std.specs.Prelude.{◌≡◌, IfOk};
 ghost use Rattle.tsview_cli.specs.KnownWords as spec;
 
 use devices::number_in;
+use option_lists::{buffer_list, number_list};
 use std::alloc::{AllocError, Global};
 use word_faults::CommandLine;
 
@@ -10,15 +11,40 @@ use word_faults::CommandLine;
 #[derive(Clone, Copy)]
 pub(crate) struct KnownWords;
 
-// The least and the greatest number of an option; none where it takes no number.
-#[tactic(auto, unfolding(crate::specs::KnownWords::range_of))]
-fn range_of(option: &str) -> Option<(u64, u64)>
-    ensures { result ≡ spec.range_of option.now }
+/// The values of an option.
+#[derive(Clone, Copy)]
+pub enum ValueKind {
+    /// A number of this range.
+    Number(u64, u64),
+    /// Numbers up to this one, with commas between them.
+    Numbers(u16),
+    /// `PID:RX:MAIN,..`
+    Buffers,
+}
+
+// The values of an option; none where it takes none.
+#[tactic(auto, unfolding(crate::specs::KnownWords::kind_of))]
+fn kind_of(option: &str) -> Option<ValueKind>
+    ensures { result ≡ spec.kind_of option.now }
 {
     match option {
-        "--rate" => Some((100_000, 100_000_000)),
-        "--window" => Some((10, 3_600_000)),
+        "--rate" => Some(ValueKind::Number(100_000, 100_000_000)),
+        "--window" => Some(ValueKind::Number(10, 3_600_000)),
+        "--program" => Some(ValueKind::Numbers(65_535)),
+        "--buffers" => Some(ValueKind::Buffers),
         _ => None,
+    }
+}
+
+// Whether a text is a value of this kind.
+#[tactic(auto, unfolding(crate::specs::KnownWords::is_value))]
+fn is_value(alloc: Global, kind: ValueKind, value: &str) -> Result<bool, AllocError>
+    ensures { IfOk result (λ b. b ≡ spec.is_value kind value.now) }
+{
+    match kind {
+        ValueKind::Number(low, high) => Ok(number_in(value, low, high).is_some()),
+        ValueKind::Numbers(most) => Ok(number_list(alloc, most, Some(value))?.is_some()),
+        ValueKind::Buffers => Ok(buffer_list(alloc, Some(value))?.is_some()),
     }
 }
 
@@ -26,18 +52,18 @@ impl CommandLine for KnownWords {
     ghost known = { λ _. spec.known_words };
 
     fn takes_value(self, option: &str) -> Option<bool> {
-        match range_of(option) {
+        match kind_of(option) {
             Some(_) => Some(true),
             None if option == "--json" => Some(false),
             None => None,
         }
     }
 
-    fn reads(self, _alloc: Global, option: &str, value: &str) -> Result<bool, AllocError> {
-        let Some((least, greatest)) = range_of(option) else {
-            return Ok(false);
-        };
-        Ok(number_in(value, least, greatest).is_some())
+    fn reads(self, alloc: Global, option: &str, value: &str) -> Result<bool, AllocError> {
+        match kind_of(option) {
+            Some(kind) => is_value(alloc, kind, value),
+            None => Ok(false),
+        }
     }
 
     fn is_word(self, _word: &str) -> bool {

@@ -5,7 +5,7 @@ ghost use Rattle.devices.specs.Devices.{reads, writes};
 ghost use Rattle.devices.specs.Lines.{Reports};
 ghost use Rattle.devices.specs.Runs.{LacksMemory};
 ghost use Rattle.devices.specs.Usage.{TellsUsage};
-ghost use Rattle.stream_report.specs.declared.view_options.ViewOptions.{ViewOptions};
+ghost use Rattle.stream_report.specs.Choices.{RequestView};
 ghost use Rattle.tsview_cli.specs.Arguments.{asked};
 ghost use Rattle.tsview_cli.specs.KnownWords.{known_words};
 ghost use Rattle.tsview_cli.specs.UsageText.{usage_text};
@@ -18,7 +18,7 @@ use crate::viewing::view_input;
 use counted_io::{Sink, Source};
 use devices::{Halt, report_halt, report_text};
 use std::alloc::Global;
-use stream_report::ViewOptions;
+use stream_report::ViewRequest;
 use word_faults::answer_other_words;
 
 /// The usage, written to the second writer on a usage error.
@@ -26,6 +26,8 @@ const USAGE: &str = "usage: tsview --rate R [OPTIONS] < PACKETS
   --rate 100000..100000000       the rate of the stream in bits a second
   --window 10..3600000           the length of a window in ms; else 1000
   --json                         a JSON object a line
+  --program N,..                 view the streams of these programs alone
+  --buffers PID:RX:MAIN,..       buffers of a PID, in bits a second and bytes
   --version                      alone: the version, and the kit that proved it
 ";
 
@@ -55,15 +57,15 @@ fn status_of(good: bool) -> u8
 // Views the input, and returns the status.
 fn view_stream<R: Source, W: Sink, E: Sink>(
     alloc: Global,
-    options: ViewOptions,
+    request: ViewRequest,
     input: &mut R,
     output: &mut W,
     faults: &mut E,
 ) -> u8
-    ensures { Views options (reads R.Source input.old input.new) (writes W.Sink output.old output.new)
+    ensures { Views request (reads R.Source input.old input.new) (writes W.Sink output.old output.new)
         (writes E.Sink faults.old faults.new) result }
 {
-    match view_input(alloc, options, input, output) {
+    match view_input(alloc, request, input, output) {
         Ok(good) => status_of(good),
         Err(halt) => report_halt(faults, halt),
     }
@@ -80,8 +82,8 @@ pub fn run<R: Source, W: Sink, E: Sink>(
     faults: &mut E,
 ) -> u8
     // A transport stream, as it comes, to the lines of its report.
-    ensures view { (o : ViewOptions) → asked words.now ≡ Some o →
-        Views o (reads R.Source input.old input.new) (writes W.Sink output.old output.new)
+    ensures view { (r : RequestView) → asked words.now ≡ Some r →
+        Views r (reads R.Source input.old input.new) (writes W.Sink output.old output.new)
         (writes E.Sink faults.old faults.new) result }
     // `--version` alone.
     ensures version { asked words.now ≡ None → is_version (map (λ s. s.now) words.now) ≡ true →
@@ -96,7 +98,7 @@ pub fn run<R: Source, W: Sink, E: Sink>(
         (writes E.Sink faults.old faults.new) result }
 {
     match read_arguments(alloc, words) {
-        Ok(Some(options)) => view_stream(alloc, options, input, output, faults),
+        Ok(Some(request)) => view_stream(alloc, request, input, output, faults),
         Ok(None) => {
             answer_other_words(alloc, "tsview", KnownWords, words, usage(), output, faults)
         }

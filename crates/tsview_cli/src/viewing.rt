@@ -5,13 +5,13 @@ ghost use Rattle.stream_report.specs.Views.{IsView, ViewState, after_all, end_li
 ghost use Rattle.devices.specs.Devices.{reads, writes};
 ghost use Rattle.devices.specs.Lines.{WritesLine};
 ghost use Rattle.devices.specs.WholeInput.{ReadsNext, TakesInput, longest_input};
-ghost use Rattle.stream_report.specs.declared.view_options.ViewOptions.{ViewOptions};
+ghost use Rattle.stream_report.specs.Choices.{RequestView};
 ghost use Rattle.tsview_cli.specs.Viewing.{Breaks, Seen, Sees};
 
 use counted_io::{Sink, Source, read_part};
 use devices::{Halt, write_text};
 use std::alloc::Global;
-use stream_report::{View, ViewOptions};
+use stream_report::{View, ViewRequest};
 
 /// The size of a piece in bytes: 348 packets, somewhat less than 64 KiB.
 const PIECE: usize = 348 * 188;
@@ -136,8 +136,8 @@ fn view_whole<R: Source, W: Sink>(
     requires bound { length piece.old ≤ 2 ^ 32 }
     requires whole { length piece.old % 188 ≡ 0 }
     requires text { string_bytes text.old ≡ [] }
-    ensures { (o : ViewOptions) → IsView view.old (start o) →
-        Sees o (reads R.Source input.old input.new) (writes W.Sink output.old output.new) result }
+    ensures { (r : RequestView) → IsView view.old (start r) →
+        Sees r (reads R.Source input.old input.new) (writes W.Sink output.old output.new) result }
 {
     let size = match view_pieces(input, output, piece, view, text) {
         Ok(size) => size,
@@ -156,17 +156,17 @@ fn view_whole<R: Source, W: Sink>(
 /// Views the input, and writes all its lines; returns whether nothing is wrong in it.
 pub(crate) fn view_input<R: Source, W: Sink>(
     alloc: Global,
-    options: ViewOptions,
+    request: ViewRequest,
     input: &mut R,
     output: &mut W,
 ) -> Result<bool, Halt>
-    ensures { Sees options (reads R.Source input.old input.new) (writes W.Sink output.old output.new) result }
+    ensures { Sees request (reads R.Source input.old input.new) (writes W.Sink output.old output.new) result }
 {
     let mut piece = match new_piece(alloc) {
         Ok(piece) => piece,
         Err(halt) => return Err(halt),
     };
-    let mut view = View::new(alloc, options);
+    let mut view = View::new(alloc, request);
     let mut text = String::new(alloc);
     let result = view_whole(input, output, &mut piece, &mut view, &mut text);
     // By a call: at the end of a function the drop of each part would be a step of its proof.

@@ -45,6 +45,7 @@ returns-clause-table c = λ t k.
     (c.take.ensures.entry s.entry s.is) in
     let last = taken_some c.args.options.now c.args.index c.args.window c.args.clocks.now t packet place s.entry held s.at in
     on_ok c.take.result (λ i. record {
+      choice = k.choice ∙ ap (λ (x : TableState). x.choice) (sym last);
       places = k.places ∙ ap (λ (x : TableState). x.places) (sym last);
       entries = subst (λ (x : TableState). AreEntries (set c.args.self.now.entries.items place c.take.new.self) x.entries) (sym last)
           (set_at c.args.self.now.entries.items t.entries place c.take.new.self _ k.entries i);
