@@ -17,7 +17,8 @@ use Rattle.mux_core.specs.WholeJobs.{or_cause, unit_refused, cause_after, first_
 use Rattle.mux_core.specs.declared.multiplexing.MuxError.{MuxError}
 use Rattle.mux_core.proofs.KnownRanges.{parameters_known}
 use Rattle.mux_core.proofs.UnitCounts.{own_units, units_append}
-use Rattle.stream_units.specs.CarriedUnits.{RoleView, Ignored, Start, Continuation, Interruption, CarriedUnit, role_of, continuation, is_cut, is_split, with_more, whole_unit, units_from, units_in, wire_units}
+use Rattle.stream_units.specs.CarriedUnits.{RoleView, Ignored, Start, Continuation, Interruption, CarriedUnit, role_of, continuation, is_cut, is_split, with_more, whole_unit, units_from, units_in, unit_with, carried_units, wire_units}
+use Rattle.stream_units.specs.MadeDts.{made_dts, pts_of, with_dts}
 use Rattle.stream_units.specs.Laws.{UnitsAreKept, TakenOneByOne, Declares as LaneDeclares}
 use Rattle.stream_jobs.specs.Jobs.{IsStream, AreUnits}
 use Rattle.stream_jobs.specs.FoundUnits.{source_of}
@@ -51,27 +52,40 @@ unfolding units_in
 each_has_bytes split pid [] = All-nil HasBytes
 each_has_bytes split pid (f ∷ fs) = by_have_bytes split pid (role_of pid f) fs (units_in split pid fs) (each_has_bytes split pid fs)
 
-pub have_bytes : (pid : ℕ) (findings : List FindingView) → All HasBytes (wire_units pid findings)
+have_bytes : (pid : ℕ) (findings : List FindingView) → All HasBytes (wire_units pid findings)
 have_bytes pid findings = each_has_bytes (is_split pid findings) pid findings
+
+-- with other DTS too
+still_have_bytes : (ds : List ℕ) (us : List CarriedUnit) → All HasBytes (map (λ x. x.unit) us) → All HasBytes (map (λ x. x.unit) (with_dts ds us))
+unfolding with_dts
+still_have_bytes [] us all = All-nil HasBytes
+still_have_bytes (d ∷ ds) [] all = All-nil HasBytes
+still_have_bytes (d ∷ ds) (u ∷ us) all =
+    All-cons HasBytes (unit_with u.packet u.stream_id d u.unit.pts u.unit.bytes).unit (map (λ x. x.unit) (with_dts ds us))
+    (All-head HasBytes u.unit (map (λ x. x.unit) us) all) (still_have_bytes ds us (All-tail HasBytes u.unit (map (λ x. x.unit) us) all))
+
+sources_have_bytes : (made : Bool) (pid : ℕ) (findings : List FindingView) → All HasBytes (map (λ w. w.unit) (source_of made pid findings))
+unfolding source_of
+sources_have_bytes false pid findings = have_bytes pid findings
+sources_have_bytes true pid findings = still_have_bytes (made_dts (pts_of (carried_units pid findings))) (carried_units pid findings) (have_bytes pid findings)
 
 -- 2. The units of a stream keep what it declares
 
-found_kept : UnitsAreKept → (line : Scheduled) (findings : List FindingView) (k : ℕ) (s : DescribedStream) (us : List AccessUnit) → IsStream false findings line.description s us →
-    Kept (owned_stream line k s) us
-unfolding source_of
-found_kept law line findings k s us is =
+found_kept : UnitsAreKept → (made : Bool) (line : Scheduled) (findings : List FindingView) (k : ℕ) (s : DescribedStream) (us : List AccessUnit) →
+    IsStream made findings line.description s us → Kept (owned_stream line k s) us
+found_kept law made line findings k s us is =
     let m = is.found.moved in
     let n = is.declares in
     let declares : LaneDeclares (owned_stream line k s) us = record { interval = n.interval; size = n.size; lead = n.lead; allowance = n.allowance } in
     subst (λ (x : List AccessUnit). Kept (owned_stream line k s) x) (sym m.are)
-    (law (owned_stream line k s) is.found.base (wire_units s.pid findings) m.sound (have_bytes s.pid findings)
+    (law (owned_stream line k s) is.found.base (map (λ w. w.unit) (source_of made s.pid findings)) m.sound (sources_have_bytes made s.pid findings)
     (subst (λ (x : List AccessUnit). LaneDeclares (owned_stream line k s) x) m.are declares))
 
-pub all_kept : UnitsAreKept → (line : Scheduled) (findings : List FindingView) (units : List (ℕ × AccessUnit)) → IsInRange line.description → AreUnits false findings line.description units →
-    UnitsKept line (λ k. units_of k units)
-all_kept law line findings units ranges are = record {
+pub all_kept : UnitsAreKept → (made : Bool) (line : Scheduled) (findings : List FindingView) (units : List (ℕ × AccessUnit)) → IsInRange line.description →
+    AreUnits made findings line.description units → UnitsKept line (λ k. units_of k units)
+all_kept law made line findings units ranges are = record {
   parameters = parameters_known line ranges;
-  kept = λ k s is. found_kept law line findings k s (units_of k units) (are.streams k s is);
+  kept = λ k s is. found_kept law made line findings k s (units_of k units) (are.streams k s is);
 }
 
 -- 3. One after another
@@ -98,7 +112,7 @@ unfolding or_cause unit_refused
 none_then index cause next e none = rw (e, none) refl
 
 -- a number below the count of streams is that of one
-stream_there : (streams : List DescribedStream) (k : ℕ) → k < length streams → (s : DescribedStream) × (slice_get streams k ≡ Some s)
+pub stream_there : (streams : List DescribedStream) (k : ℕ) → k < length streams → (s : DescribedStream) × (slice_get streams k ≡ Some s)
 stream_there [] k lt = absurd (omega (arith, lt))
 stream_there (s ∷ streams) zero lt = (s, refl)
 stream_there (s ∷ streams) (suc k) lt = stream_there streams k (omega (arith, lt))
@@ -113,7 +127,7 @@ all_taken law line fed (entry ∷ rest) fit below =
     (all_taken law line (fed ++ (entry ∷ [])) rest (subst (λ (all : List (ℕ × AccessUnit)). AllFit line all) (sym (append_assoc fed (entry ∷ []) rest)) fit)
     (All-tail (λ e. e.0 < length line.description.streams) entry rest below))
 
-pub none_refused : UnitsAreKept → TakenOneByOne → (line : Scheduled) (findings : List FindingView) (units : List (ℕ × AccessUnit)) → IsInRange line.description →
-    AreUnits false findings line.description units → first_refused line 1048576 [] units ≡ None
-none_refused keeping taking line findings units ranges are =
-    all_taken taking line [] units (record { kept = all_kept keeping line findings units ranges are; few = λ k s is. (are.streams k s is).fits }) are.numbered
+pub none_refused : UnitsAreKept → TakenOneByOne → (made : Bool) (line : Scheduled) (findings : List FindingView) (units : List (ℕ × AccessUnit)) →
+    IsInRange line.description → AreUnits made findings line.description units → first_refused line 1048576 [] units ≡ None
+none_refused keeping taking made line findings units ranges are =
+    all_taken taking line [] units (record { kept = all_kept keeping made line findings units ranges are; few = λ k s is. (are.streams k s is).fits }) are.numbered

@@ -19,5 +19,5 @@ tables_before plan law d p findings units n k j s e ranges serving are is late t
     let line = schedule_for d p in
     let same = output_bytes (content_at line (λ i. units_of i units)) 0 n in
     subst (λ (bytes : List ℕ). IsFollowed d (take (188 * e.index) bytes)) (sym same)
-    (law line (λ i. units_of i units) n k j s e ranges (plan d p ranges serving) (all_kept units_kept line findings units ranges are) is late
+    (law line (λ i. units_of i units) n k j s e ranges (plan d p ranges serving) (all_kept units_kept false line findings units ranges are) is late
     (subst (λ (bytes : List ℕ). slice_get (pid_list s.pid bytes) j ≡ Some e) same there))

@@ -1,5 +1,5 @@
 -- What the laws of this crate say: of a job whose units are what a demultiplexer finds in a stream.
-use Rattle.std.specs.Prelude.{◌≡◌, ◌≤◌, ◌<◌, ℕ, ◌+◌, ◌-◌, ◌*◌, ◌^◌, false, List, [], map, slice_get, Some, None, All}
+use Rattle.std.specs.Prelude.{◌≡◌, ◌≤◌, ◌<◌, ℕ, ◌+◌, ◌-◌, ◌*◌, ◌^◌, Bool, false, List, [], map, slice_get, Some, None, All}
 use Rattle.pes_packet.specs.AccessUnits.{AccessUnit}
 use Rattle.pes_packet.specs.Units.{units_of}
 use Rattle.pes_packet.specs.Encoding.{on_wire}
@@ -21,10 +21,10 @@ use Rattle.stream_jobs.specs.Jobs.{AreUnits}
 
 -- ---- going in
 
--- no unit is refused, over whatever schedule
+-- no unit is refused, over whatever schedule, also where DTS are made from PTS
 abbrev pub AcceptedLaw : Type 0
-AcceptedLaw = (schedule : Scheduled) (findings : List FindingView) (units : List (ℕ × AccessUnit)) → IsInRange schedule.description → AreUnits false findings schedule.description units →
-    first_refused schedule (capacity_for units) [] units ≡ None
+AcceptedLaw = (made : Bool) (schedule : Scheduled) (findings : List FindingView) (units : List (ℕ × AccessUnit)) → IsInRange schedule.description →
+    AreUnits made findings schedule.description units → first_refused schedule (capacity_for units) [] units ≡ None
 
 -- ---- coming out
 

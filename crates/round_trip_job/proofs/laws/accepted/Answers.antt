@@ -5,4 +5,4 @@ use Rattle.round_trip_job.proofs.AcceptedUnits.{none_refused}
 use Rattle.round_trip_job.proofs.laws.accepted.Goals as goal
 
 pub returns : goal.returns
-returns c = λ line findings units ranges are. c.room_for_all.ensures line units ∙ none_refused units_kept taken_one_by_one line findings units ranges are
+returns c = λ made line findings units ranges are. c.room_for_all.ensures line units ∙ none_refused units_kept taken_one_by_one made line findings units ranges are

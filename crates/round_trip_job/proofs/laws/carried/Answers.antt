@@ -1,4 +1,4 @@
-use Rattle.std.proofs.Common.{sym, subst}
+use Rattle.std.proofs.Common.{false, sym, subst}
 use Rattle.pes_packet.specs.Units.{units_of}
 use Rattle.mux_core.specs.Histories.{content_at}
 use Rattle.mux_core.specs.Headline.{Headline}
@@ -13,8 +13,8 @@ use Rattle.round_trip_job.proofs.laws.carried.Goals as goal
 pub returns : goal.returns
 returns c = λ d p findings units n ranges serving are few.
     let line = schedule_for d p in
-    let none = c.accepted.ensures line findings units ranges are in
-    let kept = all_kept units_kept line findings units ranges are in
+    let none = c.accepted.ensures false line findings units ranges are in
+    let kept = all_kept units_kept false line findings units ranges are in
     record {
       same = λ k s is. those moved_by_one findings s.pid (units_of k units) (are.streams k s is).found;
       given_back = c.jobs.ensures.given_back line units n ranges none few;

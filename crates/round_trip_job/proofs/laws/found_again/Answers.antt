@@ -10,14 +10,14 @@ use Rattle.round_trip_job.proofs.laws.found_again.Goals as goal
 pub returns-clause-moved : goal.returns-clause-moved
 returns-clause-moved c = λ d p findings units n k s base ranges serving are few is moved due.
     let line = schedule_for d p in
-    let kept = (all_kept units_kept line findings units ranges are).kept k s is in
+    let kept = (all_kept units_kept false line findings units ranges are).kept k s is in
     let back = (c.carried.ensures d p findings units n ranges serving are few).given_back in
     again base line findings units n k s (output_of false line (job_history units n)) (c.accepted_plan.ensures d p ranges serving) is kept moved due back
 
 pub returns-clause-same : goal.returns-clause-same
 returns-clause-same c = λ d p findings units n k s ranges serving are few is moved due stamps.
     let line = schedule_for d p in
-    let kept = (all_kept units_kept line findings units ranges are).kept k s is in
+    let kept = (all_kept units_kept false line findings units ranges are).kept k s is in
     let back = (c.carried.ensures d p findings units n ranges serving are few).given_back in
     again d.base0 line findings units n k s (output_of false line (job_history units n)) (c.accepted_plan.ensures d p ranges serving) is kept moved due back
     ∙ same_stamps d.base0 (wire_units s.pid findings) stamps
