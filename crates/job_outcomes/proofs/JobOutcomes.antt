@@ -1,10 +1,10 @@
 -- What is written of an answer, and what the input that was read leads to.
-use Rattle.std.proofs.Common.{◌≡◌, ◌∙◌, ◌++◌, ◌∷◌, ◌/◌, ◌==◌, ◌&&◌, ℕ, suc, Bool, true, false, List, [], length, refl, sym, ap, subst, append-nil, Option, Some, None, Result, Ok, Err, inl, inr, arith}
+use Rattle.std.proofs.Common.{◌≡◌, ◌∙◌, ◌++◌, ◌∷◌, ◌/◌, ◌==◌, ◌&&◌, ℕ, suc, Bool, true, false, List, [], length, refl, sym, ap, subst, append-nil, Option, Some, None, Result, Ok, Err, IsUtf8, inl, inr, arith}
 use Rattle.std.proofs.lemmas.Bool.Decides.{nat_tests}
 use Rattle.pes_packet.specs.AccessUnits.{AccessUnit}
 use Rattle.description.specs.Described.{Described}
 use Rattle.slot_plan.specs.Conditions.{IsServing}
-use Rattle.slot_plan.specs.Planned.{Planned}
+use Rattle.slot_plan.specs.Planned.{Planned, plan_error}
 use Rattle.slot_plan.specs.Text.{plan_text}
 use Rattle.stream_jobs.specs.Answers.{Answers, Refuses}
 use Rattle.stream_jobs.specs.Jobs.{AreUnits, IsJob}
@@ -60,9 +60,9 @@ nothing_written [] (p ∷ plan) units = rw (cons_is_not p plan) (sym (cons_is_no
 nothing_written (t ∷ text) plan units = rw (cons_is_not t text) (sym (cons_is_not t ((text ++ plan) ++ records_of units)))
 
 pub given_job : (w : JobOptionsView) (findings : List FindingView) (m : JobInputView) (text plan : List ℕ) (d : Described) (p q : Planned) (units : List (ℕ × AccessUnit)) →
-    IsJob w findings m d text units → AreUnits w.make_dts findings d units → IsServing d p → plan ≡ plan_text q → q ≡ p →
+    IsJob w findings m d text units → AreUnits w.make_dts findings d units → IsServing d p → IsUtf8 text → plan_error q.slots q.certificate ≡ None → plan ≡ plan_text q → q ≡ p →
     GivesJob w findings m (written text plan units)
-given_job w findings m text plan d p q units j u s e f = record {
+given_job w findings m text plan d p q units j u s utf8 within e f = record {
   description = d;
   text = text;
   plan = p;
@@ -70,6 +70,8 @@ given_job w findings m text plan d p q units j u s e f = record {
   job = j;
   found = u;
   serving = s;
+  utf8 = utf8;
+  within = subst (λ (x : Planned). plan_error x.slots x.certificate ≡ None) f within;
   is = ap (λ (x : List ℕ). written text x units) (e ∙ ap plan_text f);
 }
 

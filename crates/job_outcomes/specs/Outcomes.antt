@@ -1,12 +1,13 @@
 -- The outcome for a transport stream.
 use Rattle.std.specs.Prelude.{◌≡◌, ◌⊎◌, ℕ, ◌/◌, ◌==◌, ◌||◌, not, Bool, true, false, List, ◌++◌, length, map, codes, decimal, if◌then◌else◌, Option, Some, None, Result, Ok, Err}
 use Rattle.std.specs.List.{list_any}
+use Rattle.std.specs.Str.{IsUtf8}
 use Rattle.pes_packet.specs.AccessUnits.{AccessUnit}
 use Rattle.demux.specs.Views.{FindingView}
 use Rattle.description.specs.Described.{Described}
 use Rattle.reason_lines.specs.ReasonLines.{reason_lines}
 use Rattle.slot_plan.specs.Conditions.{IsServing}
-use Rattle.slot_plan.specs.Planned.{Planned}
+use Rattle.slot_plan.specs.Planned.{Planned, plan_error}
 use Rattle.slot_plan.specs.Text.{plan_text}
 use Rattle.unit_order.specs.Merging.{AreMerged}
 use Rattle.stream_jobs.specs.Jobs.{AreUnits, IsDescription, IsJob, IsUnplanned}
@@ -45,8 +46,8 @@ use Rattle.job_lines.specs.WarningLines.{told_warnings, warning_lines}
 
 -- 1. What is written
 
--- a job: the text of its description, that of a plan that serves it, and the records of its units, which are the units of
--- the stream, with their DTS or with DTS made from the PTS
+-- a job: the text of its description, in UTF-8; that of a plan that serves it, whose numbers are a plan's; and the records of
+-- its units, which are the units of the stream, with their DTS or with DTS made from the PTS
 pub record GivesJob (w : JobOptionsView) (findings : List FindingView) (m : JobInputView) (output : List ℕ) : Type 0 where
   pub description : Described
   pub text : List ℕ
@@ -55,6 +56,8 @@ pub record GivesJob (w : JobOptionsView) (findings : List FindingView) (m : JobI
   pub job : IsJob w findings m description text units
   pub found : AreUnits w.make_dts findings description units
   pub serving : IsServing description plan
+  pub utf8 : IsUtf8 text
+  pub within : plan_error plan.slots plan.certificate ≡ None
   pub is : output ≡ written text (plan_text plan) units
 
 -- the records of the units of all streams by their DTS

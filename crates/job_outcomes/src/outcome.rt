@@ -2,6 +2,8 @@
 
 ghost use Rattle.std.specs.Prelude.{◌≡◌, ◌==◌, ◌&&◌, ◌≤◌, IfErr, IfOk, None, Ok, length, map, string_bytes};
 ghost use Rattle.demux.specs.Shown.{finding_view};
+ghost use Rattle.slot_plan.specs.Planned.{plan_error};
+ghost use Rattle.slot_plan.specs.Text.{plan_text};
 ghost use Rattle.stream_jobs.specs.Jobs.{AreStreams, IsDescription};
 ghost use Rattle.stream_jobs.specs.WhyNoJob.{IsWhyNoDescription, IsWhyNoJob};
 ghost use Rattle.stream_jobs.specs.declared.refusal.JobError.TheVariants.{Memory};
@@ -20,6 +22,7 @@ use job_lines::{
 use other_tables::{OtherTable, other_tables};
 use packet_sync::{FieldLeftOut, OtherPackets, Slip, other_packets};
 use pes_packet::Unit;
+use slot_plan::Plan;
 use std::alloc::{AllocError, Global};
 use std::marker::Model;
 use stream_jobs::{
@@ -74,6 +77,15 @@ pub fn only_text(alloc: Global, text: String) -> JobText
     }
 }
 
+// The text of a plan, whose numbers are those of one.
+fn plan_text(alloc: Global, plan: &Plan) -> Result<String, AllocError>
+    ensures text { IfOk result (λ text. string_bytes text ≡ plan_text plan.now) }
+    ensures within { plan_error plan.now.slots plan.now.certificate ≡ None }
+{
+    let _slots = plan.slots();
+    plan.write_text(alloc)
+}
+
 // The whole job.
 fn job_output(
     alloc: Global,
@@ -86,7 +98,7 @@ fn job_output(
     ensures withheld { IfErr result (IsWhyNoJob options.now (map finding_view findings.now) input) }
 {
     let Job { text, plan, units } = make_job(alloc, options, findings, input)?;
-    let plan = plan.plan().write_text(alloc)?;
+    let plan = plan_text(alloc, plan.plan())?;
     Ok(JobText { text, plan, units })
 }
 
