@@ -29,5 +29,6 @@ known_words = record {
   takes_value = λ option. takes_by (greatest_of option) (is_flag option);
   reads = λ option value. reads_by (greatest_of option) value;
   is_word = λ word. false;
+  stands_alone = λ word. false;
   required = None;
 }

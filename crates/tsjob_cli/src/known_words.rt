@@ -105,6 +105,10 @@ impl CommandLine for KnownWords {
         subcommand_of(Some(word)).is_some()
     }
 
+    fn stands_alone(self, word: &str) -> bool {
+        word == "explain"
+    }
+
     fn required(self) -> Option<&'static str> {
         None
     }

@@ -91,5 +91,6 @@ known_words words = record {
   takes_value = λ option. takes_by (kind_of words option);
   reads = λ option value. reads_by (kind_of words option) value;
   is_word = λ word. is_some (named word);
+  stands_alone = λ word. false;
   required = required_of words;
 }

@@ -144,6 +144,10 @@ impl CommandLine for KnownWords {
         named(word).is_some()
     }
 
+    fn stands_alone(self, _word: &str) -> bool {
+        false
+    }
+
     fn required(self) -> Option<&'static str> {
         match self {
             KnownWords::Monitor => Some("--rate"),

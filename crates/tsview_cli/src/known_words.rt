@@ -70,6 +70,10 @@ impl CommandLine for KnownWords {
         false
     }
 
+    fn stands_alone(self, _word: &str) -> bool {
+        false
+    }
+
     fn required(self) -> Option<&'static str> {
         Some("--rate")
     }

@@ -10,7 +10,7 @@ use Rattle.word_faults.specs.CommandLine.{CommandLine, Text}
 use Rattle.word_faults.specs.WordFaults.{first_fault}
 use Rattle.word_faults.specs.declared.word_fault.WordFault.{WordFault}
 use Rattle.word_faults.specs.declared.word_fault.Reason.{Reason}
-use Rattle.word_faults.specs.declared.word_fault.Reason.TheVariants.{Unknown, Twice, NoValue, BadValue, BadNextWord, Missing, Help}
+use Rattle.word_faults.specs.declared.word_fault.Reason.TheVariants.{Unknown, Twice, NoValue, BadValue, BadNextWord, Alone, Missing, Help}
 
 -- 1. The line of a fault, and the usage after it
 
@@ -24,6 +24,7 @@ reason_line Twice word next required = word ++ codes ": given twice\n"
 reason_line NoValue word next required = word ++ codes ": no value\n"
 reason_line BadValue word next required = word ++ codes ": not a value of this option\n"
 reason_line BadNextWord word next required = word ++ codes " " ++ next ++ codes ": not a value of this option\n"
+reason_line Alone word next required = word ++ codes ": takes no options and no other word\n"
 reason_line Missing word next required = required ++ codes ": not given\n"
 reason_line Help word next required = []
 

@@ -5,7 +5,7 @@ use Rattle.std.specs.Str.{bytes_eq}
 use Rattle.word_faults.specs.CommandLine.{CommandLine, Text}
 use Rattle.word_faults.specs.declared.word_fault.WordFault.{WordFault}
 use Rattle.word_faults.specs.declared.word_fault.Reason.{Reason}
-use Rattle.word_faults.specs.declared.word_fault.Reason.TheVariants.{Unknown, Twice, NoValue, BadValue, BadNextWord, Missing, Help}
+use Rattle.word_faults.specs.declared.word_fault.Reason.TheVariants.{Unknown, Twice, NoValue, BadValue, BadNextWord, Alone, Missing, Help}
 
 -- 1. What a word looks like
 
@@ -62,12 +62,20 @@ option_reason c (Some takes) before option value rest = if is_given option befor
 abbrev pub word_reason : CommandLine → Bool → Text → Option Reason
 word_reason c has_word word = if c.is_word word && not has_word then None else Some Unknown
 
+-- the one word of a command line that asks for the version, or for what takes nothing else
+abbrev pub is_alone : CommandLine → Text → Bool
+is_alone c word = bytes_eq word (codes "--version") || c.stands_alone word
+
+abbrev pub alone_reason : List Text → List Text → Option Reason
+alone_reason before rest = if length before == 0 && length rest == 0 then None else Some Alone
+
 -- why a word that is no value cannot be taken, after these words and before those
 abbrev pub reason_at : CommandLine → Bool → List Text → Text → List Text → Option Reason
 reason_at c has_word before word rest =
     if is_help word then Some Help
+    else (if is_alone c word then alone_reason before rest
     else (if is_dashed word then option_reason c (c.takes_value (option_in word)) before (option_in word) (value_in word) rest
-    else word_reason c has_word word)
+    else word_reason c has_word word))
 
 -- a value is to come after this word
 abbrev pub is_open : Option Bool → Option Text → Bool

@@ -20,6 +20,10 @@ pub trait CommandLine: Copy {
     fn is_word(self, word: &str) -> bool
         ensures { result ≡ (known self).is_word word.now };
 
+    /// Whether nothing may stand beside the word.
+    fn stands_alone(self, word: &str) -> bool
+        ensures { result ≡ (known self).stands_alone word.now };
+
     /// The option that has to be given.
     fn required(self) -> Option<&'static str>
         ensures { option_map (λ s. s.now) result ≡ (known self).required };

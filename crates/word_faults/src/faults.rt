@@ -137,6 +137,24 @@ fn option_reason<C: CommandLine>(
     }
 }
 
+// Whether a word takes nothing else beside it.
+fn is_alone<C: CommandLine>(known: C, word: &str) -> bool
+    ensures { result ≡ spec.is_alone (C.known known) word.now }
+{
+    word == "--version" || known.stands_alone(word)
+}
+
+// Why a word cannot be taken that takes nothing else beside it.
+fn alone_reason(before: &[&str], rest: &[&str]) -> Option<Reason>
+    ensures { result ≡ spec.alone_reason (map (λ s. s.now) before.now) (map (λ s. s.now) rest.now) }
+{
+    if before.is_empty() && rest.is_empty() {
+        None
+    } else {
+        Some(Reason::Alone)
+    }
+}
+
 // Why a word that is no value cannot be taken.
 fn reason_at<C: CommandLine>(
     alloc: Global,
@@ -151,6 +169,8 @@ fn reason_at<C: CommandLine>(
 {
     if is_help(word) {
         Ok(Some(Reason::Help))
+    } else if is_alone(known, word) {
+        Ok(alone_reason(before, rest))
     } else if is_dashed(word) {
         option_reason(alloc, known, before, word, rest)
     } else if known.is_word(word) && !has_word {

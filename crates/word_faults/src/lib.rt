@@ -1,8 +1,8 @@
 //! The first word of a command line that cannot be taken, in words.
 //!
 //! A program says what it knows (`CommandLine`): its options, which of them take a value, the values that each takes, and
-//! words beside options. `first_fault` finds the first word that is not known, is given twice, lacks its value or has one
-//! that its option does not take (`specs/WordFaults`); `usage_report` is the line that says so, with the usage after it, and
+//! words beside options. `first_fault` finds the first word that is not known, is given twice, lacks its value, has one
+//! that its option does not take, or stands beside others where it takes none (`specs/WordFaults`); `usage_report` is the line that says so, with the usage after it, and
 //! `answer_other_words` reports it, or prints the version for `--version` alone (`specs/UsageReport`).
 #![tactic(auto)]
 

@@ -46,6 +46,7 @@ fn write_reason(
             write_pair(text, word, " ")?;
             write_pair(text, next, ": not a value of this option\n")
         }
+        Reason::Alone => write_pair(text, word, ": takes no options and no other word\n"),
         Reason::Missing => write_pair(text, required, ": not given\n"),
         Reason::Help => Ok(()),
     }

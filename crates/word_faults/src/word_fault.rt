@@ -13,6 +13,8 @@ pub enum Reason {
     BadValue,
     /// The option does not take the value that follows it.
     BadNextWord,
+    /// Nothing may stand beside the word.
+    Alone,
     /// The option that has to be given is not given.
     Missing,
     /// It asks for help.
