@@ -6,10 +6,10 @@ use Rattle.std.proofs.Math.Seq.{drop-cons}
 use Rattle.std.proofs.lemmas.List.{drop_all}
 use Rattle.explained_jobs.specs.KeyPlaces.{begins, heads_after, is_found, is_last, key_row}
 
-abbrev shown : List (Bor (List ℕ)) → List (List ℕ)
+abbrev pub shown : List (Bor (List ℕ)) → List (List ℕ)
 shown lines = map {A = Bor (List ℕ)} {B = List ℕ} (λ s. s.now) lines
 
-shown_from : (lines : List (Bor (List ℕ))) (i : ℕ) (d : Bor (List ℕ)) → i < length lines →
+pub shown_from : (lines : List (Bor (List ℕ))) (i : ℕ) (d : Bor (List ℕ)) → i < length lines →
     shown (drop i lines) ≡ (get_or lines i d).now ∷ shown (drop (i + 1) lines)
 shown_from lines i d below = rw (drop-cons lines i d below, add-one i) refl
 

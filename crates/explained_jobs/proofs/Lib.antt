@@ -1,2 +1,3 @@
 pub mod KeyRows
+pub mod EqualRows
 pub mod Explained

@@ -6,7 +6,7 @@ use Rattle.description.specs.declared.fault.DescError.{DescError}
 use Rattle.description.specs.declared.fault.DescError.TheVariants.{Refused, Memory}
 use Rattle.slot_plan.specs.Planned.{Planned}
 use Rattle.checked_jobs.specs.Jobs.{described, parts_of, planned}
-use Rattle.reason_lines.specs.ConditionLines.{first_condition_line}
+use Rattle.reason_lines.specs.ConditionLines.{condition_lines}
 use Rattle.explained_jobs.specs.FaultLines.{fault_line}
 use Rattle.explained_jobs.specs.KeyPlaces.{lines_of}
 use Rattle.reason_lines.specs.ReasonLines.{reason_lines}
@@ -18,10 +18,10 @@ text_lines bytes = if is_utf8 bytes then lines_of bytes else []
 unfoldable pub bad_line_words : ℕ → List ℕ
 bad_line_words line = codes "line " ++ decimal line ++ codes " of the plan is not as a plan has it\n"
 
--- of a plan: the first line that is none of a plan's text, or the first condition that it does not keep
+-- of a plan: the first line that is none of a plan's text, or the conditions that it does not keep
 unfoldable pub plan_words : Described → Result (Planned × List ℕ) ℕ → List ℕ
 plan_words d (Err line) = bad_line_words line
-plan_words d (Ok read) = first_condition_line d read.0
+plan_words d (Ok read) = condition_lines d read.0
 
 -- of a description without a plan: the numbers that no plan can keep
 unfoldable pub with_description : Option (List ℕ) → Described → List ℕ

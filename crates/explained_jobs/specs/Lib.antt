@@ -1,4 +1,6 @@
 pub mod KeyPlaces
 pub mod KeyWords
+pub mod KeyTables
+pub mod EqualKeys
 pub mod FaultLines
 pub mod Explained

@@ -8,7 +8,7 @@ use crate::fault_lines::write_fault;
 use crate::key_places::lines_of;
 use checked_jobs::{parts_of, read_description};
 use description::{DescError, Description};
-use reason_lines::{write_first_condition, write_reasons};
+use reason_lines::{write_conditions, write_reasons};
 use slot_plan::{Plan, PlanTextError};
 use std::alloc::{AllocError, Global};
 use std::fmt::Write;
@@ -43,7 +43,7 @@ fn write_plan(
         ≡ string_bytes text.old ++ spec.plan_words description (planned plan.now)) }
 {
     match Plan::read_text(alloc, plan) {
-        Ok((plan, _)) => write_first_condition(description, plan, text),
+        Ok((plan, _)) => write_conditions(alloc, &description, &plan, text),
         Err(PlanTextError::Line(line)) => write_bad_line(line, text),
         Err(PlanTextError::Memory) => Err(AllocError),
     }

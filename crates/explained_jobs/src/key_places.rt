@@ -14,16 +14,16 @@ pub fn lines_of<'a>(alloc: Global, text: &'a str) -> Result<Vec<&'a str>, AllocE
     text.split('\n').collect(alloc)
 }
 
-// A space or a tab.
-fn is_blank(byte: u8) -> bool
+/// A space or a tab.
+pub fn is_blank(byte: u8) -> bool
     ensures { result ≡ spec.is_blank byte }
 {
     byte == b' ' || byte == b'\t'
 }
 
-// A line without the spaces and tabs before it.
+/// A line without the spaces and tabs before it.
 #[tactic(auto, unfolding(crate::specs::KeyPlaces::unindented))]
-fn unindented(line: &[u8]) -> &[u8]
+pub fn unindented(line: &[u8]) -> &[u8]
     ensures { result.now ≡ spec.unindented line.entry.now }
 {
     let mut rest = line;
@@ -43,8 +43,8 @@ fn begins(line: &[u8], word: &[u8]) -> bool
     unindented(line).starts_with(word)
 }
 
-// Whether a line begins with this key and an equals sign.
-fn has_key(key: &[u8], line: &[u8]) -> bool
+/// Whether a line begins with this key and an equals sign.
+pub fn has_key(key: &[u8], line: &[u8]) -> bool
     ensures { result ≡ spec.has_key key.now line.now }
 {
     let line = unindented(line);

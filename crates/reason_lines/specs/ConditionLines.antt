@@ -2,15 +2,17 @@
 -- number that would do.
 use Rattle.std.specs.Prelude.{ℕ, ◌+◌, ◌-◌, ◌*◌, ◌/◌, ◌==◌, max, List, [], ◌++◌, length, Option, Some, None, codes, decimal, nat_lt, slice_get, if◌then◌else◌}
 use Rattle.std.specs.Int.{div_ceil}
+use Rattle.std.specs.List.{flat_map}
 use Rattle.unit_timing.specs.Allowances.{steady_time}
-use Rattle.description.specs.Described.{Described, DescribedStream}
-use Rattle.slot_plan.specs.Conditions.{entries}
-use Rattle.slot_plan.specs.Entries.{Entry, code_of, first_failing}
+use Rattle.description.specs.Described.{Described, DescribedProgram, DescribedStream}
+use Rattle.slot_plan.specs.Entries.{Entry, code_of}
 use Rattle.slot_plan.specs.Planned.{Planned}
 use Rattle.slot_plan.specs.declared.condition.Condition.{Condition}
 use Rattle.slot_plan.specs.declared.condition.Condition.TheVariants.{Shape, PcrGap, TableGap, Spread, StreamRate, TransportBuffer, StreamLead, MainBuffer, SystemBuffer, PcrSwitch, TableSwitch, WorkSwitch, LeadSwitch, MainSwitch}
+use Rattle.plan_checker.specs.Failing.{failing}
 use Rattle.reason_lines.specs.ItemNames.{name_of_stream, program_name, stream_name, table_name}
-use Rattle.reason_lines.specs.ReasonLines.{greatest_lead, greatest_main, key_words, least_words, less_words, limit_words, steady_cause, within_lead_cause}
+use Rattle.reason_lines.specs.ReasonLines.{greatest_of, key_of, key_words, least_words, pcr_words, steady_cause, stream_line}
+use Rattle.reason_lines.specs.declared.stream_numbers.StreamNumber.TheVariants.{Lead, Main}
 
 -- 1. The shape
 
@@ -50,8 +52,10 @@ shape_line d e =
 unfoldable pub gap_cause : List ℕ
 gap_cause = codes " for the gaps of its slots\n"
 
-abbrev pub pcr_gap_line : Described → Entry → List ℕ
-pcr_gap_line d e = program_name d e.item ++ limit_words (div_ceil e.left d.rate) gap_cause
+-- there is no line for a number that names nothing
+unfoldable pub pcr_gap_line : ℕ → Entry → Option DescribedProgram → List ℕ
+pcr_gap_line rate e None = []
+pcr_gap_line rate e (Some p) = pcr_words e.item p (div_ceil e.left rate) gap_cause
 
 abbrev pub claim_words : List ℕ → ℕ → ℕ → List ℕ
 claim_words key claimed counted = codes " " ++ key ++ codes " " ++ decimal claimed ++ codes " is less than " ++ decimal counted ++ codes " for its slots\n"
@@ -119,11 +123,8 @@ lead_for e s = div_ceil e.left (lead_share e s) - time_of_row e s
 unfoldable pub row_words : ℕ → List ℕ
 row_words units = codes " for " ++ decimal units ++ codes " in a row\n"
 
-unfoldable pub lead_key : List ℕ
-lead_key = codes "lead"
-
 unfoldable pub least_lead_words : ℕ → ℕ → List ℕ
-least_lead_words lead least = key_words lead_key lead ++ least_words least greatest_lead
+least_lead_words lead least = key_words (key_of Lead) lead ++ least_words least (greatest_of Lead)
 
 abbrev pub lead_words : Entry → DescribedStream → List ℕ
 lead_words e s = least_lead_words s.lead (lead_for e s) ++ row_words (units_in_row e)
@@ -131,10 +132,6 @@ lead_words e s = least_lead_words s.lead (lead_for e s) ++ row_words (units_in_r
 unfoldable pub stream_lead_line : Entry → Option DescribedStream → List ℕ
 stream_lead_line e None = []
 stream_lead_line e (Some s) = name_of_stream e.item (Some s) ++ lead_words e s
-
-unfoldable pub main_buffer_line : Entry → Option DescribedStream → List ℕ
-main_buffer_line e None = []
-main_buffer_line e (Some s) = name_of_stream e.item (Some s) ++ less_words (codes "main") s.main e.left greatest_main within_lead_cause
 
 -- 4. All of them
 
@@ -145,13 +142,13 @@ switch_line e = codes "condition " ++ decimal (code_of e.condition) ++ codes " p
 
 unfoldable pub line_for : Condition → Described → Entry → List ℕ
 line_for Shape d e = shape_line d e
-line_for PcrGap d e = pcr_gap_line d e
+line_for PcrGap d e = pcr_gap_line d.rate e (slice_get d.programs e.item)
 line_for TableGap d e = table_gap_line d e
 line_for Spread d e = spread_line d e
 line_for StreamRate d e = stream_rate_line d.rate e (slice_get d.streams e.item)
 line_for TransportBuffer d e = transport_line d e
 line_for StreamLead d e = stream_lead_line e (slice_get d.streams e.item)
-line_for MainBuffer d e = main_buffer_line e (slice_get d.streams e.item)
+line_for MainBuffer d e = stream_line Main e.item e.left (slice_get d.streams e.item)
 line_for SystemBuffer d e = system_line d e
 line_for PcrSwitch d e = switch_line e
 line_for TableSwitch d e = switch_line e
@@ -162,10 +159,6 @@ line_for MainSwitch d e = switch_line e
 abbrev pub condition_line : Described → Entry → List ℕ
 condition_line d e = line_for e.condition d e
 
-unfoldable pub line_of_first : Described → Option Entry → List ℕ
-line_of_first d None = []
-line_of_first d (Some e) = condition_line d e
-
--- the line of the first condition that a plan does not keep
-abbrev pub first_condition_line : Described → Planned → List ℕ
-first_condition_line d p = line_of_first d (first_failing (entries d p))
+-- a line for each condition that a plan does not keep
+abbrev pub condition_lines : Described → Planned → List ℕ
+condition_lines d p = flat_map (condition_line d) (failing d p)

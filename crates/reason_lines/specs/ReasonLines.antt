@@ -3,11 +3,13 @@ use Rattle.std.specs.Prelude.{ℕ, ◌==◌, List, [], ◌++◌, Option, Some, N
 use Rattle.std.specs.List.{flat_map}
 use Rattle.unit_timing.specs.declared.allowance.Allowance.{Allowance}
 use Rattle.unit_timing.specs.declared.allowance.Allowance.TheVariants.{Groups, Pace}
-use Rattle.description.specs.Described.{Described, DescribedStream}
+use Rattle.description.specs.Described.{Described, DescribedProgram, DescribedStream}
 use Rattle.plan_search.specs.declared.reason.Reason.{Reason}
 use Rattle.plan_search.specs.declared.reason.Reason.TheVariants.{PcrLimit, TableLimit, SlowDrain, ShortLead, SmallMain, Overload}
 use Rattle.plan_search.specs.Reasons.{reasons_of}
-use Rattle.reason_lines.specs.ItemNames.{name_of_stream, program_name, table_name}
+use Rattle.reason_lines.specs.declared.stream_numbers.StreamNumber.{StreamNumber}
+use Rattle.reason_lines.specs.declared.stream_numbers.StreamNumber.TheVariants.{Rx, Lead, Main}
+use Rattle.reason_lines.specs.ItemNames.{name_of_program, name_of_stream, table_name}
 
 -- the greatest values of keys: ms between clock references, bits a second, units of 90 kHz, bytes
 abbrev pub greatest_pcr_limit : ℕ
@@ -51,24 +53,41 @@ unfoldable pub row_cause : Allowance → List ℕ
 row_cause (Groups units packets) = if units == 1 then codes " for its size\n" else codes " for its group_packets\n"
 row_cause (Pace burst pace) = codes " for its burst_packets\n"
 
-unfoldable pub limit_words : ℕ → List ℕ → List ℕ
-limit_words least cause = codes " pcr_limit" ++ (least_words least greatest_pcr_limit ++ cause)
-
-abbrev pub pcr_line : Described → ℕ → ℕ → List ℕ
-pcr_line d i least = program_name d i ++ limit_words least slot_cause
+-- what is said of the limit of a program's clock references
+abbrev pub pcr_words : ℕ → DescribedProgram → ℕ → List ℕ → List ℕ
+pcr_words i p least cause = name_of_program i (Some p) ++ less_words (codes "pcr_limit") p.pcr_limit least greatest_pcr_limit cause
 
 -- there is no line for a number that names nothing
-unfoldable pub rx_line : ℕ → ℕ → Option DescribedStream → List ℕ
-rx_line i least None = []
-rx_line i least (Some s) = name_of_stream i (Some s) ++ less_words (codes "rx") s.rx least greatest_rx (steady_cause s.allowance)
+unfoldable pub pcr_line : ℕ → ℕ → Option DescribedProgram → List ℕ
+pcr_line i least None = []
+pcr_line i least (Some p) = pcr_words i p least slot_cause
 
-unfoldable pub lead_line : ℕ → ℕ → Option DescribedStream → List ℕ
-lead_line i least None = []
-lead_line i least (Some s) = name_of_stream i (Some s) ++ less_words (codes "lead") s.lead least greatest_lead (row_cause s.allowance)
+-- the numbers of a stream: the key of each, its value, the greatest that it may have, and what asks for more
+unfoldable pub key_of : StreamNumber → List ℕ
+key_of Rx = codes "rx"
+key_of Lead = codes "lead"
+key_of Main = codes "main"
 
-unfoldable pub main_line : ℕ → ℕ → Option DescribedStream → List ℕ
-main_line i least None = []
-main_line i least (Some s) = name_of_stream i (Some s) ++ less_words (codes "main") s.main least greatest_main within_lead_cause
+abbrev pub value_of : StreamNumber → DescribedStream → ℕ
+value_of Rx s = s.rx
+value_of Lead s = s.lead
+value_of Main s = s.main
+
+abbrev pub greatest_of : StreamNumber → ℕ
+greatest_of Rx = greatest_rx
+greatest_of Lead = greatest_lead
+greatest_of Main = greatest_main
+
+abbrev pub cause_of : StreamNumber → Allowance → List ℕ
+cause_of Rx allowance = steady_cause allowance
+cause_of Lead allowance = row_cause allowance
+cause_of Main allowance = within_lead_cause
+
+-- one of them is too small
+unfoldable pub stream_line : StreamNumber → ℕ → ℕ → Option DescribedStream → List ℕ
+stream_line number i least None = []
+stream_line number i least (Some s) =
+    name_of_stream i (Some s) ++ less_words (key_of number) (value_of number s) least (greatest_of number) (cause_of number s.allowance)
 
 abbrev pub table_line : Described → ℕ → ℕ → List ℕ
 table_line d t least = table_name d t ++ codes " limit is less than " ++ decimal least ++ codes " for the slots of a round\n"
@@ -79,11 +98,11 @@ rate_line rate (Some least) = codes "rate " ++ decimal rate ++ codes " is less t
 rate_line rate None = codes "rate " ++ decimal rate ++ codes ": none is enough by reckoning\n"
 
 unfoldable pub reason_line : Described → Reason → List ℕ
-reason_line d (PcrLimit i least) = pcr_line d i least
+reason_line d (PcrLimit i least) = pcr_line i least (slice_get d.programs i)
 reason_line d (TableLimit t least) = table_line d t least
-reason_line d (SlowDrain i least) = rx_line i least (slice_get d.streams i)
-reason_line d (ShortLead i least) = lead_line i least (slice_get d.streams i)
-reason_line d (SmallMain i least) = main_line i least (slice_get d.streams i)
+reason_line d (SlowDrain i least) = stream_line Rx i least (slice_get d.streams i)
+reason_line d (ShortLead i least) = stream_line Lead i least (slice_get d.streams i)
+reason_line d (SmallMain i least) = stream_line Main i least (slice_get d.streams i)
 reason_line d (Overload least) = rate_line d.rate least
 
 -- a line for each reason

@@ -5,10 +5,9 @@ ghost use Rattle.plan_checker.specs.Refusals.{entry_of};
 ghost use Rattle.reason_lines.specs.ConditionLines as spec;
 
 use crate::item_names::{write_name_of_stream, write_program_name, write_stream_name};
-use crate::reasons::{
-    GREATEST_LEAD, GREATEST_MAIN, within_lead_cause, write_key, write_least, write_less,
-};
+use crate::least_values::{write_key, write_least};
 use crate::slot_conditions::write_claim;
+use crate::stream_numbers::{StreamNumber, greatest_of, key_of};
 use clock27::Rate;
 use description::{Description, StreamDescription};
 use plan_checker::Refusal;
@@ -127,21 +126,13 @@ fn write_row(units: u8, text: &mut String) -> Result<(), AllocError>
     write!(text, " for {units} in a row\n")
 }
 
-// The key of a lead.
-#[tactic(auto, unfolding(crate::specs::ConditionLines::lead_key))]
-fn lead_key() -> &'static str
-    ensures { result.now ≡ spec.lead_key }
-{
-    "lead"
-}
-
 // Appends a lead and the least that would do.
 #[tactic(auto, unfolding(crate::specs::ConditionLines::least_lead_words))]
 fn write_least_lead(lead: u128, least: u128, text: &mut String) -> Result<(), AllocError>
     ensures { OnOk result (string_bytes text.new ≡ string_bytes text.old ++ spec.least_lead_words lead least) }
 {
-    write_key(lead_key(), lead, text)?;
-    write_least(least, GREATEST_LEAD, text)
+    write_key(key_of(StreamNumber::Lead), lead, text)?;
+    write_least(least, greatest_of(StreamNumber::Lead), text)
 }
 
 // The units in a row of a condition.
@@ -179,29 +170,4 @@ pub fn write_lead(
     };
     write_name_of_stream(refusal.item as usize, Some(stream), text)?;
     write_lead_words(refusal, stream, text)
-}
-
-/// Appends the line of a main buffer.
-#[tactic(auto, unfolding(crate::specs::ConditionLines::main_buffer_line))]
-pub fn write_main_buffer(
-    refusal: Refusal,
-    stream: Option<&StreamDescription>,
-    text: &mut String,
-) -> Result<(), AllocError>
-    ensures { OnOk result (string_bytes text.new ≡ string_bytes text.old
-        ++ spec.main_buffer_line (entry_of refusal) (option_map (λ s. s.now) stream.entry)) }
-{
-    let Some(stream) = stream else {
-        return Ok(());
-    };
-    let main = u128::from(stream.main);
-    write_name_of_stream(refusal.item as usize, Some(stream), text)?;
-    write_less(
-        "main",
-        main,
-        refusal.left,
-        GREATEST_MAIN,
-        within_lead_cause(),
-        text,
-    )
 }

@@ -1,17 +1,19 @@
-//! The lines for the conditions that a plan does not keep: the first.
+//! The lines for the conditions that a plan does not keep.
 
-ghost use Rattle.std.specs.Prelude.{◌≡◌, ◌++◌, OnOk, option_map, string_bytes};
+ghost use Rattle.std.specs.Prelude.{◌≡◌, ◌++◌, OnOk, map, string_bytes};
+ghost use Rattle.std.specs.List.{flat_map};
 ghost use Rattle.plan_checker.specs.Refusals.{entry_of};
 ghost use Rattle.reason_lines.specs.ConditionLines as spec;
 
-use crate::buffer_conditions::{write_lead, write_main_buffer, write_system, write_transport};
+use crate::buffer_conditions::{write_lead, write_system, write_transport};
 use crate::item_names::write_stream_name;
 use crate::shape_conditions::write_shape;
 use crate::slot_conditions::{write_claim, write_pcr_gap, write_stream_rate, write_table_gap};
+use crate::stream_numbers::{StreamNumber, write_stream};
 use description::Description;
-use plan_checker::{Condition, Refusal, check};
+use plan_checker::{Condition, Refusal, failing};
 use slot_plan::Plan;
-use std::alloc::AllocError;
+use std::alloc::{AllocError, Global};
 use std::fmt::Write;
 
 // Appends the line of a claim of spread.
@@ -57,10 +59,12 @@ fn write_condition(
         ≡ string_bytes text.old ++ spec.condition_line description.now (entry_of refusal)) }
 {
     let item = refusal.item as usize;
-    let streams = description.streams();
+    let (programs, streams) = (description.programs(), description.streams());
     match refusal.condition {
         Condition::Shape => write_shape(description, refusal, text),
-        Condition::PcrGap => write_pcr_gap(description, refusal, text),
+        Condition::PcrGap => {
+            write_pcr_gap(description.rate(), refusal, programs.get(item), text)
+        }
         Condition::TableGap => write_table_gap(description, refusal, text),
         Condition::Spread => write_spread(description, refusal, text),
         Condition::StreamRate => {
@@ -68,7 +72,15 @@ fn write_condition(
         }
         Condition::TransportBuffer => write_transport(description, refusal, text),
         Condition::StreamLead => write_lead(refusal, streams.get(item), text),
-        Condition::MainBuffer => write_main_buffer(refusal, streams.get(item), text),
+        Condition::MainBuffer => {
+            write_stream(
+                StreamNumber::Main,
+                item,
+                refusal.left,
+                streams.get(item),
+                text,
+            )
+        }
         Condition::SystemBuffer => write_system(description, refusal, text),
         Condition::PcrSwitch
         | Condition::TableSwitch
@@ -78,33 +90,31 @@ fn write_condition(
     }
 }
 
-// Appends the line of a refusal, where there is one.
-#[tactic(auto, unfolding(crate::specs::ConditionLines::line_of_first))]
-fn write_refusal(
+// Appends a line for each condition.
+fn write_each(
     description: &Description,
-    refusal: Option<Refusal>,
+    refusals: &[Refusal],
     text: &mut String,
 ) -> Result<(), AllocError>
-    ensures { OnOk result (string_bytes text.new
-        ≡ string_bytes text.old ++ spec.line_of_first description.now (option_map entry_of refusal)) }
+    ensures { OnOk result (string_bytes text.new ≡ string_bytes text.old
+        ++ flat_map (spec.condition_line description.now) (map entry_of refusals.now)) }
 {
-    match refusal {
-        Some(refusal) => write_condition(description, refusal, text),
-        None => Ok(()),
+    for refusal in refusals {
+        write_condition(description, *refusal, text)?;
     }
+    Ok(())
 }
 
-/// Appends the line of the first condition that a plan does not keep.
-pub fn write_first_condition(
-    description: Description,
-    plan: Plan,
+/// Appends a line for each condition that a plan does not keep.
+pub fn write_conditions(
+    alloc: Global,
+    description: &Description,
+    plan: &Plan,
     text: &mut String,
 ) -> Result<(), AllocError>
     ensures { OnOk result (string_bytes text.new
-        ≡ string_bytes text.old ++ spec.first_condition_line description plan) }
+        ≡ string_bytes text.old ++ spec.condition_lines description.now plan.now) }
 {
-    match check(description, plan) {
-        Ok(checked) => write_refusal(checked.description(), None, text),
-        Err((refusal, description, _)) => write_refusal(&description, Some(refusal), text),
-    }
+    let refusals = failing(alloc, description, plan)?;
+    write_each(description, &refusals, text)
 }

@@ -26,9 +26,9 @@ pub fn write_name_of_stream(
     }
 }
 
-// Appends the name of a program; a place that has none stands for itself.
+/// Appends the name of a program; a place that has none stands for itself.
 #[tactic(auto, unfolding(crate::specs::ItemNames::name_of_program))]
-fn write_name_of_program(
+pub fn write_name_of_program(
     place: usize,
     program: Option<&ProgramDescription>,
     text: &mut String,

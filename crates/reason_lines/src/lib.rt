@@ -1,17 +1,21 @@
 //! What is wrong with a description or with a plan for it, in words.
 //!
 //! `item_names` names streams, programs and tables. `reasons` has a line for each number of a description that no plan can
-//! keep, with the least that would do (`specs/ReasonLines`); `conditions` the line of the first condition that a plan does
+//! keep, with the least that would do (`specs/ReasonLines`); `conditions` a line for each condition that a plan does
 //! not keep, with both its numbers in the units of keys (`specs/ConditionLines`), by `shape_conditions`, `slot_conditions`
-//! and `buffer_conditions`.
+//! and `buffer_conditions`. `stream_numbers` has what both say of the numbers of a stream, `program_limits` of the limit of clock
+//! references, `least_values` the words for a value that is too small.
 #![tactic(auto)]
 
 mod buffer_conditions;
 mod conditions;
 mod item_names;
+mod least_values;
+mod program_limits;
 mod reasons;
 mod shape_conditions;
 mod slot_conditions;
+mod stream_numbers;
 
-pub use conditions::write_first_condition;
+pub use conditions::write_conditions;
 pub use reasons::write_reasons;

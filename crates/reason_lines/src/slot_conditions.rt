@@ -4,10 +4,11 @@ ghost use Rattle.std.specs.Prelude.{◌≡◌, ◌<◌, ◌++◌, OnOk, option_m
 ghost use Rattle.plan_checker.specs.Refusals.{entry_of};
 ghost use Rattle.reason_lines.specs.ConditionLines as spec;
 
-use crate::item_names::{write_name_of_stream, write_program_name, write_table_name};
-use crate::reasons::{steady_cause, write_limit};
+use crate::item_names::{write_name_of_stream, write_table_name};
+use crate::program_limits::write_pcr_limit;
+use crate::stream_numbers::steady_cause;
 use clock27::Rate;
-use description::{Description, StreamDescription};
+use description::{Description, ProgramDescription, StreamDescription};
 use plan_checker::{Refusal, steady_time};
 use std::alloc::AllocError;
 use std::fmt::Write;
@@ -37,17 +38,21 @@ fn gap_cause() -> &'static str
 }
 
 /// Appends the line of clock references that are too far apart.
+#[tactic(auto, unfolding(crate::specs::ConditionLines::pcr_gap_line))]
 pub fn write_pcr_gap(
-    description: &Description,
+    rate: Rate,
     refusal: Refusal,
+    program: Option<&ProgramDescription>,
     text: &mut String,
 ) -> Result<(), AllocError>
-    ensures { OnOk result (string_bytes text.new
-        ≡ string_bytes text.old ++ spec.pcr_gap_line description.now (entry_of refusal)) }
+    ensures { OnOk result (string_bytes text.new ≡ string_bytes text.old
+        ++ spec.pcr_gap_line rate (entry_of refusal) (option_map (λ p. p.now) program.entry)) }
 {
-    let rate = u128::from(description.rate().bits_per_second());
-    write_program_name(description, refusal.item as usize, text)?;
-    write_limit(refusal.left.div_ceil(rate), gap_cause(), text)
+    let Some(program) = program else {
+        return Ok(());
+    };
+    let least = refusal.left.div_ceil(u128::from(rate.bits_per_second()));
+    write_pcr_limit(refusal.item as usize, program, least, gap_cause(), text)
 }
 
 /// Appends the line of a table whose rounds take too long.
