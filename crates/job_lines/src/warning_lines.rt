@@ -143,12 +143,7 @@ fn map_text(part: MapPart) -> &'static str
 
 // The line for the map of a program.
 #[tactic(auto, unfolding(crate::specs::WarningLines::map_line))]
-fn write_map(
-    program: u16,
-    packet: u64,
-    part: MapPart,
-    text: &mut String,
-) -> Result<(), AllocError>
+fn write_map(program: u16, packet: u64, part: MapPart, text: &mut String) -> Result<(), AllocError>
     ensures { OnOk result (string_bytes text.new ≡ string_bytes text.old ++ spec.map_line program packet part) }
 {
     write!(text, "packet {packet} PMT of program {program}")?;

@@ -16,8 +16,8 @@ use crate::reading::{PacketNotes, packet_notes, take_carried};
 use crate::reason_output::reason_output;
 use demux::Finding;
 use job_lines::{
-    are_missed, are_needed, is_damaged, told_fields, told_warnings, write_fields, write_other_tables,
-    write_packets, write_refusal, write_slips, write_warnings,
+    are_missed, are_needed, is_damaged, told_fields, told_warnings, write_fields,
+    write_other_tables, write_packets, write_refusal, write_slips, write_warnings,
 };
 use other_tables::{OtherTable, other_tables};
 use packet_sync::{FieldLeftOut, OtherPackets, Slip, other_packets};

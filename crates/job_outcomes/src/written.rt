@@ -12,11 +12,7 @@ use std::alloc::Global;
 use unit_output::write_job;
 
 /// Writes an outcome, and returns the status.
-pub fn write_outcome<W: Sink, E: Sink>(
-    outcome: &JobOutcome,
-    output: &mut W,
-    faults: &mut E,
-) -> u8
+pub fn write_outcome<W: Sink, E: Sink>(outcome: &JobOutcome, output: &mut W, faults: &mut E) -> u8
     ensures { spec.IsWritten outcome.now (writes W.Sink output.old output.new)
         (writes E.Sink faults.old faults.new) result }
 {

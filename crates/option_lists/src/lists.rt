@@ -97,10 +97,7 @@ fn all_buffers(alloc: Global, parts: &[&str]) -> Result<Option<Vec<PidBuffers>>,
 
 /// The buffers of a list `PID:RX:MAIN,..`: an empty list where it is not given, none where a part is out of range.
 #[tactic(auto, unfolding(crate::specs::Lists::buffer_list))]
-pub fn buffer_list(
-    alloc: Global,
-    text: Option<&str>,
-) -> Result<Option<Vec<PidBuffers>>, AllocError>
+pub fn buffer_list(alloc: Global, text: Option<&str>) -> Result<Option<Vec<PidBuffers>>, AllocError>
     ensures { IfOk result (λ r. option_map (λ buffers. buffers.items) r
         ≡ spec.buffer_list (option_map (λ s. s.now) text.entry)) }
 {

@@ -143,7 +143,8 @@ pub(crate) fn disagreeing(description: &Description, input: &JobInput) -> Option
     let streams = description.streams();
     if description.base0() != input.base0
         || programs.len() != input.programs.len()
-        || streams.len() != input.streams.len() {
+        || streams.len() != input.streams.len()
+    {
         return Some(0);
     }
     match first_other_program(programs, &input.programs) {

@@ -33,10 +33,7 @@ const LONGEST_TEXT: usize = 150;
 fn numbers_of(alloc: Global, programs: &[JobProgram]) -> Result<Vec<u16>, AllocError>
     ensures { IfOk result (λ numbers. numbers.items ≡ spec.numbers_of programs.now) }
 {
-    programs
-        .iter()
-        .map(|program| program.number)
-        .collect(alloc)
+    programs.iter().map(|program| program.number).collect(alloc)
 }
 
 /// The events of these programs.
@@ -94,11 +91,7 @@ pub(crate) fn start_of(
 
 // The lines of an event.
 #[tactic(auto, unfolding(crate::specs::Events::event_part))]
-fn write_event(
-    alloc: Global,
-    event: &FoundEvent<'_>,
-    text: &mut String,
-) -> Result<(), AllocError>
+fn write_event(alloc: Global, event: &FoundEvent<'_>, text: &mut String) -> Result<(), AllocError>
     ensures { OnOk result (string_bytes text.new ≡ string_bytes text.old ++ event_text (spec.event_part event.now)) }
 {
     let start = civil_text(alloc, event.start)?;
@@ -132,10 +125,7 @@ pub(crate) fn write_events(
 }
 
 // Appends these warnings.
-fn push_all(
-    found: &[InformationWarning],
-    warnings: &mut Vec<Warning>,
-) -> Result<(), AllocError>
+fn push_all(found: &[InformationWarning], warnings: &mut Vec<Warning>) -> Result<(), AllocError>
     ensures { OnOk result (warnings.new.items ≡ warnings.old.items ++ map Information found.now) }
 {
     for warning in found {

@@ -9,10 +9,7 @@ use std::alloc::Allocator;
 
 /// The bytes of a section that is found on a PID.
 #[tactic(auto, unfolding(crate::specs::Sections::section_on, crate::specs::Sections::section_bytes))]
-pub fn section_on<'f, A: Allocator>(
-    pid: u16,
-    finding: &'f Finding<'_, A>,
-) -> Option<&'f [u8]>
+pub fn section_on<'f, A: Allocator>(pid: u16, finding: &'f Finding<'_, A>) -> Option<&'f [u8]>
     ensures { option_map (λ bytes. bytes.now) result ≡ spec.section_on pid (finding_view finding.now) }
 {
     if finding.pid != Some(pid) {

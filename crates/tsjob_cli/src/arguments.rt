@@ -97,7 +97,11 @@ pub(crate) fn start_of<'a>(text: Option<&'a str>) -> Option<Option<&'a str>>
     let Some(text) = text else {
         return Some(None);
     };
-    if is_moment(text) { Some(Some(text)) } else { None }
+    if is_moment(text) {
+        Some(Some(text))
+    } else {
+        None
+    }
 }
 
 // The file of a description, where one is named; none where it is and not units are asked for.

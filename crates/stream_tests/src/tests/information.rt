@@ -93,12 +93,8 @@ static WARNINGS: [InformationWarning; 3] = [
         pid: 0x11,
         packet: 5,
     },
-    InformationWarning::TimeSurplus {
-        packet: 2,
-    },
-    InformationWarning::EventSurplus {
-        packet: 4,
-    },
+    InformationWarning::TimeSurplus { packet: 2 },
+    InformationWarning::EventSurplus { packet: 4 },
 ];
 
 fn are_warnings(alloc: Global, findings: &[Finding<'_>]) -> bool {
