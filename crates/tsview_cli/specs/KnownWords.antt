@@ -1,5 +1,5 @@
 -- The options that the program knows, and the values that each takes.
-use Rattle.std.specs.Prelude.{ℕ, Bool, true, false, if◌then◌else◌, Option, Some, None, codes, is_some, option_and_then}
+use Rattle.std.specs.Prelude.{ℕ, ◌||◌, Bool, true, false, if◌then◌else◌, Option, Some, None, codes, is_some, option_and_then}
 use Rattle.std.specs.Str.{bytes_eq}
 use Rattle.devices.specs.Options.{decimal, within}
 use Rattle.option_lists.specs.Lists.{buffer_list, number_list}
@@ -17,7 +17,7 @@ kind_of option =
     else (if bytes_eq option (codes "--buffers") then Some Buffers else None)))
 
 abbrev pub is_flag : Text → Bool
-is_flag option = bytes_eq option (codes "--json")
+is_flag option = bytes_eq option (codes "--json") || bytes_eq option (codes "--progress")
 
 abbrev pub takes_by : Option ValueKind → Bool → Option Bool
 takes_by (Some kind) flag = Some true

@@ -12,4 +12,5 @@ usage_text = concat
     ∷ codes "  --json                         a JSON object a line\n"
     ∷ codes "  --program N,..                 view the streams of these programs alone\n"
     ∷ codes "  --buffers PID:RX:MAIN,..       buffers of a PID, in bits a second and bytes\n"
+    ∷ codes "  --progress                     how many bytes are read is told each second, on a terminal\n"
     ∷ codes "  --version                      alone: the version, and the kit that proved it\n" ∷ [])

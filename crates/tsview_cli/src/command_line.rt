@@ -19,7 +19,8 @@ fn tsview<'a>(alloc: Global) -> Result<Command<'a>, AllocError>
         .arg(option(alloc, "window"))?
         .arg(flag(alloc, "json"))?
         .arg(option(alloc, "program"))?
-        .arg(option(alloc, "buffers"))
+        .arg(option(alloc, "buffers"))?
+        .arg(flag(alloc, "progress"))
 }
 
 /// The values of the options in the words.

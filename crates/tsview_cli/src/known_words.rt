@@ -48,13 +48,20 @@ fn is_value(alloc: Global, kind: ValueKind, value: &str) -> Result<bool, AllocEr
     }
 }
 
+// Whether an option takes no value.
+fn is_flag(option: &str) -> bool
+    ensures { result ≡ spec.is_flag option.now }
+{
+    option == "--json" || option == "--progress"
+}
+
 impl CommandLine for KnownWords {
     ghost known = { λ _. spec.known_words };
 
     fn takes_value(self, option: &str) -> Option<bool> {
         match kind_of(option) {
             Some(_) => Some(true),
-            None if option == "--json" => Some(false),
+            None if is_flag(option) => Some(false),
             None => None,
         }
     }

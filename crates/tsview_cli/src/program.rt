@@ -28,6 +28,7 @@ const USAGE: &str = "usage: tsview --rate R [OPTIONS] < PACKETS
   --json                         a JSON object a line
   --program N,..                 view the streams of these programs alone
   --buffers PID:RX:MAIN,..       buffers of a PID, in bits a second and bytes
+  --progress                     how many bytes are read is told each second, on a terminal
   --version                      alone: the version, and the kit that proved it
 ";
 
