@@ -1,0 +1,9 @@
+pub mod PlainLines
+pub mod PlainTexts
+pub mod PlainNames
+pub mod DescriptionLines
+pub mod WrittenRecords
+pub mod ReadJobs
+pub mod TakenJobs
+pub mod UnitsAgain
+pub mod PipedRuns
