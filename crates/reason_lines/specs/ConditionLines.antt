@@ -11,7 +11,7 @@ use Rattle.slot_plan.specs.declared.condition.Condition.{Condition}
 use Rattle.slot_plan.specs.declared.condition.Condition.TheVariants.{Shape, PcrGap, TableGap, Spread, StreamRate, TransportBuffer, StreamLead, MainBuffer, SystemBuffer, PcrSwitch, TableSwitch, WorkSwitch, LeadSwitch, MainSwitch}
 use Rattle.plan_checker.specs.Failing.{failing}
 use Rattle.reason_lines.specs.ItemNames.{name_of_stream, program_name, stream_name, table_name}
-use Rattle.reason_lines.specs.ReasonLines.{greatest_of, key_of, key_words, least_words, pcr_words, steady_cause, stream_line}
+use Rattle.reason_lines.specs.ReasonLines.{greatest_lead, key_of, key_words, least_words, pcr_words, steady_cause, stream_line}
 use Rattle.reason_lines.specs.declared.stream_numbers.StreamNumber.TheVariants.{Lead, Main}
 
 -- 1. The shape
@@ -124,7 +124,7 @@ unfoldable pub row_words : ℕ → List ℕ
 row_words units = codes " for " ++ decimal units ++ codes " in a row\n"
 
 unfoldable pub least_lead_words : ℕ → ℕ → List ℕ
-least_lead_words lead least = key_words (key_of Lead) lead ++ least_words least (greatest_of Lead)
+least_lead_words lead least = key_words (key_of Lead) lead ++ least_words least greatest_lead
 
 abbrev pub lead_words : Entry → DescribedStream → List ℕ
 lead_words e s = least_lead_words s.lead (lead_for e s) ++ row_words (units_in_row e)

@@ -7,7 +7,7 @@ ghost use Rattle.reason_lines.specs.ConditionLines as spec;
 use crate::item_names::{write_name_of_stream, write_program_name, write_stream_name};
 use crate::least_values::{write_key, write_least};
 use crate::slot_conditions::write_claim;
-use crate::stream_numbers::{StreamNumber, greatest_of, key_of};
+use crate::stream_numbers::{GREATEST_LEAD, StreamNumber, key_of};
 use clock27::Rate;
 use description::{Description, StreamDescription};
 use plan_checker::Refusal;
@@ -132,7 +132,7 @@ fn write_least_lead(lead: u128, least: u128, text: &mut String) -> Result<(), Al
     ensures { OnOk result (string_bytes text.new ≡ string_bytes text.old ++ spec.least_lead_words lead least) }
 {
     write_key(key_of(StreamNumber::Lead), lead, text)?;
-    write_least(least, greatest_of(StreamNumber::Lead), text)
+    write_least(least, GREATEST_LEAD, text)
 }
 
 // The units in a row of a condition.

@@ -9,6 +9,9 @@ use description::StreamDescription;
 use std::alloc::AllocError;
 use unit_timing::allowance::Allowance;
 
+/// The greatest lead, in units of 90 kHz.
+pub const GREATEST_LEAD: u128 = 90_000;
+
 /// A number of a stream.
 #[derive(Clone, Copy)]
 pub enum StreamNumber {
@@ -43,13 +46,13 @@ fn value_of(number: StreamNumber, stream: &StreamDescription) -> u128
     }
 }
 
-/// The greatest value that it may have.
-pub fn greatest_of(number: StreamNumber) -> u128
+// The greatest value that it may have.
+fn greatest_of(number: StreamNumber) -> u128
     ensures { result ≡ spec.greatest_of number }
 {
     match number {
         StreamNumber::Rx => 200_000_000,
-        StreamNumber::Lead => 90_000,
+        StreamNumber::Lead => GREATEST_LEAD,
         StreamNumber::Main => 10_000_000,
     }
 }
