@@ -29,16 +29,16 @@ at_number bytes i d ends below e =
 
 pub word_goes_on : (bytes : List ℕ) (i d byte : ℕ) (ends : Bool) → i < length bytes → byte ≡ get_or bytes i d → ends ≡ ends_value byte → ends ≡ false →
     first_word bytes ≡ word_from bytes i → first_word bytes ≡ word_from bytes (i + 1)
-word_goes_on bytes i d byte ends below at is no so =
-    let here : ends_value (get_or bytes i d) ≡ false = sym (ap ends_value at) ∙ sym is ∙ no in
+word_goes_on bytes i d byte ends below at is not_so so =
+    let here : ends_value (get_or bytes i d) ≡ false = sym (ap ends_value at) ∙ sym is ∙ not_so in
     so ∙ ap (λ (bs : List ℕ). take i bytes ++ bs) (at_number bytes i d false below here)
     ∙ sym (append_assoc (take i bytes) (get_or bytes i d ∷ []) (first_word (drop (i + 1) bytes)))
     ∙ ap (λ (bs : List ℕ). bs ++ first_word (drop (i + 1) bytes)) (sym (take_more bytes i d below))
 
 pub word_ends : (bytes : List ℕ) (i d byte : ℕ) (ends : Bool) → i < length bytes → byte ≡ get_or bytes i d → ends ≡ ends_value byte → ends ≡ true →
     first_word bytes ≡ word_from bytes i → take i bytes ≡ first_word bytes
-word_ends bytes i d byte ends below at is yes so =
-    let here : ends_value (get_or bytes i d) ≡ true = sym (ap ends_value at) ∙ sym is ∙ yes in
+word_ends bytes i d byte ends below at is is_so so =
+    let here : ends_value (get_or bytes i d) ≡ true = sym (ap ends_value at) ∙ sym is ∙ is_so in
     sym (so ∙ ap (λ (bs : List ℕ). take i bytes ++ bs) (at_number bytes i d true below here) ∙ append-nil (take i bytes))
 
 pub whole_word : (bytes : List ℕ) (i : ℕ) → length bytes ≤ i → first_word bytes ≡ word_from bytes i → bytes ≡ first_word bytes
@@ -67,16 +67,16 @@ with_step keys value line b i lines d all below at is so =
 pub with_goes_on : (keys : EqualKeys) (value line : List ℕ) (b : Bool) (i : ℕ) (lines : List (Bor (List ℕ))) (d : Bor (List ℕ)) (all : Option (ℕ × List ℕ)) →
     i < length lines → line ≡ (get_or lines i d).now → b ≡ is_value value (value_on keys line) → b ≡ false → row_with keys value (i + 1) (shown (drop i lines)) ≡ all →
     row_with keys value (i + 1 + 1) (shown (drop (i + 1) lines)) ≡ all
-with_goes_on keys value line b i lines d all below at is no so =
-    sym (ap (λ (x : Bool). if x then Some (i + 1, (get_or lines i d).now) else row_with keys value (i + 1 + 1) (shown (drop (i + 1) lines))) no)
+with_goes_on keys value line b i lines d all below at is not_so so =
+    sym (ap (λ (x : Bool). if x then Some (i + 1, (get_or lines i d).now) else row_with keys value (i + 1 + 1) (shown (drop (i + 1) lines))) not_so)
     ∙ with_step keys value line b i lines d all below at is so
 
 pub with_found : (keys : EqualKeys) (value line : List ℕ) (b : Bool) (i : ℕ) (lines : List (Bor (List ℕ))) (d : Bor (List ℕ)) (all : Option (ℕ × List ℕ)) →
     i < length lines → line ≡ (get_or lines i d).now → b ≡ is_value value (value_on keys line) → b ≡ true → row_with keys value (i + 1) (shown (drop i lines)) ≡ all →
     Some (i + 1, line) ≡ all
-with_found keys value line b i lines d all below at is yes so =
+with_found keys value line b i lines d all below at is is_so so =
     ap (λ (l : List ℕ). Some (i + 1, l)) at
-    ∙ sym (ap (λ (x : Bool). if x then Some (i + 1, (get_or lines i d).now) else row_with keys value (i + 1 + 1) (shown (drop (i + 1) lines))) yes)
+    ∙ sym (ap (λ (x : Bool). if x then Some (i + 1, (get_or lines i d).now) else row_with keys value (i + 1 + 1) (shown (drop (i + 1) lines))) is_so)
     ∙ with_step keys value line b i lines d all below at is so
 
 pub with_none : (keys : EqualKeys) (value : List ℕ) (i : ℕ) (lines : List (Bor (List ℕ))) (all : Option (ℕ × List ℕ)) → length lines ≤ i →
@@ -98,7 +98,7 @@ no_equal : (keys : EqualKeys) (n : ℕ) → equal_rows keys n [] ≡ None
 unfolding equal_rows
 no_equal keys n = refl
 
-pub equal_step : (keys : EqualKeys) (line : List ℕ) (other : Option (ℕ × List ℕ)) (i : ℕ) (lines : List (Bor (List ℕ))) (d : Bor (List ℕ)) (all : Option Pair) →
+equal_step : (keys : EqualKeys) (line : List ℕ) (other : Option (ℕ × List ℕ)) (i : ℕ) (lines : List (Bor (List ℕ))) (d : Bor (List ℕ)) (all : Option Pair) →
     i < length lines → line ≡ (get_or lines i d).now → other ≡ row_like keys (value_on keys line) (i + 1 + 1) (shown (drop (i + 1) lines)) →
     equal_rows keys (i + 1) (shown (drop i lines)) ≡ all → paired (i + 1, line) other (equal_rows keys (i + 1 + 1) (shown (drop (i + 1) lines))) ≡ all
 equal_step keys line other i lines d all below at is so =
@@ -106,6 +106,22 @@ equal_step keys line other i lines d all below at is so =
     ap (λ (o : Option (ℕ × List ℕ)). paired (i + 1, line) o (equal_rows keys (i + 1 + 1) rest)) is
     ∙ ap (λ (l : List ℕ). paired (i + 1, l) (row_like keys (value_on keys l) (i + 1 + 1) rest) (equal_rows keys (i + 1 + 1) rest)) at
     ∙ sym (ap (λ (ls : List (List ℕ)). equal_rows keys (i + 1) ls) (shown_from lines i d below) ∙ equal_here keys (get_or lines i d).now (i + 1) rest) ∙ so
+
+-- its value comes again
+pub equal_found : (keys : EqualKeys) (line : List ℕ) (other : Option (ℕ × List ℕ)) (found : ℕ × List ℕ) (i : ℕ) (lines : List (Bor (List ℕ))) (d : Bor (List ℕ)) (all : Option Pair) →
+    i < length lines → line ≡ (get_or lines i d).now → other ≡ row_like keys (value_on keys line) (i + 1 + 1) (shown (drop (i + 1) lines)) → other ≡ Some found →
+    equal_rows keys (i + 1) (shown (drop i lines)) ≡ all → Some ((i + 1, line), found) ≡ all
+equal_found keys line other found i lines d all below at is e so =
+    sym (ap (λ (o : Option (ℕ × List ℕ)). paired (i + 1, line) o (equal_rows keys (i + 1 + 1) (shown (drop (i + 1) lines)))) e)
+    ∙ equal_step keys line other i lines d all below at is so
+
+-- it does not
+pub equal_goes_on : (keys : EqualKeys) (line : List ℕ) (other : Option (ℕ × List ℕ)) (i : ℕ) (lines : List (Bor (List ℕ))) (d : Bor (List ℕ)) (all : Option Pair) →
+    i < length lines → line ≡ (get_or lines i d).now → other ≡ row_like keys (value_on keys line) (i + 1 + 1) (shown (drop (i + 1) lines)) → other ≡ None →
+    equal_rows keys (i + 1) (shown (drop i lines)) ≡ all → equal_rows keys (i + 1 + 1) (shown (drop (i + 1) lines)) ≡ all
+equal_goes_on keys line other i lines d all below at is e so =
+    sym (ap (λ (o : Option (ℕ × List ℕ)). paired (i + 1, line) o (equal_rows keys (i + 1 + 1) (shown (drop (i + 1) lines)))) e)
+    ∙ equal_step keys line other i lines d all below at is so
 
 pub equal_none : (keys : EqualKeys) (i : ℕ) (lines : List (Bor (List ℕ))) (all : Option Pair) → length lines ≤ i →
     equal_rows keys (i + 1) (shown (drop i lines)) ≡ all → None ≡ all
