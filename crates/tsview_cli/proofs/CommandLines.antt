@@ -10,11 +10,11 @@ use Rattle.tsview_cli.specs.Arguments.{request_of, unless_faulty}
 use Rattle.tsview_cli.specs.CommandLine.{tsview_app}
 
 pub simple : is_simple tsview_app ≡ true
-unfolding tsview_app Rattle.tsview_cli.specs.CommandLine.options_app
+unfolding tsview_app
 simple = refl
 
 pub simple_and_free : is_simple_and_free tsview_app ≡ true
-unfolding tsview_app Rattle.tsview_cli.specs.CommandLine.options_app
+unfolding tsview_app
 simple_and_free = refl
 
 pub matched : {E : Type 0} (app : App) (words : List Text) (r : Result ArgMatches E) → is_simple app ≡ true → IfOk r (HasMatchesOf app words) →

@@ -7,9 +7,9 @@ abbrev pub top_app : App
 top_app = record (new_app (codes "tsview")) { top = record (new_app (codes "tsview")).top { no_binary_name = true } }
 
 -- --rate R [--window MS] [--json]
-unfoldable pub options_app : App
-options_app = with_rule (with_rule (with_rule top_app (option_rule (codes "rate"))) (option_rule (codes "window"))) (flag_rule (codes "json"))
+abbrev pub lines_app : App
+lines_app = with_rule (with_rule (with_rule top_app (option_rule (codes "rate"))) (option_rule (codes "window"))) (flag_rule (codes "json"))
 
 -- and [--program N,..] [--buffers PID:RX:MAIN,..] [--progress]
 unfoldable pub tsview_app : App
-tsview_app = with_rule (with_rule (with_rule options_app (option_rule (codes "program"))) (option_rule (codes "buffers"))) (flag_rule (codes "progress"))
+tsview_app = with_rule (with_rule (with_rule lines_app (option_rule (codes "program"))) (option_rule (codes "buffers"))) (flag_rule (codes "progress"))

@@ -2,22 +2,29 @@
 
 ghost use Rattle.std.specs.Prelude.{◌≡◌, IfOk, map};
 ghost use Rattle.clap.specs.Words.{FailsBy, app_of, fault_of, found_of, matches_of, rows_of};
-ghost use Rattle.tsview_cli.specs.CommandLine.{tsview_app};
+ghost use Rattle.tsview_cli.specs.CommandLine.{lines_app, tsview_app};
 
 use clap::{ArgMatches, Command, Error};
 use devices::{flag, option};
 use std::alloc::{AllocError, Global};
 
-// The program's command line.
-#[tactic(auto, unfolding(crate::specs::CommandLine::options_app, crate::specs::CommandLine::tsview_app))]
-fn tsview<'a>(alloc: Global) -> Result<Command<'a>, AllocError>
-    ensures { IfOk result (λ c. app_of c ≡ tsview_app) }
+// The rate, the length of windows and the form of a line.
+fn with_lines<'a>(alloc: Global) -> Result<Command<'a>, AllocError>
+    ensures { IfOk result (λ c. app_of c ≡ lines_app) }
 {
     Command::new(alloc, "tsview")
         .no_binary_name(true)
         .arg(option(alloc, "rate"))?
         .arg(option(alloc, "window"))?
-        .arg(flag(alloc, "json"))?
+        .arg(flag(alloc, "json"))
+}
+
+// The program's command line.
+#[tactic(auto, unfolding(crate::specs::CommandLine::tsview_app))]
+fn tsview<'a>(alloc: Global) -> Result<Command<'a>, AllocError>
+    ensures { IfOk result (λ c. app_of c ≡ tsview_app) }
+{
+    with_lines(alloc)?
         .arg(option(alloc, "program"))?
         .arg(option(alloc, "buffers"))?
         .arg(flag(alloc, "progress"))
