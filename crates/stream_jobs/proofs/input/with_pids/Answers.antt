@@ -14,15 +14,15 @@ returns-clause-value c =
     let options = c.args.options.now in
     let findings = map finding_view c.args.findings.now in
     let streams = c.in_ok-streams.streams.items in
-    let are : wire_streams options.make_dts options.without findings c.args.found.streams ≡ Ok streams = search rules in
-    let empties : c.wire_streams.new.warnings.items ≡ c.in_ok-warnings.warnings.items ++ all_empty_stream_warnings c.args.count options.without findings c.args.found.streams = search rules in
-    let programs : c.job_programs.new.warnings.items ≡ c.wire_streams.new.warnings.items ++ all_program_warnings streams c.args.found.programs c.args.assigned.items = search rules in
-    let pids : c.push_stream_warnings.new.warnings.items ≡ c.job_programs.new.warnings.items ++ flat_map (λ s. pid_warnings c.args.count findings s.pid) streams = search rules in
-    let made : c.in_ok-programs.programs.items ≡ job_programs streams c.args.found.programs c.args.assigned.items = search rules in
-    let pushed : c.push_service_warnings.new.warnings.items ≡ c.push_stream_warnings.new.warnings.items ++ service_warnings options.names findings c.in_ok-programs.programs.items = search rules in
+    let are : wire_streams options.make_dts options.without findings c.args.found.streams ≡ Ok streams = c.in_ok-streams.ensures.streams in
+    let empties : c.wire_streams.new.warnings.items ≡ c.in_ok-warnings.warnings.items ++ all_empty_stream_warnings c.args.count options.without findings c.args.found.streams = c.in_ok-streams.ensures.warnings in
+    let programs : c.job_programs.new.warnings.items ≡ c.wire_streams.new.warnings.items ++ all_program_warnings streams c.args.found.programs c.args.assigned.items = c.in_ok-programs.ensures.warnings in
+    let pids : c.push_stream_warnings.new.warnings.items ≡ c.job_programs.new.warnings.items ++ flat_map (λ s. pid_warnings c.args.count findings s.pid) streams = c.in_ok-push_stream_warnings.ensures in
+    let made : c.in_ok-programs.programs.items ≡ job_programs streams c.args.found.programs c.args.assigned.items = c.in_ok-programs.ensures.programs in
+    let pushed : c.push_service_warnings.new.warnings.items ≡ c.push_stream_warnings.new.warnings.items ++ service_warnings options.names findings c.in_ok-programs.programs.items = c.in_ok-push_service_warnings.ensures in
     let texts : c.push_service_warnings.new.warnings.items ≡ c.push_stream_warnings.new.warnings.items ++ service_warnings options.names findings (job_programs streams c.args.found.programs c.args.assigned.items) =
     pushed ∙ ap (λ (ps : List JobProgramView). c.push_stream_warnings.new.warnings.items ++ service_warnings options.names findings ps) made in
-    let value : Answers (with_streams options findings c.args.association.now.transport_stream_id c.in_ok-programs.programs.items c.push_service_warnings.new.warnings.items streams) c.with_streams.result = search rules in
+    let value : Answers (with_streams options findings c.args.association.now.transport_stream_id c.in_ok-programs.programs.items c.push_service_warnings.new.warnings.items streams) c.with_streams.result = c.with_streams.ensures.value in
     let warnings = all_warnings options c.args.count findings c.args.association.now c.args.named.now c.args.found c.args.assigned.items streams
     c.in_ok-warnings.warnings.items c.wire_streams.new.warnings.items c.job_programs.new.warnings.items c.push_stream_warnings.new.warnings.items c.push_service_warnings.new.warnings.items
     c.in_ok-warnings.ensures empties programs pids texts in
