@@ -1,11 +1,16 @@
-use Rattle.std.proofs.Common.{map, ◌≡◌, ◌++◌, ◌∙◌, ap, List, Ok, rules}
+use Rattle.std.proofs.Common.{map, ◌≡◌, ◌++◌, ◌∙◌, ap, ap₂, List, Ok, rules}
 use Rattle.std.specs.Prelude.{flat_map}
 use Rattle.demux.specs.Shown.{finding_view}
 use Rattle.stream_jobs.specs.Answers.{Answers}
+use Rattle.stream_programs.specs.Association.{AssociationView}
+use Rattle.stream_programs.specs.Programs.{FoundProgramsView}
+use Rattle.stream_jobs.specs.GivenNames.{ServiceNameView}
+use Rattle.stream_jobs.specs.JobOptions.{JobOptionsView}
 use Rattle.stream_jobs.specs.JobPrograms.{JobProgramView, job_programs, all_program_warnings}
 use Rattle.stream_jobs.specs.JobInput.{service_warnings, with_streams}
 use Rattle.stream_jobs.specs.Warnings.{pid_warnings}
 use Rattle.stream_jobs.specs.WireStreams.{wire_streams, all_empty_stream_warnings}
+use Rattle.stream_jobs.specs.JobStreams.{WireStreamView}
 use Rattle.stream_jobs.proofs.JobInputs.{all_warnings, in_pids}
 use Rattle.stream_jobs.proofs.input.with_pids.Goals as goal
 
@@ -14,15 +19,19 @@ returns-clause-value c =
     let options = c.args.options.now in
     let findings = map finding_view c.args.findings.now in
     let streams = c.in_ok-streams.streams.items in
-    let are : wire_streams options.make_dts options.without findings c.args.found.streams ≡ Ok streams = c.in_ok-streams.ensures.streams in
-    let empties : c.wire_streams.new.warnings.items ≡ c.in_ok-warnings.warnings.items ++ all_empty_stream_warnings c.args.count options.without findings c.args.found.streams = c.in_ok-streams.ensures.warnings in
-    let programs : c.job_programs.new.warnings.items ≡ c.wire_streams.new.warnings.items ++ all_program_warnings streams c.args.found.programs c.args.assigned.items = c.in_ok-programs.ensures.warnings in
-    let pids : c.push_stream_warnings.new.warnings.items ≡ c.job_programs.new.warnings.items ++ flat_map (λ s. pid_warnings c.args.count findings s.pid) streams = c.in_ok-push_stream_warnings.ensures in
-    let made : c.in_ok-programs.programs.items ≡ job_programs streams c.args.found.programs c.args.assigned.items = c.in_ok-programs.ensures.programs in
-    let pushed : c.push_service_warnings.new.warnings.items ≡ c.push_stream_warnings.new.warnings.items ++ service_warnings options.names findings c.in_ok-programs.programs.items = c.in_ok-push_service_warnings.ensures in
+    let are : wire_streams options.make_dts options.without findings c.args.found.streams ≡ Ok streams = search rules in
+    let empties : c.wire_streams.new.warnings.items ≡ c.in_ok-warnings.warnings.items ++ all_empty_stream_warnings c.args.count options.without findings c.args.found.streams = search rules in
+    let programs : c.job_programs.new.warnings.items ≡ c.wire_streams.new.warnings.items ++ all_program_warnings streams c.args.found.programs c.args.assigned.items = search rules in
+    let pids : c.push_stream_warnings.new.warnings.items ≡ c.job_programs.new.warnings.items ++ flat_map (λ s. pid_warnings c.args.count findings s.pid) streams =
+    c.in_ok-push_stream_warnings.ensures ∙ ap (λ (all : List WireStreamView). c.job_programs.new.warnings.items ++ flat_map (λ s. pid_warnings c.args.count findings s.pid) all) c.deref-2.ensures.value in
+    let named = ap (λ (f : FoundProgramsView). f.programs) c.found.view_is in
+    let made : c.in_ok-programs.programs.items ≡ job_programs streams c.args.found.programs c.args.assigned.items = search (rules, c.in_ok-programs.ensures.programs, c.deref.ensures.value, named) in
+    let names = ap (λ (o : JobOptionsView). o.names) c.options.view_is in
+    let pushed : c.push_service_warnings.new.warnings.items ≡ c.push_stream_warnings.new.warnings.items ++ service_warnings c.options.inside.names.now findings c.deref-3.result.now = c.in_ok-push_service_warnings.ensures in
     let texts : c.push_service_warnings.new.warnings.items ≡ c.push_stream_warnings.new.warnings.items ++ service_warnings options.names findings (job_programs streams c.args.found.programs c.args.assigned.items) =
-    pushed ∙ ap (λ (ps : List JobProgramView). c.push_stream_warnings.new.warnings.items ++ service_warnings options.names findings ps) made in
-    let value : Answers (with_streams options findings c.args.association.now.transport_stream_id c.in_ok-programs.programs.items c.push_service_warnings.new.warnings.items streams) c.with_streams.result = c.with_streams.ensures.value in
+    pushed ∙ ap₂ (λ (ns : List ServiceNameView) (ps : List JobProgramView). c.push_stream_warnings.new.warnings.items ++ service_warnings ns findings ps) names (c.deref-3.ensures.value ∙ made) in
+    let id = ap (λ (a : AssociationView). a.transport_stream_id) c.association.view_is in
+    let value : Answers (with_streams options findings c.args.association.now.transport_stream_id c.in_ok-programs.programs.items c.push_service_warnings.new.warnings.items streams) c.with_streams.result = search (rules, c.with_streams.ensures.value, id) in
     let warnings = all_warnings options c.args.count findings c.args.association.now c.args.named.now c.args.found c.args.assigned.items streams
     c.in_ok-warnings.warnings.items c.wire_streams.new.warnings.items c.job_programs.new.warnings.items c.push_stream_warnings.new.warnings.items c.push_service_warnings.new.warnings.items
     c.in_ok-warnings.ensures empties programs pids texts in
