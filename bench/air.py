@@ -8,7 +8,7 @@ import sys
 import tempfile
 from pathlib import Path
 
-from common import SIZES, audio_front, audio_job, beside, copy_seconds, least, limit_spent, peak_bytes, peak_of_long_run
+from common import SIZES, audio_front, audio_job, audio_pieces, beside, copy_seconds, least, limit_spent, peak_bytes, peak_of_pipe
 
 tsmux, tsair = sys.argv[1:3]
 LONG = int(sys.argv[3]) if len(sys.argv) > 3 else 4
@@ -26,5 +26,5 @@ for streams in (1, 32):
             size, most = made.stat().st_size / 1e6, peak_bytes([tsair], made) / 1e6
             print(beside(f"tsair, {streams} streams, {size:.0f} MB of job", count, ours, limit, copy) + f"; {'the bytes of' if same else 'NOT THE BYTES OF'}"
                   f" mux, which takes {mux.whole:.2f} s; at most {most:.1f} MB of memory")
-most = peak_of_long_run([tsair], audio_front(tsmux, 32), 32, LONG * 10**9) / 1e6
+most = peak_of_pipe([tsair], audio_pieces(audio_front(tsmux, 32), 32, LONG * 10**9)) / 1e6
 print(f"tsair, 32 streams, {LONG} GB of records through a pipe: at most {most:.1f} MB of memory")

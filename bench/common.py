@@ -228,16 +228,21 @@ def audio_job(binary, streams, size):
     return audio_front(binary, streams) + audio_records(streams, 0, size * 8 * 90_000 // (audio_rate(streams) * 2160))
 
 
-def peak_of_long_run(words, front, streams, size):
-    """The most memory that a program holds whose input is a pipe: this front, and records of such a service as they are made, about so
-    many bytes of them."""
+def peak_of_pipe(words, pieces):
+    """The most memory that a program holds whose input is a pipe with these pieces, one after the other as they are made."""
     running = subprocess.Popen([sys.executable, "-c", PEAK, *map(str, words)], stdin=subprocess.PIPE, stdout=subprocess.PIPE)
-    running.stdin.write(front)
-    step = 1 + 1_000_000 // (597 * streams)
-    for begin in range(0, size // (597 * streams), step):
-        running.stdin.write(audio_records(streams, begin, begin + step))
+    for piece in pieces:
+        running.stdin.write(piece)
     running.stdin.close()
     return int(running.stdout.read())
+
+
+def audio_pieces(front, streams, size):
+    """This front, and records of such a service, about so many bytes of them."""
+    yield front
+    step = 1 + 1_000_000 // (597 * streams)
+    for begin in range(0, size // (597 * streams), step):
+        yield audio_records(streams, begin, begin + step)
 
 
 VIDEO = """
@@ -257,11 +262,15 @@ main = 240000
 TELEVISION_RATE = 5_200_000
 
 
-def television_job(binary, size):
-    """A job of one stream of video, a unit of 20,000 bytes each 40 ms, and two of audio as above, whose packets have about this many
-    bytes: its description, its plan by `plan`, its units by DTS."""
+def television_text():
+    """The description of a service of one stream of video, a unit of 20,000 bytes each 40 ms, and two of audio as above."""
     streams = VIDEO + "".join(STREAM.format(pid=300 + k, id=192 + k) for k in range(2))
-    text = (f"rate = {TELEVISION_RATE}\n" + PROGRAM + streams).encode()
+    return f"rate = {TELEVISION_RATE}\n" + PROGRAM + streams
+
+
+def television_job(binary, size):
+    """A job of such a service, whose packets have about this many bytes: its description, its plan by `plan`, its units by DTS."""
+    text = television_text().encode()
     plan = subprocess.run([binary, "plan"], input=text, capture_output=True, check=True).stdout
     end = 27_000 + size * 8 * 90_000 // TELEVISION_RATE
     units = [(dts, 0, 20_000) for dts in range(27_000, end, 3600)]
@@ -273,3 +282,55 @@ def television_job(binary, size):
 # The bytes of packets of a job of about 46 MB and 150 MB: with one stream of audio, or television.
 SIZES = (100_000_000, 326_000_000)
 TELEVISION_SIZES = (53_000_000, 174_000_000)
+
+
+def time_stamp(prefix, moment):
+    """A PTS in the header of a PES packet (ISO/IEC 13818-1, 2.4.3.7)."""
+    return ((prefix << 36 | (moment >> 30 & 7) << 33 | 1 << 32 | (moment >> 15 & 0x7FFF) << 17 | 1 << 16 | (moment & 0x7FFF) << 1 | 1)).to_bytes(5, "big")
+
+
+def counted(packet, counter):
+    """A packet with another continuity_counter."""
+    return packet[:3] + bytes([packet[3] & 0xF0 | counter % 16]) + packet[4:]
+
+
+def unit_packets(pid, stream_id, size):
+    """The packets of a PES packet of this many bytes, with counters from 0 and a PTS of 0: it stands at byte 13 of the first."""
+    length = 0 if size > 60_000 else size + 8
+    data = b"\0\0\1" + bytes([stream_id]) + length.to_bytes(2, "big") + b"\x80\x80\x05" + time_stamp(2, 0) + random.Random(pid).randbytes(size)
+    packets = []
+    while data:
+        body, data = data[:184], data[184:]
+        fill = 184 - len(body)
+        field = b"" if fill == 0 else bytes([fill - 1]) + (b"\0" + b"\xFF" * (fill - 2))[: fill - 1]
+        start = 0 if packets else 0x40
+        packets.append(bytes([0x47, start | pid >> 8, pid & 255, 0x30 if fill else 0x10]) + field + body)
+    return packets
+
+
+def pcr_packet(pid, moment):
+    """A packet with a clock reference alone."""
+    return bytes([0x47, pid >> 8, pid & 255, 0x20, 183, 0x10]) + (moment << 15 | 0x7E00).to_bytes(6, "big") + b"\xFF" * 176
+
+
+def television_pieces(binary, size):
+    """About so many bytes of packets of the television service, in no multiplex: each 40 ms its tables, a clock reference and a unit of
+    video, and units of both sounds where they are due; stamps and counters rise through all of them."""
+    muxed = subprocess.run([binary, "mux"], input=television_job(binary, 200_000), capture_output=True, check=True).stdout
+    packets = [muxed[at : at + 188] for at in range(0, len(muxed), 188)]
+    tables = [next(packet for packet in packets if packet[1] & 0x1F == pid >> 8 and packet[2] == pid & 255) for pid in (0, 4096)]
+    streams = [unit_packets(299, 224, 20_000), unit_packets(300, 192, 576), unit_packets(301, 193, 576)]
+    made = [[b"".join(counted(packet, first + k) for k, packet in enumerate(unit)) for first in range(16)] for unit in streams]
+    tables = [[counted(table, counter) for counter in range(16)] for table in tables]
+    stands = [unit[0].index(b"\0\0\1") + 9 for unit in streams]
+    counters, due, moment, left = [0, 0, 0], [0, 0, 0], 90_000, size
+    while left > 0:
+        piece = [b"".join(table[(moment // 3600) % 16] for table in tables), pcr_packet(257, (moment - 45_000) % 2**33)]
+        for k, apart in enumerate((3600, 2160, 2160)):
+            while due[k] < moment + 3600 - 90_000:
+                unit, stamp = made[k][counters[k] % 16], time_stamp(2, (90_000 + due[k]) % 2**33)
+                piece.append(unit[: stands[k]] + stamp + unit[stands[k] + 5 :])
+                counters[k], due[k] = counters[k] + len(streams[k]), due[k] + apart
+        moment += 3600
+        left -= sum(map(len, piece))
+        yield b"".join(piece)

@@ -1,16 +1,18 @@
 #!/usr/bin/env python3
 """tsjob.py TSJOB TSMUX: the speed and the memory of `tsjob` on about 46 MB and 150 MB of packets that `tsmux mux` made, of 1 and of 32
 streams of audio and of television, with all tables: the whole job, its description alone (`describe`), its records alone (`units`), its
-records while the stream comes (`units --stream`, by that description), as processor time, beside a program that reads, copies and writes the packets, and a copy of them in memory. It needs cc."""
+records while the stream comes (`units --stream`, by that description), as processor time, beside a program that reads, copies and writes the packets, and a copy of them in memory;
+and the memory of `units --stream` over 4 GB of packets, or as many GB as a third word says, which are made as they are read. It needs cc."""
 
 import subprocess
 import sys
 import tempfile
 from pathlib import Path
 
-from common import audio_job, beside, copy_seconds, least, limit_spent, peak_bytes, television_job
+from common import audio_job, beside, copy_seconds, least, limit_spent, peak_bytes, peak_of_pipe, television_job, television_pieces, television_text
 
 tsjob, tsmux = sys.argv[1:3]
+LONG = int(sys.argv[3]) if len(sys.argv) > 3 else 4
 jobs = (
     ("1 stream", lambda size: audio_job(tsmux, 1, size)),
     ("32 streams", lambda size: audio_job(tsmux, 32, size)),
@@ -34,3 +36,8 @@ for name, job in jobs:
                 most = peak_bytes([tsjob, *word], stream)
                 print(beside(" ".join(["tsjob", *word[:2]]) + f", {name}, {size / 1e6:.0f} MB", size // 188, least([tsjob, *word], stream), limit, copy)
                       + f"; {len(done.stdout) / 1e6:.1f} MB of job, at most {most / 1e6:.0f} MB of memory, {most / size:.2f} times the stream")
+with tempfile.TemporaryDirectory() as scratch:
+    description = Path(scratch, "description")
+    description.write_text(television_text())
+    most = peak_of_pipe([tsjob, "units", "--stream", description], television_pieces(tsmux, LONG * 10**9)) / 1e6
+print(f"tsjob units --stream, television, {LONG} GB of packets through a pipe: at most {most:.1f} MB of memory")

@@ -54,7 +54,7 @@ fn map_of(program: &ProgramDescription) -> FedMap
 {
     FedMap {
         program_number: program.number(),
-        version: None,
+        current: None,
     }
 }
 

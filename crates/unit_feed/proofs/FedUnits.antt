@@ -1,7 +1,9 @@
 -- What is fed, finding by finding.
 use Rattle.std.proofs.Common.{◌≡◌, ◌∙◌, ◌<◌, ℕ, ◌+◌, ◌++◌, ◌||◌, ◌&&◌, Bool, true, false, if◌then◌else◌, Option, Some, None, Result, Ok, List, [], ◌∷◌, length, map, drop, get_or, slice_get, slice_set, refl, sym, ap, subst, add-one, inl, inr, ◌⊎◌, ◌≤◌, arith}
 use Rattle.std.specs.Option.{option_to_list}
+use Rattle.std.specs.Prelude.{nat_lt}
 use Rattle.std.proofs.Math.Seq.{drop-cons}
+use Rattle.std.proofs.lemmas.Bool.Decides.{nat_tests}
 use Rattle.std.proofs.lemmas.List.{append_assoc, append-nil, drop_all}
 use Rattle.std.proofs.lemmas.Option.{slice_get_cases}
 use Rattle.pes_packet.specs.AccessUnits.{AccessUnit}
@@ -13,9 +15,11 @@ use Rattle.stream_units.specs.UnitSteps.{after_findings, ended_unit, given, goes
 use Rattle.stream_units.specs.declared.stamps.StampFault.{StampFault}
 use Rattle.unit_feed.specs.declared.feed_fault.FeedFault.{FeedFault}
 use Rattle.unit_feed.specs.declared.feed_fault.Loss.{Loss}
-use Rattle.unit_feed.specs.declared.feed_fault.NewMap.{NewMap}
-use Rattle.unit_feed.specs.Maps.{change_place, map_from, new_map, set_place}
-use Rattle.unit_feed.specs.Feeding.{FedStreamView, Fed, FeedView, unless_fault, at_moment, last_dts, base_by, base_after, before_with, fed_with, stream_with, fed_by, whole_by, after_found, lost_by, lost_fed, told_of, place_from, feed_with, after_at, fed_at, after_place, fed_place, after_unit, fed_unit, map_fed, watched, after_one, fed_one, after_all, fed_all, fed_last, fed_to_end}
+use Rattle.unit_feed.specs.Maps.{change_place, map_from, set_place}
+use Rattle.unit_feed.specs.Origins.{base_for, no_origin, origin_with}
+use Rattle.unit_feed.specs.declared.due.Due.{Due}
+use Rattle.unit_feed.specs.declared.origin.Origin.{Origin}
+use Rattle.unit_feed.specs.Feeding.{FedStreamView, Fed, FeedView, ahead_of, unless_ahead, unless_fault, at_moment, last_dts, base_by, base_of, origin_after, before_with, fed_with, stream_with, fed_by, whole_by, after_found, lost_by, lost_fed, told_of, greatest_if, due_of, with_streams, place_from, feed_with, after_at, fed_at, after_place, fed_place, after_unit, fed_unit, map_fed, after_one, fed_one, after_all, fed_all, fed_last, fed_ends, fed_to_end}
 use Rattle.stream_units.proofs.UnitSteps.{uncut_carried}
 use Rattle.unit_feed.specs.Laws.{FedAsCarried, FedInTurn, has_loss, is_loss}
 
@@ -58,30 +62,32 @@ unfolding after_place after_at
 after_is feed f k s at is = rw (sym at) (rw is refl)
 
 fed_is : (feed : FeedView) (f : FindingView) (k : ℕ) (s : FedStreamView) → Some k ≡ place_from f.pid 0 feed.streams → slice_get feed.streams k ≡ Some s →
-    fed_unit feed f ≡ option_to_list (fed_by feed.earliest feed.base s (whole_by s f)) ++ option_to_list (lost_fed s f)
+    fed_unit feed f ≡ option_to_list (fed_by (due_of feed) feed.origin s (whole_by s f)) ++ option_to_list (lost_fed s f)
 unfolding fed_place fed_at
 fed_is feed f k s at is = rw (sym at) (rw is refl)
 
-pub placed_after : (feed : FeedView) (f : FindingView) (k : ℕ) (base : Option ℕ) (streams : List FedStreamView) → Some k ≡ place_from f.pid 0 feed.streams → k < length feed.streams →
-    ((s : FedStreamView) → slice_get feed.streams k ≡ Some s → streams ≡ slice_set feed.streams k (stream_with feed.earliest feed.base (after_found s f) (whole_by s f))) →
-    ((s : FedStreamView) → slice_get feed.streams k ≡ Some s → base ≡ base_after feed.earliest feed.base (whole_by s f)) →
-    record { earliest = feed.earliest; base = base; maps = feed.maps; streams = streams } ≡ after_unit feed f
-placed_after feed f k base streams at below sets fixes =
+pub placed_after : (feed : FeedView) (f : FindingView) (k : ℕ) (due : Due) (o : Origin) (streams : List FedStreamView) → Some k ≡ place_from f.pid 0 feed.streams → k < length feed.streams → due ≡ due_of feed →
+    ((s : FedStreamView) → slice_get feed.streams k ≡ Some s → streams ≡ slice_set feed.streams k (stream_with due feed.origin (after_found s f) (whole_by s f))) →
+    ((s : FedStreamView) → slice_get feed.streams k ≡ Some s → o ≡ origin_after due feed.origin (whole_by s f)) →
+    with_streams feed o streams ≡ after_unit feed f
+placed_after feed f k due o streams at below is sets fixes =
     let s = there feed.streams k below (slice_get_cases feed.streams k).1 in
-    ap (λ (ss : List FedStreamView). record { earliest = feed.earliest; base = base; maps = feed.maps; streams = ss }) (sets s.0 s.1)
-    ∙ ap (λ (b : Option ℕ). record { earliest = feed.earliest; base = b; maps = feed.maps; streams = slice_set feed.streams k (stream_with feed.earliest feed.base (after_found s.0 f) (whole_by s.0 f)) }) (fixes s.0 s.1)
+    ap (λ (ss : List FedStreamView). with_streams feed o ss) (sets s.0 s.1)
+    ∙ ap (λ (b : Origin). with_streams feed b (slice_set feed.streams k (stream_with due feed.origin (after_found s.0 f) (whole_by s.0 f)))) (fixes s.0 s.1)
+    ∙ ap (λ (d : Due). with_streams feed (origin_after d feed.origin (whole_by s.0 f)) (slice_set feed.streams k (stream_with d feed.origin (after_found s.0 f) (whole_by s.0 f)))) is
     ∙ sym (after_is feed f k s.0 at s.1)
 
-pub placed_fed : (feed : FeedView) (f : FindingView) (k : ℕ) (one loss : Option Fed) (before middle after : List Fed) → Some k ≡ place_from f.pid 0 feed.streams → k < length feed.streams →
-    ((s : FedStreamView) → slice_get feed.streams k ≡ Some s → one ≡ fed_by feed.earliest feed.base s (whole_by s f)) →
+pub placed_fed : (feed : FeedView) (f : FindingView) (k : ℕ) (due : Due) (one loss : Option Fed) (before middle after : List Fed) → Some k ≡ place_from f.pid 0 feed.streams → k < length feed.streams → due ≡ due_of feed →
+    ((s : FedStreamView) → slice_get feed.streams k ≡ Some s → one ≡ fed_by due feed.origin s (whole_by s f)) →
     ((s : FedStreamView) → slice_get feed.streams k ≡ Some s → loss ≡ lost_fed s f) →
     middle ≡ before ++ option_to_list one → after ≡ middle ++ option_to_list loss → after ≡ before ++ fed_unit feed f
-placed_fed feed f k one loss before middle after at below feeds loses first last =
+placed_fed feed f k due one loss before middle after at below is feeds loses first last =
     let s = there feed.streams k below (slice_get_cases feed.streams k).1 in
     last ∙ ap (λ (xs : List Fed). xs ++ option_to_list loss) first
     ∙ append_assoc before (option_to_list one) (option_to_list loss)
     ∙ ap (λ (o : Option Fed). before ++ (option_to_list o ++ option_to_list loss)) (feeds s.0 s.1)
-    ∙ ap (λ (o : Option Fed). before ++ (option_to_list (fed_by feed.earliest feed.base s.0 (whole_by s.0 f)) ++ option_to_list o)) (loses s.0 s.1)
+    ∙ ap (λ (d : Due). before ++ (option_to_list (fed_by d feed.origin s.0 (whole_by s.0 f)) ++ option_to_list loss)) is
+    ∙ ap (λ (o : Option Fed). before ++ (option_to_list (fed_by (due_of feed) feed.origin s.0 (whole_by s.0 f)) ++ option_to_list o)) (loses s.0 s.1)
     ∙ ap (λ (xs : List Fed). before ++ xs) (sym (fed_is feed f k s.0 at s.1))
 
 -- 3. A list that is gone through
@@ -117,57 +123,61 @@ fed_end view feed i fs whole fed over is =
     let none : map view (drop i fs) ≡ [] = rw (drop_all i fs over) refl in
     sym (is ∙ ap (λ (l : List FindingView). fed ++ fed_all feed l) none ∙ append-nil fed)
 
-pub last_step : (earliest : ℕ) (base next : Option ℕ) (s : FedStreamView) (ss : List FedStreamView) (one : Option Fed) (whole before after : List Fed) →
-    whole ≡ before ++ fed_last earliest base (s ∷ ss) → one ≡ fed_by earliest base s (ended_unit false s.units.unit) → next ≡ base_after earliest base (ended_unit false s.units.unit) →
-    after ≡ before ++ option_to_list one → whole ≡ after ++ fed_last earliest next ss
+pub last_step : (due : Due) (o next : Origin) (s : FedStreamView) (ss : List FedStreamView) (one : Option Fed) (whole before after : List Fed) →
+    whole ≡ before ++ fed_last due o (s ∷ ss) → one ≡ fed_by due o s (ended_unit false s.units.unit) → next ≡ origin_after due o (ended_unit false s.units.unit) →
+    after ≡ before ++ option_to_list one → whole ≡ after ++ fed_last due next ss
 unfolding fed_last
-last_step earliest base next s ss one whole before after is feeds goes grown =
+last_step due o next s ss one whole before after is feeds goes grown =
     let w = ended_unit false s.units.unit in
-    let rest = fed_last earliest (base_after earliest base w) ss in
-    is ∙ sym (append_assoc before (option_to_list (fed_by earliest base s w)) rest)
-    ∙ ap (λ (o : Option Fed). (before ++ option_to_list o) ++ rest) (sym feeds)
+    let rest = fed_last due (origin_after due o w) ss in
+    is ∙ sym (append_assoc before (option_to_list (fed_by due o s w)) rest)
+    ∙ ap (λ (x : Option Fed). (before ++ option_to_list x) ++ rest) (sym feeds)
     ∙ ap (λ (xs : List Fed). xs ++ rest) (sym grown)
-    ∙ ap (λ (b : Option ℕ). after ++ fed_last earliest b ss) (sym goes)
+    ∙ ap (λ (b : Origin). after ++ fed_last due b ss) (sym goes)
 
-pub last_end : (earliest : ℕ) (base : Option ℕ) (whole fed : List Fed) → whole ≡ fed ++ fed_last earliest base [] → fed ≡ whole
+pub last_end : (due : Due) (o : Origin) (whole fed : List Fed) → whole ≡ fed ++ fed_last due o [] → fed ≡ whole
 unfolding fed_last
-last_end earliest base whole fed is = sym (is ∙ append-nil fed)
+last_end due o whole fed is = sym (is ∙ append-nil fed)
 
--- 4. One stream
+-- 4. One stream, where no clock is known
 
-timed : ℕ → Option ℕ → ℕ → Option ℕ → List CarriedUnit → List Fed
-timed e b n before [] = []
-timed e b n before (w ∷ ws) = (n, at_moment (base_by e b w.unit) before w.unit) ∷ timed e (Some (base_by e b w.unit)) n (last_dts before (at_moment (base_by e b w.unit) before w.unit)) ws
+timed : Due → Origin → ℕ → Option ℕ → List CarriedUnit → List Fed
+timed d o n before [] = []
+timed d o n before (w ∷ ws) =
+    (n, at_moment d.greatest (base_of d o w) before w.unit) ∷ timed d (origin_with o w.packet (base_of d o w)) n (last_dts before (at_moment d.greatest (base_of d o w) before w.unit)) ws
 
-timed_one : (e : ℕ) (b : Option ℕ) (n : ℕ) (before : Option ℕ) (w : Option CarriedUnit) (ws : List CarriedUnit) →
-    timed e b n before (option_to_list w ++ ws) ≡ option_to_list (fed_with e b n before w) ++ timed e (base_after e b w) n (before_with e b before w) ws
-unfolding timed fed_with base_after before_with
-timed_one e b n before None ws = refl
-timed_one e b n before (Some w) ws = refl
+timed_one : (d : Due) (o : Origin) (n : ℕ) (before : Option ℕ) (w : Option CarriedUnit) (ws : List CarriedUnit) →
+    timed d o n before (option_to_list w ++ ws) ≡ option_to_list (fed_with d o n before w) ++ timed d (origin_after d o w) n (before_with d o before w) ws
+unfolding timed fed_with origin_after before_with
+timed_one d o n before None ws = refl
+timed_one d o n before (Some w) ws = refl
 
-abbrev single : ℕ → Option ℕ → FedStreamView → FeedView
-single e b s = record { earliest = e; base = b; maps = []; streams = s ∷ [] }
+abbrev due_from : ℕ → Due
+due_from e = record { earliest = e; greatest = None }
+
+abbrev single : ℕ → Origin → FedStreamView → FeedView
+single e o s = record { earliest = e; origin = o; shown = None; ticked = 0; maps = []; streams = s ∷ [] }
 
 other_role : (pid : ℕ) (f : FindingView) → has_pid pid f.pid ≡ false → role_of pid f ≡ Ignored
 unfolding role_of
 other_role pid f other = rw other refl
 
-single_after_by : (e : ℕ) (b : Option ℕ) (s : FedStreamView) (f : FindingView) (own : Bool) → has_pid s.units.pid f.pid ≡ own →
-    after_one (single e b s) f ≡ single e (base_after e b (whole_by s f)) (stream_with e b (after_found s f) (whole_by s f))
-unfolding map_from set_place place_from after_place after_at base_after before_with made_whole goes_on_as
-single_after_by e b s f true own = rw own refl
-single_after_by e b s f false own = rw (own, other_role s.units.pid f own) refl
+single_after_by : (e : ℕ) (o : Origin) (s : FedStreamView) (f : FindingView) (own : Bool) → has_pid s.units.pid f.pid ≡ own →
+    after_one (single e o s) f ≡ single e (origin_after (due_from e) o (whole_by s f)) (stream_with (due_from e) o (after_found s f) (whole_by s f))
+unfolding map_from set_place place_from after_place after_at origin_after before_with made_whole goes_on_as greatest_if
+single_after_by e o s f true own = rw own refl
+single_after_by e o s f false own = rw (own, other_role s.units.pid f own) refl
 
 not_told : (number : ℕ) (loss : Option Loss) → is_loss loss ≡ false → told_of number loss ≡ None
 unfolding is_loss told_of
 not_told number None none = refl
 not_told number (Some loss) none = absurd cc
 
-single_fed_by : (e : ℕ) (b : Option ℕ) (s : FedStreamView) (f : FindingView) (own : Bool) → has_pid s.units.pid f.pid ≡ own → (own && is_loss (lost_by f.packet f.what)) ≡ false →
-    fed_one (single e b s) f ≡ option_to_list (fed_by e b s (whole_by s f))
-unfolding map_from set_place change_place map_fed place_from fed_place fed_at fed_with made_whole
-single_fed_by e b s f true own none = rw (own, not_told s.number (lost_by f.packet f.what) none) (append-nil (option_to_list (fed_by e b s (whole_by s f))))
-single_fed_by e b s f false own none = rw (own, other_role s.units.pid f own) refl
+single_fed_by : (e : ℕ) (o : Origin) (s : FedStreamView) (f : FindingView) (own : Bool) → has_pid s.units.pid f.pid ≡ own → (own && is_loss (lost_by f.packet f.what)) ≡ false →
+    fed_one (single e o s) f ≡ option_to_list (fed_by (due_from e) o s (whole_by s f))
+unfolding map_from set_place change_place map_fed place_from fed_place fed_at fed_with made_whole greatest_if
+single_fed_by e o s f true own none = rw (own, not_told s.number (lost_by f.packet f.what) none) (append-nil (option_to_list (fed_by (due_from e) o s (whole_by s f))))
+single_fed_by e o s f false own none = rw (own, other_role s.units.pid f own) refl
 
 neither : (a b : Bool) → (a || b) ≡ false → (a ≡ false) × (b ≡ false)
 neither true b none = absurd cc
@@ -175,27 +185,27 @@ neither false b none = (refl, none)
 
 fed_more : (feed : FeedView) (f : FindingView) (fs : List FindingView) → fed_to_end feed (f ∷ fs) ≡ fed_one feed f ++ fed_to_end (after_one feed f) fs
 unfolding fed_all after_all
-fed_more feed f fs =
-    let last = after_all (after_one feed f) fs in
-    append_assoc (fed_one feed f) (fed_all (after_one feed f) fs) (fed_last last.earliest last.base last.streams)
+fed_more feed f fs = append_assoc (fed_one feed f) (fed_all (after_one feed f) fs) (fed_ends (after_all (after_one feed f) fs))
 
-single_timed : (e : ℕ) (b : Option ℕ) (s : FedStreamView) (fs : List FindingView) → has_loss s.units.pid fs ≡ false →
-    fed_to_end (single e b s) fs ≡ timed e b s.number s.before (given s.units fs ++ option_to_list (ended_unit false (after_findings s.units fs).unit))
-unfolding fed_all after_all fed_last given after_findings timed
-single_timed e b s [] unlost =
+single_timed : (e : ℕ) (o : Origin) (s : FedStreamView) (fs : List FindingView) → has_loss s.units.pid fs ≡ false →
+    fed_to_end (single e o s) fs ≡ timed (due_from e) o s.number s.before (given s.units fs ++ option_to_list (ended_unit false (after_findings s.units fs).unit))
+unfolding fed_all after_all fed_last given after_findings timed greatest_if
+single_timed e o s [] unlost =
+    let d = due_from e in
     let w = ended_unit false s.units.unit in
-    sym (ap (λ (ws : List CarriedUnit). timed e b s.number s.before ws) (sym (append-nil (option_to_list w))) ∙ timed_one e b s.number s.before w [])
-single_timed e b s (f ∷ fs) unlost =
+    sym (ap (λ (ws : List CarriedUnit). timed d o s.number s.before ws) (sym (append-nil (option_to_list w))) ∙ timed_one d o s.number s.before w [])
+single_timed e o s (f ∷ fs) unlost =
+    let d = due_from e in
     let none = neither (has_pid s.units.pid f.pid && is_loss (lost_by f.packet f.what)) (has_loss s.units.pid fs) unlost in
     let w = whole_by s f in
-    let t = stream_with e b (after_found s f) w in
+    let t = stream_with d o (after_found s f) w in
     let later = given t.units fs ++ option_to_list (ended_unit false (after_findings t.units fs).unit) in
-    fed_more (single e b s) f fs
-    ∙ ap (λ (xs : List Fed). xs ++ fed_to_end (after_one (single e b s) f) fs) (single_fed_by e b s f (has_pid s.units.pid f.pid) refl none.0)
-    ∙ ap (λ (feed : FeedView). option_to_list (fed_by e b s w) ++ fed_to_end feed fs) (single_after_by e b s f (has_pid s.units.pid f.pid) refl)
-    ∙ ap (λ (xs : List Fed). option_to_list (fed_by e b s w) ++ xs) (single_timed e (base_after e b w) t fs none.1)
-    ∙ sym (timed_one e b s.number s.before w later)
-    ∙ ap (λ (ws : List CarriedUnit). timed e b s.number s.before ws) (sym (append_assoc (option_to_list w) (given t.units fs) (option_to_list (ended_unit false (after_findings t.units fs).unit))))
+    fed_more (single e o s) f fs
+    ∙ ap (λ (xs : List Fed). xs ++ fed_to_end (after_one (single e o s) f) fs) (single_fed_by e o s f (has_pid s.units.pid f.pid) refl none.0)
+    ∙ ap (λ (feed : FeedView). option_to_list (fed_by d o s w) ++ fed_to_end feed fs) (single_after_by e o s f (has_pid s.units.pid f.pid) refl)
+    ∙ ap (λ (xs : List Fed). option_to_list (fed_by d o s w) ++ xs) (single_timed e (origin_after d o w) t fs none.1)
+    ∙ sym (timed_one d o s.number s.before w later)
+    ∙ ap (λ (ws : List CarriedUnit). timed d o s.number s.before ws) (sym (append_assoc (option_to_list w) (given t.units fs) (option_to_list (ended_unit false (after_findings t.units fs).unit))))
 
 -- 5. Without a fault
 
@@ -208,24 +218,64 @@ unit_dts : (base : ℕ) (before : Option ℕ) (u : AccessUnit) → (unit_at base
 unfolding unit_at
 unit_dts base before u = refl
 
+-- a constant that is fixed where no clock has jumped
+abbrev fixed : ℕ → Origin
+fixed base = record { now = Some base; since = 0; before = None }
+
+not_before : (n : ℕ) → nat_lt n 0 ≡ false
+not_before n = grind (arith, nat_tests)
+
+base_first : (packet : ℕ) → base_for no_origin packet ≡ None
+unfolding base_for
+base_first packet = rw (not_before packet) refl
+
+base_fixed : (base packet : ℕ) → base_for (fixed base) packet ≡ Some base
+unfolding base_for
+base_fixed base packet = rw (not_before packet) refl
+
+origin_first : (base packet : ℕ) → origin_with no_origin packet base ≡ fixed base
+unfolding origin_with
+origin_first base packet = rw (not_before packet) refl
+
+origin_fixed : (base packet : ℕ) → origin_with (fixed base) packet base ≡ fixed base
+unfolding origin_with
+origin_fixed base packet = rw (not_before packet) refl
+
+base_is : (e base : ℕ) (w : CarriedUnit) → base_of (due_from e) (fixed base) w ≡ base
+unfolding base_by
+base_is e base w = rw (base_fixed base w.packet) refl
+
 timed_moved : (e base n place : ℕ) (before : Option ℕ) (ws : List CarriedUnit) → first_fault base before place (map (λ w. w.unit) ws) ≡ None →
-    timed e (Some base) n before ws ≡ map (λ (x : AccessUnit). (n, Ok x)) (moved base before (map (λ w. w.unit) ws))
-unfolding timed first_fault moved base_by unless_fault last_dts
+    timed (due_from e) (fixed base) n before ws ≡ map (λ (x : AccessUnit). (n, Ok x)) (moved base before (map (λ w. w.unit) ws))
+unfolding timed first_fault moved unless_fault unless_ahead ahead_of last_dts
 timed_moved e base n place before [] sound = refl
 timed_moved e base n place before (w ∷ ws) sound =
+    let d = due_from e in
     let u = w.unit in
     let two = no_fault place (unit_fault base before u) (first_fault base (Some (dts_at base before u.dts)) (place + 1) (map (λ w. w.unit) ws)) sound in
-    let here : at_moment base before u ≡ Ok (unit_at base before u) = ap (λ (o : Option StampFault). unless_fault o (unit_at base before u)) two.0 in
-    ap (λ (r : Result AccessUnit FeedFault). (n, r) ∷ timed e (Some base) n (last_dts before r) ws) here
-    ∙ ap (λ (d : ℕ). (n, Ok (unit_at base before u)) ∷ timed e (Some base) n (Some d) ws) (unit_dts base before u)
+    let here : at_moment None base before u ≡ Ok (unit_at base before u) = ap (λ (o : Option StampFault). unless_fault None o (unit_at base before u)) two.0 in
+    ap (λ (b : ℕ). (n, at_moment None b before u) ∷ timed d (origin_with (fixed base) w.packet b) n (last_dts before (at_moment None b before u)) ws) (base_is e base w)
+    ∙ ap (λ (o : Origin). (n, at_moment None base before u) ∷ timed d o n (last_dts before (at_moment None base before u)) ws) (origin_fixed base w.packet)
+    ∙ ap (λ (r : Result AccessUnit FeedFault). (n, r) ∷ timed d (fixed base) n (last_dts before r) ws) here
+    ∙ ap (λ (x : ℕ). (n, Ok (unit_at base before u)) ∷ timed d (fixed base) n (Some x) ws) (unit_dts base before u)
     ∙ ap (λ (xs : List Fed). (n, Ok (unit_at base before u)) ∷ xs) (timed_moved e base n (place + 1) (Some (dts_at base before u.dts)) ws two.1)
 
-first_fixes : (e n : ℕ) (w : CarriedUnit) (ws : List CarriedUnit) → timed e None n None (w ∷ ws) ≡ timed e (Some (distance e w.unit.dts)) n None (w ∷ ws)
-unfolding timed base_by
-first_fixes e n w ws = refl
+base_at_first : (e : ℕ) (w : CarriedUnit) → base_of (due_from e) no_origin w ≡ distance e w.unit.dts
+unfolding base_by
+base_at_first e w = rw (base_first w.packet) refl
+
+first_fixes : (e n : ℕ) (w : CarriedUnit) (ws : List CarriedUnit) → timed (due_from e) no_origin n None (w ∷ ws) ≡ timed (due_from e) (fixed (distance e w.unit.dts)) n None (w ∷ ws)
+unfolding timed
+first_fixes e n w ws =
+    let d = due_from e in
+    let base = distance e w.unit.dts in
+    let one = λ (o : Origin) (b : ℕ). (n, at_moment None b None w.unit) ∷ timed d o n (last_dts None (at_moment None b None w.unit)) ws in
+    ap (λ (b : ℕ). one (origin_with no_origin w.packet b) b) (base_at_first e w)
+    ∙ ap (λ (o : Origin). one o base) (origin_first base w.packet ∙ sym (origin_fixed base w.packet))
+    ∙ ap (λ (b : ℕ). one (origin_with (fixed base) w.packet b) b) (sym (base_is e base w))
 
 moved_by_first : (e n : ℕ) (ws : List CarriedUnit) (u : AccessUnit) (us : List AccessUnit) → map (λ w. w.unit) ws ≡ u ∷ us → first_fault (distance e u.dts) None 0 (u ∷ us) ≡ None →
-    timed e None n None ws ≡ map (λ (x : AccessUnit). (n, Ok x)) (moved (distance e u.dts) None (u ∷ us))
+    timed (due_from e) no_origin n None ws ≡ map (λ (x : AccessUnit). (n, Ok x)) (moved (distance e u.dts) None (u ∷ us))
 moved_by_first e n [] u us is sound = absurd cc
 moved_by_first e n (w ∷ ws) u us is sound =
     let head : w.unit ≡ u = cc in
@@ -240,6 +290,6 @@ moved_by_first e n (w ∷ ws) u us is sound =
 pub as_carried : FedAsCarried
 as_carried earliest number pid fs u us uncut unlost is sound =
     let s : FedStreamView = record { number = number; before = None; units = none_so_far pid true } in
-    single_timed earliest None s fs unlost
-    ∙ ap (λ (ws : List CarriedUnit). timed earliest None number None ws) (sym (uncut_carried true pid fs uncut))
+    single_timed earliest no_origin s fs unlost
+    ∙ ap (λ (ws : List CarriedUnit). timed (due_from earliest) no_origin number None ws) (sym (uncut_carried true pid fs uncut))
     ∙ moved_by_first earliest number (carried_units pid fs) u us is sound

@@ -1,6 +1,6 @@
 -- The units of a description's streams from what is found of a stream, finding by finding, each at its moment as soon as it is
 -- whole.
-use Rattle.std.specs.Prelude.{ℕ, ◌+◌, ◌++◌, false, if◌then◌else◌, Option, Some, None, Result, Ok, Err, List, [], ◌∷◌, slice_get, slice_set}
+use Rattle.std.specs.Prelude.{ℕ, ◌+◌, ◌-◌, ◌++◌, max, nat_lt, false, if◌then◌else◌, Option, Some, None, Result, Ok, Err, List, [], ◌∷◌, slice_get, slice_set}
 use Rattle.std.specs.Option.{option_to_list}
 use Rattle.pes_packet.specs.AccessUnits.{AccessUnit}
 use Rattle.demux.specs.Views.{FindingView, WhatView, BreaksCounter}
@@ -10,10 +10,13 @@ use Rattle.stream_units.specs.Stamps.{distance, unit_at, unit_fault}
 use Rattle.stream_units.specs.UnitSteps.{UnitsSoFar, after_finding, ended_unit, made_whole}
 use Rattle.stream_units.specs.declared.stamps.StampFault.{StampFault}
 use Rattle.unit_feed.specs.declared.feed_fault.FeedFault.{FeedFault}
-use Rattle.unit_feed.specs.declared.feed_fault.FeedFault.TheVariants.{Stamp, Lost, Map}
+use Rattle.unit_feed.specs.declared.due.Due.{Due}
+use Rattle.unit_feed.specs.declared.feed_fault.FeedFault.TheVariants.{Stamp, Ahead, Lost, Map}
 use Rattle.unit_feed.specs.declared.feed_fault.Loss.{Loss}
 use Rattle.unit_feed.specs.declared.feed_fault.NewMap.{NewMap}
 use Rattle.unit_feed.specs.declared.fed_map.FedMap.{FedMap}
+use Rattle.unit_feed.specs.declared.origin.Origin.{Origin}
+use Rattle.unit_feed.specs.Origins.{base_for, no_origin, origin_with}
 use Rattle.unit_feed.specs.Maps.{maps_after, new_map}
 
 -- 1. A stream
@@ -28,13 +31,24 @@ pub record FedStreamView : Type 0 where
 abbrev pub Fed : Type 0
 Fed = ℕ × Result AccessUnit FeedFault
 
-unfoldable pub unless_fault : Option StampFault → AccessUnit → Result AccessUnit FeedFault
-unless_fault None u = Ok u
-unless_fault (Some fault) u = Err (Stamp fault)
+-- how long after the greatest DTS so far a moment lies, where that is over 10 s: no unit waits longer in a decoder for its DTS
+-- (ISO/IEC 13818-1, 2.4.2.6), so one that is due so much later is of another clock
+unfoldable pub ahead_of : Option ℕ → ℕ → Option ℕ
+ahead_of None dts = None
+ahead_of (Some greatest) dts = if nat_lt (greatest + 900_000) dts then Some (dts - greatest) else None
 
--- a unit at its moment after a DTS or after none, where the clock shows `base` at moment 0
-abbrev pub at_moment : ℕ → Option ℕ → AccessUnit → Result AccessUnit FeedFault
-at_moment base before u = unless_fault (unit_fault base before u) (unit_at base before u)
+unfoldable pub unless_ahead : Option ℕ → AccessUnit → Result AccessUnit FeedFault
+unless_ahead None u = Ok u
+unless_ahead (Some by) u = Err (Ahead by)
+
+unfoldable pub unless_fault : Option ℕ → Option StampFault → AccessUnit → Result AccessUnit FeedFault
+unless_fault greatest None u = unless_ahead (ahead_of greatest u.dts) u
+unless_fault greatest (Some fault) u = Err (Stamp fault)
+
+-- a unit at its moment after a DTS or after none, where the clock shows `base` at moment 0, and after the greatest DTS so far, where one
+-- counts
+abbrev pub at_moment : Option ℕ → ℕ → Option ℕ → AccessUnit → Result AccessUnit FeedFault
+at_moment greatest base before u = unless_fault greatest (unit_fault base before u) (unit_at base before u)
 
 -- the last DTS after it: a unit that has no moment is left out, and moves nothing
 unfoldable pub last_dts : Option ℕ → Result AccessUnit FeedFault → Option ℕ
@@ -46,25 +60,28 @@ unfoldable pub base_by : ℕ → Option ℕ → AccessUnit → ℕ
 base_by earliest None u = distance earliest u.dts
 base_by earliest (Some base) u = base
 
+abbrev pub base_of : Due → Origin → CarriedUnit → ℕ
+base_of due o w = base_by due.earliest (base_for o w.packet) w.unit
+
 -- 2. A unit that is whole, if one is
 
-unfoldable pub base_after : ℕ → Option ℕ → Option CarriedUnit → Option ℕ
-base_after earliest base None = base
-base_after earliest base (Some w) = Some (base_by earliest base w.unit)
+unfoldable pub origin_after : Due → Origin → Option CarriedUnit → Origin
+origin_after due o None = o
+origin_after due o (Some w) = origin_with o w.packet (base_of due o w)
 
-unfoldable pub before_with : ℕ → Option ℕ → Option ℕ → Option CarriedUnit → Option ℕ
-before_with earliest base before None = before
-before_with earliest base before (Some w) = last_dts before (at_moment (base_by earliest base w.unit) before w.unit)
+unfoldable pub before_with : Due → Origin → Option ℕ → Option CarriedUnit → Option ℕ
+before_with due o before None = before
+before_with due o before (Some w) = last_dts before (at_moment due.greatest (base_of due o w) before w.unit)
 
-unfoldable pub fed_with : ℕ → Option ℕ → ℕ → Option ℕ → Option CarriedUnit → Option Fed
-fed_with earliest base number before None = None
-fed_with earliest base number before (Some w) = Some (number, at_moment (base_by earliest base w.unit) before w.unit)
+unfoldable pub fed_with : Due → Origin → ℕ → Option ℕ → Option CarriedUnit → Option Fed
+fed_with due o number before None = None
+fed_with due o number before (Some w) = Some (number, at_moment due.greatest (base_of due o w) before w.unit)
 
-abbrev pub stream_with : ℕ → Option ℕ → FedStreamView → Option CarriedUnit → FedStreamView
-stream_with earliest base s w = record s { before = before_with earliest base s.before w }
+abbrev pub stream_with : Due → Origin → FedStreamView → Option CarriedUnit → FedStreamView
+stream_with due o s w = record s { before = before_with due o s.before w }
 
-abbrev pub fed_by : ℕ → Option ℕ → FedStreamView → Option CarriedUnit → Option Fed
-fed_by earliest base s w = fed_with earliest base s.number s.before w
+abbrev pub fed_by : Due → Origin → FedStreamView → Option CarriedUnit → Option Fed
+fed_by due o s w = fed_with due o s.number s.before w
 
 -- 3. A finding, for the stream with its PID
 
@@ -87,13 +104,42 @@ told_of number (Some loss) = Some (number, Err (Lost loss))
 abbrev pub lost_fed : FedStreamView → FindingView → Option Fed
 lost_fed s f = told_of s.number (lost_by f.packet f.what)
 
--- all streams, with the moment at which the first unit is due, what the clock shows at moment 0, once that is fixed, and the programs'
--- maps
+-- all streams, with the moment at which the first unit is due, the constants, what the clock showed last, in units of 90 kHz, once it has
+-- come, the last tick, 0 before the first, and the programs' maps
 pub record FeedView : Type 0 where
   pub earliest : ℕ
-  pub base : Option ℕ
+  pub origin : Origin
+  pub shown : Option ℕ
+  pub ticked : ℕ
   pub maps : List FedMap
   pub streams : List FedStreamView
+
+-- before the first packet of a stream
+abbrev pub feed_first : ℕ → List FedMap → List FedStreamView → FeedView
+feed_first earliest maps streams = record { earliest = earliest; origin = no_origin; shown = None; ticked = 0; maps = maps; streams = streams }
+
+-- the greatest DTS of units that were fed and of ticks; 0 before the first
+unfoldable pub dts_or_0 : Option ℕ → ℕ
+dts_or_0 None = 0
+dts_or_0 (Some dts) = dts
+
+unfoldable pub greatest_from : ℕ → List FedStreamView → ℕ
+greatest_from least [] = least
+greatest_from least (s ∷ ss) = greatest_from (max least (dts_or_0 s.before)) ss
+
+abbrev pub greatest_of : FeedView → ℕ
+greatest_of feed = greatest_from feed.ticked feed.streams
+
+-- it counts where the clock is known: that moves it on where no unit comes
+unfoldable pub greatest_if : Option ℕ → ℕ → Option ℕ
+greatest_if None greatest = None
+greatest_if (Some shown) greatest = Some greatest
+
+abbrev pub due_of : FeedView → Due
+due_of feed = record { earliest = feed.earliest; greatest = greatest_if feed.shown (greatest_of feed) }
+
+abbrev pub with_streams : FeedView → Origin → List FedStreamView → FeedView
+with_streams feed o streams = record { earliest = feed.earliest; origin = o; shown = feed.shown; ticked = feed.ticked; maps = feed.maps; streams = streams }
 
 -- the first stream of this PID; the first of these has number k
 unfoldable pub place_from : Option ℕ → ℕ → List FedStreamView → Option ℕ
@@ -102,7 +148,7 @@ place_from pid k (s ∷ ss) = if has_pid s.units.pid pid then Some k else place_
 
 -- with a unit that is whole at stream k, which is s beside that
 abbrev pub feed_with : FeedView → ℕ → FedStreamView → Option CarriedUnit → FeedView
-feed_with feed k s w = record { earliest = feed.earliest; base = base_after feed.earliest feed.base w; maps = feed.maps; streams = slice_set feed.streams k (stream_with feed.earliest feed.base s w) }
+feed_with feed k s w = with_streams feed (origin_after (due_of feed) feed.origin w) (slice_set feed.streams k (stream_with (due_of feed) feed.origin s w))
 
 unfoldable pub after_at : FeedView → FindingView → ℕ → Option FedStreamView → FeedView
 after_at feed f k None = feed
@@ -110,7 +156,7 @@ after_at feed f k (Some s) = feed_with feed k (after_found s f) (whole_by s f)
 
 unfoldable pub fed_at : FeedView → FindingView → Option FedStreamView → List Fed
 fed_at feed f None = []
-fed_at feed f (Some s) = option_to_list (fed_by feed.earliest feed.base s (whole_by s f)) ++ option_to_list (lost_fed s f)
+fed_at feed f (Some s) = option_to_list (fed_by (due_of feed) feed.origin s (whole_by s f)) ++ option_to_list (lost_fed s f)
 
 unfoldable pub after_place : FeedView → FindingView → Option ℕ → FeedView
 after_place feed f None = feed
@@ -133,7 +179,7 @@ map_fed None = None
 map_fed (Some change) = Some (255, Err (Map change))
 
 abbrev pub watched : FeedView → FindingView → FeedView
-watched feed f = record { earliest = feed.earliest; base = feed.base; maps = maps_after f feed.maps; streams = feed.streams }
+watched feed f = record { earliest = feed.earliest; origin = feed.origin; shown = feed.shown; ticked = feed.ticked; maps = maps_after f feed.maps; streams = feed.streams }
 
 -- after a finding, and what it feeds
 abbrev pub after_one : FeedView → FindingView → FeedView
@@ -154,11 +200,13 @@ fed_all feed (f ∷ fs) = fed_one feed f ++ fed_all (after_one feed f) fs
 
 -- 5. The end of the findings: the last unit of each stream, in the order of the streams
 
-unfoldable pub fed_last : ℕ → Option ℕ → List FedStreamView → List Fed
-fed_last earliest base [] = []
-fed_last earliest base (s ∷ ss) =
-    option_to_list (fed_by earliest base s (ended_unit false s.units.unit)) ++ fed_last earliest (base_after earliest base (ended_unit false s.units.unit)) ss
+unfoldable pub fed_last : Due → Origin → List FedStreamView → List Fed
+fed_last due o [] = []
+fed_last due o (s ∷ ss) = option_to_list (fed_by due o s (ended_unit false s.units.unit)) ++ fed_last due (origin_after due o (ended_unit false s.units.unit)) ss
+
+abbrev pub fed_ends : FeedView → List Fed
+fed_ends feed = fed_last (due_of feed) feed.origin feed.streams
 
 -- all that is fed of findings that end
 abbrev pub fed_to_end : FeedView → List FindingView → List Fed
-fed_to_end feed fs = let last = after_all feed fs in fed_all feed fs ++ fed_last last.earliest last.base last.streams
+fed_to_end feed fs = fed_all feed fs ++ fed_ends (after_all feed fs)

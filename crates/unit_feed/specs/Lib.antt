@@ -1,4 +1,7 @@
+pub mod Clocks
 pub mod Feeding
 pub mod Laws
 pub mod Maps
+pub mod Origins
 pub mod StreamFeeding
+pub mod Ticks

@@ -13,11 +13,20 @@ use stream_programs::last_program_map;
 /// The table_id of a program map table (ISO/IEC 13818-1, table 2-31).
 const MAP_TABLE: u8 = 2;
 
-/// A program, and the version of its map that came last.
+/// What is kept of a program map table.
+#[derive(Clone, Copy)]
+pub struct CurrentMap {
+    /// version_number.
+    pub version: u8,
+    /// PCR_PID: the PID of the packets with the program's clock references.
+    pub pcr_pid: u16,
+}
+
+/// A program, and its map that came last.
 #[derive(Clone, Copy)]
 pub struct FedMap {
     pub program_number: u16,
-    pub version: Option<u8>,
+    pub current: Option<CurrentMap>,
 }
 
 // Whether a section begins as one of a program map table.
@@ -31,10 +40,10 @@ fn is_map(begun: Option<(u64, Kind)>) -> bool
     }
 }
 
-// The version of a program's map that a finding of a PID has.
-#[tactic(auto, unfolding(crate::specs::Maps::version_on))]
-fn version_on(program_number: u16, finding: &Finding<'_>) -> Option<u8>
-    ensures { result ≡ spec.version_on program_number (finding_view finding.now) (finding_view finding.now).pid }
+// The map of a program that a finding of a PID has.
+#[tactic(auto, unfolding(crate::specs::Maps::current_on))]
+fn current_on(program_number: u16, finding: &Finding<'_>) -> Option<CurrentMap>
+    ensures { result ≡ spec.current_on program_number (finding_view finding.now) (finding_view finding.now).pid }
 {
     let Some(pid) = finding.pid else {
         return None;
@@ -45,36 +54,39 @@ fn version_on(program_number: u16, finding: &Finding<'_>) -> Option<u8>
     };
     match last_program_map(program, slice::from_ref(finding)) {
         None => None,
-        Some(map) => Some(map.header.version_number),
+        Some(map) => Some(CurrentMap {
+            version: map.header.version_number,
+            pcr_pid: map.pcr_pid,
+        }),
     }
 }
 
-// The version of a program's map that a finding has.
-#[tactic(auto, unfolding(crate::specs::Maps::version_found))]
-fn version_found(program_number: u16, finding: &Finding<'_>) -> Option<u8>
-    ensures { result ≡ spec.version_found program_number (finding_view finding.now) }
+// The map of a program that a finding has.
+#[tactic(auto, unfolding(crate::specs::Maps::current_found))]
+fn current_found(program_number: u16, finding: &Finding<'_>) -> Option<CurrentMap>
+    ensures { result ≡ spec.current_found program_number (finding_view finding.now) }
 {
     if !is_map(finding.begun) {
         return None;
     }
-    version_on(program_number, finding)
+    current_on(program_number, finding)
 }
 
 // A version at a packet, if another one was before it.
 #[tactic(auto, unfolding(crate::specs::Maps::change_from))]
-fn change_from(number: u16, packet: u64, version: u8, before: Option<u8>) -> Option<NewMap>
+fn change_from(number: u16, packet: u64, version: u8, before: Option<CurrentMap>) -> Option<NewMap>
     ensures { result ≡ spec.change_from number packet version before }
 {
     match before {
         None => None,
         Some(before) => {
-            if before == version {
+            if before.version == version {
                 return None;
             }
             Some(NewMap {
                 program: number,
                 packet,
-                before,
+                before: before.version,
                 version,
             })
         }
@@ -83,35 +95,35 @@ fn change_from(number: u16, packet: u64, version: u8, before: Option<u8>) -> Opt
 
 impl FedMap {
     // Whether a finding has a map of the program.
-    fn has_version(&self, finding: &Finding<'_>) -> bool
-        ensures { result ≡ is_some (spec.version_found self.now.program_number (finding_view finding.now)) }
+    fn has_map(&self, finding: &Finding<'_>) -> bool
+        ensures { result ≡ is_some (spec.current_found self.now.program_number (finding_view finding.now)) }
     {
-        version_found(self.program_number, finding).is_some()
+        current_found(self.program_number, finding).is_some()
     }
 
     // Takes a finding, and gives the version that it changes, if it does.
     #[tactic(auto, unfolding(crate::specs::Maps::map_with, crate::specs::Maps::map_change))]
     fn take(&mut self, finding: &Finding<'_>) -> Option<NewMap>
-        ensures map { self.new ≡ spec.map_with self.old (spec.version_found self.old.program_number (finding_view finding.now)) }
+        ensures map { self.new ≡ spec.map_with self.old (spec.current_found self.old.program_number (finding_view finding.now)) }
         ensures change { result ≡ spec.map_change self.old (finding_view finding.now).packet
-            (spec.version_found self.old.program_number (finding_view finding.now)) }
+            (spec.current_found self.old.program_number (finding_view finding.now)) }
     {
-        let Some(version) = version_found(self.program_number, finding) else {
+        let Some(current) = current_found(self.program_number, finding) else {
             return None;
         };
-        let before = self.version;
-        self.version = Some(version);
-        change_from(self.program_number, finding.packet, version, before)
+        let before = self.current;
+        self.current = Some(current);
+        change_from(self.program_number, finding.packet, current.version, before)
     }
 }
 
-// The first map of which a finding has a version.
+// The first map that a finding has.
 fn map_place(finding: &Finding<'_>, maps: &[FedMap]) -> Option<usize>
     ensures value { result ≡ spec.map_from (finding_view finding.now) 0 maps.now }
     ensures bound { IfSome result (λ k. k < length maps.now) }
 {
     for (k, map) in maps.iter().enumerate() {
-        if map.has_version(finding) {
+        if map.has_map(finding) {
             return Some(k);
         }
     }
@@ -122,16 +134,15 @@ fn map_place(finding: &Finding<'_>, maps: &[FedMap]) -> Option<usize>
 fn watch_at(maps: &mut Vec<FedMap>, k: usize, finding: &Finding<'_>) -> Option<NewMap>
     requires { k < length maps.old.items }
     ensures maps { (m : spec.MapView) → slice_get maps.old.items k ≡ Some m → maps.new.items
-        ≡ slice_set maps.old.items k (spec.map_with m (spec.version_found m.program_number (finding_view finding.now))) }
+        ≡ slice_set maps.old.items k (spec.map_with m (spec.current_found m.program_number (finding_view finding.now))) }
     ensures change { (m : spec.MapView) → slice_get maps.old.items k ≡ Some m →
-        result ≡ spec.map_change m (finding_view finding.now).packet (spec.version_found m.program_number (finding_view finding.now)) }
+        result ≡ spec.map_change m (finding_view finding.now).packet (spec.current_found m.program_number (finding_view finding.now)) }
 {
     let map = &mut maps[k];
     map.take(finding)
 }
 
-/// Takes a finding for the first map of which it has a version, and gives that version where it is another one than the one
-/// before.
+/// Takes a finding for the first map that it has, and gives its version where it is another one than the one before.
 pub(crate) fn watch(maps: &mut Vec<FedMap>, finding: &Finding<'_>) -> Option<NewMap>
     ensures maps { maps.new.items ≡ spec.maps_after (finding_view finding.now) maps.old.items }
     ensures change { result ≡ spec.new_map (finding_view finding.now) maps.old.items }
@@ -140,4 +151,18 @@ pub(crate) fn watch(maps: &mut Vec<FedMap>, finding: &Finding<'_>) -> Option<New
         return None;
     };
     watch_at(maps, k, finding)
+}
+
+/// The PID of the clock references of the first program, once its map has come.
+#[tactic(auto, unfolding(crate::specs::Maps::pcr_pid_of, crate::specs::Maps::clock_pid))]
+pub(crate) fn clock_pid(maps: &[FedMap]) -> Option<u16>
+    ensures { result ≡ spec.clock_pid maps.now }
+{
+    match maps.first() {
+        None => None,
+        Some(map) => match map.current {
+            None => None,
+            Some(current) => Some(current.pcr_pid),
+        },
+    }
 }

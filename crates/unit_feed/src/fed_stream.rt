@@ -5,13 +5,18 @@ ghost use Rattle.demux.specs.Laws.{has_pid};
 ghost use Rattle.demux.specs.Shown.{finding_view};
 ghost use Rattle.stream_units.specs.UnitSteps.{ended_unit, none_so_far};
 ghost use Rattle.unit_feed.specs.Feeding as spec;
+ghost use Rattle.unit_feed.specs.Origins.{IsOrigin};
+ghost use Rattle.unit_feed.specs.Ticks as ticks;
 
+use crate::due::Due;
 use crate::feed_fault::{FeedFault, Loss};
+use crate::moments::feed;
+use crate::origin::Origin;
 use demux::{Finding, What};
 use pes_packet::Unit;
 use std::alloc::{AllocError, Global};
 use std::marker::Model;
-use stream_units::{UnitTaker, WireUnit, distance, moved_unit};
+use stream_units::{UnitTaker, dts_at};
 
 /// A stream: its number, its PID, its unit under way, and the DTS of its last unit.
 #[derive(Drop)]
@@ -32,50 +37,6 @@ impl Model for FedStream {
     ghost view = { λ s. record { number = s.number; before = s.before; units = s.taker } };
 
     ghost invariant = { λ s. (s.taker.pid ≡ s.pid) × IfSome s.before (λ dts. dts ≤ 2 ^ 52) };
-}
-
-// What the clock shows at moment 0, with the first unit of all at `earliest`.
-#[tactic(auto, unfolding(crate::specs::Feeding::base_by))]
-fn base_by(earliest: u64, base: Option<u64>, unit: &Unit) -> u64
-    requires { IfSome base (λ base. base < 2 ^ 33) }
-    ensures value { result ≡ spec.base_by earliest base unit.now }
-    ensures bound { result < 2 ^ 33 }
-{
-    match base {
-        None => distance(earliest, unit.dts),
-        Some(base) => base,
-    }
-}
-
-// A unit that is whole at its moment, if one is.
-#[tactic(auto, unfolding(crate::specs::Feeding::base_after, crate::specs::Feeding::before_with, crate::specs::Feeding::fed_with, crate::specs::Feeding::unless_fault, crate::specs::Feeding::last_dts))]
-fn feed(
-    number: u8,
-    before: &mut Option<u64>,
-    earliest: u64,
-    base: &mut Option<u64>,
-    whole: Option<WireUnit>,
-) -> Option<(u8, Result<Unit, FeedFault>)>
-    requires base { IfSome base.old (λ base. base < 2 ^ 33) }
-    requires before { IfSome before.old (λ dts. dts ≤ 2 ^ 52) }
-    ensures fed { result ≡ spec.fed_with earliest base.old number before.old whole }
-    ensures before { before.new ≡ spec.before_with earliest base.old before.old whole }
-    ensures base { base.new ≡ spec.base_after earliest base.old whole }
-    ensures clock { IfSome base.new (λ base. base < 2 ^ 33) }
-    ensures bound { IfSome before.new (λ dts. dts ≤ 2 ^ 52) }
-{
-    let Some(wire) = whole else {
-        return None;
-    };
-    let fixed = base_by(earliest, *base, &wire.unit);
-    *base = Some(fixed);
-    match moved_unit(fixed, *before, wire) {
-        Ok(unit) => {
-            *before = Some(unit.dts);
-            Some((number, Ok(unit)))
-        }
-        Err(fault) => Some((number, Err(FeedFault::Stamp(fault)))),
-    }
 }
 
 // The loss that a finding tells of, if it tells of one.
@@ -122,21 +83,79 @@ impl FedStream {
     pub(crate) fn take(
         &mut self,
         alloc: &Global,
-        earliest: u64,
-        base: &mut Option<u64>,
+        due: Due,
+        origin: &mut Origin,
         finding: &Finding<'_>,
     ) -> Result<Option<(u8, Result<Unit, FeedFault>)>, AllocError>
-        requires { IfSome base.old (λ base. base < 2 ^ 33) }
+        requires due { IfSome due.greatest (λ greatest. greatest ≤ 2 ^ 52) }
+        requires origin { IsOrigin origin.old }
         ensures fed { IfOk result (λ fed. fed
-            ≡ spec.fed_by earliest base.old self.old (spec.whole_by self.old (finding_view finding.now))) }
-        ensures stream { OnOk result (self.new ≡ spec.stream_with earliest base.old
+            ≡ spec.fed_by due origin.old self.old (spec.whole_by self.old (finding_view finding.now))) }
+        ensures stream { OnOk result (self.new ≡ spec.stream_with due origin.old
             (spec.after_found self.old (finding_view finding.now)) (spec.whole_by self.old (finding_view finding.now))) }
-        ensures base { OnOk result (base.new
-            ≡ spec.base_after earliest base.old (spec.whole_by self.old (finding_view finding.now))) }
-        ensures bound { IfSome base.new (λ base. base < 2 ^ 33) }
+        ensures origin { OnOk result (origin.new
+            ≡ spec.origin_after due origin.old (spec.whole_by self.old (finding_view finding.now))) }
+        ensures bound { IsOrigin origin.new }
     {
         let whole = self.taker.take(alloc, finding)?;
-        Ok(feed(self.number, &mut self.before, earliest, base, whole))
+        Ok(feed(self.number, &mut self.before, due, origin, whole))
+    }
+
+    /// The DTS of its last unit that was fed; 0 before the first.
+    #[tactic(auto, unfolding(crate::specs::Feeding::dts_or_0))]
+    pub(crate) fn last_dts(&self) -> u64
+        ensures value { result ≡ spec.dts_or_0 self.now.before }
+        ensures bound { result ≤ 2 ^ 52 }
+    {
+        match self.before {
+            None => 0,
+            Some(dts) => dts,
+        }
+    }
+
+    // When the unit under way is due, once its constant is fixed.
+    #[tactic(auto, unfolding(crate::specs::Ticks::under_way_at, crate::specs::Ticks::due_at, stream_units::specs::UnitSteps::start_of))]
+    fn under_way(&self, origin: Origin) -> Option<u64>
+        requires { IsOrigin origin }
+        ensures { result ≡ ticks.under_way origin self.now }
+    {
+        let Some((packet, dts)) = self.taker.under_way() else {
+            return None;
+        };
+        match origin.base_for(packet) {
+            None => None,
+            Some(base) => Some(dts_at(base, self.before, dts)),
+        }
+    }
+
+    /// Whether its unit under way is due by a moment.
+    #[tactic(auto, unfolding(crate::specs::Ticks::is_passed_by))]
+    pub(crate) fn is_passed(&self, origin: Origin, late: u64) -> bool
+        requires { IsOrigin origin }
+        ensures { result ≡ ticks.is_passed origin late self.now }
+    {
+        match self.under_way(origin) {
+            None => false,
+            Some(due) => due <= late,
+        }
+    }
+
+    /// Its unit under way ends here: at its moment, or why it can't have one.
+    pub(crate) fn end(
+        &mut self,
+        due: Due,
+        origin: &mut Origin,
+    ) -> Option<(u8, Result<Unit, FeedFault>)>
+        requires due { IfSome due.greatest (λ greatest. greatest ≤ 2 ^ 52) }
+        requires origin { IsOrigin origin.old }
+        ensures fed { result ≡ spec.fed_by due origin.old self.old (ended_unit false self.old.units.unit) }
+        ensures stream { self.new ≡ spec.stream_with due origin.old (ticks.without_unit self.old)
+            (ended_unit false self.old.units.unit) }
+        ensures origin { origin.new ≡ spec.origin_after due origin.old (ended_unit false self.old.units.unit) }
+        ensures bound { IsOrigin origin.new }
+    {
+        let whole = self.taker.end();
+        feed(self.number, &mut self.before, due, origin, whole)
     }
 
     /// The loss of packets that a finding of its PID tells of, if it tells of one.
@@ -153,21 +172,16 @@ impl FedStream {
     /// The findings end: the last unit at its moment, if there is one.
     pub(crate) fn finish(
         self,
-        earliest: u64,
-        base: &mut Option<u64>,
+        due: Due,
+        origin: &mut Origin,
     ) -> Option<(u8, Result<Unit, FeedFault>)>
-        requires { IfSome base.old (λ base. base < 2 ^ 33) }
-        ensures fed { result ≡ spec.fed_by earliest base.old self (ended_unit false self.units.unit) }
-        ensures base { base.new ≡ spec.base_after earliest base.old (ended_unit false self.units.unit) }
-        ensures bound { IfSome base.new (λ base. base < 2 ^ 33) }
+        requires due { IfSome due.greatest (λ greatest. greatest ≤ 2 ^ 52) }
+        requires origin { IsOrigin origin.old }
+        ensures fed { result ≡ spec.fed_by due origin.old self (ended_unit false self.units.unit) }
+        ensures origin { origin.new ≡ spec.origin_after due origin.old (ended_unit false self.units.unit) }
+        ensures bound { IsOrigin origin.new }
     {
         let mut before = self.before;
-        feed(
-            self.number,
-            &mut before,
-            earliest,
-            base,
-            self.taker.finish(),
-        )
+        feed(self.number, &mut before, due, origin, self.taker.finish())
     }
 }

@@ -26,13 +26,30 @@ pub struct NewMap {
     pub version: u8,
 }
 
+/// A clock reference that does not go on from the one before it on its program's clock.
+#[derive(Clone, Copy, PartialEq, Eq)]
+pub struct ClockJump {
+    /// Its PID.
+    pub pid: u16,
+    /// The packet that has it.
+    pub packet: u64,
+    /// What the clock showed before, in units of 90 kHz.
+    pub before: u64,
+    /// What it shows, in units of 90 kHz.
+    pub after: u64,
+}
+
 /// What is told in place of a unit.
 #[derive(Clone, Copy, PartialEq, Eq)]
 pub enum FeedFault {
     /// A unit can't have a moment.
     Stamp(StampFault),
+    /// A unit is due this long after the greatest DTS so far, in units of 90 kHz, which is over 10 s.
+    Ahead(u64),
     /// Packets of its PID are lost.
     Lost(Loss),
     /// A program's map changes.
     Map(NewMap),
+    /// The clock jumps.
+    Clock(ClockJump),
 }

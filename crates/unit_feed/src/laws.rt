@@ -1,7 +1,8 @@
 //! Laws of the definitions. Each function does nothing: its contract is the law.
 
-ghost use Rattle.unit_feed.specs.Laws.{FedAsCarried, FedInTurn};
+ghost use Rattle.unit_feed.specs.Laws.{FedAsCarried, FedInTurn, FedWithoutClock};
 ghost use Rattle.unit_feed.specs.StreamFeeding.{FedIsBeginning};
+ghost use Rattle.unit_feed.specs.Ticks.{TicksArePast};
 
 /// What later findings feed comes after what was fed before, and changes none of it.
 pub fn fed_in_turn()
@@ -14,7 +15,17 @@ pub fn fed_as_carried()
     ensures { FedAsCarried }
 {}
 
+/// Where the clock's program is not known, what is fed of packets is what is fed of all that is found in them.
+pub fn fed_without_clock()
+    ensures { FedWithoutClock }
+{}
+
 /// What is fed while a stream comes is a beginning of what the whole stream feeds, however it goes on.
 pub fn fed_so_far()
     ensures { FedIsBeginning }
+{}
+
+/// Where a tick is fed, each unit that was fed is due before it, and each unit under way after it.
+pub fn ticks_are_past()
+    ensures { TicksArePast }
 {}

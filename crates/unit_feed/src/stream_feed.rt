@@ -1,14 +1,12 @@
 //! A stream of bytes, in pieces of any size.
 
-ghost use Rattle.std.specs.Prelude.{◌≡◌, ◌<◌, ◌≤◌, ◌-◌, ◌++◌, IfOk, OnOk, List, [], ℕ, true, false, length, drop};
-ghost use Rattle.demux.specs.FoundSoFar.{with_found};
-ghost use Rattle.demux.specs.Stream.{pushed};
-ghost use Rattle.unit_feed.specs.Feeding.{Fed, FeedView, after_all, fed_all};
+ghost use Rattle.std.specs.Prelude.{◌≡◌, ◌<◌, ◌≤◌, ◌-◌, ◌++◌, IfOk, OnOk, List, ℕ, true, false, length, drop};
+ghost use Rattle.unit_feed.specs.Feeding.{Fed, FeedView};
 ghost use Rattle.unit_feed.specs.StreamFeeding as spec;
 
 use crate::feed_fault::FeedFault;
+use crate::packet_feed::PacketFeed;
 use crate::unit_feed::UnitFeed;
-use demux::Demux;
 use packet_sync::next_stretch;
 use pes_packet::Unit;
 use std::alloc::{AllocError, Global};
@@ -20,8 +18,7 @@ use std::marker::Model;
 pub struct StreamFeed {
     alloc: Global,
     held: Vec<u8>,
-    demux: Demux,
-    feed: UnitFeed,
+    packets: PacketFeed,
 }
 
 // A contract sees the bytes that are held, and what was taken.
@@ -30,56 +27,38 @@ impl Model for StreamFeed {
 
     ghost Value = { StreamFeedView };
 
-    ghost view = { λ s. record { held = s.held.items; demux = s.demux; feed = s.feed } };
+    ghost view = { λ s. record { held = s.held.items; packets = s.packets } };
 }
 
-// Demultiplexes bytes, and feeds what is found.
-fn take_bytes(
-    alloc: &Global,
-    demux: &mut Demux,
-    feed: &mut UnitFeed,
-    bytes: &[u8],
-    fed: &mut Vec<(u8, Result<Unit, FeedFault>)>,
-) -> Result<(), AllocError>
-    ensures demux { OnOk result (demux.new ≡ with_found [] (pushed demux.old bytes.now)) }
-    ensures feed { OnOk result (feed.new ≡ after_all feed.old (pushed demux.old bytes.now).found) }
-    ensures fed { OnOk result (fed.new.items ≡ fed.old.items ++ fed_all feed.old (pushed demux.old bytes.now).found) }
-{
-    let Ok(()) = demux.push(bytes) else {
-        return Err(AllocError);
-    };
-    feed.take_all(alloc, demux.findings(), fed)?;
-    demux.forget_findings();
-    Ok(())
-}
-
-// Takes what of the bytes is decided, and returns how many bytes that is.
+// Takes the packets of the bytes that are decided, and returns how many bytes that is: all but those of a packet that the
+// stream's end cuts.
 fn take_decided(
     alloc: &Global,
-    demux: &mut Demux,
-    feed: &mut UnitFeed,
+    packets: &mut PacketFeed,
     bytes: &[u8],
     ended: bool,
     fed: &mut Vec<(u8, Result<Unit, FeedFault>)>,
 ) -> Result<usize, AllocError>
     ensures taken { (first : FeedView) (stream : List ℕ) (gone : List Fed) →
-        spec.IsFedBy first stream ended (record { held = bytes.now; demux = demux.old; feed = feed.old }) (gone ++ fed.old.items) →
-        IfOk result (λ at. spec.IsFedBy first stream ended (record { held = drop at bytes.now; demux = demux.new; feed = feed.new })
+        spec.IsFedBy first stream ended (record { held = bytes.now; packets = packets.old }) (gone ++ fed.old.items) →
+        IfOk result (λ at. spec.IsFedBy first stream ended (record { held = drop at bytes.now; packets = packets.new })
         (gone ++ fed.new.items)) }
     ensures within { IfOk result (λ at. at ≤ length bytes.now) }
-    ensures last { IfOk result (λ at. ended ≡ true → at ≡ length bytes.now) }
+    ensures last { IfOk result (λ at. ended ≡ true → length bytes.now - at < 188) }
     ensures short { IfOk result (λ at. ended ≡ false → length bytes.now - at < 1128) }
 {
     let mut at = 0;
     while at < bytes.len() {
         let (_, rest) = bytes.split_at(at);
         let stretch = next_stretch(rest, ended);
-        let size = stretch.in_step + stretch.slipped;
-        if size == 0 {
+        if stretch.in_step + stretch.slipped == 0 {
             return Ok(at);
         }
-        take_bytes(alloc, demux, feed, &rest[..stretch.in_step], fed)?;
-        at += size;
+        let taken = packets.take_all(alloc, &rest[..stretch.in_step], fed)?;
+        if taken < stretch.in_step {
+            return Ok(at + taken);
+        }
+        at += stretch.in_step + stretch.slipped;
     }
     Ok(at)
 }
@@ -92,13 +71,13 @@ impl StreamFeed {
         StreamFeed {
             alloc,
             held: Vec::new(alloc),
-            demux: Demux::new(alloc),
-            feed,
+            packets: PacketFeed::new(alloc, feed),
         }
     }
 
     /// Takes a piece of the stream, of any size; each unit that is whole then goes to `fed`, at its moment with the number of
-    /// its stream, or why it can't have one, and what is lost. The caller may take these away as they come: `gone` went before.
+    /// its stream, or why it can't have one, ticks, and what is lost, changes or jumps. The caller may take these away as they
+    /// come: `gone` went before.
     pub fn push(
         &mut self,
         piece: &[u8],
@@ -111,14 +90,7 @@ impl StreamFeed {
     {
         self.held.extend_from_slice(piece)?;
         let alloc = self.alloc;
-        let at = take_decided(
-            &alloc,
-            &mut self.demux,
-            &mut self.feed,
-            self.held.as_slice(),
-            false,
-            fed,
-        )?;
+        let at = take_decided(&alloc, &mut self.packets, self.held.as_slice(), false, fed)?;
         let (_, rest) = self.held.as_slice().split_at(at);
         let held = Vec::from_slice(alloc, rest)?;
         self.held = held;
@@ -132,21 +104,10 @@ impl StreamFeed {
             OnOk result (gone ++ fed.new.items ≡ spec.fed_of first stream) }
     {
         let alloc = self.alloc;
-        let mut demux = self.demux;
-        let mut feed = self.feed;
-        take_decided(
-            &alloc,
-            &mut demux,
-            &mut feed,
-            self.held.as_slice(),
-            true,
-            fed,
-        )?;
-        let Ok(()) = demux.finish() else {
-            return Err(AllocError);
-        };
-        feed.take_all(&alloc, demux.findings(), fed)?;
-        feed.finish(fed)?;
+        let mut packets = self.packets;
+        let at = take_decided(&alloc, &mut packets, self.held.as_slice(), true, fed)?;
+        let (_, rest) = self.held.as_slice().split_at(at);
+        packets.finish(&alloc, rest, fed)?;
         Ok(())
     }
 }

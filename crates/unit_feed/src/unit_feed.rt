@@ -1,58 +1,58 @@
-//! All streams of a description.
+//! All streams of a description, finding by finding.
 
-ghost use Rattle.std.specs.Prelude.{◌≡◌, ◌<◌, ◌++◌, ◌^◌, IfOk, IfSome, OnOk, None, Some, length, map, slice_get, slice_set};
+ghost use Rattle.std.specs.Prelude.{◌≡◌, ◌≤◌, ◌++◌, ◌^◌, IfSome, OnOk, map};
 ghost use Rattle.demux.specs.Shown.{finding_view};
 ghost use Rattle.std.specs.Option.{option_to_list};
 ghost use Rattle.unit_feed.specs.Feeding as spec;
 
+use crate::due::Due;
 use crate::fed_map::{FedMap, watch};
 use crate::fed_stream::FedStream;
+use crate::fed_streams::{greatest_of, loss_at, place_of, take_at};
 use crate::feed_fault::{FeedFault, NewMap};
+use crate::origin::Origin;
 use demux::Finding;
 use pes_packet::Unit;
 use std::alloc::{AllocError, Global};
 use std::collections::VecDeque;
 use std::marker::Model;
 
-// The number that stands where there is no stream.
-const NO_STREAM: u8 = 255;
+/// The number that stands where there is no stream, and that of a tick.
+pub(crate) const NO_STREAM: u8 = 255;
 
-/// The maps of a description's programs, its streams, and their units under way.
+/// The maps of a description's programs, its streams with their units under way, and the clock.
 #[derive(Drop)]
 pub struct UnitFeed {
-    earliest: u64,
-    base: Option<u64>,
-    maps: Vec<FedMap>,
-    streams: Vec<FedStream>,
+    pub(crate) earliest: u64,
+    pub(crate) origin: Origin,
+    pub(crate) shown: Option<u64>,
+    pub(crate) ticked: u64,
+    pub(crate) maps: Vec<FedMap>,
+    pub(crate) streams: Vec<FedStream>,
 }
 
 // A contract sees what is kept of each stream.
 impl Model for UnitFeed {
-    ghost use Rattle.std.specs.Prelude.{◌<◌, ◌^◌, IfSome};
+    ghost use Rattle.std.specs.Prelude.{◌≤◌, ◌^◌};
     ghost use Rattle.unit_feed.specs.Feeding.{FeedView};
+    ghost use Rattle.unit_feed.specs.Origins.{IsOrigin};
 
     ghost Value = { FeedView };
 
-    ghost view = { λ f. record { earliest = f.earliest; base = f.base; maps = f.maps.items; streams = f.streams.items } };
+    ghost view = { λ f. record {
+      earliest = f.earliest;
+      origin = f.origin;
+      shown = f.shown;
+      ticked = f.ticked;
+      maps = f.maps.items;
+      streams = f.streams.items;
+    } };
 
-    ghost invariant = { λ f. IfSome f.base (λ base. base < 2 ^ 33) };
+    ghost invariant = { λ f. IsOrigin f.origin × (f.ticked ≤ 2 ^ 52) };
 }
 
-// The first stream of a PID.
-fn place_of(pid: Option<u16>, streams: &[FedStream]) -> Option<usize>
-    ensures value { result ≡ spec.place_from pid 0 streams.now }
-    ensures bound { IfSome result (λ k. k < length streams.now) }
-{
-    for (k, stream) in streams.iter().enumerate() {
-        if stream.is_of(pid) {
-            return Some(k);
-        }
-    }
-    None
-}
-
-// Appends what is fed, if anything is.
-fn push_fed(
+/// Appends what is fed, if anything is.
+pub(crate) fn push_fed(
     fed: &mut Vec<(u8, Result<Unit, FeedFault>)>,
     one: Option<(u8, Result<Unit, FeedFault>)>,
 ) -> Result<(), AllocError>
@@ -76,55 +76,51 @@ fn told_map(change: Option<NewMap>) -> Option<(u8, Result<Unit, FeedFault>)>
     }
 }
 
-// Has the stream at a place take a finding.
-fn take_at(
-    streams: &mut Vec<FedStream>,
-    k: usize,
-    alloc: &Global,
-    earliest: u64,
-    base: &mut Option<u64>,
-    finding: &Finding<'_>,
-) -> Result<Option<(u8, Result<Unit, FeedFault>)>, AllocError>
-    requires there { k < length streams.old.items }
-    requires base { IfSome base.old (λ base. base < 2 ^ 33) }
-    ensures fed { (s : spec.FedStreamView) → slice_get streams.old.items k ≡ Some s → IfOk result (λ fed. fed
-        ≡ spec.fed_by earliest base.old s (spec.whole_by s (finding_view finding.now))) }
-    ensures streams { (s : spec.FedStreamView) → slice_get streams.old.items k ≡ Some s →
-        OnOk result (streams.new.items ≡ slice_set streams.old.items k (spec.stream_with earliest base.old
-        (spec.after_found s (finding_view finding.now)) (spec.whole_by s (finding_view finding.now)))) }
-    ensures base { (s : spec.FedStreamView) → slice_get streams.old.items k ≡ Some s →
-        OnOk result (base.new ≡ spec.base_after earliest base.old (spec.whole_by s (finding_view finding.now))) }
-    ensures clock { IfSome base.new (λ base. base < 2 ^ 33) }
+// The greatest DTS so far, where the clock is known.
+#[tactic(auto, unfolding(crate::specs::Feeding::greatest_if))]
+fn greatest_if(shown: Option<u64>, greatest: u64) -> Option<u64>
+    requires { greatest ≤ 2 ^ 52 }
+    ensures value { result ≡ spec.greatest_if shown greatest }
+    ensures bound { IfSome result (λ greatest. greatest ≤ 2 ^ 52) }
 {
-    let stream = &mut streams[k];
-    stream.take(alloc, earliest, base, finding)
-}
-
-// The loss of packets that a finding tells of, for the stream at a place.
-fn loss_at(
-    streams: &[FedStream],
-    k: usize,
-    finding: &Finding<'_>,
-) -> Option<(u8, Result<Unit, FeedFault>)>
-    requires { k < length streams.now }
-    ensures { (s : spec.FedStreamView) → slice_get streams.now k ≡ Some s →
-        result ≡ spec.lost_fed s (finding_view finding.now) }
-{
-    let stream = &streams[k];
-    stream.loss(finding)
+    match shown {
+        None => None,
+        Some(_) => Some(greatest),
+    }
 }
 
 impl UnitFeed {
-    /// The programs' maps and the streams of a description before the first finding, each stream with its number and a PID
-    /// of its own; the first unit of all is to be due at `earliest`.
+    /// The programs' maps and the streams of a description before the first packet, each stream with its number and a PID
+    /// of its own; the first unit of all is to be due at `earliest`. The clock is that of the first program.
     pub fn new(earliest: u64, maps: Vec<FedMap>, streams: Vec<FedStream>) -> UnitFeed
-        ensures { result ≡ record { earliest = earliest; base = None; maps = maps.items; streams = streams.items } }
+        ensures { result ≡ spec.feed_first earliest maps.items streams.items }
     {
         UnitFeed {
             earliest,
-            base: None,
+            origin: Origin::new(),
+            shown: None,
+            ticked: 0,
             maps,
             streams,
+        }
+    }
+
+    /// The greatest DTS of units that were fed and of ticks.
+    pub(crate) fn greatest(&self) -> u64
+        ensures value { result ≡ spec.greatest_of self.now }
+        ensures bound { result ≤ 2 ^ 52 }
+    {
+        greatest_of(self.ticked, &self.streams)
+    }
+
+    /// When units may be due.
+    pub(crate) fn due(&self) -> Due
+        ensures value { result ≡ spec.due_of self.now }
+        ensures bound { IfSome result.greatest (λ greatest. greatest ≤ 2 ^ 52) }
+    {
+        Due {
+            earliest: self.earliest,
+            greatest: greatest_if(self.shown, self.greatest()),
         }
     }
 
@@ -142,15 +138,8 @@ impl UnitFeed {
             return Ok(());
         };
         let loss = loss_at(&self.streams, k, finding);
-        let earliest = self.earliest;
-        let one = take_at(
-            &mut self.streams,
-            k,
-            alloc,
-            earliest,
-            &mut self.base,
-            finding,
-        )?;
+        let due = self.due();
+        let one = take_at(&mut self.streams, k, alloc, due, &mut self.origin, finding)?;
         push_fed(fed, one)?;
         push_fed(fed, loss)?;
         Ok(())
@@ -190,13 +179,13 @@ impl UnitFeed {
 
     /// The findings end: the last unit of each stream, in the order of the streams.
     pub fn finish(self, fed: &mut Vec<(u8, Result<Unit, FeedFault>)>) -> Result<(), AllocError>
-        ensures { OnOk result (fed.new.items ≡ fed.old.items ++ spec.fed_last self.earliest self.base self.streams) }
+        ensures { OnOk result (fed.new.items ≡ fed.old.items ++ spec.fed_ends self) }
     {
-        let earliest = self.earliest;
-        let mut base = self.base;
+        let due = self.due();
+        let mut origin = self.origin;
         let mut left = VecDeque::from(self.streams);
         'streams: while let Some(stream) = left.pop_front() {
-            push_fed(fed, stream.finish(earliest, &mut base))?;
+            push_fed(fed, stream.finish(due, &mut origin))?;
         }
         Ok(())
     }

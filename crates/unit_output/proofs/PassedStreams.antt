@@ -6,6 +6,7 @@ use Rattle.std.specs.List.{flat_map, list_any}
 use Rattle.std.specs.Io.KnownBytes.{Appends, Consumes, IsAtEnd, Keeps}
 use Rattle.std.proofs.KnownBytes.{Appends-nil, Appends-trans, Consumes-kept, Consumes-nil, Consumes-trans}
 use Rattle.std.proofs.lemmas.List.{append_assoc, append-nil, at_drop_more, drop_all}
+use Rattle.std.proofs.lemmas.List.Elements.{All-nil}
 use Rattle.counted_io.specs.Device.{CountsOne, Failed}
 use Rattle.devices.specs.Devices.{Device, Port, Takes, between}
 use Rattle.devices.specs.Lines.{Reports, Tells}
@@ -15,9 +16,10 @@ use Rattle.devices.specs.declared.halt.Halt.TheVariants.{Read, Write, Memory}
 use Rattle.devices.proofs.Telling.{told_all, told_more, told_none}
 use Rattle.pes_packet.specs.AccessUnits.{AccessUnit}
 use Rattle.unit_feed.specs.declared.feed_fault.FeedFault.{FeedFault}
-use Rattle.demux.proofs.FoundSoFar.{nothing_at_first}
-use Rattle.unit_feed.specs.Feeding.{Fed, FeedView, after_all, fed_all}
-use Rattle.unit_feed.specs.StreamFeeding.{IsFedBy, StreamFeedView, at_first, fed_of}
+use Rattle.demux.specs.FoundSoFar.{taken_all}
+use Rattle.unit_feed.specs.Feeding.{Fed, FeedView}
+use Rattle.unit_feed.specs.StreamFeeding.{IsFedBy, StreamFeedView, at_first, fed_of, is_packet}
+use Rattle.unit_feed.specs.Ticks.{after_packets, fed_packets}
 use Rattle.unit_output.specs.FedLines.{fault_line, fed_lines, fed_record, fed_records, has_fault, have_fault, lines_of, pid_at}
 use Rattle.unit_output.specs.Passing.{FailsToPass, GoesOut, IsFedSoFar, Midway, Passes, PassesAll, PassesLast, PassesOn, PassesPieces, RunsStream}
 
@@ -98,8 +100,8 @@ tells_whole pids old now found fed i s so = (
 -- 2. Before the first byte
 
 fed_none : (first : FeedView) → IsFedBy first [] false (at_first first) []
-unfolding after_all fed_all
-fed_none first = record { front = []; found = []; carries = λ more none. refl; finds = nothing_at_first; feed_is = refl; fed_is = refl }
+unfolding taken_all after_packets fed_packets
+fed_none first = record { packets = []; sizes = All-nil is_packet; carries = λ more none. refl; demux_is = refl; feed_is = refl; fed_is = refl }
 
 pub none_came : (first : FeedView) (pids : List ℕ) (input output faults : Port) (s : StreamFeedView) → s ≡ at_first first →
     Midway first pids (between input input) (between output output) (between faults faults) false s

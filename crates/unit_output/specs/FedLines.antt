@@ -1,5 +1,5 @@
--- What goes out of what a stream feeds: the records of its units, and a line for each unit that has no moment, each loss of packets
--- and each new map.
+-- What goes out of what a stream feeds: the records of its units and of ticks, and a line for each unit that has no moment, each loss of
+-- packets, each new map and each jump of the clock.
 use Rattle.std.specs.Prelude.{ℕ, Bool, true, false, List, [], ◌∷◌, Ok, Err, codes, slice_get, unwrap_or}
 use Rattle.std.specs.List.{flat_map, list_any}
 use Rattle.unit_records.specs.Records.{record_bytes}
@@ -7,7 +7,8 @@ use Rattle.stream_units.specs.declared.stamps.StampFault.{StampFault}
 use Rattle.stream_units.specs.declared.stamps.StampFault.TheVariants.{DtsNotIncreasing, PtsOutOfRange, DtsTooFar}
 use Rattle.unit_feed.specs.Feeding.{Fed}
 use Rattle.unit_feed.specs.declared.feed_fault.FeedFault.{FeedFault}
-use Rattle.unit_feed.specs.declared.feed_fault.FeedFault.TheVariants.{Stamp, Lost, Map}
+use Rattle.unit_feed.specs.declared.feed_fault.ClockJump.{ClockJump}
+use Rattle.unit_feed.specs.declared.feed_fault.FeedFault.TheVariants.{Stamp, Ahead, Lost, Map, Clock}
 use Rattle.unit_feed.specs.declared.feed_fault.Loss.{Loss}
 use Rattle.unit_feed.specs.declared.feed_fault.NewMap.{NewMap}
 use Rattle.devices.specs.Lines.{line_text}
@@ -34,10 +35,20 @@ loss_line pid loss = line_text (codes "lost") (pid ∷ loss.packet ∷ loss.expe
 abbrev pub map_line : NewMap → List ℕ
 map_line map = line_text (codes "map") (map.program ∷ map.packet ∷ map.before ∷ map.version ∷ [])
 
+-- a unit of a PID is due so long after the greatest DTS so far
+abbrev pub ahead_line : ℕ → ℕ → List ℕ
+ahead_line pid by = line_text (codes "dts-ahead") (pid ∷ by ∷ [])
+
+-- the clock shows something else at a packet of a PID than what goes on from what it showed before
+abbrev pub clock_line : ClockJump → List ℕ
+clock_line jump = line_text (codes "clock") (jump.pid ∷ jump.packet ∷ jump.before ∷ jump.after ∷ [])
+
 unfoldable pub fault_line : ℕ → FeedFault → List ℕ
 fault_line pid (Stamp fault) = stamp_line pid fault
+fault_line pid (Ahead by) = ahead_line pid by
 fault_line pid (Lost loss) = loss_line pid loss
 fault_line pid (Map map) = map_line map
+fault_line pid (Clock jump) = clock_line jump
 
 -- the PID of the stream of a number
 abbrev pub pid_at : List ℕ → ℕ → ℕ

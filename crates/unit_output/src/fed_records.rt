@@ -1,4 +1,5 @@
-//! What a stream feeds: records on an output, and lines for units that have no moment, lost packets and new maps.
+//! What a stream feeds: records on an output, and lines for units that have no moment, lost packets, new maps and a clock that
+//! jumps.
 
 ghost use Rattle.std.specs.Prelude.{◌≡◌, ◌++◌};
 ghost use Rattle.devices.specs.Devices.{writes};
@@ -12,7 +13,7 @@ use counted_io::Sink;
 use devices::{Halt, report_line};
 use pes_packet::Unit;
 use stream_units::StampFault;
-use unit_feed::{FeedFault, Loss, NewMap};
+use unit_feed::{ClockJump, FeedFault, Loss, NewMap};
 
 // Puts the record of a unit that is fed, where it has a moment.
 #[tactic(auto, unfolding(crate::specs::FedLines::fed_record))]
@@ -113,15 +114,37 @@ fn report_map<E: Sink>(faults: &mut E, map: NewMap)
     report_line(faults, "map", &numbers);
 }
 
-// Reports what is told of the stream of a PID, or of a map.
+// Reports that a unit of a PID is due so long after the greatest DTS so far.
+fn report_ahead<E: Sink>(faults: &mut E, pid: u16, by: u64)
+    ensures { Reports (writes E.Sink faults.old faults.new) (spec.ahead_line pid by) }
+{
+    report_line(faults, "dts-ahead", &[u128::from(pid), u128::from(by)]);
+}
+
+// Reports that the clock jumps.
+fn report_jump<E: Sink>(faults: &mut E, jump: ClockJump)
+    ensures { Reports (writes E.Sink faults.old faults.new) (spec.clock_line jump) }
+{
+    let numbers = [
+        u128::from(jump.pid),
+        u128::from(jump.packet),
+        u128::from(jump.before),
+        u128::from(jump.after),
+    ];
+    report_line(faults, "clock", &numbers);
+}
+
+// Reports what is told of the stream of a PID, of a map, or of the clock.
 #[tactic(auto, unfolding(crate::specs::FedLines::fault_line))]
 fn report_fault<E: Sink>(faults: &mut E, pid: u16, fault: FeedFault)
     ensures { Reports (writes E.Sink faults.old faults.new) (spec.fault_line pid fault) }
 {
     match fault {
         FeedFault::Stamp(fault) => report_stamp(faults, pid, fault),
+        FeedFault::Ahead(by) => report_ahead(faults, pid, by),
         FeedFault::Lost(loss) => report_loss(faults, pid, loss),
         FeedFault::Map(map) => report_map(faults, map),
+        FeedFault::Clock(jump) => report_jump(faults, jump),
     }
 }
 
@@ -141,7 +164,8 @@ fn tell_one<E: Sink>(faults: &mut E, pids: &[u16], fed: &(u8, Result<Unit, FeedF
     }
 }
 
-/// Reports each unit that has no moment, each loss of packets and each new map, and returns whether there is one.
+/// Reports each unit that has no moment, each loss of packets, each new map and each jump of the clock, and returns whether
+/// there is one.
 pub(crate) fn tell_faults<E: Sink>(
     faults: &mut E,
     pids: &[u16],

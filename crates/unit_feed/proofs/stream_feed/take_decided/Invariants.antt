@@ -7,8 +7,8 @@ abbrev pub invariant-loop-at : goal.invariant-loop-at
 invariant-loop-at l = record {
   within : l.at ≤ length l.bytes;
   taken : (first : FeedView) (stream : List ℕ) (gone : List Fed) →
-      IsFedBy first stream l.ended (record { held = l.bytes; demux = l.fn.demux; feed = l.fn.feed }) (gone ++ l.fn.fed.items) →
-      IsFedBy first stream l.ended (record { held = drop l.at l.bytes; demux = l.demux; feed = l.feed }) (gone ++ l.fed.items);
+      IsFedBy first stream l.ended (record { held = l.bytes; packets = l.fn.packets }) (gone ++ l.fn.fed.items) →
+      IsFedBy first stream l.ended (record { held = drop l.at l.bytes; packets = l.packets }) (gone ++ l.fed.items);
 }
 
 abbrev pub decreases-loop-at : goal.decreases-loop-at

@@ -1,20 +1,16 @@
-use Rattle.std.proofs.Common.{◌≡◌, ◌++◌, ◌∙◌, [], List, drop, refl, ap, arith}
-use Rattle.std.proofs.lemmas.List.{drop_all}
-use Rattle.demux.specs.Views.{FindingView}
-use Rattle.unit_feed.specs.Feeding.{after_all, fed_all}
+use Rattle.std.proofs.Common.{◌≡◌, ◌<◌, ◌++◌, ◌∙◌, ℕ, true, List, drop, length, length-drop, refl, sym, ap, arith, subst}
+use Rattle.unit_feed.specs.StreamFeeding.{IsFedBy}
 use Rattle.unit_feed.proofs.FedStreams.{ready, ended_fed}
 use Rattle.unit_feed.proofs.stream_feed.StreamFeed.finish.Goals as goal
 
 pub returns : goal.returns
 returns c = λ first stream gone so.
     let held = c.as_slice.result.now in
-    let at = c.in_ok-take_decided.field-0 in
-    let feed = c.take_decided.new.feed in
-    let begun = ready first stream c.args.self c.self.inside.held.items held c.self.inside.demux c.self.inside.feed (gone ++ c.args.fed.now.items) c.self.view_is c.as_slice.ensures.value so in
-    let none : drop at held ≡ [] = drop_all at held (omega (arith, c.in_ok-take_decided.ensures.last refl)) in
-    ended_fed first stream (drop at held) c.take_decided.new.demux c.finish.new.self feed c.take_all.new.self gone c.take_decided.new.fed.items c.take_all.new.fed.items c.finish-2.new.fed.items
-    none c.in-Ok.ensures.ok
-    (c.in_ok-take_all.ensures.feed ∙ ap (λ (fs : List FindingView). after_all feed fs) c.findings.ensures.found)
-    (c.in_ok-take_all.ensures.fed ∙ ap (λ (fs : List FindingView). c.take_decided.new.fed.items ++ fed_all feed fs) c.findings.ensures.found)
-    c.in_ok-finish.ensures
-    (c.in_ok-take_decided.ensures.taken first stream gone begun)
+    let at = c.in_ok-at.at in
+    let packets = c.take_decided.new.packets in
+    let rest = c.split_at.result.1.now in
+    let begun = ready first stream c.args.self c.self.inside.held.items held c.self.inside.packets (gone ++ c.args.fed.now.items) c.self.view_is c.as_slice.ensures.value so in
+    let left : rest ≡ drop at held = c.split_at.ensures.back ∙ ap (λ (r : List ℕ). drop at r) (c.as_slice-2.ensures.value ∙ sym c.as_slice.ensures.value) in
+    let few : length rest < 188 = omega (arith, c.in_ok-at.ensures.last refl, ap (length {A = ℕ}) left, length-drop at held) in
+    ended_fed first stream rest packets gone c.take_decided.new.fed.items c.finish.new.fed.items few c.in_ok-finish.ensures
+    (subst (λ (r : List ℕ). IsFedBy first stream true (record { held = r; packets = packets }) (gone ++ c.take_decided.new.fed.items)) (sym left) (c.in_ok-at.ensures.taken first stream gone begun))

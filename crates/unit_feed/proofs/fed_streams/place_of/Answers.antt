@@ -1,7 +1,7 @@
 use Rattle.std.proofs.Common.{◌+◌, ◌∙◌, sym, ap, Bool, Some, if◌then◌else◌, drop}
 use Rattle.unit_feed.specs.Feeding.{place_from}
 use Rattle.unit_feed.proofs.FedUnits.{place_at, place_end}
-use Rattle.unit_feed.proofs.unit_feed.place_of.Goals as goal
+use Rattle.unit_feed.proofs.fed_streams.place_of.Goals as goal
 
 pub returns-then-is_of-clause-value : goal.returns-then-is_of-clause-value
 returns-then-is_of-clause-value c =
