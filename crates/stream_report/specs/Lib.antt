@@ -11,3 +11,4 @@ pub mod ReferenceLines
 pub mod TableLines
 pub mod Seen
 pub mod Views
+pub mod ClockedViews

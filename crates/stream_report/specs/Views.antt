@@ -5,6 +5,7 @@ use Rattle.ts_packet.specs.Views.{PacketView}
 use Rattle.ts_packet.specs.Reading.{packet_at}
 use Rattle.ts_packet.specs.Packets.{null_packet}
 use Rattle.stream_report.specs.declared.view.View.{View}
+use Rattle.stream_arrival.specs.declared.arrival.Arrival.{Arrival}
 use Rattle.stream_report.specs.Choices.{RequestView}
 use Rattle.stream_report.specs.Seen.{SeenState, clock_errors, counted, section_lines, end_line, next_window, nothing_seen, pid_ends, with_clock}
 use Rattle.stream_report.specs.Seen as seeing
@@ -24,6 +25,10 @@ pub record IsView (view : View) (s : ViewState) : Type 0 where
 -- before the first packet
 abbrev pub start : RequestView → ViewState
 start request = record { seen = nothing_seen request.options; table = no_streams request.choice }
+
+-- so many packets that come next arrive so
+abbrev pub arriving : ViewState → Arrival → ℕ → ViewState
+arriving s arrival count = record { seen = seeing.arriving s.seen arrival count; table = s.table }
 
 -- a packet that can't be read, or says that it is wrong
 abbrev pub without : ViewState → ViewState

@@ -81,7 +81,7 @@ fn new_entry(
         pid,
         clock_pid,
         counter: None,
-        buffers: StreamBuffers::new(alloc, options.rate, buffers.rx, u64::from(buffers.main)),
+        buffers: StreamBuffers::new(alloc, &options.arrival, buffers.rx, u64::from(buffers.main)),
         tally: Tally::new(),
     }
 }

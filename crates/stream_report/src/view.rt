@@ -1,9 +1,10 @@
-//! A stream, packet by packet.
+//! A stream, packet by packet, each with its arrival.
 ghost use Rattle.std.specs.Prelude.{◌≡◌, ◌++◌, OnOk, Result, string_bytes};
 ghost use Rattle.bit_fields.specs.Reading.{Gives};
 ghost use Rattle.ts_packet.specs.Reading.{packet_at};
 ghost use Rattle.ts_packet.specs.Views.{PacketView, packet_view};
 ghost use Rattle.ts_packet.specs.declared.packet.PacketError.{PacketError};
+ghost use Rattle.stream_report.specs.Seen.{arrival_lines};
 ghost use Rattle.stream_report.specs.Views as spec;
 ghost use Rattle.stream_report.specs.Views.{IsView, ViewState};
 
@@ -12,6 +13,7 @@ use crate::stream_table::StreamTable;
 use crate::view_request::ViewRequest;
 use crate::window_lines::write_window;
 use std::alloc::{AllocError, Global};
+use stream_arrival::Arrival;
 use ts_packet::{Packet, PacketError, null_packet, read_packet};
 
 /// A stream as far as it has come: no packet is kept.
@@ -32,6 +34,20 @@ impl View {
             seen: Seen::new(alloc, request.options),
             table: StreamTable::new(alloc, request.choice),
         }
+    }
+
+    /// `count` packets that come next arrive so.
+    pub fn arrive(
+        &mut self,
+        arrival: Arrival,
+        count: usize,
+        text: &mut String,
+    ) -> Result<(), AllocError>
+        ensures view { (s : ViewState) → IsView self.old s → OnOk result (IsView self.new (spec.arriving s arrival count)) }
+        ensures lines { (s : ViewState) → IsView self.old s → OnOk result (string_bytes text.new
+            ≡ string_bytes text.old ++ arrival_lines s.seen arrival count) }
+    {
+        self.seen.arrive(arrival, count, text)
     }
 
     // Appends the lines of the last packet's window.

@@ -2,7 +2,9 @@
 use Rattle.std.specs.Prelude.{ℕ, Bool, List, [], ◌∷◌, Option, Some, None, codes, map, option_and_then}
 use Rattle.std.specs.Borrow.{Bor}
 use Rattle.clap.specs.Words.{Kinds, Row, Text, fault_of, first_of, matches_of}
-use Rattle.devices.specs.Options.{is_given, number_given, number_option}
+use Rattle.devices.specs.Options.{is_given, number_if_given, number_option}
+use Rattle.stream_arrival.specs.declared.arrival.Arrival.{Arrival}
+use Rattle.stream_arrival.specs.declared.arrival.Arrival.TheVariants.{Unknown, AtRate}
 use Rattle.option_lists.specs.Lists.{buffer_list, number_list}
 use Rattle.stream_coding.specs.declared.buffers.PidBuffers.{PidBuffers}
 use Rattle.stream_report.specs.declared.view_options.ViewOptions.{ViewOptions}
@@ -22,8 +24,13 @@ least_window = 10
 abbrev pub greatest_window : ℕ
 greatest_window = 3600000
 
-abbrev pub options : ℕ → ℕ → Bool → ViewOptions
-options rate window json = record { rate = rate; window = window; json = json }
+-- packets arrive at a rate that is given, or else by clock references
+unfoldable pub arrival_of : Option ℕ → Arrival
+arrival_of None = Unknown
+arrival_of (Some rate) = AtRate rate
+
+abbrev pub options : Option ℕ → ℕ → Bool → ViewOptions
+options rate window json = record { arrival = arrival_of rate; origin = 0; window = window; json = json }
 
 -- a rate in bits a second, and a window of 10 ms to an hour, of 1 s where none is given
 unfoldable pub options_of : List Row → Option ViewOptions
@@ -32,7 +39,7 @@ options_of rows =
     option_and_then (λ window.
     Some (options rate window (is_given (first_of (codes "json") rows))))
     (number_option least_window greatest_window 1000 (first_of (codes "window") rows)))
-    (number_given least_rate greatest_rate (first_of (codes "rate") rows))
+    (number_if_given least_rate greatest_rate (first_of (codes "rate") rows))
 
 -- which streams are viewed, and with which buffers: programs up to 65,535
 abbrev pub greatest_program : ℕ

@@ -82,6 +82,6 @@ impl CommandLine for KnownWords {
     }
 
     fn required(self) -> Option<&'static str> {
-        Some("--rate")
+        None
     }
 }

@@ -22,8 +22,8 @@ use stream_report::ViewRequest;
 use word_faults::answer_other_words;
 
 /// The usage, written to the second writer on a usage error.
-const USAGE: &str = "usage: tsview --rate R [OPTIONS] < PACKETS
-  --rate 100000..100000000       the rate of the stream in bits a second
+const USAGE: &str = "usage: tsview [OPTIONS] < PACKETS
+  --rate 100000..100000000       the rate of the stream in bits a second; else by its clock references
   --window 10..3600000           the length of a window in ms; else 1000
   --json                         a JSON object a line
   --program N,..                 view the streams of these programs alone
