@@ -17,7 +17,8 @@ use Rattle.stream_report.specs.declared.clocks.Beginning.TheVariants.{Nothing, U
 use Rattle.stream_report.specs.declared.stream_entry.StreamEntry.{StreamEntry}
 use Rattle.stream_report.specs.declared.tally.Tally.{Tally}
 use Rattle.stream_report.specs.Clocks.{ahead_of, beginning_of, due_at}
-use Rattle.stream_report.specs.EntryLines.{ahead_lines, closing_lines, ended_lines, tally_lines}
+use Rattle.stream_report.specs.EntryLines.{ahead_lines, closing_lines, ended_lines}
+use Rattle.stream_report.specs.HeldLines.{tally_lines}
 use Rattle.stream_report.specs.Tallies.{with_excesses, with_packet, with_unit_if}
 use Rattle.stream_report.specs.declared.entry_lines.Place.{Place}
 

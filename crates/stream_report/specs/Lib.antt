@@ -4,6 +4,7 @@ pub mod Choices
 pub mod Clocks
 pub mod Tallies
 pub mod EntryLines
+pub mod HeldLines
 pub mod Entries
 pub mod StreamTables
 pub mod ClockLines

@@ -14,6 +14,7 @@ mod clock_lines;
 mod clocked_view;
 mod clocks;
 mod entry_lines;
+mod held_lines;
 mod lines;
 mod reference_lines;
 mod seen;

@@ -6,7 +6,8 @@ ghost use Rattle.stream_report.specs.Entries as spec;
 ghost use Rattle.stream_report.specs.Entries.{EntryState, IsEntry};
 
 use crate::clocks::{Beginning, LONGEST_STAY, ahead_of, beginning_of, due_at};
-use crate::entry_lines::{Place, write_ahead_if, write_closing, write_ended, write_window_if};
+use crate::entry_lines::{Place, write_ahead_if, write_closing, write_ended};
+use crate::held_lines::write_window_if;
 use crate::tally::Tally;
 use crate::view_options::ViewOptions;
 use packet_arrival::{PCR_PERIOD, PcrSample};

@@ -2,7 +2,7 @@ use Rattle.std.proofs.Common.{rules, ◌≡◌, ◌++◌, List, subst, string_by
 use Rattle.std.specs.Prelude.{OnOk, codes}
 use Rattle.stream_report.specs.ReportLines.{FieldView, field_view, line_of, number_field}
 use Rattle.stream_report.proofs.Fields.{four}
-use Rattle.stream_report.proofs.entry_lines.write_held.Goals as goal
+use Rattle.stream_report.proofs.held_lines.write_held.Goals as goal
 
 pub returns : goal.returns
 returns c =

@@ -3,7 +3,7 @@ use Rattle.std.specs.Prelude.{OnOk, codes}
 use Rattle.stream_report.specs.ReportLines.{FieldView, field_view, line_of, number_field}
 use Rattle.stream_report.specs.EntryLines.{span_of}
 use Rattle.stream_report.proofs.Fields.{five}
-use Rattle.stream_report.proofs.entry_lines.write_units.Goals as goal
+use Rattle.stream_report.proofs.held_lines.write_units.Goals as goal
 
 pub returns : goal.returns
 returns c =
