@@ -10,6 +10,7 @@ pub mod StreamTables
 pub mod ClockLines
 pub mod ReferenceLines
 pub mod TableLines
+pub mod SystemLines
 pub mod Seen
 pub mod Views
 pub mod ClockedViews

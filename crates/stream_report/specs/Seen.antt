@@ -1,10 +1,12 @@
 -- What is kept of a stream beside its buffers.
-use Rattle.std.specs.Prelude.{ℕ, ◌+◌, ◌-◌, ◌^◌, min, nat_lt, Bool, false, if◌then◌else◌, List, [], ◌∷◌, ◌++◌, codes, Option}
+use Rattle.std.specs.Prelude.{ℕ, ◌+◌, ◌-◌, ◌^◌, min, nat_lt, Bool, false, if◌then◌else◌, List, [], ◌∷◌, ◌++◌, codes, Option, None}
 use Rattle.ts_packet.specs.Views.{PacketView}
 use Rattle.ts_packet.specs.PcrBytes.{has_pcr}
 use Rattle.pid_windows.specs.Windows.{WindowView, no_packet, one_more, taken}
 use Rattle.named_streams.specs.NamedStreams.{NamedView, none_taken}
 use Rattle.named_streams.specs.NamedStreams as naming
+use Rattle.system_tables.specs.Programs.{ProgramState}
+use Rattle.system_tables.specs.Programs as programs
 use Rattle.pcr_errors.specs.PidWatches.{WatchesState, report_at}
 use Rattle.pcr_errors.specs.PidWatches as watching
 use Rattle.pcr_errors.specs.declared.report.PcrReport.{PcrReport}
@@ -26,7 +28,7 @@ use Rattle.stream_report.specs.WindowLines.{pid_lines, window_of}
 
 -- the number of packets, and of those that are refused or have transport_error_indicator; the window of the last packet that is
 -- not; the packets of each PID; the last clock reference of each, and what all of them came to, by the rate, with the number of
--- their errors; the sections of tables; and the streams that are named
+-- their errors; the sections of tables; the buffers of programs' tables; and the streams that are named
 pub record SeenState : Type 0 where
   pub options : ViewOptions
   pub packets : ℕ
@@ -37,6 +39,7 @@ pub record SeenState : Type 0 where
   pub watches : WatchesState
   pub errors : ℕ
   pub tables : TablesState
+  pub systems : Option (List ProgramState)
   pub named : NamedView
 
 -- by what references are measured: by the rate, or by each other
@@ -63,6 +66,7 @@ nothing_seen options = record {
   watches = watching.no_packet (timing_of options.arrival);
   errors = 0;
   tables = no_tables (table_timing options.arrival);
+  systems = None;
   named = none_taken;
 }
 
@@ -103,7 +107,7 @@ arrival_lines s arrival count = if unclocked arrival count then unclocked_line s
 abbrev pub without : SeenState → SeenState
 without s = record s { packets = one_more s.packets; refused = one_more s.refused }
 
--- one that can: its clock reference, with the lines of its errors, and then its PID is counted
+-- one that can: its clock reference, with the lines of its errors, and then it enters the buffers of programs' tables and its PID is counted
 abbrev pub report_on : SeenState → PacketView → Option PcrReport
 report_on s packet = report_at s.watches s.packets packet
 
@@ -122,6 +126,7 @@ next_window s = window_of s.options s.packets
 
 abbrev pub counted : SeenState → PacketView → SeenState
 counted s packet = record s {
+  systems = programs.taken s.options.arrival s.packets s.named packet.header.pid s.systems;
   packets = one_more s.packets;
   window = taken s.window (next_window s) packet.header.pid (has_pcr packet.adaptation);
   totals = taken s.totals 0 packet.header.pid (has_pcr packet.adaptation);

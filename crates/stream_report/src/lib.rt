@@ -20,6 +20,7 @@ mod reference_lines;
 mod seen;
 mod stream_entry;
 mod stream_table;
+mod system_lines;
 mod table_watch;
 mod tally;
 mod view;

@@ -16,12 +16,13 @@ use pid_windows::PidWindow;
 use std::alloc::{AllocError, Global};
 use std::marker::Model;
 use stream_arrival::Arrival;
+use system_tables::SystemTables;
 use table_intervals::TableTiming;
 use ts_packet::{Packet, has_pcr};
 
 /// What is kept of a stream beside its buffers: the number of packets, and of those that are refused; the window of the last packet; the
 /// packets of each PID; the last clock reference of each, and what all of them came to, with the number of their errors; the
-/// sections of tables; and the streams that are named.
+/// sections of tables; the buffers of programs' tables; and the streams that are named.
 #[derive(Drop)]
 pub struct Seen {
     alloc: Global,
@@ -34,6 +35,7 @@ pub struct Seen {
     pub watches: PcrWatches<Global>,
     pub errors: u64,
     pub tables: TableWatch,
+    pub systems: SystemTables,
     pub named: NamedStreams,
 }
 
@@ -52,6 +54,7 @@ impl Model for Seen {
       watches = s.watches;
       errors = s.errors;
       tables = s.tables;
+      systems = s.systems;
       named = s.named;
     } };
 }
@@ -136,6 +139,7 @@ impl Seen {
             watches: PcrWatches::new(alloc, timing_of(&options.arrival)),
             errors: 0,
             tables: TableWatch::new(alloc, table_timing(&options.arrival)),
+            systems: SystemTables::new(alloc),
             named: NamedStreams::new(alloc),
         }
     }
@@ -201,13 +205,15 @@ impl Seen {
         window_of(&self.options, self.packets)
     }
 
-    /// A packet that is not known to be wrong is counted.
+    /// A packet that is not known to be wrong enters the buffers of programs' tables, and is counted.
     pub fn count(&mut self, packet: &Packet<'_>) -> Result<(), AllocError>
         ensures { OnOk result (self.new ≡ spec.counted self.old (packet_view packet.now)) }
     {
         let window = self.next_window();
         let pid = packet.header.pid;
         let pcr = has_pcr(packet);
+        self.systems
+            .take(&self.options.arrival, self.packets, &self.named, pid)?;
         self.window.take(window, pid, pcr)?;
         self.totals.take(0, pid, pcr)?;
         self.packets = self.packets.saturating_add(1);

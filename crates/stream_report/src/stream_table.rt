@@ -142,6 +142,13 @@ impl StreamTable {
         }
     }
 
+    /// Which streams are viewed.
+    pub fn choice(&self) -> &ViewChoice
+        ensures { (t : TableState) → IsTable self.now t → result.now ≡ t.choice }
+    {
+        &self.choice
+    }
+
     // The stream whose buffers begin with a packet.
     fn beginning<'n>(&self, named: &'n NamedStreams, packet: &Packet<'_>) -> Option<&'n FoundStream>
         ensures { (t : TableState) → IsTable self.now t →

@@ -10,6 +10,7 @@ ghost use Rattle.stream_report.specs.Views.{IsView, ViewState};
 
 use crate::seen::Seen;
 use crate::stream_table::StreamTable;
+use crate::system_lines::{all_fit, write_systems};
 use crate::view_request::ViewRequest;
 use crate::window_lines::write_window;
 use std::alloc::{AllocError, Global};
@@ -189,6 +190,12 @@ impl View {
         write_window(text, options, &self.seen.window)?;
         self.table
             .write_end(text, options, self.seen.packets, window)?;
+        write_systems(
+            text,
+            options,
+            self.table.choice(),
+            self.seen.systems.programs(),
+        )?;
         self.seen.write_pid_ends(text)?;
         self.seen.write_end(left, text)
     }
@@ -201,6 +208,7 @@ impl View {
             && self.seen.errors == 0
             && self.seen.tables.is_good()
             && left == 0
+            && all_fit(self.table.choice(), self.seen.systems.programs())
             && self.table.is_good()
     }
 }
