@@ -41,8 +41,8 @@ fn programs_of(
 }
 
 // A packet comes to the programs.
-fn take_each(programs: &mut Vec<ProgramTables>, arrival: &Arrival, index: u64, pid: u16)
-    ensures { programs.new.items ≡ map (spec.entered arrival.now index pid) programs.old.items }
+fn take_each(programs: &mut [ProgramTables], arrival: &Arrival, index: u64, pid: u16)
+    ensures { programs.new ≡ map (spec.entered arrival.now index pid) programs.old }
 {
     for at in 0..programs.len() {
         programs[at].take(arrival, index, pid);
