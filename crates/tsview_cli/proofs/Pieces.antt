@@ -19,7 +19,7 @@ use Rattle.tsview_cli.specs.Viewing.{BeginsWith, Breaks, Seen}
 
 -- 1. Bytes that are whole packets, and bytes after them
 
-cut_both : (count : ℕ) (bytes more : List ℕ) → length bytes ≡ 188 * count → cut_packets (bytes ++ more) ≡ cut_packets bytes ++ cut_packets more
+pub cut_both : (count : ℕ) (bytes more : List ℕ) → length bytes ≡ 188 * count → cut_packets (bytes ++ more) ≡ cut_packets bytes ++ cut_packets more
 cut_both zero [] more e = refl
 cut_both zero (x ∷ bytes) more e = absurd (omega arith)
 cut_both (suc count) bytes more e =
@@ -35,7 +35,7 @@ cut_both (suc count) bytes more e =
     ∙ ap (λ (x : List (List ℕ)). x ++ cut_packets more) (sym (first_cut front back size))
     ∙ ap (λ (x : List ℕ). cut_packets x ++ cut_packets more) joined
 
-after_both : (s : ClockedState) (packets more : List (List ℕ)) → after_all s (packets ++ more) ≡ after_all (after_all s packets) more
+pub after_both : (s : ClockedState) (packets more : List (List ℕ)) → after_all s (packets ++ more) ≡ after_all (after_all s packets) more
 unfolding after_all
 after_both s [] more = refl
 after_both s (packet ∷ packets) more = after_both (after_packet s packet) packets more

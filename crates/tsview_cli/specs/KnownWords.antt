@@ -17,7 +17,7 @@ kind_of option =
     else (if bytes_eq option (codes "--buffers") then Some Buffers else None)))
 
 abbrev pub is_flag : Text → Bool
-is_flag option = bytes_eq option (codes "--json") || bytes_eq option (codes "--progress")
+is_flag option = bytes_eq option (codes "--json") || (bytes_eq option (codes "--page") || bytes_eq option (codes "--progress"))
 
 abbrev pub takes_by : Option ValueKind → Bool → Option Bool
 takes_by (Some kind) flag = Some true

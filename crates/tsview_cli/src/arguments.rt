@@ -5,6 +5,7 @@ ghost use Rattle.clap.specs.Words.{found_of, rows_of};
 ghost use Rattle.tsview_cli.specs.Arguments as spec;
 
 use crate::command_line::matches_for;
+use crate::request::Request;
 use clap::ArgMatches;
 use clap::error::ErrorKind;
 use clock27::Rate;
@@ -36,17 +37,29 @@ fn options_of(matches: &ArgMatches<'_>) -> Option<ViewOptions>
 {
     let rate = number_if_given(text_of(matches, "rate"), 100_000, 100_000_000)?;
     let window = number_option(text_of(matches, "window"), 10, 3_600_000, 1_000)?;
+    let page = is_given(text_of(matches, "page"));
     Some(ViewOptions {
         arrival: arrival_of(rate),
         origin: 0,
         window: window as u32,
-        json: is_given(text_of(matches, "json")),
+        json: is_given(text_of(matches, "json")) && !page,
     })
+}
+
+// Its lines, or a page of them.
+fn requested(page: bool, request: ViewRequest) -> Request
+    ensures { result ≡ spec.requested page request }
+{
+    if page {
+        Request::Page(request)
+    } else {
+        Request::Lines(request)
+    }
 }
 
 // With the options that are lists.
 #[tactic(auto, unfolding(crate::specs::Arguments::request_of))]
-fn request_of(alloc: Global, matches: &ArgMatches<'_>) -> Result<Option<ViewRequest>, AllocError>
+fn request_of(alloc: Global, matches: &ArgMatches<'_>) -> Result<Option<Request>, AllocError>
     ensures { IfOk result (λ r. r ≡ spec.request_of (rows_of (found_of matches.now))) }
 {
     let Some(options) = options_of(matches) else {
@@ -59,14 +72,15 @@ fn request_of(alloc: Global, matches: &ArgMatches<'_>) -> Result<Option<ViewRequ
         return Ok(None);
     };
     let choice = ViewChoice { programs, buffers };
-    Ok(Some(ViewRequest { options, choice }))
+    let page = is_given(text_of(matches, "page"));
+    Ok(Some(requested(page, ViewRequest { options, choice })))
 }
 
 /// What the words ask for; none where they are a usage error.
 pub(crate) fn read_arguments(
     alloc: Global,
     words: &[&str],
-) -> Result<Option<ViewRequest>, AllocError>
+) -> Result<Option<Request>, AllocError>
     ensures { IfOk result (λ r. r ≡ spec.asked words.now) }
 {
     match matches_for(alloc, words) {
