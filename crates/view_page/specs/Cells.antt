@@ -7,7 +7,7 @@ use Rattle.view_page.specs.declared.cells.Limit.TheVariants.{Field, FieldIfAny, 
 use Rattle.view_page.specs.declared.cells.CellUnit.{CellUnit}
 use Rattle.view_page.specs.declared.cells.CellUnit.TheVariants.{Same, Ticks}
 use Rattle.view_page.specs.declared.cells.CellWord.{CellWord}
-use Rattle.view_page.specs.declared.cells.CellWord.TheVariants.{Transport, Main, TransportExcess, MainExcess, LateUnit, FarAhead, PcrRepetition, PcrDiscontinuity, PcrAccuracy, TableRepetition, Bytes, Millis, Nanos, Unreferenced, Missing, Nothing}
+use Rattle.view_page.specs.declared.cells.CellWord.TheVariants.{Transport, Main, TransportExcess, MainExcess, LateUnit, FarAhead, PcrRepetition, PcrDiscontinuity, PcrAccuracy, TableRepetition, Unclocked, Bytes, Packets, Millis, Nanos, Unreferenced, Missing, Nothing}
 use Rattle.view_page.specs.declared.cells.Cell.{Cell}
 use Rattle.view_page.specs.declared.cells.Cell.TheVariants.{Number, Checked, Bar, Word, Coding}
 use Rattle.view_page.specs.Fields.{coding_in, number_in}
@@ -23,7 +23,9 @@ word_text PcrRepetition = codes "clock reference too late"
 word_text PcrDiscontinuity = codes "clock reference that jumps"
 word_text PcrAccuracy = codes "inaccurate clock reference"
 word_text TableRepetition = codes "section too late"
+word_text Unclocked = codes "packets without a moment"
 word_text Bytes = codes "bytes"
+word_text Packets = codes "packets"
 word_text Millis = codes "ms"
 word_text Nanos = codes "ns"
 word_text Unreferenced = codes "has packets, and the first tables do not name it"

@@ -8,7 +8,7 @@ use Rattle.page_charts.specs.Frames.{frame}
 use Rattle.page_charts.specs.PidCurves.{greatest_value}
 use Rattle.view_page.specs.declared.page.Page.{Page}
 use Rattle.view_page.specs.declared.page.ReportEnd.{ReportEnd}
-use Rattle.view_page.specs.declared.page_text.TheConstants.{APART, BACK, BUFFERS, CLOCKS, FAULTS, FRONT, MAINS, PIDS, RATES, SLACKS, STREAMS, TABLES, TRANSPORTS}
+use Rattle.view_page.specs.declared.page_text.TheConstants.{APART, BACK, BUFFERS, CLOCKS, FAULTS, FRONT, MAINS, PIDS, RATES, SLACKS, STREAMS, SYSTEMS, TABLES, TRANSPORTS}
 use Rattle.view_page.specs.RowTexts.{RowTexts}
 
 -- texts that are always the same
@@ -35,6 +35,9 @@ streams_text = STREAMS.now
 
 unfoldable pub buffers_text : List ℕ
 buffers_text = BUFFERS.now
+
+unfoldable pub systems_text : List ℕ
+systems_text = SYSTEMS.now
 
 unfoldable pub clocks_text : List ℕ
 clocks_text = CLOCKS.now
@@ -71,7 +74,7 @@ charts p = (rates_text ++ one_chart p BitRate p.values.rates.curves.items) ++ ((
     ++ ((mains_text ++ flat_map (buffer_chart p) p.values.mains.curves.items) ++ (slacks_text ++ one_chart p Time p.values.slacks.curves.items)))
 
 unfoldable pub measures : RowTexts → List ℕ
-measures r = (faults_text ++ r.faults) ++ ((streams_text ++ r.streams) ++ ((buffers_text ++ r.buffers) ++ (clocks_text ++ r.clocks)))
+measures r = (faults_text ++ r.faults) ++ ((streams_text ++ r.streams) ++ ((buffers_text ++ r.buffers) ++ ((systems_text ++ r.systems) ++ (clocks_text ++ r.clocks))))
 
 unfoldable pub lists : RowTexts → List ℕ
 lists r = (tables_text ++ r.tables) ++ ((pids_text ++ r.pids) ++ (apart_text ++ r.apart))

@@ -4,7 +4,7 @@ use Rattle.view_page.specs.declared.fields.FieldName.TheVariants as fields
 use Rattle.view_page.specs.declared.page.Page.{Page}
 use Rattle.view_page.specs.declared.page.ReportEnd.{ReportEnd}
 use Rattle.view_page.specs.declared.report_lines.LineKind.{LineKind}
-use Rattle.view_page.specs.declared.report_lines.LineKind.TheVariants.{Stream, Window, Held, Units, Excess, MainExcess, Late, Ahead, PcrRepetition, PcrDiscontinuity, PcrAccuracy, TableRepetition, Transport, Main, Clock, Table, Pid, Unreferenced, Missing, End, Other}
+use Rattle.view_page.specs.declared.report_lines.LineKind.TheVariants.{Stream, Window, Held, Units, Excess, MainExcess, Late, Ahead, PcrRepetition, PcrDiscontinuity, PcrAccuracy, TableRepetition, Unclocked, Transport, Main, System, Clock, Table, Pid, Unreferenced, Missing, End, Other}
 use Rattle.view_page.specs.ReportLines.{kind_in, lines_of, words_of}
 use Rattle.view_page.specs.Fields.{number_in}
 use Rattle.view_page.specs.RowTexts.{RowTexts}
@@ -42,8 +42,10 @@ end_after end PcrRepetition words = end
 end_after end PcrDiscontinuity words = end
 end_after end PcrAccuracy words = end
 end_after end TableRepetition words = end
+end_after end Unclocked words = end
 end_after end Transport words = end
 end_after end Main words = end
+end_after end System words = end
 end_after end Clock words = end
 end_after end Table words = end
 end_after end Pid words = end

@@ -3,7 +3,7 @@ use Rattle.std.specs.Prelude.{ℕ, ◌==◌, if◌then◌else◌, List, [], ◌�
 use Rattle.std.specs.List.{slice_split}
 use Rattle.std.specs.Str.{bytes_eq}
 use Rattle.view_page.specs.declared.report_lines.LineKind.{LineKind}
-use Rattle.view_page.specs.declared.report_lines.LineKind.TheVariants.{Stream, Window, Held, Units, Excess, MainExcess, Late, Ahead, PcrRepetition, PcrDiscontinuity, PcrAccuracy, TableRepetition, Transport, Main, Clock, Table, Pid, Unreferenced, Missing, End, Other}
+use Rattle.view_page.specs.declared.report_lines.LineKind.TheVariants.{Stream, Window, Held, Units, Excess, MainExcess, Late, Ahead, PcrRepetition, PcrDiscontinuity, PcrAccuracy, TableRepetition, Unclocked, Transport, Main, System, Clock, Table, Pid, Unreferenced, Missing, End, Other}
 
 abbrev pub lines_of : List ℕ → List (List ℕ)
 lines_of text = slice_split (λ b. b == 10) text
@@ -25,14 +25,16 @@ kind_of word =
     else (if bytes_eq word (codes "pcr_discontinuity") then PcrDiscontinuity
     else (if bytes_eq word (codes "pcr_accuracy") then PcrAccuracy
     else (if bytes_eq word (codes "table_repetition") then TableRepetition
+    else (if bytes_eq word (codes "unclocked") then Unclocked
     else (if bytes_eq word (codes "transport") then Transport
     else (if bytes_eq word (codes "main") then Main
+    else (if bytes_eq word (codes "system") then System
     else (if bytes_eq word (codes "clock") then Clock
     else (if bytes_eq word (codes "table") then Table
     else (if bytes_eq word (codes "pid") then Pid
     else (if bytes_eq word (codes "unreferenced") then Unreferenced
     else (if bytes_eq word (codes "missing") then Missing
-    else (if bytes_eq word (codes "end") then End else Other)))))))))))))))))))
+    else (if bytes_eq word (codes "end") then End else Other)))))))))))))))))))))
 
 unfoldable pub kind_in : List (List ℕ) → LineKind
 kind_in [] = Other

@@ -4,6 +4,7 @@ use Rattle.std.specs.Prelude.{ℕ, List}
 pub record RowTexts : Type 0 where
   pub streams : List ℕ
   pub buffers : List ℕ
+  pub systems : List ℕ
   pub clocks : List ℕ
   pub tables : List ℕ
   pub pids : List ℕ

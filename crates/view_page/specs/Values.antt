@@ -6,7 +6,7 @@ use Rattle.page_charts.specs.PidCurves.{AreCurves, KeptCurve, kept_name, opened,
 use Rattle.page_charts.specs.PidNames.{of_pid}
 use Rattle.view_page.specs.declared.fields.FieldName.TheVariants as fields
 use Rattle.view_page.specs.declared.report_lines.LineKind.{LineKind}
-use Rattle.view_page.specs.declared.report_lines.LineKind.TheVariants.{Stream, Window, Held, Units, Excess, MainExcess, Late, Ahead, PcrRepetition, PcrDiscontinuity, PcrAccuracy, TableRepetition, Transport, Main, Clock, Table, Pid, Unreferenced, Missing, End, Other}
+use Rattle.view_page.specs.declared.report_lines.LineKind.TheVariants.{Stream, Window, Held, Units, Excess, MainExcess, Late, Ahead, PcrRepetition, PcrDiscontinuity, PcrAccuracy, TableRepetition, Unclocked, Transport, Main, System, Clock, Table, Pid, Unreferenced, Missing, End, Other}
 use Rattle.view_page.specs.declared.values.Values.{Values}
 use Rattle.view_page.specs.declared.values.TheConstants.{TRANSPORT_BYTES}
 use Rattle.view_page.specs.Fields.{coding_in, number_in, pid_in}
@@ -79,8 +79,10 @@ with_line v PcrRepetition words = v
 with_line v PcrDiscontinuity words = v
 with_line v PcrAccuracy words = v
 with_line v TableRepetition words = v
+with_line v Unclocked words = v
 with_line v Transport words = v
 with_line v Main words = v
+with_line v System words = v
 with_line v Clock words = v
 with_line v Table words = v
 with_line v Pid words = v

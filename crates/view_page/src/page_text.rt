@@ -39,6 +39,7 @@ const MAINS: &str = "<h2>Main buffers</h2><p class=\"soft\">The most bytes that 
 const FAULTS: &str = "<h2>Faults</h2><p class=\"soft\">The first 100.</p><div class=\"wide\"><table><tr><th class=\"word\">what<th>PID<th>packet<th>value<th>limit<th class=\"word\">unit\n";
 const STREAMS: &str = "</table></div><h2>Streams</h2><div class=\"wide\"><table><tr><th>PID<th>program<th>stream_type<th class=\"word\">coding<th>out of the transport buffer, bit/s<th>main buffer, bytes\n";
 const BUFFERS: &str = "</table></div><h2>Buffers</h2><div class=\"wide\"><table><tr><th>PID<th class=\"word\">buffer<th>size<th>most<th class=\"word\">beside its size<th>excesses<th>units<th>late<th>headers not read\n";
+const SYSTEMS: &str = "</table></div><h2>Buffers of programs' tables</h2><div class=\"wide\"><table><tr><th>program<th>transport buffer, most<th class=\"word\">beside 512 bytes<th>system buffer, most<th class=\"word\">beside 1,536 bytes\n";
 const CLOCKS: &str = "</table></div><h2>Clock references</h2><div class=\"wide\"><table><tr><th>PID<th>references<th>announced<th>rate, bit/s<th>longest interval, ms<th class=\"word\">beside 100 ms<th>inaccuracy, ns<th class=\"word\">beside 500 ns\n";
 const TABLES: &str = "</table></div><h2>Tables</h2><div class=\"wide\"><table><tr><th>PID<th>table_id<th>sections<th>longest interval, ms<th>limit, ms<th class=\"word\">beside its limit\n";
 const PIDS: &str = "</table></div><h2>PIDs</h2><div class=\"wide\"><table><tr><th>PID<th>packets<th>with a clock reference\n";
@@ -99,6 +100,13 @@ fn buffers_text() -> &'static str
     ensures { result.now ≡ spec.buffers_text }
 {
     BUFFERS
+}
+
+#[tactic(auto, unfolding(crate::specs::PageText::systems_text))]
+fn systems_text() -> &'static str
+    ensures { result.now ≡ spec.systems_text }
+{
+    SYSTEMS
 }
 
 #[tactic(auto, unfolding(crate::specs::PageText::clocks_text))]
@@ -246,6 +254,7 @@ fn write_measures(text: &mut String, rows: &Rows) -> Result<(), AllocError>
     write_table(text, faults_text(), &rows.faults)?;
     write_table(text, streams_text(), &rows.streams)?;
     write_table(text, buffers_text(), &rows.buffers)?;
+    write_table(text, systems_text(), &rows.systems)?;
     write_table(text, clocks_text(), &rows.clocks)
 }
 

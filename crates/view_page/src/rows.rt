@@ -42,6 +42,13 @@ const MAIN: [Cell; 9] = [
     Cell::Checked(FieldName::Late, Limit::Fixed(0), CellUnit::Same),
     Cell::Checked(FieldName::Unread, Limit::Fixed(0), CellUnit::Same),
 ];
+const SYSTEM: [Cell; 5] = [
+    Cell::Number(FieldName::Program, CellUnit::Same),
+    Cell::Checked(FieldName::Transport, Limit::Fixed(512), CellUnit::Same),
+    Cell::Bar(FieldName::Transport, Limit::Fixed(512)),
+    Cell::Checked(FieldName::Main, Limit::Fixed(1_536), CellUnit::Same),
+    Cell::Bar(FieldName::Main, Limit::Fixed(1_536)),
+];
 const CLOCK: [Cell; 8] = [
     Cell::Number(FieldName::Pid, CellUnit::Same),
     Cell::Number(FieldName::References, CellUnit::Same),
@@ -138,11 +145,21 @@ const TABLE_REPETITION: [Cell; 6] = [
     Cell::Word(CellWord::Millis),
 ];
 
+const UNCLOCKED: [Cell; 6] = [
+    Cell::Word(CellWord::Unclocked),
+    Cell::Word(CellWord::Nothing),
+    Cell::Number(FieldName::Packet, CellUnit::Same),
+    Cell::Number(FieldName::Packets, CellUnit::Same),
+    Cell::Word(CellWord::Nothing),
+    Cell::Word(CellWord::Packets),
+];
+
 /// The rows of each table, and how many faults have come; 100 of them have rows.
 #[derive(Drop)]
 pub struct Rows {
     pub streams: String,
     pub buffers: String,
+    pub systems: String,
     pub clocks: String,
     pub tables: String,
     pub pids: String,
@@ -160,6 +177,7 @@ impl Model for Rows {
     ghost view = { λ r. record {
       streams = string_bytes r.streams;
       buffers = string_bytes r.buffers;
+      systems = string_bytes r.systems;
       clocks = string_bytes r.clocks;
       tables = string_bytes r.tables;
       pids = string_bytes r.pids;
@@ -177,6 +195,7 @@ impl Rows {
         Rows {
             streams: String::new(alloc),
             buffers: String::new(alloc),
+            systems: String::new(alloc),
             clocks: String::new(alloc),
             tables: String::new(alloc),
             pids: String::new(alloc),
@@ -213,6 +232,7 @@ impl Rows {
             LineKind::PcrDiscontinuity => self.take_fault(words, &PCR_DISCONTINUITY),
             LineKind::PcrAccuracy => self.take_fault(words, &PCR_ACCURACY),
             LineKind::TableRepetition => self.take_fault(words, &TABLE_REPETITION),
+            LineKind::Unclocked => self.take_fault(words, &UNCLOCKED),
             _ => Ok(()),
         }
     }
@@ -226,6 +246,7 @@ impl Rows {
             LineKind::Stream => write_row(&mut self.streams, words, &STREAM),
             LineKind::Transport => write_row(&mut self.buffers, words, &TRANSPORT),
             LineKind::Main => write_row(&mut self.buffers, words, &MAIN),
+            LineKind::System => write_row(&mut self.systems, words, &SYSTEM),
             LineKind::Clock => write_row(&mut self.clocks, words, &CLOCK),
             LineKind::Table => write_row(&mut self.tables, words, &TABLE),
             LineKind::Pid => write_row(&mut self.pids, words, &PID),
