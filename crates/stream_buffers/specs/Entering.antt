@@ -1,8 +1,9 @@
 -- A packet enters the buffers of its stream: its header and adaptation field first, and then its payload, with which a unit may
 -- begin (ISO/IEC 13818-1, 2.4.2.3).
-use Rattle.std.specs.Prelude.{ℕ, ◌+◌, ◌-◌, ◌*◌, ◌==◌, ◌&&◌, min, max, nat_le, nat_lt, Bool, if◌then◌else◌, List, [], ◌++◌, Option, Some, None}
+use Rattle.std.specs.Prelude.{ℕ, ◌+◌, ◌-◌, ◌*◌, ◌==◌, ◌&&◌, min, max, nat_le, nat_lt, Bool, false, if◌then◌else◌, List, [], ◌++◌, Option, Some, None}
 use Rattle.std.specs.Option.{option_to_list}
-use Rattle.clock27.specs.Arrival.{bytes_from}
+use Rattle.stream_arrival.specs.declared.arrival.Arrival.{Arrival}
+use Rattle.stream_arrival.specs.Arrivals.{has_times, lead_of, times_at}
 use Rattle.transport_buffer.specs.declared.excess.Excess.{Excess}
 use Rattle.stream_view.specs.History.{transport_of}
 use Rattle.stream_view.specs.declared.unit_seen.UnitSeen.{UnitSeen}
@@ -23,7 +24,7 @@ pub record EnteredView : Type 0 where
 
 abbrev pub entered_view : Entered → EnteredView
 entered_view e = record {
-  transport = option_to_list e.header ++ option_to_list e.payload;
+  transport = option_to_list e.lead ++ (option_to_list e.header ++ option_to_list e.payload);
   main = option_to_list e.main;
   unit = e.unit;
   transport_most = e.transport_most;
@@ -33,15 +34,12 @@ entered_view e = record {
 abbrev pub nothing : EnteredView
 nothing = record { transport = []; main = []; unit = None; transport_most = 0; main_most = 0 }
 
--- the bytes of its payload, and when they and those before them arrive
+-- the bytes of its payload; and how many of those before them lie on the first of two lines, where the second begins within the packet
 abbrev pub size_of : Arriving → ℕ
 size_of p = min p.size 184
 
-abbrev pub header_times : Held → Arriving → List ℕ
-header_times h p = bytes_from h.rx (188 * p.index) (188 - size_of p)
-
-abbrev pub payload_times : Held → Arriving → List ℕ
-payload_times h p = bytes_from h.rx (188 * p.index + (188 - size_of p)) (size_of p)
+abbrev pub lead_in : Arrival → Arriving → ℕ
+lead_in arrival p = min (lead_of arrival (188 * p.index)) (188 - size_of p)
 
 -- a unit that begins ends the one before it
 unfoldable pub after_begin : Held → Option DueTime → Held
@@ -68,28 +66,56 @@ payload_transport_most h count times = if count == 0 then 0 else transport_found
 unfoldable pub payload_main_most : Held → Bool → ℕ → List ℕ → ℕ
 payload_main_most h enters count times = if count == 0 then 0 else if enters then main_found h times else 0
 
--- a packet enters as long as the stream is no longer than 2^40 bytes
-abbrev pub takes_in : Held → Arriving → Bool
-takes_in h p = nat_lt p.index LAST_INDEX && nat_le (transport_of h.rate h.parts).bytes LAST_BYTES
+-- n bytes of the stream from byte i on, none where there are none: what is held then, the excesses that have ended,
+-- and the most that was in each buffer
+abbrev pub after_bytes : Held → Arrival → Bool → ℕ → ℕ → Held
+after_bytes h arrival enters i n = after_payload h enters n (times_at arrival h.rx i n)
 
-abbrev pub after_header : Held → Arriving → Held
-after_header h p = after_begin (passed h (header_times h p)) p.begins
+abbrev pub bytes_transport : Held → Arrival → ℕ → ℕ → List Excess
+bytes_transport h arrival i n = payload_transport h n (times_at arrival h.rx i n)
 
-abbrev pub with_packet : Held → Arriving → Held
-with_packet h p = after_payload (after_header h p) p.enters (size_of p) (payload_times h p)
+abbrev pub bytes_main : Held → Arrival → Bool → ℕ → ℕ → List Excess
+bytes_main h arrival enters i n = payload_main h enters n (times_at arrival h.rx i n)
 
-unfoldable pub after : Held → Arriving → Held
-after h p = if takes_in h p then with_packet h p else h
+abbrev pub bytes_transport_most : Held → Arrival → ℕ → ℕ → ℕ
+bytes_transport_most h arrival i n = payload_transport_most h n (times_at arrival h.rx i n)
 
--- and what has ended
-abbrev pub ended_with : Held → Arriving → EnteredView
-ended_with h p = record {
-  transport = transport_ended h (header_times h p) ++ payload_transport (after_header h p) (size_of p) (payload_times h p);
-  main = payload_main (after_header h p) p.enters (size_of p) (payload_times h p);
-  unit = unit_ended (passed h (header_times h p)) p.begins;
-  transport_most = max (transport_found h (header_times h p)) (payload_transport_most (after_header h p) (size_of p) (payload_times h p));
-  main_most = payload_main_most (after_header h p) p.enters (size_of p) (payload_times h p);
+abbrev pub bytes_main_most : Held → Arrival → Bool → ℕ → ℕ → ℕ
+bytes_main_most h arrival enters i n = payload_main_most h enters n (times_at arrival h.rx i n)
+
+-- a packet enters as long as its bytes have times and no more than 2^40 bytes come
+abbrev pub takes_in : Held → Arrival → Arriving → Bool
+takes_in h arrival p = nat_lt p.index LAST_INDEX && nat_le (transport_of h.rate h.parts).bytes LAST_BYTES && has_times arrival (188 * p.index) 188
+
+-- its first bytes up to where another line begins, the rest of what stands before its payload, the unit that begins, and its payload
+abbrev pub after_lead : Held → Arrival → Arriving → ℕ → Held
+after_lead h arrival p lead = after_bytes h arrival false (188 * p.index) lead
+
+abbrev pub after_header : Held → Arrival → Arriving → ℕ → ℕ → Held
+after_header h arrival p size lead = after_bytes (after_lead h arrival p lead) arrival false (188 * p.index + lead) (188 - size - lead)
+
+abbrev pub after_unit : Held → Arrival → Arriving → ℕ → ℕ → Held
+after_unit h arrival p size lead = after_begin (after_header h arrival p size lead) p.begins
+
+abbrev pub with_packet : Held → Arrival → Arriving → ℕ → ℕ → Held
+with_packet h arrival p size lead = after_bytes (after_unit h arrival p size lead) arrival p.enters (188 * p.index + (188 - size)) size
+
+unfoldable pub after : Held → Arrival → Arriving → Held
+after h arrival p = if takes_in h arrival p then with_packet h arrival p (size_of p) (lead_in arrival p) else h
+
+-- and what has ended, and was found
+abbrev pub ended_with : Held → Arrival → Arriving → ℕ → ℕ → EnteredView
+ended_with h arrival p size lead = record {
+  transport = bytes_transport h arrival (188 * p.index) lead
+      ++ (bytes_transport (after_lead h arrival p lead) arrival (188 * p.index + lead) (188 - size - lead)
+      ++ bytes_transport (after_unit h arrival p size lead) arrival (188 * p.index + (188 - size)) size);
+  main = bytes_main (after_unit h arrival p size lead) arrival p.enters (188 * p.index + (188 - size)) size;
+  unit = unit_ended (after_header h arrival p size lead) p.begins;
+  transport_most = max
+      (max (bytes_transport_most h arrival (188 * p.index) lead) (bytes_transport_most (after_lead h arrival p lead) arrival (188 * p.index + lead) (188 - size - lead)))
+      (bytes_transport_most (after_unit h arrival p size lead) arrival (188 * p.index + (188 - size)) size);
+  main_most = bytes_main_most (after_unit h arrival p size lead) arrival p.enters (188 * p.index + (188 - size)) size;
 }
 
-unfoldable pub entered : Held → Arriving → EnteredView
-entered h p = if takes_in h p then ended_with h p else nothing
+unfoldable pub entered : Held → Arrival → Arriving → EnteredView
+entered h arrival p = if takes_in h arrival p then ended_with h arrival p (size_of p) (lead_in arrival p) else nothing

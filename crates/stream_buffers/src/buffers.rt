@@ -4,8 +4,8 @@ ghost use Rattle.std.specs.Prelude.{◌≤◌};
 use std::alloc::Global;
 use stream_view::{MainWatch, StreamView};
 
-/// The buffers of an elementary stream in a stream of constant rate R: the transport buffer is drained at `rx` bits a second. Times
-/// are in units of 8 / (R * rx) seconds.
+/// The buffers of an elementary stream: the transport buffer is drained at `rx` bits a second. Times are in units of 8 / (S * rx)
+/// seconds, where S is the step of the arrivals: the stream's constant rate, or 216,000,000 by a clock.
 #[derive(Drop)]
 pub struct StreamBuffers {
     pub rx: u32,

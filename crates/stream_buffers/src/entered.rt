@@ -3,11 +3,12 @@
 use stream_view::UnitSeen;
 use transport_buffer::Excess;
 
-/// What has ended with a packet: an excess of the transport buffer before a byte of its header, or before one of its payload; one of the
-/// main buffer; and the unit before one that begins. And the most bytes that were in each buffer when one of the packet entered it, itself
-/// included; 0 where none did.
+/// What has ended with a packet: an excess of the transport buffer before one of its first bytes, which lie on another line than the
+/// others, before another byte of its header, or before one of its payload; one of the main buffer; and the unit before one that begins.
+/// And the most bytes that were in each buffer when one of the packet entered it, itself included; 0 where none did.
 #[derive(Clone, Copy)]
 pub struct Entered {
+    pub lead: Option<Excess>,
     pub header: Option<Excess>,
     pub payload: Option<Excess>,
     pub main: Option<Excess>,

@@ -1,16 +1,15 @@
 //! Both buffers of a stream.
-ghost use Rattle.std.specs.Prelude.{◌≡◌, ◌+◌, ◌<◌, ◌≤◌, ◌^◌, IfOk, OnOk};
+ghost use Rattle.std.specs.Prelude.{◌≡◌, ◌+◌, ◌<◌, ◌≤◌, ◌^◌, IfOk, OnOk, true};
 ghost use Rattle.std.specs.Option.{option_to_list};
-ghost use Rattle.clock27.specs.Arrival.{bytes_from};
+ghost use Rattle.stream_arrival.specs.Arrivals.{has_times, step_of, times_at};
 ghost use Rattle.stream_buffers.specs.Held.{Held, IsHeld, carried, empty, main_ended, main_found, main_most, passed, transport_ended, transport_found, transport_most, transport_under_way, unit_before};
-ghost use Rattle.stream_buffers.specs.Entering.{after, after_begin, after_payload, entered, entered_view, payload_main, payload_main_most, payload_transport, payload_transport_most, unit_ended};
+ghost use Rattle.stream_buffers.specs.Entering.{after, after_begin, after_bytes, bytes_main, bytes_main_most, bytes_transport, bytes_transport_most, entered, entered_view, unit_ended};
 
 use crate::arriving::Arriving;
 use crate::buffers::StreamBuffers;
 use crate::entered::Entered;
-use clock27::Rate;
-use packet_arrival::Row;
 use std::alloc::{AllocError, Global};
+use stream_arrival::Arrival;
 use stream_view::{DueTime, MainWatch, RowSeen, StreamView, UnitSeen};
 use transport_buffer::Excess;
 
@@ -32,14 +31,14 @@ const NO_ROW: RowSeen = RowSeen {
 };
 
 impl StreamBuffers {
-    /// Empty ones, the main buffer of `size` bytes.
-    pub fn new(alloc: Global, rate: Rate, rx: u32, size: u64) -> StreamBuffers
+    /// Empty ones, the main buffer of `size` bytes, for packets that arrive so.
+    pub fn new(alloc: Global, arrival: &Arrival, rx: u32, size: u64) -> StreamBuffers
         requires { rx ≤ 200000000 }
-        ensures { IsHeld result (empty rate rx size) }
+        ensures { IsHeld result (empty (step_of arrival.now) rx size) }
     {
         StreamBuffers {
             rx,
-            view: StreamView::new(alloc, rate.bits_per_second(), TRANSPORT_BYTES),
+            view: StreamView::new(alloc, arrival.step(), TRANSPORT_BYTES),
             main: MainWatch::new(size),
         }
     }
@@ -80,40 +79,41 @@ impl StreamBuffers {
     }
 
     // Bytes of the stream that go no further than the transport buffer, from byte `byte` on: what they found.
-    fn pass(&mut self, byte: u64, count: u64) -> RowSeen
+    fn pass(&mut self, arrival: &Arrival, byte: u64, count: u64) -> RowSeen
         requires some { 0 < count }
         requires few { count ≤ 188 }
-        requires end { byte + count ≤ 2 ^ 40 }
+        requires times { has_times arrival.now byte count ≡ true }
         requires room { self.old.view.transport.bytes + count ≤ 2 ^ 40 }
-        ensures held { (h : Held) → IsHeld self.old h → IsHeld self.new (passed h (bytes_from h.rx byte count)) }
+        ensures held { (h : Held) → IsHeld self.old h → IsHeld self.new (passed h (times_at arrival.now h.rx byte count)) }
         ensures ended { (h : Held) → IsHeld self.old h →
-            option_to_list result.ended ≡ transport_ended h (bytes_from h.rx byte count) }
+            option_to_list result.ended ≡ transport_ended h (times_at arrival.now h.rx byte count) }
         ensures most { (h : Held) → IsHeld self.old h →
-            result.transport ≡ transport_found h (bytes_from h.rx byte count) }
+            result.transport ≡ transport_found h (times_at arrival.now h.rx byte count) }
         ensures main { result.main ≡ 0 }
         ensures bytes { self.new.view.transport.bytes ≡ self.old.view.transport.bytes + count }
     {
-        let row = Row::at_constant_rate(u64::from(self.rx), byte, count);
+        let row = arrival.row(u64::from(self.rx), byte, count);
         self.view.pass(&row)
     }
 
     // Bytes of the unit under way: what they found, and the excess of the main buffer that has ended.
-    fn carry(&mut self, byte: u64, count: u64) -> (RowSeen, Option<Excess>)
+    fn carry(&mut self, arrival: &Arrival, byte: u64, count: u64) -> (RowSeen, Option<Excess>)
         requires some { 0 < count }
         requires few { count ≤ 188 }
-        requires end { byte + count ≤ 2 ^ 40 }
+        requires times { has_times arrival.now byte count ≡ true }
         requires room { self.old.view.transport.bytes + count ≤ 2 ^ 40 }
-        ensures held { (h : Held) → IsHeld self.old h → IsHeld self.new (carried h (bytes_from h.rx byte count)) }
+        ensures held { (h : Held) → IsHeld self.old h → IsHeld self.new (carried h (times_at arrival.now h.rx byte count)) }
         ensures ended { (h : Held) → IsHeld self.old h →
-            option_to_list result.0.ended ≡ transport_ended h (bytes_from h.rx byte count) }
+            option_to_list result.0.ended ≡ transport_ended h (times_at arrival.now h.rx byte count) }
         ensures main { (h : Held) → IsHeld self.old h →
-            option_to_list result.1 ≡ main_ended h (bytes_from h.rx byte count) }
+            option_to_list result.1 ≡ main_ended h (times_at arrival.now h.rx byte count) }
         ensures most { (h : Held) → IsHeld self.old h →
-            result.0.transport ≡ transport_found h (bytes_from h.rx byte count) }
+            result.0.transport ≡ transport_found h (times_at arrival.now h.rx byte count) }
         ensures main_most { (h : Held) → IsHeld self.old h →
-            result.0.main ≡ main_found h (bytes_from h.rx byte count) }
+            result.0.main ≡ main_found h (times_at arrival.now h.rx byte count) }
+        ensures bytes { self.new.view.transport.bytes ≡ self.old.view.transport.bytes + count }
     {
-        let row = Row::at_constant_rate(u64::from(self.rx), byte, count);
+        let row = arrival.row(u64::from(self.rx), byte, count);
         let seen = self.view.carry(&row);
         (seen, self.main.see(&seen))
     }
@@ -134,41 +134,49 @@ impl StreamBuffers {
         }
     }
 
-    // The payload of a packet: what it found, and the excess of the main buffer that has ended.
+    // Bytes of the stream from byte `byte` on, none where there are none: what they found, and the excess of the main buffer that has
+    // ended.
     #[tactic(auto, unfolding(crate::specs::Entering::after_payload, crate::specs::Entering::payload_transport, crate::specs::Entering::payload_main, crate::specs::Entering::payload_transport_most, crate::specs::Entering::payload_main_most))]
-    fn payload(&mut self, byte: u64, count: u64, enters: bool) -> (RowSeen, Option<Excess>)
+    fn take(
+        &mut self,
+        arrival: &Arrival,
+        byte: u64,
+        count: u64,
+        enters: bool,
+    ) -> (RowSeen, Option<Excess>)
         requires few { count ≤ 188 }
-        requires end { byte + count ≤ 2 ^ 40 }
+        requires times { has_times arrival.now byte count ≡ true }
         requires room { self.old.view.transport.bytes + count ≤ 2 ^ 40 }
-        ensures held { (h : Held) → IsHeld self.old h →
-            IsHeld self.new (after_payload h enters count (bytes_from h.rx byte count)) }
-        ensures ended { (h : Held) → IsHeld self.old h →
-            option_to_list result.0.ended ≡ payload_transport h count (bytes_from h.rx byte count) }
-        ensures main { (h : Held) → IsHeld self.old h →
-            option_to_list result.1 ≡ payload_main h enters count (bytes_from h.rx byte count) }
-        ensures most { (h : Held) → IsHeld self.old h →
-            result.0.transport ≡ payload_transport_most h count (bytes_from h.rx byte count) }
-        ensures main_most { (h : Held) → IsHeld self.old h →
-            result.0.main ≡ payload_main_most h enters count (bytes_from h.rx byte count) }
+        ensures held { (h : Held) → IsHeld self.old h → IsHeld self.new (after_bytes h arrival.now enters byte count) }
+        ensures ended { (h : Held) → IsHeld self.old h → option_to_list result.0.ended ≡ bytes_transport h arrival.now byte count }
+        ensures main { (h : Held) → IsHeld self.old h → option_to_list result.1 ≡ bytes_main h arrival.now enters byte count }
+        ensures most { (h : Held) → IsHeld self.old h → result.0.transport ≡ bytes_transport_most h arrival.now byte count }
+        ensures main_most { (h : Held) → IsHeld self.old h → result.0.main ≡ bytes_main_most h arrival.now enters byte count }
+        ensures bytes { self.new.view.transport.bytes ≡ self.old.view.transport.bytes + count }
     {
         if count == 0 {
             (NO_ROW, None)
         } else if enters {
-            self.carry(byte, count)
+            self.carry(arrival, byte, count)
         } else {
-            (self.pass(byte, count), None)
+            (self.pass(arrival, byte, count), None)
         }
     }
 
     /// A packet of the stream enters: what has ended, and the most that was in the buffers. There is no memory where 4,096 units wait in the main buffer, or none is left for
     /// one more; then drop them.
-    #[tactic(auto, unfolding(crate::specs::Entering::after, crate::specs::Entering::entered))]
-    pub fn enter(&mut self, packet: &Arriving) -> Result<Entered, AllocError>
-        ensures held { (h : Held) → IsHeld self.old h → OnOk result (IsHeld self.new (after h packet.now)) }
-        ensures entered { (h : Held) → IsHeld self.old h → IfOk result (λ e. entered_view e ≡ entered h packet.now) }
+    #[tactic(auto, unfolding(crate::specs::Entering::after, crate::specs::Entering::entered), using(crate::proofs::Packets::within))]
+    pub fn enter(&mut self, arrival: &Arrival, packet: &Arriving) -> Result<Entered, AllocError>
+        ensures held { (h : Held) → IsHeld self.old h → OnOk result (IsHeld self.new (after h arrival.now packet.now)) }
+        ensures entered { (h : Held) → IsHeld self.old h →
+            IfOk result (λ e. entered_view e ≡ entered h arrival.now packet.now) }
     {
-        if packet.index >= LAST_INDEX || self.view.transport.bytes > LAST_BYTES {
+        if packet.index >= LAST_INDEX
+            || self.view.transport.bytes > LAST_BYTES
+            || !arrival.has_times(188 * packet.index, 188)
+        {
             return Ok(Entered {
+                lead: None,
                 header: None,
                 payload: None,
                 main: None,
@@ -179,15 +187,20 @@ impl StreamBuffers {
         }
         let size = packet.size.min(184);
         let byte = 188 * packet.index;
-        let header = self.pass(byte, 188 - size);
+        let lead = arrival.lead(byte).min(188 - size);
+        let (before, _) = self.take(arrival, byte, lead, false);
+        let (header, _) = self.take(arrival, byte + lead, 188 - size - lead, false);
         let unit = self.begin(packet.begins)?;
-        let (payload, main) = self.payload(byte + (188 - size), size, packet.enters);
+        let (payload, main) = self.take(arrival, byte + (188 - size), size, packet.enters);
+        let waited = before.transport.max(header.transport);
+        let most = waited.max(payload.transport);
         Ok(Entered {
+            lead: before.ended,
             header: header.ended,
             payload: payload.ended,
             main,
             unit,
-            transport_most: header.transport.max(payload.transport),
+            transport_most: most,
             main_most: payload.main,
         })
     }

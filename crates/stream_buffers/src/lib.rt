@@ -1,4 +1,4 @@
-//! Both buffers of an elementary stream (ISO/IEC 13818-1, 2.4.2.3), in a stream of constant rate, packet by packet.
+//! Both buffers of an elementary stream (ISO/IEC 13818-1, 2.4.2.3), packet by packet.
 //!
 //! - [`StreamBuffers`]: the transport buffer and the main buffer of one PID; what they hold, and the unit under way.
 //! - [`Arriving`]: a packet of it, as its buffers see it.

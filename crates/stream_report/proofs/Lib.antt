@@ -1,5 +1,6 @@
 pub mod Fields
 pub mod Entries
 pub mod Packets
+pub mod ClockedPackets
 pub mod Tables
 pub mod Sections

@@ -10,24 +10,24 @@ all_step : {X : Type 0} (view : X → FindingView) (i : ℕ) (fs : List X) (f : 
 all_step view i fs f below at = rw (drop-cons fs i f below, add-one i, sym at) refl
 
 -- the sections of those that are left
-pub times_step : {X : Type 0} (view : X → FindingView) (whole s next : TimesState) (i : ℕ) (fs : List X) (f : X) → i < length fs → f ≡ get_or fs i f →
-    whole ≡ with_findings s (map view (drop i fs)) → next ≡ with_finding s (view f) → whole ≡ with_findings next (map view (drop (i + 1) fs))
+pub times_step : {X : Type 0} (view : X → FindingView) (options : ViewOptions) (whole s next : TimesState) (i : ℕ) (fs : List X) (f : X) → i < length fs → f ≡ get_or fs i f →
+    whole ≡ with_findings options s (map view (drop i fs)) → next ≡ with_finding options s (view f) → whole ≡ with_findings options next (map view (drop (i + 1) fs))
 unfolding with_findings
-times_step view whole s next i fs f below at is goes =
-    is ∙ ap (λ (l : List FindingView). with_findings s l) (all_step view i fs f below at) ∙ ap (λ (t : TimesState). with_findings t (map view (drop (i + 1) fs))) (sym goes)
+times_step view options whole s next i fs f below at is goes =
+    is ∙ ap (λ (l : List FindingView). with_findings options s l) (all_step view i fs f below at) ∙ ap (λ (t : TimesState). with_findings options t (map view (drop (i + 1) fs))) (sym goes)
 
-pub times_end : {X : Type 0} (view : X → FindingView) (whole s : TimesState) (i : ℕ) (fs : List X) → length fs ≤ i → whole ≡ with_findings s (map view (drop i fs)) → s ≡ whole
+pub times_end : {X : Type 0} (view : X → FindingView) (options : ViewOptions) (whole s : TimesState) (i : ℕ) (fs : List X) → length fs ≤ i → whole ≡ with_findings options s (map view (drop i fs)) → s ≡ whole
 unfolding with_findings
-times_end view whole s i fs over is =
-    let none : map view (drop i fs) ≡ [] = rw (drop_all i fs over) refl in sym (is ∙ ap (λ (l : List FindingView). with_findings s l) none)
+times_end view options whole s i fs over is =
+    let none : map view (drop i fs) ≡ [] = rw (drop_all i fs over) refl in sym (is ∙ ap (λ (l : List FindingView). with_findings options s l) none)
 
 -- and their lines
 pub lines_step : {X : Type 0} (view : X → FindingView) (options : ViewOptions) (s next : TimesState) (i : ℕ) (fs : List X) (f : X) (whole before after : List ℕ) → i < length fs → f ≡ get_or fs i f →
-    whole ≡ before ++ findings_lines options s (map view (drop i fs)) → next ≡ with_finding s (view f) → after ≡ before ++ finding_lines options s (view f) →
+    whole ≡ before ++ findings_lines options s (map view (drop i fs)) → next ≡ with_finding options s (view f) → after ≡ before ++ finding_lines options s (view f) →
     whole ≡ after ++ findings_lines options next (map view (drop (i + 1) fs))
 unfolding findings_lines
 lines_step view options s next i fs f whole before after below at is goes grown =
-    let rest = findings_lines options (with_finding s (view f)) (map view (drop (i + 1) fs)) in
+    let rest = findings_lines options (with_finding options s (view f)) (map view (drop (i + 1) fs)) in
     is ∙ ap (λ (l : List FindingView). before ++ findings_lines options s l) (all_step view i fs f below at)
     ∙ sym (append_assoc before (finding_lines options s (view f)) rest)
     ∙ ap (λ (xs : List ℕ). xs ++ rest) (sym grown)

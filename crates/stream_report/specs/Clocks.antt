@@ -1,10 +1,9 @@
 -- The clocks of programs, and when units are due by them (ISO/IEC 13818-1, 2.4.2.2, 2.4.3.5 and 2.4.3.7).
 --
--- A stream at a constant rate is one line of time, and the last clock reference of a program before a unit says what the
--- clock shows on it.
-use Rattle.std.specs.Prelude.{ℕ, ◌+◌, ◌-◌, ◌*◌, ◌/◌, ◌%◌, ◌^◌, min, nat_eq, nat_lt, Bool, if◌then◌else◌, List, [], Option, Some, None, Result, Ok, Err}
+-- The bytes of a stream arrive in time, and the last clock reference of a program before a unit says what the clock shows then. A time is
+-- counted in bytes at a constant rate, and in ticks of 27 MHz on lines: a byte of a rate of 216,000,000 bits a second is a tick.
+use Rattle.std.specs.Prelude.{ℕ, ◌+◌, ◌-◌, ◌*◌, ◌/◌, ◌%◌, ◌^◌, min, nat_eq, nat_lt, Bool, if◌then◌else◌, List, [], Option, Some, None, option_and_then, Result, Ok, Err}
 use Rattle.std.specs.Map.{lookup}
-use Rattle.std.specs.Option.{option_map}
 use Rattle.indexmap.specs.IndexMap.{insert_entry}
 use Rattle.clock27.specs.Reference.{Reference}
 use Rattle.ts_packet.specs.Views.{AdaptationView, PacketView, NoFlags, WithFlags}
@@ -13,10 +12,13 @@ use Rattle.pes_packet.specs.declared.refusal.PesError.{PesError}
 use Rattle.pes_packet.specs.declared.reading.PesHeader.{PesHeader}
 use Rattle.pes_packet.specs.declared.time_stamps.Stamps.{Stamps}
 use Rattle.pes_packet.specs.declared.time_stamps.Stamps.TheVariants.{Absent, Pts, PtsDts}
+use Rattle.stream_arrival.specs.Arrivals.{moment_on}
+use Rattle.stream_arrival.specs.declared.arrival.Arrival.{Arrival}
+use Rattle.stream_arrival.specs.declared.arrival.Arrival.TheVariants.{Unknown, AtRate, OnLines}
 use Rattle.packet_arrival.specs.declared.clock.TheConstants.{PCR_PERIOD}
 use Rattle.packet_arrival.specs.declared.clock.PcrSample.{PcrSample}
 use Rattle.stream_view.specs.declared.unit_seen.DueTime.{DueTime}
-use Rattle.stream_report.specs.declared.clocks.TheConstants.{LAST_BYTE, LONGEST_STAY}
+use Rattle.stream_report.specs.declared.clocks.TheConstants.{LAST_PLACE, LONGEST_STAY}
 use Rattle.stream_report.specs.declared.clocks.Beginning.{Beginning}
 use Rattle.stream_report.specs.declared.clocks.Beginning.TheVariants.{Nothing, Unread, Stamped}
 
@@ -32,25 +34,35 @@ no_clocks = []
 abbrev pub clock_of : ClockEntries → ℕ → Option PcrSample
 clock_of clocks pid = lookup (nat_eq pid) clocks
 
--- the reference of the packet at an index: byte 10 of it ends its base
-abbrev pub sample_of : ℕ → Bool → Reference → PcrSample
-sample_of index discontinuity r = record {
-  byte = min (min (index * 188) (2 ^ 64 - 1) + 10) (2 ^ 64 - 1);
-  ticks = r.base % 2 ^ 33 * 300 + r.extension;
-  discontinuity = discontinuity;
-}
+-- the first byte of the packet at an index, and the one that ends the base of its reference: byte 10 of it
+abbrev pub first_byte : ℕ → ℕ
+first_byte index = min (index * 188) (2 ^ 64 - 1)
 
-unfoldable pub sample_in : ℕ → Option AdaptationView → Option PcrSample
-sample_in index None = None
-sample_in index (Some NoFlags) = None
-sample_in index (Some (WithFlags parts)) = option_map (sample_of index parts.discontinuity_indicator) parts.pcr
+abbrev pub base_byte : ℕ → ℕ
+base_byte index = min (first_byte index + 10) (2 ^ 64 - 1)
+
+-- when that byte comes: none before the first line is known
+unfoldable pub place_of : Arrival → ℕ → Option ℕ
+place_of Unknown index = None
+place_of (AtRate rate) index = Some (base_byte index)
+place_of (OnLines lines) index = Some (moment_on lines (base_byte index))
+
+-- the reference of a packet, with its time in place of its byte
+unfoldable pub sample_at : Option ℕ → Bool → Reference → Option PcrSample
+sample_at None discontinuity r = None
+sample_at (Some place) discontinuity r = Some (record { byte = place; ticks = r.base % 2 ^ 33 * 300 + r.extension; discontinuity = discontinuity })
+
+unfoldable pub sample_in : Option ℕ → Option AdaptationView → Option PcrSample
+sample_in place None = None
+sample_in place (Some NoFlags) = None
+sample_in place (Some (WithFlags parts)) = option_and_then (sample_at place parts.discontinuity_indicator) parts.pcr
 
 unfoldable pub with_sample : ClockEntries → ℕ → Option PcrSample → ClockEntries
 with_sample clocks pid None = clocks
 with_sample clocks pid (Some sample) = insert_entry nat_eq clocks pid sample
 
-abbrev pub clocks_after : ClockEntries → ℕ → PacketView → ClockEntries
-clocks_after clocks index packet = with_sample clocks packet.header.pid (sample_in index packet.adaptation)
+abbrev pub clocks_after : ClockEntries → Arrival → ℕ → PacketView → ClockEntries
+clocks_after clocks arrival index packet = with_sample clocks packet.header.pid (sample_in (place_of arrival index) packet.adaptation)
 
 -- 2. What begins with the payload of a packet
 
@@ -80,8 +92,8 @@ ahead_of clock dts = (dts % 2 ^ 33 * 300 + PCR_PERIOD - clock.ticks % PCR_PERIOD
 -- buffer, 216,000,000 of which are 8 / (rate * rx) seconds
 abbrev pub due_parts : ℕ → ℕ → PcrSample → ℕ → ℕ
 due_parts rate rx clock dts =
-    if nat_lt (ahead_of clock dts) (PCR_PERIOD / 2) then min clock.byte LAST_BYTE * rx * 216000000 + min (ahead_of clock dts) LONGEST_STAY * (rate * rx)
-    else min clock.byte LAST_BYTE * rx * 216000000 - (PCR_PERIOD - ahead_of clock dts) * (rate * rx)
+    if nat_lt (ahead_of clock dts) (PCR_PERIOD / 2) then min clock.byte LAST_PLACE * rx * 216000000 + min (ahead_of clock dts) LONGEST_STAY * (rate * rx)
+    else min clock.byte LAST_PLACE * rx * 216000000 - (PCR_PERIOD - ahead_of clock dts) * (rate * rx)
 
 -- its bytes stay until the first whole moment from then on, and its last byte may leave the transport buffer up to the last one
 -- before

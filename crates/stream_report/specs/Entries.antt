@@ -2,6 +2,7 @@
 -- what its buffers hold, and what is counted of it.
 use Rattle.std.specs.Prelude.{◌≡◌, ℕ, ◌/◌, ◌==◌, ◌&&◌, not, is_some, nat_le, nat_lt, unwrap_or, Bool, true, false, if◌then◌else◌, length, List, [], ◌++◌, Option, Some, None}
 use Rattle.ts_packet.specs.Views.{PacketView}
+use Rattle.stream_arrival.specs.Arrivals.{step_of}
 use Rattle.packet_arrival.specs.declared.clock.TheConstants.{PCR_PERIOD}
 use Rattle.packet_arrival.specs.declared.clock.PcrSample.{PcrSample}
 use Rattle.stream_view.specs.declared.unit_seen.DueTime.{DueTime}
@@ -16,7 +17,8 @@ use Rattle.stream_report.specs.declared.clocks.Beginning.TheVariants.{Nothing, U
 use Rattle.stream_report.specs.declared.stream_entry.StreamEntry.{StreamEntry}
 use Rattle.stream_report.specs.declared.tally.Tally.{Tally}
 use Rattle.stream_report.specs.Clocks.{ahead_of, beginning_of, due_at}
-use Rattle.stream_report.specs.EntryLines.{ahead_lines, closing_lines, ended_lines, tally_lines}
+use Rattle.stream_report.specs.EntryLines.{ahead_lines, closing_lines, ended_lines}
+use Rattle.stream_report.specs.HeldLines.{tally_lines}
 use Rattle.stream_report.specs.Tallies.{with_excesses, with_packet, with_unit_if}
 use Rattle.stream_report.specs.declared.entry_lines.Place.{Place}
 
@@ -56,7 +58,7 @@ unfoldable pub due_by : ViewOptions → ℕ → Option PcrSample → Beginning �
 due_by options rx None beginning = None
 due_by options rx (Some clock) Nothing = None
 due_by options rx (Some clock) Unread = None
-due_by options rx (Some clock) (Stamped dts) = Some (due_at options.rate rx clock dts)
+due_by options rx (Some clock) (Stamped dts) = Some (due_at (step_of options.arrival) rx clock dts)
 
 -- how long it would stay, where that is longer than any unit may
 unfoldable pub ahead_by : Option PcrSample → Beginning → Option ℕ
@@ -91,14 +93,14 @@ abbrev pub arriving_at : ViewOptions → ℕ → Option PcrSample → EntryState
 arriving_at options index clock e packet = arriving options index e.held.rx e.counter clock packet
 
 abbrev pub entered_at : ViewOptions → ℕ → Option PcrSample → EntryState → PacketView → EnteredView
-entered_at options index clock e packet = entered e.held (arriving_at options index clock e packet)
+entered_at options index clock e packet = entered e.held options.arrival (arriving_at options index clock e packet)
 
 abbrev pub entry_after : ViewOptions → ℕ → ℕ → Option PcrSample → EntryState → PacketView → EntryState
 entry_after options index window clock e packet = record {
   pid = e.pid;
   clock_pid = e.clock_pid;
   counter = counter_after e.counter packet;
-  held = after e.held (arriving_at options index clock e packet);
+  held = after e.held options.arrival (arriving_at options index clock e packet);
   tally = tally_after e.tally window (is_unread (beginning_in e.counter packet)) (entered_at options index clock e packet);
 }
 

@@ -1,9 +1,10 @@
 -- The lines of a stream that the tables name.
-use Rattle.std.specs.Prelude.{ℕ, ◌+◌, ◌-◌, ◌*◌, ◌/◌, ◌^◌, ◌==◌, ◌&&◌, min, max, nat_lt, is_some, if◌then◌else◌, List, [], ◌∷◌, ◌++◌, codes, flat_map, Option, Some, None}
+use Rattle.std.specs.Prelude.{ℕ, ◌+◌, ◌-◌, ◌*◌, ◌/◌, ◌^◌, min, max, is_some, if◌then◌else◌, List, [], ◌∷◌, ◌++◌, codes, flat_map, Option, Some, None}
 use Rattle.std.specs.Option.{option_to_list}
 use Rattle.stream_coding.specs.declared.coding.Coding.{Coding}
 use Rattle.stream_coding.specs.declared.coding.Coding.TheVariants.{Mpeg, Avc, Hevc, Audio, Aac, Ac3, Subtitles, Teletext, Other}
 use Rattle.stream_coding.specs.declared.buffers.Buffers.{Buffers}
+use Rattle.stream_arrival.specs.Arrivals.{step_of}
 use Rattle.stream_programs.specs.Streams.{FoundStreamView}
 use Rattle.transport_buffer.specs.declared.excess.Excess.{Excess}
 use Rattle.stream_view.specs.declared.unit_seen.UnitSeen.{UnitSeen}
@@ -41,15 +42,22 @@ stream_line options index stream coding buffers = line_of options.json (codes "s
 
 -- 2. What ends with a packet
 
--- a time of a buffer in ticks of 27 MHz, rounded down; numbers stop at 2^128 - 1
+-- a time of a buffer, which a byte takes `rate` to leave at its own rate, in ticks of 27 MHz, rounded down; numbers stop at 2^128 - 1
 abbrev pub ticks_of : ℕ → ℕ → ℕ → ℕ
 ticks_of rate rx time = min (time * 216000000) (2 ^ 128 - 1) / max 1 (rate * rx)
+
+-- and from the first byte of the stream on
+abbrev pub span_of : ViewOptions → ℕ → ℕ → ℕ
+span_of options rx time = ticks_of (step_of options.arrival) rx time
+
+abbrev pub moment_of : ViewOptions → ℕ → ℕ → ℕ
+moment_of options rx time = span_of options rx time - options.origin
 
 -- `excess pid P packet I begin T end T peak N size 512` and `main_excess pid P .. size B`, told at the packet with which it has ended
 abbrev pub excess_line : ViewOptions → List ℕ → Place → Excess → List ℕ
 excess_line options line place e = line_of options.json line
-    (number_field (codes "pid") place.pid ∷ number_field (codes "packet") place.packet ∷ number_field (codes "begin") (ticks_of options.rate place.rx e.begin)
-    ∷ number_field (codes "end") (ticks_of options.rate place.rx e.end) ∷ number_field (codes "peak") e.peak ∷ number_field (codes "size") place.size ∷ [])
+    (number_field (codes "pid") place.pid ∷ number_field (codes "packet") place.packet ∷ number_field (codes "begin") (moment_of options place.rx e.begin)
+    ∷ number_field (codes "end") (moment_of options place.rx e.end) ∷ number_field (codes "peak") e.peak ∷ number_field (codes "size") place.size ∷ [])
 
 abbrev pub excess_lines : ViewOptions → List ℕ → Place → List Excess → List ℕ
 excess_lines options line place excesses = flat_map (excess_line options line place) excesses
@@ -57,8 +65,8 @@ excess_lines options line place excesses = flat_map (excess_line options line pl
 -- `late pid P packet I due T left T by T bytes N`, told at the packet with which the next unit begins
 abbrev pub late_line : ViewOptions → Place → UnitSeen → List ℕ
 late_line options place u = line_of options.json (codes "late")
-    (number_field (codes "pid") place.pid ∷ number_field (codes "packet") place.packet ∷ number_field (codes "due") (ticks_of options.rate place.rx u.due.deadline)
-    ∷ number_field (codes "left") (ticks_of options.rate place.rx u.left) ∷ number_field (codes "by") (ticks_of options.rate place.rx (u.left - u.due.deadline))
+    (number_field (codes "pid") place.pid ∷ number_field (codes "packet") place.packet ∷ number_field (codes "due") (moment_of options place.rx u.due.deadline)
+    ∷ number_field (codes "left") (moment_of options place.rx u.left) ∷ number_field (codes "by") (span_of options place.rx (u.left - u.due.deadline))
     ∷ number_field (codes "bytes") u.bytes ∷ [])
 
 unfoldable pub late_lines : ViewOptions → Place → Option UnitSeen → List ℕ
@@ -83,30 +91,7 @@ ended_lines options place e =
     excess_lines options (codes "excess") (with_size place TRANSPORT_BYTES) e.transport
     ++ (excess_lines options (codes "main_excess") place e.main ++ late_lines options place e.unit)
 
--- 3. A window: `held number W pid P transport N main N`, the most bytes that were in each buffer when a byte of its packets entered
-
-abbrev pub held_line : ViewOptions → Place → Tally → List ℕ
-held_line options place t = line_of options.json (codes "held")
-    (number_field (codes "number") t.window ∷ number_field (codes "pid") place.pid ∷ number_field (codes "transport") t.window_transport
-    ∷ number_field (codes "main") t.window_main ∷ [])
-
-abbrev pub held_lines : ViewOptions → ℕ → Place → Tally → List ℕ
-held_lines options window place t = if (t.window == window) && nat_lt 0 t.window_transport then held_line options place t else []
-
--- and the units that ended in it: `units number W pid P units N late N slack T`, with the least slack of one
-
-abbrev pub unit_line : ViewOptions → Place → Tally → List ℕ
-unit_line options place t = line_of options.json (codes "units")
-    (number_field (codes "number") t.window ∷ number_field (codes "pid") place.pid ∷ number_field (codes "units") t.window_units
-    ∷ number_field (codes "late") t.window_late ∷ number_field (codes "slack") (ticks_of options.rate place.rx t.slack) ∷ [])
-
-abbrev pub unit_lines : ViewOptions → ℕ → Place → Tally → List ℕ
-unit_lines options window place t = if (t.window == window) && nat_lt 0 t.window_units then unit_line options place t else []
-
-abbrev pub tally_lines : ViewOptions → ℕ → Place → Tally → List ℕ
-tally_lines options window place t = held_lines options window place t ++ unit_lines options window place t
-
--- 4. At the end
+-- 3. At the end
 
 -- the number of excesses, with the one under way
 abbrev pub with_one : ℕ → Option Excess → ℕ

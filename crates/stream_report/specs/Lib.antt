@@ -4,10 +4,13 @@ pub mod Choices
 pub mod Clocks
 pub mod Tallies
 pub mod EntryLines
+pub mod HeldLines
 pub mod Entries
 pub mod StreamTables
 pub mod ClockLines
 pub mod ReferenceLines
 pub mod TableLines
+pub mod SystemLines
 pub mod Seen
 pub mod Views
+pub mod ClockedViews

@@ -1,14 +1,22 @@
 -- What is kept of a stream beside its buffers.
-use Rattle.std.specs.Prelude.{ℕ, ◌+◌, ◌-◌, ◌^◌, min, List, [], ◌∷◌, ◌++◌, codes, Option}
+use Rattle.std.specs.Prelude.{ℕ, ◌+◌, ◌-◌, ◌^◌, min, nat_lt, Bool, false, if◌then◌else◌, List, [], ◌∷◌, ◌++◌, codes, Option, None}
 use Rattle.ts_packet.specs.Views.{PacketView}
 use Rattle.ts_packet.specs.PcrBytes.{has_pcr}
 use Rattle.pid_windows.specs.Windows.{WindowView, no_packet, one_more, taken}
 use Rattle.named_streams.specs.NamedStreams.{NamedView, none_taken}
 use Rattle.named_streams.specs.NamedStreams as naming
+use Rattle.system_tables.specs.Programs.{ProgramState}
+use Rattle.system_tables.specs.Programs as programs
 use Rattle.pcr_errors.specs.PidWatches.{WatchesState, report_at}
 use Rattle.pcr_errors.specs.PidWatches as watching
 use Rattle.pcr_errors.specs.declared.report.PcrReport.{PcrReport}
-use Rattle.pcr_errors.specs.declared.watch.PcrTiming.TheVariants.{ConstantRate}
+use Rattle.pcr_errors.specs.declared.watch.PcrTiming.{PcrTiming}
+use Rattle.pcr_errors.specs.declared.watch.PcrTiming.TheVariants.{ConstantRate, References}
+use Rattle.table_intervals.specs.declared.intervals.TableTiming.{TableTiming}
+use Rattle.table_intervals.specs.declared.intervals.TableTiming.TheVariants as timings
+use Rattle.stream_arrival.specs.Arrivals.{moment_on}
+use Rattle.stream_arrival.specs.declared.arrival.Arrival.{Arrival}
+use Rattle.stream_arrival.specs.declared.arrival.Arrival.TheVariants.{Unknown, AtRate, OnLines}
 use Rattle.stream_report.specs.declared.view_options.ViewOptions.{ViewOptions}
 use Rattle.stream_report.specs.Clocks.{ClockEntries, clocks_after, no_clocks}
 use Rattle.stream_report.specs.ClockLines.{clock_lines, errors_in, report_lines_if}
@@ -20,7 +28,7 @@ use Rattle.stream_report.specs.WindowLines.{pid_lines, window_of}
 
 -- the number of packets, and of those that are refused or have transport_error_indicator; the window of the last packet that is
 -- not; the packets of each PID; the last clock reference of each, and what all of them came to, by the rate, with the number of
--- their errors; the sections of tables; and the streams that are named
+-- their errors; the sections of tables; the buffers of programs' tables; and the streams that are named
 pub record SeenState : Type 0 where
   pub options : ViewOptions
   pub packets : ℕ
@@ -31,7 +39,20 @@ pub record SeenState : Type 0 where
   pub watches : WatchesState
   pub errors : ℕ
   pub tables : TablesState
+  pub systems : Option (List ProgramState)
   pub named : NamedView
+
+-- by what references are measured: by the rate, or by each other
+unfoldable pub timing_of : Arrival → PcrTiming
+timing_of Unknown = References
+timing_of (AtRate rate) = ConstantRate rate
+timing_of (OnLines lines) = References
+
+-- and in what the places of sections are counted
+unfoldable pub table_timing : Arrival → TableTiming
+table_timing Unknown = timings.Ticks
+table_timing (AtRate rate) = timings.ConstantRate rate
+table_timing (OnLines lines) = timings.Ticks
 
 -- before the first packet
 abbrev pub nothing_seen : ViewOptions → SeenState
@@ -42,23 +63,57 @@ nothing_seen options = record {
   window = no_packet;
   totals = no_packet;
   clocks = no_clocks;
-  watches = watching.no_packet (ConstantRate options.rate);
+  watches = watching.no_packet (timing_of options.arrival);
   errors = 0;
-  tables = no_tables options.rate;
+  tables = no_tables (table_timing options.arrival);
+  systems = None;
   named = none_taken;
 }
+
+-- packets arrive so from here on: the first line that is known gives the moment of the stream's first byte
+unfoldable pub origin_on : Arrival → ℕ
+origin_on Unknown = 0
+origin_on (AtRate rate) = 0
+origin_on (OnLines lines) = moment_on lines 0
+
+unfoldable pub origin_after : Arrival → ℕ → Arrival → ℕ
+origin_after Unknown origin arrival = origin_on arrival
+origin_after (AtRate rate) origin arrival = origin
+origin_after (OnLines lines) origin arrival = origin
+
+abbrev pub with_arrival : ViewOptions → Arrival → ViewOptions
+with_arrival options arrival = record options { arrival = arrival; origin = origin_after options.arrival options.origin arrival }
+
+-- so many packets that come next have no moment: that is an error, with a line
+unfoldable pub unclocked : Arrival → ℕ → Bool
+unclocked Unknown count = nat_lt 0 count
+unclocked (AtRate rate) count = false
+unclocked (OnLines lines) count = false
+
+abbrev pub arriving : SeenState → Arrival → ℕ → SeenState
+arriving s arrival count = record s {
+  options = with_arrival s.options arrival;
+  errors = min (s.errors + (if unclocked arrival count then 1 else 0)) (2 ^ 64 - 1);
+}
+
+-- `unclocked packet I packets N`
+abbrev pub unclocked_line : SeenState → ℕ → List ℕ
+unclocked_line s count = line_of s.options.json (codes "unclocked") (number_field (codes "packet") s.packets ∷ number_field (codes "packets") count ∷ [])
+
+abbrev pub arrival_lines : SeenState → Arrival → ℕ → List ℕ
+arrival_lines s arrival count = if unclocked arrival count then unclocked_line s count else []
 
 -- a packet that can't be read, or says that it is wrong
 abbrev pub without : SeenState → SeenState
 without s = record s { packets = one_more s.packets; refused = one_more s.refused }
 
--- one that can: its clock reference, with the lines of its errors, and then its PID is counted
+-- one that can: its clock reference, with the lines of its errors, and then it enters the buffers of programs' tables and its PID is counted
 abbrev pub report_on : SeenState → PacketView → Option PcrReport
 report_on s packet = report_at s.watches s.packets packet
 
 abbrev pub with_clock : SeenState → PacketView → SeenState
 with_clock s packet = record s {
-  clocks = clocks_after s.clocks s.packets packet;
+  clocks = clocks_after s.clocks s.options.arrival s.packets packet;
   watches = watching.taken s.watches s.packets packet;
   errors = min (s.errors + errors_in (report_on s packet)) (2 ^ 64 - 1);
 }
@@ -71,6 +126,7 @@ next_window s = window_of s.options s.packets
 
 abbrev pub counted : SeenState → PacketView → SeenState
 counted s packet = record s {
+  systems = programs.taken s.options.arrival s.packets s.named packet.header.pid s.systems;
   packets = one_more s.packets;
   window = taken s.window (next_window s) packet.header.pid (has_pcr packet.adaptation);
   totals = taken s.totals 0 packet.header.pid (has_pcr packet.adaptation);
@@ -78,7 +134,7 @@ counted s packet = record s {
 
 -- the sections of tables in 188 bytes, and the lines of those that begin too late
 abbrev pub with_sections : SeenState → List ℕ → SeenState
-with_sections s bytes = record s { tables = tables.with_packet s.tables bytes }
+with_sections s bytes = record s { tables = tables.with_packet s.options s.tables bytes }
 
 abbrev pub section_lines : SeenState → List ℕ → List ℕ
 section_lines s bytes = tables.packet_lines s.options s.tables bytes

@@ -4,6 +4,7 @@ use Rattle.std.specs.List.{list_all}
 use Rattle.std.specs.Map.{lookup}
 use Rattle.indexmap.specs.IndexMap.{insert_entry}
 use Rattle.ts_packet.specs.Views.{PacketView}
+use Rattle.stream_arrival.specs.Arrivals.{step_of}
 use Rattle.stream_coding.specs.declared.coding.Coding.{Coding}
 use Rattle.stream_coding.specs.declared.buffers.Buffers.{Buffers}
 use Rattle.stream_coding.specs.Codings.{coding_of}
@@ -71,7 +72,7 @@ new_entry options pid clock_pid buffers = record {
   pid = pid;
   clock_pid = clock_pid;
   counter = None;
-  held = empty options.rate buffers.rx buffers.main;
+  held = empty (step_of options.arrival) buffers.rx buffers.main;
   tally = none_counted;
 }
 

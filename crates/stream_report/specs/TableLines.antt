@@ -1,17 +1,22 @@
 -- The sections of tables: where they begin, the lines of those that begin too late (ETSI TR 101 290, 5.2.1, 1.3 and 1.5; 5.2.3, 3.1, 3.5,
 -- 3.6 and 3.8), and a line for each table at the end.
-use Rattle.std.specs.Prelude.{ℕ, ◌+◌, ◌-◌, ◌^◌, ◌%◌, min, unwrap_or, List, [], ◌∷◌, ◌++◌, codes, flat_map, Option, Some, None}
+use Rattle.std.specs.Prelude.{ℕ, ◌+◌, ◌-◌, ◌^◌, ◌%◌, min, unwrap_or, List, [], ◌∷◌, ◌++◌, codes, flat_map, option_and_then, Option, Some, None}
+use Rattle.stream_arrival.specs.Arrivals.{moment_on}
+use Rattle.stream_arrival.specs.declared.arrival.Arrival.{Arrival}
+use Rattle.stream_arrival.specs.declared.arrival.Arrival.TheVariants.{Unknown, AtRate, OnLines}
 use Rattle.demux.specs.Views.{FindingView}
 use Rattle.demux.specs.Stream.{StreamState, start, pushed}
 use Rattle.demux.specs.FoundSoFar.{with_found}
-use Rattle.table_intervals.specs.Intervals.{IntervalState, error_at, no_section, pid_of, table_id_of, time_of_packets}
+use Rattle.table_intervals.specs.Intervals.{IntervalState, error_at, no_section, pid_of, table_id_of, time_between}
 use Rattle.table_intervals.specs.Intervals as intervals
 use Rattle.table_intervals.specs.Limits.{limit_of}
 use Rattle.table_intervals.specs.Sections.{section_begin}
 use Rattle.table_intervals.specs.declared.intervals.SectionBegin.{SectionBegin}
 use Rattle.table_intervals.specs.declared.intervals.SectionPlaces.{SectionPlaces}
 use Rattle.table_intervals.specs.declared.intervals.TableError.{TableError}
+use Rattle.table_intervals.specs.declared.intervals.TableTiming.{TableTiming}
 use Rattle.stream_report.specs.declared.view_options.ViewOptions.{ViewOptions}
+use Rattle.stream_report.specs.Clocks.{first_byte}
 use Rattle.stream_report.specs.ReportLines.{line_of, number_field}
 
 -- 1. A section that begins too late
@@ -48,20 +53,30 @@ unfoldable pub begin_lines : ViewOptions → TimesState → Option SectionBegin 
 begin_lines options s None = []
 begin_lines options s (Some section) = error_lines options (error_at s.intervals section)
 
+-- a section with its place: its packet at a constant rate; on lines the moment of its first packet, on the line of the packet with which it is
+-- found; before the first line is known it has none, and does not count
+unfoldable pub placed : Arrival → SectionBegin → Option SectionBegin
+placed Unknown section = None
+placed (AtRate rate) section = Some section
+placed (OnLines lines) section = Some (record section { place = moment_on lines (first_byte section.packet) })
+
 -- what is found, and the lines of it
-abbrev pub with_finding : TimesState → FindingView → TimesState
-with_finding s f = with_begin s (section_begin f)
+abbrev pub section_in : ViewOptions → FindingView → Option SectionBegin
+section_in options f = option_and_then (placed options.arrival) (section_begin f)
+
+abbrev pub with_finding : ViewOptions → TimesState → FindingView → TimesState
+with_finding options s f = with_begin s (section_in options f)
 
 abbrev pub finding_lines : ViewOptions → TimesState → FindingView → List ℕ
-finding_lines options s f = begin_lines options s (section_begin f)
+finding_lines options s f = begin_lines options s (section_in options f)
 
-unfoldable pub with_findings : TimesState → List FindingView → TimesState
-with_findings s [] = s
-with_findings s (f ∷ fs) = with_findings (with_finding s f) fs
+unfoldable pub with_findings : ViewOptions → TimesState → List FindingView → TimesState
+with_findings options s [] = s
+with_findings options s (f ∷ fs) = with_findings options (with_finding options s f) fs
 
 unfoldable pub findings_lines : ViewOptions → TimesState → List FindingView → List ℕ
 findings_lines options s [] = []
-findings_lines options s (f ∷ fs) = finding_lines options s f ++ findings_lines options (with_finding s f) fs
+findings_lines options s (f ∷ fs) = finding_lines options s f ++ findings_lines options (with_finding options s f) fs
 
 -- 3. Packet by packet: what is found of a packet is forgotten once its sections are known
 
@@ -69,11 +84,11 @@ pub record TablesState : Type 0 where
   pub demux : StreamState
   pub times : TimesState
 
-abbrev pub no_tables : ℕ → TablesState
-no_tables rate = record { demux = start; times = record { intervals = no_section rate; errors = 0 } }
+abbrev pub no_tables : TableTiming → TablesState
+no_tables timing = record { demux = start; times = record { intervals = no_section timing; errors = 0 } }
 
-abbrev pub with_packet : TablesState → List ℕ → TablesState
-with_packet s bytes = record { demux = with_found [] (pushed s.demux bytes); times = with_findings s.times (pushed s.demux bytes).found }
+abbrev pub with_packet : ViewOptions → TablesState → List ℕ → TablesState
+with_packet options s bytes = record { demux = with_found [] (pushed s.demux bytes); times = with_findings options s.times (pushed s.demux bytes).found }
 
 abbrev pub packet_lines : ViewOptions → TablesState → List ℕ → List ℕ
 packet_lines options s bytes = findings_lines options s.times (pushed s.demux bytes).found
@@ -86,11 +101,11 @@ table_pid key = pid_of key % 65536
 
 -- `table pid P table T sections N interval T packet I limit T`: the greatest time from one section to the next, in ticks of 27 MHz, at the
 -- packet of the second of these; the limit is 0 where the table has none
-abbrev pub table_line : ViewOptions → ℕ × SectionPlaces → List ℕ
-table_line options entry = line_of options.json (codes "table")
+abbrev pub table_line : ViewOptions → TableTiming → ℕ × SectionPlaces → List ℕ
+table_line options timing entry = line_of options.json (codes "table")
     (number_field (codes "pid") (table_pid entry.0) ∷ number_field (codes "table") (table_id_of entry.0) ∷ number_field (codes "sections") entry.1.sections
-    ∷ number_field (codes "interval") (time_of_packets options.rate entry.1.greatest) ∷ number_field (codes "packet") entry.1.at
+    ∷ number_field (codes "interval") (time_between timing entry.1.greatest) ∷ number_field (codes "packet") entry.1.at
     ∷ number_field (codes "limit") (unwrap_or (limit_of (table_pid entry.0) (table_id_of entry.0)) 0) ∷ [])
 
 abbrev pub table_lines : ViewOptions → TablesState → List ℕ
-table_lines options s = flat_map (table_line options) s.times.intervals.entries
+table_lines options s = flat_map (table_line options s.times.intervals.timing) s.times.intervals.entries

@@ -5,12 +5,15 @@ use Rattle.ts_packet.specs.Views.{PacketView}
 use Rattle.ts_packet.specs.Reading.{packet_at}
 use Rattle.ts_packet.specs.Packets.{null_packet}
 use Rattle.stream_report.specs.declared.view.View.{View}
+use Rattle.stream_arrival.specs.declared.arrival.Arrival.{Arrival}
 use Rattle.stream_report.specs.Choices.{RequestView}
 use Rattle.stream_report.specs.Seen.{SeenState, clock_errors, counted, section_lines, end_line, next_window, nothing_seen, pid_ends, with_clock}
 use Rattle.stream_report.specs.Seen as seeing
 use Rattle.stream_report.specs.StreamTables.{IsTable, TableState, begin_lines, begun, has_stream, lines_of, no_streams, table_end, table_units, taken}
 use Rattle.stream_report.specs.StreamTables as tables
+use Rattle.stream_report.specs.SystemLines.{all_fit, system_lines}
 use Rattle.stream_report.specs.WindowLines.{window_lines}
+use Rattle.system_tables.specs.Programs.{known}
 
 -- what is kept: what was seen, and the streams whose buffers have begun
 pub record ViewState : Type 0 where
@@ -24,6 +27,10 @@ pub record IsView (view : View) (s : ViewState) : Type 0 where
 -- before the first packet
 abbrev pub start : RequestView → ViewState
 start request = record { seen = nothing_seen request.options; table = no_streams request.choice }
+
+-- so many packets that come next arrive so
+abbrev pub arriving : ViewState → Arrival → ℕ → ViewState
+arriving s arrival count = record { seen = seeing.arriving s.seen arrival count; table = s.table }
 
 -- a packet that can't be read, or says that it is wrong
 abbrev pub without : ViewState → ViewState
@@ -105,8 +112,9 @@ lines_all s (bytes ∷ packets) = lines_at s bytes ++ lines_all (after_packet s 
 -- the lines at the end of a stream
 abbrev pub end_lines : ViewState → ℕ → List ℕ
 end_lines s left = window_lines s.seen.options s.seen.window
-    ++ (table_end s.seen.options s.seen.packets s.seen.window.number s.table ++ (pid_ends s.seen ++ end_line s.seen left))
+    ++ (table_end s.seen.options s.seen.packets s.seen.window.number s.table
+    ++ (system_lines s.seen.options s.table.choice (known s.seen.systems) ++ (pid_ends s.seen ++ end_line s.seen left)))
 
 -- nothing is wrong
 abbrev pub is_good : ViewState → ℕ → Bool
-is_good s left = if s.seen.refused == 0 then (if s.seen.errors == 0 then (if s.seen.tables.times.errors == 0 then (if left == 0 then tables.is_good s.table else false) else false) else false) else false
+is_good s left = if s.seen.refused == 0 then (if s.seen.errors == 0 then (if s.seen.tables.times.errors == 0 then (if left == 0 then (if all_fit s.table.choice (known s.seen.systems) then tables.is_good s.table else false) else false) else false) else false) else false

@@ -9,14 +9,15 @@ use pes_packet::{PesError, PesHeader, Stamps, read_header};
 use std::alloc::{AllocError, Global};
 use std::hash::{BuildHasherDefault, FoldHasher};
 use std::marker::Model;
+use stream_arrival::Arrival;
 use stream_view::DueTime;
 use ts_packet::{Adaptation, Packet};
 
 // A byte at 1 bit a second in ticks of 27 MHz.
 const BYTE_TICKS: u128 = 216_000_000;
 
-// No byte that counts comes after this one.
-const LAST_BYTE: u64 = 1 << 40;
+// No time that counts is after this one.
+const LAST_PLACE: u64 = 1 << 60;
 
 /// The longest time in ticks that a unit may stay in a decoder: one minute (ISO/IEC 13818-1, 2.4.2.6).
 pub const LONGEST_STAY: u64 = 1_620_000_000;
@@ -46,16 +47,36 @@ pub enum Beginning {
     Stamped(u64),
 }
 
-// The clock reference in the packet at an index.
-#[tactic(auto, unfolding(crate::specs::Clocks::sample_in))]
-fn sample_in(index: u64, packet: &Packet<'_>) -> Option<PcrSample>
-    ensures { result ≡ spec.sample_in index (packet_view packet.now).adaptation }
+/// The first byte of the packet at an index.
+pub(crate) fn first_byte(index: u64) -> u64
+    ensures { result ≡ spec.first_byte index }
+{
+    index.saturating_mul(188)
+}
+
+// When the byte comes that ends the base of a packet's clock reference.
+#[tactic(auto, unfolding(crate::specs::Clocks::place_of))]
+fn place_of(arrival: &Arrival, index: u64) -> Option<u64>
+    ensures { result ≡ spec.place_of arrival.now index }
+{
+    let byte = first_byte(index).saturating_add(10);
+    match arrival {
+        Arrival::Unknown => None,
+        Arrival::AtRate(_) => Some(byte),
+        Arrival::OnLines(lines) => Some(lines.moment(byte)),
+    }
+}
+
+// The clock reference in a packet that comes then.
+#[tactic(auto, unfolding(crate::specs::Clocks::sample_in, crate::specs::Clocks::sample_at))]
+fn sample_in(place: Option<u64>, packet: &Packet<'_>) -> Option<PcrSample>
+    ensures { result ≡ spec.sample_in place (packet_view packet.now).adaptation }
 {
     match packet.adaptation {
         Some(Adaptation::Flagged(parts)) => {
             let reference = parts.pcr?;
             Some(PcrSample {
-                byte: index.saturating_mul(188).saturating_add(10),
+                byte: place?,
                 ticks: reference.base % (1 << 33) * 300 + u64::from(reference.extension),
                 discontinuity: parts.discontinuity_indicator,
             })
@@ -83,10 +104,15 @@ impl Clocks {
 
     /// The packet at an index comes.
     #[tactic(auto, unfolding(crate::specs::Clocks::with_sample))]
-    pub fn take(&mut self, index: u64, packet: &Packet<'_>) -> Result<(), AllocError>
-        ensures { OnOk result (self.new ≡ spec.clocks_after self.old index (packet_view packet.now)) }
+    pub fn take(
+        &mut self,
+        arrival: &Arrival,
+        index: u64,
+        packet: &Packet<'_>,
+    ) -> Result<(), AllocError>
+        ensures { OnOk result (self.new ≡ spec.clocks_after self.old arrival.now index (packet_view packet.now)) }
     {
-        if let Some(sample) = sample_in(index, packet) {
+        if let Some(sample) = sample_in(place_of(arrival, index), packet) {
             self.last.insert(packet.header.pid, sample)?;
         }
         Ok(())
@@ -134,7 +160,7 @@ fn due_parts(rate: u64, rx: u32, clock: &PcrSample, dts: u64) -> u128
     ensures { result ≡ spec.due_parts rate rx clock.now dts }
 {
     let scale = u128::from(rate) * u128::from(rx);
-    let at = u128::from(clock.byte.min(LAST_BYTE)) * u128::from(rx) * BYTE_TICKS;
+    let at = u128::from(clock.byte.min(LAST_PLACE)) * u128::from(rx) * BYTE_TICKS;
     let ahead = ahead_of(clock, dts);
     if ahead < PCR_PERIOD / 2 {
         at + u128::from(ahead.min(LONGEST_STAY)) * scale
@@ -143,8 +169,8 @@ fn due_parts(rate: u64, rx: u32, clock: &PcrSample, dts: u64) -> u128
     }
 }
 
-/// When a unit is due with that DTS, by the last clock reference before it, in a stream of this rate at a buffer that is drained at
-/// `rx` bits a second.
+/// When a unit is due with that DTS, by the last clock reference before it, where a byte takes `rate` to leave a buffer at its own rate, at a
+/// buffer that is drained at `rx` bits a second.
 pub(crate) fn due_at(rate: u64, rx: u32, clock: &PcrSample, dts: u64) -> DueTime
     requires { rate < 4294967296 }
     ensures { result ≡ spec.due_at rate rx clock.now dts }

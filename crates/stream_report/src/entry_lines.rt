@@ -84,6 +84,20 @@ fn ticks_of(rate: u64, rx: u32, time: u128) -> u128
     time.saturating_mul(BYTE_TICKS) / u128::from((rate * u64::from(rx)).max(1))
 }
 
+/// How long a time of a buffer is in ticks.
+pub(crate) fn span_of(options: &ViewOptions, rx: u32, time: u128) -> u128
+    ensures { result ≡ spec.span_of options.now rx time }
+{
+    ticks_of(options.arrival.step(), rx, time)
+}
+
+// A time of a buffer in ticks from the first byte of the stream on.
+fn moment_of(options: &ViewOptions, rx: u32, time: u128) -> u128
+    ensures { result ≡ spec.moment_of options.now rx time }
+{
+    span_of(options, rx, time).saturating_sub(u128::from(options.origin))
+}
+
 // An excess of the transport buffer, or of the main buffer, each by its word and with the size of the buffer.
 fn write_excess(
     text: &mut String,
@@ -95,12 +109,11 @@ fn write_excess(
     ensures { OnOk result (string_bytes text.new
         ≡ string_bytes text.old ++ spec.excess_line options.now line.now place.now excess.now) }
 {
-    let rate = options.rate.bits_per_second();
     let fields = [
         number("pid", u128::from(place.pid)),
         number("packet", u128::from(place.packet)),
-        number("begin", ticks_of(rate, place.rx, excess.begin)),
-        number("end", ticks_of(rate, place.rx, excess.end)),
+        number("begin", moment_of(options, place.rx, excess.begin)),
+        number("end", moment_of(options, place.rx, excess.end)),
         number("peak", excess.peak),
         number("size", u128::from(place.size)),
     ];
@@ -133,13 +146,12 @@ fn write_late(
     ensures { OnOk result (string_bytes text.new
         ≡ string_bytes text.old ++ spec.late_line options.now place.now unit.now) }
 {
-    let rate = options.rate.bits_per_second();
     let fields = [
         number("pid", u128::from(place.pid)),
         number("packet", u128::from(place.packet)),
-        number("due", ticks_of(rate, place.rx, unit.due.deadline)),
-        number("left", ticks_of(rate, place.rx, unit.left)),
-        number("by", ticks_of(rate, place.rx, unit.lateness())),
+        number("due", moment_of(options, place.rx, unit.due.deadline)),
+        number("left", moment_of(options, place.rx, unit.left)),
+        number("by", span_of(options, place.rx, unit.lateness())),
         number("bytes", u128::from(unit.bytes)),
     ];
     write_line(text, options.json, "late", &fields)
@@ -216,99 +228,11 @@ pub(crate) fn write_ended(
         size: TRANSPORT_BYTES,
         ..*place
     };
+    write_excess_if(text, options, "excess", &transport, &entered.lead)?;
     write_excess_if(text, options, "excess", &transport, &entered.header)?;
     write_excess_if(text, options, "excess", &transport, &entered.payload)?;
     write_excess_if(text, options, "main_excess", place, &entered.main)?;
     write_late_if(text, options, place, &entered.unit)
-}
-
-fn write_units(
-    text: &mut String,
-    options: &ViewOptions,
-    place: &Place,
-    tally: &Tally,
-) -> Result<(), AllocError>
-    ensures { OnOk result (string_bytes text.new
-        ≡ string_bytes text.old ++ spec.unit_line options.now place.now tally.now) }
-{
-    let rate = options.rate.bits_per_second();
-    let fields = [
-        number("number", u128::from(tally.window)),
-        number("pid", u128::from(place.pid)),
-        number("units", u128::from(tally.window_units)),
-        number("late", u128::from(tally.window_late)),
-        number("slack", ticks_of(rate, place.rx, tally.slack)),
-    ];
-    write_line(text, options.json, "units", &fields)
-}
-
-fn write_held(
-    text: &mut String,
-    options: &ViewOptions,
-    place: &Place,
-    tally: &Tally,
-) -> Result<(), AllocError>
-    ensures { OnOk result (string_bytes text.new
-        ≡ string_bytes text.old ++ spec.held_line options.now place.now tally.now) }
-{
-    let fields = [
-        number("number", u128::from(tally.window)),
-        number("pid", u128::from(place.pid)),
-        number("transport", tally.window_transport),
-        number("main", u128::from(tally.window_main)),
-    ];
-    write_line(text, options.json, "held", &fields)
-}
-
-// The most that the buffers held in a window, if a packet entered in it.
-fn write_held_if(
-    text: &mut String,
-    options: &ViewOptions,
-    window: u64,
-    place: &Place,
-    tally: &Tally,
-) -> Result<(), AllocError>
-    ensures { OnOk result (string_bytes text.new
-        ≡ string_bytes text.old ++ spec.held_lines options.now window place.now tally.now) }
-{
-    if tally.window == window && tally.window_transport > 0 {
-        write_held(text, options, place, tally)
-    } else {
-        Ok(())
-    }
-}
-
-// The units that ended in a window, if some did.
-fn write_units_if(
-    text: &mut String,
-    options: &ViewOptions,
-    window: u64,
-    place: &Place,
-    tally: &Tally,
-) -> Result<(), AllocError>
-    ensures { OnOk result (string_bytes text.new
-        ≡ string_bytes text.old ++ spec.unit_lines options.now window place.now tally.now) }
-{
-    if tally.window == window && tally.window_units > 0 {
-        write_units(text, options, place, tally)
-    } else {
-        Ok(())
-    }
-}
-
-/// What the buffers held in a window, and the units that ended in it.
-pub(crate) fn write_window_if(
-    text: &mut String,
-    options: &ViewOptions,
-    window: u64,
-    place: &Place,
-    tally: &Tally,
-) -> Result<(), AllocError>
-    ensures { OnOk result (string_bytes text.new
-        ≡ string_bytes text.old ++ spec.tally_lines options.now window place.now tally.now) }
-{
-    write_held_if(text, options, window, place, tally)?;
-    write_units_if(text, options, window, place, tally)
 }
 
 fn with_one(ended: u64, under_way: &Option<Excess>) -> u128

@@ -1,7 +1,8 @@
 //! The report on a stream, line by line as it comes: what an analyst asks first.
 //!
-//! - [`View`]: takes packets, and appends the lines that are settled to a text; `end` appends the last ones.
-//! - [`ViewRequest`]: what is asked of a stream, in two parts: [`ViewOptions`], the rate at which the packets arrive, the length of a
+//! - [`ClockedView`]: takes packets, and appends the lines that are settled to a text; `end` appends the last ones. Without a rate packets
+//!   wait until it is known on which line between two clock references they arrive; then each goes to the view of packets with arrivals (`view`).
+//! - [`ViewRequest`]: what is asked of a stream, in two parts: [`ViewOptions`], how the packets arrive, the length of a
 //!   window, and the form of the lines; and [`ViewChoice`], the programs whose streams are viewed, and buffers that are given.
 //!
 //! A line is a word and fields, each a name and a number or a word: plain text with spaces between, or one JSON object.
@@ -10,13 +11,16 @@
 #![tactic(auto)]
 
 mod clock_lines;
+mod clocked_view;
 mod clocks;
 mod entry_lines;
+mod held_lines;
 mod lines;
 mod reference_lines;
 mod seen;
 mod stream_entry;
 mod stream_table;
+mod system_lines;
 mod table_watch;
 mod tally;
 mod view;
@@ -25,7 +29,7 @@ mod view_options;
 mod view_request;
 mod window_lines;
 
-pub use view::View;
+pub use clocked_view::ClockedView;
 pub use view_choice::ViewChoice;
 pub use view_options::ViewOptions;
 pub use view_request::ViewRequest;

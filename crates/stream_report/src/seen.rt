@@ -15,11 +15,14 @@ use pcr_errors::{PcrTiming, PcrWatches};
 use pid_windows::PidWindow;
 use std::alloc::{AllocError, Global};
 use std::marker::Model;
+use stream_arrival::Arrival;
+use system_tables::SystemTables;
+use table_intervals::TableTiming;
 use ts_packet::{Packet, has_pcr};
 
 /// What is kept of a stream beside its buffers: the number of packets, and of those that are refused; the window of the last packet; the
 /// packets of each PID; the last clock reference of each, and what all of them came to, with the number of their errors; the
-/// sections of tables; and the streams that are named.
+/// sections of tables; the buffers of programs' tables; and the streams that are named.
 #[derive(Drop)]
 pub struct Seen {
     alloc: Global,
@@ -32,6 +35,7 @@ pub struct Seen {
     pub watches: PcrWatches<Global>,
     pub errors: u64,
     pub tables: TableWatch,
+    pub systems: SystemTables,
     pub named: NamedStreams,
 }
 
@@ -50,8 +54,73 @@ impl Model for Seen {
       watches = s.watches;
       errors = s.errors;
       tables = s.tables;
+      systems = s.systems;
       named = s.named;
     } };
+}
+
+// By what references are measured.
+#[tactic(auto, unfolding(crate::specs::Seen::timing_of))]
+fn timing_of(arrival: &Arrival) -> PcrTiming
+    ensures { result ≡ spec.timing_of arrival.now }
+{
+    match arrival {
+        Arrival::AtRate(rate) => PcrTiming::ConstantRate(*rate),
+        Arrival::Unknown | Arrival::OnLines(_) => PcrTiming::References,
+    }
+}
+
+// In what the places of sections are counted.
+#[tactic(auto, unfolding(crate::specs::Seen::table_timing))]
+fn table_timing(arrival: &Arrival) -> TableTiming
+    ensures { result ≡ spec.table_timing arrival.now }
+{
+    match arrival {
+        Arrival::AtRate(rate) => TableTiming::ConstantRate(*rate),
+        Arrival::Unknown | Arrival::OnLines(_) => TableTiming::Ticks,
+    }
+}
+
+// The moment of the stream's first byte on the first line that is known.
+#[tactic(auto, unfolding(crate::specs::Seen::origin_on))]
+fn origin_on(arrival: &Arrival) -> u64
+    ensures { result ≡ spec.origin_on arrival.now }
+{
+    match arrival {
+        Arrival::OnLines(lines) => lines.moment(0),
+        Arrival::Unknown | Arrival::AtRate(_) => 0,
+    }
+}
+
+#[tactic(auto, unfolding(crate::specs::Seen::origin_after))]
+fn origin_after(options: &ViewOptions, arrival: &Arrival) -> u64
+    ensures { result ≡ spec.origin_after options.now.arrival options.now.origin arrival.now }
+{
+    match &options.arrival {
+        Arrival::Unknown => origin_on(arrival),
+        Arrival::AtRate(_) | Arrival::OnLines(_) => options.origin,
+    }
+}
+
+fn with_arrival(options: &ViewOptions, arrival: Arrival) -> ViewOptions
+    ensures { result ≡ spec.with_arrival options.now arrival }
+{
+    ViewOptions {
+        arrival,
+        origin: origin_after(options, &arrival),
+        ..*options
+    }
+}
+
+// Whether packets have no moment.
+#[tactic(auto, unfolding(crate::specs::Seen::unclocked))]
+fn unclocked(arrival: &Arrival, count: usize) -> bool
+    ensures { result ≡ spec.unclocked arrival.now count }
+{
+    match arrival {
+        Arrival::Unknown => count > 0,
+        Arrival::AtRate(_) | Arrival::OnLines(_) => false,
+    }
 }
 
 impl Seen {
@@ -67,11 +136,44 @@ impl Seen {
             window: PidWindow::new(alloc),
             totals: PidWindow::new(alloc),
             clocks: Clocks::new(alloc),
-            watches: PcrWatches::new(alloc, PcrTiming::ConstantRate(options.rate)),
+            watches: PcrWatches::new(alloc, timing_of(&options.arrival)),
             errors: 0,
-            tables: TableWatch::new(alloc, options.rate),
+            tables: TableWatch::new(alloc, table_timing(&options.arrival)),
+            systems: SystemTables::new(alloc),
             named: NamedStreams::new(alloc),
         }
+    }
+
+    /// `count` packets that come next arrive so: the line that they have no moment is appended, where they have none.
+    pub fn arrive(
+        &mut self,
+        arrival: Arrival,
+        count: usize,
+        text: &mut String,
+    ) -> Result<(), AllocError>
+        ensures seen { OnOk result (self.new ≡ spec.arriving self.old arrival count) }
+        ensures lines { OnOk result (string_bytes text.new
+            ≡ string_bytes text.old ++ spec.arrival_lines self.old arrival count) }
+    {
+        let options = with_arrival(&self.options, arrival);
+        let unclocked = unclocked(&arrival, count);
+        if unclocked {
+            self.write_unclocked(count, text)?;
+        }
+        self.options = options;
+        self.errors = self.errors.saturating_add(u64::from(unclocked));
+        Ok(())
+    }
+
+    // Appends the line of packets that have no moment.
+    fn write_unclocked(&self, count: usize, text: &mut String) -> Result<(), AllocError>
+        ensures { OnOk result (string_bytes text.new ≡ string_bytes text.old ++ spec.unclocked_line self.now count) }
+    {
+        let fields = [
+            number("packet", u128::from(self.packets)),
+            number("packets", count as u128),
+        ];
+        write_line(text, self.options.json, "unclocked", &fields)
     }
 
     /// A packet that can't be read, or says that it is wrong.
@@ -88,7 +190,8 @@ impl Seen {
         ensures lines { OnOk result (string_bytes text.new
             ≡ string_bytes text.old ++ spec.clock_errors self.old (packet_view packet.now)) }
     {
-        self.clocks.take(self.packets, packet)?;
+        self.clocks
+            .take(&self.options.arrival, self.packets, packet)?;
         let report = self.watches.take(self.packets, packet)?;
         write_report(text, &self.options, packet.header.pid, &report)?;
         self.errors = self.errors.saturating_add(errors_in(&report));
@@ -102,13 +205,15 @@ impl Seen {
         window_of(&self.options, self.packets)
     }
 
-    /// A packet that is not known to be wrong is counted.
+    /// A packet that is not known to be wrong enters the buffers of programs' tables, and is counted.
     pub fn count(&mut self, packet: &Packet<'_>) -> Result<(), AllocError>
         ensures { OnOk result (self.new ≡ spec.counted self.old (packet_view packet.now)) }
     {
         let window = self.next_window();
         let pid = packet.header.pid;
         let pcr = has_pcr(packet);
+        self.systems
+            .take(&self.options.arrival, self.packets, &self.named, pid)?;
         self.window.take(window, pid, pcr)?;
         self.totals.take(0, pid, pcr)?;
         self.packets = self.packets.saturating_add(1);

@@ -6,7 +6,8 @@ ghost use Rattle.stream_report.specs.Entries as spec;
 ghost use Rattle.stream_report.specs.Entries.{EntryState, IsEntry};
 
 use crate::clocks::{Beginning, LONGEST_STAY, ahead_of, beginning_of, due_at};
-use crate::entry_lines::{Place, write_ahead_if, write_closing, write_ended, write_window_if};
+use crate::entry_lines::{Place, write_ahead_if, write_closing, write_ended};
+use crate::held_lines::write_window_if;
 use crate::tally::Tally;
 use crate::view_options::ViewOptions;
 use packet_arrival::{PCR_PERIOD, PcrSample};
@@ -77,7 +78,7 @@ fn due_by(
     match beginning {
         Beginning::Stamped(dts) => {
             let clock = clock.as_ref()?;
-            Some(due_at(options.rate.bits_per_second(), rx, clock, dts))
+            Some(due_at(options.arrival.step(), rx, clock, dts))
         }
         _ => None,
     }
@@ -134,7 +135,9 @@ fn arriving(
 fn excess_counts(entered: &Entered) -> (u64, u64)
     ensures { result ≡ spec.excess_counts (entered_view entered.now) }
 {
-    let transport = u64::from(entered.header.is_some()) + u64::from(entered.payload.is_some());
+    let transport = u64::from(entered.lead.is_some())
+        + u64::from(entered.header.is_some())
+        + u64::from(entered.payload.is_some());
     (transport, u64::from(entered.main.is_some()))
 }
 
@@ -179,7 +182,7 @@ impl StreamEntry {
         let place = self.place(index);
         let beginning = beginning_in(self.counter, packet);
         let arriving = arriving(options, index, self.buffers.rx, self.counter, clock, packet);
-        let entered = self.buffers.enter(&arriving)?;
+        let entered = self.buffers.enter(&options.arrival, &arriving)?;
         write_ahead_if(text, options, &place, ahead_by(clock, beginning))?;
         write_ended(text, options, &place, &entered)?;
         self.counter = counter_after(self.counter, packet);

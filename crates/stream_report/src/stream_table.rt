@@ -81,7 +81,7 @@ fn new_entry(
         pid,
         clock_pid,
         counter: None,
-        buffers: StreamBuffers::new(alloc, options.rate, buffers.rx, u64::from(buffers.main)),
+        buffers: StreamBuffers::new(alloc, &options.arrival, buffers.rx, u64::from(buffers.main)),
         tally: Tally::new(),
     }
 }
@@ -140,6 +140,13 @@ impl StreamTable {
             places: IndexMap::new(alloc),
             entries: Vec::new(alloc),
         }
+    }
+
+    /// Which streams are viewed.
+    pub fn choice(&self) -> &ViewChoice
+        ensures { (t : TableState) → IsTable self.now t → result.now ≡ t.choice }
+    {
+        &self.choice
     }
 
     // The stream whose buffers begin with a packet.

@@ -3,15 +3,16 @@ ghost use Rattle.std.specs.Prelude.{◌≡◌, ◌==◌, ◌++◌, OnOk, Some, m
 ghost use Rattle.demux.specs.Shown.{finding_view};
 ghost use Rattle.stream_report.specs.TableLines as spec;
 
+use crate::clocks::first_byte;
 use crate::lines::{number, write_line};
 use crate::view_options::ViewOptions;
-use clock27::Rate;
 use demux::{Demux, Finding};
 use std::alloc::{AllocError, Global};
 use std::marker::Model;
+use stream_arrival::Arrival;
 use table_intervals::{
-    SectionBegin, SectionPlaces, TableError, TableIntervals, limit_of, pid_of, section_begin,
-    table_id_of, time_of_packets,
+    SectionBegin, SectionPlaces, TableError, TableIntervals, TableTiming, limit_of, pid_of,
+    section_begin, table_id_of, time_between,
 };
 
 /// The sections of each table, and the number of those that begin too late, which stops at 2^64 - 1.
@@ -85,6 +86,29 @@ fn more_errors(errors: u64, error: &Option<TableError>) -> u64
     }
 }
 
+// A section with its place in time.
+#[tactic(auto, unfolding(crate::specs::TableLines::placed))]
+fn placed(arrival: &Arrival, section: SectionBegin) -> Option<SectionBegin>
+    ensures { result ≡ spec.placed arrival.now section }
+{
+    match arrival {
+        Arrival::Unknown => None,
+        Arrival::AtRate(_) => Some(section),
+        Arrival::OnLines(lines) => Some(SectionBegin {
+            place: lines.moment(first_byte(section.packet)),
+            ..section
+        }),
+    }
+}
+
+// The section of a finding, if it counts.
+fn section_in(options: &ViewOptions, finding: &Finding<'_>) -> Option<SectionBegin>
+    ensures { result ≡ spec.section_in options.now (finding_view finding.now) }
+{
+    let section = section_begin(finding)?;
+    placed(&options.arrival, section)
+}
+
 impl TableTimes {
     #[tactic(auto, unfolding(crate::specs::TableLines::begin_lines))]
     fn take_section(
@@ -110,11 +134,11 @@ impl TableTimes {
         finding: &Finding<'_>,
         text: &mut String,
     ) -> Result<(), AllocError>
-        ensures times { OnOk result (self.new ≡ spec.with_finding self.old (finding_view finding.now)) }
+        ensures times { OnOk result (self.new ≡ spec.with_finding options.now self.old (finding_view finding.now)) }
         ensures lines { OnOk result (string_bytes text.new
             ≡ string_bytes text.old ++ spec.finding_lines options.now self.old (finding_view finding.now)) }
     {
-        match section_begin(finding) {
+        match section_in(options, finding) {
             None => Ok(()),
             Some(section) => self.take_section(options, section, text),
         }
@@ -126,7 +150,7 @@ impl TableTimes {
         findings: &[Finding<'_>],
         text: &mut String,
     ) -> Result<(), AllocError>
-        ensures times { OnOk result (self.new ≡ spec.with_findings self.old (map finding_view findings.now)) }
+        ensures times { OnOk result (self.new ≡ spec.with_findings options.now self.old (map finding_view findings.now)) }
         ensures lines { OnOk result (string_bytes text.new
             ≡ string_bytes text.old ++ spec.findings_lines options.now self.old (map finding_view findings.now)) }
     {
@@ -140,10 +164,11 @@ impl TableTimes {
 fn write_table(
     text: &mut String,
     options: &ViewOptions,
+    timing: TableTiming,
     key: u32,
     places: &SectionPlaces,
 ) -> Result<(), AllocError>
-    ensures { OnOk result (string_bytes text.new ≡ string_bytes text.old ++ spec.table_line options.now (key, places.now)) }
+    ensures { OnOk result (string_bytes text.new ≡ string_bytes text.old ++ spec.table_line options.now timing (key, places.now)) }
 {
     let pid = (pid_of(key) % 65536) as u16;
     let table_id = table_id_of(key);
@@ -151,7 +176,7 @@ fn write_table(
         number("pid", u128::from(pid)),
         number("table", u128::from(table_id)),
         number("sections", u128::from(places.sections)),
-        number("interval", time_of_packets(options.rate, places.greatest)),
+        number("interval", time_between(timing, places.greatest)),
         number("packet", u128::from(places.at)),
         number("limit", u128::from(limit_of(pid, table_id).unwrap_or(0))),
     ];
@@ -160,13 +185,13 @@ fn write_table(
 
 impl TableWatch {
     /// Before the first packet.
-    pub fn new(alloc: Global, rate: Rate) -> TableWatch
-        ensures { result ≡ spec.no_tables rate }
+    pub fn new(alloc: Global, timing: TableTiming) -> TableWatch
+        ensures { result ≡ spec.no_tables timing }
     {
         TableWatch {
             demux: Demux::new(alloc),
             times: TableTimes {
-                intervals: TableIntervals::new(alloc, rate),
+                intervals: TableIntervals::new(alloc, timing),
                 errors: 0,
             },
         }
@@ -179,7 +204,7 @@ impl TableWatch {
         bytes: &[u8; 188],
         text: &mut String,
     ) -> Result<(), AllocError>
-        ensures tables { OnOk result (self.new ≡ spec.with_packet self.old bytes.now) }
+        ensures tables { OnOk result (self.new ≡ spec.with_packet options.now self.old bytes.now) }
         ensures lines { OnOk result (string_bytes text.new
             ≡ string_bytes text.old ++ spec.packet_lines options.now self.old bytes.now) }
     {
@@ -202,8 +227,9 @@ impl TableWatch {
     pub fn write_end(&self, text: &mut String, options: &ViewOptions) -> Result<(), AllocError>
         ensures { OnOk result (string_bytes text.new ≡ string_bytes text.old ++ spec.table_lines options.now self.now) }
     {
+        let timing = self.times.intervals.timing();
         for (key, places) in self.times.intervals.entries() {
-            write_table(text, options, *key, places)?;
+            write_table(text, options, timing, *key, places)?;
         }
         Ok(())
     }

@@ -1,17 +1,20 @@
-//! A stream, packet by packet.
+//! A stream, packet by packet, each with its arrival.
 ghost use Rattle.std.specs.Prelude.{◌≡◌, ◌++◌, OnOk, Result, string_bytes};
 ghost use Rattle.bit_fields.specs.Reading.{Gives};
 ghost use Rattle.ts_packet.specs.Reading.{packet_at};
 ghost use Rattle.ts_packet.specs.Views.{PacketView, packet_view};
 ghost use Rattle.ts_packet.specs.declared.packet.PacketError.{PacketError};
+ghost use Rattle.stream_report.specs.Seen.{arrival_lines};
 ghost use Rattle.stream_report.specs.Views as spec;
 ghost use Rattle.stream_report.specs.Views.{IsView, ViewState};
 
 use crate::seen::Seen;
 use crate::stream_table::StreamTable;
+use crate::system_lines::{all_fit, write_systems};
 use crate::view_request::ViewRequest;
 use crate::window_lines::write_window;
 use std::alloc::{AllocError, Global};
+use stream_arrival::Arrival;
 use ts_packet::{Packet, PacketError, null_packet, read_packet};
 
 /// A stream as far as it has come: no packet is kept.
@@ -32,6 +35,20 @@ impl View {
             seen: Seen::new(alloc, request.options),
             table: StreamTable::new(alloc, request.choice),
         }
+    }
+
+    /// `count` packets that come next arrive so.
+    pub fn arrive(
+        &mut self,
+        arrival: Arrival,
+        count: usize,
+        text: &mut String,
+    ) -> Result<(), AllocError>
+        ensures view { (s : ViewState) → IsView self.old s → OnOk result (IsView self.new (spec.arriving s arrival count)) }
+        ensures lines { (s : ViewState) → IsView self.old s → OnOk result (string_bytes text.new
+            ≡ string_bytes text.old ++ arrival_lines s.seen arrival count) }
+    {
+        self.seen.arrive(arrival, count, text)
     }
 
     // Appends the lines of the last packet's window.
@@ -173,6 +190,12 @@ impl View {
         write_window(text, options, &self.seen.window)?;
         self.table
             .write_end(text, options, self.seen.packets, window)?;
+        write_systems(
+            text,
+            options,
+            self.table.choice(),
+            self.seen.systems.programs(),
+        )?;
         self.seen.write_pid_ends(text)?;
         self.seen.write_end(left, text)
     }
@@ -185,6 +208,7 @@ impl View {
             && self.seen.errors == 0
             && self.seen.tables.is_good()
             && left == 0
+            && all_fit(self.table.choice(), self.seen.systems.programs())
             && self.table.is_good()
     }
 }

@@ -1,11 +1,13 @@
 //! How a stream is viewed.
-use clock27::Rate;
+use stream_arrival::Arrival;
 
 /// How a stream is viewed.
 #[derive(Clone, Copy)]
 pub struct ViewOptions {
-    /// The rate at which its packets arrive.
-    pub rate: Rate,
+    /// How the packets arrive that come next.
+    pub arrival: Arrival,
+    /// The moment of the stream's first byte in ticks of 27 MHz, cut down: 0 at a constant rate.
+    pub origin: u64,
     /// The length of a window in milliseconds; of 0, one.
     pub window: u32,
     /// Whether each line is a JSON object.

@@ -1,21 +1,40 @@
 //! The lines of a window, and of all packets of a PID.
-ghost use Rattle.std.specs.Prelude.{◌≡◌, ◌++◌, OnOk, string_bytes};
+ghost use Rattle.std.specs.Prelude.{◌≡◌, ◌++◌, ◌*◌, ◌/◌, ◌-◌, ◌^◌, OnOk, max, min, string_bytes};
 ghost use Rattle.stream_report.specs.WindowLines as spec;
 
+use crate::clocks::first_byte;
 use crate::lines::{number, write_line};
 use crate::view_options::ViewOptions;
-use clock27::SLOT_MS_AT_1BPS;
+use clock27::{Rate, SLOT_MS_AT_1BPS};
 use pid_windows::{PidCounts, PidWindow};
 use std::alloc::{AllocError, Global};
+use stream_arrival::Arrival;
 
-/// The window in which a packet begins.
-pub(crate) fn window_of(options: &ViewOptions, index: u64) -> u64
-    ensures { result ≡ spec.window_of options.now index }
+// The window in which a packet begins at a constant rate.
+fn window_at_rate(rate: Rate, window: u32, index: u64) -> u64
+    ensures { result ≡ min (index * 1504000 / max 1 (rate * window)) (2 ^ 64 - 1) }
 {
-    let length = options.rate.bits_per_second() * u64::from(options.window);
+    let length = rate.bits_per_second() * u64::from(window);
     (u128::from(index) * SLOT_MS_AT_1BPS / u128::from(length.max(1))).min(u128::from(
         u64::MAX,
     )) as u64
+}
+
+/// The window in which a packet begins.
+#[tactic(auto, unfolding(crate::specs::WindowLines::window_by))]
+pub(crate) fn window_of(options: &ViewOptions, index: u64) -> u64
+    ensures { result ≡ spec.window_of options.now index }
+{
+    match &options.arrival {
+        Arrival::Unknown => 0,
+        Arrival::AtRate(rate) => window_at_rate(*rate, options.window, index),
+        Arrival::OnLines(lines) => {
+            let time = lines
+                .moment(first_byte(index))
+                .saturating_sub(options.origin);
+            time / (27_000 * u64::from(options.window.max(1)))
+        }
+    }
 }
 
 fn rate_in(options: &ViewOptions, packets: u64) -> u128

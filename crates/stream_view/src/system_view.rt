@@ -3,7 +3,7 @@ ghost use Rattle.std.specs.Prelude.{◌≡◌, ℕ, List, [], ◌++◌, ◌+◌,
 ghost use Rattle.clock27.specs.Departure.{departures};
 ghost use Rattle.packet_arrival.specs.Rows.{IsTimed, times_of};
 ghost use Rattle.decoder_buffers.specs.Queues.{all_arrived, bytes_within};
-ghost use Rattle.stream_view.specs.SystemViewed.{IsSystemViewOf};
+ghost use Rattle.stream_view.specs.SystemViewed.{IsSystemViewOf, empty_queue};
 
 use crate::system_buffers::SystemView;
 use decoder_buffers::Queue;
@@ -43,6 +43,9 @@ impl SystemView {
         requires some { 0 < step }
         requires slow { step ≤ 2 ^ 28 }
         ensures view { IsSystemViewOf result step [] }
+        ensures transport { result.transport ≡ empty_queue (2 * step) }
+        ensures system { result.system ≡ empty_queue (25 * step) }
+        ensures bytes { result.bytes ≡ 0 }
     {
         SystemView {
             transport: Queue::new(2 * step),
@@ -57,6 +60,9 @@ impl SystemView {
         requires count { self.old.bytes + row.now.bytes ≤ 2 ^ 40 }
         ensures view { (step : ℕ) (times : List ℕ) → IsSystemViewOf self.old step times →
             IsSystemViewOf self.new step (times ++ times_of row.now) }
+        ensures transport { self.new.transport ≡ all_arrived self.old.transport (times_of row.now) }
+        ensures system { self.new.system ≡ all_arrived self.old.system
+            (departures self.old.transport.step self.old.transport.last (times_of row.now)) }
         ensures bytes { self.new.bytes ≡ self.old.bytes + row.now.bytes }
     {
         pass_row(&mut self.transport, &mut self.system, self.bytes, row);

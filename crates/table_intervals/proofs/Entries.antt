@@ -1,14 +1,15 @@
 -- The entry of a key is that of its own sections.
-use Rattle.std.proofs.Common.{◌≡◌, ◌∙◌, ℕ, ◌-◌, ◌*◌, ◌==◌, Bool, true, false, cond, nat_eq, nat_lt, List, [], ◌∷◌, map, filter, Option, Some, refl, ap, subst, arith}
+use Rattle.std.proofs.Common.{◌≡◌, ◌∙◌, ℕ, ◌-◌, ◌*◌, ◌==◌, Bool, true, false, cond, nat_eq, nat_lt, List, [], ◌∷◌, filter, Option, Some, refl, ap, subst, arith}
 use Rattle.std.specs.Prelude.{max}
 use Rattle.std.specs.Map.{lookup}
 use Rattle.std.proofs.lemmas.Bool.Decides.{nat_tests}
 use Rattle.std.proofs.Math.Nat.{lt_of_mul-lt-mul_right, mul-le-mul_right}
 use Rattle.std.proofs.lemmas.Grind.{div_ceil_times}
 use Rattle.indexmap.specs.IndexMap.{insert_entry}
+use Rattle.table_intervals.specs.declared.intervals.SectionBegin.{SectionBegin}
 use Rattle.table_intervals.specs.declared.intervals.SectionPlaces.{SectionPlaces}
 use Rattle.table_intervals.specs.Intervals.{section_key, places_after, places_at}
-use Rattle.table_intervals.specs.Laws.{state_of, packets_of, places_of, greatest_gap, EntryLaw, GreatestLaw, TimeLaw}
+use Rattle.table_intervals.specs.Laws.{state_of, sections_of, places_of, greatest_gap, EntryLaw, GreatestLaw, TimeLaw}
 
 same_number : (a b : ℕ) → (a == b) ≡ true → a ≡ b
 same_number a b e = grind (arith, nat_tests)
@@ -37,17 +38,17 @@ found key k x (y ∷ es) t e = by t e (k == y.0) refl (found key k x es t e)
 
 pub entry_law : EntryLaw
 unfolding state_of places_of
-entry_law rate key [] = refl
-entry_law rate key (s ∷ earlier) =
-    found key (section_key s) (places_after (places_at (state_of rate earlier) (section_key s)) s.packet) (state_of rate earlier).entries (section_key s == key) refl
-    ∙ by (section_key s == key) refl (entry_law rate key earlier)
+entry_law timing key [] = refl
+entry_law timing key (s ∷ earlier) =
+    found key (section_key s) (places_after (places_at (state_of timing earlier) (section_key s)) s) (state_of timing earlier).entries (section_key s == key) refl
+    ∙ by (section_key s == key) refl (entry_law timing key earlier)
   where
-    by : (t : Bool) → (section_key s == key) ≡ t → places_at (state_of rate earlier) key ≡ places_of (packets_of key earlier) →
-        cond t (Some (places_after (places_at (state_of rate earlier) (section_key s)) s.packet)) (places_at (state_of rate earlier) key)
-        ≡ places_of (map (λ s. s.packet) (cond t (s ∷ filter (λ s. section_key s == key) earlier) (filter (λ s. section_key s == key) earlier)))
+    by : (t : Bool) → (section_key s == key) ≡ t → places_at (state_of timing earlier) key ≡ places_of (sections_of key earlier) →
+        cond t (Some (places_after (places_at (state_of timing earlier) (section_key s)) s)) (places_at (state_of timing earlier) key)
+        ≡ places_of (cond t (s ∷ filter (λ s. section_key s == key) earlier) (filter (λ s. section_key s == key) earlier))
     by true e rest =
-        ap (λ (k : ℕ). Some (places_after (places_at (state_of rate earlier) k) s.packet)) (same_number (section_key s) key e)
-        ∙ ap (λ (before : Option SectionPlaces). Some (places_after before s.packet)) rest
+        ap (λ (k : ℕ). Some (places_after (places_at (state_of timing earlier) k) s)) (same_number (section_key s) key e)
+        ∙ ap (λ (before : Option SectionPlaces). Some (places_after before s)) rest
     by false e rest = rest
 
 -- the greater of two
@@ -58,16 +59,16 @@ greater a b = by (nat_lt a b) refl
     by true e = grind (arith, nat_tests)
     by false e = grind (arith, nat_tests)
 
-step : (p : SectionPlaces) (packet before gap : ℕ) → p.greatest ≡ gap → p.last ≡ before → (places_after (Some p) packet).greatest ≡ max (packet - before) gap
+step : (p : SectionPlaces) (section : SectionBegin) (before gap : ℕ) → p.greatest ≡ gap → p.last ≡ before → (places_after (Some p) section).greatest ≡ max (section.place - before) gap
 unfolding places_after
-step p packet before gap g l = rw (g, l) (greater gap (packet - before))
+step p section before gap g l = rw (g, l) (greater gap (section.place - before))
 
 pub greatest_law : GreatestLaw
 unfolding places_of greatest_gap places_after
-greatest_law packet [] = (refl, refl)
-greatest_law packet (before ∷ earlier) =
+greatest_law section [] = (refl, refl)
+greatest_law section (before ∷ earlier) =
     let h = greatest_law before earlier in
-    (step (places_after (places_of earlier) before) packet before (greatest_gap (before ∷ earlier)) h.0 h.1, refl)
+    (step (places_after (places_of earlier) before) section before.place (greatest_gap (before ∷ earlier)) h.0 h.1, refl)
 
 pub time_law : TimeLaw
 time_law rate packets limit some = (

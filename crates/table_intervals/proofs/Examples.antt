@@ -1,6 +1,7 @@
 -- The definitions at numbers.
 use Rattle.std.proofs.Common.{◌≡◌, Some, refl}
-use Rattle.table_intervals.specs.Intervals.{time_of_packets, no_section, taken, error_at, error_if, places_after}
+use Rattle.table_intervals.specs.Intervals.{time_between, time_of_packets, no_section, taken, error_at, error_if, places_after}
+use Rattle.table_intervals.specs.declared.intervals.TableTiming.TheVariants.{ConstantRate}
 use Rattle.table_intervals.specs.Limits.{milliseconds}
 
 -- 1,504,000 bits a second are 1,000 packets a second: 500 of them take 500 ms, and one more a millisecond more
@@ -15,7 +16,7 @@ rounded : time_of_packets 1504001 500 ≡ 13499992
 rounded = refl
 
 -- so the second of these sections of a PAT is late
-error : error_at (taken (no_section 1504000) (record { pid = 0; table_id = 0; packet = 7 })) (record { pid = 0; table_id = 0; packet = 508 })
-    ≡ Some (record { section = record { pid = 0; table_id = 0; packet = 508 }; value = 13527000; limit = 13500000 })
-unfolding milliseconds error_if places_after
+error : error_at (taken (no_section (ConstantRate 1504000)) (record { pid = 0; table_id = 0; packet = 7; place = 7 })) (record { pid = 0; table_id = 0; packet = 508; place = 508 })
+    ≡ Some (record { section = record { pid = 0; table_id = 0; packet = 508; place = 508 }; value = 13527000; limit = 13500000 })
+unfolding milliseconds error_if places_after time_between
 error = refl

@@ -6,7 +6,7 @@ use Rattle.demux.specs.Views.{FindingView}
 use Rattle.table_intervals.specs.declared.intervals.SectionBegin.{SectionBegin}
 
 unfoldable pub begin_of : ℕ → ℕ → Kind → Option SectionBegin
-begin_of pid packet (Table table_id) = Some (record { pid = pid; table_id = table_id; packet = packet })
+begin_of pid packet (Table table_id) = Some (record { pid = pid; table_id = table_id; packet = packet; place = packet })
 begin_of pid packet (Pes stamped) = None
 
 unfoldable pub section_by : Option ℕ → Option (ℕ × Kind) → Option SectionBegin

@@ -13,16 +13,26 @@ use std::marker::Model;
 // How long a packet lasts at 1 bit a second, in ticks of 27 MHz: 188 * 8 * 27,000,000.
 const PACKET_TICKS_AT_1BPS: u128 = 40_608_000_000;
 
-/// A section of a table_id begins in a packet of a PID.
+/// In what the places of sections are counted.
+#[derive(Clone, Copy)]
+pub enum TableTiming {
+    /// In packets of a stream of this rate.
+    ConstantRate(Rate),
+    /// In ticks of 27 MHz.
+    Ticks,
+}
+
+/// A section of a table_id begins in a packet of a PID, at a place in time.
 #[derive(Clone, Copy)]
 pub struct SectionBegin {
     pub pid: u16,
     pub table_id: u8,
     pub packet: u64,
+    pub place: u64,
 }
 
-/// The sections of a table_id on a PID: their number, which stops at 2^64 - 1, the packet in which the last one begins, the
-/// greatest number of packets from one to the next, and the first packet that ends so long a time.
+/// The sections of a table_id on a PID: their number, which stops at 2^64 - 1, the place of the last one, the greatest
+/// time from one to the next, counted as places are, and the first packet that ends so long a time.
 #[derive(Clone, Copy)]
 pub struct SectionPlaces {
     pub sections: u64,
@@ -43,10 +53,10 @@ pub struct TableError {
 /// which these are.
 pub type TableEntries<A> = IndexMap<u32, SectionPlaces, BuildHasherDefault<FoldHasher>, A>;
 
-/// The sections of a stream as far as they have come, at a constant rate.
+/// The sections of a stream as far as they have come.
 #[derive(Drop)]
 pub struct TableIntervals<A: Allocator> {
-    rate: Rate,
+    timing: TableTiming,
     entries: TableEntries<A>,
 }
 
@@ -55,7 +65,7 @@ impl<A: Allocator> Model for TableIntervals<A> {
 
     ghost Value = { IntervalState };
 
-    ghost view = { λ t. record { rate = t.rate; entries = t.entries.entries } };
+    ghost view = { λ t. record { timing = t.timing; entries = t.entries.entries } };
 }
 
 /// The key of a PID and a table_id.
@@ -79,33 +89,44 @@ pub fn table_id_of(key: u32) -> u8
     (key % 256) as u8
 }
 
-/// The time of packets at a rate, in ticks, rounded up.
-pub fn time_of_packets(rate: Rate, packets: u64) -> u128
+// The time of packets at a rate, in ticks, rounded up.
+fn time_of_packets(rate: Rate, packets: u64) -> u128
     ensures { result ≡ spec.time_of_packets rate packets }
 {
     (u128::from(packets) * PACKET_TICKS_AT_1BPS).div_ceil(u128::from(rate.bits_per_second()))
 }
 
-// After a section that begins in a packet.
+/// The time between two places, in ticks, rounded up.
+#[tactic(auto, unfolding(crate::specs::Intervals::time_between))]
+pub fn time_between(timing: TableTiming, places: u64) -> u128
+    ensures { result ≡ spec.time_between timing places }
+{
+    match timing {
+        TableTiming::ConstantRate(rate) => time_of_packets(rate, places),
+        TableTiming::Ticks => u128::from(places),
+    }
+}
+
+// After a section.
 #[tactic(auto, unfolding(crate::specs::Intervals::places_after))]
-fn places_after(before: &Option<SectionPlaces>, packet: u64) -> SectionPlaces
-    ensures { result ≡ spec.places_after before.now packet }
+fn places_after(before: &Option<SectionPlaces>, section: SectionBegin) -> SectionPlaces
+    ensures { result ≡ spec.places_after before.now section }
 {
     match before {
         None => SectionPlaces {
             sections: 1,
-            last: packet,
+            last: section.place,
             greatest: 0,
-            at: packet,
+            at: section.packet,
         },
         Some(before) => {
-            let gap = packet.saturating_sub(before.last);
+            let gap = section.place.saturating_sub(before.last);
             let longer = gap > before.greatest;
             SectionPlaces {
                 sections: before.sections.saturating_add(1),
-                last: packet,
+                last: section.place,
                 greatest: if longer { gap } else { before.greatest },
-                at: if longer { packet } else { before.at },
+                at: if longer { section.packet } else { before.at },
             }
         }
     }
@@ -129,17 +150,17 @@ fn beyond(section: SectionBegin, value: u128, limit: u64) -> Option<TableError>
 // Whether a section begins too long after the one before it.
 #[tactic(auto, unfolding(crate::specs::Intervals::error_if))]
 fn error_if(
-    rate: Rate,
+    timing: TableTiming,
     section: SectionBegin,
     before: &Option<SectionPlaces>,
     limit: Option<u64>,
 ) -> Option<TableError>
-    ensures { result ≡ spec.error_if rate section before.now limit }
+    ensures { result ≡ spec.error_if timing section before.now limit }
 {
     match (before, limit) {
         (Some(before), Some(limit)) => {
-            let packets = section.packet.saturating_sub(before.last);
-            beyond(section, time_of_packets(rate, packets), limit)
+            let places = section.place.saturating_sub(before.last);
+            beyond(section, time_between(timing, places), limit)
         }
         _ => None,
     }
@@ -156,13 +177,20 @@ fn places_at<A: Allocator>(entries: &TableEntries<A>, key: u32) -> Option<Sectio
 
 impl<A: Allocator + Copy> TableIntervals<A> {
     /// Before the first section.
-    pub fn new(alloc: A, rate: Rate) -> TableIntervals<A>
-        ensures { result ≡ spec.no_section rate }
+    pub fn new(alloc: A, timing: TableTiming) -> TableIntervals<A>
+        ensures { result ≡ spec.no_section timing }
     {
         TableIntervals {
-            rate,
+            timing,
             entries: IndexMap::new(alloc),
         }
+    }
+
+    /// In what places are counted.
+    pub fn timing(&self) -> TableTiming
+        ensures { result ≡ self.now.timing }
+    {
+        self.timing
     }
 
     /// The sections of each PID and table_id.
@@ -182,8 +210,8 @@ impl<A: Allocator + Copy> TableIntervals<A> {
         let key = key_of(section.pid, section.table_id);
         let before = places_at(&self.entries, key);
         let limit = limit_of(section.pid, section.table_id);
-        let error = error_if(self.rate, section, &before, limit);
-        let places = places_after(&before, section.packet);
+        let error = error_if(self.timing, section, &before, limit);
+        let places = places_after(&before, section);
         self.entries.insert(key, places)?;
         Ok(error)
     }

@@ -7,7 +7,7 @@
 //! - [`limit_of`]: the time within which a table has to come again.
 //! - [`laws`]: an entry is that of all sections of its PID and table_id.
 //!
-//! A packet lasts 40,608,000,000 / R ticks of 27 MHz at R bits a second. Times are rounded up to whole ticks, so that one is
+//! Times are counted in packets, each of which lasts 40,608,000,000 / R ticks of 27 MHz at R bits a second, or in ticks. They are rounded up to whole ticks, so that one is
 //! beyond its limit exactly where the exact one is.
 #![tactic(auto)]
 
@@ -17,8 +17,8 @@ mod limits;
 mod sections;
 
 pub use intervals::{
-    SectionBegin, SectionPlaces, TableEntries, TableError, TableIntervals, key_of, pid_of,
-    table_id_of, time_of_packets,
+    SectionBegin, SectionPlaces, TableEntries, TableError, TableIntervals, TableTiming, key_of,
+    pid_of, table_id_of, time_between,
 };
 pub use limits::limit_of;
 pub use sections::section_begin;

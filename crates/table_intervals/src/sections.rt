@@ -16,12 +16,13 @@ fn begin_of(pid: u16, packet: u64, kind: Kind) -> Option<SectionBegin>
             pid,
             table_id,
             packet,
+            place: packet,
         }),
         Kind::Pes(_) => None,
     }
 }
 
-/// Where the section of a finding begins, whether or not it became whole; none of a finding that has none.
+/// Where the section of a finding begins, whether or not it became whole; none of a finding that has none. Its place is its packet.
 #[tactic(auto, unfolding(crate::specs::Sections::section_by))]
 pub fn section_begin<A: Allocator>(finding: &Finding<'_, A>) -> Option<SectionBegin>
     ensures { result ≡ spec.section_begin (finding_view finding.now) }

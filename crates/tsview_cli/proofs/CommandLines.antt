@@ -5,7 +5,7 @@ use Rattle.clap.specs.Words.{App, FailsBy, HasMatchesOf, IsAmong, Kinds, Row, Te
 use Rattle.clap.specs.declared.error.Error.{Error}
 use Rattle.clap.specs.declared.error.kind.ErrorKind.{ErrorKind}
 use Rattle.clap.specs.declared.parser.matches.ArgMatches.{ArgMatches}
-use Rattle.stream_report.specs.Choices.{RequestView}
+use Rattle.tsview_cli.specs.declared.request.Request.{Request}
 use Rattle.tsview_cli.specs.Arguments.{request_of, unless_faulty}
 use Rattle.tsview_cli.specs.CommandLine.{tsview_app}
 
@@ -27,16 +27,16 @@ pub faulty : {T : Type 0} (app : App) (words : List Text) (r : Result T Error) �
 faulty app words r e h = subst (λ (a : App). FailsBy (fault_of a words) r) e (h (subst (λ (a : App). is_simple_and_free a ≡ true) (sym e) simple_and_free))
 
 -- words without a fault, and with one
-faultless : (faults : Kinds) (asked : Option RequestView) → faults ≡ [] → unless_faulty faults asked ≡ asked
+faultless : (faults : Kinds) (asked : Option Request) → faults ≡ [] → unless_faulty faults asked ≡ asked
 unfolding unless_faulty
 faultless faults asked e = rw e refl
 
-pub accepted : {E : Type 0} (faults : Kinds) (rows found : List Row) (r : Result (Option RequestView) E) → rows ≡ found → faults ≡ [] → IfOk r (λ a. a ≡ request_of rows) →
+pub accepted : {E : Type 0} (faults : Kinds) (rows found : List Row) (r : Result (Option Request) E) → rows ≡ found → faults ≡ [] → IfOk r (λ a. a ≡ request_of rows) →
     IfOk r (λ a. a ≡ unless_faulty faults (request_of found))
 accepted faults rows found (Ok a) e f h = h ∙ ap request_of e ∙ sym (faultless faults (request_of found) f)
 accepted faults rows found (Err x) e f h = tt
 
-pub refused : (k : ErrorKind) (faults : Kinds) (asked : Option RequestView) → IsAmong k faults → unless_faulty faults asked ≡ None
+pub refused : (k : ErrorKind) (faults : Kinds) (asked : Option Request) → IsAmong k faults → unless_faulty faults asked ≡ None
 unfolding unless_faulty
 refused k [] asked i = absurd i
 refused k (f ∷ faults) asked i = refl

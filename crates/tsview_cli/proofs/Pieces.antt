@@ -5,8 +5,8 @@ use Rattle.std.proofs.lemmas.List.{length-drop, length-take-le, take-append-drop
 use Rattle.std.specs.Io.KnownBytes.{Appends}
 use Rattle.ts_packet.specs.PidList.{cut_packets}
 use Rattle.ts_packet.proofs.Listing.{first_cut}
-use Rattle.stream_report.specs.declared.view.View.{View}
-use Rattle.stream_report.specs.Views.{IsView, ViewState, after_all, after_packet, lines_all, lines_at}
+use Rattle.stream_report.specs.declared.clocked_view.ClockedView.{ClockedView}
+use Rattle.stream_report.specs.ClockedViews.{IsClocked, ClockedState, after_all, after_packet, lines_all, lines_at}
 use Rattle.counted_io.specs.Device.{Failed, IsFront}
 use Rattle.devices.specs.Devices.{Port, Device, between}
 use Rattle.devices.specs.Lines.{Stopped, WritesLine}
@@ -19,7 +19,7 @@ use Rattle.tsview_cli.specs.Viewing.{BeginsWith, Breaks, Seen}
 
 -- 1. Bytes that are whole packets, and bytes after them
 
-cut_both : (count : ℕ) (bytes more : List ℕ) → length bytes ≡ 188 * count → cut_packets (bytes ++ more) ≡ cut_packets bytes ++ cut_packets more
+pub cut_both : (count : ℕ) (bytes more : List ℕ) → length bytes ≡ 188 * count → cut_packets (bytes ++ more) ≡ cut_packets bytes ++ cut_packets more
 cut_both zero [] more e = refl
 cut_both zero (x ∷ bytes) more e = absurd (omega arith)
 cut_both (suc count) bytes more e =
@@ -35,12 +35,12 @@ cut_both (suc count) bytes more e =
     ∙ ap (λ (x : List (List ℕ)). x ++ cut_packets more) (sym (first_cut front back size))
     ∙ ap (λ (x : List ℕ). cut_packets x ++ cut_packets more) joined
 
-after_both : (s : ViewState) (packets more : List (List ℕ)) → after_all s (packets ++ more) ≡ after_all (after_all s packets) more
+pub after_both : (s : ClockedState) (packets more : List (List ℕ)) → after_all s (packets ++ more) ≡ after_all (after_all s packets) more
 unfolding after_all
 after_both s [] more = refl
 after_both s (packet ∷ packets) more = after_both (after_packet s packet) packets more
 
-lines_both : (s : ViewState) (packets more : List (List ℕ)) → lines_all s (packets ++ more) ≡ lines_all s packets ++ lines_all (after_all s packets) more
+lines_both : (s : ClockedState) (packets more : List (List ℕ)) → lines_all s (packets ++ more) ≡ lines_all s packets ++ lines_all (after_all s packets) more
 unfolding after_all lines_all
 lines_both s [] more = refl
 lines_both s (packet ∷ packets) more =
@@ -48,13 +48,13 @@ lines_both s (packet ∷ packets) more =
     ∙ sym (append_assoc (lines_at s packet) (lines_all (after_packet s packet) packets) (lines_all (after_all (after_packet s packet) packets) more))
 
 -- the lines of both
-lines_joined : (first : ViewState) (bytes piece : List ℕ) → length bytes % 188 ≡ 0 →
+lines_joined : (first : ClockedState) (bytes piece : List ℕ) → length bytes % 188 ≡ 0 →
     lines_all first (cut_packets (bytes ++ piece)) ≡ lines_all first (cut_packets bytes) ++ lines_all (after_all first (cut_packets bytes)) (cut_packets piece)
 lines_joined first bytes piece whole =
     let count : length bytes ≡ 188 * (length bytes / 188) = omega (arith, whole) in
     ap (lines_all first) (cut_both (length bytes / 188) bytes piece count) ∙ lines_both first (cut_packets bytes) (cut_packets piece)
 
-kept_joined : (first : ViewState) (bytes piece : List ℕ) → length bytes % 188 ≡ 0 →
+kept_joined : (first : ClockedState) (bytes piece : List ℕ) → length bytes % 188 ≡ 0 →
     after_all first (cut_packets (bytes ++ piece)) ≡ after_all (after_all first (cut_packets bytes)) (cut_packets piece)
 kept_joined first bytes piece whole =
     let count : length bytes ≡ 188 * (length bytes / 188) = omega (arith, whole) in
@@ -62,25 +62,25 @@ kept_joined first bytes piece whole =
 
 -- 2. Pieces that were viewed
 
-pub seen_none : (first : ViewState) (view : View) (port : Port) → IsView view first → Seen first (between port port) view []
+pub seen_none : (first : ClockedState) (view : ClockedView) (port : Port) → IsClocked view first → Seen first (between port port) view []
 unfolding after_all lines_all
 seen_none first view port k = record { kept = k; written = Appends-nil port.bytes; clean = refl }
 
-pub seen_more : (first : ViewState) (before now : View) (old mid new : Port) (bytes piece : List ℕ) → ((s : ViewState) → IsView before s → IsView now (after_all s (cut_packets piece))) →
-    ((s : ViewState) → IsView before s → Appends mid.bytes new.bytes (lines_all s (cut_packets piece))) → new.failed ≡ mid.failed → length bytes % 188 ≡ 0 →
+pub seen_more : (first : ClockedState) (before now : ClockedView) (old mid new : Port) (bytes piece : List ℕ) → ((s : ClockedState) → IsClocked before s → IsClocked now (after_all s (cut_packets piece))) →
+    ((s : ClockedState) → IsClocked before s → Appends mid.bytes new.bytes (lines_all s (cut_packets piece))) → new.failed ≡ mid.failed → length bytes % 188 ≡ 0 →
     Seen first (between old mid) before bytes → Seen first (between old new) now (bytes ++ piece)
 seen_more first before now old mid new bytes piece kept written clean whole s =
-    let t : ViewState = after_all first (cut_packets bytes) in
+    let t : ClockedState = after_all first (cut_packets bytes) in
     record {
-      kept = subst (IsView now) (sym (kept_joined first bytes piece whole)) (kept t s.kept);
+      kept = subst (IsClocked now) (sym (kept_joined first bytes piece whole)) (kept t s.kept);
       written = subst (Appends old.bytes new.bytes) (sym (lines_joined first bytes piece whole))
           (Appends-trans old.bytes mid.bytes new.bytes (lines_all first (cut_packets bytes)) (lines_all t (cut_packets piece)) s.written (written t s.kept));
       clean = clean ∙ s.clean;
     }
 
 -- with the lines of a piece that were written
-pub seen_then : (first : ViewState) (before now : View) (begin middle end : Port) (text piece : List ℕ) → ((s : ViewState) → IsView before s → text ≡ lines_all s (cut_packets piece)) →
-    ((s : ViewState) → IsView before s → IsView now (after_all s (cut_packets piece))) → Appends middle.bytes end.bytes text → end.failed ≡ middle.failed → (bytes : List ℕ) →
+pub seen_then : (first : ClockedState) (before now : ClockedView) (begin middle end : Port) (text piece : List ℕ) → ((s : ClockedState) → IsClocked before s → text ≡ lines_all s (cut_packets piece)) →
+    ((s : ClockedState) → IsClocked before s → IsClocked now (after_all s (cut_packets piece))) → Appends middle.bytes end.bytes text → end.failed ≡ middle.failed → (bytes : List ℕ) →
     length bytes % 188 ≡ 0 → Seen first (between begin middle) before bytes → Seen first (between begin end) now (bytes ++ piece)
 seen_then first before now begin middle end text piece is kept written clean bytes whole s =
     seen_more first before now begin middle end bytes piece kept (λ t k. subst (Appends middle.bytes end.bytes) (is t k) written) clean whole s
@@ -101,7 +101,7 @@ begins : (old mid : Port) (bytes : List ℕ) → IsAfter old mid bytes → Begin
 begins old mid bytes after xs e = let h = after xs e in (h.0, h.1)
 
 -- the reader failed
-pub read_failed : (first : ViewState) (before : View) (old mid new : Port) (output : Device) (size : ℕ) → TakesFront (Seen first output before) 188 old mid size →
+pub read_failed : (first : ClockedState) (before : ClockedView) (old mid new : Port) (output : Device) (size : ℕ) → TakesFront (Seen first output before) 188 old mid size →
     Failed mid.failed new.failed → Breaks first (between old new) output Read
 read_failed first before old mid new output size f failed = record {
   bytes = f.bytes;
@@ -110,7 +110,7 @@ read_failed first before old mid new output size f failed = record {
 }
 
 -- there was no memory for the lines of a piece
-pub no_memory : (first : ViewState) (before : View) (old mid new : Port) (output : Device) (size : ℕ) → TakesFront (Seen first output before) 188 old mid size →
+pub no_memory : (first : ClockedState) (before : ClockedView) (old mid new : Port) (output : Device) (size : ℕ) → TakesFront (Seen first output before) 188 old mid size →
     new.failed ≡ mid.failed → Breaks first (between old new) output Memory
 no_memory first before old mid new output size f clean = record {
   bytes = f.bytes;
@@ -126,7 +126,7 @@ long_if (Some xs) bytes s h =
     let all : length xs ≡ length bytes + length k.0 = ap length k.1 ∙ length-append bytes k.0 in
     omega (arith, all, s)
 
-pub too_long : (first : ViewState) (before : View) (old mid : Port) (output : Device) (size : ℕ) → TakesFront (Seen first output before) 188 old mid size → longest_input < size →
+pub too_long : (first : ClockedState) (before : ClockedView) (old mid : Port) (output : Device) (size : ℕ) → TakesFront (Seen first output before) 188 old mid size → longest_input < size →
     Breaks first (between old mid) output Read
 too_long first before old mid output size f long = record {
   bytes = f.bytes;
@@ -135,7 +135,7 @@ too_long first before old mid output size f long = record {
 }
 
 -- and within its last piece
-pub too_long_then : (first : ViewState) (now : View) (old mid new : Port) (output : Device) (bytes piece : List ℕ) (n : ℕ) → IsAfter old mid bytes → ReadsFront (between mid new) piece n →
+pub too_long_then : (first : ClockedState) (now : ClockedView) (old mid new : Port) (output : Device) (bytes piece : List ℕ) (n : ℕ) → IsAfter old mid bytes → ReadsFront (between mid new) piece n →
     Seen first output now (bytes ++ take n piece) → ReadsInput (between old new) (Err Read) → Breaks first (between old new) output Read
 too_long_then first now old mid new output bytes piece n known r s why = record {
   bytes = bytes ++ take n piece;
@@ -150,9 +150,9 @@ take_past (x ∷ xs) ys n =
     let e : length (x ∷ xs) + n ≡ suc (length xs + n) = omega arith in
     rw e (ap (λ (l : List ℕ). x ∷ l) (take_past xs ys n))
 
-pub write_failed : (first : ViewState) (before : View) (old mid new : Port) (begin middle end : Port) (size n : ℕ) (text piece : List ℕ) →
+pub write_failed : (first : ClockedState) (before : ClockedView) (old mid new : Port) (begin middle end : Port) (size n : ℕ) (text piece : List ℕ) →
     TakesFront (Seen first (between begin middle) before) 188 old mid size → ReadsFront (between mid new) piece n →
-    ((s : ViewState) → IsView before s → text ≡ lines_all s (cut_packets (take n piece))) → Stopped text (between middle end) → Failed middle.failed end.failed →
+    ((s : ClockedState) → IsClocked before s → text ≡ lines_all s (cut_packets (take n piece))) → Stopped text (between middle end) → Failed middle.failed end.failed →
     Breaks first (between old new) (between begin end) Write
 write_failed first before old mid new begin middle end size n text piece f r is stopped failed =
     let bytes = f.bytes ++ take n piece in
@@ -173,9 +173,9 @@ write_failed first before old mid new begin middle end size n text piece f r is 
       );
     }
 
-pub write_stopped : (V : Type 0) (first : ViewState) (before : View) (old mid new begin middle end : Port) (size n : ℕ) (text piece : List ℕ) (halt : Halt) →
+pub write_stopped : (V : Type 0) (first : ClockedState) (before : ClockedView) (old mid new begin middle end : Port) (size n : ℕ) (text piece : List ℕ) (halt : Halt) →
     TakesFront (Seen first (between begin middle) before) 188 old mid size → ReadsFront (between mid new) piece n →
-    ((s : ViewState) → IsView before s → text ≡ lines_all s (cut_packets (take n piece))) →
+    ((s : ClockedState) → IsClocked before s → text ≡ lines_all s (cut_packets (take n piece))) →
     WritesLine {V = V} text (between middle end) (Err halt) → Breaks first (between old new) (between begin end) halt
 write_stopped V first before old mid new begin middle end size n text piece Read f r is w = absurd w
 write_stopped V first before old mid new begin middle end size n text piece Write f r is w =
@@ -188,7 +188,7 @@ pub if_ok : (HasTaken : List ℕ → Type 0) (input : Device) (r : Result ℕ Ha
 if_ok HasTaken input (Ok size) t = t
 if_ok HasTaken input (Err halt) t = tt
 
-pub if_err : (HasTaken : List ℕ → Type 0) (first : ViewState) (now : View) (old mid new : Port) (output : Device) (size n : ℕ) (piece : List ℕ) (before : View) (middle : Device) (r : Result ℕ Halt) →
+pub if_err : (HasTaken : List ℕ → Type 0) (first : ClockedState) (now : ClockedView) (old mid new : Port) (output : Device) (size n : ℕ) (piece : List ℕ) (before : ClockedView) (middle : Device) (r : Result ℕ Halt) →
     TakesFront (Seen first middle before) 188 old mid size → ReadsFront (between mid new) piece n →
     ((bytes : List ℕ) → length bytes % 188 ≡ 0 → Seen first middle before bytes → Seen first output now (bytes ++ take n piece)) →
     IfErr r (λ halt. (halt ≡ Read) × (longest_input < size + n)) → TakesInput HasTaken (between old new) r → IfErr r (Breaks first (between old new) output)

@@ -3,8 +3,8 @@ use Rattle.std.proofs.Common.{◌≡◌, ℕ, ◌+◌, ◌%◌, Bool, cond, List
 use Rattle.std.proofs.KnownBytes.{Appends-nil, Appends-trans}
 use Rattle.std.specs.Io.KnownBytes.{Appends}
 use Rattle.stream_report.specs.Choices.{RequestView}
-use Rattle.stream_report.specs.declared.view.View.{View}
-use Rattle.stream_report.specs.Views.{IsView, ViewState, start, lines_all, end_lines, is_good}
+use Rattle.stream_report.specs.declared.clocked_view.ClockedView.{ClockedView}
+use Rattle.stream_report.specs.ClockedViews.{IsClocked, ClockedState, start, lines_all, end_lines, is_good}
 use Rattle.counted_io.specs.Device.{Failed}
 use Rattle.devices.specs.Devices.{Port, Device, between}
 use Rattle.devices.specs.Lines.{Stopped, WritesLine}
@@ -35,7 +35,7 @@ whole_front None bytes w xs e = absurd cc
 whole_front (Some ys) bytes w xs e = let same : ys ≡ xs = cc in ([], sym same ∙ sym w ∙ sym (append-nil bytes))
 
 -- before its last lines
-pub no_end : (request : RequestView) (input output : Device) (now : View) (size : ℕ) (halt : Halt) → halt ≡ Memory → TakesAll (Seen (start request) output now) input size →
+pub no_end : (request : RequestView) (input output : Device) (now : ClockedView) (size : ℕ) (halt : Halt) → halt ≡ Memory → TakesAll (Seen (start request) output now) input size →
     BreaksOff request input output halt
 no_end request input output now size halt is t = subst (BreaksOff request input output) (sym is) (record {
   bytes = t.bytes;
@@ -46,14 +46,14 @@ no_end request input output now size halt is t = subst (BreaksOff request input 
 })
 
 -- the last lines
-last_lines : (request : RequestView) (now : View) (size : ℕ) (bytes text : List ℕ) → IsView now (kept_of request bytes) → size ≡ length bytes →
-    ((s : ViewState) → IsView now s → text ≡ end_lines s (size % 188)) → settled request bytes ++ text ≡ all_lines request bytes
+last_lines : (request : RequestView) (now : ClockedView) (size : ℕ) (bytes text : List ℕ) → IsClocked now (kept_of request bytes) → size ≡ length bytes →
+    ((s : ClockedState) → IsClocked now s → text ≡ end_lines s (size % 188)) → settled request bytes ++ text ≡ all_lines request bytes
 last_lines request now size bytes text kept count is =
     ap (λ (t : List ℕ). settled request bytes ++ t) (is (kept_of request bytes) kept ∙ ap (λ (n : ℕ). end_lines (kept_of request bytes) (n % 188)) count)
 
 -- within them
-pub not_ended : (V : Type 0) (request : RequestView) (input : Device) (begin mid end : Port) (now : View) (size : ℕ) (text : List ℕ) (halt : Halt) →
-    TakesAll (Seen (start request) (between begin mid) now) input size → ((s : ViewState) → IsView now s → text ≡ end_lines s (size % 188)) → WritesLine {V = V} text (between mid end) (Err halt) →
+pub not_ended : (V : Type 0) (request : RequestView) (input : Device) (begin mid end : Port) (now : ClockedView) (size : ℕ) (text : List ℕ) (halt : Halt) →
+    TakesAll (Seen (start request) (between begin mid) now) input size → ((s : ClockedState) → IsClocked now s → text ≡ end_lines s (size % 188)) → WritesLine {V = V} text (between mid end) (Err halt) →
     BreaksOff request input (between begin end) halt
 not_ended V request input begin mid end now size text Read t is w = absurd w
 not_ended V request input begin mid end now size text Write t is w =
@@ -77,9 +77,9 @@ not_ended V request input begin mid end now size text Write t is w =
 not_ended V request input begin mid end now size text Memory t is w = absurd w
 
 -- to its end
-pub all_seen : (request : RequestView) (input : Device) (begin mid end : Port) (now : View) (size : ℕ) (text : List ℕ) (good : Bool) →
-    TakesAll (Seen (start request) (between begin mid) now) input size → ((s : ViewState) → IsView now s → text ≡ end_lines s (size % 188)) → Appends mid.bytes end.bytes text →
-    end.failed ≡ mid.failed → ((s : ViewState) → IsView now s → good ≡ is_good s (size % 188)) → SeesAll request input (between begin end) good
+pub all_seen : (request : RequestView) (input : Device) (begin mid end : Port) (now : ClockedView) (size : ℕ) (text : List ℕ) (good : Bool) →
+    TakesAll (Seen (start request) (between begin mid) now) input size → ((s : ClockedState) → IsClocked now s → text ≡ end_lines s (size % 188)) → Appends mid.bytes end.bytes text →
+    end.failed ≡ mid.failed → ((s : ClockedState) → IsClocked now s → good ≡ is_good s (size % 188)) → SeesAll request input (between begin end) good
 all_seen request input begin mid end now size text good t is written clean g = record {
   bytes = t.bytes;
   read = t.read;

@@ -10,6 +10,7 @@ top_app = record (new_app (codes "tsview")) { top = record (new_app (codes "tsvi
 abbrev pub lines_app : App
 lines_app = with_rule (with_rule (with_rule top_app (option_rule (codes "rate"))) (option_rule (codes "window"))) (flag_rule (codes "json"))
 
--- and [--program N,..] [--buffers PID:RX:MAIN,..] [--progress]
+-- and [--program N,..] [--buffers PID:RX:MAIN,..] [--progress] [--page]
 unfoldable pub tsview_app : App
-tsview_app = with_rule (with_rule (with_rule lines_app (option_rule (codes "program"))) (option_rule (codes "buffers"))) (flag_rule (codes "progress"))
+tsview_app =
+    with_rule (with_rule (with_rule (with_rule lines_app (option_rule (codes "program"))) (option_rule (codes "buffers"))) (flag_rule (codes "progress"))) (flag_rule (codes "page"))

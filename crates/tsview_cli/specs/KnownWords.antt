@@ -17,7 +17,7 @@ kind_of option =
     else (if bytes_eq option (codes "--buffers") then Some Buffers else None)))
 
 abbrev pub is_flag : Text → Bool
-is_flag option = bytes_eq option (codes "--json") || bytes_eq option (codes "--progress")
+is_flag option = bytes_eq option (codes "--json") || (bytes_eq option (codes "--page") || bytes_eq option (codes "--progress"))
 
 abbrev pub takes_by : Option ValueKind → Bool → Option Bool
 takes_by (Some kind) flag = Some true
@@ -33,12 +33,11 @@ abbrev pub reads_by : Option ValueKind → Text → Bool
 reads_by None value = false
 reads_by (Some kind) value = is_value kind value
 
--- the rate has to be given
 abbrev pub known_words : CommandLine
 known_words = record {
   takes_value = λ option. takes_by (kind_of option) (is_flag option);
   reads = λ option value. reads_by (kind_of option) value;
   is_word = λ word. false;
   stands_alone = λ word. false;
-  required = Some (codes "--rate");
+  required = None;
 }

@@ -3,3 +3,4 @@ pub mod Arguments
 pub mod KnownWords
 pub mod UsageText
 pub mod Viewing
+pub mod Drawing

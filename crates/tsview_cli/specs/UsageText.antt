@@ -6,10 +6,11 @@ use Rattle.tsview_cli.specs.Arguments.{least_rate, greatest_rate, least_window, 
 
 abbrev pub usage_text : List ℕ
 usage_text = concat
-    (codes "usage: tsview --rate R [OPTIONS] < PACKETS\n"
-    ∷ codes "  --rate " ∷ range_text least_rate greatest_rate ∷ codes "       the rate of the stream in bits a second\n"
+    (codes "usage: tsview [OPTIONS] < PACKETS\n"
+    ∷ codes "  --rate " ∷ range_text least_rate greatest_rate ∷ codes "       the rate of the stream in bits a second; else by its clock references\n"
     ∷ codes "  --window " ∷ range_text least_window greatest_window ∷ codes "           the length of a window in ms; else 1000\n"
     ∷ codes "  --json                         a JSON object a line\n"
+    ∷ codes "  --page                         a page of HTML with pictures instead\n"
     ∷ codes "  --program N,..                 view the streams of these programs alone\n"
     ∷ codes "  --buffers PID:RX:MAIN,..       buffers of a PID, in bits a second and bytes\n"
     ∷ codes "  --progress                     how many bytes are read is told each second, on a terminal\n"

@@ -2,8 +2,8 @@
 use Rattle.std.specs.Prelude.{◌≡◌, ◌⊎◌, ℕ, ◌%◌, Bool, if◌then◌else◌, List, ◌++◌, length, Option, Some, Result, Ok, Err}
 use Rattle.ts_packet.specs.PidList.{cut_packets}
 use Rattle.stream_report.specs.Choices.{RequestView}
-use Rattle.stream_report.specs.declared.view.View.{View}
-use Rattle.stream_report.specs.Views.{IsView, ViewState, start, after_all, lines_all, end_lines, is_good}
+use Rattle.stream_report.specs.declared.clocked_view.ClockedView.{ClockedView}
+use Rattle.stream_report.specs.ClockedViews.{IsClocked, ClockedState, start, after_all, lines_all, end_lines, is_good}
 use Rattle.devices.specs.Devices.{Device, HasFailed, IsClean, Takes}
 use Rattle.devices.specs.Lines.{Reports, Stopped}
 use Rattle.devices.specs.Outcomes.{Outcome, halt_line, printed}
@@ -15,7 +15,7 @@ use Rattle.devices.specs.declared.halt.Halt.TheVariants.{Read, Write, Memory}
 -- 1. The lines of a stream
 
 -- what is kept of a stream, and the lines that its packets settle
-abbrev pub kept_of : RequestView → List ℕ → ViewState
+abbrev pub kept_of : RequestView → List ℕ → ClockedState
 kept_of request bytes = after_all (start request) (cut_packets bytes)
 
 abbrev pub settled : RequestView → List ℕ → List ℕ
@@ -42,8 +42,8 @@ abbrev pub BeginsWith : Option (List ℕ) → List ℕ → Type 0
 BeginsWith known bytes = (xs : List ℕ) → known ≡ Some xs → (rest : List ℕ) × (xs ≡ bytes ++ rest)
 
 -- these bytes were viewed, and the lines that they settle were written
-pub record Seen (first : ViewState) (output : Device) (now : View) (bytes : List ℕ) : Type 0 where
-  pub kept : IsView now (after_all first (cut_packets bytes))
+pub record Seen (first : ClockedState) (output : Device) (now : ClockedView) (bytes : List ℕ) : Type 0 where
+  pub kept : IsClocked now (after_all first (cut_packets bytes))
   pub written : Takes output (lines_all first (cut_packets bytes))
   pub clean : IsClean output
 
@@ -55,7 +55,7 @@ BreaksAt text input output Write = Stopped text output × HasFailed output
 BreaksAt text input output Memory = Takes output text × IsClean input
 
 -- the lines that the first bytes of the input settle
-pub record Breaks (first : ViewState) (input output : Device) (halt : Halt) : Type 0 where
+pub record Breaks (first : ClockedState) (input output : Device) (halt : Halt) : Type 0 where
   pub bytes : List ℕ
   pub front : BeginsWith input.before.bytes bytes
   pub at : BreaksAt (lines_all first (cut_packets bytes)) input output halt

@@ -1,38 +1,65 @@
 //! What the command line asks for.
 
-ghost use Rattle.std.specs.Prelude.{◌≡◌, IfOk};
+ghost use Rattle.std.specs.Prelude.{◌≡◌, ◌≤◌, IfOk, IfSome};
 ghost use Rattle.clap.specs.Words.{found_of, rows_of};
 ghost use Rattle.tsview_cli.specs.Arguments as spec;
 
 use crate::command_line::matches_for;
+use crate::request::Request;
 use clap::ArgMatches;
 use clap::error::ErrorKind;
 use clock27::Rate;
-use devices::{is_given, number_given, number_option, text_of};
+use devices::{is_given, number_if_given, number_option, text_of};
 use option_lists::{buffer_list, number_list};
 use std::alloc::{AllocError, Global};
+use stream_arrival::Arrival;
 use stream_report::{ViewChoice, ViewOptions, ViewRequest};
+
+// How packets arrive: at a rate that is given, or else by clock references.
+#[tactic(auto, unfolding(crate::specs::Arguments::arrival_of))]
+fn arrival_of(rate: Option<u64>) -> Arrival
+    requires { IfSome rate (λ bits. (100000 ≤ bits) × (bits ≤ 100000000)) }
+    ensures { result ≡ spec.arrival_of rate }
+{
+    match rate {
+        None => Arrival::Unknown,
+        Some(bits) => match Rate::new(bits) {
+            Ok(rate) => Arrival::AtRate(rate),
+            Err(_) => unreachable!(),
+        },
+    }
+}
 
 // The values of the options; none where one is out of its range.
 #[tactic(auto, unfolding(crate::specs::Arguments::options_of))]
 fn options_of(matches: &ArgMatches<'_>) -> Option<ViewOptions>
     ensures { result ≡ spec.options_of (rows_of (found_of matches.now)) }
 {
-    let bits = number_given(text_of(matches, "rate"), 100_000, 100_000_000)?;
+    let rate = number_if_given(text_of(matches, "rate"), 100_000, 100_000_000)?;
     let window = number_option(text_of(matches, "window"), 10, 3_600_000, 1_000)?;
-    let Ok(rate) = Rate::new(bits) else {
-        unreachable!()
-    };
+    let page = is_given(text_of(matches, "page"));
     Some(ViewOptions {
-        rate,
+        arrival: arrival_of(rate),
+        origin: 0,
         window: window as u32,
-        json: is_given(text_of(matches, "json")),
+        json: is_given(text_of(matches, "json")) && !page,
     })
+}
+
+// Its lines, or a page of them.
+fn requested(page: bool, request: ViewRequest) -> Request
+    ensures { result ≡ spec.requested page request }
+{
+    if page {
+        Request::Page(request)
+    } else {
+        Request::Lines(request)
+    }
 }
 
 // With the options that are lists.
 #[tactic(auto, unfolding(crate::specs::Arguments::request_of))]
-fn request_of(alloc: Global, matches: &ArgMatches<'_>) -> Result<Option<ViewRequest>, AllocError>
+fn request_of(alloc: Global, matches: &ArgMatches<'_>) -> Result<Option<Request>, AllocError>
     ensures { IfOk result (λ r. r ≡ spec.request_of (rows_of (found_of matches.now))) }
 {
     let Some(options) = options_of(matches) else {
@@ -45,14 +72,15 @@ fn request_of(alloc: Global, matches: &ArgMatches<'_>) -> Result<Option<ViewRequ
         return Ok(None);
     };
     let choice = ViewChoice { programs, buffers };
-    Ok(Some(ViewRequest { options, choice }))
+    let page = is_given(text_of(matches, "page"));
+    Ok(Some(requested(page, ViewRequest { options, choice })))
 }
 
 /// What the words ask for; none where they are a usage error.
 pub(crate) fn read_arguments(
     alloc: Global,
     words: &[&str],
-) -> Result<Option<ViewRequest>, AllocError>
+) -> Result<Option<Request>, AllocError>
     ensures { IfOk result (λ r. r ≡ spec.asked words.now) }
 {
     match matches_for(alloc, words) {

@@ -27,7 +27,8 @@ fn tsview<'a>(alloc: Global) -> Result<Command<'a>, AllocError>
     with_lines(alloc)?
         .arg(option(alloc, "program"))?
         .arg(option(alloc, "buffers"))?
-        .arg(flag(alloc, "progress"))
+        .arg(flag(alloc, "progress"))?
+        .arg(flag(alloc, "page"))
 }
 
 /// The values of the options in the words.

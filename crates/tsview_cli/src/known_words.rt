@@ -52,7 +52,7 @@ fn is_value(alloc: Global, kind: ValueKind, value: &str) -> Result<bool, AllocEr
 fn is_flag(option: &str) -> bool
     ensures { result ≡ spec.is_flag option.now }
 {
-    option == "--json" || option == "--progress"
+    option == "--json" || option == "--page" || option == "--progress"
 }
 
 impl CommandLine for KnownWords {
@@ -82,6 +82,6 @@ impl CommandLine for KnownWords {
     }
 
     fn required(self) -> Option<&'static str> {
-        Some("--rate")
+        None
     }
 }

@@ -2,13 +2,16 @@
 //!
 //! `command_line` and `arguments` read the command line, and `known_words` says what it may have, for the line of a usage
 //! error; `viewing` reads the input piece by piece, and writes the lines that each piece settles before it reads the next;
+//! `drawing` draws a page of the lines, and writes it at the end;
 //! `program` is `run`.
 #![tactic(auto)]
 
 mod arguments;
 mod command_line;
+mod drawing;
 mod known_words;
 mod program;
+mod request;
 mod viewing;
 
 pub use program::{report_usage, run};

@@ -3,17 +3,20 @@
 ghost use Rattle.std.specs.Prelude.{◌≡◌, ◌⊎◌, None, Some, if◌then◌else◌, true, false, codes, map};
 ghost use Rattle.devices.specs.Devices.{reads, writes};
 ghost use Rattle.devices.specs.Lines.{Reports};
-ghost use Rattle.devices.specs.Runs.{LacksMemory};
+ghost use Rattle.devices.specs.Runs.{LacksMemory, Performs};
 ghost use Rattle.devices.specs.Usage.{TellsUsage};
 ghost use Rattle.stream_report.specs.Choices.{RequestView};
 ghost use Rattle.tsview_cli.specs.Arguments.{asked};
+ghost use Rattle.tsview_cli.specs.Drawing.{DrawsPage};
 ghost use Rattle.tsview_cli.specs.KnownWords.{known_words};
 ghost use Rattle.tsview_cli.specs.UsageText.{usage_text};
 ghost use Rattle.tsview_cli.specs.Viewing.{Views};
 ghost use Rattle.word_faults.specs.UsageReport.{Prints, is_version, usage_report, version_text};
 
 use crate::arguments::read_arguments;
+use crate::drawing::draw_stream;
 use crate::known_words::KnownWords;
+use crate::request::Request;
 use crate::viewing::view_input;
 use counted_io::{Sink, Source};
 use devices::{Halt, report_halt, report_text};
@@ -22,10 +25,11 @@ use stream_report::ViewRequest;
 use word_faults::answer_other_words;
 
 /// The usage, written to the second writer on a usage error.
-const USAGE: &str = "usage: tsview --rate R [OPTIONS] < PACKETS
-  --rate 100000..100000000       the rate of the stream in bits a second
+const USAGE: &str = "usage: tsview [OPTIONS] < PACKETS
+  --rate 100000..100000000       the rate of the stream in bits a second; else by its clock references
   --window 10..3600000           the length of a window in ms; else 1000
   --json                         a JSON object a line
+  --page                         a page of HTML with pictures instead
   --program N,..                 view the streams of these programs alone
   --buffers PID:RX:MAIN,..       buffers of a PID, in bits a second and bytes
   --progress                     how many bytes are read is told each second, on a terminal
@@ -72,9 +76,9 @@ fn view_stream<R: Source, W: Sink, E: Sink>(
     }
 }
 
-/// The whole program: it reads the input piece by piece, writes the lines that a piece settles before it reads the next,
-/// and returns the exit status: 0 good, 1 something is wrong in the stream, 2 a usage error, 3 a device failed or out of
-/// memory.
+/// The whole program: it reads the input piece by piece, writes the lines that a piece settles before it reads the next, or
+/// draws a page of them and writes that at the end, and returns the exit status: 0 good, 1 something is wrong in the stream, 2 a
+/// usage error, 3 a device failed or out of memory.
 pub fn run<R: Source, W: Sink, E: Sink>(
     alloc: Global,
     words: &[&str],
@@ -83,8 +87,12 @@ pub fn run<R: Source, W: Sink, E: Sink>(
     faults: &mut E,
 ) -> u8
     // A transport stream, as it comes, to the lines of its report.
-    ensures view { (r : RequestView) → asked words.now ≡ Some r →
+    ensures view { (r : RequestView) → asked words.now ≡ Some (Request.Lines r) →
         Views r (reads R.Source input.old input.new) (writes W.Sink output.old output.new)
+        (writes E.Sink faults.old faults.new) result }
+    // A transport stream to the page of its lines.
+    ensures page { (r : RequestView) → asked words.now ≡ Some (Request.Page r) →
+        Performs (DrawsPage r) (reads R.Source input.old input.new) (writes W.Sink output.old output.new)
         (writes E.Sink faults.old faults.new) result }
     // `--version` alone.
     ensures version { asked words.now ≡ None → is_version (map (λ s. s.now) words.now) ≡ true →
@@ -99,7 +107,8 @@ pub fn run<R: Source, W: Sink, E: Sink>(
         (writes E.Sink faults.old faults.new) result }
 {
     match read_arguments(alloc, words) {
-        Ok(Some(request)) => view_stream(alloc, request, input, output, faults),
+        Ok(Some(Request::Lines(request))) => view_stream(alloc, request, input, output, faults),
+        Ok(Some(Request::Page(request))) => draw_stream(alloc, request, input, output, faults),
         Ok(None) => {
             answer_other_words(alloc, "tsview", KnownWords, words, usage(), output, faults)
         }

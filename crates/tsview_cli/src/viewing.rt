@@ -1,7 +1,7 @@
 //! The input, read piece by piece, and the lines that each piece settles.
 ghost use Rattle.std.specs.Prelude.{◌≡◌, ◌%◌, ◌<◌, ◌≤◌, ◌^◌, ◌++◌, [], IfOk, IfErr, OnOk, Ok, length, string_bytes};
 ghost use Rattle.ts_packet.specs.PidList.{cut_packets};
-ghost use Rattle.stream_report.specs.Views.{IsView, ViewState, after_all, end_lines, lines_all, start};
+ghost use Rattle.stream_report.specs.ClockedViews.{ClockedState, IsClocked, after_all, end_lines, is_good, lines_all, start};
 ghost use Rattle.devices.specs.Devices.{reads, writes};
 ghost use Rattle.devices.specs.Lines.{WritesLine};
 ghost use Rattle.devices.specs.WholeInput.{TakesInput};
@@ -11,16 +11,16 @@ ghost use Rattle.tsview_cli.specs.Viewing.{Breaks, Seen, Sees};
 use counted_io::{Sink, Source};
 use devices::{Halt, LONGEST_INPUT, new_piece, read_piece, size_within, write_text};
 use std::alloc::Global;
-use stream_report::{View, ViewRequest};
+use stream_report::{ClockedView, ViewRequest};
 
 /// The size of a piece in bytes: 348 packets, somewhat less than 64 KiB.
 const PIECE: usize = 348 * 188;
 
 // Views the next piece: the lines that it settles are appended to the text.
-fn view_piece(view: &mut View, piece: &[u8], text: &mut String) -> Result<(), Halt>
-    ensures view { (s : ViewState) → IsView view.old s →
-        OnOk result (IsView view.new (after_all s (cut_packets piece.now))) }
-    ensures lines { (s : ViewState) → IsView view.old s → OnOk result (string_bytes text.new
+fn view_piece(view: &mut ClockedView, piece: &[u8], text: &mut String) -> Result<(), Halt>
+    ensures view { (s : ClockedState) → IsClocked view.old s →
+        OnOk result (IsClocked view.new (after_all s (cut_packets piece.now))) }
+    ensures lines { (s : ClockedState) → IsClocked view.old s → OnOk result (string_bytes text.new
         ≡ string_bytes text.old ++ lines_all s (cut_packets piece.now)) }
     ensures memory { IfErr result (λ halt. halt ≡ Halt.Memory) }
 {
@@ -46,17 +46,17 @@ fn view_pieces<R: Source, W: Sink>(
     input: &mut R,
     output: &mut W,
     piece: &mut [u8],
-    view: &mut View,
+    view: &mut ClockedView,
     text: &mut String,
 ) -> Result<usize, Halt>
     requires some { 0 < length piece.old }
     requires bound { length piece.old ≤ 2 ^ 32 }
     requires whole { length piece.old % 188 ≡ 0 }
     requires text { string_bytes text.old ≡ [] }
-    ensures ok { (s : ViewState) → IsView view.old s →
+    ensures ok { (s : ClockedState) → IsClocked view.old s →
         IfOk result (λ size. TakesInput (Seen s (writes W.Sink output.old output.new) view.new)
         (reads R.Source input.old input.new) (Ok size)) }
-    ensures err { (s : ViewState) → IsView view.old s → IfErr result (Breaks s (reads R.Source input.old input.new)
+    ensures err { (s : ClockedState) → IsClocked view.old s → IfErr result (Breaks s (reads R.Source input.old input.new)
         (writes W.Sink output.old output.new)) }
     ensures text { OnOk result (string_bytes text.new ≡ []) }
 {
@@ -76,14 +76,15 @@ fn view_pieces<R: Source, W: Sink>(
     Err(Halt::Read)
 }
 
-// Appends the lines at the end of a stream.
-fn end_view(view: &View, left: usize, text: &mut String) -> Result<(), Halt>
-    ensures lines { (s : ViewState) → IsView view.now s →
+// Appends the lines at the end of a stream. Whether nothing is wrong in it.
+fn end_view(view: &mut ClockedView, left: usize, text: &mut String) -> Result<bool, Halt>
+    ensures lines { (s : ClockedState) → IsClocked view.old s →
         OnOk result (string_bytes text.new ≡ string_bytes text.old ++ end_lines s left) }
+    ensures good { (s : ClockedState) → IsClocked view.old s → IfOk result (λ good. good ≡ is_good s left) }
     ensures memory { IfErr result (λ halt. halt ≡ Halt.Memory) }
 {
     match view.end(left, text) {
-        Ok(()) => Ok(()),
+        Ok(good) => Ok(good),
         Err(_) => Err(Halt::Memory),
     }
 }
@@ -93,26 +94,26 @@ fn view_whole<R: Source, W: Sink>(
     input: &mut R,
     output: &mut W,
     piece: &mut [u8],
-    view: &mut View,
+    view: &mut ClockedView,
     text: &mut String,
 ) -> Result<bool, Halt>
     requires some { 0 < length piece.old }
     requires bound { length piece.old ≤ 2 ^ 32 }
     requires whole { length piece.old % 188 ≡ 0 }
     requires text { string_bytes text.old ≡ [] }
-    ensures { (r : RequestView) → IsView view.old (start r) →
+    ensures { (r : RequestView) → IsClocked view.old (start r) →
         Sees r (reads R.Source input.old input.new) (writes W.Sink output.old output.new) result }
 {
     let size = match view_pieces(input, output, piece, view, text) {
         Ok(size) => size,
         Err(halt) => return Err(halt),
     };
-    match end_view(view, size % 188, text) {
-        Ok(()) => {}
+    let good = match end_view(view, size % 188, text) {
+        Ok(good) => good,
         Err(halt) => return Err(halt),
-    }
+    };
     match write_text(text.as_str(), output) {
-        Ok(()) => Ok(view.is_good(size % 188)),
+        Ok(()) => Ok(good),
         Err(halt) => Err(halt),
     }
 }
@@ -130,7 +131,7 @@ pub(crate) fn view_input<R: Source, W: Sink>(
         Ok(piece) => piece,
         Err(halt) => return Err(halt),
     };
-    let mut view = View::new(alloc, request);
+    let mut view = ClockedView::new(alloc, request);
     let mut text = String::new(alloc);
     let result = view_whole(input, output, &mut piece, &mut view, &mut text);
     // By a call: at the end of a function the drop of each part would be a step of its proof.

@@ -1,7 +1,7 @@
 use Rattle.std.proofs.Common.{rules, ◌≡◌, ◌++◌, List, subst, string_bytes}
 use Rattle.std.specs.Prelude.{OnOk, codes}
 use Rattle.stream_report.specs.ReportLines.{FieldView, field_view, line_of, number_field}
-use Rattle.stream_report.specs.EntryLines.{ticks_of}
+use Rattle.stream_report.specs.EntryLines.{moment_of}
 use Rattle.stream_report.proofs.Fields.{six}
 use Rattle.stream_report.proofs.entry_lines.write_excess.Goals as goal
 
@@ -9,8 +9,8 @@ pub returns : goal.returns
 returns c =
     let f_pid : field_view c.number.result ≡ number_field (codes "pid") (c.args.place.now.pid) = search rules in
     let f_packet : field_view c.number-2.result ≡ number_field (codes "packet") (c.args.place.now.packet) = search rules in
-    let f_begin : field_view c.number-3.result ≡ number_field (codes "begin") (ticks_of c.args.options.now.rate c.args.place.now.rx c.args.excess.now.begin) = search rules in
-    let f_end : field_view c.number-4.result ≡ number_field (codes "end") (ticks_of c.args.options.now.rate c.args.place.now.rx c.args.excess.now.end) = search rules in
+    let f_begin : field_view c.number-3.result ≡ number_field (codes "begin") (moment_of c.args.options.now c.args.place.now.rx c.args.excess.now.begin) = search rules in
+    let f_end : field_view c.number-4.result ≡ number_field (codes "end") (moment_of c.args.options.now c.args.place.now.rx c.args.excess.now.end) = search rules in
     let f_peak : field_view c.number-5.result ≡ number_field (codes "peak") (c.args.excess.now.peak) = search rules in
     let f_size : field_view c.number-6.result ≡ number_field (codes "size") (c.args.place.now.size) = search rules in
     subst (λ (fields : List FieldView). OnOk c.write_line.result (string_bytes c.write_line.new.text

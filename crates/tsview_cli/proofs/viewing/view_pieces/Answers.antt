@@ -1,6 +1,6 @@
 use Rattle.std.proofs.Common.{rules, ◌≡◌, ◌%◌, ◌++◌, ℕ, List, length, take, refl, sym, ap, subst, ◌∙◌, arith, string_bytes}
 use Rattle.ts_packet.specs.PidList.{cut_packets}
-use Rattle.stream_report.specs.Views.{IsView, ViewState, lines_all}
+use Rattle.stream_report.specs.ClockedViews.{IsClocked, ClockedState, lines_all}
 use Rattle.devices.specs.Devices.{Port, between}
 use Rattle.devices.proofs.TakenInput.{TakesFront, front_end, front_more, front_none}
 use Rattle.tsview_cli.specs.Viewing.{Seen}
@@ -27,7 +27,7 @@ loop-size-preserved g c =
     let end : Port = record { bytes = g.W.Write.contents c.write_settled.new.output; failed = g.W.Sink.fault_count c.write_settled.new.output } in
     let piece = take c.in_ok-n.n c.read_piece.new.piece in
     let room : length c.read_piece.new.piece ≡ length c.args.piece.now = omega (arith, c.read_piece.auto.piece, c.loop-size.invariant.room) in
-    let text : (v : ViewState) → IsView c.loop-size.view v → string_bytes c.view_piece.new.text ≡ lines_all v (cut_packets piece) =
+    let text : (v : ClockedState) → IsClocked c.loop-size.view v → string_bytes c.view_piece.new.text ≡ lines_all v (cut_packets piece) =
     λ v h. c.in_ok-view_piece.ensures.lines v h ∙ ap (λ (t : List ℕ). t ++ lines_all v (cut_packets piece)) c.loop-size.invariant.none in
     record {
       room = room;
@@ -48,7 +48,7 @@ returns-in-Err-clause-err g c = λ s k.
     let middle : Port = record { bytes = g.W.Write.contents c.loop-size.output; failed = g.W.Sink.fault_count c.loop-size.output } in
     let end : Port = record { bytes = g.W.Write.contents c.write_settled.new.output; failed = g.W.Sink.fault_count c.write_settled.new.output } in
     let piece = take c.in_ok-n.n c.read_piece.new.piece in
-    let text : (v : ViewState) → IsView c.loop-size.view v → string_bytes c.view_piece.new.text ≡ lines_all v (cut_packets piece) =
+    let text : (v : ClockedState) → IsClocked c.loop-size.view v → string_bytes c.view_piece.new.text ≡ lines_all v (cut_packets piece) =
     λ v h. c.in_ok-view_piece.ensures.lines v h ∙ ap (λ (t : List ℕ). t ++ lines_all v (cut_packets piece)) c.loop-size.invariant.none in
     write_stopped (Unit {0}) s c.loop-size.view old mid new begin middle end c.loop-size.size c.in_ok-n.n (string_bytes c.view_piece.new.text) c.read_piece.new.piece c.in-Err.halt
     (c.loop-size.invariant.front s k) c.in_ok-n.ensures text c.in-Err.ensures.written
@@ -62,7 +62,7 @@ returns-then-n-piece-clause-ok g c = λ s k.
     let middle : Port = record { bytes = g.W.Write.contents c.loop-size.output; failed = g.W.Sink.fault_count c.loop-size.output } in
     let end : Port = record { bytes = g.W.Write.contents c.write_settled.new.output; failed = g.W.Sink.fault_count c.write_settled.new.output } in
     let piece = take c.in_ok-n.n c.read_piece.new.piece in
-    let text : (v : ViewState) → IsView c.loop-size.view v → string_bytes c.view_piece.new.text ≡ lines_all v (cut_packets piece) =
+    let text : (v : ClockedState) → IsClocked c.loop-size.view v → string_bytes c.view_piece.new.text ≡ lines_all v (cut_packets piece) =
     λ v h. c.in_ok-view_piece.ensures.lines v h ∙ ap (λ (t : List ℕ). t ++ lines_all v (cut_packets piece)) c.loop-size.invariant.none in
     if_ok (Seen s (between begin end) c.view_piece.new.view) (between old new) c.size_within.result
     (front_end (Seen s (between begin middle) c.loop-size.view) (Seen s (between begin end) c.view_piece.new.view) 188 old mid new
@@ -80,7 +80,7 @@ returns-then-n-piece-clause-err g c = λ s k.
     let middle : Port = record { bytes = g.W.Write.contents c.loop-size.output; failed = g.W.Sink.fault_count c.loop-size.output } in
     let end : Port = record { bytes = g.W.Write.contents c.write_settled.new.output; failed = g.W.Sink.fault_count c.write_settled.new.output } in
     let piece = take c.in_ok-n.n c.read_piece.new.piece in
-    let text : (v : ViewState) → IsView c.loop-size.view v → string_bytes c.view_piece.new.text ≡ lines_all v (cut_packets piece) =
+    let text : (v : ClockedState) → IsClocked c.loop-size.view v → string_bytes c.view_piece.new.text ≡ lines_all v (cut_packets piece) =
     λ v h. c.in_ok-view_piece.ensures.lines v h ∙ ap (λ (t : List ℕ). t ++ lines_all v (cut_packets piece)) c.loop-size.invariant.none in
     let seen = seen_then s c.loop-size.view c.view_piece.new.view begin middle end (string_bytes c.view_piece.new.text) piece text
     c.in_ok-view_piece.ensures.view c.in-Ok.ensures.written.0 c.in-Ok.ensures.written.1 in

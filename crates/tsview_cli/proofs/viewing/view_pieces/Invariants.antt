@@ -1,7 +1,7 @@
 use Rattle.std.proofs.Common.{◌≡◌, ◌+◌, ◌-◌, ◌^◌, [], length, string_bytes}
 use Rattle.devices.specs.Devices.{between}
 use Rattle.devices.proofs.TakenInput.{TakesFront}
-use Rattle.stream_report.specs.Views.{IsView, ViewState}
+use Rattle.stream_report.specs.ClockedViews.{IsClocked, ClockedState}
 use Rattle.tsview_cli.specs.Viewing.{Seen}
 use Rattle.tsview_cli.proofs.viewing.view_pieces.Given as goal
 
@@ -9,7 +9,7 @@ abbrev pub invariant-loop-size : goal.invariant-loop-size
 invariant-loop-size g l = record {
   room : length l.piece ≡ length l.fn.piece;
   none : string_bytes l.text ≡ [];
-  front : (s : ViewState) → IsView l.fn.view s → TakesFront
+  front : (s : ClockedState) → IsClocked l.fn.view s → TakesFront
       (Seen s (between (record { bytes = g.W.Write.contents l.fn.output; failed = g.W.Sink.fault_count l.fn.output })
       (record { bytes = g.W.Write.contents l.output; failed = g.W.Sink.fault_count l.output })) l.view) 188
       (record { bytes = g.R.Read.remaining l.fn.input; failed = g.R.Source.fault_count l.fn.input })

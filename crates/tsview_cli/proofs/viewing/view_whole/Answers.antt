@@ -1,5 +1,5 @@
 use Rattle.std.proofs.Common.{◌≡◌, ◌%◌, ◌++◌, ℕ, List, ap, ◌∙◌}
-use Rattle.stream_report.specs.Views.{IsView, ViewState, end_lines, start}
+use Rattle.stream_report.specs.ClockedViews.{IsClocked, ClockedState, end_lines, start}
 use Rattle.devices.specs.Devices.{Device, Port, between}
 use Rattle.tsview_cli.proofs.Viewed.{all_seen, broken, no_end, not_ended}
 use Rattle.tsview_cli.proofs.viewing.view_whole.Goals as goal
@@ -28,7 +28,7 @@ returns-in-Err-write_text g c = λ o e.
     let begin : Port = record { bytes = g.W.Write.contents c.args.output.now; failed = g.W.Sink.fault_count c.args.output.now } in
     let mid : Port = record { bytes = g.W.Write.contents c.view_pieces.new.output; failed = g.W.Sink.fault_count c.view_pieces.new.output } in
     let end : Port = record { bytes = g.W.Write.contents c.write_text.new.to; failed = g.W.Sink.fault_count c.write_text.new.to } in
-    let lines : (s : ViewState) → IsView c.view_pieces.new.view s → c.as_str.result.now ≡ end_lines s (c.in-Ok.size % 188) =
+    let lines : (s : ClockedState) → IsClocked c.view_pieces.new.view s → c.as_str.result.now ≡ end_lines s (c.in-Ok.size % 188) =
     λ s k. c.as_str.ensures.value ∙ c.in-Ok-end_view.ensures.lines s k ∙ ap (λ (t : List ℕ). t ++ end_lines s (c.in-Ok.size % 188)) c.in-Ok.ensures.text in
     not_ended (Unit {0}) o input begin mid end c.view_pieces.new.view c.in-Ok.size c.as_str.result.now c.in-Err-write_text.halt
     (c.in-Ok.ensures.ok (start o) e) lines c.in-Err-write_text.ensures
@@ -40,8 +40,8 @@ returns-in-Ok-write_text g c = λ o e.
     let begin : Port = record { bytes = g.W.Write.contents c.args.output.now; failed = g.W.Sink.fault_count c.args.output.now } in
     let mid : Port = record { bytes = g.W.Write.contents c.view_pieces.new.output; failed = g.W.Sink.fault_count c.view_pieces.new.output } in
     let end : Port = record { bytes = g.W.Write.contents c.write_text.new.to; failed = g.W.Sink.fault_count c.write_text.new.to } in
-    let lines : (s : ViewState) → IsView c.view_pieces.new.view s → c.as_str.result.now ≡ end_lines s (c.in-Ok.size % 188) =
+    let lines : (s : ClockedState) → IsClocked c.view_pieces.new.view s → c.as_str.result.now ≡ end_lines s (c.in-Ok.size % 188) =
     λ s k. c.as_str.ensures.value ∙ c.in-Ok-end_view.ensures.lines s k ∙ ap (λ (t : List ℕ). t ++ end_lines s (c.in-Ok.size % 188)) c.in-Ok.ensures.text in
-    all_seen o input begin mid end c.view_pieces.new.view c.in-Ok.size c.as_str.result.now c.is_good.result
+    all_seen o input begin mid end c.view_pieces.new.view c.in-Ok.size c.as_str.result.now c.in-Ok-end_view.good
     (c.in-Ok.ensures.ok (start o) e) lines
-    c.in-Ok-write_text.ensures.0 c.in-Ok-write_text.ensures.1 c.is_good.ensures
+    c.in-Ok-write_text.ensures.0 c.in-Ok-write_text.ensures.1 c.in-Ok-end_view.ensures.good

@@ -1,6 +1,7 @@
-use Rattle.std.proofs.Common.{◌≡◌, ◌∙◌, ℕ, refl, ap}
-use Rattle.clock27.specs.Arrival.{bytes_from}
+use Rattle.std.proofs.Common.{◌≡◌, ◌∙◌, ℕ, refl, ap, arith}
+use Rattle.stream_arrival.specs.Arrivals.{times_at}
 use Rattle.packet_arrival.specs.Rows.{times_of}
+use Rattle.stream_view.proofs.Views.{bytes_more}
 use Rattle.stream_buffers.proofs.Rows.{carried_ended, carried_held, main_most_found, transport_most_found}
 use Rattle.stream_buffers.proofs.buffers.StreamBuffers.carry.Goals as goal
 
@@ -8,30 +9,38 @@ pub returns-clause-held : goal.returns-clause-held
 returns-clause-held c = λ h k.
     let old = c.args.self.now in
     let seen = c.carry-seen.ensures in
-    let times : times_of c.at_constant_rate-row.result ≡ bytes_from h.rx c.args.byte c.args.count =
-    c.at_constant_rate-row.ensures.times ∙ ap (λ (r : ℕ). bytes_from r c.args.byte c.args.count) (c.from.ensures ∙ k.rx) in
-    carried_held old _ h (times_of c.at_constant_rate-row.result) (bytes_from h.rx c.args.byte c.args.count) c.carry-seen.result k times refl seen.view seen.buffer seen.size
+    let times : times_of c.row-row.result ≡ times_at c.args.arrival.now h.rx c.args.byte c.args.count =
+    c.row-row.ensures.times ∙ ap (λ (r : ℕ). times_at c.args.arrival.now r c.args.byte c.args.count) (c.from.ensures ∙ k.rx) in
+    carried_held old _ h (times_of c.row-row.result) (times_at c.args.arrival.now h.rx c.args.byte c.args.count) c.carry-seen.result k times refl seen.view seen.buffer seen.size
     old.view.paced.some seen.main seen.last c.see.ensures.size c.see.ensures.under_way
 
 pub returns-clause-main : goal.returns-clause-main
 returns-clause-main c = λ h k.
     let old = c.args.self.now in
     let seen = c.carry-seen.ensures in
-    let times : times_of c.at_constant_rate-row.result ≡ bytes_from h.rx c.args.byte c.args.count =
-    c.at_constant_rate-row.ensures.times ∙ ap (λ (r : ℕ). bytes_from r c.args.byte c.args.count) (c.from.ensures ∙ k.rx) in
-    carried_ended old c.carry-seen.new.self.transport h (times_of c.at_constant_rate-row.result) (bytes_from h.rx c.args.byte c.args.count) c.carry-seen.result c.see.result k times
+    let times : times_of c.row-row.result ≡ times_at c.args.arrival.now h.rx c.args.byte c.args.count =
+    c.row-row.ensures.times ∙ ap (λ (r : ℕ). times_at c.args.arrival.now r c.args.byte c.args.count) (c.from.ensures ∙ k.rx) in
+    carried_ended old c.carry-seen.new.self.transport h (times_of c.row-row.result) (times_at c.args.arrival.now h.rx c.args.byte c.args.count) c.carry-seen.result c.see.result k times
     seen.buffer old.view.paced.some seen.main seen.last c.see.ensures.ended
 
 pub returns-clause-most : goal.returns-clause-most
 returns-clause-most c = λ h k.
-    let times : times_of c.at_constant_rate-row.result ≡ bytes_from h.rx c.args.byte c.args.count =
-    c.at_constant_rate-row.ensures.times ∙ ap (λ (r : ℕ). bytes_from r c.args.byte c.args.count) (c.from.ensures ∙ k.rx) in
-    transport_most_found c.args.self.now h (times_of c.at_constant_rate-row.result) (bytes_from h.rx c.args.byte c.args.count) c.carry-seen.result.transport k times c.carry-seen.ensures.transport
+    let times : times_of c.row-row.result ≡ times_at c.args.arrival.now h.rx c.args.byte c.args.count =
+    c.row-row.ensures.times ∙ ap (λ (r : ℕ). times_at c.args.arrival.now r c.args.byte c.args.count) (c.from.ensures ∙ k.rx) in
+    transport_most_found c.args.self.now h (times_of c.row-row.result) (times_at c.args.arrival.now h.rx c.args.byte c.args.count) c.carry-seen.result.transport k times
+    c.carry-seen.ensures.transport
 
 pub returns-clause-main_most : goal.returns-clause-main_most
 returns-clause-main_most c = λ h k.
     let old = c.args.self.now in
-    let times : times_of c.at_constant_rate-row.result ≡ bytes_from h.rx c.args.byte c.args.count =
-    c.at_constant_rate-row.ensures.times ∙ ap (λ (r : ℕ). bytes_from r c.args.byte c.args.count) (c.from.ensures ∙ k.rx) in
-    main_most_found old h (times_of c.at_constant_rate-row.result) (bytes_from h.rx c.args.byte c.args.count) c.carry-seen.result.main k times
-    old.view.paced.some c.carry-seen.ensures.main
+    let times : times_of c.row-row.result ≡ times_at c.args.arrival.now h.rx c.args.byte c.args.count =
+    c.row-row.ensures.times ∙ ap (λ (r : ℕ). times_at c.args.arrival.now r c.args.byte c.args.count) (c.from.ensures ∙ k.rx) in
+    main_most_found old h (times_of c.row-row.result) (times_at c.args.arrival.now h.rx c.args.byte c.args.count) c.carry-seen.result.main k times old.view.paced.some
+    c.carry-seen.ensures.main
+
+pub returns-clause-bytes : goal.returns-clause-bytes
+returns-clause-bytes c = omega (
+  arith,
+  bytes_more c.args.self.now.view.transport c.carry-seen.new.self.transport c.row-row.result c.carry-seen.ensures.buffer,
+  c.row-row.ensures.bytes,
+)

@@ -10,7 +10,7 @@ loop-finding-preserved c =
     let options = c.args.options.now in
     let i = c.loop-finding.finding-index in
     record {
-      times = times_step finding_view (with_findings c.args.self.now (map finding_view fs)) c.loop-finding.self c.take.new.self i fs c.finding-item.result
+      times = times_step finding_view options (with_findings options c.args.self.now (map finding_view fs)) c.loop-finding.self c.take.new.self i fs c.finding-item.result
           c.loop-finding-test.true c.finding-item.is c.loop-finding.invariant.times c.in_ok-take.ensures.times;
       lines = lines_step finding_view options c.loop-finding.self c.take.new.self i fs c.finding-item.result
           (string_bytes c.args.text.now ++ findings_lines options c.args.self.now (map finding_view fs)) (string_bytes c.loop-finding.text) (string_bytes c.take.new.text)
@@ -20,7 +20,8 @@ loop-finding-preserved c =
 pub returns-clause-times : goal.returns-clause-times
 returns-clause-times c =
     let fs = c.args.findings.now in
-    times_end finding_view (with_findings c.args.self.now (map finding_view fs)) c.loop-finding.self c.loop-finding.finding-index fs c.loop-finding-test.false c.loop-finding.invariant.times
+    let options = c.args.options.now in
+    times_end finding_view options (with_findings options c.args.self.now (map finding_view fs)) c.loop-finding.self c.loop-finding.finding-index fs c.loop-finding-test.false c.loop-finding.invariant.times
 
 pub returns-clause-lines : goal.returns-clause-lines
 returns-clause-lines c =

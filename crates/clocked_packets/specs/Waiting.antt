@@ -1,0 +1,102 @@
+-- Packets that wait until the line is known on which they arrive.
+--
+-- A stream arrives by the references of one PID, that of the first. With each of them the packets before it have a line, and the
+-- packet with the reference waits as the first of those for the next. Where too many wait, the line before goes on for them.
+use Rattle.std.specs.Prelude.{ℕ, ◌+◌, ◌-◌, ◌^◌, ◌==◌, ◌&&◌, min, nat_lt, not, is_some, Bool, true, if◌then◌else◌, List, [], ◌∷◌, ◌++◌, length, Option, Some, None, Result, Ok, Err}
+use Rattle.std.specs.Option.{option_map}
+use Rattle.ts_packet.specs.declared.packet.PacketError.{PacketError}
+use Rattle.ts_packet.specs.Reading.{packet_at}
+use Rattle.ts_packet.specs.Views.{PacketView}
+use Rattle.stream_arrival.specs.ArrivalClocks.{ArrivalClockState, line_to, no_reference, without_last}
+use Rattle.stream_arrival.specs.ArrivalClocks as clocks
+use Rattle.stream_arrival.specs.declared.arrival.Arrival.{Arrival}
+use Rattle.stream_arrival.specs.declared.arrival.Arrival.TheVariants.{Unknown, OnLines}
+use Rattle.packet_arrival.specs.declared.clock.PcrSample.{PcrSample}
+use Rattle.packet_arrival.specs.declared.line.Line.{Line}
+use Rattle.pcr_errors.specs.Samples.{pcr_sample}
+use Rattle.clocked_packets.specs.declared.packet_queue.TheConstants.{MOST_WAITING}
+
+-- the PID of the references, the clock that they give, the line of the first bytes of the first packet that waits, the number of packets
+-- so far, and those that wait
+pub record QueueState : Type 0 where
+  pub pid : Option ℕ
+  pub clock : ArrivalClockState
+  pub before : Option Line
+  pub packets : ℕ
+  pub held : List (List ℕ)
+
+abbrev pub no_packet : QueueState
+no_packet = record { pid = None; clock = no_reference; before = None; packets = 0; held = [] }
+
+-- 1. The reference of a packet by which the stream arrives, and its PID
+
+unfoldable pub is_of_clock : Option ℕ → ℕ → Bool
+is_of_clock None pid = true
+is_of_clock (Some clock) pid = clock == pid
+
+abbrev pub reference_of : Option ℕ → ℕ → PacketView → Option (ℕ × PcrSample)
+reference_of clock index packet =
+    if not packet.header.transport_error_indicator && is_of_clock clock packet.header.pid then option_map (λ sample. (packet.header.pid, sample)) (pcr_sample index packet) else None
+
+unfoldable pub reference_read : Option ℕ → ℕ → Result PacketView PacketError → Option (ℕ × PcrSample)
+reference_read clock index (Err error) = None
+reference_read clock index (Ok packet) = reference_of clock index packet
+
+abbrev pub reference_in : QueueState → List ℕ → Option (ℕ × PcrSample)
+reference_in q bytes = reference_read q.pid q.packets (packet_at bytes)
+
+-- 2. What it gives those that wait
+
+unfoldable pub line_by : QueueState → Option (ℕ × PcrSample) → Option Line
+line_by q None = None
+line_by q (Some reference) = line_to q.clock reference.1
+
+unfoldable pub clock_by : QueueState → Option (ℕ × PcrSample) → ArrivalClockState
+clock_by q None = q.clock
+clock_by q (Some reference) = clocks.after q.clock reference.1
+
+unfoldable pub pid_by : QueueState → Option (ℕ × PcrSample) → Option ℕ
+pid_by q None = q.pid
+pid_by q (Some reference) = Some reference.0
+
+-- they still wait: the reference gives no line, and they are not too many
+abbrev pub still_wait : QueueState → Option (ℕ × PcrSample) → Bool
+still_wait q reference = not (is_some (line_by q reference)) && nat_lt (length q.held) MOST_WAITING
+
+unfoldable pub arrival_by : Option Line → Option Line → Arrival
+arrival_by before None = Unknown
+arrival_by None (Some line) = OnLines (record { before = line; line = line })
+arrival_by (Some before) (Some line) = OnLines (record { before = before; line = line })
+
+-- how they arrive that no longer wait
+abbrev pub released_by : QueueState → Option (ℕ × PcrSample) → Option Arrival
+released_by q reference = if still_wait q reference then None else Some (arrival_by q.before (clock_by q reference).line)
+
+-- without a reference for so long the clock begins anew
+unfoldable pub begun_by : ArrivalClockState → Option (ℕ × PcrSample) → ArrivalClockState
+begun_by clock None = without_last clock
+begun_by clock (Some reference) = clock
+
+abbrev pub stepped_by : QueueState → Option (ℕ × PcrSample) → QueueState
+stepped_by q reference = record {
+  pid = pid_by q reference;
+  clock = if still_wait q reference then clock_by q reference else begun_by (clock_by q reference) reference;
+  before = if still_wait q reference then q.before else (clock_by q reference).line;
+  packets = min (q.packets + 1) (2 ^ 64 - 1);
+  held = q.held;
+}
+
+-- 3. A packet comes: how those before it arrive, if they do; and then it waits
+
+abbrev pub released : QueueState → List ℕ → Option Arrival
+released q bytes = released_by q (reference_in q bytes)
+
+abbrev pub stepped : QueueState → List ℕ → QueueState
+stepped q bytes = stepped_by q (reference_in q bytes)
+
+abbrev pub with_held : QueueState → List (List ℕ) → QueueState
+with_held q held = record q { held = held }
+
+-- at the end the last line goes on
+abbrev pub last_arrival : QueueState → Arrival
+last_arrival q = arrival_by q.before q.clock.line

@@ -1,0 +1,90 @@
+-- The frame of a picture: its scales, and what is drawn of a slot.
+use Rattle.std.specs.Prelude.{ℕ, ◌+◌, ◌-◌, ◌*◌, ◌/◌, ◌^◌, min, nat_lt, if◌then◌else◌, List, ◌++◌, codes, decimal, flat_map, Option, Some, None}
+use Rattle.page_curves.specs.declared.bounds.Bounds.{Bounds}
+use Rattle.page_charts.specs.declared.frame.ChartUnit.{ChartUnit}
+use Rattle.page_charts.specs.declared.frame.ChartUnit.TheVariants.{BitRate, Bytes, Time}
+use Rattle.page_charts.specs.declared.frame.Frame.{Frame}
+use Rattle.page_charts.specs.declared.frame_text.TheConstants.{FIFTHS}
+use Rattle.page_charts.specs.declared.scale.TheConstants.{GREATEST_VALUE, LEFT, WIDTH}
+use Rattle.page_charts.specs.Numbers.{tenths}
+use Rattle.page_charts.specs.Scale.{height_of, scale_for, slots_in}
+
+abbrev pub frame : ChartUnit → ℕ → ℕ → ℕ → Frame
+frame unit windows millis greatest = record { unit = unit; windows = windows; millis = millis; top = scale_for greatest }
+
+-- its windows, 2^38 at most, and the value at its top, 10^15 at most
+abbrev pub window_count : Frame → ℕ
+window_count f = min f.windows (2 ^ 38)
+
+abbrev pub top_value : Frame → ℕ
+top_value f = min f.top GREATEST_VALUE
+
+-- 1. What is drawn of a slot
+
+-- a window without a value counts as one of 0: where none of so many has one, or not each
+unfoldable pub with_absent : Option Bounds → ℕ → Bounds
+with_absent None windows = record { count = 0; least = 0; greatest = 0 }
+with_absent (Some b) windows = if nat_lt b.count windows then record b { least = 0 } else b
+
+-- the windows of a slot, up to the last one
+abbrev pub windows_in : Frame → ℕ → ℕ → ℕ
+windows_in f span slot = min (window_count f - min (span * slot) (2 ^ 64 - 1)) span
+
+-- a PID without a packet has a bit rate of 0; of the other values a window without one says nothing
+unfoldable pub shown_of : ChartUnit → ℕ → Option Bounds → Option Bounds
+shown_of BitRate windows b = Some (with_absent b windows)
+shown_of Bytes windows b = b
+shown_of Time windows b = b
+
+abbrev pub shown : Frame → ℕ → ℕ → Option Bounds → Option Bounds
+shown f span slot b = shown_of f.unit (windows_in f span slot) b
+
+abbrev pub slots_of : Frame → ℕ → ℕ
+slots_of f span = slots_in (window_count f) span
+
+-- 2. Its scales
+
+-- bit rates in kbit/s, bytes, and times in ms
+unfoldable pub value_text : ChartUnit → ℕ → List ℕ
+value_text BitRate value = tenths value 1000
+value_text Bytes value = decimal value
+value_text Time value = tenths value 1000
+
+unfoldable pub unit_name : ChartUnit → List ℕ
+unit_name BitRate = codes "kbit/s"
+unit_name Bytes = codes "bytes"
+unit_name Time = codes "ms"
+
+unfoldable pub level_line : ℕ → List ℕ
+level_line y = codes "<path class=\"grid\" d=\"M900 " ++ (decimal y ++ (codes "H9500\"/><text class=\"end\" x=\"840\" y=\"" ++ (decimal y ++ codes "\" dy=\".35em\">")))
+
+unfoldable pub level_text : ChartUnit → ℕ → ℕ → List ℕ
+level_text unit value y = level_line y ++ (value_text unit value ++ codes "</text>\n")
+
+unfoldable pub moment_place : ℕ → List ℕ
+moment_place x = codes "<text class=\"mid\" x=\"" ++ (decimal x ++ codes "\" y=\"2400\">")
+
+unfoldable pub moment_text : ℕ → ℕ → List ℕ
+moment_text x moment = moment_place x ++ (tenths moment 1000 ++ codes " s</text>\n")
+
+unfoldable pub name_above : List ℕ → List ℕ
+name_above name = codes "<text class=\"end\" x=\"840\" y=\"30\">" ++ (name ++ codes "</text>\n")
+
+abbrev pub unit_text : ChartUnit → List ℕ
+unit_text unit = name_above (unit_name unit)
+
+-- so many fifths of all windows, in ms, and of both scales
+abbrev pub moment : Frame → ℕ → ℕ
+moment f fifth = window_count f * min f.millis (2 ^ 22) * fifth / 5
+
+abbrev pub fifth_at : Frame → ℕ → List ℕ
+fifth_at f fifth = level_text f.unit (top_value f * fifth / 5) (height_of (top_value f) (top_value f * fifth / 5)) ++ moment_text (LEFT + WIDTH * fifth / 5) (moment f fifth)
+
+abbrev pub fifth_text : Frame → ℕ → List ℕ
+fifth_text f fifth = fifth_at f (min fifth 5)
+
+abbrev pub fifths_text : Frame → List ℕ
+fifths_text f = flat_map (fifth_text f) FIFTHS
+
+unfoldable pub scales_text : Frame → List ℕ
+scales_text f = fifths_text f ++ unit_text f.unit

@@ -1,0 +1,8 @@
+pub mod Numbers
+pub mod PidNames
+pub mod Scale
+pub mod Frames
+pub mod Paths
+pub mod PidCurves
+pub mod ValueTables
+pub mod Charts

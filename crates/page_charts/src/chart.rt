@@ -1,0 +1,223 @@
+//! A picture of curves.
+ghost use Rattle.std.specs.Prelude.{◌≡◌, ◌++◌, ◌<◌, ◌≤◌, OnOk, string_bytes};
+ghost use Rattle.page_charts.specs.Charts as spec;
+ghost use Rattle.page_charts.specs.Paths.{numbered};
+
+use crate::frame::{ChartUnit, Frame};
+use crate::frame_text::{unit_name, write_value};
+use crate::paths::{write_overs, write_points, write_ranges};
+use crate::pid_curves::PidCurve;
+use crate::pid_name::write_pid;
+use crate::scale::height_of;
+use crate::value_table::write_value_table;
+use std::alloc::AllocError;
+use std::fmt::Write;
+
+// A piece of a line of a class.
+#[tactic(auto, unfolding(crate::specs::Charts::sample_text))]
+fn write_sample(text: &mut String, class: usize) -> Result<(), AllocError>
+    ensures { OnOk result (string_bytes text.new ≡ string_bytes text.old ++ spec.sample_text class) }
+{
+    write!(
+        text,
+        "<span><svg class=\"sample\" viewBox=\"0 0 600 120\"><path class=\"line s{class}\" d=\"M0 60H600\"/></svg> "
+    )
+}
+
+// A value with its unit.
+fn write_with_unit(text: &mut String, unit: ChartUnit, value: u64) -> Result<(), AllocError>
+    ensures { OnOk result (string_bytes text.new ≡ string_bytes text.old ++ spec.with_unit unit value) }
+{
+    write_value(text, unit, value)?;
+    let name = unit_name(unit);
+    write!(text, " {name}</span>\n")
+}
+
+// What a curve of a class says: its PID and its greatest value.
+#[tactic(auto, unfolding(crate::specs::Charts::key))]
+fn write_key(
+    text: &mut String,
+    unit: ChartUnit,
+    number: usize,
+    entry: &PidCurve,
+) -> Result<(), AllocError>
+    ensures { OnOk result (string_bytes text.new ≡ string_bytes text.old ++ spec.key unit number entry.now) }
+{
+    write_sample(text, number % 8)?;
+    write_pid(text, entry.pid, entry.name)?;
+    text.push_str(", at most ")?;
+    write_with_unit(text, unit, entry.curve.greatest())
+}
+
+fn write_each_key(
+    text: &mut String,
+    unit: ChartUnit,
+    curves: &[PidCurve],
+) -> Result<(), AllocError>
+    ensures { OnOk result (string_bytes text.new ≡ string_bytes text.old ++ numbered (spec.key unit) 0 curves.now) }
+{
+    for (number, entry) in curves.iter().enumerate() {
+        write_key(text, unit, number, entry)?;
+    }
+    Ok(())
+}
+
+#[tactic(auto, unfolding(crate::specs::Charts::keys))]
+fn write_keys(text: &mut String, unit: ChartUnit, curves: &[PidCurve]) -> Result<(), AllocError>
+    ensures { OnOk result (string_bytes text.new ≡ string_bytes text.old ++ spec.keys unit curves.now) }
+{
+    text.push_str("<p class=\"key\">")?;
+    write_each_key(text, unit, curves)?;
+    text.push_str("</p>\n")
+}
+
+// The ranges of a curve, from the least to the greatest value of each slot.
+#[tactic(auto, unfolding(crate::specs::Charts::band))]
+fn write_band(
+    text: &mut String,
+    frame: &Frame,
+    class: usize,
+    entry: &PidCurve,
+) -> Result<(), AllocError>
+    ensures { OnOk result (string_bytes text.new ≡ string_bytes text.old ++ spec.band frame.now class entry.now) }
+{
+    write!(text, "<path class=\"range s{class}\" d=\"")?;
+    write_ranges(text, frame, entry.curve.span(), entry.curve.slots())?;
+    text.push_str("\"/>")
+}
+
+// The PID of a curve, as the title of its line.
+#[tactic(auto, unfolding(crate::specs::Charts::title))]
+fn write_title(text: &mut String, entry: &PidCurve) -> Result<(), AllocError>
+    ensures { OnOk result (string_bytes text.new ≡ string_bytes text.old ++ spec.title entry.now) }
+{
+    text.push_str("\"><title>")?;
+    write_pid(text, entry.pid, entry.name)?;
+    text.push_str("</title></path>\n")
+}
+
+// The line of a curve's greatest values.
+#[tactic(auto, unfolding(crate::specs::Charts::line))]
+fn write_line(
+    text: &mut String,
+    frame: &Frame,
+    class: usize,
+    entry: &PidCurve,
+) -> Result<(), AllocError>
+    ensures { OnOk result (string_bytes text.new ≡ string_bytes text.old ++ spec.line frame.now class entry.now) }
+{
+    write!(text, "<path class=\"line s{class}\" d=\"M")?;
+    write_points(text, frame, entry.curve.span(), entry.curve.slots())?;
+    write_title(text, entry)
+}
+
+// A limit: a line across the picture, and its value.
+#[tactic(auto, unfolding(crate::specs::Charts::limit_line))]
+fn write_limit_line(text: &mut String, limit: u64, y: u64) -> Result<(), AllocError>
+    ensures { OnOk result (string_bytes text.new ≡ string_bytes text.old ++ spec.limit_line limit y) }
+{
+    write!(
+        text,
+        "\"/><path class=\"limit\" d=\"M900 {y}H9500\"/><text class=\"end\" x=\"9490\" y=\"{y}\" dy=\"-.4em\">limit {limit}</text>\n"
+    )
+}
+
+// What of a curve lies over its limit, and the limit.
+#[tactic(auto, unfolding(crate::specs::Charts::limit))]
+fn write_limit(text: &mut String, frame: &Frame, entry: &PidCurve) -> Result<(), AllocError>
+    ensures { OnOk result (string_bytes text.new ≡ string_bytes text.old ++ spec.limit frame.now entry.now) }
+{
+    text.push_str("<path class=\"over\" d=\"")?;
+    write_overs(
+        text,
+        frame,
+        entry.limit,
+        entry.curve.span(),
+        entry.curve.slots(),
+    )?;
+    write_limit_line(text, entry.limit, height_of(frame.top_value(), entry.limit))
+}
+
+// The limit, if there is one.
+fn write_limit_if(text: &mut String, frame: &Frame, entry: &PidCurve) -> Result<(), AllocError>
+    ensures { OnOk result (string_bytes text.new ≡ string_bytes text.old ++ spec.limit_if frame.now entry.now) }
+{
+    if entry.limit > 0 {
+        write_limit(text, frame, entry)
+    } else {
+        Ok(())
+    }
+}
+
+// A curve with values.
+#[tactic(auto, unfolding(crate::specs::Charts::values_text))]
+fn write_values(
+    text: &mut String,
+    frame: &Frame,
+    class: usize,
+    entry: &PidCurve,
+) -> Result<(), AllocError>
+    ensures { OnOk result (string_bytes text.new ≡ string_bytes text.old ++ spec.values_text frame.now class entry.now) }
+{
+    write_band(text, frame, class, entry)?;
+    write_line(text, frame, class, entry)?;
+    write_limit_if(text, frame, entry)
+}
+
+// A curve; nothing where no value has come.
+fn write_curve(
+    text: &mut String,
+    frame: &Frame,
+    number: usize,
+    entry: &PidCurve,
+) -> Result<(), AllocError>
+    ensures { OnOk result (string_bytes text.new ≡ string_bytes text.old ++ spec.curve frame.now number entry.now) }
+{
+    if entry.curve.slots().is_empty() {
+        Ok(())
+    } else {
+        write_values(text, frame, number % 8, entry)
+    }
+}
+
+fn write_curves(
+    text: &mut String,
+    frame: &Frame,
+    curves: &[PidCurve],
+) -> Result<(), AllocError>
+    ensures { OnOk result (string_bytes text.new
+        ≡ string_bytes text.old ++ numbered (spec.curve frame.now) 0 curves.now) }
+{
+    for (number, entry) in curves.iter().enumerate() {
+        write_curve(text, frame, number, entry)?;
+    }
+    Ok(())
+}
+
+// The picture itself.
+#[tactic(auto, unfolding(crate::specs::Charts::picture))]
+fn write_picture(
+    text: &mut String,
+    frame: &Frame,
+    curves: &[PidCurve],
+) -> Result<(), AllocError>
+    ensures { OnOk result (string_bytes text.new ≡ string_bytes text.old ++ spec.picture frame.now curves.now) }
+{
+    text.push_str("<svg class=\"chart\" viewBox=\"0 -80 9900 2560\" role=\"img\">\n")?;
+    frame.write_scales(text)?;
+    write_curves(text, frame, curves)?;
+    text.push_str("</svg>\n")
+}
+
+/// Appends a picture of curves: their key, their lines beside their limits, and their numbers as a table.
+pub fn write_chart(
+    text: &mut String,
+    frame: &Frame,
+    curves: &[PidCurve],
+) -> Result<(), AllocError>
+    ensures { OnOk result (string_bytes text.new ≡ string_bytes text.old ++ spec.chart frame.now curves.now) }
+{
+    write_keys(text, frame.unit, curves)?;
+    write_picture(text, frame, curves)?;
+    write_value_table(text, frame, curves)
+}

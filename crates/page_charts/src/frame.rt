@@ -1,0 +1,18 @@
+//! The scales of a picture.
+/// What a picture's values are: bit rates, in bits a second, where a window without a value has none of them; numbers of bytes; or times
+/// in microseconds. A window without a byte or a unit says nothing of these.
+#[derive(Clone, Copy)]
+pub enum ChartUnit {
+    BitRate,
+    Bytes,
+    Time,
+}
+
+/// The scales of a picture: so many windows of so many milliseconds, 2^38 of 2^22 at most, and values from 0 to `top`, 10^15 at most.
+#[derive(Clone, Copy)]
+pub struct Frame {
+    pub unit: ChartUnit,
+    pub windows: u64,
+    pub millis: u32,
+    pub top: u64,
+}

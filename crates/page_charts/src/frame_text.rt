@@ -1,0 +1,201 @@
+//! The frame of a picture: its scales, and what is drawn of them.
+ghost use Rattle.std.specs.Prelude.{◌≡◌, ◌++◌, ◌<◌, ◌≤◌, ◌^◌, OnOk, string_bytes};
+ghost use Rattle.page_charts.specs.Frames as spec;
+
+use crate::frame::{ChartUnit, Frame};
+use crate::numbers::write_tenths;
+use crate::scale::{GREATEST_VALUE, LEFT, WIDTH, height_of, scale_for, slots_in};
+use page_curves::Bounds;
+use std::alloc::AllocError;
+use std::fmt::Write;
+
+// What a scale is divided into: fifths.
+const FIFTHS: [u64; 6] = [0, 1, 2, 3, 4, 5];
+
+/// Appends a value in the unit in which a picture has its values.
+#[tactic(auto, unfolding(crate::specs::Frames::value_text))]
+pub(crate) fn write_value(
+    text: &mut String,
+    unit: ChartUnit,
+    value: u64,
+) -> Result<(), AllocError>
+    ensures { OnOk result (string_bytes text.new ≡ string_bytes text.old ++ spec.value_text unit value) }
+{
+    match unit {
+        ChartUnit::BitRate => write_tenths(text, value, 1_000),
+        ChartUnit::Bytes => write!(text, "{value}"),
+        ChartUnit::Time => write_tenths(text, value, 1_000),
+    }
+}
+
+/// That unit's name.
+#[tactic(auto, unfolding(crate::specs::Frames::unit_name))]
+pub(crate) fn unit_name(unit: ChartUnit) -> &'static str
+    ensures { result.now ≡ spec.unit_name unit }
+{
+    match unit {
+        ChartUnit::BitRate => "kbit/s",
+        ChartUnit::Bytes => "bytes",
+        ChartUnit::Time => "ms",
+    }
+}
+
+#[tactic(auto, unfolding(crate::specs::Frames::level_line))]
+fn write_level_line(text: &mut String, y: u64) -> Result<(), AllocError>
+    ensures { OnOk result (string_bytes text.new ≡ string_bytes text.old ++ spec.level_line y) }
+{
+    write!(
+        text,
+        "<path class=\"grid\" d=\"M900 {y}H9500\"/><text class=\"end\" x=\"840\" y=\"{y}\" dy=\".35em\">"
+    )
+}
+
+// A line across the picture, with its value.
+#[tactic(auto, unfolding(crate::specs::Frames::level_text))]
+fn write_level(text: &mut String, unit: ChartUnit, value: u64, y: u64) -> Result<(), AllocError>
+    ensures { OnOk result (string_bytes text.new ≡ string_bytes text.old ++ spec.level_text unit value y) }
+{
+    write_level_line(text, y)?;
+    write_value(text, unit, value)?;
+    text.push_str("</text>\n")
+}
+
+#[tactic(auto, unfolding(crate::specs::Frames::moment_place))]
+fn write_moment_place(text: &mut String, x: u64) -> Result<(), AllocError>
+    ensures { OnOk result (string_bytes text.new ≡ string_bytes text.old ++ spec.moment_place x) }
+{
+    write!(text, "<text class=\"mid\" x=\"{x}\" y=\"2400\">")
+}
+
+// A moment below the picture, in ms.
+#[tactic(auto, unfolding(crate::specs::Frames::moment_text))]
+fn write_moment(text: &mut String, x: u64, moment: u64) -> Result<(), AllocError>
+    ensures { OnOk result (string_bytes text.new ≡ string_bytes text.old ++ spec.moment_text x moment) }
+{
+    write_moment_place(text, x)?;
+    write_tenths(text, moment, 1_000)?;
+    text.push_str(" s</text>\n")
+}
+
+// A name above the scale of values.
+#[tactic(auto, unfolding(crate::specs::Frames::name_above))]
+fn write_name_above(text: &mut String, name: &str) -> Result<(), AllocError>
+    ensures { OnOk result (string_bytes text.new ≡ string_bytes text.old ++ spec.name_above name.now) }
+{
+    write!(text, "<text class=\"end\" x=\"840\" y=\"30\">{name}</text>\n")
+}
+
+// The bounds of a slot of which no window, or not each, has a value.
+#[tactic(auto, unfolding(crate::specs::Frames::with_absent))]
+fn with_absent(bounds: Option<Bounds>, windows: u64) -> Bounds
+    ensures { result ≡ spec.with_absent bounds windows }
+{
+    match bounds {
+        None => Bounds {
+            count: 0,
+            least: 0,
+            greatest: 0,
+        },
+        Some(bounds) if bounds.count < windows => Bounds { least: 0, ..bounds },
+        Some(bounds) => bounds,
+    }
+}
+
+impl Frame {
+    /// A frame for values up to `greatest`.
+    pub fn new(unit: ChartUnit, windows: u64, millis: u32, greatest: u64) -> Frame
+        ensures { result ≡ spec.frame unit windows millis greatest }
+    {
+        Frame {
+            unit,
+            windows,
+            millis,
+            top: scale_for(greatest),
+        }
+    }
+
+    /// The number of windows.
+    pub(crate) fn window_count(&self) -> u64
+        ensures same { result ≡ spec.window_count self.now }
+        ensures bound { result ≤ 2 ^ 38 }
+    {
+        self.windows.min(1 << 38)
+    }
+
+    /// The value at its top.
+    pub(crate) fn top_value(&self) -> u64
+        ensures same { result ≡ spec.top_value self.now }
+        ensures bound { result ≤ 10 ^ 15 }
+    {
+        self.top.min(GREATEST_VALUE)
+    }
+
+    // So many fifths of all windows, in ms.
+    fn moment(&self, fifth: u64) -> u64
+        requires { fifth ≤ 5 }
+        ensures { result ≡ spec.moment self.now fifth }
+    {
+        self.window_count() * u64::from(self.millis.min(1 << 22)) * fifth / 5
+    }
+
+    // How many windows a slot has.
+    fn windows_in(&self, span: u64, slot: u64) -> u64
+        ensures { result ≡ spec.windows_in self.now span slot }
+    {
+        self.window_count()
+            .saturating_sub(span.saturating_mul(slot))
+            .min(span)
+    }
+
+    /// What is drawn of a slot.
+    #[tactic(auto, unfolding(crate::specs::Frames::shown_of))]
+    pub(crate) fn shown(&self, span: u64, slot: u64, bounds: Option<Bounds>) -> Option<Bounds>
+        ensures { result ≡ spec.shown self.now span slot bounds }
+    {
+        match self.unit {
+            ChartUnit::BitRate => Some(with_absent(bounds, self.windows_in(span, slot))),
+            ChartUnit::Bytes => bounds,
+            ChartUnit::Time => bounds,
+        }
+    }
+
+    /// How many slots of so many windows it has.
+    pub(crate) fn slots_of(&self, span: u64) -> u64
+        requires { 0 < span }
+        ensures same { result ≡ spec.slots_of self.now span }
+        ensures some { 0 < result }
+        ensures bound { result ≤ 2 ^ 39 }
+    {
+        slots_in(self.window_count(), span)
+    }
+
+    // So many fifths of both scales.
+    fn write_fifth(&self, text: &mut String, fifth: u64) -> Result<(), AllocError>
+        ensures { OnOk result (string_bytes text.new ≡ string_bytes text.old ++ spec.fifth_text self.now fifth) }
+    {
+        let fifth = fifth.min(5);
+        let top = self.top_value();
+        let value = top * fifth / 5;
+        write_level(text, self.unit, value, height_of(top, value))?;
+        write_moment(text, LEFT + WIDTH * fifth / 5, self.moment(fifth))
+    }
+
+    // The fifths of both scales.
+    fn write_fifths(&self, text: &mut String) -> Result<(), AllocError>
+        ensures { OnOk result (string_bytes text.new ≡ string_bytes text.old ++ spec.fifths_text self.now) }
+    {
+        for fifth in &FIFTHS {
+            self.write_fifth(text, *fifth)?;
+        }
+        Ok(())
+    }
+
+    /// Appends both scales.
+    #[tactic(auto, unfolding(crate::specs::Frames::scales_text))]
+    pub(crate) fn write_scales(&self, text: &mut String) -> Result<(), AllocError>
+        ensures { OnOk result (string_bytes text.new ≡ string_bytes text.old ++ spec.scales_text self.now) }
+    {
+        self.write_fifths(text)?;
+        write_name_above(text, unit_name(self.unit))
+    }
+}

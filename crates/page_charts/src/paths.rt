@@ -1,0 +1,152 @@
+//! A curve as paths: what `d` of an SVG path says.
+ghost use Rattle.std.specs.Prelude.{◌≡◌, ◌++◌, ◌<◌, ◌≤◌, OnOk, length, string_bytes};
+ghost use Rattle.page_charts.specs.Paths as spec;
+ghost use Rattle.page_charts.specs.Paths.{numbered};
+
+use crate::frame::Frame;
+use crate::scale::{across, height_of};
+use page_curves::Bounds;
+use std::alloc::AllocError;
+use std::fmt::Write;
+
+// A point of the line of greatest values: those after the first `M` are joined by lines.
+#[tactic(auto, unfolding(crate::specs::Paths::point_of))]
+fn write_point(
+    text: &mut String,
+    frame: &Frame,
+    span: u64,
+    slot: u64,
+    bounds: Option<Bounds>,
+) -> Result<(), AllocError>
+    requires some { 0 < span }
+    requires early { slot < 512 }
+    ensures { OnOk result (string_bytes text.new ≡ string_bytes text.old ++ spec.point frame.now span slot bounds) }
+{
+    match frame.shown(span, slot, bounds) {
+        None => Ok(()),
+        Some(shown) => {
+            let x = across(frame.slots_of(span), slot);
+            let y = height_of(frame.top_value(), shown.greatest);
+            write!(text, " {x} {y}")
+        }
+    }
+}
+
+// A line from the least value of a slot to the greatest.
+#[tactic(auto, unfolding(crate::specs::Paths::range_of))]
+fn write_range(
+    text: &mut String,
+    frame: &Frame,
+    span: u64,
+    slot: u64,
+    bounds: Option<Bounds>,
+) -> Result<(), AllocError>
+    requires some { 0 < span }
+    requires early { slot < 512 }
+    ensures { OnOk result (string_bytes text.new ≡ string_bytes text.old ++ spec.range frame.now span slot bounds) }
+{
+    match frame.shown(span, slot, bounds) {
+        None => Ok(()),
+        Some(shown) => {
+            let x = across(frame.slots_of(span), slot);
+            let low = height_of(frame.top_value(), shown.least);
+            let high = height_of(frame.top_value(), shown.greatest);
+            write!(text, "M{x} {low}V{high}")
+        }
+    }
+}
+
+// A line from a limit to a value over it, and a mark above that.
+fn write_over_to(
+    text: &mut String,
+    frame: &Frame,
+    limit: u64,
+    x: u64,
+    greatest: u64,
+) -> Result<(), AllocError>
+    ensures { OnOk result (string_bytes text.new ≡ string_bytes text.old ++ spec.over_to frame.now limit x greatest) }
+{
+    let low = height_of(frame.top_value(), limit);
+    let high = height_of(frame.top_value(), greatest);
+    write!(text, "M{x} {low}V{high}m-35 -80h70l-35 70z")
+}
+
+// What of a slot lies over a limit.
+#[tactic(auto, unfolding(crate::specs::Paths::over))]
+fn write_over(
+    text: &mut String,
+    frame: &Frame,
+    limit: u64,
+    span: u64,
+    slot: u64,
+    bounds: Option<Bounds>,
+) -> Result<(), AllocError>
+    requires some { 0 < span }
+    requires early { slot < 512 }
+    ensures { OnOk result (string_bytes text.new
+        ≡ string_bytes text.old ++ spec.over frame.now limit span slot bounds) }
+{
+    let Some(bounds) = bounds else {
+        return Ok(());
+    };
+    if bounds.greatest <= limit {
+        return Ok(());
+    }
+    let x = across(frame.slots_of(span), slot);
+    write_over_to(text, frame, limit, x, bounds.greatest)
+}
+
+/// Appends the points of all slots.
+pub(crate) fn write_points(
+    text: &mut String,
+    frame: &Frame,
+    span: u64,
+    slots: &[Option<Bounds>],
+) -> Result<(), AllocError>
+    requires some { 0 < span }
+    requires few { length slots.now ≤ 512 }
+    ensures { OnOk result (string_bytes text.new
+        ≡ string_bytes text.old ++ numbered (spec.point frame.now span) 0 slots.now) }
+{
+    for (slot, bounds) in slots.iter().enumerate() {
+        write_point(text, frame, span, slot as u64, *bounds)?;
+    }
+    Ok(())
+}
+
+/// Appends the ranges of all slots.
+pub(crate) fn write_ranges(
+    text: &mut String,
+    frame: &Frame,
+    span: u64,
+    slots: &[Option<Bounds>],
+) -> Result<(), AllocError>
+    requires some { 0 < span }
+    requires few { length slots.now ≤ 512 }
+    ensures { OnOk result (string_bytes text.new
+        ≡ string_bytes text.old ++ numbered (spec.range frame.now span) 0 slots.now) }
+{
+    for (slot, bounds) in slots.iter().enumerate() {
+        write_range(text, frame, span, slot as u64, *bounds)?;
+    }
+    Ok(())
+}
+
+/// Appends what of all slots lies over a limit.
+pub(crate) fn write_overs(
+    text: &mut String,
+    frame: &Frame,
+    limit: u64,
+    span: u64,
+    slots: &[Option<Bounds>],
+) -> Result<(), AllocError>
+    requires some { 0 < span }
+    requires few { length slots.now ≤ 512 }
+    ensures { OnOk result (string_bytes text.new
+        ≡ string_bytes text.old ++ numbered (spec.over frame.now limit span) 0 slots.now) }
+{
+    for (slot, bounds) in slots.iter().enumerate() {
+        write_over(text, frame, limit, span, slot as u64, *bounds)?;
+    }
+    Ok(())
+}

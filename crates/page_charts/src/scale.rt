@@ -1,0 +1,113 @@
+//! Where a value and a slot lie in a picture.
+ghost use Rattle.std.specs.Prelude.{◌≡◌, ◌<◌, ◌≤◌, ◌^◌};
+ghost use Rattle.page_charts.specs.Scale as spec;
+
+/// The rectangle of the curves, in units of the picture: its left side, its width, its bottom and its height.
+pub(crate) const LEFT: u64 = 900;
+pub(crate) const WIDTH: u64 = 8_600;
+const BOTTOM: u64 = 2_200;
+const HEIGHT: u64 = 2_000;
+
+/// The greatest value of a scale.
+pub(crate) const GREATEST_VALUE: u64 = 1_000_000_000_000_000;
+
+// What a scale may end at.
+static SCALES: [u64; 43] = [
+    10,
+    20,
+    50,
+    100,
+    200,
+    500,
+    1_000,
+    2_000,
+    5_000,
+    10_000,
+    20_000,
+    50_000,
+    100_000,
+    200_000,
+    500_000,
+    1_000_000,
+    2_000_000,
+    5_000_000,
+    10_000_000,
+    20_000_000,
+    50_000_000,
+    100_000_000,
+    200_000_000,
+    500_000_000,
+    1_000_000_000,
+    2_000_000_000,
+    5_000_000_000,
+    10_000_000_000,
+    20_000_000_000,
+    50_000_000_000,
+    100_000_000_000,
+    200_000_000_000,
+    500_000_000_000,
+    1_000_000_000_000,
+    2_000_000_000_000,
+    5_000_000_000_000,
+    10_000_000_000_000,
+    20_000_000_000_000,
+    50_000_000_000_000,
+    100_000_000_000_000,
+    200_000_000_000_000,
+    500_000_000_000_000,
+    1_000_000_000_000_000,
+];
+
+// Whether a scale ends there on which values up to this one lie.
+fn reaches(scale: u64, greatest: u64) -> bool
+    ensures { result ≡ spec.reaches scale greatest }
+{
+    scale >= greatest && scale <= GREATEST_VALUE
+}
+
+// The first of these scales on which values up to this one lie; the greatest of all where none is.
+fn scale_among(scales: &[u64], greatest: u64) -> u64
+    ensures same { result ≡ spec.scale_among scales.now greatest }
+    ensures bound { result ≤ 10 ^ 15 }
+{
+    for scale in scales {
+        if reaches(*scale, greatest) {
+            return (*scale).min(GREATEST_VALUE);
+        }
+    }
+    GREATEST_VALUE
+}
+
+/// Where a scale ends on which values up to this one lie: the least of 10, 20, 50, 100, .. that is not less; 10^15 where none is.
+pub(crate) fn scale_for(greatest: u64) -> u64
+    ensures same { result ≡ spec.scale_for greatest }
+    ensures bound { result ≤ 10 ^ 15 }
+{
+    scale_among(&SCALES, greatest)
+}
+
+/// How many slots of so many windows it takes for all windows; 1 at least.
+pub(crate) fn slots_in(windows: u64, span: u64) -> u64
+    requires { 0 < span }
+    ensures { result ≡ spec.slots_in windows span }
+{
+    (windows.max(1) - 1) / span + 1
+}
+
+/// Where the middle of a slot lies among so many.
+pub(crate) fn across(slots: u64, slot: u64) -> u64
+    requires some { 0 < slots }
+    requires bound { slots ≤ 2 ^ 39 }
+    requires early { slot < 512 }
+    ensures { result ≡ spec.across slots slot }
+{
+    LEFT + WIDTH * (2 * slot + 1) / (2 * slots)
+}
+
+/// How high a value lies on a scale that ends at `top`; one beyond it lies at its end.
+pub(crate) fn height_of(top: u64, value: u64) -> u64
+    requires { top ≤ 10 ^ 15 }
+    ensures { result ≡ spec.height_of top value }
+{
+    BOTTOM - HEIGHT * value.min(top) / top.max(1)
+}

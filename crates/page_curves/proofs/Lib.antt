@@ -1,0 +1,4 @@
+pub mod Merging
+pub mod Neighbours
+pub mod Widening
+pub mod Values

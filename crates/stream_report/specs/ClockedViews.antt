@@ -1,0 +1,94 @@
+-- A stream packet by packet. Without a rate its packets wait until the line is known on which they arrive, and are viewed then.
+use Rattle.std.specs.Prelude.{◌≡◌, ℕ, Bool, List, [], ◌∷◌, ◌++◌, length, Option, Some, None}
+use Rattle.stream_arrival.specs.declared.arrival.Arrival.{Arrival}
+use Rattle.stream_arrival.specs.declared.arrival.Arrival.TheVariants.{Unknown, AtRate, OnLines}
+use Rattle.clocked_packets.specs.Waiting.{QueueState, last_arrival, no_packet, released, stepped, with_held}
+use Rattle.stream_report.specs.Choices.{RequestView}
+use Rattle.stream_report.specs.Seen.{arrival_lines}
+use Rattle.stream_report.specs.Views.{IsView, ViewState, arriving}
+use Rattle.stream_report.specs.Views as views
+use Rattle.stream_report.specs.declared.clocked_view.ClockedView.{ClockedView}
+
+-- what is kept of the packets that were viewed, and those that wait, where they do
+pub record ClockedState : Type 0 where
+  pub view : ViewState
+  pub queue : Option QueueState
+
+pub record IsClocked (clocked : ClockedView) (s : ClockedState) : Type 0 where
+  pub view : IsView clocked.view s.view
+  pub queue : clocked.queue ≡ s.queue
+
+-- before the first packet
+unfoldable pub queue_of : Arrival → Option QueueState
+queue_of Unknown = Some no_packet
+queue_of (AtRate rate) = None
+queue_of (OnLines lines) = None
+
+abbrev pub start : RequestView → ClockedState
+start request = record { view = views.start request; queue = queue_of request.options.arrival }
+
+-- 1. Those that wait are viewed, as they arrive
+
+abbrev pub view_with : ViewState → QueueState → Arrival → ViewState
+view_with v q arrival = views.after_all (arriving v arrival (length q.held)) q.held
+
+abbrev pub lines_with : ViewState → QueueState → Arrival → List ℕ
+lines_with v q arrival = arrival_lines v.seen arrival (length q.held) ++ views.lines_all (arriving v arrival (length q.held)) q.held
+
+-- if they do
+unfoldable pub view_after : ViewState → QueueState → Option Arrival → ViewState
+view_after v q None = v
+view_after v q (Some arrival) = view_with v q arrival
+
+unfoldable pub lines_after : ViewState → QueueState → Option Arrival → List ℕ
+lines_after v q None = []
+lines_after v q (Some arrival) = lines_with v q arrival
+
+unfoldable pub held_after : QueueState → Option Arrival → List (List ℕ)
+held_after q None = q.held
+held_after q (Some arrival) = []
+
+-- 2. A packet comes, and waits where packets wait
+
+abbrev pub queue_after : QueueState → List ℕ → QueueState
+queue_after q bytes = with_held (stepped q bytes) (held_after (stepped q bytes) (released q bytes) ++ bytes ∷ [])
+
+unfoldable pub after_in : ViewState → Option QueueState → List ℕ → ClockedState
+after_in v None bytes = record { view = views.after_packet v bytes; queue = None }
+after_in v (Some q) bytes = record { view = view_after v (stepped q bytes) (released q bytes); queue = Some (queue_after q bytes) }
+
+unfoldable pub lines_in : ViewState → Option QueueState → List ℕ → List ℕ
+lines_in v None bytes = views.lines_at v bytes
+lines_in v (Some q) bytes = lines_after v (stepped q bytes) (released q bytes)
+
+abbrev pub after_packet : ClockedState → List ℕ → ClockedState
+after_packet s bytes = after_in s.view s.queue bytes
+
+abbrev pub lines_at : ClockedState → List ℕ → List ℕ
+lines_at s bytes = lines_in s.view s.queue bytes
+
+-- after packets
+unfoldable pub after_all : ClockedState → List (List ℕ) → ClockedState
+after_all s [] = s
+after_all s (bytes ∷ packets) = after_all (after_packet s bytes) packets
+
+unfoldable pub lines_all : ClockedState → List (List ℕ) → List ℕ
+lines_all s [] = []
+lines_all s (bytes ∷ packets) = lines_at s bytes ++ lines_all (after_packet s bytes) packets
+
+-- 3. At the end: those that wait are viewed, and then the last lines come
+
+unfoldable pub last_view : ViewState → Option QueueState → ViewState
+last_view v None = v
+last_view v (Some q) = view_with v q (last_arrival q)
+
+unfoldable pub last_lines : ViewState → Option QueueState → List ℕ
+last_lines v None = []
+last_lines v (Some q) = lines_with v q (last_arrival q)
+
+abbrev pub end_lines : ClockedState → ℕ → List ℕ
+end_lines s left = last_lines s.view s.queue ++ views.end_lines (last_view s.view s.queue) left
+
+-- nothing is wrong
+abbrev pub is_good : ClockedState → ℕ → Bool
+is_good s left = views.is_good (last_view s.view s.queue) left

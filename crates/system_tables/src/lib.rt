@@ -1,0 +1,11 @@
+//! The buffers of the tables of each program, packet by packet (ISO/IEC 13818-1, 2.4.2.3).
+//!
+//! - [`SystemTables`]: the programs of a stream's first tables, and what their two buffers have held.
+//! - [`ProgramTables`]: the buffers of one program.
+#![tactic(auto)]
+
+mod program_tables;
+mod system_tables;
+
+pub use program_tables::{ProgramTables, SYSTEM_BYTES};
+pub use system_tables::SystemTables;

@@ -1,0 +1,104 @@
+//! The programs of a stream, and the buffers of their tables.
+ghost use Rattle.std.specs.Prelude.{◌≡◌, IfOk, None, OnOk, map};
+ghost use Rattle.stream_arrival.specs.Arrivals.{step_of};
+ghost use Rattle.system_tables.specs.Programs as spec;
+
+use crate::program_tables::ProgramTables;
+use named_streams::NamedStreams;
+use std::alloc::{AllocError, Global};
+use std::marker::Model;
+use stream_arrival::Arrival;
+use stream_programs::FoundProgram;
+
+/// The programs of a stream's first tables, once these are known, and the buffers of their tables from then on.
+#[derive(Drop)]
+pub struct SystemTables {
+    alloc: Global,
+    programs: Option<Vec<ProgramTables>>,
+}
+
+impl Model for SystemTables {
+    ghost use Rattle.std.specs.Prelude.{List, Option, option_map};
+    ghost use Rattle.system_tables.specs.Programs.{ProgramState};
+
+    ghost Value = { Option (List ProgramState) };
+
+    ghost view = { λ t. option_map (λ programs. programs.items) t.programs };
+}
+
+// The programs before their first packets.
+fn programs_of(
+    alloc: Global,
+    arrival: &Arrival,
+    found: &[FoundProgram],
+) -> Result<Vec<ProgramTables>, AllocError>
+    ensures { IfOk result (λ programs. programs.items ≡ map (spec.program_of (step_of arrival.now)) found.now) }
+{
+    found
+        .iter()
+        .map(|program| ProgramTables::new(arrival, program))
+        .collect(alloc)
+}
+
+// A packet comes to the programs.
+fn take_each(programs: &mut [ProgramTables], arrival: &Arrival, index: u64, pid: u16)
+    ensures { programs.new ≡ map (spec.entered arrival.now index pid) programs.old }
+{
+    for at in 0..programs.len() {
+        programs[at].take(arrival, index, pid);
+    }
+}
+
+impl SystemTables {
+    /// No packet has come.
+    pub fn new(alloc: Global) -> SystemTables
+        ensures { result ≡ None }
+    {
+        SystemTables {
+            alloc,
+            programs: None,
+        }
+    }
+
+    // The buffers begin, once the programs are known.
+    #[tactic(auto, unfolding(crate::specs::Programs::begun))]
+    fn begin(&mut self, arrival: &Arrival, named: &NamedStreams) -> Result<(), AllocError>
+        ensures { OnOk result (self.new ≡ spec.begun (step_of arrival.now) named.now self.old) }
+    {
+        if self.programs.is_some() {
+            return Ok(());
+        }
+        if let Some(found) = named.found() {
+            self.programs = Some(programs_of(self.alloc, arrival, &found.programs)?);
+        }
+        Ok(())
+    }
+
+    /// The packet of a PID at an index.
+    pub fn take(
+        &mut self,
+        arrival: &Arrival,
+        index: u64,
+        named: &NamedStreams,
+        pid: u16,
+    ) -> Result<(), AllocError>
+        ensures { OnOk result (self.new ≡ spec.taken arrival.now index named.now pid self.old) }
+    {
+        self.begin(arrival, named)?;
+        if let Some(programs) = &mut self.programs {
+            take_each(programs, arrival, index, pid);
+        }
+        Ok(())
+    }
+
+    /// The programs, none before they are known.
+    #[tactic(auto, unfolding(crate::specs::Programs::known))]
+    pub fn programs(&self) -> &[ProgramTables]
+        ensures { result.now ≡ spec.known self.now }
+    {
+        match &self.programs {
+            None => &[],
+            Some(programs) => programs,
+        }
+    }
+}

@@ -1,0 +1,87 @@
+-- The cells of a row, each made of the fields of a line.
+use Rattle.std.specs.Prelude.{ℕ, ◌*◌, ◌/◌, ◌^◌, ◌==◌, min, max, nat_lt, Bool, false, if◌then◌else◌, List, ◌++◌, codes, decimal, flat_map, Option, Some, None}
+use Rattle.page_charts.specs.Numbers.{tenths}
+use Rattle.page_charts.specs.PidNames as names
+use Rattle.view_page.specs.declared.cells.Limit.{Limit}
+use Rattle.view_page.specs.declared.cells.Limit.TheVariants.{Field, FieldIfAny, Fixed}
+use Rattle.view_page.specs.declared.cells.CellUnit.{CellUnit}
+use Rattle.view_page.specs.declared.cells.CellUnit.TheVariants.{Same, Ticks}
+use Rattle.view_page.specs.declared.cells.CellWord.{CellWord}
+use Rattle.view_page.specs.declared.cells.CellWord.TheVariants.{Transport, Main, TransportExcess, MainExcess, LateUnit, FarAhead, PcrRepetition, PcrDiscontinuity, PcrAccuracy, TableRepetition, Unclocked, Bytes, Packets, Millis, Nanos, Unreferenced, Missing, Nothing}
+use Rattle.view_page.specs.declared.cells.Cell.{Cell}
+use Rattle.view_page.specs.declared.cells.Cell.TheVariants.{Number, Checked, Bar, Word, Coding}
+use Rattle.view_page.specs.Fields.{coding_in, number_in}
+
+unfoldable pub word_text : CellWord → List ℕ
+word_text Transport = codes "transport"
+word_text Main = codes "main"
+word_text TransportExcess = codes "transport buffer over its size"
+word_text MainExcess = codes "main buffer over its size"
+word_text LateUnit = codes "late unit"
+word_text FarAhead = codes "unit too far ahead"
+word_text PcrRepetition = codes "clock reference too late"
+word_text PcrDiscontinuity = codes "clock reference that jumps"
+word_text PcrAccuracy = codes "inaccurate clock reference"
+word_text TableRepetition = codes "section too late"
+word_text Unclocked = codes "packets without a moment"
+word_text Bytes = codes "bytes"
+word_text Packets = codes "packets"
+word_text Millis = codes "ms"
+word_text Nanos = codes "ns"
+word_text Unreferenced = codes "has packets, and the first tables do not name it"
+word_text Missing = codes "has no packet, and the first tables name it"
+word_text Nothing = codes ""
+
+abbrev pub limit_if : ℕ → Option ℕ
+limit_if n = if n == 0 then None else Some n
+
+-- the limit of a line, if it has one
+unfoldable pub limit_in : Limit → List (List ℕ) → Option ℕ
+limit_in (Field name) words = Some (number_in name words)
+limit_in (FieldIfAny name) words = limit_if (number_in name words)
+limit_in (Fixed limit) words = Some limit
+
+unfoldable pub is_over : ℕ → Option ℕ → Bool
+is_over value None = false
+is_over value (Some limit) = nat_lt limit value
+
+-- ticks of 27 MHz as ms
+unfoldable pub scaled : ℕ → CellUnit → List ℕ
+scaled value Same = decimal value
+scaled value Ticks = tenths value 27000
+
+-- a number, marked where it is over its limit
+abbrev pub cell_head : Bool → List ℕ
+cell_head over = if over then codes "<td class=\"bad\">&#9650; " else codes "<td>"
+
+abbrev pub checked : ℕ → Option ℕ → CellUnit → List ℕ
+checked value limit unit = cell_head (is_over value limit) ++ scaled value unit
+
+-- a bar whose limit lies at 100, and that ends at 200
+abbrev pub bar_length : ℕ → ℕ → ℕ
+bar_length value limit = min (min value (2 ^ 50) * 100 / max limit 1) 200
+
+abbrev pub bar_class : Bool → List ℕ
+bar_class over = if over then codes "over" else codes "fill"
+
+abbrev pub bar_to : List ℕ → ℕ → List ℕ
+bar_to class length = codes "<td><svg class=\"bar\" viewBox=\"0 0 200 12\"><path class=\"" ++ (class ++ (codes "\" d=\"M0 6H"
+    ++ (decimal length ++ codes "\"/><path class=\"mark\" d=\"M100 0V12\"/></svg>")))
+
+unfoldable pub bar : ℕ → Option ℕ → List ℕ
+bar value None = codes "<td>"
+bar value (Some limit) = bar_to (bar_class (nat_lt limit value)) (bar_length value limit)
+
+abbrev pub word_cell : List ℕ → List ℕ
+word_cell word = codes "<td class=\"word\">" ++ word
+
+-- a cell of a line of these words
+unfoldable pub cell : List (List ℕ) → Cell → List ℕ
+cell words (Number name unit) = checked (number_in name words) None unit
+cell words (Checked name limit unit) = checked (number_in name words) (limit_in limit words) unit
+cell words (Bar name limit) = bar (number_in name words) (limit_in limit words)
+cell words (Word word) = word_cell (word_text word)
+cell words Coding = word_cell (names.word (coding_in words))
+
+abbrev pub row : List (List ℕ) → List Cell → List ℕ
+row words cells = codes "<tr>" ++ (flat_map (cell words) cells ++ codes "\n")

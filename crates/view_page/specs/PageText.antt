@@ -1,0 +1,83 @@
+-- The text of a page.
+use Rattle.std.specs.Prelude.{ℕ, nat_lt, if◌then◌else◌, List, [], ◌∷◌, ◌++◌, codes, decimal, flat_map}
+use Rattle.page_charts.specs.declared.frame.ChartUnit.{ChartUnit}
+use Rattle.page_charts.specs.declared.frame.ChartUnit.TheVariants.{BitRate, Bytes, Time}
+use Rattle.page_charts.specs.declared.pid_curves.PidCurve.{PidCurve}
+use Rattle.page_charts.specs.Charts.{chart}
+use Rattle.page_charts.specs.Frames.{frame}
+use Rattle.page_charts.specs.PidCurves.{greatest_value}
+use Rattle.view_page.specs.declared.page.Page.{Page}
+use Rattle.view_page.specs.declared.page.ReportEnd.{ReportEnd}
+use Rattle.view_page.specs.declared.page_text.TheConstants.{APART, BACK, BUFFERS, CLOCKS, FAULTS, FRONT, MAINS, PIDS, RATES, SLACKS, STREAMS, SYSTEMS, TABLES, TRANSPORTS}
+use Rattle.view_page.specs.RowTexts.{RowTexts}
+
+-- texts that are always the same
+unfoldable pub front_text : List ℕ
+front_text = FRONT.now
+
+unfoldable pub rates_text : List ℕ
+rates_text = RATES.now
+
+unfoldable pub slacks_text : List ℕ
+slacks_text = SLACKS.now
+
+unfoldable pub transports_text : List ℕ
+transports_text = TRANSPORTS.now
+
+unfoldable pub mains_text : List ℕ
+mains_text = MAINS.now
+
+unfoldable pub faults_text : List ℕ
+faults_text = FAULTS.now
+
+unfoldable pub streams_text : List ℕ
+streams_text = STREAMS.now
+
+unfoldable pub buffers_text : List ℕ
+buffers_text = BUFFERS.now
+
+unfoldable pub systems_text : List ℕ
+systems_text = SYSTEMS.now
+
+unfoldable pub clocks_text : List ℕ
+clocks_text = CLOCKS.now
+
+unfoldable pub tables_text : List ℕ
+tables_text = TABLES.now
+
+unfoldable pub pids_text : List ℕ
+pids_text = PIDS.now
+
+unfoldable pub apart_text : List ℕ
+apart_text = APART.now
+
+unfoldable pub back_text : List ℕ
+back_text = BACK.now
+
+-- what was read, and how many faults there are
+unfoldable pub verdict : ℕ → List ℕ
+verdict faults = if nat_lt 0 faults then codes "<span class=\"bad\">&#9650; " ++ (decimal faults ++ codes " faults.</span></p>\n") else codes "No fault.</p>\n"
+
+unfoldable pub summary : ReportEnd → ℕ → List ℕ
+summary end faults = codes "<p>" ++ (decimal end.packets ++ (codes " packets, " ++ (decimal end.refused ++ (codes " refused, " ++ (decimal end.left
+    ++ (codes " bytes after the last. " ++ verdict faults))))))
+
+-- a picture of curves in one frame, up to the greatest value of all
+unfoldable pub one_chart : Page → ChartUnit → List PidCurve → List ℕ
+one_chart p unit curves = chart (frame unit p.values.windows p.millis (greatest_value curves)) curves
+
+abbrev pub buffer_chart : Page → PidCurve → List ℕ
+buffer_chart p entry = one_chart p Bytes (entry ∷ [])
+
+unfoldable pub charts : Page → List ℕ
+charts p = (rates_text ++ one_chart p BitRate p.values.rates.curves.items) ++ ((transports_text ++ flat_map (buffer_chart p) p.values.transports.curves.items)
+    ++ ((mains_text ++ flat_map (buffer_chart p) p.values.mains.curves.items) ++ (slacks_text ++ one_chart p Time p.values.slacks.curves.items)))
+
+unfoldable pub measures : RowTexts → List ℕ
+measures r = (faults_text ++ r.faults) ++ ((streams_text ++ r.streams) ++ ((buffers_text ++ r.buffers) ++ ((systems_text ++ r.systems) ++ (clocks_text ++ r.clocks))))
+
+unfoldable pub lists : RowTexts → List ℕ
+lists r = (tables_text ++ r.tables) ++ ((pids_text ++ r.pids) ++ (apart_text ++ r.apart))
+
+abbrev pub page_text : Page → List ℕ
+page_text p = front_text ++ (summary p.end p.rows.count ++ (charts p ++ (measures p.rows ++ (lists p.rows ++ back_text))))

@@ -1,0 +1,222 @@
+//! The cells of a row, each made of the fields of a line.
+ghost use Rattle.std.specs.Prelude.{◌≡◌, ◌++◌, OnOk, flat_map, map, string_bytes};
+ghost use Rattle.view_page.specs.Cells as spec;
+
+use crate::fields::{FieldName, coding_in, number_in};
+use page_charts::write_tenths;
+use std::alloc::AllocError;
+use std::fmt::Write;
+
+/// What a number is not to exceed: a field, a field that says nothing where it is 0, or this.
+#[derive(Clone, Copy)]
+pub enum Limit {
+    Field(FieldName),
+    FieldIfAny(FieldName),
+    Fixed(u64),
+}
+
+/// The unit of a number in a line, and in its cell: the same, or ticks of 27 MHz as ms.
+#[derive(Clone, Copy)]
+pub enum CellUnit {
+    Same,
+    Ticks,
+}
+
+/// A word of a cell.
+#[derive(Clone, Copy)]
+pub enum CellWord {
+    Transport,
+    Main,
+    TransportExcess,
+    MainExcess,
+    LateUnit,
+    FarAhead,
+    PcrRepetition,
+    PcrDiscontinuity,
+    PcrAccuracy,
+    TableRepetition,
+    Unclocked,
+    Bytes,
+    Packets,
+    Millis,
+    Nanos,
+    Unreferenced,
+    Missing,
+    Nothing,
+}
+
+/// A cell: a number, one that is marked where it exceeds its limit, a bar of it beside its limit, a word, or what the stream is
+/// called.
+#[derive(Clone, Copy)]
+pub enum Cell {
+    Number(FieldName, CellUnit),
+    Checked(FieldName, Limit, CellUnit),
+    Bar(FieldName, Limit),
+    Word(CellWord),
+    Coding,
+}
+
+#[tactic(auto, unfolding(crate::specs::Cells::word_text))]
+fn word_text(word: CellWord) -> &'static str
+    ensures { result.now ≡ spec.word_text word }
+{
+    match word {
+        CellWord::Transport => "transport",
+        CellWord::Main => "main",
+        CellWord::TransportExcess => "transport buffer over its size",
+        CellWord::MainExcess => "main buffer over its size",
+        CellWord::LateUnit => "late unit",
+        CellWord::FarAhead => "unit too far ahead",
+        CellWord::PcrRepetition => "clock reference too late",
+        CellWord::PcrDiscontinuity => "clock reference that jumps",
+        CellWord::PcrAccuracy => "inaccurate clock reference",
+        CellWord::TableRepetition => "section too late",
+        CellWord::Unclocked => "packets without a moment",
+        CellWord::Bytes => "bytes",
+        CellWord::Packets => "packets",
+        CellWord::Millis => "ms",
+        CellWord::Nanos => "ns",
+        CellWord::Unreferenced => "has packets, and the first tables do not name it",
+        CellWord::Missing => "has no packet, and the first tables name it",
+        CellWord::Nothing => "",
+    }
+}
+
+// The limit of a line, if it has one.
+#[tactic(auto, unfolding(crate::specs::Cells::limit_in))]
+fn limit_in(limit: Limit, words: &[&str]) -> Option<u64>
+    ensures { result ≡ spec.limit_in limit (map (λ s. s.now) words.now) }
+{
+    match limit {
+        Limit::Field(name) => Some(number_in(name, words)),
+        Limit::FieldIfAny(name) => match number_in(name, words) {
+            0 => None,
+            limit => Some(limit),
+        },
+        Limit::Fixed(limit) => Some(limit),
+    }
+}
+
+// Whether a number is over a limit.
+#[tactic(auto, unfolding(crate::specs::Cells::is_over))]
+fn is_over(value: u64, limit: Option<u64>) -> bool
+    ensures { result ≡ spec.is_over value limit }
+{
+    match limit {
+        None => false,
+        Some(limit) => value > limit,
+    }
+}
+
+#[tactic(auto, unfolding(crate::specs::Cells::scaled))]
+fn write_scaled(text: &mut String, value: u64, unit: CellUnit) -> Result<(), AllocError>
+    ensures { OnOk result (string_bytes text.new ≡ string_bytes text.old ++ spec.scaled value unit) }
+{
+    match unit {
+        CellUnit::Same => write!(text, "{value}"),
+        CellUnit::Ticks => write_tenths(text, value, 27_000),
+    }
+}
+
+// How the cell of a number begins.
+fn cell_head(over: bool) -> &'static str
+    ensures { result.now ≡ spec.cell_head over }
+{
+    if over {
+        "<td class=\"bad\">&#9650; "
+    } else {
+        "<td>"
+    }
+}
+
+fn write_checked(
+    text: &mut String,
+    value: u64,
+    limit: Option<u64>,
+    unit: CellUnit,
+) -> Result<(), AllocError>
+    ensures { OnOk result (string_bytes text.new ≡ string_bytes text.old ++ spec.checked value limit unit) }
+{
+    text.push_str(cell_head(is_over(value, limit)))?;
+    write_scaled(text, value, unit)
+}
+
+// How long a bar is, where its limit lies at 100; it ends at 200.
+fn bar_length(value: u64, limit: u64) -> u64
+    ensures { result ≡ spec.bar_length value limit }
+{
+    (value.min(1 << 50) * 100 / limit.max(1)).min(200)
+}
+
+// The class of a bar.
+fn bar_class(over: bool) -> &'static str
+    ensures { result.now ≡ spec.bar_class over }
+{
+    if over { "over" } else { "fill" }
+}
+
+fn write_bar_to(text: &mut String, class: &str, length: u64) -> Result<(), AllocError>
+    ensures { OnOk result (string_bytes text.new ≡ string_bytes text.old ++ spec.bar_to class.now length) }
+{
+    write!(
+        text,
+        "<td><svg class=\"bar\" viewBox=\"0 0 200 12\"><path class=\"{class}\" d=\"M0 6H{length}\"/><path class=\"mark\" d=\"M100 0V12\"/></svg>"
+    )
+}
+
+#[tactic(auto, unfolding(crate::specs::Cells::bar))]
+fn write_bar(text: &mut String, value: u64, limit: Option<u64>) -> Result<(), AllocError>
+    ensures { OnOk result (string_bytes text.new ≡ string_bytes text.old ++ spec.bar value limit) }
+{
+    match limit {
+        None => text.push_str("<td>"),
+        Some(limit) => write_bar_to(text, bar_class(value > limit), bar_length(value, limit)),
+    }
+}
+
+fn write_word(text: &mut String, word: &str) -> Result<(), AllocError>
+    ensures { OnOk result (string_bytes text.new ≡ string_bytes text.old ++ spec.word_cell word.now) }
+{
+    write!(text, "<td class=\"word\">{word}")
+}
+
+// A cell of a line of these words.
+#[tactic(auto, unfolding(crate::specs::Cells::cell))]
+fn write_cell(text: &mut String, words: &[&str], cell: Cell) -> Result<(), AllocError>
+    ensures { OnOk result (string_bytes text.new
+        ≡ string_bytes text.old ++ spec.cell (map (λ s. s.now) words.now) cell) }
+{
+    match cell {
+        Cell::Number(name, unit) => write_checked(text, number_in(name, words), None, unit),
+        Cell::Checked(name, limit, unit) => {
+            write_checked(text, number_in(name, words), limit_in(limit, words), unit)
+        }
+        Cell::Bar(name, limit) => write_bar(text, number_in(name, words), limit_in(limit, words)),
+        Cell::Word(word) => write_word(text, word_text(word)),
+        Cell::Coding => write_word(text, coding_in(words).word()),
+    }
+}
+
+fn write_cells(text: &mut String, words: &[&str], cells: &[Cell]) -> Result<(), AllocError>
+    ensures { OnOk result (string_bytes text.new
+        ≡ string_bytes text.old ++ flat_map (spec.cell (map (λ s. s.now) words.now)) cells.now) }
+{
+    for cell in cells {
+        write_cell(text, words, *cell)?;
+    }
+    Ok(())
+}
+
+/// Appends the row of a line of these words.
+pub(crate) fn write_row(
+    text: &mut String,
+    words: &[&str],
+    cells: &[Cell],
+) -> Result<(), AllocError>
+    ensures { OnOk result (string_bytes text.new
+        ≡ string_bytes text.old ++ spec.row (map (λ s. s.now) words.now) cells.now) }
+{
+    text.push_str("<tr>")?;
+    write_cells(text, words, cells)?;
+    text.push_str("\n")
+}

@@ -1,0 +1,258 @@
+//! The rows of the page's tables, as the lines come.
+ghost use Rattle.std.specs.Prelude.{◌≡◌, ◌++◌, OnOk, map, string_bytes};
+ghost use Rattle.view_page.specs.Rows as spec;
+
+use crate::cells::{Cell, CellUnit, CellWord, Limit, write_row};
+use crate::fields::FieldName;
+use crate::report_lines::LineKind;
+use std::alloc::{AllocError, Global};
+use std::marker::Model;
+
+/// How many faults have rows.
+const MOST_FAULTS: u64 = 100;
+
+// The cells of a line of each kind that has a row.
+const STREAM: [Cell; 6] = [
+    Cell::Number(FieldName::Pid, CellUnit::Same),
+    Cell::Number(FieldName::Program, CellUnit::Same),
+    Cell::Number(FieldName::Type, CellUnit::Same),
+    Cell::Coding,
+    Cell::Number(FieldName::Rx, CellUnit::Same),
+    Cell::Number(FieldName::Main, CellUnit::Same),
+];
+const TRANSPORT: [Cell; 9] = [
+    Cell::Number(FieldName::Pid, CellUnit::Same),
+    Cell::Word(CellWord::Transport),
+    Cell::Number(FieldName::Size, CellUnit::Same),
+    Cell::Checked(FieldName::Most, Limit::Field(FieldName::Size), CellUnit::Same),
+    Cell::Bar(FieldName::Most, Limit::Field(FieldName::Size)),
+    Cell::Checked(FieldName::Excesses, Limit::Fixed(0), CellUnit::Same),
+    Cell::Word(CellWord::Nothing),
+    Cell::Word(CellWord::Nothing),
+    Cell::Word(CellWord::Nothing),
+];
+const MAIN: [Cell; 9] = [
+    Cell::Number(FieldName::Pid, CellUnit::Same),
+    Cell::Word(CellWord::Main),
+    Cell::Number(FieldName::Size, CellUnit::Same),
+    Cell::Checked(FieldName::Most, Limit::Field(FieldName::Size), CellUnit::Same),
+    Cell::Bar(FieldName::Most, Limit::Field(FieldName::Size)),
+    Cell::Checked(FieldName::Excesses, Limit::Fixed(0), CellUnit::Same),
+    Cell::Number(FieldName::Units, CellUnit::Same),
+    Cell::Checked(FieldName::Late, Limit::Fixed(0), CellUnit::Same),
+    Cell::Checked(FieldName::Unread, Limit::Fixed(0), CellUnit::Same),
+];
+const SYSTEM: [Cell; 5] = [
+    Cell::Number(FieldName::Program, CellUnit::Same),
+    Cell::Checked(FieldName::Transport, Limit::Fixed(512), CellUnit::Same),
+    Cell::Bar(FieldName::Transport, Limit::Fixed(512)),
+    Cell::Checked(FieldName::Main, Limit::Fixed(1_536), CellUnit::Same),
+    Cell::Bar(FieldName::Main, Limit::Fixed(1_536)),
+];
+const CLOCK: [Cell; 8] = [
+    Cell::Number(FieldName::Pid, CellUnit::Same),
+    Cell::Number(FieldName::References, CellUnit::Same),
+    Cell::Number(FieldName::Announced, CellUnit::Same),
+    Cell::Number(FieldName::Rate, CellUnit::Same),
+    Cell::Checked(FieldName::Interval, Limit::Fixed(2_700_000), CellUnit::Ticks),
+    Cell::Bar(FieldName::Interval, Limit::Fixed(2_700_000)),
+    Cell::Checked(FieldName::Inaccuracy, Limit::Fixed(500), CellUnit::Same),
+    Cell::Bar(FieldName::Inaccuracy, Limit::Fixed(500)),
+];
+const TABLE: [Cell; 6] = [
+    Cell::Number(FieldName::Pid, CellUnit::Same),
+    Cell::Number(FieldName::Table, CellUnit::Same),
+    Cell::Number(FieldName::Sections, CellUnit::Same),
+    Cell::Checked(FieldName::Interval, Limit::FieldIfAny(FieldName::Limit), CellUnit::Ticks),
+    Cell::Number(FieldName::Limit, CellUnit::Ticks),
+    Cell::Bar(FieldName::Interval, Limit::FieldIfAny(FieldName::Limit)),
+];
+const PID: [Cell; 3] = [
+    Cell::Number(FieldName::Number, CellUnit::Same),
+    Cell::Number(FieldName::Packets, CellUnit::Same),
+    Cell::Number(FieldName::Pcrs, CellUnit::Same),
+];
+const UNREFERENCED: [Cell; 2] = [
+    Cell::Number(FieldName::Pid, CellUnit::Same),
+    Cell::Word(CellWord::Unreferenced),
+];
+const MISSING: [Cell; 2] = [
+    Cell::Number(FieldName::Pid, CellUnit::Same),
+    Cell::Word(CellWord::Missing),
+];
+const EXCESS: [Cell; 6] = [
+    Cell::Word(CellWord::TransportExcess),
+    Cell::Number(FieldName::Pid, CellUnit::Same),
+    Cell::Number(FieldName::Packet, CellUnit::Same),
+    Cell::Number(FieldName::Peak, CellUnit::Same),
+    Cell::Number(FieldName::Size, CellUnit::Same),
+    Cell::Word(CellWord::Bytes),
+];
+const MAIN_EXCESS: [Cell; 6] = [
+    Cell::Word(CellWord::MainExcess),
+    Cell::Number(FieldName::Pid, CellUnit::Same),
+    Cell::Number(FieldName::Packet, CellUnit::Same),
+    Cell::Number(FieldName::Peak, CellUnit::Same),
+    Cell::Number(FieldName::Size, CellUnit::Same),
+    Cell::Word(CellWord::Bytes),
+];
+const LATE: [Cell; 6] = [
+    Cell::Word(CellWord::LateUnit),
+    Cell::Number(FieldName::Pid, CellUnit::Same),
+    Cell::Number(FieldName::Packet, CellUnit::Same),
+    Cell::Number(FieldName::By, CellUnit::Ticks),
+    Cell::Word(CellWord::Nothing),
+    Cell::Word(CellWord::Millis),
+];
+const AHEAD: [Cell; 6] = [
+    Cell::Word(CellWord::FarAhead),
+    Cell::Number(FieldName::Pid, CellUnit::Same),
+    Cell::Number(FieldName::Packet, CellUnit::Same),
+    Cell::Number(FieldName::By, CellUnit::Ticks),
+    Cell::Number(FieldName::Limit, CellUnit::Ticks),
+    Cell::Word(CellWord::Millis),
+];
+const PCR_REPETITION: [Cell; 6] = [
+    Cell::Word(CellWord::PcrRepetition),
+    Cell::Number(FieldName::Pid, CellUnit::Same),
+    Cell::Number(FieldName::Packet, CellUnit::Same),
+    Cell::Number(FieldName::Value, CellUnit::Ticks),
+    Cell::Number(FieldName::Limit, CellUnit::Ticks),
+    Cell::Word(CellWord::Millis),
+];
+const PCR_DISCONTINUITY: [Cell; 6] = [
+    Cell::Word(CellWord::PcrDiscontinuity),
+    Cell::Number(FieldName::Pid, CellUnit::Same),
+    Cell::Number(FieldName::Packet, CellUnit::Same),
+    Cell::Number(FieldName::Value, CellUnit::Ticks),
+    Cell::Number(FieldName::Limit, CellUnit::Ticks),
+    Cell::Word(CellWord::Millis),
+];
+const PCR_ACCURACY: [Cell; 6] = [
+    Cell::Word(CellWord::PcrAccuracy),
+    Cell::Number(FieldName::Pid, CellUnit::Same),
+    Cell::Number(FieldName::Packet, CellUnit::Same),
+    Cell::Number(FieldName::Value, CellUnit::Same),
+    Cell::Number(FieldName::Limit, CellUnit::Same),
+    Cell::Word(CellWord::Nanos),
+];
+const TABLE_REPETITION: [Cell; 6] = [
+    Cell::Word(CellWord::TableRepetition),
+    Cell::Number(FieldName::Pid, CellUnit::Same),
+    Cell::Number(FieldName::Packet, CellUnit::Same),
+    Cell::Number(FieldName::Value, CellUnit::Ticks),
+    Cell::Number(FieldName::Limit, CellUnit::Ticks),
+    Cell::Word(CellWord::Millis),
+];
+
+const UNCLOCKED: [Cell; 6] = [
+    Cell::Word(CellWord::Unclocked),
+    Cell::Word(CellWord::Nothing),
+    Cell::Number(FieldName::Packet, CellUnit::Same),
+    Cell::Number(FieldName::Packets, CellUnit::Same),
+    Cell::Word(CellWord::Nothing),
+    Cell::Word(CellWord::Packets),
+];
+
+/// The rows of each table, and how many faults have come; 100 of them have rows.
+#[derive(Drop)]
+pub struct Rows {
+    pub streams: String,
+    pub buffers: String,
+    pub systems: String,
+    pub clocks: String,
+    pub tables: String,
+    pub pids: String,
+    pub apart: String,
+    pub faults: String,
+    pub count: u64,
+}
+
+impl Model for Rows {
+    ghost use Rattle.std.specs.Prelude.{string_bytes};
+    ghost use Rattle.view_page.specs.RowTexts.{RowTexts};
+
+    ghost Value = { RowTexts };
+
+    ghost view = { λ r. record {
+      streams = string_bytes r.streams;
+      buffers = string_bytes r.buffers;
+      systems = string_bytes r.systems;
+      clocks = string_bytes r.clocks;
+      tables = string_bytes r.tables;
+      pids = string_bytes r.pids;
+      apart = string_bytes r.apart;
+      faults = string_bytes r.faults;
+      count = r.count;
+    } };
+}
+
+impl Rows {
+    /// No line has come.
+    pub fn new(alloc: Global) -> Rows
+        ensures { result ≡ spec.no_rows }
+    {
+        Rows {
+            streams: String::new(alloc),
+            buffers: String::new(alloc),
+            systems: String::new(alloc),
+            clocks: String::new(alloc),
+            tables: String::new(alloc),
+            pids: String::new(alloc),
+            apart: String::new(alloc),
+            faults: String::new(alloc),
+            count: 0,
+        }
+    }
+
+    // A fault, with a row if it is one of the first.
+    fn take_fault(&mut self, words: &[&str], cells: &[Cell]) -> Result<(), AllocError>
+        ensures { OnOk result (self.new ≡ spec.with_fault self.old (map (λ s. s.now) words.now) cells.now) }
+    {
+        let count = self.count;
+        self.count = count.saturating_add(1);
+        if count < MOST_FAULTS {
+            write_row(&mut self.faults, words, cells)
+        } else {
+            Ok(())
+        }
+    }
+
+    // The line of a fault, if it is one.
+    #[tactic(auto, unfolding(crate::specs::Rows::with_fault_line))]
+    fn take_faults(&mut self, kind: LineKind, words: &[&str]) -> Result<(), AllocError>
+        ensures { OnOk result (self.new ≡ spec.with_fault_line self.old kind (map (λ s. s.now) words.now)) }
+    {
+        match kind {
+            LineKind::Excess => self.take_fault(words, &EXCESS),
+            LineKind::MainExcess => self.take_fault(words, &MAIN_EXCESS),
+            LineKind::Late => self.take_fault(words, &LATE),
+            LineKind::Ahead => self.take_fault(words, &AHEAD),
+            LineKind::PcrRepetition => self.take_fault(words, &PCR_REPETITION),
+            LineKind::PcrDiscontinuity => self.take_fault(words, &PCR_DISCONTINUITY),
+            LineKind::PcrAccuracy => self.take_fault(words, &PCR_ACCURACY),
+            LineKind::TableRepetition => self.take_fault(words, &TABLE_REPETITION),
+            LineKind::Unclocked => self.take_fault(words, &UNCLOCKED),
+            _ => Ok(()),
+        }
+    }
+
+    /// A line of these words.
+    #[tactic(auto, unfolding(crate::specs::Rows::with_line))]
+    pub fn take(&mut self, kind: LineKind, words: &[&str]) -> Result<(), AllocError>
+        ensures { OnOk result (self.new ≡ spec.with_line self.old kind (map (λ s. s.now) words.now)) }
+    {
+        match kind {
+            LineKind::Stream => write_row(&mut self.streams, words, &STREAM),
+            LineKind::Transport => write_row(&mut self.buffers, words, &TRANSPORT),
+            LineKind::Main => write_row(&mut self.buffers, words, &MAIN),
+            LineKind::System => write_row(&mut self.systems, words, &SYSTEM),
+            LineKind::Clock => write_row(&mut self.clocks, words, &CLOCK),
+            LineKind::Table => write_row(&mut self.tables, words, &TABLE),
+            LineKind::Pid => write_row(&mut self.pids, words, &PID),
+            LineKind::Unreferenced => write_row(&mut self.apart, words, &UNREFERENCED),
+            LineKind::Missing => write_row(&mut self.apart, words, &MISSING),
+            _ => self.take_faults(kind, words),
+        }
+    }
+}
