@@ -49,11 +49,7 @@ fn write_key(
     write_with_unit(text, unit, entry.curve.greatest())
 }
 
-fn write_each_key(
-    text: &mut String,
-    unit: ChartUnit,
-    curves: &[PidCurve],
-) -> Result<(), AllocError>
+fn write_each_key(text: &mut String, unit: ChartUnit, curves: &[PidCurve]) -> Result<(), AllocError>
     ensures { OnOk result (string_bytes text.new ≡ string_bytes text.old ++ numbered (spec.key unit) 0 curves.now) }
 {
     for (number, entry) in curves.iter().enumerate() {
@@ -180,11 +176,7 @@ fn write_curve(
     }
 }
 
-fn write_curves(
-    text: &mut String,
-    frame: &Frame,
-    curves: &[PidCurve],
-) -> Result<(), AllocError>
+fn write_curves(text: &mut String, frame: &Frame, curves: &[PidCurve]) -> Result<(), AllocError>
     ensures { OnOk result (string_bytes text.new
         ≡ string_bytes text.old ++ numbered (spec.curve frame.now) 0 curves.now) }
 {
@@ -196,11 +188,7 @@ fn write_curves(
 
 // The picture itself.
 #[tactic(auto, unfolding(crate::specs::Charts::picture))]
-fn write_picture(
-    text: &mut String,
-    frame: &Frame,
-    curves: &[PidCurve],
-) -> Result<(), AllocError>
+fn write_picture(text: &mut String, frame: &Frame, curves: &[PidCurve]) -> Result<(), AllocError>
     ensures { OnOk result (string_bytes text.new ≡ string_bytes text.old ++ spec.picture frame.now curves.now) }
 {
     text.push_str("<svg class=\"chart\" viewBox=\"0 -80 9900 2560\" role=\"img\">\n")?;
@@ -210,11 +198,7 @@ fn write_picture(
 }
 
 /// Appends a picture of curves: their key, their lines beside their limits, and their numbers as a table.
-pub fn write_chart(
-    text: &mut String,
-    frame: &Frame,
-    curves: &[PidCurve],
-) -> Result<(), AllocError>
+pub fn write_chart(text: &mut String, frame: &Frame, curves: &[PidCurve]) -> Result<(), AllocError>
     ensures { OnOk result (string_bytes text.new ≡ string_bytes text.old ++ spec.chart frame.now curves.now) }
 {
     write_keys(text, frame.unit, curves)?;

@@ -1,5 +1,5 @@
 //! The frame of a picture: its scales, and what is drawn of them.
-ghost use Rattle.std.specs.Prelude.{◌≡◌, ◌++◌, ◌<◌, ◌≤◌, ◌^◌, OnOk, string_bytes};
+ghost use Rattle.std.specs.Prelude.{◌≡◌, ◌++◌, ◌<◌, ◌≤◌, ◌^◌, OnOk, flat_map, string_bytes};
 ghost use Rattle.page_charts.specs.Frames as spec;
 
 use crate::frame::{ChartUnit, Frame};
@@ -14,11 +14,7 @@ const FIFTHS: [u64; 6] = [0, 1, 2, 3, 4, 5];
 
 /// Appends a value in the unit in which a picture has its values.
 #[tactic(auto, unfolding(crate::specs::Frames::value_text))]
-pub(crate) fn write_value(
-    text: &mut String,
-    unit: ChartUnit,
-    value: u64,
-) -> Result<(), AllocError>
+pub(crate) fn write_value(text: &mut String, unit: ChartUnit, value: u64) -> Result<(), AllocError>
     ensures { OnOk result (string_bytes text.new ≡ string_bytes text.old ++ spec.value_text unit value) }
 {
     match unit {
@@ -82,7 +78,10 @@ fn write_moment(text: &mut String, x: u64, moment: u64) -> Result<(), AllocError
 fn write_name_above(text: &mut String, name: &str) -> Result<(), AllocError>
     ensures { OnOk result (string_bytes text.new ≡ string_bytes text.old ++ spec.name_above name.now) }
 {
-    write!(text, "<text class=\"end\" x=\"840\" y=\"30\">{name}</text>\n")
+    write!(
+        text,
+        "<text class=\"end\" x=\"840\" y=\"30\">{name}</text>\n"
+    )
 }
 
 // The bounds of a slot of which no window, or not each, has a value.
@@ -180,11 +179,12 @@ impl Frame {
         write_moment(text, LEFT + WIDTH * fifth / 5, self.moment(fifth))
     }
 
-    // The fifths of both scales.
-    fn write_fifths(&self, text: &mut String) -> Result<(), AllocError>
-        ensures { OnOk result (string_bytes text.new ≡ string_bytes text.old ++ spec.fifths_text self.now) }
+    // Some fifths of both scales.
+    fn write_fifths(&self, text: &mut String, fifths: &[u64]) -> Result<(), AllocError>
+        ensures { OnOk result (string_bytes text.new
+            ≡ string_bytes text.old ++ flat_map (spec.fifth_text self.now) fifths.now) }
     {
-        for fifth in &FIFTHS {
+        for fifth in fifths {
             self.write_fifth(text, *fifth)?;
         }
         Ok(())
@@ -195,7 +195,7 @@ impl Frame {
     pub(crate) fn write_scales(&self, text: &mut String) -> Result<(), AllocError>
         ensures { OnOk result (string_bytes text.new ≡ string_bytes text.old ++ spec.scales_text self.now) }
     {
-        self.write_fifths(text)?;
+        self.write_fifths(text, &FIFTHS)?;
         write_name_above(text, unit_name(self.unit))
     }
 }

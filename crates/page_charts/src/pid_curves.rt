@@ -61,12 +61,7 @@ fn is_closed(curves: &[PidCurve], pid: u16) -> bool
 }
 
 // A value of the curve of a PID, if it has one.
-fn take_in(
-    curves: &mut [PidCurve],
-    pid: u16,
-    number: u64,
-    value: u64,
-) -> Result<(), AllocError>
+fn take_in(curves: &mut [PidCurve], pid: u16, number: u64, value: u64) -> Result<(), AllocError>
     ensures { (kept : List KeptCurve) → AreCurves curves.old kept →
         OnOk result (AreCurves curves.new (with_sample pid (sample number value) kept)) }
 {

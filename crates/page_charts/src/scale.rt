@@ -4,8 +4,11 @@ ghost use Rattle.page_charts.specs.Scale as spec;
 
 /// The rectangle of the curves, in units of the picture: its left side, its width, its bottom and its height.
 pub(crate) const LEFT: u64 = 900;
+
 pub(crate) const WIDTH: u64 = 8_600;
+
 const BOTTOM: u64 = 2_200;
+
 const HEIGHT: u64 = 2_000;
 
 /// The greatest value of a scale.

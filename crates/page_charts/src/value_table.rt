@@ -88,11 +88,7 @@ fn write_rows(text: &mut String, frame: &Frame, entry: &PidCurve) -> Result<(), 
     )
 }
 
-fn write_all_rows(
-    text: &mut String,
-    frame: &Frame,
-    curves: &[PidCurve],
-) -> Result<(), AllocError>
+fn write_all_rows(text: &mut String, frame: &Frame, curves: &[PidCurve]) -> Result<(), AllocError>
     ensures { OnOk result (string_bytes text.new ≡ string_bytes text.old ++ flat_map (spec.rows frame.now) curves.now) }
 {
     for entry in curves {

@@ -93,9 +93,10 @@ taken_on span slot (x ∷ xs) b e = by (λ c f. taken_on span slot xs c f) (x.nu
         let same : both (one_value x.value) c ≡ b = cc in
         let old = before c rest in
         let one : TakesOn (x ∷ xs) span slot x.value = first x xs span slot (equal (x.number / span) slot here) in
-        subst (λ (c : Bounds). Both (x ∷ xs) span slot c) same
-        (least_of (TakesOn (x ∷ xs) span slot) x.value c.least one (later x xs span slot c.least old.0),
-            greatest_of (TakesOn (x ∷ xs) span slot) x.value c.greatest one (later x xs span slot c.greatest old.1))
+        subst (λ (c : Bounds). Both (x ∷ xs) span slot c) same (
+          least_of (TakesOn (x ∷ xs) span slot) x.value c.least one (later x xs span slot c.least old.0),
+          greatest_of (TakesOn (x ∷ xs) span slot) x.value c.greatest one (later x xs span slot c.greatest old.1),
+        )
 
 pub bound_law : BoundLaw
 bound_law curve samples is slot b at = taken_on curve.span slot samples b (sym (is.each slot) ∙ at)

@@ -1,5 +1,6 @@
 -- Digits one by one, and words one by one.
-use Rattle.std.proofs.Common.{◌≡◌, ◌∙◌, ℕ, Bool, true, false, List, [], ◌∷◌, map, drop, Bor, Option, None, refl, sym, ap}
+use Rattle.std.proofs.Common.{◌≡◌, ◌∙◌, ℕ, ◌-◌, ◌≤◌, Bool, true, false, List, [], ◌∷◌, length, map, take, drop, Bor, Option, None, refl, sym, ap, arith}
+use Rattle.std.proofs.lemmas.List.{length-drop, take_all}
 use Rattle.std.specs.Str.{bytes_eq}
 use Rattle.view_page.specs.Fields.{first_of, is_digit, number_from, with_digit, word_after_in}
 
@@ -40,3 +41,9 @@ other_name rest after word name whole t same is fails before =
 pub no_name : (rest : List (Bor (List ℕ))) (name : List ℕ) (whole : Option (List ℕ)) → rest ≡ [] → word_after_in name (map (λ s. s.now) rest) ≡ whole → None ≡ whole
 unfolding word_after_in
 no_name rest name whole same before = sym (ap (λ (ws : List (Bor (List ℕ))). word_after_in name (map (λ s. s.now) ws)) same) ∙ before
+
+-- the words from one on
+pub all_after : (i : ℕ) (words : List (Bor (List ℕ))) → take (length words - i) (drop i words) ≡ drop i words
+all_after i words =
+    let short : length (drop i words) ≤ length words - i = omega (arith, length-drop i words) in
+    take_all (length words - i) (drop i words) short

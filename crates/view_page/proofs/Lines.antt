@@ -1,11 +1,17 @@
 -- Lines one by one.
-use Rattle.std.proofs.Common.{◌≡◌, ◌∙◌, ℕ, ◌+◌, ◌<◌, List, [], ◌∷◌, map, drop, Bor, refl, sym, ap, subst, arith}
+use Rattle.std.proofs.Common.{◌≡◌, ℕ, ◌+◌, ◌==◌, Bool, true, List, [], ◌∷◌, length, map, drop, Bor, Result, Ok, Err, refl, sym, subst, arith}
+use Rattle.std.proofs.lemmas.Bool.Decides.{nat_tests}
+use Rattle.std.specs.Prelude.{OnOk}
 use Rattle.view_page.specs.Pages.{IsPage, PageState, after_line, after_lines}
 use Rattle.view_page.specs.declared.page.Page.{Page}
 use Rattle.view_page.specs.Pages.{after_text, end_after}
 use Rattle.view_page.specs.ReportLines as lines
 use Rattle.view_page.specs.Rows as rows
 use Rattle.view_page.specs.Values as values
+
+pub on_ok : {V E A B : Type 0} (r : Result V E) → (A → B) → OnOk r A → OnOk r B
+on_ok (Ok v) f a = f a
+on_ok (Err e) f a = tt
 
 -- lines that are still to come bring a page to this state
 pub record ComesTo (page : Page) (lines : List (List ℕ)) (whole : PageState) : Type 0 where
@@ -41,3 +47,12 @@ no_text s = refl
 
 pub none_taken : (page : Page) (s : PageState) (text : List ℕ) → text ≡ [] → IsPage page s → IsPage page (after_text s text)
 none_taken page s text e is = subst (λ (t : List ℕ). IsPage page (after_text s t)) (sym e) (subst (IsPage page) (sym (no_text s)) is)
+
+is_zero : (n : ℕ) (test : Bool) → test ≡ (n == 0) → test ≡ true → n ≡ 0
+is_zero n test is holds = grind (arith, nat_tests)
+
+pub is_nothing : (text : List ℕ) (empty : Bool) → empty ≡ (length text == 0) → empty ≡ true → text ≡ []
+is_nothing [] empty is holds = refl
+is_nothing (b ∷ text) empty is holds =
+    let none : length (b ∷ text) ≡ 0 = is_zero (length (b ∷ text)) empty is holds in
+    absurd (omega (arith, none))

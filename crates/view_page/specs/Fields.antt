@@ -1,17 +1,17 @@
 -- The fields of a line: after its first word a name, and then a number or a word.
-use Rattle.std.specs.Prelude.{ℕ, ◌+◌, ◌-◌, ◌*◌, ◌^◌, ◌==◌, ◌&&◌, min, nat_le, Bool, if◌then◌else◌, List, [], ◌∷◌, codes, Option, Some, None}
+use Rattle.std.specs.Prelude.{ℕ, ◌+◌, ◌-◌, ◌*◌, ◌^◌, ◌&&◌, min, nat_le, Bool, if◌then◌else◌, List, [], ◌∷◌, codes, Option, Some, None}
 use Rattle.std.specs.Str.{bytes_eq}
 use Rattle.page_charts.specs.declared.pid_name.PidName.{PidName}
 use Rattle.page_charts.specs.declared.pid_name.PidName.TheVariants.{Mpeg2, Avc, Hevc, Audio, Aac, Ac3, Subtitles, Teletext}
 use Rattle.page_charts.specs.declared.pid_name.PidName.TheVariants as names
 use Rattle.view_page.specs.declared.fields.FieldName.{FieldName}
-use Rattle.view_page.specs.declared.fields.FieldName.TheVariants.{Number, Pid, Program, Type, Rx, Main, Transport, Rate, Slack, Packet, Packets, Pcrs, Peak, Size, Most, Excesses, Units, Late, Unread, By, Limit, Value, References, Announced, Interval, Inaccuracy, Table, Sections, Refused, Left}
+use Rattle.view_page.specs.declared.fields.FieldName.TheVariants.{Number, Pid, Program, StreamType, Rx, Main, Transport, Rate, Slack, Packet, Packets, Pcrs, Peak, Size, Most, Excesses, Units, Late, Unread, By, Limit, Value, References, Announced, Interval, Inaccuracy, Table, Sections, Refused, Left}
 
 unfoldable pub field_word : FieldName → List ℕ
 field_word Number = codes "number"
 field_word Pid = codes "pid"
 field_word Program = codes "program"
-field_word Type = codes "type"
+field_word StreamType = codes "type"
 field_word Rx = codes "rx"
 field_word Main = codes "main"
 field_word Transport = codes "transport"

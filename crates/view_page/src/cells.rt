@@ -208,11 +208,7 @@ fn write_cells(text: &mut String, words: &[&str], cells: &[Cell]) -> Result<(), 
 }
 
 /// Appends the row of a line of these words.
-pub(crate) fn write_row(
-    text: &mut String,
-    words: &[&str],
-    cells: &[Cell],
-) -> Result<(), AllocError>
+pub(crate) fn write_row(text: &mut String, words: &[&str], cells: &[Cell]) -> Result<(), AllocError>
     ensures { OnOk result (string_bytes text.new
         ≡ string_bytes text.old ++ spec.row (map (λ s. s.now) words.now) cells.now) }
 {

@@ -32,18 +32,41 @@ details{margin:.3em 0 0 5em}@media print{details{display:none}}
 <h1>Transport stream</h1>
 ";
 
-const RATES: &str = "<h2>Bit rate by PID</h2><p class=\"soft\">Packets of 188 bytes, by window; the first 32 PIDs.</p>\n";
-const SLACKS: &str = "<h2>Time from a unit's last byte to its DTS</h2><p class=\"soft\">The least of the units that ended in a window.</p>\n";
-const TRANSPORTS: &str = "<h2>Transport buffers</h2><p class=\"soft\">The most bytes that were in the buffer, by window, beside its size. What lies over it is drawn thick, with a mark.</p>\n";
-const MAINS: &str = "<h2>Main buffers</h2><p class=\"soft\">The most bytes that were in the buffer, by window, beside its size.</p>\n";
-const FAULTS: &str = "<h2>Faults</h2><p class=\"soft\">The first 100.</p><div class=\"wide\"><table><tr><th class=\"word\">what<th>PID<th>packet<th>value<th>limit<th class=\"word\">unit\n";
-const STREAMS: &str = "</table></div><h2>Streams</h2><div class=\"wide\"><table><tr><th>PID<th>program<th>stream_type<th class=\"word\">coding<th>out of the transport buffer, bit/s<th>main buffer, bytes\n";
-const BUFFERS: &str = "</table></div><h2>Buffers</h2><div class=\"wide\"><table><tr><th>PID<th class=\"word\">buffer<th>size<th>most<th class=\"word\">beside its size<th>excesses<th>units<th>late<th>headers not read\n";
-const SYSTEMS: &str = "</table></div><h2>Buffers of programs' tables</h2><div class=\"wide\"><table><tr><th>program<th>transport buffer, most<th class=\"word\">beside 512 bytes<th>system buffer, most<th class=\"word\">beside 1,536 bytes\n";
-const CLOCKS: &str = "</table></div><h2>Clock references</h2><div class=\"wide\"><table><tr><th>PID<th>references<th>announced<th>rate, bit/s<th>longest interval, ms<th class=\"word\">beside 100 ms<th>inaccuracy, ns<th class=\"word\">beside 500 ns\n";
-const TABLES: &str = "</table></div><h2>Tables</h2><div class=\"wide\"><table><tr><th>PID<th>table_id<th>sections<th>longest interval, ms<th>limit, ms<th class=\"word\">beside its limit\n";
-const PIDS: &str = "</table></div><h2>PIDs</h2><div class=\"wide\"><table><tr><th>PID<th>packets<th>with a clock reference\n";
+const RATES: &str =
+    "<h2>Bit rate by PID</h2><p class=\"soft\">Packets of 188 bytes, by window; the first 32 PIDs.</p>\n";
+
+const SLACKS: &str =
+    "<h2>Time from a unit's last byte to its DTS</h2><p class=\"soft\">The least of the units that ended in a window.</p>\n";
+
+const TRANSPORTS: &str =
+    "<h2>Transport buffers</h2><p class=\"soft\">The most bytes that were in the buffer, by window, beside its size. What lies over it is drawn thick, with a mark.</p>\n";
+
+const MAINS: &str =
+    "<h2>Main buffers</h2><p class=\"soft\">The most bytes that were in the buffer, by window, beside its size.</p>\n";
+
+const FAULTS: &str =
+    "<h2>Faults</h2><p class=\"soft\">The first 100.</p><div class=\"wide\"><table><tr><th class=\"word\">what<th>PID<th>packet<th>value<th>limit<th class=\"word\">unit\n";
+
+const STREAMS: &str =
+    "</table></div><h2>Streams</h2><div class=\"wide\"><table><tr><th>PID<th>program<th>stream_type<th class=\"word\">coding<th>out of the transport buffer, bit/s<th>main buffer, bytes\n";
+
+const BUFFERS: &str =
+    "</table></div><h2>Buffers</h2><div class=\"wide\"><table><tr><th>PID<th class=\"word\">buffer<th>size<th>most<th class=\"word\">beside its size<th>excesses<th>units<th>late<th>headers not read\n";
+
+const SYSTEMS: &str =
+    "</table></div><h2>Buffers of programs' tables</h2><div class=\"wide\"><table><tr><th>program<th>transport buffer, most<th class=\"word\">beside 512 bytes<th>system buffer, most<th class=\"word\">beside 1,536 bytes\n";
+
+const CLOCKS: &str =
+    "</table></div><h2>Clock references</h2><div class=\"wide\"><table><tr><th>PID<th>references<th>announced<th>rate, bit/s<th>longest interval, ms<th class=\"word\">beside 100 ms<th>inaccuracy, ns<th class=\"word\">beside 500 ns\n";
+
+const TABLES: &str =
+    "</table></div><h2>Tables</h2><div class=\"wide\"><table><tr><th>PID<th>table_id<th>sections<th>longest interval, ms<th>limit, ms<th class=\"word\">beside its limit\n";
+
+const PIDS: &str =
+    "</table></div><h2>PIDs</h2><div class=\"wide\"><table><tr><th>PID<th>packets<th>with a clock reference\n";
+
 const APART: &str = "</table><table>\n";
+
 const BACK: &str = "</table></div>\n</body></html>\n";
 
 #[tactic(auto, unfolding(crate::specs::PageText::front_text))]
@@ -149,7 +172,10 @@ fn write_verdict(text: &mut String, faults: u64) -> Result<(), AllocError>
     ensures { OnOk result (string_bytes text.new ≡ string_bytes text.old ++ spec.verdict faults) }
 {
     if faults > 0 {
-        write!(text, "<span class=\"bad\">&#9650; {faults} faults.</span></p>\n")
+        write!(
+            text,
+            "<span class=\"bad\">&#9650; {faults} faults.</span></p>\n"
+        )
     } else {
         text.push_str("No fault.</p>\n")
     }
@@ -182,7 +208,12 @@ fn write_one(
 ) -> Result<(), AllocError>
     ensures { OnOk result (string_bytes text.new ≡ string_bytes text.old ++ spec.one_chart page.now unit curves.now) }
 {
-    let frame = Frame::new(unit, page.values.windows, page.millis, greatest_value(curves));
+    let frame = Frame::new(
+        unit,
+        page.values.windows,
+        page.millis,
+        greatest_value(curves),
+    );
     write_chart(text, &frame, curves)
 }
 
@@ -232,10 +263,22 @@ fn write_charts(text: &mut String, page: &Page) -> Result<(), AllocError>
     ensures { OnOk result (string_bytes text.new ≡ string_bytes text.old ++ spec.charts page.now) }
 {
     let values = &page.values;
-    write_all_in_one(text, rates_text(), page, ChartUnit::BitRate, &values.rates.curves)?;
+    write_all_in_one(
+        text,
+        rates_text(),
+        page,
+        ChartUnit::BitRate,
+        &values.rates.curves,
+    )?;
     write_buffers(text, transports_text(), page, &values.transports.curves)?;
     write_buffers(text, mains_text(), page, &values.mains.curves)?;
-    write_all_in_one(text, slacks_text(), page, ChartUnit::Time, &values.slacks.curves)
+    write_all_in_one(
+        text,
+        slacks_text(),
+        page,
+        ChartUnit::Time,
+        &values.slacks.curves,
+    )
 }
 
 // A table: its head and its rows.

@@ -15,33 +15,44 @@ const MOST_FAULTS: u64 = 100;
 const STREAM: [Cell; 6] = [
     Cell::Number(FieldName::Pid, CellUnit::Same),
     Cell::Number(FieldName::Program, CellUnit::Same),
-    Cell::Number(FieldName::Type, CellUnit::Same),
+    Cell::Number(FieldName::StreamType, CellUnit::Same),
     Cell::Coding,
     Cell::Number(FieldName::Rx, CellUnit::Same),
     Cell::Number(FieldName::Main, CellUnit::Same),
 ];
+
 const TRANSPORT: [Cell; 9] = [
     Cell::Number(FieldName::Pid, CellUnit::Same),
     Cell::Word(CellWord::Transport),
     Cell::Number(FieldName::Size, CellUnit::Same),
-    Cell::Checked(FieldName::Most, Limit::Field(FieldName::Size), CellUnit::Same),
+    Cell::Checked(
+        FieldName::Most,
+        Limit::Field(FieldName::Size),
+        CellUnit::Same,
+    ),
     Cell::Bar(FieldName::Most, Limit::Field(FieldName::Size)),
     Cell::Checked(FieldName::Excesses, Limit::Fixed(0), CellUnit::Same),
     Cell::Word(CellWord::Nothing),
     Cell::Word(CellWord::Nothing),
     Cell::Word(CellWord::Nothing),
 ];
+
 const MAIN: [Cell; 9] = [
     Cell::Number(FieldName::Pid, CellUnit::Same),
     Cell::Word(CellWord::Main),
     Cell::Number(FieldName::Size, CellUnit::Same),
-    Cell::Checked(FieldName::Most, Limit::Field(FieldName::Size), CellUnit::Same),
+    Cell::Checked(
+        FieldName::Most,
+        Limit::Field(FieldName::Size),
+        CellUnit::Same,
+    ),
     Cell::Bar(FieldName::Most, Limit::Field(FieldName::Size)),
     Cell::Checked(FieldName::Excesses, Limit::Fixed(0), CellUnit::Same),
     Cell::Number(FieldName::Units, CellUnit::Same),
     Cell::Checked(FieldName::Late, Limit::Fixed(0), CellUnit::Same),
     Cell::Checked(FieldName::Unread, Limit::Fixed(0), CellUnit::Same),
 ];
+
 const SYSTEM: [Cell; 5] = [
     Cell::Number(FieldName::Program, CellUnit::Same),
     Cell::Checked(FieldName::Transport, Limit::Fixed(512), CellUnit::Same),
@@ -49,37 +60,51 @@ const SYSTEM: [Cell; 5] = [
     Cell::Checked(FieldName::Main, Limit::Fixed(1_536), CellUnit::Same),
     Cell::Bar(FieldName::Main, Limit::Fixed(1_536)),
 ];
+
 const CLOCK: [Cell; 8] = [
     Cell::Number(FieldName::Pid, CellUnit::Same),
     Cell::Number(FieldName::References, CellUnit::Same),
     Cell::Number(FieldName::Announced, CellUnit::Same),
     Cell::Number(FieldName::Rate, CellUnit::Same),
-    Cell::Checked(FieldName::Interval, Limit::Fixed(2_700_000), CellUnit::Ticks),
+    Cell::Checked(
+        FieldName::Interval,
+        Limit::Fixed(2_700_000),
+        CellUnit::Ticks,
+    ),
     Cell::Bar(FieldName::Interval, Limit::Fixed(2_700_000)),
     Cell::Checked(FieldName::Inaccuracy, Limit::Fixed(500), CellUnit::Same),
     Cell::Bar(FieldName::Inaccuracy, Limit::Fixed(500)),
 ];
+
 const TABLE: [Cell; 6] = [
     Cell::Number(FieldName::Pid, CellUnit::Same),
     Cell::Number(FieldName::Table, CellUnit::Same),
     Cell::Number(FieldName::Sections, CellUnit::Same),
-    Cell::Checked(FieldName::Interval, Limit::FieldIfAny(FieldName::Limit), CellUnit::Ticks),
+    Cell::Checked(
+        FieldName::Interval,
+        Limit::FieldIfAny(FieldName::Limit),
+        CellUnit::Ticks,
+    ),
     Cell::Number(FieldName::Limit, CellUnit::Ticks),
     Cell::Bar(FieldName::Interval, Limit::FieldIfAny(FieldName::Limit)),
 ];
+
 const PID: [Cell; 3] = [
     Cell::Number(FieldName::Number, CellUnit::Same),
     Cell::Number(FieldName::Packets, CellUnit::Same),
     Cell::Number(FieldName::Pcrs, CellUnit::Same),
 ];
+
 const UNREFERENCED: [Cell; 2] = [
     Cell::Number(FieldName::Pid, CellUnit::Same),
     Cell::Word(CellWord::Unreferenced),
 ];
+
 const MISSING: [Cell; 2] = [
     Cell::Number(FieldName::Pid, CellUnit::Same),
     Cell::Word(CellWord::Missing),
 ];
+
 const EXCESS: [Cell; 6] = [
     Cell::Word(CellWord::TransportExcess),
     Cell::Number(FieldName::Pid, CellUnit::Same),
@@ -88,6 +113,7 @@ const EXCESS: [Cell; 6] = [
     Cell::Number(FieldName::Size, CellUnit::Same),
     Cell::Word(CellWord::Bytes),
 ];
+
 const MAIN_EXCESS: [Cell; 6] = [
     Cell::Word(CellWord::MainExcess),
     Cell::Number(FieldName::Pid, CellUnit::Same),
@@ -96,6 +122,7 @@ const MAIN_EXCESS: [Cell; 6] = [
     Cell::Number(FieldName::Size, CellUnit::Same),
     Cell::Word(CellWord::Bytes),
 ];
+
 const LATE: [Cell; 6] = [
     Cell::Word(CellWord::LateUnit),
     Cell::Number(FieldName::Pid, CellUnit::Same),
@@ -104,6 +131,7 @@ const LATE: [Cell; 6] = [
     Cell::Word(CellWord::Nothing),
     Cell::Word(CellWord::Millis),
 ];
+
 const AHEAD: [Cell; 6] = [
     Cell::Word(CellWord::FarAhead),
     Cell::Number(FieldName::Pid, CellUnit::Same),
@@ -112,6 +140,7 @@ const AHEAD: [Cell; 6] = [
     Cell::Number(FieldName::Limit, CellUnit::Ticks),
     Cell::Word(CellWord::Millis),
 ];
+
 const PCR_REPETITION: [Cell; 6] = [
     Cell::Word(CellWord::PcrRepetition),
     Cell::Number(FieldName::Pid, CellUnit::Same),
@@ -120,6 +149,7 @@ const PCR_REPETITION: [Cell; 6] = [
     Cell::Number(FieldName::Limit, CellUnit::Ticks),
     Cell::Word(CellWord::Millis),
 ];
+
 const PCR_DISCONTINUITY: [Cell; 6] = [
     Cell::Word(CellWord::PcrDiscontinuity),
     Cell::Number(FieldName::Pid, CellUnit::Same),
@@ -128,6 +158,7 @@ const PCR_DISCONTINUITY: [Cell; 6] = [
     Cell::Number(FieldName::Limit, CellUnit::Ticks),
     Cell::Word(CellWord::Millis),
 ];
+
 const PCR_ACCURACY: [Cell; 6] = [
     Cell::Word(CellWord::PcrAccuracy),
     Cell::Number(FieldName::Pid, CellUnit::Same),
@@ -136,6 +167,7 @@ const PCR_ACCURACY: [Cell; 6] = [
     Cell::Number(FieldName::Limit, CellUnit::Same),
     Cell::Word(CellWord::Nanos),
 ];
+
 const TABLE_REPETITION: [Cell; 6] = [
     Cell::Word(CellWord::TableRepetition),
     Cell::Number(FieldName::Pid, CellUnit::Same),

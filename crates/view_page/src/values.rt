@@ -54,8 +54,8 @@ impl Values {
     {
         let pid = pid_in(words);
         let number = number_in(FieldName::Number, words);
-        self.windows = self.windows.max(number.saturating_add(1));
         let name = self.name_of(pid);
+        self.windows = self.windows.max(number.saturating_add(1));
         self.rates.open(pid, name, 0)?;
         self.rates
             .take(pid, number, number_in(FieldName::Rate, words))

@@ -1,4 +1,4 @@
-use Rattle.std.proofs.Common.{◌≡◌, map, drop}
+use Rattle.std.proofs.Common.{map, drop}
 use Rattle.view_page.specs.Pages.{IsPage, PageState, after_lines}
 use Rattle.view_page.proofs.Lines.{ComesTo}
 use Rattle.view_page.proofs.page.Page.take_lines.Given as goal
