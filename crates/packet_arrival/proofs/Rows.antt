@@ -1,12 +1,16 @@
 -- Bytes in a row at whole units.
 use Rattle.std.proofs.Common.{◌≡◌, sym, ℕ, zero, suc, ◌+◌, ◌-◌, ◌*◌, ◌/◌, ◌≤◌, List, ◌∷◌, ◌++◌, refl, ap, arith, zero-add, ◌<◌, All}
-use Rattle.std.proofs.Math.Nat.{div-one, div-lt_iff_lt-mul}
+use Rattle.std.proofs.Math.Nat.{div-one, div-lt_iff_lt-mul, mul-lt-mul_of_pos_right}
 use Rattle.std.proofs.lemmas.Nat.{le-div}
 use Rattle.std.proofs.lemmas.List.Elements.{All-nil, All-cons}
 use Rattle.clock27.specs.Arrival.{bytes_from}
 use Rattle.packet_arrival.specs.Rows.{times_in_row, times_of, first_bytes, other_bytes}
 use Rattle.packet_arrival.specs.declared.row.Row.{Row}
 use Rattle.packet_arrival.specs.Laws.{ConstantRow}
+
+-- multiples before one that is not above a number are below it
+pub all_below : (room gain count j : ℕ) → 0 < gain → count * gain ≤ room → j < count → j * gain < room
+all_below room gain count j some next before = omega (arith, next, mul-lt-mul_of_pos_right {m = j} {n = count} {k = gain} before some)
 
 pub constant_row : ConstantRow
 unfolding times_in_row bytes_from

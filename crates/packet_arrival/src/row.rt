@@ -1,9 +1,20 @@
 //! Bytes that arrive one after another at an even pace.
-ghost use Rattle.std.specs.Prelude.{◌≡◌, ℕ, All, ◌++◌, ◌+◌, ◌*◌, ◌/◌, ◌<◌, ◌≤◌, ◌^◌};
+ghost use Rattle.std.specs.Prelude.{◌≡◌, ℕ, All, IsTrue, ◌++◌, ◌+◌, ◌*◌, ◌/◌, ◌<◌, ◌≤◌, ◌^◌};
 ghost use Rattle.clock27.specs.Arrival.{bytes_from};
 ghost use Rattle.packet_arrival.specs.Rows.{IsTimed, IsEarly, first_bytes, other_bytes, times_of};
 
+// Whether the multiple after the first `count` is not above `room`: then all of these are below it. This takes no division.
+fn are_all_below(room: u128, gain: u128, count: u64) -> bool
+    ensures { IsTrue result → count * gain ≤ room }
+{
+    match u128::from(count).checked_mul(gain) {
+        Some(next) => next <= room,
+        None => false,
+    }
+}
+
 /// How many of the first `count` multiples of `gain`, from 0 on, are below `room`.
+#[tactic(auto, using(crate::proofs::Rows::all_below))]
 pub fn multiples_below(room: u128, gain: u128, count: u64) -> u64
     requires room { room < 2 ^ 128 }
     ensures bound { result ≤ count }
@@ -14,6 +25,9 @@ pub fn multiples_below(room: u128, gain: u128, count: u64) -> u64
         return 0;
     }
     if gain == 0 {
+        return count;
+    }
+    if are_all_below(room, gain, count) {
         return count;
     }
     room.div_ceil(gain).min(u128::from(count)) as u64
@@ -57,7 +71,12 @@ impl Row {
         ensures bound { result ≤ 2 ^ 87 }
         ensures soon { IsEarly self.now → result ≤ 2 ^ 86 }
     {
-        (self.from + u128::from(j) * u128::from(self.pace)) / u128::from(self.parts)
+        let at = self.from + u128::from(j) * u128::from(self.pace);
+        if self.parts == 1 {
+            // A division of 128 bits takes longer than all else here, and at a constant rate there is nothing to divide.
+            return at;
+        }
+        at / u128::from(self.parts)
     }
 
     /// Its first `count` bytes, and the others.

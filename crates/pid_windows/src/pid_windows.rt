@@ -1,6 +1,8 @@
 //! The counts of one window.
-ghost use Rattle.std.specs.Prelude.{◌≡◌, OnOk};
-ghost use Rattle.pid_windows.specs.Windows.{counts_in, counts_of, no_packet, taken, with_one, with_packet};
+ghost use Rattle.std.specs.Prelude.{◌≡◌, ◌<◌, IfSome, OnOk, Some, is_some, nat_eq, position, slice_get};
+ghost use Rattle.std.specs.Map.{keys_of, lookup};
+ghost use Rattle.indexmap.specs.IndexMap.{index_map_len, set_value_at, values};
+ghost use Rattle.pid_windows.specs.Windows.{counts_in, no_packet, taken, with_one, with_packet};
 
 use indexmap::IndexMap;
 use std::alloc::{AllocError, Allocator};
@@ -17,11 +19,14 @@ pub struct PidCounts {
 /// Counts by PID, in the order in which the PIDs were first seen.
 pub type PidEntries<A> = IndexMap<u16, PidCounts, BuildHasherDefault<FoldHasher>, A>;
 
-/// The window of the last packet, and its counts. There is room for each PID once, whatever the number of windows.
+/// The window of the last packet, and its counts. There is room for each PID once, whatever the number of windows. Most
+/// packets follow one of their own PID, so its index is kept.
 #[derive(Drop)]
 pub struct PidWindow<A: Allocator> {
     number: u64,
     counts: PidEntries<A>,
+    // where the counts of the last packet's PID stand, if they stand there
+    last: usize,
 }
 
 impl<A: Allocator> Model for PidWindow<A> {
@@ -32,18 +37,21 @@ impl<A: Allocator> Model for PidWindow<A> {
     ghost view = { λ w. record { number = w.number; counts = w.counts.entries } };
 }
 
-// The counts of a PID.
-#[tactic(auto, unfolding(crate::specs::Windows::counts_or_zero))]
-fn counts_of<A: Allocator>(counts: &PidEntries<A>, pid: u16) -> PidCounts
-    ensures { result ≡ counts_of pid counts.now.entries }
+// The index of a PID, looked for first where the last packet's is.
+#[tactic(auto, using(crate::proofs::CountedPids::index_there, crate::proofs::CountedPids::found_there))]
+fn index_of<A: Allocator>(counts: &PidEntries<A>, last: usize, pid: u16) -> Option<usize>
+    ensures index { result ≡ position (nat_eq pid) (keys_of counts.now.entries) }
+    ensures within { IfSome result (λ i. i < index_map_len counts.now) }
+    ensures found { is_some result ≡ is_some (lookup (nat_eq pid) counts.now.entries) }
 {
-    match counts.get(&pid) {
-        Some(counts) => *counts,
-        None => PidCounts {
-            packets: 0,
-            pcrs: 0,
-        },
+    if last < counts.len() {
+        if let Some((at, _)) = counts.get_index(last) {
+            if *at == pid {
+                return Some(last);
+            }
+        }
     }
+    counts.get_index_of(&pid)
 }
 
 // These counts with one packet more. They stop at 2^64 - 1.
@@ -62,17 +70,40 @@ fn with_one(counts: PidCounts, pcr: bool) -> PidCounts
     }
 }
 
-// Counts a packet of a PID.
+// Counts a packet of the PID at an index.
+fn count_at<A: Allocator>(counts: &mut PidEntries<A>, index: usize, pcr: bool)
+    requires { index < index_map_len counts.old }
+    ensures { (before : PidCounts) → slice_get (values counts.old) index ≡ Some before →
+        counts.new.entries ≡ set_value_at counts.old.entries index (with_one before pcr) }
+{
+    let before = &mut counts[index];
+    *before = with_one(*before, pcr);
+}
+
+// Counts a packet of a PID, and returns where to look first for that of the next one.
+#[tactic(auto, unfolding(crate::specs::Windows::counts_or_zero), using(crate::proofs::CountedPids::counted_there, crate::proofs::CountedPids::counts_there))]
 fn count<A: Allocator + Clone>(
     counts: &mut PidEntries<A>,
+    last: usize,
     pid: u16,
     pcr: bool,
-) -> Result<(), AllocError>
+) -> Result<usize, AllocError>
     ensures { OnOk result (counts.new.entries ≡ with_packet counts.old.entries pid pcr) }
 {
-    let more = with_one(counts_of(counts, pid), pcr);
-    counts.insert(pid, more)?;
-    Ok(())
+    match index_of(counts, last, pid) {
+        Some(index) => {
+            count_at(counts, index, pcr);
+            Ok(index)
+        }
+        None => {
+            let none = PidCounts {
+                packets: 0,
+                pcrs: 0,
+            };
+            counts.insert(pid, with_one(none, pcr))?;
+            Ok(last)
+        }
+    }
 }
 
 impl<A: Allocator + Copy> PidWindow<A> {
@@ -83,6 +114,7 @@ impl<A: Allocator + Copy> PidWindow<A> {
         PidWindow {
             number: 0,
             counts: IndexMap::new(alloc),
+            last: 0,
         }
     }
 
@@ -112,6 +144,7 @@ impl<A: Allocator + Copy> PidWindow<A> {
             self.number = window;
             self.counts.clear();
         }
-        count(&mut self.counts, pid, pcr)
+        self.last = count(&mut self.counts, self.last, pid, pcr)?;
+        Ok(())
     }
 }

@@ -95,10 +95,15 @@ impl Clocks {
         }
     }
 
-    /// The last reference of a PID.
+    /// The last reference of a PID, looked for first where that of the first clock is: most streams have one.
     pub fn last(&self, pid: u16) -> Option<PcrSample>
         ensures { result ≡ spec.clock_of self.now pid }
     {
+        if let Some((first, sample)) = self.last.get_index(0) {
+            if *first == pid {
+                return Some(*sample);
+            }
+        }
         self.last.get(&pid).copied()
     }
 

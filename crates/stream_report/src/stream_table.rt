@@ -1,6 +1,7 @@
 //! The streams whose buffers have begun.
-ghost use Rattle.std.specs.Prelude.{◌≡◌, ◌++◌, ◌≤◌, List, OnOk, flat_map, option_map, string_bytes};
+ghost use Rattle.std.specs.Prelude.{◌≡◌, ◌++◌, ◌≤◌, List, OnOk, flat_map, nat_eq, option_map, string_bytes};
 ghost use Rattle.std.specs.List.{list_all};
+ghost use Rattle.std.specs.Map.{lookup};
 ghost use Rattle.ts_packet.specs.Views.{packet_view};
 ghost use Rattle.stream_report.specs.Choices as choices;
 ghost use Rattle.stream_report.specs.StreamTables as spec;
@@ -23,13 +24,31 @@ use stream_coding::{Buffers, Coding, coding_of};
 use stream_programs::FoundStream;
 use ts_packet::Packet;
 
-/// Which streams are viewed; those whose buffers have begun, and the place of each PID among them.
+type PlacesByPid = IndexMap<u16, usize, BuildHasherDefault<FoldHasher>, Global>;
+
+/// Which streams are viewed; those whose buffers have begun, and the place of each PID among them. Most packets follow one of
+/// their own PID, so its index is kept.
 #[derive(Drop)]
 pub struct StreamTable {
     alloc: Global,
     choice: ViewChoice,
-    places: IndexMap<u16, usize, BuildHasherDefault<FoldHasher>, Global>,
+    places: PlacesByPid,
+    // where the place of the last packet's PID stands, if it stands there
+    last: usize,
     entries: Vec<StreamEntry>,
+}
+
+// The place of a PID and its index, looked for first where the last packet's is.
+fn place_of(places: &PlacesByPid, last: usize, pid: u16) -> Option<(usize, usize)>
+    ensures { option_map (λ found. found.1) result ≡ lookup (nat_eq pid) places.now.entries }
+{
+    if let Some((at, place)) = places.get_index(last) {
+        if *at == pid {
+            return Some((last, *place));
+        }
+    }
+    let (index, _, place) = places.get_full(&pid)?;
+    Some((index, *place))
 }
 
 // The bytes of a payload after the header of the PES packet that it begins.
@@ -138,6 +157,7 @@ impl StreamTable {
             alloc,
             choice,
             places: IndexMap::new(alloc),
+            last: 0,
             entries: Vec::new(alloc),
         }
     }
@@ -216,9 +236,11 @@ impl StreamTable {
         ensures lines { (t : TableState) → IsTable self.old t → OnOk result (string_bytes text.new
             ≡ string_bytes text.old ++ spec.lines_of options.now index clocks.now t (packet_view packet.now)) }
     {
-        let Some(place) = self.places.get(&packet.header.pid).copied() else {
+        let Some((index_of_pid, place)) = place_of(&self.places, self.last, packet.header.pid)
+        else {
             return Ok(());
         };
+        self.last = index_of_pid;
         let Some(entry) = self.entries.get_mut(place) else {
             return Ok(());
         };
@@ -230,7 +252,7 @@ impl StreamTable {
     pub fn has_stream(&self, pid: u16) -> bool
         ensures { (t : TableState) → IsTable self.now t → result ≡ spec.has_stream t pid }
     {
-        self.places.get(&pid).is_some()
+        place_of(&self.places, self.last, pid).is_some()
     }
 
     /// Appends a line for each stream of which a unit ended in a window.

@@ -14,10 +14,13 @@ use stream_arrival::Arrival;
 fn window_at_rate(rate: Rate, window: u32, index: u64) -> u64
     ensures { result ≡ min (index * 1504000 / max 1 (rate * window)) (2 ^ 64 - 1) }
 {
-    let length = rate.bits_per_second() * u64::from(window);
-    (u128::from(index) * SLOT_MS_AT_1BPS / u128::from(length.max(1))).min(u128::from(
-        u64::MAX,
-    )) as u64
+    let length = (rate.bits_per_second() * u64::from(window)).max(1);
+    match index.checked_mul(SLOT_MS_AT_1BPS as u64) {
+        Some(time) => time / length,
+        None => (u128::from(index) * SLOT_MS_AT_1BPS / u128::from(length)).min(u128::from(
+            u64::MAX,
+        )) as u64,
+    }
 }
 
 /// The window in which a packet begins.

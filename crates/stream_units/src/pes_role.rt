@@ -1,6 +1,6 @@
 //! The role of a finding among the units of a PID.
 
-ghost use Rattle.std.specs.Prelude.{◌≡◌};
+ghost use Rattle.std.specs.Prelude.{◌≡◌, ◌↔◌, false, IsTrue, Some};
 ghost use Rattle.demux.specs.Shown.{finding_view};
 ghost use Rattle.stream_units.specs.CarriedUnits as spec;
 ghost use Rattle.stream_units.specs.Shown.{role_view};
@@ -79,6 +79,15 @@ fn is_unstamped(begun: Option<(u64, Kind)>) -> bool
         Some((_, Kind::Pes(stamped))) => !stamped,
         _ => false,
     }
+}
+
+/// Whether it is a finding of a PID: one that is not is ignored among its units.
+#[tactic(auto, unfolding(crate::specs::CarriedUnits::role_of))]
+pub(crate) fn is_on<A: Allocator>(pid: u16, finding: &Finding<'_, A>) -> bool
+    ensures on { IsTrue result ↔ (finding.now.pid ≡ Some pid) }
+    ensures other { result ≡ false → spec.role_of pid (finding_view finding.now) ≡ spec.Ignored }
+{
+    finding.pid == Some(pid)
 }
 
 /// The role of a finding among the units of a PID.

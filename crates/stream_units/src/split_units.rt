@@ -5,13 +5,13 @@ ghost use Rattle.demux.specs.Shown.{finding_view};
 ghost use Rattle.stream_units.specs.CarriedUnits as spec;
 ghost use Rattle.stream_units.specs.Shown.{role_view};
 
-use crate::pes_role::{PesRole, role_of};
+use crate::pes_role::{PesRole, is_on, role_of};
 use demux::Finding;
 use std::alloc::Allocator;
 
-/// The bytes that a finding has for a unit of this stream_id; none where it ends the unit.
+// The bytes that a finding has for a unit of this stream_id; none where it ends the unit.
 #[tactic(auto, unfolding(crate::specs::CarriedUnits::more_bytes))]
-pub(crate) fn more_bytes<'f>(id: u8, role: PesRole<'f>) -> Option<&'f [u8]>
+fn more_bytes<'f>(id: u8, role: PesRole<'f>) -> Option<&'f [u8]>
     ensures { option_map (λ bytes. bytes.now) result ≡ spec.more_bytes id (role_view role.entry) }
 {
     match role {
@@ -20,6 +20,22 @@ pub(crate) fn more_bytes<'f>(id: u8, role: PesRole<'f>) -> Option<&'f [u8]>
         PesRole::Continuation(other, body) => { if other == id { Some(body) } else { None } }
         PesRole::Interruption(_) => None,
     }
+}
+
+/// The same of a finding that may be of another PID.
+#[tactic(auto, unfolding(crate::specs::CarriedUnits::more_bytes))]
+pub(crate) fn more_bytes_on<'f, A: Allocator>(
+    id: u8,
+    pid: u16,
+    finding: &'f Finding<'_, A>,
+) -> Option<&'f [u8]>
+    ensures { option_map (λ bytes. bytes.now) result
+        ≡ spec.more_bytes id (spec.role_of pid (finding_view finding.now)) }
+{
+    if !is_on(pid, finding) {
+        return Some(&[]);
+    }
+    more_bytes(id, role_of(pid, finding))
 }
 
 // The stream_id of a unit that starts.
@@ -60,6 +76,17 @@ fn is_part(first: Option<u8>, role: PesRole<'_>) -> bool
     }
 }
 
+// Whether a finding is a PES packet of a PID that goes on with a unit.
+#[tactic(auto, unfolding(crate::specs::CarriedUnits::is_part))]
+fn is_part_on<A: Allocator>(first: Option<u8>, pid: u16, finding: &Finding<'_, A>) -> bool
+    ensures { result ≡ spec.is_part first (spec.role_of pid (finding_view finding.now)) }
+{
+    if !is_on(pid, finding) {
+        return false;
+    }
+    is_part(first, role_of(pid, finding))
+}
+
 /// Whether units of a PID have several PES packets: then something that is lost after one may be a part of its unit.
 #[tactic(auto, unfolding(crate::specs::CarriedUnits::is_split))]
 pub(crate) fn is_split<A: Allocator>(pid: u16, findings: &[Finding<'_, A>]) -> bool
@@ -67,7 +94,7 @@ pub(crate) fn is_split<A: Allocator>(pid: u16, findings: &[Finding<'_, A>]) -> b
 {
     let first = first_id(pid, findings);
     for finding in findings {
-        if is_part(first, role_of(pid, finding)) {
+        if is_part_on(first, pid, finding) {
             return true;
         }
     }

@@ -6,7 +6,7 @@ ghost use Rattle.stream_units.specs.CarriedUnits as units;
 ghost use Rattle.stream_units.specs.UnitSteps as spec;
 ghost use Rattle.stream_units.specs.Shown.{role_view, start_view};
 
-use crate::pes_role::{PesRole, UnitStart, role_of};
+use crate::pes_role::{PesRole, UnitStart, is_on, role_of};
 use crate::unit::dts_of;
 use crate::wire_unit::WireUnit;
 use demux::Finding;
@@ -116,6 +116,9 @@ impl<A: Allocator + Clone> UnitTaker<A> {
         ensures kept { OnOk result (self.new ≡ spec.after_finding self.old (finding_view finding.now)) }
         ensures err { OnErr result (self.new ≡ self.old) }
     {
+        if !is_on(self.pid, finding) {
+            return Ok(None);
+        }
         match role_of(self.pid, finding) {
             PesRole::Ignored => Ok(None),
             PesRole::Start(first) => {

@@ -2,12 +2,12 @@
 
 ghost use Rattle.std.specs.Prelude.{◌≡◌, ◌==◌, ◌++◌, IfOk, OnOk, length, map};
 ghost use Rattle.demux.specs.Shown.{finding_view, what_view};
-ghost use Rattle.stream_units.specs.CarriedUnits.{continuation};
+ghost use Rattle.stream_units.specs.CarriedUnits.{continuation, role_of};
 ghost use Rattle.stream_units.specs.UnitWarnings as spec;
 ghost use Rattle.stream_units.specs.Shown.{role_view};
 
-use crate::pes_role::{PADDING_STREAM, PesRole, first_packet, role_of};
-use crate::split_units::{is_lost, is_split, more_bytes};
+use crate::pes_role::{PADDING_STREAM, PesRole, first_packet, is_on, role_of};
+use crate::split_units::{is_lost, is_split, more_bytes_on};
 use crate::unit_warning::{UnitWarning, UnitWarningCause};
 use demux::{Finding, What};
 use pes_packet::Stamps;
@@ -26,12 +26,23 @@ fn current_after(current: Option<u8>, role: PesRole<'_>) -> Option<u8>
     }
 }
 
+// The same after a finding that may be of another PID.
+#[tactic(auto, unfolding(crate::specs::UnitWarnings::current_after))]
+fn current_with<A: Allocator>(current: Option<u8>, pid: u16, finding: &Finding<'_, A>) -> Option<u8>
+    ensures { result ≡ spec.current_after current (role_of pid (finding_view finding.now)) }
+{
+    if !is_on(pid, finding) {
+        return current;
+    }
+    current_after(current, role_of(pid, finding))
+}
+
 // Whether no later finding has more bytes of a unit of this stream_id.
 fn has_no_continuation<A: Allocator>(id: u8, pid: u16, later: &[Finding<'_, A>]) -> bool
     ensures { result ≡ (length (continuation id pid (map finding_view later.now)) == 0) }
 {
     for finding in later {
-        let Some(body) = more_bytes(id, role_of(pid, finding)) else {
+        let Some(body) = more_bytes_on(id, pid, finding) else {
             return true;
         };
         if !body.is_empty() {
@@ -235,7 +246,7 @@ pub fn unit_warnings<A: Allocator + Clone>(
             packet,
             cause_of(split, pid, count, current, finding, later),
         )?;
-        current = current_after(current, role_of(pid, finding));
+        current = current_with(current, pid, finding);
     }
     Ok(out)
 }

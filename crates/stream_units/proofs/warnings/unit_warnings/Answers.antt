@@ -1,8 +1,7 @@
 use Rattle.std.proofs.Common.{◌≡◌, ◌+◌, ◌++◌, ◌∙◌, sym, ap, ap₂, ℕ, Bool, Option, None, List, map, drop, rules}
 use Rattle.std.proofs.lemmas.List.{append-nil}
 use Rattle.demux.specs.Shown.{finding_view}
-use Rattle.stream_units.specs.CarriedUnits.{RoleView}
-use Rattle.stream_units.specs.UnitWarnings.{current_after, warning_list, warnings_from}
+use Rattle.stream_units.specs.UnitWarnings.{warning_list, warnings_from}
 use Rattle.stream_units.specs.declared.unit_warning.UnitWarningCause.{UnitWarningCause}
 use Rattle.stream_units.specs.declared.unit_warning.UnitWarning.{UnitWarning}
 use Rattle.stream_units.proofs.UnitWarnings.{left_at, left_end}
@@ -13,9 +12,9 @@ loop-at-preserved g c =
     let later : c.split_at.result.1.now ≡ drop (c.loop-at.at + 1) c.args.findings.now = search rules in
     let made = c.in_ok-push_warning.ensures ∙ ap₂ (λ (n : ℕ) (cause : Option UnitWarningCause). c.loop-at.out.items ++ warning_list n cause) c.first_packet-packet.ensures c.cause_of.ensures in
     c.loop-at.invariant
-    ∙ left_at (finding_view {A = g.row.A.Denot}) c.is_split-split.result c.args.pid c.args.count c.loop-at.at c.loop-at.current c.current_after-current.result c.args.findings.now c.split_at.result.1.now
+    ∙ left_at (finding_view {A = g.row.A.Denot}) c.is_split-split.result c.args.pid c.args.count c.loop-at.at c.loop-at.current c.current_with-current.result c.args.findings.now c.split_at.result.1.now
     c.index-findings-at.result c.loop-at.out.items c.push_warning.new.out.items c.loop-at-test.true c.index-findings-at.is later made
-    (c.current_after-current.ensures ∙ ap (λ (b : RoleView). current_after c.loop-at.current b) c.role_of.ensures)
+    c.current_with-current.ensures
 
 pub returns : goal.returns
 returns g c =

@@ -1,4 +1,4 @@
-use Rattle.std.proofs.Common.{rules, refl, length, ◌≡◌, ◌∙◌, sym, ℕ, List, ◌++◌, Option, Some, None, ap, subst, append-nil, nat_eq}
+use Rattle.std.proofs.Common.{refl, length, ◌≡◌, ◌∙◌, sym, ℕ, List, ◌++◌, Option, Some, None, option_map, ap, subst, append-nil, nat_eq}
 use Rattle.std.specs.Prelude.{OnOk, set, slice_get, string_bytes}
 use Rattle.std.specs.Map.{lookup}
 use Rattle.std.proofs.lemmas.Option.{slice_get_past, slice_get_read}
@@ -6,7 +6,7 @@ use Rattle.packet_arrival.specs.declared.clock.PcrSample.{PcrSample}
 use Rattle.ts_packet.specs.Views.{packet_view}
 use Rattle.stream_report.specs.Clocks.{clock_of}
 use Rattle.stream_report.specs.Entries.{IsEntry, entry_after, entry_lines}
-use Rattle.stream_report.specs.StreamTables.{AreEntries, IsTable, TableState}
+use Rattle.stream_report.specs.StreamTables.{AreEntries, TableState}
 use Rattle.stream_report.proofs.Entries.{none_at, set_at, some_at}
 use Rattle.stream_report.proofs.Tables.{lines_none, lines_some, on_ok, taken_none, taken_some}
 use Rattle.stream_report.proofs.stream_table.StreamTable.take.Goals as goal
@@ -14,16 +14,22 @@ use Rattle.stream_report.proofs.stream_table.StreamTable.take.Goals as goal
 pub returns-in_default-get_mut-clause-table : goal.returns-in_default-get_mut-clause-table
 returns-in_default-get_mut-clause-table c = λ t k.
     let packet = packet_view c.args.packet.now in
-    let found : lookup (nat_eq packet.header.pid) c.args.self.now.places.entries ≡ Some c.in-Some.place = search rules in
+    let found : lookup (nat_eq packet.header.pid) c.args.self.now.places.entries ≡ Some c.in-Some.place =
+    sym c.place_of.ensures ∙ ap (λ (o : Option (ℕ × ℕ)). option_map (λ x. x.1) o) c.in-Some.is in
     let none : slice_get c.args.self.now.entries.items c.in-Some.place ≡ None = slice_get_past c.args.self.now.entries.items c.in-Some.place c.in_default-get_mut.ensures.item.3 in
-    subst (λ (s : TableState). IsTable c.args.self.now s)
-    (sym (taken_none c.args.options.now c.args.index c.args.window c.args.clocks.now t packet c.in-Some.place
-    (ap (λ (m : List (ℕ × ℕ)). lookup (nat_eq packet.header.pid) m) (sym k.places) ∙ found) (none_at c.args.self.now.entries.items t.entries c.in-Some.place k.entries none))) k
+    let last = taken_none c.args.options.now c.args.index c.args.window c.args.clocks.now t packet c.in-Some.place
+    (ap (λ (m : List (ℕ × ℕ)). lookup (nat_eq packet.header.pid) m) (sym k.places) ∙ found) (none_at c.args.self.now.entries.items t.entries c.in-Some.place k.entries none) in
+    record {
+      choice = k.choice ∙ ap (λ (x : TableState). x.choice) (sym last);
+      places = k.places ∙ ap (λ (x : TableState). x.places) (sym last);
+      entries = subst (λ (x : TableState). AreEntries c.args.self.now.entries.items x.entries) (sym last) k.entries;
+    }
 
 pub returns-in_default-get_mut-clause-lines : goal.returns-in_default-get_mut-clause-lines
 returns-in_default-get_mut-clause-lines c = λ t k.
     let packet = packet_view c.args.packet.now in
-    let found : lookup (nat_eq packet.header.pid) c.args.self.now.places.entries ≡ Some c.in-Some.place = search rules in
+    let found : lookup (nat_eq packet.header.pid) c.args.self.now.places.entries ≡ Some c.in-Some.place =
+    sym c.place_of.ensures ∙ ap (λ (o : Option (ℕ × ℕ)). option_map (λ x. x.1) o) c.in-Some.is in
     let none : slice_get c.args.self.now.entries.items c.in-Some.place ≡ None = slice_get_past c.args.self.now.entries.items c.in-Some.place c.in_default-get_mut.ensures.item.3 in
     sym (append-nil (string_bytes c.args.text.now)) ∙ ap (λ (l : List ℕ). string_bytes c.args.text.now ++ l)
     (sym (lines_none c.args.options.now c.args.index c.args.clocks.now t packet c.in-Some.place
@@ -34,7 +40,8 @@ returns-clause-table c = λ t k.
     let packet = packet_view c.args.packet.now in
     let place = c.in-Some.place in
     let entry = c.in-Some-get_mut.entry.now in
-    let found : lookup (nat_eq packet.header.pid) c.args.self.now.places.entries ≡ Some place = search rules in
+    let found : lookup (nat_eq packet.header.pid) c.args.self.now.places.entries ≡ Some place =
+    sym c.place_of.ensures ∙ ap (λ (o : Option (ℕ × ℕ)). option_map (λ x. x.1) o) c.in-Some.is in
     let at : slice_get c.args.self.now.entries.items place ≡ Some entry =
     slice_get_read c.args.self.now.entries.items (length c.args.self.now.entries.items) place entry refl c.in-Some-get_mut.ensures.item.3.0 c.in-Some-get_mut.ensures.value in
     let s = some_at c.args.self.now.entries.items t.entries place entry k.entries at in
@@ -56,7 +63,8 @@ returns-clause-lines c = λ t k.
     let packet = packet_view c.args.packet.now in
     let place = c.in-Some.place in
     let entry = c.in-Some-get_mut.entry.now in
-    let found : lookup (nat_eq packet.header.pid) c.args.self.now.places.entries ≡ Some place = search rules in
+    let found : lookup (nat_eq packet.header.pid) c.args.self.now.places.entries ≡ Some place =
+    sym c.place_of.ensures ∙ ap (λ (o : Option (ℕ × ℕ)). option_map (λ x. x.1) o) c.in-Some.is in
     let at : slice_get c.args.self.now.entries.items place ≡ Some entry =
     slice_get_read c.args.self.now.entries.items (length c.args.self.now.entries.items) place entry refl c.in-Some-get_mut.ensures.item.3.0 c.in-Some-get_mut.ensures.value in
     let s = some_at c.args.self.now.entries.items t.entries place entry k.entries at in
