@@ -227,9 +227,9 @@ impl TableWatch {
     pub fn write_end(&self, text: &mut String, options: &ViewOptions) -> Result<(), AllocError>
         ensures { OnOk result (string_bytes text.new ≡ string_bytes text.old ++ spec.table_lines options.now self.now) }
     {
-        let timing = self.times.intervals.timing();
-        for (key, places) in self.times.intervals.entries() {
-            write_table(text, options, timing, *key, places)?;
+        let intervals = &self.times.intervals;
+        for (key, places) in intervals.entries() {
+            write_table(text, options, intervals.timing(), *key, places)?;
         }
         Ok(())
     }

@@ -1,5 +1,5 @@
 -- What the command line asks for.
-use Rattle.std.specs.Prelude.{ℕ, ◌&&◌, not, Bool, if◌then◌else◌, List, [], ◌∷◌, Option, Some, None, codes, map, option_and_then}
+use Rattle.std.specs.Prelude.{ℕ, ◌&&◌, not, Bool, if◌then◌else◌, List, [], ◌∷◌, Option, Some, None, codes, map, option_and_then, option_map}
 use Rattle.std.specs.Borrow.{Bor}
 use Rattle.clap.specs.Words.{Kinds, Row, Text, fault_of, first_of, matches_of}
 use Rattle.devices.specs.Options.{is_given, number_if_given, number_option}
@@ -31,8 +31,12 @@ unfoldable pub arrival_of : Option ℕ → Arrival
 arrival_of None = Unknown
 arrival_of (Some rate) = AtRate rate
 
-abbrev pub options : Option ℕ → ℕ → Bool → ViewOptions
-options rate window json = record { arrival = arrival_of rate; origin = 0; window = window; json = json }
+-- none where the rate is out of its range
+abbrev pub arrival_in : Option Text → Option Arrival
+arrival_in text = option_map arrival_of (number_if_given least_rate greatest_rate text)
+
+abbrev pub options : Arrival → ℕ → Bool → ViewOptions
+options arrival window json = record { arrival = arrival; origin = 0; window = window; json = json }
 
 -- the plain lines of a page
 abbrev pub is_json : List Row → Bool
@@ -41,11 +45,11 @@ is_json rows = is_given (first_of (codes "json") rows) && not (is_given (first_o
 -- a rate in bits a second, and a window of 10 ms to an hour, of 1 s where none is given
 unfoldable pub options_of : List Row → Option ViewOptions
 options_of rows =
-    option_and_then (λ rate.
+    option_and_then (λ arrival.
     option_and_then (λ window.
-    Some (options rate window (is_json rows)))
+    Some (options arrival window (is_json rows)))
     (number_option least_window greatest_window 1000 (first_of (codes "window") rows)))
-    (number_if_given least_rate greatest_rate (first_of (codes "rate") rows))
+    (arrival_in (first_of (codes "rate") rows))
 
 -- which streams are viewed, and with which buffers: programs up to 65,535
 abbrev pub greatest_program : ℕ

@@ -1,6 +1,6 @@
 //! What the command line asks for.
 
-ghost use Rattle.std.specs.Prelude.{◌≡◌, ◌≤◌, IfOk, IfSome};
+ghost use Rattle.std.specs.Prelude.{◌≡◌, IfOk, option_map};
 ghost use Rattle.clap.specs.Words.{found_of, rows_of};
 ghost use Rattle.tsview_cli.specs.Arguments as spec;
 
@@ -9,25 +9,25 @@ use crate::request::Request;
 use clap::ArgMatches;
 use clap::error::ErrorKind;
 use clock27::Rate;
-use devices::{is_given, number_if_given, number_option, text_of};
+use devices::{is_given, number_in, number_option, text_of};
 use option_lists::{buffer_list, number_list};
 use std::alloc::{AllocError, Global};
 use stream_arrival::Arrival;
 use stream_report::{ViewChoice, ViewOptions, ViewRequest};
 
-// How packets arrive: at a rate that is given, or else by clock references.
-#[tactic(auto, unfolding(crate::specs::Arguments::arrival_of))]
-fn arrival_of(rate: Option<u64>) -> Arrival
-    requires { IfSome rate (λ bits. (100000 ≤ bits) × (bits ≤ 100000000)) }
-    ensures { result ≡ spec.arrival_of rate }
+// How packets arrive: at a rate that is given, or else by clock references; none where it is out of its range.
+#[tactic(auto, unfolding(crate::specs::Arguments::arrival_of, devices::specs::Options::number_if_given))]
+fn arrival_in(text: Option<&str>) -> Option<Arrival>
+    ensures { result ≡ spec.arrival_in (option_map (λ s. s.now) text.entry) }
 {
-    match rate {
-        None => Arrival::Unknown,
-        Some(bits) => match Rate::new(bits) {
-            Ok(rate) => Arrival::AtRate(rate),
-            Err(_) => unreachable!(),
-        },
-    }
+    let Some(text) = text else {
+        return Some(Arrival::Unknown);
+    };
+    let bits = number_in(text, 100_000, 100_000_000)?;
+    let Ok(rate) = Rate::new(bits) else {
+        unreachable!()
+    };
+    Some(Arrival::AtRate(rate))
 }
 
 // The values of the options; none where one is out of its range.
@@ -35,11 +35,11 @@ fn arrival_of(rate: Option<u64>) -> Arrival
 fn options_of(matches: &ArgMatches<'_>) -> Option<ViewOptions>
     ensures { result ≡ spec.options_of (rows_of (found_of matches.now)) }
 {
-    let rate = number_if_given(text_of(matches, "rate"), 100_000, 100_000_000)?;
+    let arrival = arrival_in(text_of(matches, "rate"))?;
     let window = number_option(text_of(matches, "window"), 10, 3_600_000, 1_000)?;
     let page = is_given(text_of(matches, "page"));
     Some(ViewOptions {
-        arrival: arrival_of(rate),
+        arrival,
         origin: 0,
         window: window as u32,
         json: is_given(text_of(matches, "json")) && !page,
@@ -77,10 +77,7 @@ fn request_of(alloc: Global, matches: &ArgMatches<'_>) -> Result<Option<Request>
 }
 
 /// What the words ask for; none where they are a usage error.
-pub(crate) fn read_arguments(
-    alloc: Global,
-    words: &[&str],
-) -> Result<Option<Request>, AllocError>
+pub(crate) fn read_arguments(alloc: Global, words: &[&str]) -> Result<Option<Request>, AllocError>
     ensures { IfOk result (λ r. r ≡ spec.asked words.now) }
 {
     match matches_for(alloc, words) {

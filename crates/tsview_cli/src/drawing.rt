@@ -3,6 +3,7 @@ ghost use Rattle.std.specs.Prelude.{◌≡◌, ◌%◌, if◌then◌else◌, IfE
 ghost use Rattle.devices.specs.Devices.{reads, writes};
 ghost use Rattle.devices.specs.Runs.{Performs};
 ghost use Rattle.ts_packet.specs.PidList.{cut_packets};
+ghost use Rattle.stream_report.specs.Choices.{RequestView};
 ghost use Rattle.stream_report.specs.ClockedViews.{ClockedState, after_packet, end_lines, is_good, start};
 ghost use Rattle.view_page.specs.Pages.{IsPage, PageState, after_text};
 ghost use Rattle.tsview_cli.specs.Drawing.{Draws, DrawsPage, IsDrawn, IsWritten, TakesPackets, first_page, page_after};
@@ -57,6 +58,18 @@ impl Drawing {
         Ok(())
     }
 
+    // The packets of the next piece.
+    fn take_packets(&mut self, piece: &[u8]) -> Result<(), Halt>
+        ensures taken { OnOk result (TakesPackets (cut_packets piece.now) self.old self.new) }
+        ensures memory { IfErr result (λ halt. halt ≡ Halt.Memory) }
+    {
+        let (packets, _) = piece.as_chunks::<188>();
+        match self.take_all(packets) {
+            Ok(()) => Ok(()),
+            Err(_) => Err(Halt::Memory),
+        }
+    }
+
     // The lines at the end of a stream, `left` bytes after its last whole packet. Whether nothing is wrong in it.
     fn end(&mut self, left: usize) -> Result<bool, AllocError>
         ensures page { (s : ClockedState) (p : PageState) → IsDrawn self.old s p →
@@ -77,11 +90,7 @@ impl PieceTaker for Drawing {
     ghost has_taken = { λ first bytes now. TakesPackets (cut_packets bytes) first now };
 
     fn take_piece(&mut self, piece: &[u8]) -> Result<(), Halt> {
-        let (packets, _) = piece.as_chunks::<188>();
-        match self.take_all(packets) {
-            Ok(()) => Ok(()),
-            Err(_) => Err(Halt::Memory),
-        }
+        self.take_packets(piece)
     }
 }
 
@@ -113,6 +122,21 @@ fn drawn(alloc: Global, drawing: &mut Drawing, left: usize) -> Result<DrawnPage,
     }
 }
 
+// The page of the input, by a drawing of no packet.
+fn draw_whole<R: Source>(
+    alloc: Global,
+    input: &mut R,
+    drawing: &mut Drawing,
+) -> Result<DrawnPage, Halt>
+    ensures { (r : RequestView) → IsDrawn drawing.old (start r) (first_page r) →
+        Draws r (reads R.Source input.old input.new) result }
+{
+    match take_input(alloc, input, PIECE, drawing) {
+        Ok(size) => drawn(alloc, drawing, size % 188),
+        Err(halt) => Err(halt),
+    }
+}
+
 // The page of the input.
 fn draw_input<R: Source>(
     alloc: Global,
@@ -122,10 +146,10 @@ fn draw_input<R: Source>(
     ensures { Draws request (reads R.Source input.old input.new) result }
 {
     let mut drawing = Drawing::new(alloc, request);
-    match take_input(alloc, input, PIECE, &mut drawing) {
-        Ok(size) => drawn(alloc, &mut drawing, size % 188),
-        Err(halt) => Err(halt),
-    }
+    let result = draw_whole(alloc, input, &mut drawing);
+    // By a call: at the end of a function the drop of each part would be a step of its proof.
+    drop(drawing);
+    result
 }
 
 // The status of a stream in which nothing is wrong, or something.

@@ -10,12 +10,12 @@ use Rattle.stream_report.proofs.system_lines.write_system.Goals as goal
 pub returns : goal.returns
 returns c =
     let program = c.args.program.now in
-    let f_program : field_view c.number.result ≡ number_field (codes "program") program.number = search rules in
-    let f_transport : field_view c.number-2.result ≡ number_field (codes "transport") (transport_most program) = search rules in
-    let f_transport_size : field_view c.number-3.result ≡ number_field (codes "transport_size") TRANSPORT_BYTES = search rules in
-    let f_main : field_view c.number-4.result ≡ number_field (codes "main") (system_most program) = search rules in
-    let f_main_size : field_view c.number-5.result ≡ number_field (codes "main_size") SYSTEM_BYTES = search rules in
+    let f_program : field_view c.number-2.result ≡ number_field (codes "program") program.number = search rules in
+    let f_transport : field_view c.number-3.result ≡ number_field (codes "transport") (transport_most program) = search rules in
+    let f_transport_size : field_view c.number-4.result ≡ number_field (codes "transport_size") TRANSPORT_BYTES = search rules in
+    let f_main : field_view c.number-5.result ≡ number_field (codes "main") (system_most program) = search rules in
+    let f_main_size : field_view c.number-6.result ≡ number_field (codes "main_size") SYSTEM_BYTES = search rules in
     subst (λ (fields : List FieldView). OnOk c.write_line.result (string_bytes c.write_line.new.text
     ≡ string_bytes c.args.text.now ++ line_of c.args.options.now.json (codes "system") fields))
-    (five c.number.result c.number-2.result c.number-3.result c.number-4.result c.number-5.result _ _ _ _ _ f_program f_transport f_transport_size f_main f_main_size)
+    (five c.number-2.result c.number-3.result c.number-4.result c.number-5.result c.number-6.result _ _ _ _ _ f_program f_transport f_transport_size f_main f_main_size)
     c.write_line.ensures

@@ -1,0 +1,13 @@
+use Rattle.std.proofs.Common.{rules, ◌≡◌, string_bytes}
+use Rattle.view_page.specs.PageText.{page_text}
+use Rattle.tsview_cli.proofs.drawing.write_drawn.Goals as goal
+
+pub returns : goal.returns
+returns c = λ s p d.
+    let text : string_bytes c.write.new.text ≡ page_text c.end.new.self.page = search rules in
+    record {
+      page = c.end.new.self.page;
+      is = c.in_ok-good.ensures.page s p d;
+      text_is = text;
+      good_is = c.in_ok-good.ensures.good s p d;
+    }
