@@ -12,7 +12,7 @@ numbered_drop part j k [] few = absurd (omega (arith, few))
 numbered_drop part j zero (x ∷ xs) few = refl
 numbered_drop part j (suc k) (x ∷ xs) few = numbered_drop part j k xs (omega (arith, few))
 
-tables_from : Described → ℕ → List PlanItem
+abbrev tables_from : Described → ℕ → List PlanItem
 tables_from d t = numbered (λ u _. table_item d u ∷ []) t (drop t (table_kinds d))
 
 -- a table more
