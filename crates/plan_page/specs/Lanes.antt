@@ -1,5 +1,5 @@
 -- Which slots each item owns: a line for each, in a row of its own. A slot is a unit of the picture wide (SVG 2, 8.2 and 9.3).
-use Rattle.std.specs.Prelude.{ℕ, ◌-◌, ◌*◌, ◌/◌, ◌^◌, min, if◌then◌else◌, List, [], ◌∷◌, ◌++◌, codes, decimal, flat_map, length}
+use Rattle.std.specs.Prelude.{ℕ, ◌-◌, ◌*◌, ◌/◌, ◌^◌, min, if◌then◌else◌, List, [], ◌++◌, codes, decimal, flat_map, length}
 use Rattle.page_charts.specs.Numbers.{tenths}
 use Rattle.slot_plan.specs.Numbered.{numbered}
 use Rattle.slot_plan.specs.declared.slot.Slot.{Slot}
