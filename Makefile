@@ -8,10 +8,11 @@ TSVIEW = crates/tsview/out/tsview
 PROGRAM ?= tsmux
 PREFIX ?= /usr/local
 
-.PHONY: run try install test edits bench binary tsjob tsair tsview any-stream on-air clean
+.PHONY: run try install test edits bench binary tsjob tsair tsview pages picture any-stream on-air clean
 
 # The main job on an example: a plan is made for a radio service, and its 167 access units, four seconds of MPEG audio, become
-# a transport stream with all its tables; what is in that stream is listed, and the monitor reports on it.
+# a transport stream with all its tables; what is in that stream is listed, and the monitor reports on it. Where tsview is built, the stream
+# and the plan become pages: a twentieth of a second.
 run: binary
 	mkdir -p out
 	$(BINARY) plan < examples/radio/radio.toml > out/radio.plan
@@ -21,6 +22,9 @@ run: binary
 	$(BINARY) demux < out/radio.ts > out/radio.findings
 	@tail -n 1 out/radio.findings
 	$(BINARY) monitor --rate 1504000 < out/radio.ts
+	@if test -x $(TSVIEW); then \
+	    $(TSVIEW) --rate 1504000 --window 100 --page < out/radio.ts > out/radio.html && $(TSVIEW) --plan < out/radio.job > out/radio-plan.html && \
+	    ls -l out/radio.html out/radio-plan.html; else echo "for a page of each: make tsview, and this once more"; fi
 
 # The same program without its proofs, in a minute or two: it makes a plan for the radio service. With WORDS it does what they say with
 # one's own input, as in `make try WORDS='check' < JOB`, and with PROGRAM=tsjob another program does. The kit's trial run takes 64 MiB of
@@ -59,6 +63,14 @@ tsview:
 # A job on air, from a feeder to a loopback socket (examples/on-air has what it wants).
 on-air: binary tsjob tsair
 	sh examples/on-air/run.sh $(TSJOB) $(BINARY) $(TSAIR)
+
+# The pages of the cases, drawn in light and dark where Debian's chromium is installed, and looked at by a program; out/pages keeps them.
+pages: tsview
+	tools/page-check $(TSVIEW) out/pages
+
+# The picture of the README: the buffer of the sound in ffmpeg's film at a constant rate, and in ours (ffmpeg and Debian's chromium).
+picture: binary tsjob tsview
+	tools/buffer-picture $(TSVIEW) $(TSJOB) $(BINARY) docs/buffers.png
 
 # Streams of ffmpeg and GStreamer through both programs, and what came out beside what went in (examples/README.md has what it wants).
 any-stream: binary tsjob

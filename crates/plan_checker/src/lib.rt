@@ -4,7 +4,7 @@
 //! - [`check`]: one plan, to a [`CheckedPlan`] or a [`Refusal`].
 //! - [`failing`]: every condition that one plan does not keep.
 //! - [`check_switch`]: a second plan after a checked one, to a [`CheckedSwitch`] or a [`Refusal`].
-//! - [`own_count`], [`spread_of`], [`work_of`]: the numbers of an item's own slots that the conditions compare, each in
+//! - [`own_count`], [`greatest_gap`], [`spread_of`], [`work_of`]: the numbers of an item's own slots that the conditions compare, each in
 //!   one walk over a period.
 //! - [`steady_packets`], [`steady_time`], [`packets_in_row`], [`waiting_slots`], [`bytes_by_units`]: those of what a
 //!   stream declares.
@@ -37,6 +37,7 @@ mod work;
 pub use checked_plan::CheckedPlan;
 pub use checked_switch::CheckedSwitch;
 pub use checking::{check, failing};
+pub use gap::greatest_gap;
 pub use leads::packets_in_row;
 pub use main_buffers::{bytes_by_units, waiting_slots};
 pub use own_counts::own_count;

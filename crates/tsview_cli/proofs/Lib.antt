@@ -2,3 +2,4 @@ pub mod CommandLines
 pub mod Pieces
 pub mod Viewed
 pub mod Drawn
+pub mod PlanDrawings

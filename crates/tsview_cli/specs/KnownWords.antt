@@ -38,6 +38,6 @@ known_words = record {
   takes_value = λ option. takes_by (kind_of option) (is_flag option);
   reads = λ option value. reads_by (kind_of option) value;
   is_word = λ word. false;
-  stands_alone = λ word. false;
+  stands_alone = λ word. bytes_eq word (codes "--plan");
   required = None;
 }

@@ -4,3 +4,4 @@ pub mod KnownWords
 pub mod UsageText
 pub mod Viewing
 pub mod Drawing
+pub mod PlanDrawing

@@ -6,7 +6,7 @@ use Rattle.tsview_cli.specs.Arguments.{least_rate, greatest_rate, least_window, 
 
 abbrev pub usage_text : List ℕ
 usage_text = concat
-    (codes "usage: tsview [OPTIONS] < PACKETS\n"
+    (codes "usage: tsview [OPTIONS] < PACKETS\n       tsview --plan < JOB\n"
     ∷ codes "  --rate " ∷ range_text least_rate greatest_rate ∷ codes "       the rate of the stream in bits a second; else by its clock references\n"
     ∷ codes "  --window " ∷ range_text least_window greatest_window ∷ codes "           the length of a window in ms; else 1000\n"
     ∷ codes "  --json                         a JSON object a line\n"
@@ -14,4 +14,5 @@ usage_text = concat
     ∷ codes "  --program N,..                 view the streams of these programs alone\n"
     ∷ codes "  --buffers PID:RX:MAIN,..       buffers of a PID, in bits a second and bytes\n"
     ∷ codes "  --progress                     how many bytes are read is told each second, on a terminal\n"
+    ∷ codes "  --plan                         alone: a page of HTML of the plan in a job\n"
     ∷ codes "  --version                      alone: the version, and the kit that proved it\n" ∷ [])

@@ -77,8 +77,8 @@ impl CommandLine for KnownWords {
         false
     }
 
-    fn stands_alone(self, _word: &str) -> bool {
-        false
+    fn stands_alone(self, word: &str) -> bool {
+        word == "--plan"
     }
 
     fn required(self) -> Option<&'static str> {

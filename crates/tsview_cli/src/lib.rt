@@ -2,7 +2,7 @@
 //!
 //! `command_line` and `arguments` read the command line, and `known_words` says what it may have, for the line of a usage
 //! error; `viewing` reads the input piece by piece, and writes the lines that each piece settles before it reads the next;
-//! `drawing` draws a page of the lines, and writes it at the end;
+//! `drawing` draws a page of the lines, and writes it at the end; `plan_drawing` a page of the plan in a job;
 //! `program` is `run`.
 #![tactic(auto)]
 
@@ -10,6 +10,7 @@ mod arguments;
 mod command_line;
 mod drawing;
 mod known_words;
+mod plan_drawing;
 mod program;
 mod request;
 mod viewing;

@@ -9,6 +9,7 @@ ghost use Rattle.stream_report.specs.Choices.{RequestView};
 ghost use Rattle.tsview_cli.specs.Arguments.{asked};
 ghost use Rattle.tsview_cli.specs.Drawing.{DrawsPage};
 ghost use Rattle.tsview_cli.specs.KnownWords.{known_words};
+ghost use Rattle.tsview_cli.specs.PlanDrawing.{DrawsPlan, is_plan};
 ghost use Rattle.tsview_cli.specs.UsageText.{usage_text};
 ghost use Rattle.tsview_cli.specs.Viewing.{Views};
 ghost use Rattle.word_faults.specs.UsageReport.{Prints, is_version, usage_report, version_text};
@@ -16,6 +17,7 @@ ghost use Rattle.word_faults.specs.UsageReport.{Prints, is_version, usage_report
 use crate::arguments::read_arguments;
 use crate::drawing::draw_stream;
 use crate::known_words::KnownWords;
+use crate::plan_drawing::{draw_plan, is_plan};
 use crate::request::Request;
 use crate::viewing::view_input;
 use counted_io::{Sink, Source};
@@ -26,6 +28,7 @@ use word_faults::answer_other_words;
 
 /// The usage, written to the second writer on a usage error.
 const USAGE: &str = "usage: tsview [OPTIONS] < PACKETS
+       tsview --plan < JOB
   --rate 100000..100000000       the rate of the stream in bits a second; else by its clock references
   --window 10..3600000           the length of a window in ms; else 1000
   --json                         a JSON object a line
@@ -33,6 +36,7 @@ const USAGE: &str = "usage: tsview [OPTIONS] < PACKETS
   --program N,..                 view the streams of these programs alone
   --buffers PID:RX:MAIN,..       buffers of a PID, in bits a second and bytes
   --progress                     how many bytes are read is told each second, on a terminal
+  --plan                         alone: a page of HTML of the plan in a job
   --version                      alone: the version, and the kit that proved it
 ";
 
@@ -76,10 +80,8 @@ fn view_stream<R: Source, W: Sink, E: Sink>(
     }
 }
 
-/// The whole program: it reads the input piece by piece, writes the lines that a piece settles before it reads the next, or
-/// draws a page of them and writes that at the end, and returns the exit status: 0 good, 1 something is wrong in the stream, 2 a
-/// usage error, 3 a device failed or out of memory.
-pub fn run<R: Source, W: Sink, E: Sink>(
+// The program for a transport stream in the input, or a usage error.
+fn run_on_stream<R: Source, W: Sink, E: Sink>(
     alloc: Global,
     words: &[&str],
     input: &mut R,
@@ -113,5 +115,48 @@ pub fn run<R: Source, W: Sink, E: Sink>(
             answer_other_words(alloc, "tsview", KnownWords, words, usage(), output, faults)
         }
         Err(_) => report_halt(faults, Halt::Memory),
+    }
+}
+
+/// The whole program: it reads the input piece by piece, writes the lines that a piece settles before it reads the next, or
+/// draws a page of them and writes that at the end; or draws a page of the plan in a job. It returns the exit status: 0 good, 1
+/// something is wrong in the stream or the job, 2 a usage error, 3 a device failed or out of memory.
+pub fn run<R: Source, W: Sink, E: Sink>(
+    alloc: Global,
+    words: &[&str],
+    input: &mut R,
+    output: &mut W,
+    faults: &mut E,
+) -> u8
+    // `--plan` alone: a description and a plan to the page of the plan.
+    ensures plan { is_plan (map (λ s. s.now) words.now) ≡ true →
+        Performs DrawsPlan (reads R.Source input.old input.new)
+        (writes W.Sink output.old output.new) (writes E.Sink faults.old faults.new) result }
+    // A transport stream, as it comes, to the lines of its report.
+    ensures view { is_plan (map (λ s. s.now) words.now) ≡ false → (r : RequestView) → asked words.now ≡ Some (Request.Lines r) →
+        Views r (reads R.Source input.old input.new) (writes W.Sink output.old output.new)
+        (writes E.Sink faults.old faults.new) result }
+    // A transport stream to the page of its lines.
+    ensures page { is_plan (map (λ s. s.now) words.now) ≡ false → (r : RequestView) → asked words.now ≡ Some (Request.Page r) →
+        Performs (DrawsPage r) (reads R.Source input.old input.new) (writes W.Sink output.old output.new)
+        (writes E.Sink faults.old faults.new) result }
+    // `--version` alone.
+    ensures version { is_plan (map (λ s. s.now) words.now) ≡ false → asked words.now ≡ None →
+        is_version (map (λ s. s.now) words.now) ≡ true →
+        Prints (version_text (codes "tsview")) (reads R.Source input.old input.new)
+        (writes W.Sink output.old output.new) (writes E.Sink faults.old faults.new) result }
+    // Anything else: the first word that cannot be taken and the usage are told.
+    ensures usage { is_plan (map (λ s. s.now) words.now) ≡ false → asked words.now ≡ None →
+        is_version (map (λ s. s.now) words.now) ≡ false →
+        TellsUsage (usage_report known_words (map (λ s. s.now) words.now) usage_text)
+        (reads R.Source input.old input.new) (writes W.Sink output.old output.new)
+        (writes E.Sink faults.old faults.new) result
+        ⊎ LacksMemory (reads R.Source input.old input.new) (writes W.Sink output.old output.new)
+        (writes E.Sink faults.old faults.new) result }
+{
+    if is_plan(words) {
+        draw_plan(alloc, input, output, faults)
+    } else {
+        run_on_stream(alloc, words, input, output, faults)
     }
 }

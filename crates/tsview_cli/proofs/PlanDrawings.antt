@@ -1,0 +1,37 @@
+-- What a run on the plan in a job leads to.
+use Rattle.std.proofs.Common.{◌≡◌, ℕ, List, ap, refl, Result, Ok, Err}
+use Rattle.std.specs.Prelude.{false}
+use Rattle.checked_jobs.specs.Jobs.{JobFaultView, JobView, job_of}
+use Rattle.checked_jobs.specs.JobFaults.{fault_line}
+use Rattle.devices.specs.Devices.{Device, IsClean, IsUntouched, Takes}
+use Rattle.devices.specs.Lines.{Reports, WritesLine}
+use Rattle.devices.specs.Outcomes.{halt_line, printed, reported}
+use Rattle.devices.specs.Runs.{Performs}
+use Rattle.devices.specs.WholeInput.{ReadsInput}
+use Rattle.devices.specs.declared.halt.Halt.{Halt}
+use Rattle.devices.proofs.Performances.{performed, reported_only, reports_none, text_unwritten}
+use Rattle.tsview_cli.specs.PlanDrawing.{DrawsPlan, IsPageOf, plan_outcome}
+
+drawn_page : (wanted : Result JobView JobFaultView) (text : List ℕ) → IsPageOf wanted text → printed text 0 ≡ plan_outcome wanted
+unfolding plan_outcome
+drawn_page (Ok job) text is = ap (λ (t : List ℕ). printed t 0) is
+drawn_page (Err fault) text is = absurd is
+
+faulty_job : (wanted : Result JobView JobFaultView) (fault : JobFaultView) → Err fault ≡ wanted → reported (fault_line fault) ≡ plan_outcome wanted
+unfolding plan_outcome
+faulty_job wanted fault is = ap plan_outcome is
+
+pub page_written : (bytes text : List ℕ) (input output faults : Device) (status : ℕ) → ReadsInput input (Ok bytes) → IsPageOf (job_of false bytes) text →
+    Takes output text → IsClean output → IsUntouched faults → status ≡ 0 → Performs DrawsPlan input output faults status
+page_written bytes text input output faults status r is w c u s =
+    performed DrawsPlan bytes (printed text 0) input output faults status r (drawn_page (job_of false bytes) text is) w c (reports_none faults u) s
+
+pub page_unwritten : (V : Type 0) (bytes text : List ℕ) (input output faults : Device) (status : ℕ) (halt : Halt) → ReadsInput input (Ok bytes) → IsPageOf (job_of false bytes) text →
+    WritesLine {V = V} text output (Err halt) → Reports faults (halt_line halt) → status ≡ 3 → Performs DrawsPlan input output faults status
+page_unwritten V bytes text input output faults status halt r is w t s =
+    text_unwritten V DrawsPlan bytes text (printed text 0) input output faults status halt r (drawn_page (job_of false bytes) text is) refl w t s
+
+pub fault_reported : (bytes : List ℕ) (fault : JobFaultView) (input output faults : Device) (status : ℕ) → ReadsInput input (Ok bytes) → Err fault ≡ job_of false bytes →
+    IsUntouched output → Reports faults (fault_line fault) → status ≡ 1 → Performs DrawsPlan input output faults status
+fault_reported bytes fault input output faults status r is u t s =
+    reported_only DrawsPlan bytes (fault_line fault) input output faults status r (faulty_job (job_of false bytes) fault is) u t s

@@ -1,0 +1,37 @@
+-- A page of the plan in a job.
+use Rattle.std.specs.Prelude.{◌≡◌, ℕ, Bool, false, List, [], ◌∷◌, Result, Ok, Err, codes, string_bytes, ⊤}
+use Rattle.std.specs.Str.{bytes_eq}
+use Rattle.clap.specs.Words.{Text}
+use Rattle.checked_jobs.specs.Jobs.{JobFaultView, JobView, job_of}
+use Rattle.checked_jobs.specs.JobFaults.{fault_line, fault_view}
+use Rattle.checked_jobs.specs.declared.job_fault.JobReadError.{JobReadError}
+use Rattle.checked_jobs.specs.declared.job_fault.JobReadError.TheVariants.{Fault, Memory}
+use Rattle.devices.specs.Outcomes.{Outcome, printed, reported}
+use Rattle.plan_page.specs.PageText.{page_text}
+
+-- the word alone
+unfoldable pub is_plan : List Text → Bool
+is_plan (word ∷ []) = bytes_eq word (codes "--plan")
+is_plan _ = false
+
+-- the page of a job's first plan
+abbrev pub job_page : JobView → List ℕ
+job_page job = page_text job.description job.plan
+
+abbrev pub IsPageOf : Result JobView JobFaultView → List ℕ → Type 0
+IsPageOf (Ok job) text = text ≡ job_page job
+IsPageOf (Err fault) text = ⊥
+
+-- a page of it is returned, or its fault, or out of memory
+abbrev pub IsPlanPage : Result JobView JobFaultView → Result String JobReadError → Type 0
+IsPlanPage wanted (Ok text) = IsPageOf wanted (string_bytes text)
+IsPlanPage wanted (Err (Fault f)) = Err (fault_view f) ≡ wanted
+IsPlanPage wanted (Err Memory) = ⊤
+
+-- the page, and the status 0; or the line of the first fault, and the status 1
+unfoldable pub plan_outcome : Result JobView JobFaultView → Outcome
+plan_outcome (Ok job) = printed (job_page job) 0
+plan_outcome (Err fault) = reported (fault_line fault)
+
+abbrev pub DrawsPlan : List ℕ → Outcome → Type 0
+DrawsPlan bytes outcome = outcome ≡ plan_outcome (job_of false bytes)

@@ -1,0 +1,71 @@
+//! A page of the plan in a job.
+ghost use Rattle.std.specs.Prelude.{◌≡◌, ℕ, List, IfOk, false, map, string_bytes};
+ghost use Rattle.devices.specs.Devices.{reads, writes};
+ghost use Rattle.devices.specs.Runs.{Performs};
+ghost use Rattle.checked_jobs.specs.Jobs.{job_of};
+ghost use Rattle.checked_jobs.specs.JobFaults.{plans_view};
+ghost use Rattle.tsview_cli.specs.PlanDrawing as spec;
+
+use checked_jobs::{CheckedJob, JobPlans, JobReadError, read_job, report_fault};
+use counted_io::{Sink, Source};
+use devices::{Halt, read_whole, report_halt, write_text};
+use plan_page::write_plan_page;
+use std::alloc::{AllocError, Global};
+
+/// Whether the words are `--plan` alone.
+#[tactic(auto, unfolding(crate::specs::PlanDrawing::is_plan))]
+pub(crate) fn is_plan(words: &[&str]) -> bool
+    ensures { result ≡ spec.is_plan (map (λ s. s.now) words.now) }
+{
+    match words {
+        [word] => *word == "--plan",
+        _ => false,
+    }
+}
+
+// The page of the first plan of a job.
+fn page_of(alloc: Global, plans: &JobPlans) -> Result<String, AllocError>
+    ensures { (rest : List ℕ) → IfOk result (λ text. string_bytes text ≡ spec.job_page (plans_view plans.now rest)) }
+{
+    let mut text = String::new(alloc);
+    match plans {
+        JobPlans::One(plan) => write_plan_page(alloc, plan, &mut text)?,
+        JobPlans::Two(both) => write_plan_page(alloc, both.first(), &mut text)?,
+    }
+    Ok(text)
+}
+
+// The page of the plan in these bytes.
+fn drawn(alloc: Global, bytes: &[u8]) -> Result<String, JobReadError>
+    ensures { spec.IsPlanPage (job_of false bytes.now) result }
+{
+    let CheckedJob { plans, .. } = read_job(alloc, false, bytes)?;
+    match page_of(alloc, &plans) {
+        Ok(text) => Ok(text),
+        Err(_) => Err(JobReadError::Memory),
+    }
+}
+
+/// Writes the page of the plan in the input, or why it is no plan that serves; and returns the status.
+pub(crate) fn draw_plan<R: Source, W: Sink, E: Sink>(
+    alloc: Global,
+    input: &mut R,
+    output: &mut W,
+    faults: &mut E,
+) -> u8
+    ensures { Performs spec.DrawsPlan (reads R.Source input.old input.new)
+        (writes W.Sink output.old output.new) (writes E.Sink faults.old faults.new) result }
+{
+    let bytes = match read_whole(alloc, input) {
+        Ok(bytes) => bytes,
+        Err(halt) => return report_halt(faults, halt),
+    };
+    match drawn(alloc, &bytes) {
+        Ok(text) => match write_text(&text, output) {
+            Ok(()) => 0,
+            Err(halt) => report_halt(faults, halt),
+        },
+        Err(JobReadError::Fault(fault)) => report_fault(fault, faults),
+        Err(JobReadError::Memory) => report_halt(faults, Halt::Memory),
+    }
+}
