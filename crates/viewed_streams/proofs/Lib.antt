@@ -1,0 +1,9 @@
+pub mod EnteredBytes
+pub mod Lists
+pub mod Entries
+pub mod Steps
+pub mod Grown
+pub mod Excesses
+pub mod StreamIndices
+pub mod Whole
+pub mod WholeStreams

@@ -1,0 +1,8 @@
+use Rattle.viewed_streams.proofs.WholeStreams.{last_lines_law, whole_stream_law}
+use Rattle.viewed_streams.proofs.laws.whole_streams.Goals as goal
+
+pub returns-clause-whole : goal.returns-clause-whole
+returns-clause-whole c = whole_stream_law
+
+pub returns-clause-lines : goal.returns-clause-lines
+returns-clause-lines c = last_lines_law

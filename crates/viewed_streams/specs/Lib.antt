@@ -1,0 +1,2 @@
+pub mod StreamPackets
+pub mod WholeStreams

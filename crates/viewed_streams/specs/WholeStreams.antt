@@ -1,0 +1,90 @@
+-- The last lines of a stream are about all packets of its PID, from the one with which its buffers begin (ISO/IEC 13818-1, 2.4.2.3).
+--
+-- At a constant rate byte i of a stream arrives 8 i / rate seconds after its first. At buffers that are drained at `rx` bits a second times
+-- are in units of 8 / (rate * rx) seconds.
+use Rattle.std.specs.Prelude.{◌≡◌, ℕ, ◌<◌, ◌≤◌, List, [], ◌∷◌, ◌++◌, length, slice_get, flat_map, Option, Some, None}
+use Rattle.std.specs.Option.{option_to_list}
+use Rattle.clock27.specs.Arrival.{arrivals}
+use Rattle.clock27.specs.Peak.{IsPeak}
+use Rattle.ts_packet.specs.Views.{PacketView}
+use Rattle.ts_packet.specs.Reading.{packet_at}
+use Rattle.unit_timing.specs.Transport.{slots_of, tb_fullness}
+use Rattle.decoder_buffers.specs.PidPackets.{packets_from}
+use Rattle.stream_arrival.specs.declared.arrival.Arrival.TheVariants.{AtRate}
+use Rattle.stream_programs.specs.Streams.{FoundStreamView}
+use Rattle.named_streams.specs.NamedStreams.{clock_of as program_clock}
+use Rattle.transport_buffer.specs.Laws.{excesses}
+use Rattle.stream_view.specs.History.{main_fullness}
+use Rattle.stream_buffers.specs.declared.arriving.Arriving.{Arriving}
+use Rattle.stream_buffers.specs.declared.entering.TheConstants.{TRANSPORT_BYTES}
+use Rattle.stream_buffers.specs.Held.{Held, empty, main_most, transport_most, transport_under_way}
+use Rattle.stream_report.specs.declared.view_options.ViewOptions.{ViewOptions}
+use Rattle.stream_report.specs.Choices.{RequestView}
+use Rattle.stream_report.specs.EntryLines.{main_figures, main_line, transport_line, with_one}
+use Rattle.stream_report.specs.Entries.{EntryState, closed, end_lines, place_at}
+use Rattle.stream_report.specs.StreamTables.{beginning, stream_buffers}
+use Rattle.stream_report.specs.Views.{ViewState, after_all, start}
+use Rattle.viewed_streams.specs.StreamPackets.{Before, Followed, after_each, entered_each, known_after_all, most_packets, seen_among, sound_packet}
+
+-- what is known before a stream's first packet
+abbrev pub nothing_known : Before
+nothing_known = record { index = 0; clock = None; counter = None }
+
+-- what is known before the packet with which buffers begin: how many are before it, the program's last clock reference, and no counter
+abbrev pub known_at_begin : Followed → List (List ℕ) → Before
+known_at_begin f before = record (known_after_all f nothing_known before) { counter = None }
+
+abbrev pub followed : RequestView → EntryState → Followed
+followed request e = record { options = request.options; pid = e.pid; clock_pid = e.clock_pid; rx = e.held.rx }
+
+-- the packets of a stream as its buffers see them: those of its PID among these, which come after those before
+abbrev pub stream_packets : RequestView → EntryState → List (List ℕ) → List (List ℕ) → List Arriving
+stream_packets request e before packets = seen_among (followed request e) (known_at_begin (followed request e) before) packets
+
+-- the indices of the packets of a PID among these, the first of which has this index
+abbrev pub indices_of : ℕ → ℕ → List (List ℕ) → List ℕ
+indices_of pid first packets = slots_of (packets_from pid first packets)
+
+-- of a stream with a line at the end
+pub record IsWhole (request : RequestView) (rate : ℕ) (packets : List (List ℕ)) (e : EntryState) : Type 0 where
+  -- its buffers begin with the packet `first`, the first that begins a PES packet of it once the tables name it
+  pub before : List (List ℕ)
+  pub first : List ℕ
+  pub later : List (List ℕ)
+  pub split : packets ≡ before ++ first ∷ later
+  pub packet : PacketView
+  pub sound : sound_packet (packet_at first) ≡ Some packet
+  pub stream : FoundStreamView
+  pub begins : beginning (after_all (start request) before).seen.named (after_all (start request) before).table packet ≡ Some stream
+  pub pid : e.pid ≡ packet.header.pid
+  pub clock_pid : e.clock_pid ≡ program_clock (after_all (start request) before).seen.named stream.program
+  pub rx : e.held.rx ≡ (stream_buffers (after_all (start request) before).table stream packet).rx
+  pub size : e.held.main.size ≡ (stream_buffers (after_all (start request) before).table stream packet).main
+  -- what they hold is what all packets of its PID from then on leave in empty ones
+  pub held : e.held ≡ after_each (empty rate e.held.rx e.held.main.size) (AtRate rate) (stream_packets request e before (first ∷ later))
+  -- the line `transport` has the greatest number of bytes of these packets in the transport buffer over all moments
+  pub transport : IsPeak (λ x. tb_fullness rate e.held.rx x (indices_of e.pid (length before) (first ∷ later))) (transport_most e.held)
+  -- and the number of all excesses: those of the lines `excess`, one after another, with the one under way at the end
+  pub told : flat_map (λ v. v.transport) (entered_each (empty rate e.held.rx e.held.main.size) (AtRate rate) (stream_packets request e before (first ∷ later)))
+      ++ option_to_list (transport_under_way e.held)
+      ≡ excesses rate TRANSPORT_BYTES (arrivals e.held.rx (indices_of e.pid (length before) (first ∷ later)))
+  pub excesses : (window : ℕ) → with_one (closed window e).excesses (transport_under_way e.held)
+      ≡ length (excesses rate TRANSPORT_BYTES (arrivals e.held.rx (indices_of e.pid (length before) (first ∷ later))))
+  -- the line `main` has the greatest number of bytes in the main buffer over all moments: of the payload bytes that have left the transport
+  -- buffer by then, and whose unit is not gone
+  pub main : IsPeak (main_fullness rate e.held.parts) (main_most e.held)
+
+-- so of each stream of a report at a constant rate, as long as packets enter buffers: in the first 2^40 bytes
+abbrev pub WholeStreamLaw : Type 0
+WholeStreamLaw = (request : RequestView) (rate : ℕ) (packets : List (List ℕ)) (place : ℕ) (e : EntryState) → request.options.arrival ≡ AtRate rate → 0 < rate →
+    length packets ≤ most_packets → slice_get (after_all (start request) packets).table.entries place ≡ Some e → 0 < e.held.rx → IsWhole request rate packets e
+
+-- what the last lines of a stream say: before them are those of the last window and of what is under way
+pub record LastLines (options : ViewOptions) (count window : ℕ) (e : EntryState) : Type 0 where
+  pub text : List ℕ
+  pub lines : end_lines options count window e
+      ≡ text ++ (transport_line options e.pid (transport_most e.held) (with_one (closed window e).excesses (transport_under_way e.held))
+      ++ main_line options (place_at count e) (main_figures e.held (closed window e)) (closed window e))
+
+abbrev pub LastLinesLaw : Type 0
+LastLinesLaw = (options : ViewOptions) (count window : ℕ) (e : EntryState) → LastLines options count window e
