@@ -56,7 +56,7 @@ tsjob:
 tsair:
 	cd crates/tsair && { rt run < /dev/null; test -x out/tsair; }
 
-# The same of the program that views a stream (with no rate it says its usage, with status 2).
+# The same of the program that views a stream (of no input it says that there was no packet, with status 0).
 tsview:
 	cd crates/tsview && { rt run < /dev/null; test -x out/tsview; }
 
