@@ -7,3 +7,6 @@ pub mod Excesses
 pub mod StreamIndices
 pub mod Whole
 pub mod WholeStreams
+pub mod LaterPackets
+pub mod MeasuredStreams
+pub mod MuxedStreams

@@ -1,2 +1,4 @@
 pub mod StreamPackets
 pub mod WholeStreams
+pub mod MeasuredStreams
+pub mod MuxedStreams

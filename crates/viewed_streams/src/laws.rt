@@ -1,4 +1,6 @@
 //! Laws of the report on a stream. Each function does nothing: its contract is the law, over the definitions of `specs/`.
+ghost use Rattle.viewed_streams.specs.MeasuredStreams.{MeasuredStreamLaw};
+ghost use Rattle.viewed_streams.specs.MuxedStreams.{JobNoExcessLaw, MuxedStreamLaw};
 ghost use Rattle.viewed_streams.specs.WholeStreams.{LastLinesLaw, WholeStreamLaw};
 
 /// At a constant rate the last lines of a stream are about all packets of its PID, from the one with which its buffers begin: the line
@@ -7,4 +9,17 @@ ghost use Rattle.viewed_streams.specs.WholeStreams.{LastLinesLaw, WholeStreamLaw
 pub fn whole_streams()
     ensures whole { WholeStreamLaw }
     ensures lines { LastLinesLaw }
+{}
+
+/// The greatest number of bytes in a transport buffer is no more than what `tstd::measure` finds of the same bytes, and the same
+/// where the stream's buffers begin with the first packet of its PID.
+pub fn measured_streams()
+    ensures { MeasuredStreamLaw }
+{}
+
+/// Of what a multiplexer wrote over a plan that keeps its conditions, or over two in turn, viewed at its rate, no excess of a transport
+/// buffer is told.
+pub fn muxed_streams()
+    ensures whole { MuxedStreamLaw }
+    ensures jobs { JobNoExcessLaw }
 {}
