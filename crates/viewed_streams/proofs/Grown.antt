@@ -1,15 +1,15 @@
 -- Streams whose buffers have begun, over many packets.
-use Rattle.std.proofs.Common.{◌≡◌, ◌∙◌, sym, ℕ, ◌+◌, ◌^◌, ◌<◌, ◌≤◌, ◌⊎◌, List, [], ◌∷◌, ◌++◌, length, Option, Some, None, refl, ap, subst, inl, inr, arith}
+use Rattle.std.proofs.Common.{◌≡◌, ◌∙◌, sym, ℕ, ◌+◌, ◌^◌, ◌<◌, ◌⊎◌, List, [], ◌∷◌, ◌++◌, length, Option, Some, None, refl, ap, subst, inl, inr, arith}
 use Rattle.std.specs.Prelude.{slice_get}
 use Rattle.ts_packet.specs.Views.{PacketView}
 use Rattle.ts_packet.specs.Reading.{packet_at}
 use Rattle.stream_arrival.specs.declared.arrival.Arrival.{Arrival}
 use Rattle.stream_buffers.specs.Held.{Held}
-use Rattle.stream_buffers.specs.Entering.{EnteredView, after, entered}
+use Rattle.stream_buffers.specs.Entering.{after, entered}
 use Rattle.stream_buffers.specs.declared.arriving.Arriving.{Arriving}
 use Rattle.stream_report.specs.Entries.{EntryState}
 use Rattle.stream_report.specs.Tallies.{more}
-use Rattle.stream_report.specs.Views.{ViewState, after_all, after_packet}
+use Rattle.stream_report.specs.Views.{ViewState, after_all}
 use Rattle.viewed_streams.specs.StreamPackets.{Before, Followed, after_each, entered_each, known_after, seen_among, seen_in, sound_packet}
 use Rattle.viewed_streams.proofs.Lists.{some_is}
 use Rattle.viewed_streams.proofs.Entries.{Agree, BeginsWith}
@@ -156,8 +156,8 @@ came s (bytes ∷ packets) j e' agree few there =
     subst (λ (x : ViewState). slice_get (after_all x packets).table.entries j ≡ Some e') (packet_is s bytes) there in
     elim (came (next s bytes) packets j e' agree' (omega (arith, few, count)) there') [
       | inl e1 ↦ elim (sound_before s o j e1.0 agree one e1.1) [
-          | inl old ↦ inl old
-          | inr begins ↦ inr (came_now s bytes packets j e1.0 e' agree few begins e1.1 there')
-        ]
+        | inl old ↦ inl old
+        | inr begins ↦ inr (came_now s bytes packets j e1.0 e' agree few begins e1.1 there')
+      ]
       | inr began ↦ inr (came_after s bytes packets e' began)
     ]

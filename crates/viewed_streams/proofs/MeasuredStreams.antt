@@ -1,6 +1,5 @@
 -- The most in a transport buffer by a view, and by measuring.
-use Rattle.std.proofs.Common.{◌≡◌, ◌∙◌, sym, ℕ, ◌+◌, ◌≤◌, List, [], ◌∷◌, ◌++◌, length, refl, ap, subst, arith}
-use Rattle.clock27.specs.Peak.{IsPeak}
+use Rattle.std.proofs.Common.{◌≡◌, ◌∙◌, sym, ℕ, ◌+◌, ◌≤◌, List, ◌∷◌, ◌++◌, length, ap, arith}
 use Rattle.ts_packet.specs.PidList.{cut_packets}
 use Rattle.unit_timing.specs.Schedule.{Packet}
 use Rattle.unit_timing.specs.Transport.{slots_of, tb_fullness}

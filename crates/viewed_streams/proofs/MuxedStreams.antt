@@ -1,12 +1,8 @@
 -- No excess of a transport buffer is told of what a multiplexer wrote.
-use Rattle.std.proofs.Common.{◌≡◌, ◌∙◌, sym, ℕ, zero, ◌+◌, ◌*◌, ◌/◌, ◌^◌, ◌≤◌, ◌<◌, max, true, false, List, [], ◌∷◌, ◌++◌, length, Option, Some, None, refl, ap, subst, arith}
-use Rattle.std.specs.Prelude.{flat_map, slice_get}
+use Rattle.std.proofs.Common.{◌≡◌, ◌∙◌, sym, ℕ, ◌+◌, ◌/◌, ◌≤◌, ◌<◌, max, false, List, [], ◌∷◌, ◌++◌, length, Option, Some, None, refl, ap, subst, arith}
 use Rattle.std.specs.Option.{option_to_list}
-use Rattle.std.proofs.lemmas.List.{length-append}
 use Rattle.clock27.specs.Arrival.{arrivals}
-use Rattle.clock27.specs.Departure.{departures}
-use Rattle.clock27.specs.Fullness.{fullness}
-use Rattle.clock27.specs.Peak.{IsPeak, most_found}
+use Rattle.clock27.specs.Peak.{most_found}
 use Rattle.clock27.proofs.Peak.{arrivals_climb}
 use Rattle.ts_packet.specs.PidList.{cut_packets}
 use Rattle.pes_packet.specs.AccessUnits.{AccessUnit}
@@ -14,15 +10,13 @@ use Rattle.pes_packet.specs.Units.{units_of}
 use Rattle.monitor.proofs.FoundWhole.{packet_count}
 use Rattle.mux_core.specs.WholeJobs.{job_history, output_of}
 use Rattle.transport_buffer.specs.declared.excess.Excess.{Excess}
-use Rattle.transport_buffer.specs.Excesses.{AreOver, after_byte, excess_after, excesses_ended, is_over}
+use Rattle.transport_buffer.specs.Excesses.{AreOver, excess_after, excesses_ended}
 use Rattle.transport_buffer.specs.Laws.{excesses}
 use Rattle.transport_buffer.proofs.Levels.{most_law}
 use Rattle.transport_buffer.proofs.OverBytes.{none_over}
-use Rattle.decoder_buffers.specs.PidPackets.{packets_from}
 use Rattle.main_buffer_rows.proofs.Leaving.{climbs_rises}
 use Rattle.decoder_buffers.proofs.RisingTimes.{climbs_low}
 use Rattle.tstd.proofs.StreamPackets.{packets_climb}
-use Rattle.unit_timing.specs.Transport.{slots_of, tb_fullness}
 use Rattle.mux_core.specs.Headline.{Headline}
 use Rattle.mux_core.proofs.KnownRanges.{stream_range}
 use Rattle.mux_core.proofs.Whole.{headline}

@@ -1,5 +1,5 @@
 -- A packet more of a stream: what is known, and what enters the buffers of each stream that has begun.
-use Rattle.std.proofs.Common.{◌≡◌, ◌∙◌, sym, ℕ, ◌+◌, ◌-◌, ◌^◌, ◌<◌, ◌≤◌, ◌⊎◌, min, Bool, true, false, List, [], ◌∷◌, ◌++◌, length, Option, Some, None, Result, Ok, Err, if◌then◌else◌, refl, ap, subst, inl, inr, nat_eq, arith}
+use Rattle.std.proofs.Common.{◌≡◌, ◌∙◌, sym, ℕ, ◌+◌, ◌-◌, ◌^◌, ◌<◌, ◌⊎◌, Bool, true, false, List, [], ◌∷◌, length, Option, Some, None, Result, Ok, Err, if◌then◌else◌, refl, ap, subst, inl, inr, nat_eq, arith}
 use Rattle.std.specs.Prelude.{slice_get, ◌==◌}
 use Rattle.std.specs.Option.{option_or}
 use Rattle.std.specs.Map.{lookup}
@@ -8,21 +8,19 @@ use Rattle.ts_packet.specs.declared.packet.PacketError.{PacketError}
 use Rattle.ts_packet.specs.Views.{PacketView}
 use Rattle.ts_packet.specs.Reading.{packet_at}
 use Rattle.packet_arrival.specs.declared.clock.PcrSample.{PcrSample}
-use Rattle.stream_arrival.specs.declared.arrival.Arrival.{Arrival}
 use Rattle.stream_view.specs.declared.unit_seen.UnitSeen.{UnitSeen}
-use Rattle.stream_buffers.specs.Held.{Held}
 use Rattle.stream_buffers.specs.Entering.{EnteredView, after, entered}
 use Rattle.stream_buffers.specs.declared.arriving.Arriving.{Arriving}
 use Rattle.stream_report.specs.declared.tally.Tally.{Tally}
 use Rattle.stream_report.specs.declared.view_options.ViewOptions.{ViewOptions}
-use Rattle.stream_report.specs.Clocks.{ClockEntries, clock_of, clocks_after, place_of, sample_in, with_sample}
+use Rattle.stream_report.specs.Clocks.{ClockEntries, clock_of, clocks_after, with_sample}
 use Rattle.pid_windows.specs.Windows.{one_more}
 use Rattle.stream_report.specs.Entries.{EntryState, arriving, beginning_in, is_unread, tally_after}
-use Rattle.stream_report.specs.Seen.{next_window, with_clock}
-use Rattle.stream_report.specs.StreamTables.{begun, entry_taken}
+use Rattle.stream_report.specs.Seen.{next_window}
+use Rattle.stream_report.specs.StreamTables.{entry_taken}
 use Rattle.stream_report.specs.Tallies.{in_window, more, with_unit_if}
 use Rattle.stream_report.specs.Views.{ViewState, after_packet, after_read, clocked, with_begun, with_named, with_packet, with_sections, without}
-use Rattle.viewed_streams.specs.StreamPackets.{Before, Followed, after_each, clock_with, entered_each, known_after, reference_in, seen_among, seen_in, sound_packet}
+use Rattle.viewed_streams.specs.StreamPackets.{Before, Followed, after_each, clock_with, entered_each, known_after, reference_in, seen_in, sound_packet}
 use Rattle.viewed_streams.proofs.EnteredBytes.{Alike, after_alike}
 use Rattle.viewed_streams.proofs.Lists.{lookup_other, lookup_same}
 use Rattle.viewed_streams.proofs.Entries.{Agree, BeginsWith, begun_agrees, begun_keeps, begun_or_before, entry_with, taken_agrees, taken_before, taken_entry}
@@ -177,13 +175,19 @@ begun_steps s packet j e agree few there =
 pub sound_steps : (s : ViewState) (o : Option PacketView) (j : ℕ) (e : EntryState) → Agree s.table → s.seen.packets + 1 < 2 ^ 64 → slice_get s.table.entries j ≡ Some e →
     (e' : EntryState) × ((slice_get (after_sound s o).table.entries j ≡ Some e') × Steps s o (after_sound s o) e e')
 unfolding after_sound
-sound_steps s None j e agree few there = (e, (there, record {
-  same_stream = refl;
-  then_known = unfold known_after in (rw (one_more_is s.seen.packets few) refl);
-  size = refl;
-  held = unfold seen_in after_each in refl;
-  excesses = unfold seen_in entered_each excesses_more in refl;
-}))
+sound_steps s None j e agree few there = (
+  e,
+  (
+    there,
+    record {
+      same_stream = refl;
+      then_known = unfold known_after in (rw (one_more_is s.seen.packets few) refl);
+      size = refl;
+      held = unfold seen_in after_each in refl;
+      excesses = unfold seen_in entered_each excesses_more in refl;
+    },
+  ),
+)
 sound_steps s (Some packet) j e agree few there =
     let c : ViewState = clocked s packet in
     begun_steps s packet j e agree few (begun_keeps c.seen.options c.seen.named c.table packet j e there)
@@ -207,11 +211,11 @@ sound_before s (Some packet) j e' agree few there =
     elim (begun_or_before c.seen.options c.seen.named c.table packet j back.0 back.1.0) [
       | inl old ↦ inl (back.0, old)
       | inr begins ↦ inr (record {
-          packet = packet;
-          sound = refl;
-          first = back.0;
-          begins = begins;
-          steps = subst (λ (x : EntryState). Steps s (Some packet) (with_packet s packet) back.0 x) (sym back.1.1)
-              (packet_steps s (with_packet s packet) packet (next_window c.seen) back.0 refl (one_more_is s.seen.packets few) refl);
-        })
+        packet = packet;
+        sound = refl;
+        first = back.0;
+        begins = begins;
+        steps = subst (λ (x : EntryState). Steps s (Some packet) (with_packet s packet) back.0 x) (sym back.1.1)
+            (packet_steps s (with_packet s packet) packet (next_window c.seen) back.0 refl (one_more_is s.seen.packets few) refl);
+      })
     ]

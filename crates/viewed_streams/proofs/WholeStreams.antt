@@ -1,5 +1,5 @@
 -- The last lines of a stream are about all packets of its PID.
-use Rattle.std.proofs.Common.{◌≡◌, ◌∙◌, sym, ℕ, ◌+◌, ◌^◌, ◌≤◌, ◌<◌, List, [], ◌∷◌, ◌++◌, length, Option, Some, None, refl, ap, subst, inl, inr, arith}
+use Rattle.std.proofs.Common.{◌≡◌, ◌∙◌, sym, ℕ, ◌+◌, ◌≤◌, ◌<◌, List, [], ◌∷◌, ◌++◌, length, Some, None, refl, ap, subst, inl, inr, arith}
 use Rattle.std.specs.Prelude.{slice_get}
 use Rattle.std.specs.Option.{option_to_list}
 use Rattle.std.proofs.lemmas.List.{append_assoc, length-append}
@@ -25,13 +25,13 @@ use Rattle.stream_report.specs.Entries.{EntryState, closed, place_at}
 use Rattle.stream_report.specs.HeldLines.{tally_lines}
 use Rattle.stream_report.specs.StreamTables.{stream_buffers}
 use Rattle.stream_report.specs.Views.{ViewState, after_all, start}
-use Rattle.viewed_streams.specs.StreamPackets.{Before, Followed, after_each, entered_each, known_after_all, most_packets, seen_among}
+use Rattle.viewed_streams.specs.StreamPackets.{Before, Followed, after_each, known_after_all, most_packets, seen_among}
 use Rattle.viewed_streams.specs.WholeStreams.{IsWhole, LastLinesLaw, WholeStreamLaw, indices_of, known_at_begin, nothing_known, stream_packets}
 use Rattle.viewed_streams.specs.WholeStreams as whole
 use Rattle.viewed_streams.proofs.EnteredBytes.{ComeFrom, indices}
 use Rattle.viewed_streams.proofs.Entries.{entry_begun}
 use Rattle.viewed_streams.proofs.Grown.{Began, came}
-use Rattle.viewed_streams.proofs.Steps.{excesses_more, followed, known, unit_excesses}
+use Rattle.viewed_streams.proofs.Steps.{followed, known, unit_excesses}
 use Rattle.viewed_streams.proofs.StreamIndices.{same_indices, they_come}
 use Rattle.viewed_streams.proofs.Whole.{Knows, figures, index_all, knows_all, none_agree, one_counted, told}
 

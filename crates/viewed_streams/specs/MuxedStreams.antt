@@ -1,8 +1,7 @@
 -- Of what a multiplexer wrote, viewed at its rate, no line `excess` is told: no transport buffer ever holds more than 512 bytes.
-use Rattle.std.specs.Prelude.{◌≡◌, ℕ, ◌^◌, ◌<◌, ◌≤◌, false, List, [], ◌∷◌, flat_map, slice_get, Some, None}
+use Rattle.std.specs.Prelude.{◌≡◌, ℕ, ◌≤◌, false, List, [], ◌∷◌, flat_map, slice_get, Some, None}
 use Rattle.ts_packet.specs.PidList.{cut_packets}
 use Rattle.pes_packet.specs.AccessUnits.{AccessUnit}
-use Rattle.pes_packet.specs.Units.{units_of}
 use Rattle.description.specs.Described.{DescribedStream}
 use Rattle.description.specs.Ranges.{IsInRange}
 use Rattle.plan_timing.specs.Promised.{Promised}

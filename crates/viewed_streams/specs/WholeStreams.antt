@@ -2,7 +2,7 @@
 --
 -- At a constant rate byte i of a stream arrives 8 i / rate seconds after its first. At buffers that are drained at `rx` bits a second times
 -- are in units of 8 / (rate * rx) seconds.
-use Rattle.std.specs.Prelude.{◌≡◌, ℕ, ◌<◌, ◌≤◌, List, [], ◌∷◌, ◌++◌, length, slice_get, flat_map, Option, Some, None}
+use Rattle.std.specs.Prelude.{◌≡◌, ℕ, ◌<◌, ◌≤◌, List, ◌∷◌, ◌++◌, length, slice_get, flat_map, Some, None}
 use Rattle.std.specs.Option.{option_to_list}
 use Rattle.clock27.specs.Arrival.{arrivals}
 use Rattle.clock27.specs.Peak.{IsPeak}
@@ -17,13 +17,13 @@ use Rattle.transport_buffer.specs.Laws.{excesses}
 use Rattle.stream_view.specs.History.{main_fullness}
 use Rattle.stream_buffers.specs.declared.arriving.Arriving.{Arriving}
 use Rattle.stream_buffers.specs.declared.entering.TheConstants.{TRANSPORT_BYTES}
-use Rattle.stream_buffers.specs.Held.{Held, empty, main_most, transport_most, transport_under_way}
+use Rattle.stream_buffers.specs.Held.{empty, main_most, transport_most, transport_under_way}
 use Rattle.stream_report.specs.declared.view_options.ViewOptions.{ViewOptions}
 use Rattle.stream_report.specs.Choices.{RequestView}
 use Rattle.stream_report.specs.EntryLines.{main_figures, main_line, transport_line, with_one}
 use Rattle.stream_report.specs.Entries.{EntryState, closed, end_lines, place_at}
 use Rattle.stream_report.specs.StreamTables.{beginning, stream_buffers}
-use Rattle.stream_report.specs.Views.{ViewState, after_all, start}
+use Rattle.stream_report.specs.Views.{after_all, start}
 use Rattle.viewed_streams.specs.StreamPackets.{Before, Followed, after_each, entered_each, known_after_all, most_packets, seen_among, sound_packet}
 
 -- what is known before a stream's first packet
