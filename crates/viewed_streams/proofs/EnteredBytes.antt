@@ -129,7 +129,7 @@ they_climb low [] come = tt
 they_climb low (p ∷ ps) come = (come.0, they_climb (suc p.index) ps come.2)
 
 -- whatever the arrival
-payload_alike : (h : Held) (enters : Bool) (n : ℕ) (times : List ℕ) → Alike h (after_payload h enters n times)
+pub payload_alike : (h : Held) (enters : Bool) (n : ℕ) (times : List ℕ) → Alike h (after_payload h enters n times)
 unfolding after_payload
 payload_alike h enters n times = elim (eqb_tells n 0) [
   | inl none ↦ rw none.0 (record { rate = refl; rx = refl; size = refl })

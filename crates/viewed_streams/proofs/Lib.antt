@@ -1,5 +1,6 @@
 pub mod EnteredBytes
 pub mod Lists
+pub mod Units
 pub mod Entries
 pub mod Steps
 pub mod Grown

@@ -1,4 +1,5 @@
 pub mod StreamPackets
+pub mod StreamUnits
 pub mod WholeStreams
 pub mod MeasuredStreams
 pub mod MuxedStreams
