@@ -11,3 +11,4 @@ pub mod WholeStreams
 pub mod LaterPackets
 pub mod MeasuredStreams
 pub mod MuxedStreams
+pub mod MainExcesses

@@ -3,3 +3,4 @@ pub mod StreamUnits
 pub mod WholeStreams
 pub mod MeasuredStreams
 pub mod MuxedStreams
+pub mod MainExcesses

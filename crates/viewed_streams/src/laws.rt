@@ -1,4 +1,5 @@
 //! Laws of the report on a stream. Each function does nothing: its contract is the law, over the definitions of `specs/`.
+ghost use Rattle.viewed_streams.specs.MainExcesses.{NoMainExcessLaw};
 ghost use Rattle.viewed_streams.specs.MeasuredStreams.{MeasuredStreamLaw};
 ghost use Rattle.viewed_streams.specs.MuxedStreams.{JobNoExcessLaw, MuxedStreamLaw};
 ghost use Rattle.viewed_streams.specs.WholeStreams.{LastLinesLaw, WholeStreamLaw};
@@ -9,6 +10,11 @@ ghost use Rattle.viewed_streams.specs.WholeStreams.{LastLinesLaw, WholeStreamLaw
 pub fn whole_streams()
     ensures whole { WholeStreamLaw }
     ensures lines { LastLinesLaw }
+{}
+
+/// No excess of a main buffer is told where its line says no more than its size.
+pub fn main_excesses()
+    ensures { NoMainExcessLaw }
 {}
 
 /// The greatest number of bytes in a transport buffer is no more than what `tstd::measure` finds of the same bytes, and the same
