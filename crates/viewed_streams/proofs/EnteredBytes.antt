@@ -1,5 +1,5 @@
 -- Packets that enter buffers at a constant rate: when their bytes arrive.
-use Rattle.std.proofs.Common.{◌≡◌, ◌∙◌, sym, ℕ, zero, suc, ◌+◌, ◌-◌, ◌*◌, ◌^◌, ◌≤◌, ◌<◌, min, ◌&&◌, nat_le, nat_lt, Bool, true, false, List, [], ◌∷◌, ◌++◌, length, map, Option, Some, None, if◌then◌else◌, refl, ap, subst, inl, inr, arith}
+use Rattle.std.proofs.Common.{◌≡◌, ◌∙◌, sym, ℕ, suc, ◌+◌, ◌-◌, ◌*◌, ◌^◌, ◌≤◌, ◌<◌, ◌&&◌, nat_le, nat_lt, Bool, true, false, List, [], ◌∷◌, ◌++◌, length, map, Option, Some, None, if◌then◌else◌, refl, ap, subst, inl, inr, arith}
 use Rattle.std.proofs.lemmas.Bool.Decides.{eqb_tells, nat_tests}
 use Rattle.std.proofs.lemmas.List.{append_assoc, append-nil, length-append}
 use Rattle.clock27.specs.Arrival.{bytes_from, arrivals}
@@ -7,8 +7,8 @@ use Rattle.clock27.specs.Peak.{Climbs}
 use Rattle.decoder_buffers.proofs.ByteRows.{row_split, length-row}
 use Rattle.stream_arrival.specs.declared.arrival.Arrival.{Arrival}
 use Rattle.stream_arrival.specs.declared.arrival.Arrival.TheVariants.{AtRate}
-use Rattle.stream_arrival.specs.Arrivals.{has_times, lead_of, times_at}
-use Rattle.stream_view.specs.History.{Part, arrivals_of, transport_of}
+use Rattle.stream_arrival.specs.Arrivals.{has_times, times_at}
+use Rattle.stream_view.specs.History.{arrivals_of}
 use Rattle.stream_view.specs.declared.unit_seen.DueTime.{DueTime}
 use Rattle.stream_buffers.specs.declared.arriving.Arriving.{Arriving}
 use Rattle.stream_buffers.specs.Held.{Held, carried, passed}
@@ -129,7 +129,7 @@ they_climb low [] come = tt
 they_climb low (p ∷ ps) come = (come.0, they_climb (suc p.index) ps come.2)
 
 -- whatever the arrival
-payload_alike : (h : Held) (enters : Bool) (n : ℕ) (times : List ℕ) → Alike h (after_payload h enters n times)
+pub payload_alike : (h : Held) (enters : Bool) (n : ℕ) (times : List ℕ) → Alike h (after_payload h enters n times)
 unfolding after_payload
 payload_alike h enters n times = elim (eqb_tells n 0) [
   | inl none ↦ rw none.0 (record { rate = refl; rx = refl; size = refl })

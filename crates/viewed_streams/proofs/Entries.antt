@@ -1,5 +1,5 @@
 -- The streams whose buffers have begun, packet by packet: each has one entry, and each packet of its PID enters it.
-use Rattle.std.proofs.Common.{◌≡◌, ◌∙◌, sym, ℕ, ◌⊎◌, ◌&&◌, not, is_some, Bool, true, false, List, [], ◌∷◌, ◌++◌, length, Option, Some, None, if◌then◌else◌, refl, ap, inl, inr, nat_eq, arith}
+use Rattle.std.proofs.Common.{◌≡◌, ◌∙◌, sym, ℕ, ◌⊎◌, ◌&&◌, not, is_some, Bool, true, false, [], ◌∷◌, ◌++◌, length, Option, Some, None, if◌then◌else◌, refl, ap, inl, inr, nat_eq}
 use Rattle.std.specs.Prelude.{set, slice_get}
 use Rattle.std.specs.Map.{lookup}
 use Rattle.std.proofs.lemmas.Bool.Decides.{eqb_tells}
@@ -12,7 +12,7 @@ use Rattle.stream_report.specs.Choices.{chosen}
 use Rattle.stream_report.specs.Clocks.{ClockEntries}
 use Rattle.stream_report.specs.Entries.{EntryState}
 use Rattle.stream_report.specs.StreamTables.{TableState, beginning, begun, begun_if, entry_taken, new_entry, stream_buffers, taken, taken_at, taken_if, with_entry}
-use Rattle.viewed_streams.proofs.Lists.{apart, get_either, get_first, get_last, lookup_other, lookup_same, set_other, set_same, some_is}
+use Rattle.viewed_streams.proofs.Lists.{get_either, get_first, get_last, lookup_other, lookup_same, set_other, set_same, some_is}
 
 -- the place of a PID is that of its entry, and the entry of a place is of the PID that has it
 pub record Agree (t : TableState) : Type 0 where
@@ -167,7 +167,7 @@ taken_entry options index window clocks t packet j e agree there = elim (eqb_tel
     by f (Some place) h =
         let found = agree.at packet.header.pid place h in
         let apart : place ≡ j → ⊥ =
-            λ p. f (ap (λ (x : EntryState). x.pid) (some_is e found.0 (sym there ∙ ap (λ (i : ℕ). slice_get t.entries i) (sym p) ∙ found.1.0)) ∙ found.1.1) in
+        λ p. f (ap (λ (x : EntryState). x.pid) (some_is e found.0 (sym there ∙ ap (λ (i : ℕ). slice_get t.entries i) (sym p) ∙ found.1.0)) ∙ found.1.1) in
         rw (one_taken options index window clocks t packet place found.0 h found.1.0)
         (set_other t.entries place j (entry_taken options index window clocks packet found.0) apart ∙ there)
 

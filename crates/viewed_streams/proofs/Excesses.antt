@@ -1,26 +1,24 @@
 -- The excesses of a transport buffer that end with each packet, all together.
-use Rattle.std.proofs.Common.{◌≡◌, ◌∙◌, sym, ℕ, zero, suc, ◌+◌, ◌-◌, ◌*◌, ◌^◌, ◌≤◌, ◌<◌, max, min, Bool, true, false, List, [], ◌∷◌, ◌++◌, length, map, Option, Some, None, if◌then◌else◌, refl, ap, subst, inl, inr, arith}
+use Rattle.std.proofs.Common.{◌≡◌, ◌∙◌, sym, ℕ, suc, ◌+◌, ◌-◌, ◌*◌, ◌≤◌, max, Bool, true, false, List, [], ◌∷◌, ◌++◌, length, Option, Some, None, if◌then◌else◌, refl, ap, subst, inl, inr, arith}
 use Rattle.std.specs.Prelude.{flat_map}
 use Rattle.std.proofs.lemmas.Bool.Decides.{eqb_tells}
 use Rattle.std.specs.Option.{option_to_list}
-use Rattle.std.proofs.lemmas.List.{append_assoc, append-nil, length-append}
+use Rattle.std.proofs.lemmas.List.{length-append}
 use Rattle.clock27.specs.Arrival.{bytes_from, arrivals}
 use Rattle.clock27.specs.Departure.{last_left}
 use Rattle.clock27.proofs.Departures.{last_left-append}
 use Rattle.decoder_buffers.proofs.ByteRows.{length-row}
-use Rattle.stream_arrival.specs.declared.arrival.Arrival.{Arrival}
 use Rattle.stream_arrival.specs.declared.arrival.Arrival.TheVariants.{AtRate}
 use Rattle.stream_arrival.specs.Arrivals.{times_at}
 use Rattle.transport_buffer.specs.declared.excess.Excess.{Excess}
 use Rattle.transport_buffer.specs.Excesses.{after_byte, excess_after, excesses_ended, is_over}
 use Rattle.transport_buffer.proofs.ExcessBytes.{after-append, ended-append}
 use Rattle.stream_view.specs.History.{arrivals_of}
-use Rattle.stream_view.specs.declared.unit_seen.DueTime.{DueTime}
 use Rattle.stream_buffers.specs.declared.arriving.Arriving.{Arriving}
 use Rattle.stream_buffers.specs.declared.entering.TheConstants.{TRANSPORT_BYTES}
-use Rattle.stream_buffers.specs.Held.{Held, transport_ended, transport_under_way}
-use Rattle.stream_buffers.specs.Entering.{EnteredView, after, after_header, after_lead, after_unit, bytes_transport, ended_with, entered, lead_in, payload_transport, size_of, takes_in}
-use Rattle.viewed_streams.specs.StreamPackets.{after_each, entered_each}
+use Rattle.stream_buffers.specs.Held.{Held, transport_ended}
+use Rattle.stream_buffers.specs.Entering.{after, after_header, after_lead, after_unit, bytes_transport, ended_with, entered, lead_in, payload_transport, size_of, takes_in}
+use Rattle.viewed_streams.specs.StreamPackets.{entered_each}
 use Rattle.viewed_streams.proofs.EnteredBytes.{Arrives, ComeFrom, begin_arrives, bytes_arrive, indices, no_times, packet_arrives, taken_in, three_rows}
 
 -- the excesses that end with bytes in two parts

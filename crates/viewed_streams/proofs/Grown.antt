@@ -1,17 +1,18 @@
 -- Streams whose buffers have begun, over many packets.
-use Rattle.std.proofs.Common.{◌≡◌, ◌∙◌, sym, ℕ, ◌+◌, ◌^◌, ◌<◌, ◌≤◌, ◌⊎◌, List, [], ◌∷◌, ◌++◌, length, Option, Some, None, refl, ap, subst, inl, inr, arith}
+use Rattle.std.proofs.Common.{◌≡◌, ◌∙◌, sym, ℕ, ◌+◌, ◌^◌, ◌<◌, ◌⊎◌, List, [], ◌∷◌, ◌++◌, length, Option, Some, None, refl, ap, subst, inl, inr, arith}
 use Rattle.std.specs.Prelude.{slice_get}
 use Rattle.ts_packet.specs.Views.{PacketView}
 use Rattle.ts_packet.specs.Reading.{packet_at}
 use Rattle.stream_arrival.specs.declared.arrival.Arrival.{Arrival}
 use Rattle.stream_buffers.specs.Held.{Held}
-use Rattle.stream_buffers.specs.Entering.{EnteredView, after, entered}
+use Rattle.stream_buffers.specs.Entering.{after, entered}
 use Rattle.stream_buffers.specs.declared.arriving.Arriving.{Arriving}
 use Rattle.stream_report.specs.Entries.{EntryState}
 use Rattle.stream_report.specs.Tallies.{more}
-use Rattle.stream_report.specs.Views.{ViewState, after_all, after_packet}
+use Rattle.stream_report.specs.Views.{ViewState, after_all}
 use Rattle.viewed_streams.specs.StreamPackets.{Before, Followed, after_each, entered_each, known_after, seen_among, seen_in, sound_packet}
 use Rattle.viewed_streams.proofs.Lists.{some_is}
+use Rattle.viewed_streams.proofs.Units.{late_more, late_with, units_more, units_with}
 use Rattle.viewed_streams.proofs.Entries.{Agree, BeginsWith}
 use Rattle.viewed_streams.proofs.Steps.{Begins, Steps, after_sound, excesses_more, finished, finished_steps, followed, known, packet_is, sound_agrees, sound_before, sound_steps}
 
@@ -27,6 +28,18 @@ unfolding entered_each after_each excesses_more
 excesses_append h n arrival [] qs = refl
 excesses_append h n arrival (p ∷ ps) qs = excesses_append (after h arrival p) (more n (length (entered h arrival p).transport)) arrival ps qs
 
+pub units_append : (h : Held) (n : ℕ) (arrival : Arrival) (ps qs : List Arriving) →
+    units_more n (entered_each h arrival (ps ++ qs)) ≡ units_more (units_more n (entered_each h arrival ps)) (entered_each (after_each h arrival ps) arrival qs)
+unfolding entered_each after_each units_more
+units_append h n arrival [] qs = refl
+units_append h n arrival (p ∷ ps) qs = units_append (after h arrival p) (units_with n (entered h arrival p).unit) arrival ps qs
+
+pub late_append : (h : Held) (n : ℕ) (arrival : Arrival) (ps qs : List Arriving) →
+    late_more n (entered_each h arrival (ps ++ qs)) ≡ late_more (late_more n (entered_each h arrival ps)) (entered_each (after_each h arrival ps) arrival qs)
+unfolding entered_each after_each late_more
+late_append h n arrival [] qs = refl
+late_append h n arrival (p ∷ ps) qs = late_append (after h arrival p) (late_with n (entered h arrival p).unit) arrival ps qs
+
 -- an entry after packets that come where this is known
 pub record Grown (arrival : Arrival) (f : Followed) (b : Before) (packets : List (List ℕ)) (e e' : EntryState) : Type 0 where
   pub pid : e'.pid ≡ e.pid
@@ -35,6 +48,8 @@ pub record Grown (arrival : Arrival) (f : Followed) (b : Before) (packets : List
   pub size : e'.held.main.size ≡ e.held.main.size
   pub held : e'.held ≡ after_each e.held arrival (seen_among f b packets)
   pub excesses : e'.tally.excesses ≡ excesses_more e.tally.excesses (entered_each e.held arrival (seen_among f b packets))
+  pub units : e'.tally.units ≡ units_more e.tally.units (entered_each e.held arrival (seen_among f b packets))
+  pub late : e'.tally.late ≡ late_more e.tally.late (entered_each e.held arrival (seen_among f b packets))
 
 -- one packet more at the front
 grown_more : (s s' : ViewState) (bytes : List ℕ) (packets : List (List ℕ)) (e e1 e' : EntryState) → s'.seen.options ≡ s.seen.options →
@@ -55,11 +70,13 @@ grown_more s s' bytes packets e e1 e' options step rest =
       size = rest.size ∙ step.size;
       held = rest.held ∙ rw (same, step.held, options) (sym (each_append e.held a ps qs));
       excesses = rest.excesses ∙ rw (same, step.excesses, step.held, options) (sym (excesses_append e.held e.tally.excesses a ps qs));
+      units = rest.units ∙ rw (same, step.units, step.held, options) (sym (units_append e.held e.tally.units a ps qs));
+      late = rest.late ∙ rw (same, step.late, step.held, options) (sym (late_append e.held e.tally.late a ps qs));
     }
 
 none_more : (s : ViewState) (e : EntryState) → Grown s.seen.options.arrival (followed s e) (known s e) [] e e
 unfolding seen_among
-none_more s e = record { pid = refl; clock_pid = refl; rx = refl; size = refl; held = unfold after_each in refl; excesses = unfold entered_each excesses_more in refl }
+none_more s e = record { pid = refl; clock_pid = refl; rx = refl; size = refl; held = unfold after_each in refl; excesses = unfold entered_each excesses_more in refl; units = unfold entered_each units_more in refl; late = unfold entered_each late_more in refl }
 
 -- what the packets of a view leave its options and its number of packets
 pub sound_options : (s : ViewState) (o : Option PacketView) → (after_sound s o).seen.options ≡ s.seen.options
@@ -156,8 +173,8 @@ came s (bytes ∷ packets) j e' agree few there =
     subst (λ (x : ViewState). slice_get (after_all x packets).table.entries j ≡ Some e') (packet_is s bytes) there in
     elim (came (next s bytes) packets j e' agree' (omega (arith, few, count)) there') [
       | inl e1 ↦ elim (sound_before s o j e1.0 agree one e1.1) [
-          | inl old ↦ inl old
-          | inr begins ↦ inr (came_now s bytes packets j e1.0 e' agree few begins e1.1 there')
-        ]
+        | inl old ↦ inl old
+        | inr begins ↦ inr (came_now s bytes packets j e1.0 e' agree few begins e1.1 there')
+      ]
       | inr began ↦ inr (came_after s bytes packets e' began)
     ]

@@ -1,5 +1,6 @@
 pub mod EnteredBytes
 pub mod Lists
+pub mod Units
 pub mod Entries
 pub mod Steps
 pub mod Grown
@@ -7,3 +8,7 @@ pub mod Excesses
 pub mod StreamIndices
 pub mod Whole
 pub mod WholeStreams
+pub mod LaterPackets
+pub mod MeasuredStreams
+pub mod MuxedStreams
+pub mod MainExcesses

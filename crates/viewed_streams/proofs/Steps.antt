@@ -1,5 +1,5 @@
 -- A packet more of a stream: what is known, and what enters the buffers of each stream that has begun.
-use Rattle.std.proofs.Common.{◌≡◌, ◌∙◌, sym, ℕ, ◌+◌, ◌-◌, ◌^◌, ◌<◌, ◌≤◌, ◌⊎◌, min, Bool, true, false, List, [], ◌∷◌, ◌++◌, length, Option, Some, None, Result, Ok, Err, if◌then◌else◌, refl, ap, subst, inl, inr, nat_eq, arith}
+use Rattle.std.proofs.Common.{◌≡◌, ◌∙◌, sym, ℕ, ◌+◌, ◌-◌, ◌^◌, ◌<◌, ◌⊎◌, Bool, true, false, List, [], ◌∷◌, length, Option, Some, None, Result, Ok, Err, if◌then◌else◌, refl, ap, subst, inl, inr, nat_eq, arith}
 use Rattle.std.specs.Prelude.{slice_get, ◌==◌}
 use Rattle.std.specs.Option.{option_or}
 use Rattle.std.specs.Map.{lookup}
@@ -8,23 +8,22 @@ use Rattle.ts_packet.specs.declared.packet.PacketError.{PacketError}
 use Rattle.ts_packet.specs.Views.{PacketView}
 use Rattle.ts_packet.specs.Reading.{packet_at}
 use Rattle.packet_arrival.specs.declared.clock.PcrSample.{PcrSample}
-use Rattle.stream_arrival.specs.declared.arrival.Arrival.{Arrival}
 use Rattle.stream_view.specs.declared.unit_seen.UnitSeen.{UnitSeen}
-use Rattle.stream_buffers.specs.Held.{Held}
 use Rattle.stream_buffers.specs.Entering.{EnteredView, after, entered}
 use Rattle.stream_buffers.specs.declared.arriving.Arriving.{Arriving}
 use Rattle.stream_report.specs.declared.tally.Tally.{Tally}
 use Rattle.stream_report.specs.declared.view_options.ViewOptions.{ViewOptions}
-use Rattle.stream_report.specs.Clocks.{ClockEntries, clock_of, clocks_after, place_of, sample_in, with_sample}
+use Rattle.stream_report.specs.Clocks.{ClockEntries, clock_of, clocks_after, with_sample}
 use Rattle.pid_windows.specs.Windows.{one_more}
 use Rattle.stream_report.specs.Entries.{EntryState, arriving, beginning_in, is_unread, tally_after}
-use Rattle.stream_report.specs.Seen.{next_window, with_clock}
-use Rattle.stream_report.specs.StreamTables.{begun, entry_taken}
-use Rattle.stream_report.specs.Tallies.{in_window, more, with_unit_if}
+use Rattle.stream_report.specs.Seen.{next_window}
+use Rattle.stream_report.specs.StreamTables.{entry_taken}
+use Rattle.stream_report.specs.Tallies.{in_window, is_late, more, with_excesses, with_packet as with_tallied, with_unit_if}
 use Rattle.stream_report.specs.Views.{ViewState, after_packet, after_read, clocked, with_begun, with_named, with_packet, with_sections, without}
-use Rattle.viewed_streams.specs.StreamPackets.{Before, Followed, after_each, clock_with, entered_each, known_after, reference_in, seen_among, seen_in, sound_packet}
+use Rattle.viewed_streams.specs.StreamPackets.{Before, Followed, after_each, clock_with, entered_each, known_after, reference_in, seen_in, sound_packet}
 use Rattle.viewed_streams.proofs.EnteredBytes.{Alike, after_alike}
 use Rattle.viewed_streams.proofs.Lists.{lookup_other, lookup_same}
+use Rattle.viewed_streams.proofs.Units.{late_more, late_with, units_more, units_with}
 use Rattle.viewed_streams.proofs.Entries.{Agree, BeginsWith, begun_agrees, begun_keeps, begun_or_before, entry_with, taken_agrees, taken_before, taken_entry}
 
 -- ---- a packet that counts, or none
@@ -91,6 +90,29 @@ unit_excesses t window (Some u) = in_window_excesses t window
 tally_excesses : (t : Tally) (window : ℕ) (unread : Bool) (v : EnteredView) → (tally_after t window unread v).excesses ≡ more t.excesses (length v.transport)
 tally_excesses t window unread v = unit_excesses _ window v.unit ∙ ap (λ (n : ℕ). more n (length v.transport)) (in_window_excesses t window)
 
+in_window_units : (t : Tally) (window : ℕ) → ((in_window t window).units ≡ t.units) × ((in_window t window).late ≡ t.late)
+in_window_units t window = by (t.window == window)
+  where
+    other : Tally
+    other = record t { window = window; window_transport = 0; window_main = 0; window_units = 0; window_late = 0; slack = 2 ^ 128 - 1 }
+
+    by : (b : Bool) → ((if b then t else other).units ≡ t.units) × ((if b then t else other).late ≡ t.late)
+    by true = (refl, refl)
+    by false = (refl, refl)
+
+pub unit_units : (t : Tally) (window : ℕ) (unit : Option UnitSeen) → ((with_unit_if t window unit).units ≡ units_with t.units unit) × ((with_unit_if t window unit).late ≡ late_with t.late unit)
+unfolding with_unit_if units_with late_with
+unit_units t window None = (refl, refl)
+unit_units t window (Some u) =
+    (ap (λ (n : ℕ). more n 1) (in_window_units t window).0, ap (λ (n : ℕ). more n (if is_late u then 1 else 0)) (in_window_units t window).1)
+
+tally_units : (t : Tally) (window : ℕ) (unread : Bool) (v : EnteredView) →
+    ((tally_after t window unread v).units ≡ units_with t.units v.unit) × ((tally_after t window unread v).late ≡ late_with t.late v.unit)
+tally_units t window unread v =
+    let both = unit_units (with_excesses (with_tallied t window v) (length v.transport) (length v.main) unread) window v.unit in
+    let old = in_window_units t window in
+    (both.0 ∙ ap (λ (n : ℕ). units_with n v.unit) old.0, both.1 ∙ ap (λ (n : ℕ). late_with n v.unit) old.1)
+
 -- the number of excesses that end with these packets, after so many
 unfoldable pub excesses_more : ℕ → List EnteredView → ℕ
 excesses_more n [] = n
@@ -104,17 +126,19 @@ pub record Steps (s : ViewState) (o : Option PacketView) (s' : ViewState) (e e' 
   pub size : e'.held.main.size ≡ e.held.main.size
   pub held : e'.held ≡ after_each e.held s.seen.options.arrival (seen_in (followed s e) (known s e) o)
   pub excesses : e'.tally.excesses ≡ excesses_more e.tally.excesses (entered_each e.held s.seen.options.arrival (seen_in (followed s e) (known s e) o))
+  pub units : e'.tally.units ≡ units_more e.tally.units (entered_each e.held s.seen.options.arrival (seen_in (followed s e) (known s e) o))
+  pub late : e'.tally.late ≡ late_more e.tally.late (entered_each e.held s.seen.options.arrival (seen_in (followed s e) (known s e) o))
 
 -- sections and names change none of it
 pub finished_steps : (s s' : ViewState) (o : Option PacketView) (bytes : List ℕ) (e e' : EntryState) → Steps s o s' e e' → Steps s o (finished s' bytes) e e'
-finished_steps s s' o bytes e e' k = record { same_stream = k.same_stream; then_known = k.then_known; size = k.size; held = k.held; excesses = k.excesses }
+finished_steps s s' o bytes e e' k = record { same_stream = k.same_stream; then_known = k.then_known; size = k.size; held = k.held; excesses = k.excesses; units = k.units; late = k.late }
 
 -- what a packet leaves of an entry, once the view has counted it
 packet_steps : (s s' : ViewState) (packet : PacketView) (window : ℕ) (e : EntryState) → s'.seen.options ≡ s.seen.options → s'.seen.packets ≡ s.seen.packets + 1 →
     s'.seen.clocks ≡ clocks_after s.seen.clocks s.seen.options.arrival s.seen.packets packet →
     Steps s (Some packet) s' e
     (entry_with s.seen.options s.seen.packets window (clocks_after s.seen.clocks s.seen.options.arrival s.seen.packets packet) e packet)
-unfolding seen_in known_after after_each entered_each excesses_more
+unfolding seen_in known_after after_each entered_each excesses_more units_more late_more
 packet_steps s s' packet window e options packets clocks = by (nat_eq e.pid packet.header.pid) refl
   where
     now : ClockEntries
@@ -139,6 +163,8 @@ packet_steps s s' packet window e options packets clocks = by (nat_eq e.pid pack
       size = rw h alike.size;
       held = rw (h, is) refl;
       excesses = rw h (rw (sym is) (tally_excesses e.tally window (is_unread (beginning_in e.counter packet)) (entered e.held s.seen.options.arrival p)));
+      units = rw h (rw (sym is) (tally_units e.tally window (is_unread (beginning_in e.counter packet)) (entered e.held s.seen.options.arrival p)).0);
+      late = rw h (rw (sym is) (tally_units e.tally window (is_unread (beginning_in e.counter packet)) (entered e.held s.seen.options.arrival p)).1);
     }
     by false h = record {
       same_stream = rw (h, options) refl;
@@ -146,6 +172,8 @@ packet_steps s s' packet window e options packets clocks = by (nat_eq e.pid pack
       size = rw h refl;
       held = rw h refl;
       excesses = rw h refl;
+      units = rw h refl;
+      late = rw h refl;
     }
 
 -- and of the streams that have begun, by a packet that counts or does not
@@ -177,13 +205,21 @@ begun_steps s packet j e agree few there =
 pub sound_steps : (s : ViewState) (o : Option PacketView) (j : ℕ) (e : EntryState) → Agree s.table → s.seen.packets + 1 < 2 ^ 64 → slice_get s.table.entries j ≡ Some e →
     (e' : EntryState) × ((slice_get (after_sound s o).table.entries j ≡ Some e') × Steps s o (after_sound s o) e e')
 unfolding after_sound
-sound_steps s None j e agree few there = (e, (there, record {
-  same_stream = refl;
-  then_known = unfold known_after in (rw (one_more_is s.seen.packets few) refl);
-  size = refl;
-  held = unfold seen_in after_each in refl;
-  excesses = unfold seen_in entered_each excesses_more in refl;
-}))
+sound_steps s None j e agree few there = (
+  e,
+  (
+    there,
+    record {
+      same_stream = refl;
+      then_known = unfold known_after in (rw (one_more_is s.seen.packets few) refl);
+      size = refl;
+      held = unfold seen_in after_each in refl;
+      excesses = unfold seen_in entered_each excesses_more in refl;
+      units = unfold seen_in entered_each units_more in refl;
+      late = unfold seen_in entered_each late_more in refl;
+    },
+  ),
+)
 sound_steps s (Some packet) j e agree few there =
     let c : ViewState = clocked s packet in
     begun_steps s packet j e agree few (begun_keeps c.seen.options c.seen.named c.table packet j e there)
@@ -207,11 +243,11 @@ sound_before s (Some packet) j e' agree few there =
     elim (begun_or_before c.seen.options c.seen.named c.table packet j back.0 back.1.0) [
       | inl old ↦ inl (back.0, old)
       | inr begins ↦ inr (record {
-          packet = packet;
-          sound = refl;
-          first = back.0;
-          begins = begins;
-          steps = subst (λ (x : EntryState). Steps s (Some packet) (with_packet s packet) back.0 x) (sym back.1.1)
-              (packet_steps s (with_packet s packet) packet (next_window c.seen) back.0 refl (one_more_is s.seen.packets few) refl);
-        })
+        packet = packet;
+        sound = refl;
+        first = back.0;
+        begins = begins;
+        steps = subst (λ (x : EntryState). Steps s (Some packet) (with_packet s packet) back.0 x) (sym back.1.1)
+            (packet_steps s (with_packet s packet) packet (next_window c.seen) back.0 refl (one_more_is s.seen.packets few) refl);
+      })
     ]

@@ -1,8 +1,8 @@
 -- What a stream's buffers hold at the end is what all packets of its PID leave there.
-use Rattle.std.proofs.Common.{◌≡◌, ◌∙◌, sym, ℕ, suc, ◌+◌, ◌-◌, ◌*◌, ◌^◌, ◌≤◌, ◌<◌, ◌⊎◌, is_some, List, [], ◌∷◌, ◌++◌, length, Option, Some, None, if◌then◌else◌, refl, ap, subst, inl, inr, nat_eq, arith}
+use Rattle.std.proofs.Common.{◌≡◌, ◌∙◌, sym, ℕ, suc, ◌+◌, ◌-◌, ◌*◌, ◌^◌, ◌≤◌, ◌<◌, List, [], ◌∷◌, ◌++◌, length, Option, Some, None, refl, ap, subst, arith}
 use Rattle.std.specs.Prelude.{flat_map, slice_get}
 use Rattle.std.specs.Option.{option_to_list}
-use Rattle.std.proofs.lemmas.List.{append_assoc, length-append}
+use Rattle.std.proofs.lemmas.List.{length-append}
 use Rattle.clock27.specs.Arrival.{arrivals, bytes_from}
 use Rattle.clock27.specs.Departure.{departures, last_left}
 use Rattle.clock27.specs.Fullness.{fullness}
@@ -11,19 +11,16 @@ use Rattle.clock27.proofs.Peak.{arrivals_climb}
 use Rattle.ts_packet.specs.Views.{PacketView}
 use Rattle.ts_packet.specs.Reading.{packet_at}
 use Rattle.decoder_buffers.proofs.ByteRows.{length-row}
-use Rattle.stream_arrival.specs.declared.arrival.Arrival.{Arrival}
 use Rattle.stream_arrival.specs.declared.arrival.Arrival.TheVariants.{AtRate}
-use Rattle.stream_arrival.specs.Arrivals.{step_of}
 use Rattle.transport_buffer.specs.declared.excess.Excess.{Excess}
 use Rattle.transport_buffer.specs.Excesses.{excess_after, excesses_ended}
-use Rattle.transport_buffer.specs.Laws.{Rises, excesses}
+use Rattle.transport_buffer.specs.Laws.{Rises}
 use Rattle.main_buffer_rows.proofs.Leaving.{climbs_rises}
-use Rattle.stream_programs.specs.Streams.{FoundStreamView}
 use Rattle.stream_view.specs.History.{arrivals_of, main_fullness, transport_of}
 use Rattle.stream_view.proofs.AllMoments.{figures_law}
 use Rattle.stream_buffers.specs.declared.arriving.Arriving.{Arriving}
 use Rattle.stream_buffers.specs.declared.entering.TheConstants.{TRANSPORT_BYTES}
-use Rattle.stream_buffers.specs.Held.{Held, empty, main_most, transport_ended, transport_most, transport_under_way}
+use Rattle.stream_buffers.specs.Held.{Held, empty, main_most, transport_most, transport_under_way}
 use Rattle.stream_buffers.specs.Entering.{EnteredView}
 use Rattle.stream_report.specs.Choices.{RequestView}
 use Rattle.stream_report.specs.EntryLines.{with_one}
@@ -31,15 +28,13 @@ use Rattle.stream_report.specs.Clocks.{clock_of}
 use Rattle.stream_report.specs.Entries.{EntryState}
 use Rattle.stream_report.specs.Tallies.{more}
 use Rattle.stream_report.specs.Views.{ViewState, after_all, start}
-use Rattle.viewed_streams.specs.StreamPackets.{Before, Followed, after_each, entered_each, known_after, known_after_all, most_packets, seen_among, sound_packet}
-use Rattle.viewed_streams.specs.WholeStreams.{IsWhole, WholeStreamLaw, indices_of, known_at_begin, nothing_known, stream_packets}
-use Rattle.viewed_streams.specs.WholeStreams as whole
+use Rattle.viewed_streams.specs.StreamPackets.{Before, Followed, after_each, entered_each, known_after, known_after_all, most_packets, sound_packet}
 use Rattle.viewed_streams.proofs.EnteredBytes.{ComeFrom, each_arrives, indices, they_climb}
-use Rattle.viewed_streams.proofs.Entries.{Agree, BeginsWith, entry_begun}
+use Rattle.viewed_streams.proofs.Entries.{Agree}
 use Rattle.viewed_streams.proofs.Excesses.{each_told, few_told}
-use Rattle.viewed_streams.proofs.Grown.{Began, Grown, came, next, sound_options, sound_packets}
-use Rattle.viewed_streams.proofs.Steps.{after_sound, clock_known, excesses_more, followed, known, packet_is}
-use Rattle.viewed_streams.proofs.StreamIndices.{index_more, same_indices, they_come}
+use Rattle.viewed_streams.proofs.Grown.{next, sound_options, sound_packets}
+use Rattle.viewed_streams.proofs.Steps.{after_sound, clock_known, excesses_more, packet_is}
+use Rattle.viewed_streams.proofs.StreamIndices.{index_more}
 
 -- ---- what is known before a packet
 

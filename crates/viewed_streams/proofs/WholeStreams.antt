@@ -1,6 +1,6 @@
 -- The last lines of a stream are about all packets of its PID.
-use Rattle.std.proofs.Common.{◌≡◌, ◌∙◌, sym, ℕ, ◌+◌, ◌^◌, ◌≤◌, ◌<◌, List, [], ◌∷◌, ◌++◌, length, Option, Some, None, refl, ap, subst, inl, inr, arith}
-use Rattle.std.specs.Prelude.{slice_get}
+use Rattle.std.proofs.Common.{◌≡◌, ◌∙◌, sym, ℕ, ◌+◌, ◌-◌, ◌^◌, ◌≤◌, ◌<◌, List, [], ◌∷◌, ◌++◌, length, Option, Some, None, refl, ap, subst, inl, inr, arith}
+use Rattle.std.specs.Prelude.{count_by, flat_map, slice_get}
 use Rattle.std.specs.Option.{option_to_list}
 use Rattle.std.proofs.lemmas.List.{append_assoc, length-append}
 use Rattle.clock27.specs.Arrival.{arrivals}
@@ -31,13 +31,23 @@ use Rattle.viewed_streams.specs.WholeStreams as whole
 use Rattle.viewed_streams.proofs.EnteredBytes.{ComeFrom, indices}
 use Rattle.viewed_streams.proofs.Entries.{entry_begun}
 use Rattle.viewed_streams.proofs.Grown.{Began, came}
-use Rattle.viewed_streams.proofs.Steps.{excesses_more, followed, known, unit_excesses}
+use Rattle.viewed_streams.proofs.Steps.{followed, known, unit_excesses, unit_units}
+use Rattle.viewed_streams.proofs.Units.{each_units, few_packets, last_late, last_unit, late_exact, late_more, late_with, length_units, many_entered, rate_each, units_exact, units_more, units_with}
+use Rattle.viewed_streams.specs.StreamUnits.{units_ended}
+use Rattle.stream_view.specs.History.{unit_of}
+use Rattle.stream_view.specs.declared.unit_seen.UnitSeen.{UnitSeen}
+use Rattle.stream_buffers.specs.Entering.{EnteredView}
+use Rattle.stream_report.specs.Tallies.{is_late}
 use Rattle.viewed_streams.proofs.StreamIndices.{same_indices, they_come}
 use Rattle.viewed_streams.proofs.Whole.{Knows, figures, index_all, knows_all, none_agree, one_counted, told}
 
 rate_step : (arrival : Arrival) (rate : ℕ) → arrival ≡ AtRate rate → step_of arrival ≡ rate
 unfolding step_of
 rate_step arrival rate e = rw e refl
+
+none_before : (rate : ℕ) (us : List UnitSeen) → units_ended rate [] ++ us ≡ us
+unfolding units_ended
+none_before rate us = refl
 
 assemble : (request : RequestView) (rate : ℕ) (packets : List (List ℕ)) (e : EntryState) → request.options.arrival ≡ AtRate rate → 0 < rate →
     length packets ≤ most_packets → 0 < e.held.rx → Began (start request) packets e → IsWhole request rate packets e
@@ -75,6 +85,25 @@ assemble request rate packets e at_rate some few drained b =
     let zero_told : first.tally.excesses ≡ 0 = ap (λ (x : EntryState). x.tally.excesses) new in
     let number : e.tally.excesses ≡ length (excesses_ended rate TRANSPORT_BYTES 0 None times) = b.grown.excesses ∙ rw (zero_told, same, empty_is, arrival) tol.number in
     let ended : List Excess = excesses_ended rate TRANSPORT_BYTES 0 None times in
+    let h : Held = empty rate e.held.rx e.held.main.size in
+    let rate_is : e.held.rate ≡ rate = ap (λ (g : Held). g.rate) held ∙ rate_each h (AtRate rate) ps in
+    let vs : List EnteredView = entered_each h (AtRate rate) ps in
+    let told_units : flat_map (λ v. option_to_list v.unit) vs ≡ units_ended rate e.held.parts =
+    sym (ap (λ (g : Held). units_ended rate g.parts) held ∙ each_units rate h (AtRate rate) ps refl ∙ none_before rate (flat_map (λ v. option_to_list v.unit) vs)) in
+    let few_of : length vs ≤ most_packets - k.index = omega (arith, few_packets k.index ps come, many_entered h (AtRate rate) ps) in
+    let zero_units : first.tally.units ≡ 0 = ap (λ (x : EntryState). x.tally.units) new in
+    let zero_late : first.tally.late ≡ 0 = ap (λ (x : EntryState). x.tally.late) new in
+    let units_are : e.tally.units ≡ units_more 0 vs = b.grown.units ∙ rw (zero_units, same, empty_is, arrival) refl in
+    let late_are : e.tally.late ≡ late_more 0 vs = b.grown.late ∙ rw (zero_late, same, empty_is, arrival) refl in
+    let lengths_are : length (flat_map (λ v. option_to_list v.unit) vs) ≡ length (units_ended rate e.held.parts) = ap (λ (l : List UnitSeen). length l) told_units in
+    let counts_are : count_by is_late (flat_map (λ v. option_to_list v.unit) vs) ≡ count_by is_late (units_ended rate e.held.parts) = ap (λ (l : List UnitSeen). count_by is_late l) told_units in
+    let units_exactly = units_exact 0 vs (omega (arith, few_of)) in
+    let late_exactly = late_exact 0 vs (omega (arith, few_of)) in
+    let many_units : e.tally.units ≡ length (units_ended rate e.held.parts) = omega (arith, units_are, units_exactly, lengths_are) in
+    let many_late : e.tally.late ≡ count_by is_late (units_ended rate e.held.parts) = omega (arith, late_are, late_exactly.0, counts_are) in
+    let last_is : unit_before e.held ≡ unit_of rate e.held.parts = ap (λ (r : ℕ). unit_of r e.held.parts) rate_is in
+    let few_late : e.tally.late < 2 ^ 64 - 1 = omega (arith, late_are, late_exactly.0, late_exactly.1, few_of) in
+    let few_units : e.tally.units < 2 ^ 64 - 1 = omega (arith, units_are, units_exactly, length_units vs, few_of) in
     let all_of : ended ++ option_to_list (transport_under_way e.held) ≡ excesses rate TRANSPORT_BYTES (arrivals e.held.rx (indices_of e.pid (length b.before) rest)) = rw (under, slots) refl in
     record {
       before = b.before;
@@ -94,6 +123,11 @@ assemble request rate packets e at_rate some few drained b =
       told = ap (λ (l : List Excess). l ++ option_to_list (transport_under_way e.held)) tol.ended ∙ all_of;
       excesses = λ window. one_counted (closed window e).excesses ended (transport_under_way e.held) (unit_excesses e.tally window (unit_before e.held) ∙ number) ∙ ap (λ (l : List Excess). length l) all_of;
       main = subst (λ (h : Held). IsPeak (main_fullness rate h.parts) (main_most h)) (sym held) fig.main;
+      told_units = told_units;
+      units = λ window. (unit_units e.tally window (unit_before e.held)).0 ∙ ap (λ (o : Option UnitSeen). units_with e.tally.units o) last_is
+          ∙ last_unit e.tally.units (units_ended rate e.held.parts) (unit_of rate e.held.parts) many_units few_units;
+      late = λ window. (unit_units e.tally window (unit_before e.held)).1 ∙ ap (λ (o : Option UnitSeen). late_with e.tally.late o) last_is
+          ∙ last_late e.tally.late (units_ended rate e.held.parts) (unit_of rate e.held.parts) many_late few_late;
     }
 
 pub whole_stream_law : WholeStreamLaw

@@ -1,2 +1,6 @@
 pub mod StreamPackets
+pub mod StreamUnits
 pub mod WholeStreams
+pub mod MeasuredStreams
+pub mod MuxedStreams
+pub mod MainExcesses

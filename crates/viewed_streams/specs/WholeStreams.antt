@@ -2,7 +2,7 @@
 --
 -- At a constant rate byte i of a stream arrives 8 i / rate seconds after its first. At buffers that are drained at `rx` bits a second times
 -- are in units of 8 / (rate * rx) seconds.
-use Rattle.std.specs.Prelude.{◌≡◌, ℕ, ◌<◌, ◌≤◌, List, [], ◌∷◌, ◌++◌, length, slice_get, flat_map, Option, Some, None}
+use Rattle.std.specs.Prelude.{◌≡◌, ℕ, ◌<◌, ◌≤◌, List, ◌∷◌, ◌++◌, length, slice_get, count_by, flat_map, Some, None}
 use Rattle.std.specs.Option.{option_to_list}
 use Rattle.clock27.specs.Arrival.{arrivals}
 use Rattle.clock27.specs.Peak.{IsPeak}
@@ -17,13 +17,15 @@ use Rattle.transport_buffer.specs.Laws.{excesses}
 use Rattle.stream_view.specs.History.{main_fullness}
 use Rattle.stream_buffers.specs.declared.arriving.Arriving.{Arriving}
 use Rattle.stream_buffers.specs.declared.entering.TheConstants.{TRANSPORT_BYTES}
-use Rattle.stream_buffers.specs.Held.{Held, empty, main_most, transport_most, transport_under_way}
+use Rattle.stream_buffers.specs.Held.{empty, main_most, transport_most, transport_under_way}
 use Rattle.stream_report.specs.declared.view_options.ViewOptions.{ViewOptions}
 use Rattle.stream_report.specs.Choices.{RequestView}
 use Rattle.stream_report.specs.EntryLines.{main_figures, main_line, transport_line, with_one}
 use Rattle.stream_report.specs.Entries.{EntryState, closed, end_lines, place_at}
+use Rattle.stream_report.specs.Tallies.{is_late}
 use Rattle.stream_report.specs.StreamTables.{beginning, stream_buffers}
-use Rattle.stream_report.specs.Views.{ViewState, after_all, start}
+use Rattle.stream_report.specs.Views.{after_all, start}
+use Rattle.viewed_streams.specs.StreamUnits.{all_units, units_ended}
 use Rattle.viewed_streams.specs.StreamPackets.{Before, Followed, after_each, entered_each, known_after_all, most_packets, seen_among, sound_packet}
 
 -- what is known before a stream's first packet
@@ -73,6 +75,11 @@ pub record IsWhole (request : RequestView) (rate : ℕ) (packets : List (List �
   -- the line `main` has the greatest number of bytes in the main buffer over all moments: of the payload bytes that have left the transport
   -- buffer by then, and whose unit is not gone
   pub main : IsPeak (main_fullness rate e.held.parts) (main_most e.held)
+  -- and the number of all units, and of those of them that are late: those that end with one of these packets, and the last one
+  pub told_units : flat_map (λ v. option_to_list v.unit) (entered_each (empty rate e.held.rx e.held.main.size) (AtRate rate) (stream_packets request e before (first ∷ later)))
+      ≡ units_ended rate e.held.parts
+  pub units : (window : ℕ) → (closed window e).units ≡ length (all_units rate e.held.parts)
+  pub late : (window : ℕ) → (closed window e).late ≡ count_by is_late (all_units rate e.held.parts)
 
 -- so of each stream of a report at a constant rate, as long as packets enter buffers: in the first 2^40 bytes
 abbrev pub WholeStreamLaw : Type 0

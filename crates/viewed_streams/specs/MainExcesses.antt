@@ -1,0 +1,15 @@
+-- Excesses of a main buffer: none is told where the line `main` says no more than its size.
+use Rattle.std.specs.Prelude.{◌≡◌, ℕ, ◌≤◌, List, [], ◌∷◌, flat_map, None}
+use Rattle.stream_arrival.specs.declared.arrival.Arrival.TheVariants.{AtRate}
+use Rattle.stream_buffers.specs.Held.{empty, main_most}
+use Rattle.stream_report.specs.Choices.{RequestView}
+use Rattle.stream_report.specs.Entries.{EntryState}
+use Rattle.viewed_streams.specs.StreamPackets.{entered_each}
+use Rattle.viewed_streams.specs.WholeStreams.{IsWhole, stream_packets}
+
+-- with none of the stream's packets has one ended, and none is under way at the end
+abbrev pub NoMainExcessLaw : Type 0
+NoMainExcessLaw = (request : RequestView) (rate : ℕ) (packets : List (List ℕ)) (e : EntryState) (whole : IsWhole request rate packets e) → main_most e.held ≤ e.held.main.size →
+    (flat_map (λ v. v.main)
+    (entered_each (empty rate e.held.rx e.held.main.size) (AtRate rate) (stream_packets request e whole.before (whole.first ∷ whole.later))) ≡ [])
+    × (e.held.main.under_way ≡ None)
