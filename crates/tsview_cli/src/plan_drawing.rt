@@ -47,6 +47,7 @@ fn drawn(alloc: Global, bytes: &[u8]) -> Result<String, JobReadError>
 }
 
 /// Writes the page of the plan in the input, or why it is no plan that serves; and returns the status.
+#[tactic(auto, using(crate::proofs::PlanDrawings::page_written, crate::proofs::PlanDrawings::page_unwritten, crate::proofs::PlanDrawings::fault_reported, crate::proofs::PlanDrawings::no_memory_left))]
 pub(crate) fn draw_plan<R: Source, W: Sink, E: Sink>(
     alloc: Global,
     input: &mut R,
