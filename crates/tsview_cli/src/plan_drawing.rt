@@ -40,7 +40,10 @@ fn drawn(alloc: Global, bytes: &[u8]) -> Result<String, JobReadError>
     ensures { spec.IsPlanPage (job_of false bytes.now) result }
 {
     let CheckedJob { plans, .. } = read_job(alloc, false, bytes)?;
-    match page_of(alloc, &plans) {
+    let page = page_of(alloc, &plans);
+    // By a call: at the end of a function the drop of each part would be a step of its proof.
+    drop(plans);
+    match page {
         Ok(text) => Ok(text),
         Err(_) => Err(JobReadError::Memory),
     }
