@@ -1,4 +1,4 @@
-use Rattle.std.proofs.Common.{refl, string_bytes}
+use Rattle.std.proofs.Common.{refl, sym}
 use Rattle.checked_jobs.specs.JobFaults.{fault_view}
 use Rattle.devices.proofs.Performances.{unread}
 use Rattle.tsview_cli.specs.PlanDrawing.{DrawsPlan}
@@ -10,8 +10,8 @@ returns-in-Err g c = unread DrawsPlan _ _ _ _ c.in-Err.halt c.in-Err.ensures ref
 
 pub returns-in-Ok-drawn : goal.returns-in-Ok-drawn
 returns-in-Ok-drawn g c =
-    page_unwritten c.in-Ok.bytes.items (string_bytes c.in-Ok-drawn.text) _ _ _ _ c.in-Err-write_text.halt c.in-Ok.ensures
-    (rw c.deref.ensures.value at c.in-Ok-drawn.ensures) (rw c.deref-in-Ok-drawn.ensures at c.in-Err-write_text.ensures)
+    page_unwritten c.in-Ok.bytes.items c.deref-in-Ok-drawn.result.now _ _ _ _ c.in-Err-write_text.halt c.in-Ok.ensures
+    (rw (sym c.deref-in-Ok-drawn.ensures) at (rw c.deref.ensures.value at c.in-Ok-drawn.ensures)) c.in-Err-write_text.ensures
     c.report_halt-in-Err-write_text.ensures.reports c.report_halt-in-Err-write_text.ensures.status
 
 pub returns-in-Err-Fault : goal.returns-in-Err-Fault
