@@ -12,7 +12,7 @@ PREFIX ?= /usr/local
 
 # The main job on an example: a plan is made for a radio service, and its 167 access units, four seconds of MPEG audio, become
 # a transport stream with all its tables; what is in that stream is listed, and the monitor reports on it. Where tsview is built, the stream
-# and the plan become pages: a twentieth of a second.
+# and the plan become pages (out/radio.html, out/radio-plan.html), which takes hundredths of a second.
 run: binary
 	mkdir -p out
 	$(BINARY) plan < examples/radio/radio.toml > out/radio.plan

@@ -9,7 +9,8 @@ use Rattle.devices.specs.Outcomes.{halt_line, printed, reported}
 use Rattle.devices.specs.Runs.{Performs}
 use Rattle.devices.specs.WholeInput.{ReadsInput}
 use Rattle.devices.specs.declared.halt.Halt.{Halt}
-use Rattle.devices.proofs.Performances.{performed, reported_only, reports_none, text_unwritten}
+use Rattle.devices.specs.declared.halt.Halt.TheVariants.{Memory}
+use Rattle.devices.proofs.Performances.{no_room, performed, reported_only, reports_none, text_unwritten}
 use Rattle.tsview_cli.specs.PlanDrawing.{DrawsPlan, IsPageOf, plan_outcome}
 
 drawn_page : (wanted : Result JobView JobFaultView) (text : List ℕ) → IsPageOf wanted text → printed text 0 ≡ plan_outcome wanted
@@ -26,12 +27,16 @@ pub page_written : (bytes text : List ℕ) (input output faults : Device) (statu
 page_written bytes text input output faults status r is w c u s =
     performed DrawsPlan bytes (printed text 0) input output faults status r (drawn_page (job_of false bytes) text is) w c (reports_none faults u) s
 
-pub page_unwritten : (V : Type 0) (bytes text : List ℕ) (input output faults : Device) (status : ℕ) (halt : Halt) → ReadsInput input (Ok bytes) → IsPageOf (job_of false bytes) text →
-    WritesLine {V = V} text output (Err halt) → Reports faults (halt_line halt) → status ≡ 3 → Performs DrawsPlan input output faults status
-page_unwritten V bytes text input output faults status halt r is w t s =
-    text_unwritten V DrawsPlan bytes text (printed text 0) input output faults status halt r (drawn_page (job_of false bytes) text is) refl w t s
+pub page_unwritten : (bytes text : List ℕ) (input output faults : Device) (status : ℕ) (halt : Halt) → ReadsInput input (Ok bytes) → IsPageOf (job_of false bytes) text →
+    WritesLine {V = Unit {0}} text output (Err halt) → Reports faults (halt_line halt) → status ≡ 3 → Performs DrawsPlan input output faults status
+page_unwritten bytes text input output faults status halt r is w t s =
+    text_unwritten (Unit {0}) DrawsPlan bytes text (printed text 0) input output faults status halt r (drawn_page (job_of false bytes) text is) refl w t s
 
 pub fault_reported : (bytes : List ℕ) (fault : JobFaultView) (input output faults : Device) (status : ℕ) → ReadsInput input (Ok bytes) → Err fault ≡ job_of false bytes →
     IsUntouched output → Reports faults (fault_line fault) → status ≡ 1 → Performs DrawsPlan input output faults status
 fault_reported bytes fault input output faults status r is u t s =
     reported_only DrawsPlan bytes (fault_line fault) input output faults status r (faulty_job (job_of false bytes) fault is) u t s
+
+pub no_memory_left : (bytes : List ℕ) (input output faults : Device) (status : ℕ) → ReadsInput input (Ok bytes) → IsUntouched output → Reports faults (halt_line Memory) →
+    status ≡ 3 → Performs DrawsPlan input output faults status
+no_memory_left bytes input output faults status r u t s = no_room DrawsPlan bytes input output faults status r u t s

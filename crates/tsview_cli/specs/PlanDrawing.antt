@@ -1,5 +1,5 @@
 -- A page of the plan in a job.
-use Rattle.std.specs.Prelude.{◌≡◌, ℕ, Bool, false, List, [], ◌∷◌, Result, Ok, Err, codes, string_bytes, ⊤}
+use Rattle.std.specs.Prelude.{◌≡◌, ℕ, Bool, false, List, [], ◌∷◌, Result, Ok, Err, String, codes, string_bytes, ⊤}
 use Rattle.std.specs.Str.{bytes_eq}
 use Rattle.clap.specs.Words.{Text}
 use Rattle.checked_jobs.specs.Jobs.{JobFaultView, JobView, job_of}
@@ -23,7 +23,7 @@ IsPageOf (Ok job) text = text ≡ job_page job
 IsPageOf (Err fault) text = ⊥
 
 -- a page of it is returned, or its fault, or out of memory
-abbrev pub IsPlanPage : Result JobView JobFaultView → Result String JobReadError → Type 0
+abbrev pub IsPlanPage : {A : Type 0} → Result JobView JobFaultView → Result (String A) JobReadError → Type 0
 IsPlanPage wanted (Ok text) = IsPageOf wanted (string_bytes text)
 IsPlanPage wanted (Err (Fault f)) = Err (fault_view f) ≡ wanted
 IsPlanPage wanted (Err Memory) = ⊤

@@ -40,13 +40,17 @@ fn drawn(alloc: Global, bytes: &[u8]) -> Result<String, JobReadError>
     ensures { spec.IsPlanPage (job_of false bytes.now) result }
 {
     let CheckedJob { plans, .. } = read_job(alloc, false, bytes)?;
-    match page_of(alloc, &plans) {
+    let page = page_of(alloc, &plans);
+    // By a call: at the end of a function the drop of each part would be a step of its proof.
+    drop(plans);
+    match page {
         Ok(text) => Ok(text),
         Err(_) => Err(JobReadError::Memory),
     }
 }
 
 /// Writes the page of the plan in the input, or why it is no plan that serves; and returns the status.
+#[tactic(auto, using(crate::proofs::PlanDrawings::page_written, crate::proofs::PlanDrawings::page_unwritten, crate::proofs::PlanDrawings::fault_reported, crate::proofs::PlanDrawings::no_memory_left))]
 pub(crate) fn draw_plan<R: Source, W: Sink, E: Sink>(
     alloc: Global,
     input: &mut R,

@@ -3,7 +3,7 @@ use Rattle.devices.specs.Devices.{Port}
 use Rattle.devices.specs.declared.halt.Halt.TheVariants.{Memory}
 use Rattle.word_faults.proofs.UsageReports.{of_usage}
 use Rattle.tsview_cli.proofs.Viewed.{none_seen}
-use Rattle.tsview_cli.proofs.program.run.Goals as goal
+use Rattle.tsview_cli.proofs.program.run_on_stream.Goals as goal
 
 pub returns-in-Err-clause-view : goal.returns-in-Err-clause-view
 returns-in-Err-clause-view g c = λ o e.
