@@ -2,7 +2,8 @@
 //!
 //! Each function here does nothing: its contract is the law, over the definitions of `stream_report`, `tstd` and `mux_core`.
 //! `specs/StreamPackets` says which packets are a stream's and how its buffers see them, `StreamUnits` which units they carry,
-//! `WholeStreams` what its last lines say of all of them, `MainExcesses` when no excess of its main buffer is told, `MeasuredStreams` what measuring the same bytes finds, `MuxedStreams` what is said of what a multiplexer wrote.
+//! `WholeStreams` what its last lines say of all of them, `MainExcesses` when no excess of its main buffer is told,
+//! `MeasuredStreams` what measuring the same bytes finds, `MuxedStreams` what is said of what a multiplexer wrote.
 //!
 //! - [`laws`]: the last lines of a stream are about all packets of its PID, what they say is no more than what is measured, and no
 //!   excess of a transport buffer is told of a multiplexer's output.
