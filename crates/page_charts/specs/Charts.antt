@@ -19,7 +19,7 @@ with_unit unit value = value_text unit value ++ (codes " " ++ (unit_name unit ++
 
 -- what a curve says, beside a piece of its line
 unfoldable pub key : ChartUnit → ℕ → PidCurve → List ℕ
-key unit number entry = sample_text (number % 8) ++ (pid_text entry.pid entry.name ++ (codes ", at most " ++ with_unit unit (slots.greatest_of entry.curve.slots)))
+key unit number entry = sample_text (number % 16) ++ (pid_text entry.pid entry.name ++ (codes ", at most " ++ with_unit unit (slots.greatest_of entry.curve.slots)))
 
 unfoldable pub keys : ChartUnit → List PidCurve → List ℕ
 keys unit curves = codes "<p class=\"key\">" ++ (numbered (key unit) 0 curves ++ codes "</p>\n")
@@ -29,7 +29,7 @@ unfoldable pub band : Frame → ℕ → PidCurve → List ℕ
 band f class entry = codes "<path class=\"range s" ++ (decimal class ++ (codes "\" d=\"" ++ (numbered (range f entry.curve.span) 0 entry.curve.slots ++ codes "\"/>")))
 
 unfoldable pub title : PidCurve → List ℕ
-title entry = codes "\"><title>" ++ (pid_text entry.pid entry.name ++ codes "</title></path>\n")
+title entry = codes "h20\"><title>" ++ (pid_text entry.pid entry.name ++ codes "</title></path>\n")
 
 unfoldable pub line : Frame → ℕ → PidCurve → List ℕ
 line f class entry = codes "<path class=\"line s" ++ (decimal class ++ (codes "\" d=\"M" ++ (numbered (point f entry.curve.span) 0 entry.curve.slots ++ title entry)))
@@ -50,7 +50,7 @@ unfoldable pub values_text : Frame → ℕ → PidCurve → List ℕ
 values_text f class entry = band f class entry ++ (line f class entry ++ limit_if f entry)
 
 abbrev pub curve : Frame → ℕ → PidCurve → List ℕ
-curve f number entry = if length entry.curve.slots == 0 then [] else values_text f (number % 8) entry
+curve f number entry = if length entry.curve.slots == 0 then [] else values_text f (number % 16) entry
 
 unfoldable pub picture : Frame → List PidCurve → List ℕ
 picture f curves = codes "<svg class=\"chart\" viewBox=\"0 -80 9900 2560\" role=\"img\">\n" ++ (scales_text f ++ (numbered (curve f) 0 curves ++ codes "</svg>\n"))

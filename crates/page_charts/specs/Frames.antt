@@ -1,5 +1,5 @@
 -- The frame of a picture: its scales, and what is drawn of a slot.
-use Rattle.std.specs.Prelude.{ℕ, ◌+◌, ◌-◌, ◌*◌, ◌/◌, ◌^◌, min, nat_lt, if◌then◌else◌, List, ◌++◌, codes, decimal, flat_map, Option, Some, None}
+use Rattle.std.specs.Prelude.{ℕ, ◌+◌, ◌-◌, ◌*◌, ◌/◌, ◌^◌, min, max, nat_lt, if◌then◌else◌, List, ◌++◌, codes, decimal, flat_map, Option, Some, None}
 use Rattle.page_curves.specs.declared.bounds.Bounds.{Bounds}
 use Rattle.page_charts.specs.declared.frame.ChartUnit.{ChartUnit}
 use Rattle.page_charts.specs.declared.frame.ChartUnit.TheVariants.{BitRate, Bytes, Time}
@@ -9,8 +9,14 @@ use Rattle.page_charts.specs.declared.scale.TheConstants.{GREATEST_VALUE, LEFT, 
 use Rattle.page_charts.specs.Numbers.{tenths}
 use Rattle.page_charts.specs.Scale.{height_of, scale_for, slots_in}
 
+-- the least top of a scale: ten of the unit in which its values are written
+unfoldable pub least_top : ChartUnit → ℕ
+least_top BitRate = 10000
+least_top Bytes = 10
+least_top Time = 10000
+
 abbrev pub frame : ChartUnit → ℕ → ℕ → ℕ → Frame
-frame unit windows millis greatest = record { unit = unit; windows = windows; millis = millis; top = scale_for greatest }
+frame unit windows millis greatest = record { unit = unit; windows = windows; millis = millis; top = scale_for (max greatest (least_top unit)) }
 
 -- its windows, 2^38 at most, and the value at its top, 10^15 at most
 abbrev pub window_count : Frame → ℕ

@@ -43,7 +43,7 @@ fn write_key(
 ) -> Result<(), AllocError>
     ensures { OnOk result (string_bytes text.new ≡ string_bytes text.old ++ spec.key unit number entry.now) }
 {
-    write_sample(text, number % 8)?;
+    write_sample(text, number % 16)?;
     write_pid(text, entry.pid, entry.name)?;
     text.push_str(", at most ")?;
     write_with_unit(text, unit, entry.curve.greatest())
@@ -87,7 +87,7 @@ fn write_band(
 fn write_title(text: &mut String, entry: &PidCurve) -> Result<(), AllocError>
     ensures { OnOk result (string_bytes text.new ≡ string_bytes text.old ++ spec.title entry.now) }
 {
-    text.push_str("\"><title>")?;
+    text.push_str("h20\"><title>")?;
     write_pid(text, entry.pid, entry.name)?;
     text.push_str("</title></path>\n")
 }
@@ -172,7 +172,7 @@ fn write_curve(
     if entry.curve.slots().is_empty() {
         Ok(())
     } else {
-        write_values(text, frame, number % 8, entry)
+        write_values(text, frame, number % 16, entry)
     }
 }
 

@@ -100,6 +100,18 @@ fn with_absent(bounds: Option<Bounds>, windows: u64) -> Bounds
     }
 }
 
+// The least top of a scale: ten of the unit in which its values are written.
+#[tactic(auto, unfolding(crate::specs::Frames::least_top))]
+fn least_top(unit: ChartUnit) -> u64
+    ensures { result ≡ spec.least_top unit }
+{
+    match unit {
+        ChartUnit::BitRate => 10_000,
+        ChartUnit::Bytes => 10,
+        ChartUnit::Time => 10_000,
+    }
+}
+
 impl Frame {
     /// A frame for values up to `greatest`.
     pub fn new(unit: ChartUnit, windows: u64, millis: u32, greatest: u64) -> Frame
@@ -109,7 +121,7 @@ impl Frame {
             unit,
             windows,
             millis,
-            top: scale_for(greatest),
+            top: scale_for(greatest.max(least_top(unit))),
         }
     }
 

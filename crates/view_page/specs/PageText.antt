@@ -56,7 +56,7 @@ back_text = BACK.now
 
 -- what was read, and how many faults there are
 unfoldable pub verdict : ℕ → List ℕ
-verdict faults = if nat_lt 0 faults then codes "<span class=\"bad\">&#9650; " ++ (decimal faults ++ codes " faults.</span></p>\n") else codes "No fault.</p>\n"
+verdict faults = if nat_lt 0 faults then codes "<span class=\"bad\">&#9650; Faults: " ++ (decimal faults ++ codes ".</span></p>\n") else codes "No fault.</p>\n"
 
 unfoldable pub summary : ReportEnd → ℕ → List ℕ
 summary end faults = codes "<p>" ++ (decimal end.packets ++ (codes " packets, " ++ (decimal end.refused ++ (codes " refused, " ++ (decimal end.left
