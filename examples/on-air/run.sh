@@ -9,13 +9,23 @@ tsjob=$1 tsmux=$2 tsair=$3 seconds=${4:-60}
 work=$here/../../out/on-air
 mkdir -p "$work"
 stream=${5:-$work/in.ts}
+maxrate=600000 bufsize=600000
 if [ $# -lt 5 ]; then
     ffmpeg -nostdin -loglevel error -y -f lavfi -i "testsrc2=size=320x240:rate=25" -f lavfi -i "sine=frequency=440:sample_rate=48000" -t "$seconds" \
-        -c:v libx264 -b:v 600k -maxrate 600k -bufsize 600k -g 25 -c:a mp2 -b:a 128k -f mpegts "$stream"
+        -c:v libx264 -b:v 600k -maxrate $maxrate -bufsize $bufsize -g 25 -c:a mp2 -b:a 128k -f mpegts "$stream"
 fi
 "$tsjob" describe --whole < "$stream" > "$work/description"
-"$tsmux" plan < "$work/description" > "$work/plan"
+# The pictures of our own stream are declared by what holds its encoder, whatever comes: in any time no more than the buffer and the greatest rate in that
+# time, in packets of 184 bytes of payload, with one more packet and a header for each picture; a picture has at most the whole buffer.
+if [ $# -lt 5 ]; then
+    sed -i "/^burst_packets/s/=.*/= $((bufsize / 8 / 184 + 3))/; /^pace/s/=.*/= $((maxrate * 188 / 184 + 25 * 188 * 8 * 10 / 9))/; 0,/^size/s/^size = .*/size = $((bufsize / 8))/" "$work/description"
+fi
 rate=$(sed -n 's/^rate = //p' "$work/description")
+until "$tsmux" plan < "$work/description" > "$work/plan" 2> "$work/no-plan"; do
+    rate=$((rate + rate / 64))
+    sed -i "s/^rate = .*/rate = $rate/" "$work/description"
+    [ "$rate" -lt 100000000 ]
+done
 
 # One datagram after the other, as they come; a receiver has one of its own socket for each run.
 rm -f "$work/came.ts"
