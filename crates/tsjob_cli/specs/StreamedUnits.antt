@@ -1,9 +1,10 @@
 -- The units of the streams of a description, while a stream comes.
 use Rattle.std.specs.Prelude.{◌≡◌, ◌⊎◌, ℕ, ◌+◌, true, List, [], ◌∷◌, map, Option, Some, None, Result, Ok, Err, codes, ⊤}
-use Rattle.description.specs.Described.{Described, DescribedStream}
+use Rattle.description.specs.Described.{Described, DescribedProgram, DescribedStream}
 use Rattle.description.specs.declared.fault.DescError.TheVariants as refused_by
 use Rattle.stream_units.specs.UnitSteps.{none_so_far}
 use Rattle.unit_feed.specs.Feeding.{FeedView, FedStreamView}
+use Rattle.unit_feed.specs.declared.fed_map.FedMap.{FedMap}
 use Rattle.unit_output.specs.Passing.{RunsStream}
 use Rattle.checked_jobs.specs.Jobs.{described}
 use Rattle.description.specs.Codes.{fault_code, fault_item}
@@ -32,8 +33,15 @@ unfoldable pub streams_from : ℕ → List DescribedStream → List FedStreamVie
 streams_from k [] = []
 streams_from k (s ∷ streams) = fed_stream k s.pid ∷ streams_from (k + 1) streams
 
+-- the map of a program, before its first section
+abbrev pub map_of : DescribedProgram → FedMap
+map_of p = record { program_number = p.number; version = None }
+
+abbrev pub maps_of : Described → List FedMap
+maps_of d = map map_of d.programs
+
 abbrev pub feed_of : Described → FeedView
-feed_of d = record { earliest = earliest; base = None; streams = streams_from 0 d.streams }
+feed_of d = record { earliest = earliest; base = None; maps = maps_of d; streams = streams_from 0 d.streams }
 
 abbrev pub pids_of : Described → List ℕ
 pids_of d = map (λ s. s.pid) d.streams

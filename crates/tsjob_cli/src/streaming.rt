@@ -7,10 +7,10 @@ ghost use Rattle.tsjob_cli.specs.StreamedUnits as spec;
 
 use checked_jobs::read_description;
 use counted_io::{Sink, Source};
-use description::{DescError, DescFault, Description, StreamDescription};
+use description::{DescError, DescFault, Description, ProgramDescription, StreamDescription};
 use devices::{Halt, NamedFiles, read_whole, report_halt, report_line};
 use std::alloc::{AllocError, Global};
-use unit_feed::{FedStream, UnitFeed};
+use unit_feed::{FedMap, FedStream, UnitFeed};
 use unit_output::pass_stream;
 
 /// When the first unit of all is due, in units of 90 kHz.
@@ -48,6 +48,27 @@ fn fed_streams(alloc: Global, streams: &[StreamDescription]) -> Result<Vec<FedSt
     Ok(fed)
 }
 
+// The map of a program, before its first section.
+fn map_of(program: &ProgramDescription) -> FedMap
+    ensures { result ≡ spec.map_of program.now }
+{
+    FedMap {
+        program_number: program.number(),
+        version: None,
+    }
+}
+
+// The map of each program of a description.
+fn maps_of(alloc: Global, description: &Description) -> Result<Vec<FedMap>, AllocError>
+    ensures { IfOk result (λ maps. maps.items ≡ spec.maps_of description.now) }
+{
+    description
+        .programs()
+        .iter()
+        .map(|program| map_of(program))
+        .collect(alloc)
+}
+
 // The PID of each stream of a description.
 fn pids_of(alloc: Global, description: &Description) -> Result<Vec<u16>, AllocError>
     ensures { IfOk result (λ pids. pids.items ≡ spec.pids_of description.now) }
@@ -64,8 +85,9 @@ fn pids_of(alloc: Global, description: &Description) -> Result<Vec<u16>, AllocEr
 fn feed_of(alloc: Global, description: &Description) -> Result<UnitFeed, AllocError>
     ensures { IfOk result (λ feed. feed ≡ spec.feed_of description.now) }
 {
+    let maps = maps_of(alloc, description)?;
     let streams = fed_streams(alloc, description.streams())?;
-    Ok(UnitFeed::new(EARLIEST, streams))
+    Ok(UnitFeed::new(EARLIEST, maps, streams))
 }
 
 // The description in the bytes of a file.

@@ -13,7 +13,9 @@ use Rattle.stream_units.specs.UnitSteps.{after_findings, ended_unit, given, goes
 use Rattle.stream_units.specs.declared.stamps.StampFault.{StampFault}
 use Rattle.unit_feed.specs.declared.feed_fault.FeedFault.{FeedFault}
 use Rattle.unit_feed.specs.declared.feed_fault.Loss.{Loss}
-use Rattle.unit_feed.specs.Feeding.{FedStreamView, Fed, FeedView, unless_fault, at_moment, last_dts, base_by, base_after, before_with, fed_with, stream_with, fed_by, whole_by, after_found, lost_by, lost_fed, told_of, place_from, feed_with, after_at, fed_at, after_place, fed_place, after_one, fed_one, after_all, fed_all, fed_last, fed_to_end}
+use Rattle.unit_feed.specs.declared.feed_fault.NewMap.{NewMap}
+use Rattle.unit_feed.specs.Maps.{change_place, map_from, new_map, set_place}
+use Rattle.unit_feed.specs.Feeding.{FedStreamView, Fed, FeedView, unless_fault, at_moment, last_dts, base_by, base_after, before_with, fed_with, stream_with, fed_by, whole_by, after_found, lost_by, lost_fed, told_of, place_from, feed_with, after_at, fed_at, after_place, fed_place, after_unit, fed_unit, map_fed, watched, after_one, fed_one, after_all, fed_all, fed_last, fed_to_end}
 use Rattle.stream_units.proofs.UnitSteps.{uncut_carried}
 use Rattle.unit_feed.specs.Laws.{FedAsCarried, FedInTurn, has_loss, is_loss}
 
@@ -42,38 +44,38 @@ there : (ss : List FedStreamView) (k : ℕ) → k < length ss → ((x : FedStrea
 there ss k below (inl one) = (one.0, one.2)
 there ss k below (inr none) = absurd (let no : ⊥ = omega (arith, below, none.0) in no)
 
-pub no_place_after : (feed : FeedView) (f : FindingView) → None ≡ place_from f.pid 0 feed.streams → feed ≡ after_one feed f
+pub no_place_after : (feed : FeedView) (f : FindingView) → None ≡ place_from f.pid 0 feed.streams → feed ≡ after_unit feed f
 unfolding after_place
 no_place_after feed f none = rw (sym none) refl
 
-pub no_place_fed : (feed : FeedView) (f : FindingView) (fed : List Fed) → None ≡ place_from f.pid 0 feed.streams → fed ≡ fed ++ fed_one feed f
+pub no_place_fed : (feed : FeedView) (f : FindingView) (fed : List Fed) → None ≡ place_from f.pid 0 feed.streams → fed ≡ fed ++ fed_unit feed f
 unfolding fed_place
 no_place_fed feed f fed none = rw (sym none) (sym (append-nil fed))
 
 after_is : (feed : FeedView) (f : FindingView) (k : ℕ) (s : FedStreamView) → Some k ≡ place_from f.pid 0 feed.streams → slice_get feed.streams k ≡ Some s →
-    after_one feed f ≡ feed_with feed k (after_found s f) (whole_by s f)
+    after_unit feed f ≡ feed_with feed k (after_found s f) (whole_by s f)
 unfolding after_place after_at
 after_is feed f k s at is = rw (sym at) (rw is refl)
 
 fed_is : (feed : FeedView) (f : FindingView) (k : ℕ) (s : FedStreamView) → Some k ≡ place_from f.pid 0 feed.streams → slice_get feed.streams k ≡ Some s →
-    fed_one feed f ≡ option_to_list (fed_by feed.earliest feed.base s (whole_by s f)) ++ option_to_list (lost_fed s f)
+    fed_unit feed f ≡ option_to_list (fed_by feed.earliest feed.base s (whole_by s f)) ++ option_to_list (lost_fed s f)
 unfolding fed_place fed_at
 fed_is feed f k s at is = rw (sym at) (rw is refl)
 
 pub placed_after : (feed : FeedView) (f : FindingView) (k : ℕ) (base : Option ℕ) (streams : List FedStreamView) → Some k ≡ place_from f.pid 0 feed.streams → k < length feed.streams →
     ((s : FedStreamView) → slice_get feed.streams k ≡ Some s → streams ≡ slice_set feed.streams k (stream_with feed.earliest feed.base (after_found s f) (whole_by s f))) →
     ((s : FedStreamView) → slice_get feed.streams k ≡ Some s → base ≡ base_after feed.earliest feed.base (whole_by s f)) →
-    record { earliest = feed.earliest; base = base; streams = streams } ≡ after_one feed f
+    record { earliest = feed.earliest; base = base; maps = feed.maps; streams = streams } ≡ after_unit feed f
 placed_after feed f k base streams at below sets fixes =
     let s = there feed.streams k below (slice_get_cases feed.streams k).1 in
-    ap (λ (ss : List FedStreamView). record { earliest = feed.earliest; base = base; streams = ss }) (sets s.0 s.1)
-    ∙ ap (λ (b : Option ℕ). record { earliest = feed.earliest; base = b; streams = slice_set feed.streams k (stream_with feed.earliest feed.base (after_found s.0 f) (whole_by s.0 f)) }) (fixes s.0 s.1)
+    ap (λ (ss : List FedStreamView). record { earliest = feed.earliest; base = base; maps = feed.maps; streams = ss }) (sets s.0 s.1)
+    ∙ ap (λ (b : Option ℕ). record { earliest = feed.earliest; base = b; maps = feed.maps; streams = slice_set feed.streams k (stream_with feed.earliest feed.base (after_found s.0 f) (whole_by s.0 f)) }) (fixes s.0 s.1)
     ∙ sym (after_is feed f k s.0 at s.1)
 
 pub placed_fed : (feed : FeedView) (f : FindingView) (k : ℕ) (one loss : Option Fed) (before middle after : List Fed) → Some k ≡ place_from f.pid 0 feed.streams → k < length feed.streams →
     ((s : FedStreamView) → slice_get feed.streams k ≡ Some s → one ≡ fed_by feed.earliest feed.base s (whole_by s f)) →
     ((s : FedStreamView) → slice_get feed.streams k ≡ Some s → loss ≡ lost_fed s f) →
-    middle ≡ before ++ option_to_list one → after ≡ middle ++ option_to_list loss → after ≡ before ++ fed_one feed f
+    middle ≡ before ++ option_to_list one → after ≡ middle ++ option_to_list loss → after ≡ before ++ fed_unit feed f
 placed_fed feed f k one loss before middle after at below feeds loses first last =
     let s = there feed.streams k below (slice_get_cases feed.streams k).1 in
     last ∙ ap (λ (xs : List Fed). xs ++ option_to_list loss) first
@@ -144,7 +146,7 @@ timed_one e b n before None ws = refl
 timed_one e b n before (Some w) ws = refl
 
 abbrev single : ℕ → Option ℕ → FedStreamView → FeedView
-single e b s = record { earliest = e; base = b; streams = s ∷ [] }
+single e b s = record { earliest = e; base = b; maps = []; streams = s ∷ [] }
 
 other_role : (pid : ℕ) (f : FindingView) → has_pid pid f.pid ≡ false → role_of pid f ≡ Ignored
 unfolding role_of
@@ -152,7 +154,7 @@ other_role pid f other = rw other refl
 
 single_after_by : (e : ℕ) (b : Option ℕ) (s : FedStreamView) (f : FindingView) (own : Bool) → has_pid s.units.pid f.pid ≡ own →
     after_one (single e b s) f ≡ single e (base_after e b (whole_by s f)) (stream_with e b (after_found s f) (whole_by s f))
-unfolding place_from after_place after_at base_after before_with made_whole goes_on_as
+unfolding map_from set_place place_from after_place after_at base_after before_with made_whole goes_on_as
 single_after_by e b s f true own = rw own refl
 single_after_by e b s f false own = rw (own, other_role s.units.pid f own) refl
 
@@ -163,7 +165,7 @@ not_told number (Some loss) none = absurd cc
 
 single_fed_by : (e : ℕ) (b : Option ℕ) (s : FedStreamView) (f : FindingView) (own : Bool) → has_pid s.units.pid f.pid ≡ own → (own && is_loss (lost_by f.packet f.what)) ≡ false →
     fed_one (single e b s) f ≡ option_to_list (fed_by e b s (whole_by s f))
-unfolding place_from fed_place fed_at fed_with made_whole
+unfolding map_from set_place change_place map_fed place_from fed_place fed_at fed_with made_whole
 single_fed_by e b s f true own none = rw (own, not_told s.number (lost_by f.packet f.what) none) (append-nil (option_to_list (fed_by e b s (whole_by s f))))
 single_fed_by e b s f false own none = rw (own, other_role s.units.pid f own) refl
 

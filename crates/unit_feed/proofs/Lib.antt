@@ -1,2 +1,3 @@
 pub mod FedUnits
+pub mod FedMaps
 pub mod FedStreams

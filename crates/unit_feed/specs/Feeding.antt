@@ -10,8 +10,11 @@ use Rattle.stream_units.specs.Stamps.{distance, unit_at, unit_fault}
 use Rattle.stream_units.specs.UnitSteps.{UnitsSoFar, after_finding, ended_unit, made_whole}
 use Rattle.stream_units.specs.declared.stamps.StampFault.{StampFault}
 use Rattle.unit_feed.specs.declared.feed_fault.FeedFault.{FeedFault}
-use Rattle.unit_feed.specs.declared.feed_fault.FeedFault.TheVariants.{Stamp, Lost}
+use Rattle.unit_feed.specs.declared.feed_fault.FeedFault.TheVariants.{Stamp, Lost, Map}
 use Rattle.unit_feed.specs.declared.feed_fault.Loss.{Loss}
+use Rattle.unit_feed.specs.declared.feed_fault.NewMap.{NewMap}
+use Rattle.unit_feed.specs.declared.fed_map.FedMap.{FedMap}
+use Rattle.unit_feed.specs.Maps.{maps_after, new_map}
 
 -- 1. A stream
 
@@ -84,10 +87,12 @@ told_of number (Some loss) = Some (number, Err (Lost loss))
 abbrev pub lost_fed : FedStreamView → FindingView → Option Fed
 lost_fed s f = told_of s.number (lost_by f.packet f.what)
 
--- all streams, with the moment at which the first unit is due, and what the clock shows at moment 0, once that is fixed
+-- all streams, with the moment at which the first unit is due, what the clock shows at moment 0, once that is fixed, and the programs'
+-- maps
 pub record FeedView : Type 0 where
   pub earliest : ℕ
   pub base : Option ℕ
+  pub maps : List FedMap
   pub streams : List FedStreamView
 
 -- the first stream of this PID; the first of these has number k
@@ -97,7 +102,7 @@ place_from pid k (s ∷ ss) = if has_pid s.units.pid pid then Some k else place_
 
 -- with a unit that is whole at stream k, which is s beside that
 abbrev pub feed_with : FeedView → ℕ → FedStreamView → Option CarriedUnit → FeedView
-feed_with feed k s w = record { earliest = feed.earliest; base = base_after feed.earliest feed.base w; streams = slice_set feed.streams k (stream_with feed.earliest feed.base s w) }
+feed_with feed k s w = record { earliest = feed.earliest; base = base_after feed.earliest feed.base w; maps = feed.maps; streams = slice_set feed.streams k (stream_with feed.earliest feed.base s w) }
 
 unfoldable pub after_at : FeedView → FindingView → ℕ → Option FedStreamView → FeedView
 after_at feed f k None = feed
@@ -115,12 +120,27 @@ unfoldable pub fed_place : FeedView → FindingView → Option ℕ → List Fed
 fed_place feed f None = []
 fed_place feed f (Some k) = fed_at feed f (slice_get feed.streams k)
 
+-- after a finding, and what it feeds, by its PID
+abbrev pub after_unit : FeedView → FindingView → FeedView
+after_unit feed f = after_place feed f (place_from f.pid 0 feed.streams)
+
+abbrev pub fed_unit : FeedView → FindingView → List Fed
+fed_unit feed f = fed_place feed f (place_from f.pid 0 feed.streams)
+
+-- a map that changes is told before it; it is of no stream, so a number stands there that says nothing
+unfoldable pub map_fed : Option NewMap → Option Fed
+map_fed None = None
+map_fed (Some change) = Some (255, Err (Map change))
+
+abbrev pub watched : FeedView → FindingView → FeedView
+watched feed f = record { earliest = feed.earliest; base = feed.base; maps = maps_after f feed.maps; streams = feed.streams }
+
 -- after a finding, and what it feeds
 abbrev pub after_one : FeedView → FindingView → FeedView
-after_one feed f = after_place feed f (place_from f.pid 0 feed.streams)
+after_one feed f = after_unit (watched feed f) f
 
 abbrev pub fed_one : FeedView → FindingView → List Fed
-fed_one feed f = fed_place feed f (place_from f.pid 0 feed.streams)
+fed_one feed f = option_to_list (map_fed (new_map f feed.maps)) ++ fed_unit (watched feed f) f
 
 -- 4. Findings one after another
 

@@ -14,9 +14,9 @@ use Rattle.unit_feed.specs.declared.feed_fault.Loss.{Loss}
 abbrev pub FedInTurn : Type 0
 FedInTurn = (feed : FeedView) (fs more : List FindingView) → fed_all feed (fs ++ more) ≡ fed_all feed fs ++ fed_all (after_all feed fs) more
 
--- one stream of a PID, before its first unit
+-- one stream of a PID and no map, before its first unit
 abbrev pub one_stream : ℕ → ℕ → ℕ → FeedView
-one_stream earliest number pid = record { earliest = earliest; base = None; streams = record { number = number; before = None; units = none_so_far pid true } ∷ [] }
+one_stream earliest number pid = record { earliest = earliest; base = None; maps = []; streams = record { number = number; before = None; units = none_so_far pid true } ∷ [] }
 
 -- packets of a PID are lost before one of the findings
 unfoldable pub is_loss : Option Loss → Bool

@@ -1,3 +1,4 @@
 pub mod Feeding
 pub mod Laws
+pub mod Maps
 pub mod StreamFeeding

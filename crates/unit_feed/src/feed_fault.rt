@@ -13,11 +13,26 @@ pub struct Loss {
     pub found: u8,
 }
 
-/// What is told of a stream in place of a unit.
+/// A map of a program that is of another version than the one before it.
+#[derive(Clone, Copy, PartialEq, Eq)]
+pub struct NewMap {
+    /// program_number.
+    pub program: u16,
+    /// The packet at which it is whole.
+    pub packet: u64,
+    /// The version_number before.
+    pub before: u8,
+    /// The one that came.
+    pub version: u8,
+}
+
+/// What is told in place of a unit.
 #[derive(Clone, Copy, PartialEq, Eq)]
 pub enum FeedFault {
     /// A unit can't have a moment.
     Stamp(StampFault),
     /// Packets of its PID are lost.
     Lost(Loss),
+    /// A program's map changes.
+    Map(NewMap),
 }

@@ -8,14 +8,16 @@
 //! feeds, and at each moment a beginning of that.
 #![tactic(auto)]
 
+mod fed_map;
 mod fed_stream;
 mod feed_fault;
 mod laws;
 mod stream_feed;
 mod unit_feed;
 
+pub use fed_map::FedMap;
 pub use fed_stream::FedStream;
-pub use feed_fault::{FeedFault, Loss};
+pub use feed_fault::{FeedFault, Loss, NewMap};
 pub use laws::{fed_as_carried, fed_in_turn, fed_so_far};
 pub use stream_feed::StreamFeed;
 pub use unit_feed::UnitFeed;

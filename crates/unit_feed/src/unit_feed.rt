@@ -5,19 +5,24 @@ ghost use Rattle.demux.specs.Shown.{finding_view};
 ghost use Rattle.std.specs.Option.{option_to_list};
 ghost use Rattle.unit_feed.specs.Feeding as spec;
 
+use crate::fed_map::{FedMap, watch};
 use crate::fed_stream::FedStream;
-use crate::feed_fault::FeedFault;
+use crate::feed_fault::{FeedFault, NewMap};
 use demux::Finding;
 use pes_packet::Unit;
 use std::alloc::{AllocError, Global};
 use std::collections::VecDeque;
 use std::marker::Model;
 
-/// The streams of a description and their units under way.
+// The number that stands where there is no stream.
+const NO_STREAM: u8 = 255;
+
+/// The maps of a description's programs, its streams, and their units under way.
 #[derive(Drop)]
 pub struct UnitFeed {
     earliest: u64,
     base: Option<u64>,
+    maps: Vec<FedMap>,
     streams: Vec<FedStream>,
 }
 
@@ -28,7 +33,7 @@ impl Model for UnitFeed {
 
     ghost Value = { FeedView };
 
-    ghost view = { λ f. record { earliest = f.earliest; base = f.base; streams = f.streams.items } };
+    ghost view = { λ f. record { earliest = f.earliest; base = f.base; maps = f.maps.items; streams = f.streams.items } };
 
     ghost invariant = { λ f. IfSome f.base (λ base. base < 2 ^ 33) };
 }
@@ -58,6 +63,17 @@ fn push_fed(
     };
     fed.push(one)?;
     Ok(())
+}
+
+// What is told of a map that changes, if one does.
+#[tactic(auto, unfolding(crate::specs::Feeding::map_fed))]
+fn told_map(change: Option<NewMap>) -> Option<(u8, Result<Unit, FeedFault>)>
+    ensures { result ≡ spec.map_fed change }
+{
+    match change {
+        None => None,
+        Some(change) => Some((NO_STREAM, Err(FeedFault::Map(change)))),
+    }
 }
 
 // Has the stream at a place take a finding.
@@ -99,28 +115,28 @@ fn loss_at(
 }
 
 impl UnitFeed {
-    /// The streams of a description before the first finding, each with its number and a PID of its own; the first unit
-    /// of all is to be due at `earliest`.
-    pub fn new(earliest: u64, streams: Vec<FedStream>) -> UnitFeed
-        ensures { result ≡ record { earliest = earliest; base = None; streams = streams.items } }
+    /// The programs' maps and the streams of a description before the first finding, each stream with its number and a PID
+    /// of its own; the first unit of all is to be due at `earliest`.
+    pub fn new(earliest: u64, maps: Vec<FedMap>, streams: Vec<FedStream>) -> UnitFeed
+        ensures { result ≡ record { earliest = earliest; base = None; maps = maps.items; streams = streams.items } }
     {
         UnitFeed {
             earliest,
             base: None,
+            maps,
             streams,
         }
     }
 
-    /// Takes a finding; the unit that it makes whole goes to `fed`, at its moment with the number of its stream, or why it
-    /// can't have one, and the loss of packets of a stream that it tells of.
-    pub fn take(
+    // Takes a finding for the stream with its PID.
+    fn take_unit(
         &mut self,
         alloc: &Global,
         finding: &Finding<'_>,
         fed: &mut Vec<(u8, Result<Unit, FeedFault>)>,
     ) -> Result<(), AllocError>
-        ensures feed { OnOk result (self.new ≡ spec.after_one self.old (finding_view finding.now)) }
-        ensures fed { OnOk result (fed.new.items ≡ fed.old.items ++ spec.fed_one self.old (finding_view finding.now)) }
+        ensures feed { OnOk result (self.new ≡ spec.after_unit self.old (finding_view finding.now)) }
+        ensures fed { OnOk result (fed.new.items ≡ fed.old.items ++ spec.fed_unit self.old (finding_view finding.now)) }
     {
         let Some(k) = place_of(finding.pid, &self.streams) else {
             return Ok(());
@@ -138,6 +154,22 @@ impl UnitFeed {
         push_fed(fed, one)?;
         push_fed(fed, loss)?;
         Ok(())
+    }
+
+    /// Takes a finding; the unit that it makes whole goes to `fed`, at its moment with the number of its stream, or why it
+    /// can't have one, and the loss of packets of a stream or the new version of a map that it tells of.
+    pub fn take(
+        &mut self,
+        alloc: &Global,
+        finding: &Finding<'_>,
+        fed: &mut Vec<(u8, Result<Unit, FeedFault>)>,
+    ) -> Result<(), AllocError>
+        ensures feed { OnOk result (self.new ≡ spec.after_one self.old (finding_view finding.now)) }
+        ensures fed { OnOk result (fed.new.items ≡ fed.old.items ++ spec.fed_one self.old (finding_view finding.now)) }
+    {
+        let change = watch(&mut self.maps, finding);
+        push_fed(fed, told_map(change))?;
+        self.take_unit(alloc, finding, fed)
     }
 
     /// Takes findings, one after another.

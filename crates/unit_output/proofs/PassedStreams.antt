@@ -1,5 +1,5 @@
 -- What goes out of a stream while it comes.
-use Rattle.std.proofs.Common.{◌≡◌, ◌⊎◌, ◌<◌, ◌≤◌, ◌+◌, ◌-◌, ◌^◌, ℕ, Bool, true, false, nat_lt, List, [], ◌∷◌, ◌++◌, length, map, take, drop, get_or, Option, Some, None, Result, Ok, Err, le_trans, refl, sym, ap, ◌∙◌, subst, inl, inr, arith, length-append, length-take-le}
+use Rattle.std.proofs.Common.{◌≡◌, ◌⊎◌, ◌<◌, ◌≤◌, ◌+◌, ◌-◌, ◌^◌, ℕ, Bool, true, false, List, [], ◌∷◌, ◌++◌, length, take, drop, get_or, Option, Result, Ok, Err, le_trans, refl, sym, ap, ◌∙◌, subst, inl, inr, arith, length-append, length-take-le}
 use Rattle.std.specs.Prelude.{◌||◌, OnOk, if◌then◌else◌}
 use Rattle.std.specs.Result.{is_err}
 use Rattle.std.specs.List.{flat_map, list_any}
@@ -7,8 +7,8 @@ use Rattle.std.specs.Io.KnownBytes.{Appends, Consumes, IsAtEnd, Keeps}
 use Rattle.std.proofs.KnownBytes.{Appends-nil, Appends-trans, Consumes-kept, Consumes-nil, Consumes-trans}
 use Rattle.std.proofs.lemmas.List.{append_assoc, append-nil, at_drop_more, drop_all}
 use Rattle.counted_io.specs.Device.{CountsOne, Failed}
-use Rattle.devices.specs.Devices.{Device, Port, HasFailed, IsClean, IsUntouched, Takes, between}
-use Rattle.devices.specs.Lines.{Reports, Stopped, Tells}
+use Rattle.devices.specs.Devices.{Device, Port, Takes, between}
+use Rattle.devices.specs.Lines.{Reports, Tells}
 use Rattle.devices.specs.Outcomes.{halt_line}
 use Rattle.devices.specs.declared.halt.Halt.{Halt}
 use Rattle.devices.specs.declared.halt.Halt.TheVariants.{Read, Write, Memory}
@@ -19,7 +19,7 @@ use Rattle.demux.proofs.FoundSoFar.{nothing_at_first}
 use Rattle.unit_feed.specs.Feeding.{Fed, FeedView, after_all, fed_all}
 use Rattle.unit_feed.specs.StreamFeeding.{IsFedBy, StreamFeedView, at_first, fed_of}
 use Rattle.unit_output.specs.FedLines.{fault_line, fed_lines, fed_record, fed_records, has_fault, have_fault, lines_of, pid_at}
-use Rattle.unit_output.specs.Passing.{FailsToPass, GoesOut, IsFedSoFar, Midway, Passes, PassesAll, PassesFront, PassesLast, PassesOn, PassesPieces, RunsStream}
+use Rattle.unit_output.specs.Passing.{FailsToPass, GoesOut, IsFedSoFar, Midway, Passes, PassesAll, PassesLast, PassesOn, PassesPieces, RunsStream}
 
 -- 1. Of what is fed after other units
 

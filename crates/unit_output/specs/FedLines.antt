@@ -1,5 +1,5 @@
--- What goes out of what a stream feeds: the records of its units, and a line for each unit that has no moment and for each loss of
--- packets.
+-- What goes out of what a stream feeds: the records of its units, and a line for each unit that has no moment, each loss of packets
+-- and each new map.
 use Rattle.std.specs.Prelude.{ℕ, Bool, true, false, List, [], ◌∷◌, Ok, Err, codes, slice_get, unwrap_or}
 use Rattle.std.specs.List.{flat_map, list_any}
 use Rattle.unit_records.specs.Records.{record_bytes}
@@ -7,8 +7,9 @@ use Rattle.stream_units.specs.declared.stamps.StampFault.{StampFault}
 use Rattle.stream_units.specs.declared.stamps.StampFault.TheVariants.{DtsNotIncreasing, PtsOutOfRange, DtsTooFar}
 use Rattle.unit_feed.specs.Feeding.{Fed}
 use Rattle.unit_feed.specs.declared.feed_fault.FeedFault.{FeedFault}
-use Rattle.unit_feed.specs.declared.feed_fault.FeedFault.TheVariants.{Stamp, Lost}
+use Rattle.unit_feed.specs.declared.feed_fault.FeedFault.TheVariants.{Stamp, Lost, Map}
 use Rattle.unit_feed.specs.declared.feed_fault.Loss.{Loss}
+use Rattle.unit_feed.specs.declared.feed_fault.NewMap.{NewMap}
 use Rattle.devices.specs.Lines.{line_text}
 
 -- the record of a unit with the number of its stream
@@ -29,9 +30,14 @@ stamp_line pid DtsTooFar = line_text (codes "dts-far") (pid ∷ [])
 abbrev pub loss_line : ℕ → Loss → List ℕ
 loss_line pid loss = line_text (codes "lost") (pid ∷ loss.packet ∷ loss.expected ∷ loss.found ∷ [])
 
+-- the map of a program that is whole at a packet is of another version than the one before it
+abbrev pub map_line : NewMap → List ℕ
+map_line map = line_text (codes "map") (map.program ∷ map.packet ∷ map.before ∷ map.version ∷ [])
+
 unfoldable pub fault_line : ℕ → FeedFault → List ℕ
 fault_line pid (Stamp fault) = stamp_line pid fault
 fault_line pid (Lost loss) = loss_line pid loss
+fault_line pid (Map map) = map_line map
 
 -- the PID of the stream of a number
 abbrev pub pid_at : List ℕ → ℕ → ℕ

@@ -1,5 +1,5 @@
 -- A stream, read as it comes, and what goes out of it: the records of its units before the next read, and a line for each unit that
--- has no moment and for each loss of packets.
+-- has no moment, each loss of packets and each new map.
 use Rattle.std.specs.Prelude.{◌≡◌, ◌⊎◌, ◌<◌, ◌≤◌, ◌-◌, ◌^◌, ℕ, Bool, false, if◌then◌else◌, List, [], ◌++◌, length, take, Result, Ok, Err}
 use Rattle.std.specs.Io.KnownBytes.{Consumes, IsAtEnd}
 use Rattle.devices.specs.Devices.{Device, Port, HasFailed, IsClean, IsUntouched, Takes, between}
@@ -23,7 +23,7 @@ pub record IsFedSoFar (first : FeedView) (came : List ℕ) (fed : List Fed) : Ty
 -- 2. What went out of it
 
 -- these bytes of the input were read, and what they feed went out: the records of the units to the output, and a line for each
--- unit that has no moment and for each loss
+-- unit that has no moment, each loss and each new map
 pub record Passes (pids : List ℕ) (came : List ℕ) (fed : List Fed) (input output faults : Device) : Type 0 where
   pub read : Consumes input.before.bytes input.after.bytes came
   pub written : Takes output (fed_records fed)
@@ -75,8 +75,8 @@ PassesOn first pids input output faults (Err Memory) = PassesFront first pids Me
 
 -- 3. Piece by piece
 
--- what is fed goes out: the records, and then a line for each unit that has no moment and for each loss; or the writer fails within
--- the records
+-- what is fed goes out: the records, and then a line for each unit that has no moment, each loss and each new map; or the writer
+-- fails within the records
 abbrev pub GoesOut : List ℕ → List Fed → Device → Device → Result Bool Halt → Type 0
 GoesOut pids fed output faults (Ok faulty) =
     Takes output (fed_records fed) × IsClean output × Tells faults.before faults.after (fed_lines pids fed) × (faulty ≡ have_fault fed)
@@ -111,7 +111,7 @@ PassesLast first pids came before output faults (Err Memory) = IsUntouched outpu
 
 -- 4. How the run over a stream ends
 
--- with its input: status 1 where a unit had no moment or packets were lost
+-- with its input: status 1 where a line was told
 pub record EndsStream (first : FeedView) (pids : List ℕ) (input output faults : Device) (status : ℕ) : Type 0 where
   pub faulty : Bool
   pub passes : PassesAll first pids input output faults faulty

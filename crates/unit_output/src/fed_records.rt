@@ -1,4 +1,4 @@
-//! What a stream feeds: records on an output, and lines for units that have no moment and for lost packets.
+//! What a stream feeds: records on an output, and lines for units that have no moment, lost packets and new maps.
 
 ghost use Rattle.std.specs.Prelude.{◌≡◌, ◌++◌};
 ghost use Rattle.devices.specs.Devices.{writes};
@@ -12,7 +12,7 @@ use counted_io::Sink;
 use devices::{Halt, report_line};
 use pes_packet::Unit;
 use stream_units::StampFault;
-use unit_feed::{FeedFault, Loss};
+use unit_feed::{FeedFault, Loss, NewMap};
 
 // Puts the record of a unit that is fed, where it has a moment.
 #[tactic(auto, unfolding(crate::specs::FedLines::fed_record))]
@@ -100,7 +100,20 @@ fn report_loss<E: Sink>(faults: &mut E, pid: u16, loss: Loss)
     report_line(faults, "lost", &numbers);
 }
 
-// Reports what is told of the stream of a PID.
+// Reports that a program's map is of another version than the one before it.
+fn report_map<E: Sink>(faults: &mut E, map: NewMap)
+    ensures { Reports (writes E.Sink faults.old faults.new) (spec.map_line map) }
+{
+    let numbers = [
+        u128::from(map.program),
+        u128::from(map.packet),
+        u128::from(map.before),
+        u128::from(map.version),
+    ];
+    report_line(faults, "map", &numbers);
+}
+
+// Reports what is told of the stream of a PID, or of a map.
 #[tactic(auto, unfolding(crate::specs::FedLines::fault_line))]
 fn report_fault<E: Sink>(faults: &mut E, pid: u16, fault: FeedFault)
     ensures { Reports (writes E.Sink faults.old faults.new) (spec.fault_line pid fault) }
@@ -108,6 +121,7 @@ fn report_fault<E: Sink>(faults: &mut E, pid: u16, fault: FeedFault)
     match fault {
         FeedFault::Stamp(fault) => report_stamp(faults, pid, fault),
         FeedFault::Lost(loss) => report_loss(faults, pid, loss),
+        FeedFault::Map(map) => report_map(faults, map),
     }
 }
 
@@ -127,7 +141,7 @@ fn tell_one<E: Sink>(faults: &mut E, pids: &[u16], fed: &(u8, Result<Unit, FeedF
     }
 }
 
-/// Reports each unit that has no moment and each loss of packets, and returns whether there is one.
+/// Reports each unit that has no moment, each loss of packets and each new map, and returns whether there is one.
 pub(crate) fn tell_faults<E: Sink>(
     faults: &mut E,
     pids: &[u16],

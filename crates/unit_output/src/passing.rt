@@ -16,7 +16,7 @@ use unit_feed::{FeedFault, StreamFeed, UnitFeed};
 /// The most bytes of one read.
 const PIECE: usize = 1 << 16;
 
-// What is fed goes out: the records, and then a line for each unit that has no moment and each loss. Returns whether there is one.
+// What is fed goes out: the records, and then a line for each unit that has no moment, each loss and each new map. Returns whether there is one.
 fn pass_fed<W: Sink, E: Sink>(
     pids: &[u16],
     fed: &[(u8, Result<Unit, FeedFault>)],
@@ -127,8 +127,8 @@ fn pass_all<R: Source, W: Sink, E: Sink>(
 }
 
 /// Reads a stream as it comes, writes the record of each unit that it feeds before the next read, reports each unit that has
-/// no moment and each loss of packets, and returns the status: 0 all went out, 1 one of these was reported, 3 a device failed
-/// or out of memory.
+/// no moment, each loss of packets and each new map, and returns the status: 0 all went out, 1 one of these was reported, 3 a
+/// device failed or out of memory.
 pub fn pass_stream<R: Source, W: Sink, E: Sink>(
     alloc: Global,
     feed: UnitFeed,
