@@ -1,7 +1,7 @@
 -- Bytes of a unit that enter both buffers, and the excess of the main buffer.
 use Rattle.std.proofs.Common.{◌≡◌, ◌∙◌, sym, ℕ, ◌+◌, ◌<◌, List, ◌∷◌, Option, Some, None, refl, ap, ap₂, subst, arith}
 use Rattle.clock27.specs.Departure.{departures, last_left}
-use Rattle.clock27.specs.Peak.{greatest_at}
+use Rattle.clock27.specs.Peak.{greatest_at, most_found}
 use Rattle.clock27.proofs.Departures.{last_left-append}
 use Rattle.main_buffer_rows.specs.RowEntry.{entered, fullness_with}
 use Rattle.transport_buffer.specs.Buffers.{entered as buffer_entered}
@@ -17,7 +17,7 @@ use Rattle.stream_view.specs.declared.buffers.StreamView.{StreamView}
 use Rattle.stream_view.specs.declared.row_seen.RowSeen.{RowSeen}
 use Rattle.stream_view.specs.declared.main_watch.MainWatch.{MainWatch}
 use Rattle.stream_view.proofs.Views.{row_most}
-use Rattle.stream_buffers.specs.Held.{Held, IsHeld, carried, main_ended, row_of}
+use Rattle.stream_buffers.specs.Held.{Held, IsHeld, carried, main_ended, main_found, row_of, transport_found}
 use Rattle.stream_buffers.specs.declared.buffers.StreamBuffers.{StreamBuffers}
 
 -- an excess of the main buffer depends on the most that a row finds, and on when its last byte enters
@@ -41,6 +41,22 @@ main_row view rate parts ts v step pos =
     ap₂ (λ (u l : ℕ). greatest_at (λ x. fullness_at view.main x + entered u x (departures s l ts)) (departures s l ts)) v.until last
     ∙ row_most s (fullness_at view.main) parts ts pos (λ x le. v.held x (omega (arith, le, last)))
     ∙ ap (λ (n : ℕ). greatest_at (main_fullness n (Carries ts ∷ parts)) (left_after n parts ts)) step
+
+-- the same of bytes that are told by when they arrive
+pub main_most_found : (old : StreamBuffers) (h : Held) (ts times : List ℕ) (found : ℕ) → IsHeld old h → ts ≡ times → 0 < old.view.transport.step →
+    found ≡ greatest_at (fullness_with old.view.main (departures old.view.transport.step old.view.transport.last ts)) (departures old.view.transport.step old.view.transport.last ts) →
+    found ≡ main_found h times
+main_most_found old h ts times found k same pos is =
+    is ∙ main_row old.view h.rate h.parts ts k.view k.step pos ∙ ap (λ (t : List ℕ). main_found h t) same
+
+-- the most in the transport buffer when one of these bytes arrives
+pub transport_most_found : (old : StreamBuffers) (h : Held) (ts times : List ℕ) (found : ℕ) → IsHeld old h → ts ≡ times →
+    found ≡ most_found old.view.transport.step old.view.transport.last ts → found ≡ transport_found h times
+transport_most_found old h ts times found k same is =
+    let last : old.view.transport.last ≡ last_of old.view.transport.step h.parts = ap (λ (b : TransportBuffer). b.last) k.view.arrived in
+    is ∙ ap (λ (l : ℕ). most_found old.view.transport.step l ts) last
+    ∙ ap (λ (n : ℕ). most_found n (last_of n h.parts) ts) k.step
+    ∙ ap (λ (t : List ℕ). transport_found h t) same
 
 -- and when the last of them leaves the transport buffer
 pub last_row : {A : Type 0} (view : StreamView A) (after : TransportBuffer) (rate : ℕ) (parts : List Part) (ts : List ℕ) → IsViewOf view parts → view.transport.step ≡ rate →

@@ -2,7 +2,7 @@
 -- parts of it (the last one first), and the excess of the main buffer that is under way.
 use Rattle.std.specs.Prelude.{◌≡◌, ℕ, List, [], ◌∷◌, Option, None}
 use Rattle.std.specs.Option.{option_to_list}
-use Rattle.clock27.specs.Peak.{greatest_at}
+use Rattle.clock27.specs.Peak.{greatest_at, most_found}
 use Rattle.transport_buffer.specs.declared.excess.Excess.{Excess}
 use Rattle.transport_buffer.specs.Excesses.{excess_after, excesses_ended}
 use Rattle.stream_view.specs.History.{Part, arrivals_of, transport_of, last_of, left_after, main_fullness, main_peak, unit_of}
@@ -57,6 +57,10 @@ unit_before h = unit_of h.rate h.parts
 abbrev pub transport_ended : Held → List ℕ → List Excess
 transport_ended h times = excesses_ended h.rate TRANSPORT_BYTES (last_of h.rate h.parts) (transport_under_way h) times
 
+-- the most that was in the transport buffer when one of them arrived, itself included
+abbrev pub transport_found : Held → List ℕ → ℕ
+transport_found h times = most_found h.rate (last_of h.rate h.parts) times
+
 -- they go no further than the transport buffer
 abbrev pub passed : Held → List ℕ → Held
 passed h times = record { rate = h.rate; rx = h.rx; parts = Passes times ∷ h.parts; main = h.main }
@@ -77,6 +81,10 @@ carried h times = record {
   parts = Carries times ∷ h.parts;
   main = record { size = h.main.size; under_way = after_row h.main.size h.main.under_way (row_of h times) };
 }
+
+-- the most that was in the main buffer when one of them entered it
+abbrev pub main_found : Held → List ℕ → ℕ
+main_found h times = (row_of h times).main
 
 -- the excess of the main buffer that has ended by then
 abbrev pub main_ended : Held → List ℕ → List Excess

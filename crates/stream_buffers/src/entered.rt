@@ -4,11 +4,14 @@ use stream_view::UnitSeen;
 use transport_buffer::Excess;
 
 /// What has ended with a packet: an excess of the transport buffer before a byte of its header, or before one of its payload; one of the
-/// main buffer; and the unit before one that begins.
+/// main buffer; and the unit before one that begins. And the most bytes that were in each buffer when one of the packet entered it, itself
+/// included; 0 where none did.
 #[derive(Clone, Copy)]
 pub struct Entered {
     pub header: Option<Excess>,
     pub payload: Option<Excess>,
     pub main: Option<Excess>,
     pub unit: Option<UnitSeen>,
+    pub transport_most: u128,
+    pub main_most: u64,
 }

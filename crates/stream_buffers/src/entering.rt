@@ -2,8 +2,8 @@
 ghost use Rattle.std.specs.Prelude.{◌≡◌, ◌+◌, ◌<◌, ◌≤◌, ◌^◌, IfOk, OnOk};
 ghost use Rattle.std.specs.Option.{option_to_list};
 ghost use Rattle.clock27.specs.Arrival.{bytes_from};
-ghost use Rattle.stream_buffers.specs.Held.{Held, IsHeld, carried, empty, main_ended, main_most, passed, transport_ended, transport_most, transport_under_way, unit_before};
-ghost use Rattle.stream_buffers.specs.Entering.{after, after_begin, after_payload, entered, entered_view, payload_main, payload_transport, unit_ended};
+ghost use Rattle.stream_buffers.specs.Held.{Held, IsHeld, carried, empty, main_ended, main_found, main_most, passed, transport_ended, transport_found, transport_most, transport_under_way, unit_before};
+ghost use Rattle.stream_buffers.specs.Entering.{after, after_begin, after_payload, entered, entered_view, payload_main, payload_main_most, payload_transport, payload_transport_most, unit_ended};
 
 use crate::arriving::Arriving;
 use crate::buffers::StreamBuffers;
@@ -11,7 +11,7 @@ use crate::entered::Entered;
 use clock27::Rate;
 use packet_arrival::Row;
 use std::alloc::{AllocError, Global};
-use stream_view::{DueTime, MainWatch, StreamView, UnitSeen};
+use stream_view::{DueTime, MainWatch, RowSeen, StreamView, UnitSeen};
 use transport_buffer::Excess;
 
 /// The size of a transport buffer in bytes (ISO/IEC 13818-1, 2.4.2.3).
@@ -22,6 +22,14 @@ const LAST_INDEX: u64 = 5_848_000_000;
 
 // What may have entered a buffer before a packet.
 const LAST_BYTES: u64 = (1 << 40) - 188;
+
+// What no bytes find.
+const NO_ROW: RowSeen = RowSeen {
+    transport: 0,
+    ended: None,
+    main: 0,
+    last: 0,
+};
 
 impl StreamBuffers {
     /// Empty ones, the main buffer of `size` bytes.
@@ -71,36 +79,43 @@ impl StreamBuffers {
         self.view.unit
     }
 
-    // Bytes of the stream that go no further than the transport buffer, from byte `byte` on.
-    fn pass(&mut self, byte: u64, count: u64) -> Option<Excess>
+    // Bytes of the stream that go no further than the transport buffer, from byte `byte` on: what they found.
+    fn pass(&mut self, byte: u64, count: u64) -> RowSeen
         requires some { 0 < count }
         requires few { count ≤ 188 }
         requires end { byte + count ≤ 2 ^ 40 }
         requires room { self.old.view.transport.bytes + count ≤ 2 ^ 40 }
         ensures held { (h : Held) → IsHeld self.old h → IsHeld self.new (passed h (bytes_from h.rx byte count)) }
         ensures ended { (h : Held) → IsHeld self.old h →
-            option_to_list result ≡ transport_ended h (bytes_from h.rx byte count) }
+            option_to_list result.ended ≡ transport_ended h (bytes_from h.rx byte count) }
+        ensures most { (h : Held) → IsHeld self.old h →
+            result.transport ≡ transport_found h (bytes_from h.rx byte count) }
+        ensures main { result.main ≡ 0 }
         ensures bytes { self.new.view.transport.bytes ≡ self.old.view.transport.bytes + count }
     {
         let row = Row::at_constant_rate(u64::from(self.rx), byte, count);
-        self.view.pass(&row).ended
+        self.view.pass(&row)
     }
 
-    // Bytes of the unit under way: the excesses of both buffers that have ended.
-    fn carry(&mut self, byte: u64, count: u64) -> (Option<Excess>, Option<Excess>)
+    // Bytes of the unit under way: what they found, and the excess of the main buffer that has ended.
+    fn carry(&mut self, byte: u64, count: u64) -> (RowSeen, Option<Excess>)
         requires some { 0 < count }
         requires few { count ≤ 188 }
         requires end { byte + count ≤ 2 ^ 40 }
         requires room { self.old.view.transport.bytes + count ≤ 2 ^ 40 }
         ensures held { (h : Held) → IsHeld self.old h → IsHeld self.new (carried h (bytes_from h.rx byte count)) }
         ensures ended { (h : Held) → IsHeld self.old h →
-            option_to_list result.0 ≡ transport_ended h (bytes_from h.rx byte count) }
+            option_to_list result.0.ended ≡ transport_ended h (bytes_from h.rx byte count) }
         ensures main { (h : Held) → IsHeld self.old h →
             option_to_list result.1 ≡ main_ended h (bytes_from h.rx byte count) }
+        ensures most { (h : Held) → IsHeld self.old h →
+            result.0.transport ≡ transport_found h (bytes_from h.rx byte count) }
+        ensures main_most { (h : Held) → IsHeld self.old h →
+            result.0.main ≡ main_found h (bytes_from h.rx byte count) }
     {
         let row = Row::at_constant_rate(u64::from(self.rx), byte, count);
         let seen = self.view.carry(&row);
-        (seen.ended, self.main.see(&seen))
+        (seen, self.main.see(&seen))
     }
 
     // A unit begins, if one does: the one before it.
@@ -119,21 +134,25 @@ impl StreamBuffers {
         }
     }
 
-    // The payload of a packet.
-    #[tactic(auto, unfolding(crate::specs::Entering::after_payload, crate::specs::Entering::payload_transport, crate::specs::Entering::payload_main))]
-    fn payload(&mut self, byte: u64, count: u64, enters: bool) -> (Option<Excess>, Option<Excess>)
+    // The payload of a packet: what it found, and the excess of the main buffer that has ended.
+    #[tactic(auto, unfolding(crate::specs::Entering::after_payload, crate::specs::Entering::payload_transport, crate::specs::Entering::payload_main, crate::specs::Entering::payload_transport_most, crate::specs::Entering::payload_main_most))]
+    fn payload(&mut self, byte: u64, count: u64, enters: bool) -> (RowSeen, Option<Excess>)
         requires few { count ≤ 188 }
         requires end { byte + count ≤ 2 ^ 40 }
         requires room { self.old.view.transport.bytes + count ≤ 2 ^ 40 }
         ensures held { (h : Held) → IsHeld self.old h →
             IsHeld self.new (after_payload h enters count (bytes_from h.rx byte count)) }
         ensures ended { (h : Held) → IsHeld self.old h →
-            option_to_list result.0 ≡ payload_transport h count (bytes_from h.rx byte count) }
+            option_to_list result.0.ended ≡ payload_transport h count (bytes_from h.rx byte count) }
         ensures main { (h : Held) → IsHeld self.old h →
             option_to_list result.1 ≡ payload_main h enters count (bytes_from h.rx byte count) }
+        ensures most { (h : Held) → IsHeld self.old h →
+            result.0.transport ≡ payload_transport_most h count (bytes_from h.rx byte count) }
+        ensures main_most { (h : Held) → IsHeld self.old h →
+            result.0.main ≡ payload_main_most h enters count (bytes_from h.rx byte count) }
     {
         if count == 0 {
-            (None, None)
+            (NO_ROW, None)
         } else if enters {
             self.carry(byte, count)
         } else {
@@ -141,7 +160,7 @@ impl StreamBuffers {
         }
     }
 
-    /// A packet of the stream enters: what has ended. There is no memory where 4,096 units wait in the main buffer, or none is left for
+    /// A packet of the stream enters: what has ended, and the most that was in the buffers. There is no memory where 4,096 units wait in the main buffer, or none is left for
     /// one more; then drop them.
     #[tactic(auto, unfolding(crate::specs::Entering::after, crate::specs::Entering::entered))]
     pub fn enter(&mut self, packet: &Arriving) -> Result<Entered, AllocError>
@@ -154,6 +173,8 @@ impl StreamBuffers {
                 payload: None,
                 main: None,
                 unit: None,
+                transport_most: 0,
+                main_most: 0,
             });
         }
         let size = packet.size.min(184);
@@ -162,10 +183,12 @@ impl StreamBuffers {
         let unit = self.begin(packet.begins)?;
         let (payload, main) = self.payload(byte + (188 - size), size, packet.enters);
         Ok(Entered {
-            header,
-            payload,
+            header: header.ended,
+            payload: payload.ended,
             main,
             unit,
+            transport_most: header.transport.max(payload.transport),
+            main_most: payload.main,
         })
     }
 }

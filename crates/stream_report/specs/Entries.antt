@@ -16,8 +16,8 @@ use Rattle.stream_report.specs.declared.clocks.Beginning.TheVariants.{Nothing, U
 use Rattle.stream_report.specs.declared.stream_entry.StreamEntry.{StreamEntry}
 use Rattle.stream_report.specs.declared.tally.Tally.{Tally}
 use Rattle.stream_report.specs.Clocks.{ahead_of, beginning_of, due_at}
-use Rattle.stream_report.specs.EntryLines.{ahead_lines, closing_lines, ended_lines, unit_lines}
-use Rattle.stream_report.specs.Tallies.{with_excesses, with_unit_if}
+use Rattle.stream_report.specs.EntryLines.{ahead_lines, closing_lines, ended_lines, tally_lines}
+use Rattle.stream_report.specs.Tallies.{with_excesses, with_packet, with_unit_if}
 use Rattle.stream_report.specs.declared.entry_lines.Place.{Place}
 
 pub record EntryState : Type 0 where
@@ -85,7 +85,7 @@ abbrev pub excess_counts : EnteredView → ℕ × ℕ
 excess_counts e = (length e.transport, length e.main)
 
 abbrev pub tally_after : Tally → ℕ → Bool → EnteredView → Tally
-tally_after t window unread e = with_unit_if (with_excesses t (length e.transport) (length e.main) unread) window e.unit
+tally_after t window unread e = with_unit_if (with_excesses (with_packet t window e) (length e.transport) (length e.main) unread) window e.unit
 
 abbrev pub arriving_at : ViewOptions → ℕ → Option PcrSample → EntryState → PacketView → Arriving
 arriving_at options index clock e packet = arriving options index e.held.rx e.counter clock packet
@@ -118,14 +118,14 @@ entry_lines options index clock e packet =
     ahead_lines options (place_at index e) (ahead_by clock (beginning_in e.counter packet))
     ++ ended_lines options (place_at index e) (entered_at options index clock e packet)
 
--- those of the units that ended in a window
+-- those of a window
 abbrev pub units_of : ViewOptions → ℕ → EntryState → List ℕ
-units_of options window e = unit_lines options window (place_at 0 e) e.tally
+units_of options window e = tally_lines options window (place_at 0 e) e.tally
 
 -- those at the end
 abbrev pub end_lines : ViewOptions → ℕ → ℕ → EntryState → List ℕ
 end_lines options packets window e =
-    unit_lines options window (place_at packets e) (closed window e) ++ closing_lines options (place_at packets e) e.held (closed window e)
+    tally_lines options window (place_at packets e) (closed window e) ++ closing_lines options (place_at packets e) e.held (closed window e)
 
 -- neither buffer held more than its size, and no unit was late
 abbrev pub is_good : EntryState → Bool

@@ -83,7 +83,17 @@ ended_lines options place e =
     excess_lines options (codes "excess") (with_size place TRANSPORT_BYTES) e.transport
     ++ (excess_lines options (codes "main_excess") place e.main ++ late_lines options place e.unit)
 
--- 3. The units that ended in a window: `units number W pid P units N late N slack T`, with the least slack of one
+-- 3. A window: `held number W pid P transport N main N`, the most bytes that were in each buffer when a byte of its packets entered
+
+abbrev pub held_line : ViewOptions → Place → Tally → List ℕ
+held_line options place t = line_of options.json (codes "held")
+    (number_field (codes "number") t.window ∷ number_field (codes "pid") place.pid ∷ number_field (codes "transport") t.window_transport
+    ∷ number_field (codes "main") t.window_main ∷ [])
+
+abbrev pub held_lines : ViewOptions → ℕ → Place → Tally → List ℕ
+held_lines options window place t = if (t.window == window) && nat_lt 0 t.window_transport then held_line options place t else []
+
+-- and the units that ended in it: `units number W pid P units N late N slack T`, with the least slack of one
 
 abbrev pub unit_line : ViewOptions → Place → Tally → List ℕ
 unit_line options place t = line_of options.json (codes "units")
@@ -92,6 +102,9 @@ unit_line options place t = line_of options.json (codes "units")
 
 abbrev pub unit_lines : ViewOptions → ℕ → Place → Tally → List ℕ
 unit_lines options window place t = if (t.window == window) && nat_lt 0 t.window_units then unit_line options place t else []
+
+abbrev pub tally_lines : ViewOptions → ℕ → Place → Tally → List ℕ
+tally_lines options window place t = held_lines options window place t ++ unit_lines options window place t
 
 -- 4. At the end
 

@@ -1,5 +1,6 @@
--- What is counted of a stream: excesses, units, and the units that end in a window.
-use Rattle.std.specs.Prelude.{ℕ, ◌+◌, ◌-◌, ◌^◌, ◌==◌, min, nat_lt, Bool, if◌then◌else◌, Option, Some, None}
+-- What is counted of a stream: excesses, units, and in a window the most that its buffers held and the units that ended.
+use Rattle.std.specs.Prelude.{ℕ, ◌+◌, ◌-◌, ◌^◌, ◌==◌, max, min, nat_lt, Bool, if◌then◌else◌, Option, Some, None}
+use Rattle.stream_buffers.specs.Entering.{EnteredView}
 use Rattle.stream_view.specs.declared.unit_seen.UnitSeen.{UnitSeen}
 use Rattle.stream_report.specs.declared.tally.Tally.{Tally}
 
@@ -11,6 +12,8 @@ none_counted = record {
   late = 0;
   unread = 0;
   window = 0;
+  window_transport = 0;
+  window_main = 0;
   window_units = 0;
   window_late = 0;
   slack = 2 ^ 128 - 1;
@@ -20,9 +23,16 @@ none_counted = record {
 abbrev pub more : ℕ → ℕ → ℕ
 more n count = min (n + count) (2 ^ 64 - 1)
 
--- another window than the last unit's has none yet
+-- another window than the last packet's has none yet
 abbrev pub in_window : Tally → ℕ → Tally
-in_window t window = if t.window == window then t else record t { window = window; window_units = 0; window_late = 0; slack = 2 ^ 128 - 1 }
+in_window t window = if t.window == window then t else record t { window = window; window_transport = 0; window_main = 0; window_units = 0; window_late = 0; slack = 2 ^ 128 - 1 }
+
+-- the most that the buffers held when a packet of the window entered
+abbrev pub grown : Tally → EnteredView → Tally
+grown t e = record t { window_transport = max t.window_transport e.transport_most; window_main = max t.window_main e.main_most }
+
+abbrev pub with_packet : Tally → ℕ → EnteredView → Tally
+with_packet t window e = grown (in_window t window) e
 
 -- a unit is late whose last byte leaves the transport buffer after it is due
 abbrev pub is_late : UnitSeen → Bool

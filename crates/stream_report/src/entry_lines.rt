@@ -242,8 +242,44 @@ fn write_units(
     write_line(text, options.json, "units", &fields)
 }
 
-/// The units that ended in a window, if some did.
-pub(crate) fn write_units_if(
+fn write_held(
+    text: &mut String,
+    options: &ViewOptions,
+    place: &Place,
+    tally: &Tally,
+) -> Result<(), AllocError>
+    ensures { OnOk result (string_bytes text.new
+        ≡ string_bytes text.old ++ spec.held_line options.now place.now tally.now) }
+{
+    let fields = [
+        number("number", u128::from(tally.window)),
+        number("pid", u128::from(place.pid)),
+        number("transport", tally.window_transport),
+        number("main", u128::from(tally.window_main)),
+    ];
+    write_line(text, options.json, "held", &fields)
+}
+
+// The most that the buffers held in a window, if a packet entered in it.
+fn write_held_if(
+    text: &mut String,
+    options: &ViewOptions,
+    window: u64,
+    place: &Place,
+    tally: &Tally,
+) -> Result<(), AllocError>
+    ensures { OnOk result (string_bytes text.new
+        ≡ string_bytes text.old ++ spec.held_lines options.now window place.now tally.now) }
+{
+    if tally.window == window && tally.window_transport > 0 {
+        write_held(text, options, place, tally)
+    } else {
+        Ok(())
+    }
+}
+
+// The units that ended in a window, if some did.
+fn write_units_if(
     text: &mut String,
     options: &ViewOptions,
     window: u64,
@@ -258,6 +294,21 @@ pub(crate) fn write_units_if(
     } else {
         Ok(())
     }
+}
+
+/// What the buffers held in a window, and the units that ended in it.
+pub(crate) fn write_window_if(
+    text: &mut String,
+    options: &ViewOptions,
+    window: u64,
+    place: &Place,
+    tally: &Tally,
+) -> Result<(), AllocError>
+    ensures { OnOk result (string_bytes text.new
+        ≡ string_bytes text.old ++ spec.tally_lines options.now window place.now tally.now) }
+{
+    write_held_if(text, options, window, place, tally)?;
+    write_units_if(text, options, window, place, tally)
 }
 
 fn with_one(ended: u64, under_way: &Option<Excess>) -> u128

@@ -6,7 +6,7 @@ ghost use Rattle.stream_report.specs.Entries as spec;
 ghost use Rattle.stream_report.specs.Entries.{EntryState, IsEntry};
 
 use crate::clocks::{Beginning, LONGEST_STAY, ahead_of, beginning_of, due_at};
-use crate::entry_lines::{Place, write_ahead_if, write_closing, write_ended, write_units_if};
+use crate::entry_lines::{Place, write_ahead_if, write_closing, write_ended, write_window_if};
 use crate::tally::Tally;
 use crate::view_options::ViewOptions;
 use packet_arrival::{PCR_PERIOD, PcrSample};
@@ -143,6 +143,7 @@ fn tally_after(tally: Tally, window: u64, unread: bool, entered: &Entered) -> Ta
 {
     let (transport, main) = excess_counts(entered);
     tally
+        .with_packet(window, entered)
         .with_excesses(transport, main, unread)
         .with_unit_if(window, &entered.unit)
 }
@@ -193,7 +194,7 @@ impl StreamEntry {
         self.tally.with_unit_if(window, &self.buffers.unit())
     }
 
-    /// Appends the line of the units that ended in a window, if some did.
+    /// Appends its lines of a window: what its buffers held, and the units that ended, if some did.
     pub fn write_units(
         &self,
         text: &mut String,
@@ -203,7 +204,7 @@ impl StreamEntry {
         ensures { (e : EntryState) → IsEntry self.now e → OnOk result (string_bytes text.new
             ≡ string_bytes text.old ++ spec.units_of options.now window e) }
     {
-        write_units_if(text, options, window, &self.place(0), &self.tally)
+        write_window_if(text, options, window, &self.place(0), &self.tally)
     }
 
     /// Appends its lines at the end, after so many packets, the last of them in a window.
@@ -219,7 +220,7 @@ impl StreamEntry {
     {
         let tally = self.closed(window);
         let place = self.place(packets);
-        write_units_if(text, options, window, &place, &tally)?;
+        write_window_if(text, options, window, &place, &tally)?;
         write_closing(text, options, &place, &self.buffers, &tally)
     }
 

@@ -1,7 +1,9 @@
 //! What is counted of a stream.
 ghost use Rattle.std.specs.Prelude.{◌≡◌};
+ghost use Rattle.stream_buffers.specs.Entering.{entered_view};
 ghost use Rattle.stream_report.specs.Tallies as spec;
 
+use stream_buffers::Entered;
 use stream_view::UnitSeen;
 
 /// What is counted of a stream. Numbers stop at 2^64 - 1.
@@ -15,8 +17,11 @@ pub struct Tally {
     pub late: u64,
     /// PES packets whose header was not read.
     pub unread: u64,
-    /// The window of the last unit; the units that ended in it, those of them that were late, and the least slack of one.
+    /// The window of the last packet; the most bytes that were in each buffer when one of its packets entered, the units that ended in
+    /// it, those of them that were late, and the least slack of one.
     pub window: u64,
+    pub window_transport: u128,
+    pub window_main: u64,
     pub window_units: u64,
     pub window_late: u64,
     pub slack: u128,
@@ -34,13 +39,15 @@ impl Tally {
             late: 0,
             unread: 0,
             window: 0,
+            window_transport: 0,
+            window_main: 0,
             window_units: 0,
             window_late: 0,
             slack: u128::MAX,
         }
     }
 
-    // With nothing in the window, if it is another one than the last unit's.
+    // With nothing in the window, if it is another one than the last packet's.
     fn in_window(self, window: u64) -> Tally
         ensures { result ≡ spec.in_window self window }
     {
@@ -49,10 +56,24 @@ impl Tally {
         }
         Tally {
             window,
+            window_transport: 0,
+            window_main: 0,
             window_units: 0,
             window_late: 0,
             slack: u128::MAX,
             ..self
+        }
+    }
+
+    /// A packet of a window has entered the buffers.
+    pub fn with_packet(self, window: u64, entered: &Entered) -> Tally
+        ensures { result ≡ spec.with_packet self window (entered_view entered.now) }
+    {
+        let tally = self.in_window(window);
+        Tally {
+            window_transport: tally.window_transport.max(entered.transport_most),
+            window_main: tally.window_main.max(entered.main_most),
+            ..tally
         }
     }
 

@@ -1,7 +1,7 @@
 use Rattle.std.proofs.Common.{◌≡◌, ◌∙◌, ℕ, refl, ap}
 use Rattle.clock27.specs.Arrival.{bytes_from}
 use Rattle.packet_arrival.specs.Rows.{times_of}
-use Rattle.stream_buffers.proofs.Rows.{carried_ended, carried_held}
+use Rattle.stream_buffers.proofs.Rows.{carried_ended, carried_held, main_most_found, transport_most_found}
 use Rattle.stream_buffers.proofs.buffers.StreamBuffers.carry.Goals as goal
 
 pub returns-clause-held : goal.returns-clause-held
@@ -21,3 +21,17 @@ returns-clause-main c = λ h k.
     c.at_constant_rate-row.ensures.times ∙ ap (λ (r : ℕ). bytes_from r c.args.byte c.args.count) (c.from.ensures ∙ k.rx) in
     carried_ended old c.carry-seen.new.self.transport h (times_of c.at_constant_rate-row.result) (bytes_from h.rx c.args.byte c.args.count) c.carry-seen.result c.see.result k times
     seen.buffer old.view.paced.some seen.main seen.last c.see.ensures.ended
+
+pub returns-clause-most : goal.returns-clause-most
+returns-clause-most c = λ h k.
+    let times : times_of c.at_constant_rate-row.result ≡ bytes_from h.rx c.args.byte c.args.count =
+    c.at_constant_rate-row.ensures.times ∙ ap (λ (r : ℕ). bytes_from r c.args.byte c.args.count) (c.from.ensures ∙ k.rx) in
+    transport_most_found c.args.self.now h (times_of c.at_constant_rate-row.result) (bytes_from h.rx c.args.byte c.args.count) c.carry-seen.result.transport k times c.carry-seen.ensures.transport
+
+pub returns-clause-main_most : goal.returns-clause-main_most
+returns-clause-main_most c = λ h k.
+    let old = c.args.self.now in
+    let times : times_of c.at_constant_rate-row.result ≡ bytes_from h.rx c.args.byte c.args.count =
+    c.at_constant_rate-row.ensures.times ∙ ap (λ (r : ℕ). bytes_from r c.args.byte c.args.count) (c.from.ensures ∙ k.rx) in
+    main_most_found old h (times_of c.at_constant_rate-row.result) (bytes_from h.rx c.args.byte c.args.count) c.carry-seen.result.main k times
+    old.view.paced.some c.carry-seen.ensures.main
