@@ -1,5 +1,7 @@
 pub mod Devices
 pub mod Lines
+pub mod Progress
+pub mod Watching
 pub mod Outcomes
 pub mod WholeInput
 pub mod Runs

@@ -1,13 +1,17 @@
 //! A program over the real reader and writers.
-ghost use Rattle.std.specs.Prelude.{◌≡◌, ◌⊎◌};
+ghost use Rattle.std.specs.Prelude.{◌≡◌, ◌⊎◌, codes};
+ghost use Rattle.std.specs.List.{list_any};
 ghost use Rattle.std.specs.Process.{exit_status};
+ghost use Rattle.std.specs.Str.{bytes_eq};
 
 use crate::files::NamedFiles;
 use crate::halt::{Halt, report_halt};
+use crate::watched::Watched;
 use counted_io::{Counted, Sink, Source};
 use std::alloc::Global;
 use std::env;
-use std::io::{BufReader, Error, ErrorKind, Stderr, Stdout};
+use std::fs::metadata;
+use std::io::{BufReader, Error, ErrorKind, IsTerminal, Stderr, Stdin, Stdout};
 use std::process::ExitCode;
 
 /// The room of the input's buffer, in bytes: what one call gives of a pipe. A read of as many bytes or more goes past
@@ -55,6 +59,36 @@ fn without_words<P: Program, E: Sink>(error: Error, faults: &mut E) -> u8
     }
 }
 
+/// Whether the words ask for progress.
+fn ask_for_progress(words: &[&str]) -> bool
+    ensures { result ≡ list_any (λ word. bytes_eq word.now (codes "--progress")) words.now }
+{
+    words.iter().any(|word| *word == "--progress")
+}
+
+/// The bytes of the input, where it is a file.
+fn input_size(rt: &HostRuntime) -> Option<u64> {
+    let known = metadata(rt, "/dev/stdin").ok()?;
+    if known.is_file() {
+        Some(known.len())
+    } else {
+        None
+    }
+}
+
+/// Standard input, which tells how far it has come where the words ask for it and standard error is a terminal.
+fn input_of<'a>(
+    rt: &'a HostRuntime,
+    words: &[&str],
+) -> Watched<Stdin, Counted<Stderr>, &'a HostRuntime> {
+    let to = Counted::new(rt.stderr());
+    if ask_for_progress(words) && rt.stderr().is_terminal() {
+        Watched::telling(rt.stdin(), to, rt, input_size(rt))
+    } else {
+        Watched::silent(rt.stdin(), to, rt)
+    }
+}
+
 /// The status of a program with the words of the command line.
 fn status_of<P: Program>(rt: &HostRuntime, writers: &mut Writers) -> u8 {
     let args = match env::args(rt) {
@@ -69,7 +103,8 @@ fn status_of<P: Program>(rt: &HostRuntime, writers: &mut Writers) -> u8 {
         Ok(texts) => texts,
         Err(_) => return report_halt(&mut writers.faults, Halt::Memory),
     };
-    let Ok(reader) = BufReader::with_capacity(rt.alloc(), INPUT_ROOM, rt.stdin()) else {
+    let input = input_of(rt, &texts);
+    let Ok(reader) = BufReader::with_capacity(rt.alloc(), INPUT_ROOM, input) else {
         return report_halt(&mut writers.faults, Halt::Memory);
     };
     P::run::<HostRuntime, _, Counted<Stdout>, Counted<Stderr>>(

@@ -10,10 +10,10 @@ use counted_io::{Sink, write_part};
 use itoa::Buffer;
 
 /// The room of a line: a name of up to 40 bytes, five numbers of up to 128 bits with a space before each, and LF.
-const ROOM: usize = 256;
+pub(crate) const ROOM: usize = 256;
 
 /// Appends bytes to a line.
-fn append(line: &mut ArrayVec<u8, ROOM>, bytes: &[u8])
+pub(crate) fn append(line: &mut ArrayVec<u8, ROOM>, bytes: &[u8])
     requires { array_vec_len line.old + length bytes.now ≤ 256 }
     ensures items { line.new.items ≡ line.old.items ++ bytes.now }
     ensures len { array_vec_len line.new ≡ array_vec_len line.old + length bytes.now }
@@ -22,7 +22,7 @@ fn append(line: &mut ArrayVec<u8, ROOM>, bytes: &[u8])
 }
 
 /// Appends a space and a number to a line.
-fn append_number(line: &mut ArrayVec<u8, ROOM>, number: u128)
+pub(crate) fn append_number(line: &mut ArrayVec<u8, ROOM>, number: u128)
     requires { array_vec_len line.old + 41 ≤ 256 }
     ensures items { line.new.items ≡ line.old.items ++ (32 ∷ decimal number) }
     ensures len { array_vec_len line.new ≤ array_vec_len line.old + 41 }
@@ -72,11 +72,18 @@ pub fn write_text<W: Sink>(text: &str, to: &mut W) -> Result<(), Halt>
     }
 }
 
+/// Writes bytes, as far as the writer goes.
+pub(crate) fn report_bytes<W: Sink>(to: &mut W, bytes: &[u8])
+    ensures { Reports (writes W.Sink to.old to.new) bytes.now }
+{
+    let _ = write_part(to, bytes);
+}
+
 /// Writes a text, as far as the writer goes.
 pub fn report_text<W: Sink>(to: &mut W, text: &str)
     ensures { Reports (writes W.Sink to.old to.new) text.now }
 {
-    let _ = write_part(to, text.as_bytes());
+    report_bytes(to, text.as_bytes());
 }
 
 /// Writes a line, as far as the writer goes.
@@ -86,5 +93,5 @@ pub fn report_line<W: Sink>(to: &mut W, name: &str, numbers: &[u128])
     ensures { Reports (writes W.Sink to.old to.new) (line_text name.now numbers.now) }
 {
     let text = line(name, numbers);
-    let _ = write_part(to, text.as_slice());
+    report_bytes(to, text.as_slice());
 }
