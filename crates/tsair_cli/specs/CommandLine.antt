@@ -10,6 +10,6 @@ top_app = record (new_app (codes "tsair")) { top = record (new_app (codes "tsair
 abbrev pub times_app : App
 times_app = with_rule (with_rule (with_rule top_app (option_rule (codes "wait"))) (option_rule (codes "ahead"))) (flag_rule (codes "stop"))
 
--- and [--hex] [--slots N] [--switch Q]
+-- and [--hex] [--slots N] [--switch Q] [--progress]
 unfoldable pub tsair_app : App
-tsair_app = with_rule (with_rule (with_rule times_app (flag_rule (codes "hex"))) (option_rule (codes "slots"))) (option_rule (codes "switch"))
+tsair_app = with_rule (with_rule (with_rule (with_rule times_app (flag_rule (codes "hex"))) (option_rule (codes "slots"))) (option_rule (codes "switch"))) (flag_rule (codes "progress"))

@@ -14,7 +14,7 @@ greatest_of option =
     else (if bytes_eq option (codes "--switch") then Some greatest_periods else None)))
 
 abbrev pub is_flag : Text → Bool
-is_flag option = bytes_eq option (codes "--stop") || bytes_eq option (codes "--hex")
+is_flag option = bytes_eq option (codes "--stop") || bytes_eq option (codes "--hex") || bytes_eq option (codes "--progress")
 
 abbrev pub takes_by : Option ℕ → Bool → Option Bool
 takes_by (Some greatest) flag = Some true

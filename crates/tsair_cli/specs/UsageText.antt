@@ -13,4 +13,5 @@ usage_text = concat
     ∷ codes "  --hex                          packets are written as lines of hexadecimal digits\n"
     ∷ codes "  --slots " ∷ range_text 0 greatest_slots ∷ codes "       the number of packets; else those up to the greatest DTS\n"
     ∷ codes "  --switch Q                     the periods of the first plan before the second\n"
+    ∷ codes "  --progress                     how many bytes are read is told each second, on a terminal\n"
     ∷ codes "  --version                      alone: the version, and the kit that proved it\n" ∷ [])

@@ -27,7 +27,8 @@ fn tsair<'a>(alloc: Global) -> Result<Command<'a>, AllocError>
     with_times(alloc)?
         .arg(flag(alloc, "hex"))?
         .arg(option(alloc, "slots"))?
-        .arg(option(alloc, "switch"))
+        .arg(option(alloc, "switch"))?
+        .arg(flag(alloc, "progress"))
 }
 
 /// The values of the options in the words.

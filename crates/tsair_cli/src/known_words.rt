@@ -28,7 +28,7 @@ fn greatest_of(option: &str) -> Option<u64>
 fn is_flag(option: &str) -> bool
     ensures { result ≡ spec.is_flag option.now }
 {
-    option == "--stop" || option == "--hex"
+    option == "--stop" || option == "--hex" || option == "--progress"
 }
 
 impl CommandLine for KnownWords {

@@ -36,6 +36,7 @@ const USAGE: &str = "usage: tsair [OPTIONS] < JOB > PACKETS
   --hex                          packets are written as lines of hexadecimal digits
   --slots 0..1099511627776       the number of packets; else those up to the greatest DTS
   --switch Q                     the periods of the first plan before the second
+  --progress                     how many bytes are read is told each second, on a terminal
   --version                      alone: the version, and the kit that proved it
 ";
 

@@ -14,9 +14,9 @@ rate_app = with_rule (with_rule (with_rule top_app (new_rule (codes "subcommand"
 abbrev pub times_app : App
 times_app = with_rule (with_rule (with_rule rate_app (option_rule (codes "pcr"))) (option_rule (codes "lead"))) (option_rule (codes "declare"))
 
--- and [--make-dts] [--whole]
+-- and [--make-dts] [--whole] [--progress]
 abbrev pub flags_app : App
-flags_app = with_rule (with_rule times_app (flag_rule (codes "make-dts"))) (flag_rule (codes "whole"))
+flags_app = with_rule (with_rule (with_rule times_app (flag_rule (codes "make-dts"))) (flag_rule (codes "whole"))) (flag_rule (codes "progress"))
 
 -- and [--base T] [--network ID:NAME] [--name N:NAME,..]
 abbrev pub names_app : App

@@ -24,7 +24,7 @@ kind_of option =
     else (if bytes_eq option (codes "--stream") then Some FileName else None)))))))))))
 
 abbrev pub is_flag : Text → Bool
-is_flag option = bytes_eq option (codes "--make-dts") || bytes_eq option (codes "--whole")
+is_flag option = bytes_eq option (codes "--make-dts") || bytes_eq option (codes "--whole") || bytes_eq option (codes "--progress")
 
 abbrev pub takes_by : Option ValueKind → Bool → Option Bool
 takes_by (Some kind) flag = Some true

@@ -21,4 +21,5 @@ usage_text = concat
     ∷ codes "  --make-dts                     DTS are made from PTS\n"
     ∷ codes "  --whole                        the input is no capture: its last PES packets are whole\n"
     ∷ codes "  --stream FILE                  with units: those of the streams of this description, while the stream comes\n"
+    ∷ codes "  --progress                     how many bytes are read is told each second, on a terminal\n"
     ∷ codes "  --version                      alone: the version, and the kit that proved it\n" ∷ [])

@@ -29,13 +29,14 @@ fn with_times<'a>(alloc: Global) -> Result<Command<'a>, AllocError>
         .arg(option(alloc, "declare"))
 }
 
-// With the flags that say what the input is.
+// With the flags.
 fn with_flags<'a>(alloc: Global) -> Result<Command<'a>, AllocError>
     ensures { IfOk result (λ c. app_of c ≡ flags_app) }
 {
     with_times(alloc)?
         .arg(flag(alloc, "make-dts"))?
-        .arg(flag(alloc, "whole"))
+        .arg(flag(alloc, "whole"))?
+        .arg(flag(alloc, "progress"))
 }
 
 // With the clock and the names of the new stream.

@@ -61,7 +61,7 @@ fn kind_of(option: &str) -> Option<ValueKind>
 fn is_flag(option: &str) -> bool
     ensures { result ≡ spec.is_flag option.now }
 {
-    option == "--make-dts" || option == "--whole"
+    option == "--make-dts" || option == "--whole" || option == "--progress"
 }
 
 // Whether a text is a value of this kind.

@@ -42,6 +42,7 @@ const USAGE: &str = "usage: tsjob [describe|units|why] [OPTIONS] < PACKETS > JOB
   --make-dts                     DTS are made from PTS
   --whole                        the input is no capture: its last PES packets are whole
   --stream FILE                  with units: those of the streams of this description, while the stream comes
+  --progress                     how many bytes are read is told each second, on a terminal
   --version                      alone: the version, and the kit that proved it
 ";
 

@@ -1,5 +1,5 @@
 -- The options that the program knows, and the values that each takes.
-use Rattle.std.specs.Prelude.{ℕ, Bool, true, false, if◌then◌else◌, Option, Some, None, codes, is_some, option_and_then}
+use Rattle.std.specs.Prelude.{ℕ, ◌||◌, Bool, true, false, if◌then◌else◌, Option, Some, None, codes, is_some, option_and_then}
 use Rattle.std.specs.Str.{bytes_eq}
 use Rattle.devices.specs.Options.{decimal, within}
 use Rattle.word_faults.specs.CommandLine.{CommandLine, Text}
@@ -12,7 +12,7 @@ range_of option =
     else (if bytes_eq option (codes "--window") then Some (least_window, greatest_window) else None)
 
 abbrev pub is_flag : Text → Bool
-is_flag option = bytes_eq option (codes "--json")
+is_flag option = bytes_eq option (codes "--json") || bytes_eq option (codes "--progress")
 
 abbrev pub takes_by : Option (ℕ × ℕ) → Bool → Option Bool
 takes_by (Some range) flag = Some true

@@ -10,4 +10,5 @@ usage_text = concat
     ∷ codes "  --rate " ∷ range_text least_rate greatest_rate ∷ codes "       the rate of the stream in bits a second\n"
     ∷ codes "  --window " ∷ range_text least_window greatest_window ∷ codes "           the length of a window in ms; else 1000\n"
     ∷ codes "  --json                         a JSON object a line\n"
+    ∷ codes "  --progress                     how many bytes are read is told each second, on a terminal\n"
     ∷ codes "  --version                      alone: the version, and the kit that proved it\n" ∷ [])

@@ -17,7 +17,8 @@ fn tsview<'a>(alloc: Global) -> Result<Command<'a>, AllocError>
         .no_binary_name(true)
         .arg(option(alloc, "rate"))?
         .arg(option(alloc, "window"))?
-        .arg(flag(alloc, "json"))
+        .arg(flag(alloc, "json"))?
+        .arg(flag(alloc, "progress"))
 }
 
 /// The values of the options in the words.

@@ -22,13 +22,20 @@ fn range_of(option: &str) -> Option<(u64, u64)>
     }
 }
 
+// Whether an option takes no value.
+fn is_flag(option: &str) -> bool
+    ensures { result ≡ spec.is_flag option.now }
+{
+    option == "--json" || option == "--progress"
+}
+
 impl CommandLine for KnownWords {
     ghost known = { λ _. spec.known_words };
 
     fn takes_value(self, option: &str) -> Option<bool> {
         match range_of(option) {
             Some(_) => Some(true),
-            None if option == "--json" => Some(false),
+            None if is_flag(option) => Some(false),
             None => None,
         }
     }

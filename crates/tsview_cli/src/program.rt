@@ -26,6 +26,7 @@ const USAGE: &str = "usage: tsview --rate R [OPTIONS] < PACKETS
   --rate 100000..100000000       the rate of the stream in bits a second
   --window 10..3600000           the length of a window in ms; else 1000
   --json                         a JSON object a line
+  --progress                     how many bytes are read is told each second, on a terminal
   --version                      alone: the version, and the kit that proved it
 ";
 
