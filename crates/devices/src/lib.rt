@@ -28,6 +28,6 @@ pub use meter::Meter;
 pub use options::{
     flag, is_given, number_given, number_if_given, number_in, number_option, option, text_of,
 };
-pub use piece_taker::{PieceTaker, take_input};
+pub use piece_taker::{LONGEST_INPUT, PieceTaker, new_piece, read_piece, size_within, take_input};
 pub use watched::Watched;
 pub use whole_input::read_whole;

@@ -8,7 +8,7 @@ use counted_io::{Source, read_part};
 use std::alloc::Global;
 
 /// The greatest number of bytes of an input.
-const LONGEST_INPUT: usize = 1 << 40;
+pub const LONGEST_INPUT: usize = 1 << 40;
 
 /// What takes the bytes of an input, piece by piece.
 pub trait PieceTaker {
@@ -25,20 +25,20 @@ pub trait PieceTaker {
         ensures memory { IfErr result (λ halt. halt ≡ Halt.Memory) };
 }
 
-/// A buffer of this size.
-fn buffer(alloc: Global, size: usize) -> Result<Vec<u8>, Halt>
-    ensures ok { IfOk result (λ buffer. length buffer.items ≡ size) }
+/// A piece of this many bytes.
+pub fn new_piece(alloc: Global, size: usize) -> Result<Vec<u8>, Halt>
+    ensures ok { IfOk result (λ piece. length piece.items ≡ size) }
     ensures err { IfErr result (λ halt. halt ≡ Halt.Memory) }
 {
     match vec![in alloc; 0u8; size] {
-        Ok(buffer) => Ok(buffer),
+        Ok(piece) => Ok(piece),
         Err(_) => Err(Halt::Memory),
     }
 }
 
 /// Reads the next bytes of the input into a piece, fewer than it holds only where the input ends, and returns their
 /// number.
-fn read_piece<R: Source>(input: &mut R, piece: &mut [u8]) -> Result<usize, Halt>
+pub fn read_piece<R: Source>(input: &mut R, piece: &mut [u8]) -> Result<usize, Halt>
     ensures { ReadsNext (reads R.Source input.old input.new) piece.new result }
 {
     match read_part(input, piece) {
@@ -48,7 +48,7 @@ fn read_piece<R: Source>(input: &mut R, piece: &mut [u8]) -> Result<usize, Halt>
 }
 
 /// The size of an input, if it is no longer than the longest input.
-fn within(size: usize) -> Result<usize, Halt>
+pub fn size_within(size: usize) -> Result<usize, Halt>
     ensures ok { IfOk result (λ n. (n ≡ size) × (size ≤ longest_input)) }
     ensures err { IfErr result (λ halt. (halt ≡ Halt.Read) × (longest_input < size)) }
 {
@@ -78,7 +78,7 @@ fn take_pieces<R: Source, T: PieceTaker>(
         taker.take_piece(&piece[..n])?;
         size += n;
         if n < piece.len() {
-            return within(size);
+            return size_within(size);
         }
     }
     Err(Halt::Read)
@@ -99,6 +99,6 @@ pub fn take_input<R: Source, T: PieceTaker>(
     ensures { TakesInput (λ bytes. T.has_taken taker.old bytes taker.new)
         (reads R.Source input.old input.new) result }
 {
-    let mut piece = buffer(alloc, size)?;
+    let mut piece = new_piece(alloc, size)?;
     take_pieces(input, &mut piece, taker)
 }

@@ -4,42 +4,17 @@ ghost use Rattle.ts_packet.specs.PidList.{cut_packets};
 ghost use Rattle.stream_report.specs.Views.{IsView, ViewState, after_all, end_lines, lines_all, start};
 ghost use Rattle.devices.specs.Devices.{reads, writes};
 ghost use Rattle.devices.specs.Lines.{WritesLine};
-ghost use Rattle.devices.specs.WholeInput.{ReadsNext, TakesInput, longest_input};
+ghost use Rattle.devices.specs.WholeInput.{TakesInput};
 ghost use Rattle.stream_report.specs.declared.view_options.ViewOptions.{ViewOptions};
 ghost use Rattle.tsview_cli.specs.Viewing.{Breaks, Seen, Sees};
 
-use counted_io::{Sink, Source, read_part};
-use devices::{Halt, write_text};
+use counted_io::{Sink, Source};
+use devices::{Halt, LONGEST_INPUT, new_piece, read_piece, size_within, write_text};
 use std::alloc::Global;
 use stream_report::{View, ViewOptions};
 
 /// The size of a piece in bytes: 348 packets, somewhat less than 64 KiB.
 const PIECE: usize = 348 * 188;
-
-/// The greatest number of bytes of an input.
-const LONGEST_INPUT: usize = 1 << 40;
-
-// Reads the next bytes of the input into a piece.
-fn read_piece<R: Source>(input: &mut R, piece: &mut [u8]) -> Result<usize, Halt>
-    ensures { ReadsNext (reads R.Source input.old input.new) piece.new result }
-{
-    match read_part(input, piece) {
-        Ok(n) => Ok(n),
-        Err(_) => Err(Halt::Read),
-    }
-}
-
-// The size of an input, if it is no longer than the longest input.
-fn within(size: usize) -> Result<usize, Halt>
-    ensures ok { IfOk result (λ n. (n ≡ size) × (size ≤ longest_input)) }
-    ensures err { IfErr result (λ halt. (halt ≡ Halt.Read) × (longest_input < size)) }
-{
-    if size <= LONGEST_INPUT {
-        Ok(size)
-    } else {
-        Err(Halt::Read)
-    }
-}
 
 // Views the next piece: the lines that it settles are appended to the text.
 fn view_piece(view: &mut View, piece: &[u8], text: &mut String) -> Result<(), Halt>
@@ -95,7 +70,7 @@ fn view_pieces<R: Source, W: Sink>(
         }
         size += n;
         if n < piece.len() {
-            return within(size);
+            return size_within(size);
         }
     }
     Err(Halt::Read)
@@ -109,17 +84,6 @@ fn end_view(view: &View, left: usize, text: &mut String) -> Result<(), Halt>
 {
     match view.end(left, text) {
         Ok(()) => Ok(()),
-        Err(_) => Err(Halt::Memory),
-    }
-}
-
-// A piece of zero bytes.
-fn new_piece(alloc: Global) -> Result<Vec<u8>, Halt>
-    ensures ok { IfOk result (λ piece. length piece.items ≡ 65424) }
-    ensures err { IfErr result (λ halt. halt ≡ Halt.Memory) }
-{
-    match vec![in alloc; 0u8; PIECE] {
-        Ok(piece) => Ok(piece),
         Err(_) => Err(Halt::Memory),
     }
 }
@@ -162,7 +126,7 @@ pub(crate) fn view_input<R: Source, W: Sink>(
 ) -> Result<bool, Halt>
     ensures { Sees options (reads R.Source input.old input.new) (writes W.Sink output.old output.new) result }
 {
-    let mut piece = match new_piece(alloc) {
+    let mut piece = match new_piece(alloc, PIECE) {
         Ok(piece) => piece,
         Err(halt) => return Err(halt),
     };

@@ -64,12 +64,12 @@ returns-then-n-piece-clause-ok g c = λ s k.
     let piece = take c.in_ok-n.n c.read_piece.new.piece in
     let text : (v : ViewState) → IsView c.loop-size.view v → string_bytes c.view_piece.new.text ≡ lines_all v (cut_packets piece) =
     λ v h. c.in_ok-view_piece.ensures.lines v h ∙ ap (λ (t : List ℕ). t ++ lines_all v (cut_packets piece)) c.loop-size.invariant.none in
-    if_ok (Seen s (between begin end) c.view_piece.new.view) (between old new) c.within.result
+    if_ok (Seen s (between begin end) c.view_piece.new.view) (between old new) c.size_within.result
     (front_end (Seen s (between begin middle) c.loop-size.view) (Seen s (between begin end) c.view_piece.new.view) 188 old mid new
-    c.loop-size.size c.in_ok-n.n c.read_piece.new.piece c.within.result (c.loop-size.invariant.front s k) c.in_ok-n.ensures
+    c.loop-size.size c.in_ok-n.n c.read_piece.new.piece c.size_within.result (c.loop-size.invariant.front s k) c.in_ok-n.ensures
     (seen_then s c.loop-size.view c.view_piece.new.view begin middle end (string_bytes c.view_piece.new.text) piece text
     c.in_ok-view_piece.ensures.view c.in-Ok.ensures.written.0 c.in-Ok.ensures.written.1)
-    (omega (arith, c.if-n-piece.true)) c.within.ensures.ok c.within.ensures.err)
+    (omega (arith, c.if-n-piece.true)) c.size_within.ensures.ok c.size_within.ensures.err)
 
 pub returns-then-n-piece-clause-err : goal.returns-then-n-piece-clause-err
 returns-then-n-piece-clause-err g c = λ s k.
@@ -85,10 +85,10 @@ returns-then-n-piece-clause-err g c = λ s k.
     let seen = seen_then s c.loop-size.view c.view_piece.new.view begin middle end (string_bytes c.view_piece.new.text) piece text
     c.in_ok-view_piece.ensures.view c.in-Ok.ensures.written.0 c.in-Ok.ensures.written.1 in
     if_err (Seen s (between begin end) c.view_piece.new.view) s c.view_piece.new.view old mid new (between begin end)
-    c.loop-size.size c.in_ok-n.n c.read_piece.new.piece c.loop-size.view (between begin middle) c.within.result (c.loop-size.invariant.front s k) c.in_ok-n.ensures seen c.within.ensures.err
+    c.loop-size.size c.in_ok-n.n c.read_piece.new.piece c.loop-size.view (between begin middle) c.size_within.result (c.loop-size.invariant.front s k) c.in_ok-n.ensures seen c.size_within.ensures.err
     (front_end (Seen s (between begin middle) c.loop-size.view) (Seen s (between begin end) c.view_piece.new.view) 188 old mid new
-    c.loop-size.size c.in_ok-n.n c.read_piece.new.piece c.within.result (c.loop-size.invariant.front s k) c.in_ok-n.ensures seen
-    (omega (arith, c.if-n-piece.true)) c.within.ensures.ok c.within.ensures.err)
+    c.loop-size.size c.in_ok-n.n c.read_piece.new.piece c.size_within.result (c.loop-size.invariant.front s k) c.in_ok-n.ensures seen
+    (omega (arith, c.if-n-piece.true)) c.size_within.ensures.ok c.size_within.ensures.err)
 
 pub returns-in_err-n-clause-err : goal.returns-in_err-n-clause-err
 returns-in_err-n-clause-err g c = λ s k.
