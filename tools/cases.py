@@ -4,6 +4,7 @@ that run the programs take their inputs here."""
 import os
 import re
 import shlex
+import socket
 import subprocess
 from pathlib import Path
 
@@ -15,6 +16,24 @@ def run(program, words, given, **how):
     """Status, output and fault lines of a program with these words and this input."""
     done = subprocess.run([program, *words], input=given, stdout=subprocess.PIPE, stderr=subprocess.PIPE, timeout=60, **how)
     return done.returncode, done.stdout, done.stderr
+
+
+def byte_by_byte(program, words, given):
+    """The answer where each read gives one byte: a socket of messages of one byte each."""
+    ours, theirs = socket.socketpair(socket.AF_UNIX, socket.SOCK_SEQPACKET)
+    with theirs:
+        running = subprocess.Popen([program, *words], stdin=theirs, stdout=subprocess.PIPE, stderr=subprocess.PIPE)
+    if os.fork() == 0:
+        try:
+            for byte in given:
+                ours.send(bytes([byte]))
+        except OSError:
+            pass
+        os._exit(0)
+    ours.close()
+    out, told = running.communicate(timeout=60)
+    os.wait()
+    return running.returncode, out, told
 
 
 def commands(case):
