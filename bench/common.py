@@ -53,6 +53,52 @@ int main(void) {
 }
 """
 
+# A program that holds its input, as one must that judges all of it before it writes: pieces of 256 KiB are read into the same memory and
+# copied from there into rooms of their own, 64 KiB each; then so many packets are made of these bytes, 184 each, and written as by the limit.
+HOLD = r"""
+#include <stdlib.h>
+#include <string.h>
+#include <unistd.h>
+enum { PACKET = 188, PAYLOAD = 184, HEADER = PACKET - PAYLOAD, READ = 1 << 18, ROOM = 1 << 16, WRITTEN = 348 * PACKET };
+static unsigned char from[READ], to[WRITTEN];
+static int is_written(size_t size) {
+    ssize_t n = 0;
+    for (size_t sent = 0; sent < size; sent += n)
+        if ((n = write(1, to + sent, size - sent)) <= 0)
+            return 0;
+    return 1;
+}
+int main(int count, char **words) {
+    size_t packets = strtoull(words[1], 0, 10), rooms = 0, size = 0;
+    unsigned char **held = malloc((1 << 20) * sizeof *held);
+    for (ssize_t n; (n = read(0, from, READ)) > 0;)
+        for (ssize_t at = 0, part; at < n; at += part) {
+            size_t place = size % ROOM;
+            if (place == 0)
+                held[rooms++] = malloc(ROOM);
+            part = n - at < ROOM - (ssize_t)place ? n - at : ROOM - (ssize_t)place;
+            memcpy(held[rooms - 1] + place, from + at, part);
+            size += part;
+        }
+    size_t filled = 0;
+    for (size_t packet = 0, at = 0; packet < packets; packet++, at += PAYLOAD) {
+        if (at + ROOM >= size)
+            at = 0;
+        size_t place = at % ROOM, part = ROOM - place < PAYLOAD ? ROOM - place : PAYLOAD;
+        memset(to + filled, 0x47, HEADER);
+        memcpy(to + filled + HEADER, held[at / ROOM] + place, part);
+        memcpy(to + filled + HEADER + part, held[at / ROOM + 1], PAYLOAD - part);
+        filled += PACKET;
+        if (filled == WRITTEN) {
+            if (!is_written(filled))
+                return 1;
+            filled = 0;
+        }
+    }
+    return !is_written(filled);
+}
+"""
+
 
 class Spent(NamedTuple):
     """Processor time in seconds: the program's own, and the system's for it."""
@@ -94,6 +140,15 @@ def limit_spent(packets):
         source.write_text(LIMIT)
         subprocess.run(["cc", "-O2", "-o", binary, source], check=True)
         return least([binary], packets)
+
+
+def hold_spent(job, count):
+    """What the machine takes at least for a program that holds this job before it writes so many packets."""
+    with tempfile.TemporaryDirectory() as scratch:
+        source, binary = Path(scratch, "hold.c"), Path(scratch, "hold")
+        source.write_text(HOLD)
+        subprocess.run(["cc", "-O2", "-o", binary, source], check=True)
+        return least([binary, count], job)
 
 
 def beside(name, count, ours, limit, copy):

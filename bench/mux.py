@@ -1,15 +1,15 @@
 #!/usr/bin/env python3
 """mux.py BINARY: the speed and the memory of `mux` on jobs of about 46 MB and 150 MB with one stream of audio, of as many packets with
 32, and of television (one stream of video, two of audio), all tables and a plan by `plan`, as processor time, of the whole job and of its
-slots with their output alone, beside a program that reads, copies and writes as many packets, and a copy of them in memory. It needs
-cc."""
+slots with their output alone, beside a program that reads, copies and writes as many packets, one that holds the job and then writes as
+many, and a copy of them in memory. It needs cc."""
 
 import subprocess
 import sys
 import tempfile
 from pathlib import Path
 
-from common import SIZES, TELEVISION_SIZES, audio_job, beside, copy_seconds, least, limit_spent, peak_bytes, television_job
+from common import SIZES, TELEVISION_SIZES, audio_job, beside, copy_seconds, hold_spent, least, limit_spent, peak_bytes, television_job
 
 binary = sys.argv[1]
 jobs = (
@@ -26,6 +26,7 @@ for name, sizes, job in jobs:
                 subprocess.run([binary, "mux"], stdin=source, stdout=sink, check=True)
             count = packets.stat().st_size // 188
             ours, limit, copy = least([binary, "mux"], made), limit_spent(packets), copy_seconds(count)
+            hold = hold_spent(made, count)
             slots = ours.whole - least([binary, "mux", "--slots", "0"], made).whole
             size, most = made.stat().st_size / 1e6, peak_bytes([binary, "mux"], made) / 1e6
             print(beside(f"mux, {name}, {size:.0f} MB of job", count, ours, limit, copy) + f"; the slots alone {slots:.3f} s,"

@@ -45,7 +45,7 @@ is_version words = false
 
 -- the program, its version, and the kit that proved it
 abbrev pub version_text : Text → Text
-version_text program = program ++ codes " 1.0, rattle-kit-13b, logic dac8208d650f15bf\n"
+version_text program = program ++ codes " 1.0, rattle-kit-13f, logic dac8208d650f15bf\n"
 
 -- nothing is read, and this text is the output
 pub record Printed (text : Text) (input output faults : Device) (status : ℕ) : Type 0 where

@@ -23,7 +23,7 @@ fn version_text(alloc: Global, program: &str) -> Result<String, AllocError>
 {
     let mut text = String::new(alloc);
     text.push_str(program)?;
-    text.push_str(" 1.0, rattle-kit-13b, logic dac8208d650f15bf\n")?;
+    text.push_str(" 1.0, rattle-kit-13f, logic dac8208d650f15bf\n")?;
     Ok(text)
 }
 
