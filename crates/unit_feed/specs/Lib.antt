@@ -1,4 +1,5 @@
 pub mod Clocks
+pub mod EachStream
 pub mod Feeding
 pub mod Laws
 pub mod Maps
