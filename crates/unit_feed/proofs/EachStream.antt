@@ -162,7 +162,7 @@ first_at [] k x at = absurd cc
 first_at (s ∷ streams) zero x at = (s, refl, let is : key s ≡ x = cc in is)
 first_at (s ∷ streams) (suc k) x at = first_at streams k x at
 
-first_stream : (streams : List FedStreamView) (k : ℕ) → k < length streams → (s : FedStreamView) × (slice_get streams k ≡ Some s)
+pub first_stream : (streams : List FedStreamView) (k : ℕ) → k < length streams → (s : FedStreamView) × (slice_get streams k ≡ Some s)
 first_stream [] k below = absurd (let no : ⊥ = omega (arith, below) in no)
 first_stream (s ∷ streams) zero below = (s, refl)
 first_stream (s ∷ streams) (suc k) below = let less : k < length streams = omega (arith, below) in first_stream streams k less

@@ -28,7 +28,7 @@ use Rattle.unit_feed.specs.declared.feed_fault.NewMap.{NewMap}
 use Rattle.unit_feed.specs.declared.found_pcr.FoundPcr.{FoundPcr}
 use Rattle.unit_feed.specs.declared.origin.Origin.{Origin}
 use Rattle.unit_feed.proofs.FedEach.{Event, Finds, Shows, after_event, fed_event, fed_events}
-use Rattle.unit_feed.proofs.FedSteps.{others_if, own_number, own_unit}
+use Rattle.unit_feed.proofs.FedSteps.{given_others, own_unit}
 use Rattle.unit_feed.proofs.ListedStreams.{AreKeys, Key, PlacedAt, get_set_other, get_set_same, key, key_at, keys, passed, placed, set_keys}
 
 -- 1. The unit that is given
@@ -90,11 +90,6 @@ given_rises d o n before (Some u) =
     subst (λ (us : List AccessUnit). Rises before (last_dts before (at_moment d.greatest base before u.unit)) us) (sym (append-nil (fed_if n (n, at_moment d.greatest base before u.unit))))
     (unless_rises n before d.greatest (unit_fault base before u.unit) (unit_at base before u.unit) (λ none. above base before u.unit none))
 
-others_given : (d : Due) (o : Origin) (n m : ℕ) (before : Option ℕ) (w : Option CarriedUnit) → m ≢ n → units_fed m (option_to_list (fed_with d o n before w)) ≡ []
-unfolding fed_with
-others_given d o n m before None other = refl
-others_given d o n m before (Some u) other = append-nil (fed_if m (n, at_moment d.greatest (base_of d o u) before u.unit)) ∙ others_if m n (at_moment d.greatest (base_of d o u) before u.unit) other
-
 -- 2. A step, of each stream
 
 -- the streams have the same keys, and of each what is fed rises
@@ -131,7 +126,7 @@ gives_at : (feed next : FeedView) (fed : List Fed) (j k : ℕ) (s t r : FedStrea
     slice_get feed.streams k ≡ Some r → ((eqb k j ≡ true) × (k ≡ j)) ⊎ ((eqb k j ≡ false) × (k ≢ j)) → (x : FedStreamView) × (slice_get next.streams k ≡ Some x) × Rises r.before x.before (units_fed k fed)
 gives_at feed next fed j k s t r w are g few at (inr apart) =
     let number : s.number ≡ j = are.number j (key s) (key_at feed.streams j s g.at) in
-    let none : units_fed k fed ≡ [] = g.units k few ∙ others_given g.due g.origin s.number k s.before w (λ same. apart.1 (same ∙ number)) in (
+    let none : units_fed k fed ≡ [] = g.units k few ∙ given_others g.due g.origin s.number k s.before w (λ same. apart.1 (same ∙ number)) in (
       r,
       ap (λ (ss : List FedStreamView). slice_get ss k) g.streams ∙ get_set_other feed.streams j k (stream_with g.due g.origin t w) apart.1 ∙ at,
       subst (λ (us : List AccessUnit). Rises r.before r.before us) (sym none) (nothing_rises r.before),
@@ -291,7 +286,7 @@ last_none d o n (t ∷ ts) others =
     let w = ended_unit false t.units.unit in
     let rest = fed_last d (origin_after d o w) ts in
     flat_map-append (fed_if n) (option_to_list (fed_by d o t w)) rest
-    ∙ ap (λ (us : List AccessUnit). us ++ units_fed n rest) (others_given d o t.number n t.before w (others zero t refl))
+    ∙ ap (λ (us : List AccessUnit). us ++ units_fed n rest) (given_others d o t.number n t.before w (others zero t refl))
     ∙ last_none d (origin_after d o w) n ts (λ i u at. others (suc i) u at)
 
 -- the only stream of a number
@@ -315,7 +310,7 @@ last_rises d o (suc k) s (t ∷ ts) only at =
     let w = ended_unit false t.units.unit in
     let one = option_to_list (fed_by d o t w) in
     let rest = fed_last d (origin_after d o w) ts in
-    let none : units_fed s.number one ≡ [] = others_given d o t.number s.number t.before w (λ same. let no : ⊥ = omega (arith, only zero t refl same) in no) in
+    let none : units_fed s.number one ≡ [] = given_others d o t.number s.number t.before w (λ same. let no : ⊥ = omega (arith, only zero t refl same) in no) in
     let units : units_fed s.number (one ++ rest) ≡ units_fed s.number rest =
     flat_map-append (fed_if s.number) one rest ∙ ap (λ (us : List AccessUnit). us ++ units_fed s.number rest) none in
     subst (λ (us : List AccessUnit). RiseFrom s.before us) (sym units)

@@ -6,6 +6,7 @@ pub mod FedEach
 pub mod FedFirst
 pub mod FedRises
 pub mod EachStream
+pub mod MovedApart
 pub mod FedMaps
 pub mod FedPackets
 pub mod FedStreams

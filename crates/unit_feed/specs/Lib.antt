@@ -3,6 +3,7 @@ pub mod EachStream
 pub mod Feeding
 pub mod Laws
 pub mod Maps
+pub mod MovedApart
 pub mod Origins
 pub mod StreamFeeding
 pub mod Ticks

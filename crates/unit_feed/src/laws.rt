@@ -2,6 +2,7 @@
 
 ghost use Rattle.unit_feed.specs.EachStream.{EachRises, FedByOneConstant, ReleasesRise};
 ghost use Rattle.unit_feed.specs.Laws.{FedAsCarried, FedInTurn, FedWithoutClock};
+ghost use Rattle.unit_feed.specs.MovedApart.{FedApart};
 ghost use Rattle.unit_feed.specs.StreamFeeding.{FedIsBeginning};
 ghost use Rattle.unit_feed.specs.Ticks.{TicksArePast};
 
@@ -21,6 +22,13 @@ pub fn fed_as_carried()
 /// known or not; with it the first unit of all is due at `earliest`.
 pub fn fed_by_one_constant()
     ensures { FedByOneConstant }
+{}
+
+/// Where nothing is told, the units fed of all streams of a description are the units of their PIDs as any constant moves
+/// them, with one time added to all stamps of all streams: as plain numbers, where the streams begin no further apart than the
+/// first unit of all is due after moment 0, and each unit is one PES packet.
+pub fn fed_apart()
+    ensures { FedApart }
 {}
 
 /// The DTS of the units fed of one stream rise, whatever comes, and so none is released before the one before it.
