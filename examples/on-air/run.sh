@@ -9,16 +9,28 @@ tsjob=$1 tsmux=$2 tsair=$3 seconds=${4:-60}
 work=$here/../../out/on-air
 mkdir -p "$work"
 stream=${5:-$work/in.ts}
-maxrate=600000 bufsize=600000
+maxrate=600000 bufsize=600000 audiorate=128000
 if [ $# -lt 5 ]; then
     ffmpeg -nostdin -loglevel error -y -f lavfi -i "testsrc2=size=320x240:rate=25" -f lavfi -i "sine=frequency=440:sample_rate=48000" -t "$seconds" \
-        -c:v libx264 -b:v 600k -maxrate $maxrate -bufsize $bufsize -g 25 -c:a mp2 -b:a 128k -f mpegts "$stream"
+        -c:v libx264 -b:v 600k -maxrate $maxrate -bufsize $bufsize -g 25 -c:a mp2 -b:a $audiorate -f mpegts "$stream"
 fi
-"$tsjob" describe --whole < "$stream" > "$work/description"
-# The pictures of our own stream are declared by what holds its encoder, whatever comes: in any time no more than the buffer and the greatest rate in that
-# time, in packets of 184 bytes of payload, with one more packet and a header for each picture; a picture has at most the whole buffer.
+"$tsjob" describe --whole --declare time < "$stream" > "$work/description"
+# Our own stream is declared by what holds its coders, whatever comes. Of the pictures: in any time no more than the buffer and the greatest rate in that
+# time, in packets of 184 bytes of payload, with one more packet and a header for each picture; a picture has at most the whole buffer. Of the sound: a frame
+# of layer II has 1,152 samples, 24 ms, and at a constant rate as many bytes each; ffmpeg puts as many into a PES packet as 2,930 bytes hold. So each unit has
+# the same bytes, and comes the same time after the one before it.
 if [ $# -lt 5 ]; then
-    sed -i "/^burst_packets/s/=.*/= $((bufsize / 8 / 184 + 3))/; /^pace/s/=.*/= $((maxrate * 188 / 184 + 25 * 188 * 8 * 10 / 9))/; 0,/^size/s/^size = .*/size = $((bufsize / 8))/" "$work/description"
+    frame=$((audiorate * 1152 / 48000 / 8))
+    frames=$((2930 / frame))
+    packets=$(((19 + frames * frame + 183) / 184))
+    distance=$((frames * 1152 * 90000 / 48000))
+    awk -v RS= -v ORS='\n\n' -v burst=$((bufsize / 8 / 184 + 3)) -v pace=$((maxrate * 188 / 184 + 25 * 188 * 8 * 10 / 9)) -v size=$((bufsize / 8)) \
+        -v audio_burst=$packets -v audio_pace=$(((packets * 135360000 + distance - 1) / distance)) -v audio_size=$((frames * frame)) -v distance=$distance '
+        function put(key, value) { sub("\n" key " = [^\n]*", "\n" key " = " value) }
+        /^\[\[stream\]\]/ && /\ntype = 27$/ { put("burst_packets", burst); put("pace", pace); put("size", size) }
+        /^\[\[stream\]\]/ && /\ntype = [34]$/ { put("burst_packets", audio_burst); put("pace", audio_pace); put("size", audio_size); put("interval", distance) }
+        { print }' "$work/description" > "$work/declared"
+    mv "$work/declared" "$work/description"
 fi
 rate=$(sed -n 's/^rate = //p' "$work/description")
 until "$tsmux" plan < "$work/description" > "$work/plan" 2> "$work/no-plan"; do

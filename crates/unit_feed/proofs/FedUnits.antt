@@ -158,7 +158,7 @@ due_from e = record { earliest = e; greatest = None }
 abbrev single : ℕ → Origin → FedStreamView → FeedView
 single e o s = record { earliest = e; origin = o; shown = None; ticked = 0; maps = []; streams = s ∷ [] }
 
-other_role : (pid : ℕ) (f : FindingView) → has_pid pid f.pid ≡ false → role_of pid f ≡ Ignored
+pub other_role : (pid : ℕ) (f : FindingView) → has_pid pid f.pid ≡ false → role_of pid f ≡ Ignored
 unfolding role_of
 other_role pid f other = rw other refl
 
@@ -219,25 +219,25 @@ unfolding unit_at
 unit_dts base before u = refl
 
 -- a constant that is fixed where no clock has jumped
-abbrev fixed : ℕ → Origin
+abbrev pub fixed : ℕ → Origin
 fixed base = record { now = Some base; since = 0; before = None }
 
 not_before : (n : ℕ) → nat_lt n 0 ≡ false
 not_before n = grind (arith, nat_tests)
 
-base_first : (packet : ℕ) → base_for no_origin packet ≡ None
+pub base_first : (packet : ℕ) → base_for no_origin packet ≡ None
 unfolding base_for
 base_first packet = rw (not_before packet) refl
 
-base_fixed : (base packet : ℕ) → base_for (fixed base) packet ≡ Some base
+pub base_fixed : (base packet : ℕ) → base_for (fixed base) packet ≡ Some base
 unfolding base_for
 base_fixed base packet = rw (not_before packet) refl
 
-origin_first : (base packet : ℕ) → origin_with no_origin packet base ≡ fixed base
+pub origin_first : (base packet : ℕ) → origin_with no_origin packet base ≡ fixed base
 unfolding origin_with
 origin_first base packet = rw (not_before packet) refl
 
-origin_fixed : (base packet : ℕ) → origin_with (fixed base) packet base ≡ fixed base
+pub origin_fixed : (base packet : ℕ) → origin_with (fixed base) packet base ≡ fixed base
 unfolding origin_with
 origin_fixed base packet = rw (not_before packet) refl
 

@@ -1,4 +1,12 @@
 pub mod FedUnits
+pub mod ListedStreams
+pub mod OwnUnits
+pub mod FedSteps
+pub mod FedEach
+pub mod FedFirst
+pub mod FedRises
+pub mod EachStream
+pub mod MovedApart
 pub mod FedMaps
 pub mod FedPackets
 pub mod FedStreams

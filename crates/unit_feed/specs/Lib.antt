@@ -1,7 +1,9 @@
 pub mod Clocks
+pub mod EachStream
 pub mod Feeding
 pub mod Laws
 pub mod Maps
+pub mod MovedApart
 pub mod Origins
 pub mod StreamFeeding
 pub mod Ticks

@@ -1,10 +1,11 @@
 -- What goes out of what a stream feeds: the records of its units and of ticks, and a line for each unit that has no moment, each loss of
 -- packets, each new map and each jump of the clock.
-use Rattle.std.specs.Prelude.{ℕ, Bool, true, false, List, [], ◌∷◌, Ok, Err, codes, slice_get, unwrap_or}
-use Rattle.std.specs.List.{flat_map, list_any}
+use Rattle.std.specs.Prelude.{ℕ, List, [], ◌∷◌, Ok, Err, codes, slice_get, unwrap_or}
+use Rattle.std.specs.List.{flat_map}
 use Rattle.unit_records.specs.Records.{record_bytes}
 use Rattle.stream_units.specs.declared.stamps.StampFault.{StampFault}
 use Rattle.stream_units.specs.declared.stamps.StampFault.TheVariants.{DtsNotIncreasing, PtsOutOfRange, DtsTooFar}
+pub use Rattle.unit_feed.specs.EachStream.{has_fault, have_fault}
 use Rattle.unit_feed.specs.Feeding.{Fed}
 use Rattle.unit_feed.specs.declared.feed_fault.FeedFault.{FeedFault}
 use Rattle.unit_feed.specs.declared.feed_fault.ClockJump.{ClockJump}
@@ -61,10 +62,3 @@ lines_of pids (n, Err fault) = fault_line (pid_at pids n) fault ∷ []
 
 abbrev pub fed_lines : List ℕ → List Fed → List (List ℕ)
 fed_lines pids fed = flat_map (lines_of pids) fed
-
-unfoldable pub has_fault : Fed → Bool
-has_fault (n, Ok u) = false
-has_fault (n, Err fault) = true
-
-abbrev pub have_fault : List Fed → Bool
-have_fault fed = list_any has_fault fed

@@ -149,7 +149,7 @@ fn report_fault<E: Sink>(faults: &mut E, pid: u16, fault: FeedFault)
 }
 
 // Reports what is fed where it is no unit at its moment, and returns whether it is none.
-#[tactic(auto, unfolding(crate::specs::FedLines::has_fault))]
+#[tactic(auto, unfolding(unit_feed::specs::EachStream::has_fault))]
 fn tell_one<E: Sink>(faults: &mut E, pids: &[u16], fed: &(u8, Result<Unit, FeedFault>)) -> bool
     ensures tells { Tells (writes E.Sink faults.old faults.new).before (writes E.Sink faults.old faults.new).after
         (spec.lines_of pids.now fed.now) }
