@@ -2,7 +2,7 @@
 --
 -- The bytes of a stream arrive in time, and the last clock reference of a program before a unit says what the clock shows then. A time is
 -- counted in bytes at a constant rate, and in ticks of 27 MHz on lines: a byte of a rate of 216,000,000 bits a second is a tick.
-use Rattle.std.specs.Prelude.{ℕ, ◌+◌, ◌-◌, ◌*◌, ◌/◌, ◌%◌, ◌^◌, min, nat_eq, nat_lt, Bool, if◌then◌else◌, List, [], Option, Some, None, option_and_then, Result, Ok, Err}
+use Rattle.std.specs.Prelude.{ℕ, ◌+◌, ◌-◌, ◌*◌, ◌/◌, ◌%◌, ◌^◌, max, min, nat_eq, nat_lt, Bool, if◌then◌else◌, List, [], Option, Some, None, option_and_then, Result, Ok, Err}
 use Rattle.std.specs.Map.{lookup}
 use Rattle.indexmap.specs.IndexMap.{insert_entry}
 use Rattle.clock27.specs.Reference.{Reference}
@@ -18,7 +18,7 @@ use Rattle.stream_arrival.specs.declared.arrival.Arrival.TheVariants.{Unknown, A
 use Rattle.packet_arrival.specs.declared.clock.TheConstants.{PCR_PERIOD}
 use Rattle.packet_arrival.specs.declared.clock.PcrSample.{PcrSample}
 use Rattle.stream_view.specs.declared.unit_seen.DueTime.{DueTime}
-use Rattle.stream_report.specs.declared.clocks.TheConstants.{LAST_PLACE, LONGEST_STAY}
+use Rattle.stream_report.specs.declared.clocks.TheConstants.{LAST_TICK, LONGEST_STAY}
 use Rattle.stream_report.specs.declared.clocks.Beginning.{Beginning}
 use Rattle.stream_report.specs.declared.clocks.Beginning.TheVariants.{Nothing, Unread, Stamped}
 
@@ -88,14 +88,19 @@ beginning_of packet = by_payload packet.header.payload_unit_start_indicator pack
 abbrev pub ahead_of : PcrSample → ℕ → ℕ
 ahead_of clock dts = (dts % 2 ^ 33 * 300 + PCR_PERIOD - clock.ticks % PCR_PERIOD) % PCR_PERIOD
 
--- when it is due: before the reference, where that is nearer; and no later than a unit may stay after it. In units of time at its
--- buffer, 216,000,000 of which are 8 / (rate * rx) seconds
-abbrev pub due_parts : ℕ → ℕ → PcrSample → ℕ → ℕ
-due_parts rate rx clock dts =
-    if nat_lt (ahead_of clock dts) (PCR_PERIOD / 2) then min clock.byte LAST_PLACE * rx * 216000000 + min (ahead_of clock dts) LONGEST_STAY * (rate * rx)
-    else min clock.byte LAST_PLACE * rx * 216000000 - (PCR_PERIOD - ahead_of clock dts) * (rate * rx)
+-- the whole ticks of 27 MHz from the stream's first byte to that of a reference: so its value is, that of the clock at its byte, cut down to
+-- whole ticks (2.4.2.2)
+abbrev pub tick_of : ℕ → PcrSample → ℕ
+tick_of rate clock = min (clock.byte * 216000000 / max 1 rate) LAST_TICK
 
--- its bytes stay until the first whole moment from then on, and its last byte may leave the transport buffer up to the last one
--- before
+-- when it is due, in ticks from the stream's first byte: before the reference, where that is nearer, and no earlier than that byte; and no
+-- later than a unit may stay after the reference
+abbrev pub due_tick : ℕ → PcrSample → ℕ → ℕ
+due_tick rate clock dts =
+    if nat_lt (ahead_of clock dts) (PCR_PERIOD / 2) then tick_of rate clock + min (ahead_of clock dts) LONGEST_STAY
+    else tick_of rate clock - (PCR_PERIOD - ahead_of clock dts)
+
+-- in units of time at its buffer, of 8 / (rate * rx) seconds: its bytes stay until the first whole one from then on, and its last byte may
+-- leave the transport buffer up to the last one before
 abbrev pub due_at : ℕ → ℕ → PcrSample → ℕ → DueTime
-due_at rate rx clock dts = record { until = (due_parts rate rx clock dts + 215999999) / 216000000; deadline = due_parts rate rx clock dts / 216000000 }
+due_at rate rx clock dts = record { until = (due_tick rate clock dts * (rate * rx) + 215999999) / 216000000; deadline = due_tick rate clock dts * (rate * rx) / 216000000 }

@@ -65,7 +65,7 @@ excess_lines options line place excesses = flat_map (excess_line options line pl
 -- `late pid P packet I due T left T by T bytes N`, told at the packet with which the next unit begins
 abbrev pub late_line : ViewOptions → Place → UnitSeen → List ℕ
 late_line options place u = line_of options.json (codes "late")
-    (number_field (codes "pid") place.pid ∷ number_field (codes "packet") place.packet ∷ number_field (codes "due") (moment_of options place.rx u.due.deadline)
+    (number_field (codes "pid") place.pid ∷ number_field (codes "packet") place.packet ∷ number_field (codes "due") (moment_of options place.rx u.due.until)
     ∷ number_field (codes "left") (moment_of options place.rx u.left) ∷ number_field (codes "by") (span_of options place.rx (u.left - u.due.deadline))
     ∷ number_field (codes "bytes") u.bytes ∷ [])
 

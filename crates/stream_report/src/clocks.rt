@@ -1,5 +1,5 @@
 //! The clocks of programs, and when units are due by them.
-ghost use Rattle.std.specs.Prelude.{◌≡◌, ◌<◌, OnOk};
+ghost use Rattle.std.specs.Prelude.{◌≡◌, ◌<◌, ◌^◌, OnOk};
 ghost use Rattle.ts_packet.specs.Views.{packet_view};
 ghost use Rattle.stream_report.specs.Clocks as spec;
 
@@ -16,8 +16,8 @@ use ts_packet::{Adaptation, Packet};
 // A byte at 1 bit a second in ticks of 27 MHz.
 const BYTE_TICKS: u128 = 216_000_000;
 
-// No time that counts is after this one.
-const LAST_PLACE: u64 = 1 << 60;
+// No time in ticks that counts is after this one.
+const LAST_TICK: u128 = 1 << 60;
 
 /// The longest time in ticks that a unit may stay in a decoder: one minute (ISO/IEC 13818-1, 2.4.2.6).
 pub const LONGEST_STAY: u64 = 1_620_000_000;
@@ -159,18 +159,23 @@ pub(crate) fn ahead_of(clock: &PcrSample, dts: u64) -> u64
     (dts % (1 << 33) * 300 + PCR_PERIOD - clock.ticks % PCR_PERIOD) % PCR_PERIOD
 }
 
-// When a unit is due, in units of time at its buffer of which 216,000,000 are one.
-fn due_parts(rate: u64, rx: u32, clock: &PcrSample, dts: u64) -> u128
-    requires { rate < 4294967296 }
-    ensures { result ≡ spec.due_parts rate rx clock.now dts }
+// The whole ticks from the stream's first byte to that of a reference, where a byte takes `rate` to leave a buffer at its own rate.
+fn tick_of(rate: u64, clock: &PcrSample) -> u128
+    ensures { result ≡ spec.tick_of rate clock.now }
 {
-    let scale = u128::from(rate) * u128::from(rx);
-    let at = u128::from(clock.byte.min(LAST_PLACE)) * u128::from(rx) * BYTE_TICKS;
+    (u128::from(clock.byte) * BYTE_TICKS / u128::from(rate.max(1))).min(LAST_TICK)
+}
+
+// When a unit is due, in ticks from the stream's first byte.
+fn due_tick(rate: u64, clock: &PcrSample, dts: u64) -> u128
+    ensures value { result ≡ spec.due_tick rate clock.now dts }
+    ensures most { result < 2 ^ 61 }
+{
     let ahead = ahead_of(clock, dts);
     if ahead < PCR_PERIOD / 2 {
-        at + u128::from(ahead.min(LONGEST_STAY)) * scale
+        tick_of(rate, clock) + u128::from(ahead.min(LONGEST_STAY))
     } else {
-        at.saturating_sub(u128::from(PCR_PERIOD - ahead) * scale)
+        tick_of(rate, clock).saturating_sub(u128::from(PCR_PERIOD - ahead))
     }
 }
 
@@ -180,7 +185,7 @@ pub(crate) fn due_at(rate: u64, rx: u32, clock: &PcrSample, dts: u64) -> DueTime
     requires { rate < 4294967296 }
     ensures { result ≡ spec.due_at rate rx clock.now dts }
 {
-    let parts = due_parts(rate, rx, clock, dts);
+    let parts = due_tick(rate, clock, dts) * (u128::from(rate) * u128::from(rx));
     DueTime {
         until: parts.div_ceil(BYTE_TICKS),
         deadline: parts / BYTE_TICKS,

@@ -149,7 +149,7 @@ fn write_late(
     let fields = [
         number("pid", u128::from(place.pid)),
         number("packet", u128::from(place.packet)),
-        number("due", moment_of(options, place.rx, unit.due.deadline)),
+        number("due", moment_of(options, place.rx, unit.due.until)),
         number("left", moment_of(options, place.rx, unit.left)),
         number("by", span_of(options, place.rx, unit.lateness())),
         number("bytes", u128::from(unit.bytes)),

@@ -9,7 +9,7 @@ pub returns : goal.returns
 returns c =
     let f_pid : field_view c.number.result ≡ number_field (codes "pid") (c.args.place.now.pid) = search rules in
     let f_packet : field_view c.number-2.result ≡ number_field (codes "packet") (c.args.place.now.packet) = search rules in
-    let f_due : field_view c.number-3.result ≡ number_field (codes "due") (moment_of c.args.options.now c.args.place.now.rx c.args.unit.now.due.deadline) = search rules in
+    let f_due : field_view c.number-3.result ≡ number_field (codes "due") (moment_of c.args.options.now c.args.place.now.rx c.args.unit.now.due.until) = search rules in
     let f_left : field_view c.number-4.result ≡ number_field (codes "left") (moment_of c.args.options.now c.args.place.now.rx c.args.unit.now.left) = search rules in
     let f_by : field_view c.number-5.result ≡ number_field (codes "by") (span_of c.args.options.now c.args.place.now.rx (c.args.unit.now.left - c.args.unit.now.due.deadline)) = search rules in
     let f_bytes : field_view c.number-6.result ≡ number_field (codes "bytes") (c.args.unit.now.bytes) = search rules in
