@@ -1,12 +1,11 @@
 -- Bytes that enter a main buffer in two rows.
-use Rattle.std.proofs.Common.{◌≡◌, ◌∙◌, sym, ℕ, suc, ◌+◌, ◌*◌, ◌≤◌, ◌<◌, max, List, [], ◌∷◌, ◌++◌, length, Option, None, refl, ap, arith, All}
+use Rattle.std.proofs.Common.{◌≡◌, ◌∙◌, sym, ℕ, suc, ◌+◌, ◌≤◌, ◌<◌, max, List, [], ◌∷◌, ◌++◌, length, Option, None, refl, ap, arith, All}
 use Rattle.std.proofs.lemmas.List.Elements.{All-nil, All-cons, All-head, All-weaker}
 use Rattle.clock27.specs.Peak.{Climbs, greatest_at}
 use Rattle.transport_buffer.specs.Laws.{Rises}
 use Rattle.decoder_buffers.proofs.RisingTimes.{climbs_low, climbs_following, greatest_ext}
 use Rattle.main_buffer_rows.specs.RowEntry.{entered}
 use Rattle.main_buffer_rows.proofs.RowEntries.{none_entered}
-use Rattle.decoder_buffers.specs.BufferedUnits.{one_buffered}
 use Rattle.main_buffer_rows.specs.Least.{least_found}
 use Rattle.main_buffer_rows.proofs.Least.{found_shift, found-append}
 use Rattle.main_buffer_rows.proofs.Pieces.{all_entered, all_others, entered-append}
@@ -91,6 +90,6 @@ least_of_two before middle until from ts (u ∷ us) climbs there =
     let count : length ts + 0 ≡ 0 + length ts = omega arith in
     found_shift before middle until (length ts) 0 u least (u ∷ us) rises
     (λ x le. let by : All (λ t. t ≤ x) ts = All-weaker (λ t. t ≤ u) (λ t. t ≤ x) (λ t low. omega (arith, low, le)) ts all in
-        there x by ∙ ap (λ (n : ℕ). before x + n) (all_entered until x ts by))
+    there x by ∙ ap (λ (n : ℕ). before x + n) (all_entered until x ts by))
     ∙ ap (λ (c : ℕ). least_found before until c least (u ∷ us)) count
     ∙ sym (found-append before until 0 None ts (u ∷ us))

@@ -109,7 +109,11 @@ fn enter_first<A: Allocator>(buffer: &mut MainBuffer<A>, row: &Row) -> FirstFoun
 
 /// The bytes of a row of the unit under way enter the buffer, each at its time, or come too late for it: the least that one of
 /// them finds there, itself not counted, and that so far.
-pub fn enter_row<A: Allocator>(buffer: &mut MainBuffer<A>, row: &Row, least: Option<u64>) -> Option<u64>
+pub fn enter_row<A: Allocator>(
+    buffer: &mut MainBuffer<A>,
+    row: &Row,
+    least: Option<u64>,
+) -> Option<u64>
     requires sound { IsSound buffer.old }
     requires timed { IsTimed row.now }
     requires room { buffer.old.fullness + row.now.bytes < 2 ^ 64 }

@@ -1,5 +1,5 @@
 -- The least that the bytes of a part of a stream find in the main buffer is its least fullness meanwhile.
-use Rattle.std.proofs.Common.{◌≡◌, ◌∙◌, sym, ℕ, zero, suc, ◌+◌, ◌*◌, ◌≤◌, ◌<◌, min, ◌⊎◌, List, [], ◌∷◌, ◌++◌, length, Option, Some, None, refl, ap, inl, inr, arith, All}
+use Rattle.std.proofs.Common.{◌≡◌, sym, ℕ, zero, suc, ◌+◌, ◌*◌, ◌≤◌, ◌<◌, min, ◌⊎◌, List, [], ◌∷◌, ◌++◌, length, Option, Some, None, refl, ap, inl, inr, arith, All}
 use Rattle.std.proofs.Math.Nat.{le_trans}
 use Rattle.std.proofs.lemmas.Bool.{cases_lt, lt-ltb, le-ltb}
 use Rattle.std.proofs.lemmas.List.Elements.{All-nil, All-cons, All-append, All-head, All-tail, All-weaker}
@@ -8,7 +8,6 @@ use Rattle.clock27.specs.Peak.{Climbs}
 use Rattle.clock27.proofs.Departures.{last_left-append, rising}
 use Rattle.clock27.proofs.Peak.{departures_climb}
 use Rattle.decoder_buffers.specs.BufferedUnits.{one_buffered}
-use Rattle.decoder_buffers.proofs.RisingTimes.{climbs_low}
 use Rattle.main_buffer_rows.specs.RowEntry.{entered}
 use Rattle.main_buffer_rows.specs.Least.{lesser, least_found}
 use Rattle.main_buffer_rows.proofs.Leaving.{climbs_rises}
@@ -17,7 +16,7 @@ use Rattle.main_buffer_rows.proofs.Pieces.{all_entered, all_first, all_others}
 use Rattle.main_buffer_rows.proofs.RowEntries.{none_entered, one_entered}
 use Rattle.stream_view.specs.History.{Part, arrivals_of, last_of, left_after, payload_left, main_fullness, row_least, until_of}
 use Rattle.stream_view.specs.History.Part.{Passes, Carries, Begins}
-use Rattle.stream_view.specs.Lows.{IsLow, LowsLaw, least_of, least_of_both}
+use Rattle.stream_view.specs.Lows.{LowsLaw, least_of, least_of_both}
 use Rattle.stream_view.proofs.Views.{payload_by, prev_le}
 
 -- ---- bytes of a unit
@@ -111,9 +110,9 @@ cases_all x [] = inl (All-nil (λ d. d ≤ x))
 cases_all x (d ∷ ds) = elim (cases_lt x d) [
   | inl later ↦ inr (λ all. absurd (omega (arith, later, All-head (λ d. d ≤ x) d ds all)))
   | inr here ↦ elim (cases_all x ds) [
-      | inl all ↦ inl (All-cons (λ d. d ≤ x) d ds here all)
-      | inr late ↦ inr (λ all. late (All-tail (λ d. d ≤ x) d ds all))
-    ]
+    | inl all ↦ inl (All-cons (λ d. d ≤ x) d ds here all)
+    | inr late ↦ inr (λ all. late (All-tail (λ d. d ≤ x) d ds all))
+  ]
 ]
 
 -- one without a payload byte
@@ -152,6 +151,7 @@ never_less step x n (Carries ts ∷ recent) before is all late =
         let row = row_never (main_fullness step (recent ++ before)) (until_of (recent ++ before)) 0 x r None (left_after step (recent ++ before) ts)
         (λ y le. falls step (recent ++ before) x y there le) late e in
         omega (arith, row, both_some (least_of step recent before) r n is)
+
     by_first : (first : Option ℕ) → least_of step recent before ≡ first → ((m : ℕ) → first ≡ Some m → m ≤ main_fullness step (recent ++ before) x) → (All (λ d. d ≤ x) (payload_left step (recent ++ before)) → ⊥) →
         least_of_both first (row_least step (recent ++ before) ts) ≡ Some n →
         n ≤ main_fullness step (recent ++ before) x + entered (until_of (recent ++ before)) x (left_after step (recent ++ before) ts)
@@ -200,17 +200,17 @@ row_reached P before until k from n least (d ∷ ds) all climbs is =
     let f : ℕ = before d + k * one_buffered until d in
     elim (row_reached P before until (k + 1) d n (lesser least f) ds (All-tail P d ds all) climbs.1 is) [
       | inl first ↦ elim (lesser_case least f n first) [
-          | inl same ↦ inl same
-          | inr here ↦
-              let none = none_entered until d ds (suc d) (omega arith) (climbs_rises (suc d) ds climbs.1) in
-              let one = one_entered until d d ds (omega arith) in
-              inr (record {
-                moment = d;
-                later = omega (arith, climbs.0);
-                one = All-head P d ds all;
-                found = omega (arith, here, none, one, one_at_most until d);
-              })
-        ]
+        | inl same ↦ inl same
+        | inr here ↦
+            let none = none_entered until d ds (suc d) (omega arith) (climbs_rises (suc d) ds climbs.1) in
+            let one = one_entered until d d ds (omega arith) in
+            inr (record {
+              moment = d;
+              later = omega (arith, climbs.0);
+              one = All-head P d ds all;
+              found = omega (arith, here, none, one, one_at_most until d);
+            })
+      ]
       | inr rest ↦
           let early : d ≤ rest.moment = omega (arith, rest.later) in
           inr (record {
@@ -263,15 +263,15 @@ reaches step n (Carries ts ∷ recent) before pos is =
             reached = omega (arith, r.reached, none);
           }
       | inr row ↦ elim (row_reached (λ d. d ≤ last) (main_fullness step p) until 0 (last_of step p) n None ds by climbs row) [
-          | inl none ↦ cc
-          | inr r ↦ record {
-              moment = r.moment;
-              after = All-weaker (λ d. d ≤ last_of step p) (λ d. d ≤ r.moment) (λ d le. omega (arith, le, r.later)) (payload_left step before)
-                  (before_all (λ d. d ≤ last_of step p) step recent before (payload_by step p));
-              by = r.one;
-              reached = omega (arith, r.found);
-            }
-        ]
+        | inl none ↦ cc
+        | inr r ↦ record {
+          moment = r.moment;
+          after = All-weaker (λ d. d ≤ last_of step p) (λ d. d ≤ r.moment) (λ d le. omega (arith, le, r.later)) (payload_left step before)
+              (before_all (λ d. d ≤ last_of step p) step recent before (payload_by step p));
+          by = r.one;
+          reached = omega (arith, r.found);
+        }
+      ]
     ]
 reaches step n (Begins due ∷ recent) before pos is =
     let r = reaches step n recent before pos is in

@@ -1,4 +1,4 @@
-use Rattle.std.proofs.Common.{◌∙◌, ℕ, ◌+◌, ◌≤◌, max, List, Option, None, ap, arith}
+use Rattle.std.proofs.Common.{◌∙◌, ℕ, ◌+◌, ◌≤◌, max, List, Option, ap, arith}
 use Rattle.clock27.specs.Peak.{greatest_at}
 use Rattle.packet_arrival.specs.Rows.{times_of}
 use Rattle.decoder_buffers.specs.BufferState.{fullness_at}

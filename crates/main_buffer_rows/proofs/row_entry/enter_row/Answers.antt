@@ -1,4 +1,4 @@
-use Rattle.std.proofs.Common.{◌≡◌, ◌∙◌, sym, ℕ, List, Option, ap, arith}
+use Rattle.std.proofs.Common.{◌∙◌, ℕ, Option, ap, arith}
 use Rattle.packet_arrival.specs.Rows.{times_of}
 use Rattle.main_buffer_rows.specs.Least.{least_in}
 use Rattle.main_buffer_rows.proofs.RowEntries.{peak_end}
