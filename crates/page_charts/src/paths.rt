@@ -1,5 +1,6 @@
 //! A curve as paths: what `d` of an SVG path says.
 ghost use Rattle.std.specs.Prelude.{◌≡◌, ◌++◌, ◌<◌, ◌≤◌, OnOk, length, string_bytes};
+ghost use Rattle.page_curves.specs.Slots.{slot_at};
 ghost use Rattle.page_charts.specs.Paths as spec;
 ghost use Rattle.page_charts.specs.Paths.{numbered, numbered_back};
 
@@ -113,6 +114,23 @@ pub(crate) fn write_points(
     Ok(())
 }
 
+// That of a slot among all.
+fn write_low_at(
+    text: &mut String,
+    frame: &Frame,
+    span: u64,
+    slots: &[Option<Bounds>],
+    slot: usize,
+) -> Result<(), AllocError>
+    requires some { 0 < span }
+    requires few { length slots.now ≤ 512 }
+    requires within { slot < length slots.now }
+    ensures { OnOk result (string_bytes text.new
+        ≡ string_bytes text.old ++ spec.low frame.now span slot (slot_at slots.now slot)) }
+{
+    write_low(text, frame, span, slot as u64, slots[slot])
+}
+
 /// Appends the points of least values of all slots, the last one first.
 pub(crate) fn write_lows_back(
     text: &mut String,
@@ -126,8 +144,7 @@ pub(crate) fn write_lows_back(
         ≡ string_bytes text.old ++ numbered_back (spec.low frame.now span) 0 slots.now) }
 {
     for back in 0..slots.len() {
-        let slot = slots.len() - 1 - back;
-        write_low(text, frame, span, slot as u64, slots[slot])?;
+        write_low_at(text, frame, span, slots, slots.len() - 1 - back)?;
     }
     Ok(())
 }
