@@ -1,12 +1,14 @@
 -- Bytes that enter a main buffer in two rows.
-use Rattle.std.proofs.Common.{◌≡◌, ◌∙◌, ℕ, suc, ◌+◌, ◌≤◌, ◌<◌, max, List, [], ◌∷◌, ◌++◌, refl, arith, All}
-use Rattle.std.proofs.lemmas.List.Elements.{All-nil, All-cons, All-head}
+use Rattle.std.proofs.Common.{◌≡◌, ◌∙◌, sym, ℕ, suc, ◌+◌, ◌≤◌, ◌<◌, max, List, [], ◌∷◌, ◌++◌, length, Option, None, refl, ap, arith, All}
+use Rattle.std.proofs.lemmas.List.Elements.{All-nil, All-cons, All-head, All-weaker}
 use Rattle.clock27.specs.Peak.{Climbs, greatest_at}
 use Rattle.transport_buffer.specs.Laws.{Rises}
 use Rattle.decoder_buffers.proofs.RisingTimes.{climbs_low, climbs_following, greatest_ext}
 use Rattle.main_buffer_rows.specs.RowEntry.{entered}
 use Rattle.main_buffer_rows.proofs.RowEntries.{none_entered}
-use Rattle.main_buffer_rows.proofs.Pieces.{all_others, entered-append}
+use Rattle.main_buffer_rows.specs.Least.{least_found}
+use Rattle.main_buffer_rows.proofs.Least.{found_shift, found-append}
+use Rattle.main_buffer_rows.proofs.Pieces.{all_entered, all_others, entered-append}
 
 pub greatest_at-append : (f : ℕ → ℕ) (ts us : List ℕ) → greatest_at f (ts ++ us) ≡ max (greatest_at f ts) (greatest_at f us)
 unfolding greatest_at
@@ -74,3 +76,20 @@ most_of_two before middle until from ts us climbs there =
     first_of_two before until from ts us climbs =
         greatest_ext (λ x. before x + entered until x (ts ++ us)) (λ x. before x + entered until x ts + entered until x us) ts (λ x. omega (arith, entered-append until x ts us))
         ∙ first_same (λ x. before x + entered until x ts) until from ts us climbs
+
+-- and the least that one of them finds
+pub least_of_two : (before middle : ℕ → ℕ) (until from : ℕ) (ts us : List ℕ) → Climbs from (ts ++ us) → ((x : ℕ) → All (λ t. t ≤ x) ts → middle x ≡ before x + entered until x ts) →
+    least_found middle until 0 (least_found before until 0 None ts) us ≡ least_found before until 0 None (ts ++ us)
+unfolding least_found Rises
+least_of_two before middle until from ts [] climbs there = sym (found-append before until 0 None ts [])
+least_of_two before middle until from ts (u ∷ us) climbs there =
+    let least : Option ℕ = least_found before until 0 None ts in
+    let all : All (λ t. t ≤ u) ts = all_by from u ts us climbs in
+    let later : Rises from (u ∷ us) = climbs_rises from (u ∷ us) (climbs_later from ts (u ∷ us) climbs) in
+    let rises : Rises u (u ∷ us) = (omega arith, later.1) in
+    let count : length ts + 0 ≡ 0 + length ts = omega arith in
+    found_shift before middle until (length ts) 0 u least (u ∷ us) rises
+    (λ x le. let by : All (λ t. t ≤ x) ts = All-weaker (λ t. t ≤ u) (λ t. t ≤ x) (λ t low. omega (arith, low, le)) ts all in
+    there x by ∙ ap (λ (n : ℕ). before x + n) (all_entered until x ts by))
+    ∙ ap (λ (c : ℕ). least_found before until c least (u ∷ us)) count
+    ∙ sym (found-append before until 0 None ts (u ∷ us))

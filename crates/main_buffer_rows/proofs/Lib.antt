@@ -1,3 +1,4 @@
 pub mod RowEntries
 pub mod Pieces
+pub mod Least
 pub mod Leaving

@@ -151,26 +151,6 @@ entered_together before until limit peak now (t ∷ ts) us from rises le within 
 
 -- ---- a piece of a row: its first byte, and those that enter with it
 
--- a row of no bytes
-pub row_none : (row : Row) → times_of (other_bytes row row.bytes) ≡ []
-unfolding times_in_row
-row_none row = let e : row.bytes - row.bytes ≡ 0 = omega arith in rw e refl
-
--- all come too late
-pub late_peak : (before after : ℕ → ℕ) (until peak peak' t : ℕ) (ts : List ℕ) → until ≤ t → Rises t ts → ((x y : ℕ) → x ≤ y → after y ≤ after x) →
-    ((x : ℕ) → t ≤ x → after x ≡ before x + one_buffered until x) → peak' ≡ max peak (before t + one_buffered until t) →
-    max peak' 0 ≡ max peak (greatest_at (λ x. before x + entered until x (t ∷ ts)) (t ∷ ts))
-late_peak before after until peak peak' t ts late rises falls there most =
-    let here : after t ≤ peak' = omega (arith, there t (omega arith), most) in
-    let none = late_ones after until peak' t ts late rises falls here in
-    let one = entered_one before after until peak peak' t ts rises there most in
-    omega (arith, none, one)
-
-pub late_there : (before after : ℕ → ℕ) (until t x : ℕ) (ts : List ℕ) → until ≤ t → t ≤ x → ((x : ℕ) → t ≤ x → after x ≡ before x + one_buffered until x) →
-    after x + 0 ≡ before x + entered until x (t ∷ ts)
-late_there before after until t x ts late le there =
-    omega (arith, there x le, one_entered until x t ts le, none_stays until x ts (omega (arith, late, le)))
-
 -- some enter together
 pub piece_peak : (before after after' : ℕ → ℕ) (until limit peak peak' peak'' now t : ℕ) (ts us : List ℕ) → Rises t (ts ++ us) → limit ≤ until → t < limit →
     ((x : ℕ) → t ≤ x → after x ≡ before x + one_buffered until x) → peak' ≡ max peak (before t + one_buffered until t) →

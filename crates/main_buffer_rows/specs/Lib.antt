@@ -1,1 +1,2 @@
 pub mod RowEntry
+pub mod Least

@@ -1,19 +1,28 @@
 //! Bytes that enter a main buffer as they leave the transport buffer before it.
-ghost use Rattle.std.specs.Prelude.{◌≡◌, ℕ, ◌+◌, ◌≤◌, ◌<◌, ◌^◌, max, All, List};
+ghost use Rattle.std.specs.Prelude.{◌≡◌, ℕ, ◌+◌, ◌≤◌, ◌<◌, ◌^◌, max, All, List, None};
 ghost use Rattle.clock27.specs.Peak.{Climbs, greatest_at};
 ghost use Rattle.packet_arrival.specs.Rows.{IsTimed};
 ghost use Rattle.transport_buffer.specs.Buffers.{times_left};
 ghost use Rattle.decoder_buffers.specs.BufferState.{IsSound, fullness_at};
 ghost use Rattle.main_buffer_rows.specs.RowEntry.{fullness_with};
+ghost use Rattle.main_buffer_rows.specs.Least.{least_in};
 
 use crate::row_entry::enter_row;
 use decoder_buffers::MainBuffer;
 use std::alloc::Allocator;
 use transport_buffer::Leaving;
 
-/// The bytes of the unit under way that leave the transport buffer enter the main buffer: the most bytes that were there when
-/// one of them entered.
-pub fn enter_leaving<A: Allocator>(buffer: &mut MainBuffer<A>, leaving: &Leaving) -> u64
+/// What bytes found in the main buffer as they entered it.
+#[derive(Clone, Copy)]
+pub struct MainFound {
+    /// The most bytes that were there when one of them entered, itself counted.
+    pub most: u64,
+    /// The least that one of them found, itself not counted; none where none entered.
+    pub least: Option<u64>,
+}
+
+/// The bytes of the unit under way that leave the transport buffer enter the main buffer: what they found there.
+pub fn enter_leaving<A: Allocator>(buffer: &mut MainBuffer<A>, leaving: &Leaving) -> MainFound
     requires sound { IsSound buffer.old }
     requires timed { IsTimed leaving.now.waiting × IsTimed leaving.now.free }
     requires climbing { Climbs 0 (times_left leaving.now) }
@@ -21,16 +30,17 @@ pub fn enter_leaving<A: Allocator>(buffer: &mut MainBuffer<A>, leaving: &Leaving
     ensures sound { IsSound buffer.new }
     ensures there { (x : ℕ) → All (λ t. t ≤ x) (times_left leaving.now) →
         fullness_at buffer.new x ≡ fullness_with buffer.old (times_left leaving.now) x }
-    ensures most { result ≡ greatest_at (fullness_with buffer.old (times_left leaving.now)) (times_left leaving.now) }
-    ensures peak { buffer.new.peak ≡ max buffer.old.peak result }
+    ensures most { result.most ≡ greatest_at (fullness_with buffer.old (times_left leaving.now)) (times_left leaving.now) }
+    ensures least { result.least ≡ least_in buffer.old None (times_left leaving.now) }
+    ensures peak { buffer.new.peak ≡ max buffer.old.peak result.most }
     ensures until { buffer.new.current.until ≡ buffer.old.current.until }
     ensures fullness { buffer.new.fullness ≤ buffer.old.fullness + (leaving.now.waiting.bytes + leaving.now.free.bytes) }
 {
     let before = buffer.peak;
     buffer.peak = 0;
-    enter_row(buffer, &leaving.waiting);
-    enter_row(buffer, &leaving.free);
+    let first = enter_row(buffer, &leaving.waiting, None);
+    let least = enter_row(buffer, &leaving.free, first);
     let most = buffer.peak;
     buffer.peak = before.max(most);
-    most
+    MainFound { most, least }
 }

@@ -1,9 +1,10 @@
 //! Bytes that enter a main buffer.
-ghost use Rattle.std.specs.Prelude.{◌≡◌, ℕ, ◌+◌, ◌*◌, ◌≤◌, ◌<◌, ◌^◌, max, All, []};
+ghost use Rattle.std.specs.Prelude.{◌≡◌, ℕ, ◌+◌, ◌*◌, ◌≤◌, ◌<◌, ◌^◌, max, All, Option};
 ghost use Rattle.packet_arrival.specs.Rows.{IsTimed, times_of};
 ghost use Rattle.decoder_buffers.specs.BufferState.{IsSound, fullness_at};
 ghost use Rattle.decoder_buffers.specs.BufferedUnits.{one_buffered};
 ghost use Rattle.main_buffer_rows.specs.RowEntry.{fullness_with, peak_with};
+ghost use Rattle.main_buffer_rows.specs.Least.{least_in, lesser};
 
 use decoder_buffers::MainBuffer;
 use packet_arrival::Row;
@@ -28,53 +29,108 @@ fn add<A: Allocator>(buffer: &mut MainBuffer<A>, count: u64)
     buffer.peak = buffer.peak.max(buffer.fullness);
 }
 
-// The first bytes of a row of the unit under way enter the buffer, up to the next moment at which bytes leave it, or all
-// of them come too late: the other bytes.
-fn enter_first<A: Allocator>(buffer: &mut MainBuffer<A>, row: &Row) -> Row
+/// The least of the numbers so far, where there are some, and of one more.
+#[tactic(auto, unfolding(crate::specs::Least::lesser))]
+pub fn lesser(least: Option<u64>, number: u64) -> Option<u64>
+    ensures { result ≡ lesser least number }
+{
+    match least {
+        None => Some(number),
+        Some(least) => Some(least.min(number)),
+    }
+}
+
+// A byte of the unit under way enters the buffer, or comes too late for it: how many it finds there.
+fn enter_byte<A: Allocator>(buffer: &mut MainBuffer<A>, moment: u128) -> u64
+    requires sound { IsSound buffer.old }
+    requires room { buffer.old.fullness + 1 < 2 ^ 64 }
+    ensures sound { IsSound buffer.new }
+    ensures there { (x : ℕ) → moment ≤ x →
+        fullness_at buffer.new x ≡ fullness_at buffer.old x + one_buffered buffer.old.current.until x }
+    ensures found { result ≡ fullness_at buffer.old moment }
+    ensures peak { buffer.new.peak
+        ≡ max buffer.old.peak (fullness_at buffer.old moment + one_buffered buffer.old.current.until moment) }
+    ensures until { buffer.new.current.until ≡ buffer.old.current.until }
+    ensures fullness { buffer.new.fullness ≤ buffer.old.fullness + 1 }
+{
+    let before = buffer.peak;
+    buffer.peak = 0;
+    buffer.enter(moment);
+    let there = buffer.peak;
+    buffer.peak = before.max(there);
+    there - u64::from(moment < buffer.current.until)
+}
+
+// What the first byte of a row finds in the buffer, and the bytes that may find less.
+#[derive(Clone, Copy)]
+struct FirstFound {
+    found: u64,
+    others: Row,
+}
+
+// The first bytes of a row of the unit under way enter the buffer, up to the next moment at which bytes leave it; or they come
+// too late, all but the last one at once.
+fn enter_first<A: Allocator>(buffer: &mut MainBuffer<A>, row: &Row) -> FirstFound
     requires sound { IsSound buffer.old }
     requires timed { IsTimed row.now }
     requires some { 0 < row.now.bytes }
     requires room { buffer.old.fullness + row.now.bytes < 2 ^ 64 }
     ensures sound { IsSound buffer.new }
-    ensures timed { IsTimed result }
-    ensures fewer { result.bytes < row.now.bytes }
-    ensures later { (x : ℕ) → All (λ t. t ≤ x) (times_of row.now) → All (λ t. t ≤ x) (times_of result) }
+    ensures timed { IsTimed result.others }
+    ensures fewer { result.others.bytes < row.now.bytes }
+    ensures later { (x : ℕ) → All (λ t. t ≤ x) (times_of row.now) → All (λ t. t ≤ x) (times_of result.others) }
     ensures there { (x : ℕ) → All (λ t. t ≤ x) (times_of row.now) →
-        fullness_with buffer.new (times_of result) x ≡ fullness_with buffer.old (times_of row.now) x }
-    ensures peak { peak_with buffer.new (times_of result) ≡ peak_with buffer.old (times_of row.now) }
+        fullness_with buffer.new (times_of result.others) x ≡ fullness_with buffer.old (times_of row.now) x }
+    ensures least { (least : Option ℕ) →
+        least_in buffer.new (lesser least result.found) (times_of result.others) ≡ least_in buffer.old least (times_of row.now) }
+    ensures peak { peak_with buffer.new (times_of result.others) ≡ peak_with buffer.old (times_of row.now) }
     ensures until { buffer.new.current.until ≡ buffer.old.current.until }
-    ensures fullness { buffer.new.fullness + result.bytes ≤ buffer.old.fullness + row.now.bytes }
+    ensures fullness { buffer.new.fullness + result.others.bytes ≤ buffer.old.fullness + row.now.bytes }
 {
     let moment = row.time(0);
-    buffer.enter(moment);
+    let found = enter_byte(buffer, moment);
     let (_, rest) = row.split_at(1);
     let until = buffer.current.until;
     if until <= moment {
-        return rest.split_at(rest.bytes).1;
+        let (_, others) = rest.split_at(rest.bytes.saturating_sub(1));
+        return FirstFound { found, others };
     }
     let limit = buffer.next.min(until).min(LAST_TIME);
     if limit <= moment {
-        return rest;
+        return FirstFound {
+            found,
+            others: rest,
+        };
     }
     let (first, others) = rest.split_before(limit);
     add(buffer, first.bytes);
-    others
+    FirstFound { found, others }
 }
 
-/// The bytes of a row of the unit under way enter the buffer, each at its time, or come too late for it.
-pub fn enter_row<A: Allocator>(buffer: &mut MainBuffer<A>, row: &Row)
+/// The bytes of a row of the unit under way enter the buffer, each at its time, or come too late for it: the least that one of
+/// them finds there, itself not counted, and that so far.
+pub fn enter_row<A: Allocator>(
+    buffer: &mut MainBuffer<A>,
+    row: &Row,
+    least: Option<u64>,
+) -> Option<u64>
     requires sound { IsSound buffer.old }
     requires timed { IsTimed row.now }
     requires room { buffer.old.fullness + row.now.bytes < 2 ^ 64 }
     ensures sound { IsSound buffer.new }
     ensures there { (x : ℕ) → All (λ t. t ≤ x) (times_of row.now) →
         fullness_at buffer.new x ≡ fullness_with buffer.old (times_of row.now) x }
+    ensures least { result ≡ least_in buffer.old least (times_of row.now) }
     ensures peak { buffer.new.peak ≡ peak_with buffer.old (times_of row.now) }
     ensures until { buffer.new.current.until ≡ buffer.old.current.until }
     ensures fullness { buffer.new.fullness ≤ buffer.old.fullness + row.now.bytes }
 {
     let mut rest = *row;
+    let mut lowest = least;
     while rest.bytes > 0 {
-        rest = enter_first(buffer, &rest);
+        let first = enter_first(buffer, &rest);
+        lowest = lesser(lowest, first.found);
+        rest = first.others;
     }
+    lowest
 }

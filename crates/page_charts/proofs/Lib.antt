@@ -1,3 +1,4 @@
+pub mod Backward
 pub mod Kept
 pub mod Scales
 pub mod Texts

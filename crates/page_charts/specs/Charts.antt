@@ -7,7 +7,7 @@ use Rattle.page_charts.specs.declared.pid_curves.PidCurve.{PidCurve}
 use Rattle.page_charts.specs.PidNames.{pid_text}
 use Rattle.page_charts.specs.Scale.{height_of}
 use Rattle.page_charts.specs.Frames.{scales_text, top_value, unit_name, value_text}
-use Rattle.page_charts.specs.Paths.{numbered, over, point, range}
+use Rattle.page_charts.specs.Paths.{low, numbered, numbered_back, over, point}
 use Rattle.page_charts.specs.ValueTables as values
 
 -- a piece of a line, and a value with its unit
@@ -24,9 +24,10 @@ key unit number entry = sample_text (number % 16) ++ (pid_text entry.pid entry.n
 unfoldable pub keys : ChartUnit → List PidCurve → List ℕ
 keys unit curves = codes "<p class=\"key\">" ++ (numbered (key unit) 0 curves ++ codes "</p>\n")
 
--- the ranges of a curve, and the line of its greatest values
+-- the band of a curve, along its greatest values and back along its least ones; and the line of its greatest values
 unfoldable pub band : Frame → ℕ → PidCurve → List ℕ
-band f class entry = codes "<path class=\"range s" ++ (decimal class ++ (codes "\" d=\"" ++ (numbered (range f entry.curve.span) 0 entry.curve.slots ++ codes "\"/>")))
+band f class entry = codes "<path class=\"range s" ++ (decimal class ++ (codes "\" d=\"M" ++ (numbered (point f entry.curve.span) 0 entry.curve.slots
+    ++ (numbered_back (low f entry.curve.span) 0 entry.curve.slots ++ codes "z\"/>"))))
 
 unfoldable pub title : PidCurve → List ℕ
 title entry = codes "h20\"><title>" ++ (pid_text entry.pid entry.name ++ codes "</title></path>\n")

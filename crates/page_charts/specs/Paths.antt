@@ -10,6 +10,11 @@ abbrev pub numbered : {A : Type 0} → (ℕ → A → List ℕ) → ℕ → List
 numbered part k [] = []
 numbered part k (x ∷ xs) = part k x ++ numbered part (suc k) xs
 
+-- and the last one first
+unfoldable pub numbered_back : {A : Type 0} → (ℕ → A → List ℕ) → ℕ → List A → List ℕ
+numbered_back part k [] = []
+numbered_back part k (x ∷ xs) = numbered_back part (suc k) xs ++ part k x
+
 -- a point of the line of greatest values: those after the first `M` are joined by lines
 unfoldable pub point_of : Frame → ℕ → ℕ → Option Bounds → List ℕ
 point_of f span slot None = []
@@ -18,14 +23,13 @@ point_of f span slot (Some b) = codes " " ++ (decimal (across (slots_of f span) 
 abbrev pub point : Frame → ℕ → ℕ → Option Bounds → List ℕ
 point f span slot b = point_of f span slot (shown f span slot b)
 
--- from the least value of a slot to the greatest
-unfoldable pub range_of : Frame → ℕ → ℕ → Option Bounds → List ℕ
-range_of f span slot None = []
-range_of f span slot (Some b) = codes "M" ++ (decimal (across (slots_of f span) slot) ++ (codes " " ++ (decimal (height_of (top_value f) b.least)
-    ++ (codes "V" ++ decimal (height_of (top_value f) b.greatest)))))
+-- and one of the line of least values
+unfoldable pub low_of : Frame → ℕ → ℕ → Option Bounds → List ℕ
+low_of f span slot None = []
+low_of f span slot (Some b) = codes " " ++ (decimal (across (slots_of f span) slot) ++ (codes " " ++ decimal (height_of (top_value f) b.least)))
 
-abbrev pub range : Frame → ℕ → ℕ → Option Bounds → List ℕ
-range f span slot b = range_of f span slot (shown f span slot b)
+abbrev pub low : Frame → ℕ → ℕ → Option Bounds → List ℕ
+low f span slot b = low_of f span slot (shown f span slot b)
 
 -- from a limit to a greatest value over it, with a mark above
 abbrev pub over_to : Frame → ℕ → ℕ → ℕ → List ℕ

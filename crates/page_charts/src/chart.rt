@@ -5,7 +5,7 @@ ghost use Rattle.page_charts.specs.Paths.{numbered};
 
 use crate::frame::{ChartUnit, Frame};
 use crate::frame_text::{unit_name, write_value};
-use crate::paths::{write_overs, write_points, write_ranges};
+use crate::paths::{write_lows_back, write_overs, write_points};
 use crate::pid_curves::PidCurve;
 use crate::pid_name::write_pid;
 use crate::scale::height_of;
@@ -67,7 +67,7 @@ fn write_keys(text: &mut String, unit: ChartUnit, curves: &[PidCurve]) -> Result
     text.push_str("</p>\n")
 }
 
-// The ranges of a curve, from the least to the greatest value of each slot.
+// The band of a curve, from the least to the greatest value of each slot: along the greatest values, and back along the least.
 #[tactic(auto, unfolding(crate::specs::Charts::band))]
 fn write_band(
     text: &mut String,
@@ -77,9 +77,10 @@ fn write_band(
 ) -> Result<(), AllocError>
     ensures { OnOk result (string_bytes text.new ≡ string_bytes text.old ++ spec.band frame.now class entry.now) }
 {
-    write!(text, "<path class=\"range s{class}\" d=\"")?;
-    write_ranges(text, frame, entry.curve.span(), entry.curve.slots())?;
-    text.push_str("\"/>")
+    write!(text, "<path class=\"range s{class}\" d=\"M")?;
+    write_points(text, frame, entry.curve.span(), entry.curve.slots())?;
+    write_lows_back(text, frame, entry.curve.span(), entry.curve.slots())?;
+    text.push_str("z\"/>")
 }
 
 // The PID of a curve, as the title of its line.

@@ -1,7 +1,8 @@
 //! A curve as paths: what `d` of an SVG path says.
 ghost use Rattle.std.specs.Prelude.{◌≡◌, ◌++◌, ◌<◌, ◌≤◌, OnOk, length, string_bytes};
+ghost use Rattle.page_curves.specs.Slots.{slot_at};
 ghost use Rattle.page_charts.specs.Paths as spec;
-ghost use Rattle.page_charts.specs.Paths.{numbered};
+ghost use Rattle.page_charts.specs.Paths.{numbered, numbered_back};
 
 use crate::frame::Frame;
 use crate::scale::{across, height_of};
@@ -32,9 +33,9 @@ fn write_point(
     }
 }
 
-// A line from the least value of a slot to the greatest.
-#[tactic(auto, unfolding(crate::specs::Paths::range_of))]
-fn write_range(
+// A point of the line of least values.
+#[tactic(auto, unfolding(crate::specs::Paths::low_of))]
+fn write_low(
     text: &mut String,
     frame: &Frame,
     span: u64,
@@ -43,15 +44,14 @@ fn write_range(
 ) -> Result<(), AllocError>
     requires some { 0 < span }
     requires early { slot < 512 }
-    ensures { OnOk result (string_bytes text.new ≡ string_bytes text.old ++ spec.range frame.now span slot bounds) }
+    ensures { OnOk result (string_bytes text.new ≡ string_bytes text.old ++ spec.low frame.now span slot bounds) }
 {
     match frame.shown(span, slot, bounds) {
         None => Ok(()),
         Some(shown) => {
             let x = across(frame.slots_of(span), slot);
-            let low = height_of(frame.top_value(), shown.least);
-            let high = height_of(frame.top_value(), shown.greatest);
-            write!(text, "M{x} {low}V{high}")
+            let y = height_of(frame.top_value(), shown.least);
+            write!(text, " {x} {y}")
         }
     }
 }
@@ -114,8 +114,25 @@ pub(crate) fn write_points(
     Ok(())
 }
 
-/// Appends the ranges of all slots.
-pub(crate) fn write_ranges(
+// That of a slot among all.
+fn write_low_at(
+    text: &mut String,
+    frame: &Frame,
+    span: u64,
+    slots: &[Option<Bounds>],
+    slot: usize,
+) -> Result<(), AllocError>
+    requires some { 0 < span }
+    requires few { length slots.now ≤ 512 }
+    requires within { slot < length slots.now }
+    ensures { OnOk result (string_bytes text.new
+        ≡ string_bytes text.old ++ spec.low frame.now span slot (slot_at slots.now slot)) }
+{
+    write_low(text, frame, span, slot as u64, slots[slot])
+}
+
+/// Appends the points of least values of all slots, the last one first.
+pub(crate) fn write_lows_back(
     text: &mut String,
     frame: &Frame,
     span: u64,
@@ -124,10 +141,10 @@ pub(crate) fn write_ranges(
     requires some { 0 < span }
     requires few { length slots.now ≤ 512 }
     ensures { OnOk result (string_bytes text.new
-        ≡ string_bytes text.old ++ numbered (spec.range frame.now span) 0 slots.now) }
+        ≡ string_bytes text.old ++ numbered_back (spec.low frame.now span) 0 slots.now) }
 {
-    for (slot, bounds) in slots.iter().enumerate() {
-        write_range(text, frame, span, slot as u64, *bounds)?;
+    for back in 0..slots.len() {
+        write_low_at(text, frame, span, slots, slots.len() - 1 - back)?;
     }
     Ok(())
 }

@@ -13,7 +13,7 @@ use Rattle.stream_buffers.specs.declared.entered.Entered.{Entered}
 use Rattle.stream_buffers.specs.declared.buffers.StreamBuffers.{StreamBuffers}
 use Rattle.stream_buffers.specs.declared.entering.TheConstants.{LAST_INDEX, LAST_BYTES}
 use Rattle.stream_buffers.specs.Held.{Held, IsHeld}
-use Rattle.stream_buffers.specs.Entering.{EnteredView, after, after_begin, after_bytes, after_header, after_lead, after_unit, bytes_main, bytes_main_most, bytes_transport, bytes_transport_most, ended_with, entered, entered_view, lead_in, size_of, takes_in, unit_ended, with_packet}
+use Rattle.stream_buffers.specs.Entering.{EnteredView, after, after_begin, after_bytes, after_header, after_lead, after_unit, bytes_main, bytes_main_least, bytes_main_most, bytes_transport, bytes_transport_most, ended_with, entered, entered_view, lead_in, size_of, takes_in, unit_ended, with_packet}
 use Rattle.stream_buffers.proofs.Rows.{bytes_held}
 
 -- bytes among others that have times
@@ -54,10 +54,10 @@ packet_held b0 b1 b2 b3 b4 h arrival p size lead k takes same same' first header
     let held : IsHeld b4 (with_packet h arrival p size lead) = payload (after_unit h arrival p size lead) begun in
     subst (IsHeld b4) (ap (λ (n : ℕ). with_packet h arrival p n lead) same ∙ ap (λ (n : ℕ). with_packet h arrival p (size_of p) n) same' ∙ after_in h arrival p takes) held
 
-same_view : (e : Entered) (lead header payload main : List Excess) (unit : Option UnitSeen) (most main_most : ℕ) → option_to_list e.lead ≡ lead →
-    option_to_list e.header ≡ header → option_to_list e.payload ≡ payload → option_to_list e.main ≡ main → e.unit ≡ unit → e.transport_most ≡ most → e.main_most ≡ main_most →
-    entered_view e ≡ record { transport = lead ++ (header ++ payload); main = main; unit = unit; transport_most = most; main_most = main_most }
-same_view e lead header payload main unit most main_most p q r s t u v = rw (p, q, r, s, t, u, v) refl
+same_view : (e : Entered) (lead header payload main : List Excess) (unit : Option UnitSeen) (most main_most : ℕ) (least : Option ℕ) → option_to_list e.lead ≡ lead →
+    option_to_list e.header ≡ header → option_to_list e.payload ≡ payload → option_to_list e.main ≡ main → e.unit ≡ unit → e.transport_most ≡ most → e.main_most ≡ main_most → e.main_least ≡ least →
+    entered_view e ≡ record { transport = lead ++ (header ++ payload); main = main; unit = unit; transport_most = most; main_most = main_most; main_least = least }
+same_view e lead header payload main unit most main_most least p q r s t u v w = rw (p, q, r, s, t, u, v, w) refl
 
 same_most : (a b c d x y z : ℕ) → d ≡ max (max a b) c → a ≡ x → b ≡ y → c ≡ z → d ≡ max (max x y) z
 same_most a b c d x y z is p q r = rw (sym p, sym q, sym r) is
@@ -76,6 +76,7 @@ pub record Parts (b0 b1 b2 b3 : StreamBuffers) (arrival : Arrival) (p : Arriving
   pub main : (h : Held) → IsHeld b3 h → option_to_list e.main ≡ bytes_main h arrival p.enters (188 * p.index + (188 - size)) size
   pub payload_found : (h : Held) → IsHeld b3 h → payload_most ≡ bytes_transport_most h arrival (188 * p.index + (188 - size)) size
   pub main_found : (h : Held) → IsHeld b3 h → e.main_most ≡ bytes_main_most h arrival p.enters (188 * p.index + (188 - size)) size
+  pub least_found : (h : Held) → IsHeld b3 h → e.main_least ≡ bytes_main_least h arrival p.enters (188 * p.index + (188 - size)) size
   pub most : e.transport_most ≡ max (max front_most header_most) payload_most
 
 pub packet_entered : (b0 b1 b2 b3 : StreamBuffers) (h : Held) (arrival : Arrival) (p : Arriving) (e : Entered) (size lead lead_most header_most payload_most : ℕ) → IsHeld b0 h →
@@ -87,6 +88,7 @@ packet_entered b0 b1 b2 b3 h arrival p e size lead lead_most header_most payload
     let most = same_most lead_most header_most payload_most e.transport_most _ _ _ parts.most
     (parts.lead_found h k) (parts.header_found (after_lead h arrival p lead) led) (parts.payload_found (after_unit h arrival p size lead) begun) in
     let view : entered_view e ≡ ended_with h arrival p size lead =
-    same_view e _ _ _ _ _ _ _ (parts.lead h k) (parts.header (after_lead h arrival p lead) led) (parts.transport (after_unit h arrival p size lead) begun)
-    (parts.main (after_unit h arrival p size lead) begun) (parts.unit (after_header h arrival p size lead) passed) most (parts.main_found (after_unit h arrival p size lead) begun) in
+    same_view e _ _ _ _ _ _ _ _ (parts.lead h k) (parts.header (after_lead h arrival p lead) led) (parts.transport (after_unit h arrival p size lead) begun)
+    (parts.main (after_unit h arrival p size lead) begun) (parts.unit (after_header h arrival p size lead) passed) most (parts.main_found (after_unit h arrival p size lead) begun)
+    (parts.least_found (after_unit h arrival p size lead) begun) in
     view ∙ ap (λ (n : ℕ). ended_with h arrival p n lead) same ∙ ap (λ (n : ℕ). ended_with h arrival p (size_of p) n) same' ∙ entered_in h arrival p takes

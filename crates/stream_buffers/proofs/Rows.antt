@@ -4,20 +4,21 @@ use Rattle.clock27.specs.Departure.{departures, last_left}
 use Rattle.clock27.specs.Peak.{greatest_at, most_found}
 use Rattle.clock27.proofs.Departures.{last_left-append}
 use Rattle.main_buffer_rows.specs.RowEntry.{entered, fullness_with}
+use Rattle.main_buffer_rows.specs.Least.{least_found, least_in}
 use Rattle.transport_buffer.specs.Buffers.{entered as buffer_entered}
 use Rattle.transport_buffer.specs.declared.transport_buffer.TransportBuffer.{TransportBuffer}
 use Rattle.transport_buffer.specs.declared.excess.Excess.{Excess}
 use Rattle.decoder_buffers.specs.BufferState.{fullness_at}
 use Rattle.std.specs.Option.{option_to_list}
-use Rattle.stream_view.specs.History.{Part, arrivals_of, transport_of, last_of, left_after, main_fullness}
+use Rattle.stream_view.specs.History.{Part, arrivals_of, transport_of, last_of, left_after, main_fullness, row_least}
 use Rattle.stream_view.specs.History.Part.{Carries}
 use Rattle.stream_view.specs.Viewed.{IsViewOf}
 use Rattle.stream_view.specs.MainExcess.{after_row, ended_by}
 use Rattle.stream_view.specs.declared.buffers.StreamView.{StreamView}
 use Rattle.stream_view.specs.declared.row_seen.RowSeen.{RowSeen}
 use Rattle.stream_view.specs.declared.main_watch.MainWatch.{MainWatch}
-use Rattle.stream_view.proofs.Views.{row_most}
-use Rattle.stream_buffers.specs.Held.{Held, IsHeld, carried, main_ended, main_found, row_of, transport_found}
+use Rattle.stream_view.proofs.Views.{row_lowest, row_most}
+use Rattle.stream_buffers.specs.Held.{Held, IsHeld, carried, main_ended, main_found, main_least_found, row_of, transport_found}
 use Rattle.stream_buffers.specs.declared.buffers.StreamBuffers.{StreamBuffers}
 
 -- an excess of the main buffer depends on the most that a row finds, and on when its last byte enters
@@ -41,6 +42,21 @@ main_row view rate parts ts v step pos =
     ap₂ (λ (u l : ℕ). greatest_at (λ x. fullness_at view.main x + entered u x (departures s l ts)) (departures s l ts)) v.until last
     ∙ row_most s (fullness_at view.main) parts ts pos (λ x le. v.held x (omega (arith, le, last)))
     ∙ ap (λ (n : ℕ). greatest_at (main_fullness n (Carries ts ∷ parts)) (left_after n parts ts)) step
+
+-- and the least that one of them finds there
+pub least_row : {A : Type 0} (view : StreamView A) (rate : ℕ) (parts : List Part) (ts : List ℕ) → IsViewOf view parts → view.transport.step ≡ rate → 0 < view.transport.step →
+    least_in view.main None (departures view.transport.step view.transport.last ts) ≡ row_least rate parts ts
+least_row view rate parts ts v step pos =
+    let s : ℕ = view.transport.step in
+    let last : view.transport.last ≡ last_of s parts = ap (λ (b : TransportBuffer). b.last) v.arrived in
+    ap₂ (λ (u l : ℕ). least_found (fullness_at view.main) u 0 None (departures s l ts)) v.until last
+    ∙ row_lowest s (fullness_at view.main) parts ts pos (λ x le. v.held x (omega (arith, le, last)))
+    ∙ ap (λ (n : ℕ). row_least n parts ts) step
+
+pub main_lowest_found : (old : StreamBuffers) (h : Held) (ts times : List ℕ) (found : Option ℕ) → IsHeld old h → ts ≡ times → 0 < old.view.transport.step →
+    found ≡ least_in old.view.main None (departures old.view.transport.step old.view.transport.last ts) → found ≡ main_least_found h times
+main_lowest_found old h ts times found k same pos is =
+    is ∙ least_row old.view h.rate h.parts ts k.view k.step pos ∙ ap (λ (t : List ℕ). main_least_found h t) same
 
 -- the same of bytes that are told by when they arrive
 pub main_most_found : (old : StreamBuffers) (h : Held) (ts times : List ℕ) (found : ℕ) → IsHeld old h → ts ≡ times → 0 < old.view.transport.step →

@@ -8,19 +8,20 @@ use Rattle.transport_buffer.specs.declared.excess.Excess.{Excess}
 use Rattle.stream_view.specs.History.{transport_of}
 use Rattle.stream_view.specs.declared.unit_seen.UnitSeen.{UnitSeen}
 use Rattle.stream_view.specs.declared.unit_seen.DueTime.{DueTime}
-use Rattle.stream_buffers.specs.Held.{Held, begun, carried, main_ended, main_found, passed, transport_ended, transport_found, unit_before}
+use Rattle.stream_buffers.specs.Held.{Held, begun, carried, main_ended, main_found, main_least_found, passed, transport_ended, transport_found, unit_before}
 use Rattle.stream_buffers.specs.declared.arriving.Arriving.{Arriving}
 use Rattle.stream_buffers.specs.declared.entered.Entered.{Entered}
 use Rattle.stream_buffers.specs.declared.entering.TheConstants.{LAST_INDEX, LAST_BYTES}
 
--- what has ended with a packet: excesses of the transport buffer, of the main buffer, and the unit before one that begins; and the most
--- that was in each buffer when a byte of it entered
+-- what has ended with a packet: excesses of the transport buffer, of the main buffer, and the unit before one that begins; the most
+-- that was in each buffer when a byte of it entered, and the least that one found in the main buffer
 pub record EnteredView : Type 0 where
   pub transport : List Excess
   pub main : List Excess
   pub unit : Option UnitSeen
   pub transport_most : ℕ
   pub main_most : ℕ
+  pub main_least : Option ℕ
 
 abbrev pub entered_view : Entered → EnteredView
 entered_view e = record {
@@ -29,10 +30,11 @@ entered_view e = record {
   unit = e.unit;
   transport_most = e.transport_most;
   main_most = e.main_most;
+  main_least = e.main_least;
 }
 
 abbrev pub nothing : EnteredView
-nothing = record { transport = []; main = []; unit = None; transport_most = 0; main_most = 0 }
+nothing = record { transport = []; main = []; unit = None; transport_most = 0; main_most = 0; main_least = None }
 
 -- the bytes of its payload; and how many of those before them lie on the first of two lines, where the second begins within the packet
 abbrev pub size_of : Arriving → ℕ
@@ -66,8 +68,11 @@ payload_transport_most h count times = if count == 0 then 0 else transport_found
 unfoldable pub payload_main_most : Held → Bool → ℕ → List ℕ → ℕ
 payload_main_most h enters count times = if count == 0 then 0 else if enters then main_found h times else 0
 
+unfoldable pub payload_main_least : Held → Bool → ℕ → List ℕ → Option ℕ
+payload_main_least h enters count times = if count == 0 then None else if enters then main_least_found h times else None
+
 -- n bytes of the stream from byte i on, none where there are none: what is held then, the excesses that have ended,
--- and the most that was in each buffer
+-- the most that was in each buffer, and the least that one found in the main buffer
 abbrev pub after_bytes : Held → Arrival → Bool → ℕ → ℕ → Held
 after_bytes h arrival enters i n = after_payload h enters n (times_at arrival h.rx i n)
 
@@ -82,6 +87,9 @@ bytes_transport_most h arrival i n = payload_transport_most h n (times_at arriva
 
 abbrev pub bytes_main_most : Held → Arrival → Bool → ℕ → ℕ → ℕ
 bytes_main_most h arrival enters i n = payload_main_most h enters n (times_at arrival h.rx i n)
+
+abbrev pub bytes_main_least : Held → Arrival → Bool → ℕ → ℕ → Option ℕ
+bytes_main_least h arrival enters i n = payload_main_least h enters n (times_at arrival h.rx i n)
 
 -- a packet enters as long as its bytes have times and no more than 2^40 bytes come
 abbrev pub takes_in : Held → Arrival → Arriving → Bool
@@ -115,6 +123,7 @@ ended_with h arrival p size lead = record {
       (max (bytes_transport_most h arrival (188 * p.index) lead) (bytes_transport_most (after_lead h arrival p lead) arrival (188 * p.index + lead) (188 - size - lead)))
       (bytes_transport_most (after_unit h arrival p size lead) arrival (188 * p.index + (188 - size)) size);
   main_most = bytes_main_most (after_unit h arrival p size lead) arrival p.enters (188 * p.index + (188 - size)) size;
+  main_least = bytes_main_least (after_unit h arrival p size lead) arrival p.enters (188 * p.index + (188 - size)) size;
 }
 
 unfoldable pub entered : Held → Arrival → Arriving → EnteredView

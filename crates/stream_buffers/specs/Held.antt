@@ -5,7 +5,7 @@ use Rattle.std.specs.Option.{option_to_list}
 use Rattle.clock27.specs.Peak.{greatest_at, most_found}
 use Rattle.transport_buffer.specs.declared.excess.Excess.{Excess}
 use Rattle.transport_buffer.specs.Excesses.{excess_after, excesses_ended}
-use Rattle.stream_view.specs.History.{Part, arrivals_of, transport_of, last_of, left_after, main_fullness, main_peak, unit_of}
+use Rattle.stream_view.specs.History.{Part, arrivals_of, transport_of, last_of, left_after, main_fullness, main_peak, row_least, unit_of}
 use Rattle.stream_view.specs.History.Part.{Passes, Carries, Begins}
 use Rattle.stream_view.specs.Viewed.{IsViewOf}
 use Rattle.stream_view.specs.MainExcess.{after_row, ended_by}
@@ -65,12 +65,14 @@ transport_found h times = most_found h.rate (last_of h.rate h.parts) times
 abbrev pub passed : Held → List ℕ → Held
 passed h times = record { rate = h.rate; rx = h.rx; parts = Passes times ∷ h.parts; main = h.main }
 
--- or they are of the unit under way: what the main buffer holds at most when one of them enters, and when the last one does
+-- or they are of the unit under way: what the main buffer holds at most when one of them enters, at least before one does, and
+-- when the last one does
 abbrev pub row_of : Held → List ℕ → RowSeen
 row_of h times = record {
   transport = 0;
   ended = None;
   main = greatest_at (main_fullness h.rate (Carries times ∷ h.parts)) (left_after h.rate h.parts times);
+  least = row_least h.rate h.parts times;
   last = last_of h.rate (Carries times ∷ h.parts);
 }
 
@@ -85,6 +87,10 @@ carried h times = record {
 -- the most that was in the main buffer when one of them entered it
 abbrev pub main_found : Held → List ℕ → ℕ
 main_found h times = (row_of h times).main
+
+-- and the least that one of them found there, itself not counted
+abbrev pub main_least_found : Held → List ℕ → Option ℕ
+main_least_found h times = (row_of h times).least
 
 -- the excess of the main buffer that has ended by then
 abbrev pub main_ended : Held → List ℕ → List Excess

@@ -5,7 +5,8 @@ use transport_buffer::Excess;
 
 /// What has ended with a packet: an excess of the transport buffer before one of its first bytes, which lie on another line than the
 /// others, before another byte of its header, or before one of its payload; one of the main buffer; and the unit before one that begins.
-/// And the most bytes that were in each buffer when one of the packet entered it, itself included; 0 where none did.
+/// And the most bytes that were in each buffer when one of the packet entered it, itself included; 0 where none did; and the least that
+/// one of them found in the main buffer, itself not counted.
 #[derive(Clone, Copy)]
 pub struct Entered {
     pub lead: Option<Excess>,
@@ -15,4 +16,5 @@ pub struct Entered {
     pub unit: Option<UnitSeen>,
     pub transport_most: u128,
     pub main_most: u64,
+    pub main_least: Option<u64>,
 }

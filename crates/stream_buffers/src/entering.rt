@@ -1,9 +1,9 @@
 //! Both buffers of a stream.
-ghost use Rattle.std.specs.Prelude.{◌≡◌, ◌+◌, ◌<◌, ◌≤◌, ◌^◌, IfOk, OnOk, true};
+ghost use Rattle.std.specs.Prelude.{◌≡◌, ◌+◌, ◌<◌, ◌≤◌, ◌^◌, IfOk, None, OnOk, true};
 ghost use Rattle.std.specs.Option.{option_to_list};
 ghost use Rattle.stream_arrival.specs.Arrivals.{has_times, step_of, times_at};
-ghost use Rattle.stream_buffers.specs.Held.{Held, IsHeld, carried, empty, main_ended, main_found, main_most, passed, transport_ended, transport_found, transport_most, transport_under_way, unit_before};
-ghost use Rattle.stream_buffers.specs.Entering.{after, after_begin, after_bytes, bytes_main, bytes_main_most, bytes_transport, bytes_transport_most, entered, entered_view, unit_ended};
+ghost use Rattle.stream_buffers.specs.Held.{Held, IsHeld, carried, empty, main_ended, main_found, main_least_found, main_most, passed, transport_ended, transport_found, transport_most, transport_under_way, unit_before};
+ghost use Rattle.stream_buffers.specs.Entering.{after, after_begin, after_bytes, bytes_main, bytes_main_least, bytes_main_most, bytes_transport, bytes_transport_most, entered, entered_view, unit_ended};
 
 use crate::arriving::Arriving;
 use crate::buffers::StreamBuffers;
@@ -27,6 +27,7 @@ const NO_ROW: RowSeen = RowSeen {
     transport: 0,
     ended: None,
     main: 0,
+    least: None,
     last: 0,
 };
 
@@ -90,6 +91,7 @@ impl StreamBuffers {
         ensures most { (h : Held) → IsHeld self.old h →
             result.transport ≡ transport_found h (times_at arrival.now h.rx byte count) }
         ensures main { result.main ≡ 0 }
+        ensures least { result.least ≡ None }
         ensures bytes { self.new.view.transport.bytes ≡ self.old.view.transport.bytes + count }
     {
         let row = arrival.row(u64::from(self.rx), byte, count);
@@ -111,6 +113,8 @@ impl StreamBuffers {
             result.0.transport ≡ transport_found h (times_at arrival.now h.rx byte count) }
         ensures main_most { (h : Held) → IsHeld self.old h →
             result.0.main ≡ main_found h (times_at arrival.now h.rx byte count) }
+        ensures main_least { (h : Held) → IsHeld self.old h →
+            result.0.least ≡ main_least_found h (times_at arrival.now h.rx byte count) }
         ensures bytes { self.new.view.transport.bytes ≡ self.old.view.transport.bytes + count }
     {
         let row = arrival.row(u64::from(self.rx), byte, count);
@@ -136,7 +140,7 @@ impl StreamBuffers {
 
     // Bytes of the stream from byte `byte` on, none where there are none: what they found, and the excess of the main buffer that has
     // ended.
-    #[tactic(auto, unfolding(crate::specs::Entering::after_payload, crate::specs::Entering::payload_transport, crate::specs::Entering::payload_main, crate::specs::Entering::payload_transport_most, crate::specs::Entering::payload_main_most))]
+    #[tactic(auto, unfolding(crate::specs::Entering::after_payload, crate::specs::Entering::payload_transport, crate::specs::Entering::payload_main, crate::specs::Entering::payload_transport_most, crate::specs::Entering::payload_main_most, crate::specs::Entering::payload_main_least))]
     fn take(
         &mut self,
         arrival: &Arrival,
@@ -152,6 +156,7 @@ impl StreamBuffers {
         ensures main { (h : Held) → IsHeld self.old h → option_to_list result.1 ≡ bytes_main h arrival.now enters byte count }
         ensures most { (h : Held) → IsHeld self.old h → result.0.transport ≡ bytes_transport_most h arrival.now byte count }
         ensures main_most { (h : Held) → IsHeld self.old h → result.0.main ≡ bytes_main_most h arrival.now enters byte count }
+        ensures main_least { (h : Held) → IsHeld self.old h → result.0.least ≡ bytes_main_least h arrival.now enters byte count }
         ensures bytes { self.new.view.transport.bytes ≡ self.old.view.transport.bytes + count }
     {
         if count == 0 {
@@ -163,7 +168,7 @@ impl StreamBuffers {
         }
     }
 
-    /// A packet of the stream enters: what has ended, and the most that was in the buffers. There is no memory where 4,096 units wait in the main buffer, or none is left for
+    /// A packet of the stream enters: what has ended, and what was in the buffers. There is no memory where 4,096 units wait in the main buffer, or none is left for
     /// one more; then drop them.
     #[tactic(auto, unfolding(crate::specs::Entering::after, crate::specs::Entering::entered), using(crate::proofs::Packets::within))]
     pub fn enter(&mut self, arrival: &Arrival, packet: &Arriving) -> Result<Entered, AllocError>
@@ -183,6 +188,7 @@ impl StreamBuffers {
                 unit: None,
                 transport_most: 0,
                 main_most: 0,
+                main_least: None,
             });
         }
         let size = packet.size.min(184);
@@ -202,6 +208,7 @@ impl StreamBuffers {
             unit,
             transport_most: most,
             main_most: payload.main,
+            main_least: payload.least,
         })
     }
 }

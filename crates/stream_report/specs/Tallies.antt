@@ -1,6 +1,7 @@
--- What is counted of a stream: excesses, units, and in a window the most that its buffers held and the units that ended.
+-- What is counted of a stream: excesses, units, and in a window what its buffers held and the units that ended.
 use Rattle.std.specs.Prelude.{ℕ, ◌+◌, ◌-◌, ◌^◌, ◌==◌, max, min, nat_lt, Bool, if◌then◌else◌, Option, Some, None}
 use Rattle.stream_buffers.specs.Entering.{EnteredView}
+use Rattle.stream_view.specs.Lows.{least_of_both}
 use Rattle.stream_view.specs.declared.unit_seen.UnitSeen.{UnitSeen}
 use Rattle.stream_report.specs.declared.tally.Tally.{Tally}
 
@@ -14,6 +15,7 @@ none_counted = record {
   window = 0;
   window_transport = 0;
   window_main = 0;
+  window_least = None;
   window_units = 0;
   window_late = 0;
   slack = 2 ^ 128 - 1;
@@ -25,11 +27,15 @@ more n count = min (n + count) (2 ^ 64 - 1)
 
 -- another window than the last packet's has none yet
 abbrev pub in_window : Tally → ℕ → Tally
-in_window t window = if t.window == window then t else record t { window = window; window_transport = 0; window_main = 0; window_units = 0; window_late = 0; slack = 2 ^ 128 - 1 }
+in_window t window = if t.window == window then t else record t { window = window; window_transport = 0; window_main = 0; window_least = None; window_units = 0; window_late = 0; slack = 2 ^ 128 - 1 }
 
--- the most that the buffers held when a packet of the window entered
+-- what the buffers held when a packet of the window entered: the most in each, and the least that a byte of it found in the main buffer
 abbrev pub grown : Tally → EnteredView → Tally
-grown t e = record t { window_transport = max t.window_transport e.transport_most; window_main = max t.window_main e.main_most }
+grown t e = record t {
+  window_transport = max t.window_transport e.transport_most;
+  window_main = max t.window_main e.main_most;
+  window_least = least_of_both t.window_least e.main_least;
+}
 
 abbrev pub with_packet : Tally → ℕ → EnteredView → Tally
 with_packet t window e = grown (in_window t window) e

@@ -41,11 +41,12 @@ fn write_held(
         number("pid", u128::from(place.pid)),
         number("transport", tally.window_transport),
         number("main", u128::from(tally.window_main)),
+        number("main_least", u128::from(tally.window_least.unwrap_or(0))),
     ];
     write_line(text, options.json, "held", &fields)
 }
 
-// The most that the buffers held in a window, if a packet entered in it.
+// What the buffers held in a window, if a packet entered in it.
 fn write_held_if(
     text: &mut String,
     options: &ViewOptions,

@@ -1,6 +1,7 @@
 //! What is counted of a stream.
 ghost use Rattle.std.specs.Prelude.{◌≡◌};
 ghost use Rattle.stream_buffers.specs.Entering.{entered_view};
+ghost use Rattle.stream_view.specs.Lows.{least_of_both};
 ghost use Rattle.stream_report.specs.Tallies as spec;
 
 use stream_buffers::Entered;
@@ -17,14 +18,27 @@ pub struct Tally {
     pub late: u64,
     /// PES packets whose header was not read.
     pub unread: u64,
-    /// The window of the last packet; the most bytes that were in each buffer when one of its packets entered, the units that ended in
-    /// it, those of them that were late, and the least slack of one.
+    /// The window of the last packet; the most bytes that were in each buffer when one of its packets entered, the least that one of their
+    /// bytes found in the main buffer, the units that ended in it, those of them that were late, and the least slack of one.
     pub window: u64,
     pub window_transport: u128,
     pub window_main: u64,
+    pub window_least: Option<u64>,
     pub window_units: u64,
     pub window_late: u64,
     pub slack: u128,
+}
+
+// The least of two numbers, of which there may be none.
+#[tactic(auto, unfolding(stream_view::specs::Lows::least_of_both))]
+fn least_of_both(a: Option<u64>, b: Option<u64>) -> Option<u64>
+    ensures { result ≡ least_of_both a b }
+{
+    match (a, b) {
+        (None, b) => b,
+        (Some(a), None) => Some(a),
+        (Some(a), Some(b)) => Some(a.min(b)),
+    }
 }
 
 impl Tally {
@@ -41,6 +55,7 @@ impl Tally {
             window: 0,
             window_transport: 0,
             window_main: 0,
+            window_least: None,
             window_units: 0,
             window_late: 0,
             slack: u128::MAX,
@@ -58,6 +73,7 @@ impl Tally {
             window,
             window_transport: 0,
             window_main: 0,
+            window_least: None,
             window_units: 0,
             window_late: 0,
             slack: u128::MAX,
@@ -73,6 +89,7 @@ impl Tally {
         Tally {
             window_transport: tally.window_transport.max(entered.transport_most),
             window_main: tally.window_main.max(entered.main_most),
+            window_least: least_of_both(tally.window_least, entered.main_least),
             ..tally
         }
     }

@@ -5,3 +5,4 @@ pub mod AllMoments
 mod Examples
 pub mod TableRows
 pub mod TablePeaks
+pub mod Lows

@@ -9,8 +9,10 @@ use Rattle.clock27.proofs.Peak.{departures_climb}
 use Rattle.decoder_buffers.proofs.RisingTimes.{climbs_low, greatest_ext}
 use Rattle.main_buffer_rows.specs.RowEntry.{entered, fullness_with}
 use Rattle.main_buffer_rows.proofs.RowEntries.{none_entered}
+use Rattle.main_buffer_rows.specs.Least.{least_found, least_in}
+use Rattle.main_buffer_rows.proofs.Least.{found_shift}
 use Rattle.main_buffer_rows.proofs.Leaving.{greatest_at-append, climbs_rises}
-use Rattle.stream_view.specs.History.{Part, arrivals_of, last_of, left_after, payload_left, main_fullness, main_peak, until_of, with_bytes, unit_of}
+use Rattle.stream_view.specs.History.{Part, arrivals_of, last_of, left_after, payload_left, main_fullness, main_peak, row_least, until_of, with_bytes, unit_of}
 use Rattle.stream_view.specs.Viewed.{IsViewOf}
 use Rattle.stream_view.specs.declared.buffers.StreamView.{StreamView}
 use Rattle.transport_buffer.specs.declared.transport_buffer.TransportBuffer.{TransportBuffer}
@@ -100,6 +102,15 @@ row_most step held before ts pos same =
     let f : ℕ → ℕ = main_fullness step before in
     greatest_from held f until (last_of step before) ds ds (departures_climb step (last_of step before) ts pos) same
     ∙ sym (greatest_ext (main_fullness step (Carries ts ∷ before)) (λ x. f x + entered until x ds) ds (λ x. refl))
+
+-- the least that one of these finds
+pub row_lowest : (step : ℕ) (held : ℕ → ℕ) (before : List Part) (ts : List ℕ) → 0 < step → ((x : ℕ) → last_of step before ≤ x → held x ≡ main_fullness step before x) →
+    least_found held (until_of before) 0 None (left_after step before ts) ≡ row_least step before ts
+row_lowest step held before ts pos same =
+    let ds = left_after step before ts in
+    let climbs = departures_climb step (last_of step before) ts pos in
+    found_shift (main_fullness step before) held (until_of before) 0 0 (suc (last_of step before)) None ds (climbs_rises (suc (last_of step before)) ds climbs)
+    (λ x le. omega (arith, same x (omega (arith, le))))
 
 -- and what is there
 held_more : (step x last last' until until' now here before : ℕ) (ts : List ℕ) → last ≡ last' → until ≡ until' → here ≡ before →
@@ -247,6 +258,10 @@ held_left buffer buffer' leaving ds is there =
 pub most_left : {A : Type 0} (buffer : MainBuffer A) (leaving : Leaving) (ds : List ℕ) → times_left leaving ≡ ds →
     greatest_at (fullness_with buffer (times_left leaving)) (times_left leaving) ≡ greatest_at (fullness_with buffer ds) ds
 most_left buffer leaving ds is = ap (λ (es : List ℕ). greatest_at (fullness_with buffer es) es) is
+
+pub least_left : {A : Type 0} (buffer : MainBuffer A) (leaving : Leaving) (ds : List ℕ) → times_left leaving ≡ ds →
+    least_in buffer None (times_left leaving) ≡ least_in buffer None ds
+least_left buffer leaving ds is = ap (least_in buffer None) is
 
 abbrev bytes_of : Option UnitSeen → ℕ
 bytes_of None = 0

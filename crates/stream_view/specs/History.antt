@@ -8,6 +8,7 @@ use Rattle.transport_buffer.specs.Buffers.{entered as buffer_entered}
 use Rattle.transport_buffer.specs.Laws.{empty}
 use Rattle.transport_buffer.specs.declared.transport_buffer.TransportBuffer.{TransportBuffer}
 use Rattle.main_buffer_rows.specs.RowEntry.{entered}
+use Rattle.main_buffer_rows.specs.Least.{least_found}
 use Rattle.stream_view.specs.declared.unit_seen.DueTime.{DueTime}
 use Rattle.stream_view.specs.declared.unit_seen.UnitSeen.{UnitSeen}
 
@@ -62,6 +63,10 @@ main_fullness step (Begins due ∷ before) x = main_fullness step before x
 -- the most bytes in it when one of them enters
 abbrev pub main_peak : ℕ → List Part → ℕ
 main_peak step parts = greatest_at (main_fullness step parts) (payload_left step parts)
+
+-- the least that one of these payload bytes finds in it, itself not counted, that come after those parts
+abbrev pub row_least : ℕ → List Part → List ℕ → Option ℕ
+row_least step before times = least_found (main_fullness step before) (until_of before) 0 None (left_after step before times)
 
 -- a unit with more bytes, the last of which leaves then
 abbrev pub with_bytes : Option UnitSeen → ℕ → ℕ → Option UnitSeen

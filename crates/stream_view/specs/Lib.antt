@@ -1,5 +1,6 @@
 pub mod History
 pub mod Viewed
+pub mod Lows
 pub mod MainExcess
 pub mod ConstantRate
 pub mod Laws

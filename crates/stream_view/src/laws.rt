@@ -2,6 +2,7 @@
 //! caller may cite it.
 ghost use Rattle.stream_view.specs.ConstantRate.{ConstantRateLaw, InTimeLaw};
 ghost use Rattle.stream_view.specs.Laws.{FiguresLaw, TablesLaw};
+ghost use Rattle.stream_view.specs.Lows.{LowsLaw};
 
 /// The figures of a view are the greatest fullness of both buffers over all moments.
 pub fn figures()
@@ -11,6 +12,11 @@ pub fn figures()
 /// So are those of a view of a program's tables.
 pub fn tables()
     ensures { TablesLaw }
+{}
+
+/// The least that the bytes of a part of a stream find in the main buffer is its least fullness while that part comes.
+pub fn lows()
+    ensures { LowsLaw }
 {}
 
 /// Of a stream at a constant rate those of a view of a stream are those of the model of finished bytes, and a unit's deadline is

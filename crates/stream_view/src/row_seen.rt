@@ -11,6 +11,8 @@ pub struct RowSeen {
     pub ended: Option<Excess>,
     /// The most bytes that were in the main buffer when one of them entered it; 0 where none does.
     pub main: u64,
+    /// The least that one of them found in the main buffer, itself not counted; none where none enters it.
+    pub least: Option<u64>,
     /// When the last of them leaves the transport buffer.
     pub last: u128,
 }

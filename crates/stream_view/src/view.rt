@@ -7,6 +7,7 @@ ghost use Rattle.packet_arrival.specs.Rows.{IsTimed, IsEarly, times_of};
 ghost use Rattle.transport_buffer.specs.Buffers.{entered};
 ghost use Rattle.transport_buffer.specs.Excesses.{excesses_ended};
 ghost use Rattle.main_buffer_rows.specs.RowEntry.{fullness_with};
+ghost use Rattle.main_buffer_rows.specs.Least.{least_in};
 ghost use Rattle.stream_view.specs.History.{Part, with_bytes};
 ghost use Rattle.stream_view.specs.History.Part.{Passes, Carries, Begins};
 ghost use Rattle.stream_view.specs.Refusal.{Answers};
@@ -84,6 +85,7 @@ impl<A: Allocator> StreamView<A> {
         ensures ended { option_to_list result.ended
             ≡ excesses_ended self.old.transport.step self.old.watch.size self.old.transport.last self.old.watch.under_way (times_of row.now) }
         ensures main { result.main ≡ 0 }
+        ensures least { result.least ≡ None }
         ensures last { result.last ≡ self.new.transport.last }
         ensures size { self.new.watch.size ≡ self.old.watch.size }
         ensures unit { self.new.unit ≡ self.old.unit }
@@ -93,6 +95,7 @@ impl<A: Allocator> StreamView<A> {
             transport: arrived.most,
             ended: arrived.ended,
             main: 0,
+            least: None,
             last: self.transport.last,
         }
     }
@@ -112,17 +115,20 @@ impl<A: Allocator> StreamView<A> {
             ≡ excesses_ended self.old.transport.step self.old.watch.size self.old.transport.last self.old.watch.under_way (times_of row.now) }
         ensures main { let left : List ℕ = departures self.old.transport.step self.old.transport.last (times_of row.now) in
             result.main ≡ greatest_at (fullness_with self.old.main left) left }
+        ensures least { result.least
+            ≡ least_in self.old.main None (departures self.old.transport.step self.old.transport.last (times_of row.now)) }
         ensures last { result.last ≡ self.new.transport.last }
         ensures size { self.new.watch.size ≡ self.old.watch.size }
         ensures unit { self.new.unit ≡ with_bytes self.old.unit row.now.bytes self.new.transport.last }
     {
         let arrived = arrive(&mut self.transport, &mut self.watch, row);
-        let main = enter_leaving(&mut self.main, &arrived.leaving);
+        let found = enter_leaving(&mut self.main, &arrived.leaving);
         self.unit = with_bytes(self.unit, row.bytes, self.transport.last);
         RowSeen {
             transport: arrived.most,
             ended: arrived.ended,
-            main,
+            main: found.most,
+            least: found.least,
             last: self.transport.last,
         }
     }

@@ -5,7 +5,7 @@ use Rattle.page_charts.specs.declared.pid_name.PidName.{PidName}
 use Rattle.page_charts.specs.declared.pid_name.PidName.TheVariants.{Mpeg2, Avc, Hevc, Audio, Aac, Ac3, Subtitles, Teletext}
 use Rattle.page_charts.specs.declared.pid_name.PidName.TheVariants as names
 use Rattle.view_page.specs.declared.fields.FieldName.{FieldName}
-use Rattle.view_page.specs.declared.fields.FieldName.TheVariants.{Number, Pid, Program, StreamType, Rx, Main, Transport, Rate, Slack, Packet, Packets, Pcrs, Peak, Size, Most, Excesses, Units, Late, Unread, By, Limit, Value, References, Announced, Interval, Inaccuracy, Table, Sections, Refused, Left}
+use Rattle.view_page.specs.declared.fields.FieldName.TheVariants.{Number, Pid, Program, StreamType, Rx, Main, Transport, Rate, MainLeast, Slack, Packet, Packets, Pcrs, Peak, Size, Most, Excesses, Units, Late, Unread, By, Limit, Value, References, Announced, Interval, Inaccuracy, Table, Sections, Refused, Left}
 
 unfoldable pub field_word : FieldName → List ℕ
 field_word Number = codes "number"
@@ -16,6 +16,7 @@ field_word Rx = codes "rx"
 field_word Main = codes "main"
 field_word Transport = codes "transport"
 field_word Rate = codes "rate"
+field_word MainLeast = codes "main_least"
 field_word Slack = codes "slack"
 field_word Packet = codes "packet"
 field_word Packets = codes "packets"

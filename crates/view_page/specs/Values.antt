@@ -11,7 +11,8 @@ use Rattle.view_page.specs.declared.values.Values.{Values}
 use Rattle.view_page.specs.declared.values.TheConstants.{TRANSPORT_BYTES}
 use Rattle.view_page.specs.Fields.{coding_in, number_in, pid_in}
 
--- the number of windows; bit rates by PID, the most bytes in both buffers of a stream, and the least slack of its units in microseconds
+-- the number of windows; bit rates by PID, the most bytes in the transport buffer of a stream, the most and the least in its main buffer,
+-- and the least slack of its units in microseconds
 pub record KeptValues : Type 0 where
   pub windows : ℕ
   pub rates : List KeptCurve
@@ -53,11 +54,12 @@ with_stream v words = record v {
   slacks = opened (pid_in words) (coding_in words) 0 v.slacks;
 }
 
--- `held`: the most that its buffers held in a window
+-- `held`: what its buffers held in a window: two values of the main buffer
 abbrev pub with_held : KeptValues → List (List ℕ) → KeptValues
 with_held v words = record v {
   transports = with_sample (pid_in words) (sample (number_in fields.Number words) (number_in fields.Transport words)) v.transports;
-  mains = with_sample (pid_in words) (sample (number_in fields.Number words) (number_in fields.Main words)) v.mains;
+  mains = with_sample (pid_in words) (sample (number_in fields.Number words) (number_in fields.MainLeast words))
+      (with_sample (pid_in words) (sample (number_in fields.Number words) (number_in fields.Main words)) v.mains);
 }
 
 -- `units`: the least slack of its units in a window, cut down to microseconds

@@ -20,11 +20,11 @@ body{font:15px/1.5 system-ui,sans-serif;color:var(--ink);background:var(--paper)
 h1{font-size:1.5em;margin:0}h2{font-size:1.1em;margin:2em 0 .2em}p{margin:.2em 0 .6em}.soft,th,summary{color:var(--soft)}
 .chart{width:100%;height:auto;display:block}.chart text{font-size:125px;fill:var(--soft);font-variant-numeric:tabular-nums}
 .end{text-anchor:end;paint-order:stroke;stroke:var(--paper);stroke-width:40}.mid{text-anchor:middle}path{fill:none}.grid{stroke:var(--line);stroke-width:8}.limit{stroke:var(--ink);stroke-width:16;stroke-dasharray:90 50}
-.line{stroke-width:24;stroke-linejoin:round}.range{stroke-width:16;opacity:.45}.over{stroke:var(--bad);fill:var(--bad);stroke-width:24}
-.s0{stroke:var(--s0)}.s1{stroke:var(--s1);stroke-dasharray:130 40}.s2{stroke:var(--s2);stroke-dasharray:40 30}.s3{stroke:var(--s3);stroke-dasharray:150 40 30 40}
-.s4{stroke:var(--s4)}.s5{stroke:var(--s5);stroke-dasharray:130 40}.s6{stroke:var(--s6);stroke-dasharray:40 30}.s7{stroke:var(--s7);stroke-dasharray:150 40 30 40}
-.s8{stroke:var(--s0);stroke-dasharray:20 20}.s9{stroke:var(--s1);stroke-dasharray:20 60}.s10{stroke:var(--s2);stroke-dasharray:200 30}.s11{stroke:var(--s3);stroke-dasharray:80 80}
-.s12{stroke:var(--s4);stroke-dasharray:20 20}.s13{stroke:var(--s5);stroke-dasharray:20 60}.s14{stroke:var(--s6);stroke-dasharray:200 30}.s15{stroke:var(--s7);stroke-dasharray:80 80}
+.line{stroke:var(--c);stroke-width:24;stroke-linejoin:round}.range{fill:var(--c);stroke:var(--c);stroke-width:10;opacity:.25}.over{stroke:var(--bad);fill:var(--bad);stroke-width:24}
+.s0{--c:var(--s0)}.s1{--c:var(--s1);stroke-dasharray:130 40}.s2{--c:var(--s2);stroke-dasharray:40 30}.s3{--c:var(--s3);stroke-dasharray:150 40 30 40}
+.s4{--c:var(--s4)}.s5{--c:var(--s5);stroke-dasharray:130 40}.s6{--c:var(--s6);stroke-dasharray:40 30}.s7{--c:var(--s7);stroke-dasharray:150 40 30 40}
+.s8{--c:var(--s0);stroke-dasharray:20 20}.s9{--c:var(--s1);stroke-dasharray:20 60}.s10{--c:var(--s2);stroke-dasharray:200 30}.s11{--c:var(--s3);stroke-dasharray:80 80}
+.s12{--c:var(--s4);stroke-dasharray:20 20}.s13{--c:var(--s5);stroke-dasharray:20 60}.s14{--c:var(--s6);stroke-dasharray:200 30}.s15{--c:var(--s7);stroke-dasharray:80 80}
 .range{stroke-dasharray:none}.key{color:var(--ink)}.key span{display:inline-block;margin-right:1.4em}.sample{width:3em;height:.6em}
 table{border-collapse:collapse;font-variant-numeric:tabular-nums}th,td{padding:.15em .9em .15em 0;text-align:right;border-bottom:1px solid var(--line)}
 th{font-weight:500;vertical-align:bottom}.word{text-align:left}.bad{color:var(--bad);font-weight:600}.wide{overflow-x:auto}table:not(:has(td)){display:none}.tall{max-height:28em;overflow-y:auto}
@@ -44,7 +44,7 @@ const TRANSPORTS: &str =
     "<h2>Transport buffers</h2><p class=\"soft\">The most bytes that were in the buffer, by window, beside its size. What lies over it is drawn thick, with a mark.</p>\n";
 
 const MAINS: &str =
-    "<h2>Main buffers</h2><p class=\"soft\">The most bytes that were in the buffer, by window, beside its size.</p>\n";
+    "<h2>Main buffers</h2><p class=\"soft\">The most and the least bytes that were in the buffer, by window, beside its size.</p>\n";
 
 const FAULTS: &str =
     "<h2>Faults</h2><p class=\"soft\">The first 100.</p><div class=\"wide tall\"><table><tr><th class=\"word\">what<th>PID<th>packet<th>value<th>limit<th class=\"word\">unit\n";

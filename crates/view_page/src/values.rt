@@ -11,8 +11,8 @@ use std::alloc::{AllocError, Global};
 /// The size of a transport buffer in bytes (ISO/IEC 13818-1, 2.4.2.3).
 const TRANSPORT_BYTES: u64 = 512;
 
-/// Curves by window: bit rates by PID, the most bytes in both buffers of a stream, and the least slack of its units in microseconds; and
-/// the number of windows.
+/// Curves by window: bit rates by PID, the most bytes in the transport buffer of a stream, the most and the least in its main buffer, and
+/// the least slack of its units in microseconds; and the number of windows.
 #[derive(Drop)]
 pub struct Values {
     pub windows: u64,
@@ -84,7 +84,9 @@ impl Values {
         self.transports
             .take(pid, number, number_in(FieldName::Transport, words))?;
         self.mains
-            .take(pid, number, number_in(FieldName::Main, words))
+            .take(pid, number, number_in(FieldName::Main, words))?;
+        self.mains
+            .take(pid, number, number_in(FieldName::MainLeast, words))
     }
 
     // `units`: the least slack of its units.

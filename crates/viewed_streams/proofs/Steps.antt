@@ -78,7 +78,7 @@ clock_known options pid index packet clocks = clock_more options pid index packe
 in_window_excesses : (t : Tally) (window : ℕ) → (in_window t window).excesses ≡ t.excesses
 in_window_excesses t window = by (t.window == window)
   where
-    by : (b : Bool) → (if b then t else record t { window = window; window_transport = 0; window_main = 0; window_units = 0; window_late = 0; slack = 2 ^ 128 - 1 }).excesses ≡ t.excesses
+    by : (b : Bool) → (if b then t else record t { window = window; window_transport = 0; window_main = 0; window_least = None; window_units = 0; window_late = 0; slack = 2 ^ 128 - 1 }).excesses ≡ t.excesses
     by true = refl
     by false = refl
 
@@ -94,7 +94,7 @@ in_window_units : (t : Tally) (window : ℕ) → ((in_window t window).units ≡
 in_window_units t window = by (t.window == window)
   where
     other : Tally
-    other = record t { window = window; window_transport = 0; window_main = 0; window_units = 0; window_late = 0; slack = 2 ^ 128 - 1 }
+    other = record t { window = window; window_transport = 0; window_main = 0; window_least = None; window_units = 0; window_late = 0; slack = 2 ^ 128 - 1 }
 
     by : (b : Bool) → ((if b then t else other).units ≡ t.units) × ((if b then t else other).late ≡ t.late)
     by true = (refl, refl)

@@ -1,12 +1,16 @@
-use Rattle.std.proofs.Common.{◌∙◌, arith}
+use Rattle.std.proofs.Common.{◌∙◌, ℕ, Option, ap, arith}
+use Rattle.packet_arrival.specs.Rows.{times_of}
+use Rattle.main_buffer_rows.specs.Least.{least_in}
 use Rattle.main_buffer_rows.proofs.RowEntries.{peak_end}
 use Rattle.main_buffer_rows.proofs.Pieces.{row_of_none}
+use Rattle.main_buffer_rows.proofs.Least.{least_end}
+use Rattle.decoder_buffers.specs.BufferState.{fullness_at}
 use Rattle.main_buffer_rows.proofs.row_entry.enter_row.Goals as goal
 
 pub loop-rest-preserved : goal.loop-rest-preserved
 loop-rest-preserved g c =
     let inv = c.loop-rest.invariant in
-    let e = c.enter_first-rest.ensures in
+    let e = c.enter_first-first.ensures in
     record {
       sound = e.sound;
       timed = e.timed;
@@ -14,6 +18,8 @@ loop-rest-preserved g c =
       fullness = omega (arith, e.fullness, inv.fullness);
       later = λ x all. e.later x (inv.later x all);
       there = λ x all. e.there x (inv.later x all) ∙ inv.there x all;
+      least = ap (λ (n : Option ℕ). least_in c.enter_first-first.new.buffer n (times_of c.enter_first-first.result.others)) c.lesser-lowest.ensures
+          ∙ e.least c.loop-rest.lowest ∙ inv.least;
       peak = e.peak ∙ inv.peak;
     }
 
@@ -26,3 +32,8 @@ pub returns-clause-peak : goal.returns-clause-peak
 returns-clause-peak g c =
     let none = row_of_none c.loop-rest.rest (omega (arith, c.loop-rest-test.false)) in
     peak_end c.loop-rest.buffer.peak _ _ _ none c.loop-rest.invariant.peak
+
+pub returns-clause-least : goal.returns-clause-least
+returns-clause-least g c =
+    let none = row_of_none c.loop-rest.rest (omega (arith, c.loop-rest-test.false)) in
+    least_end (fullness_at c.loop-rest.buffer) c.loop-rest.buffer.current.until c.loop-rest.lowest _ _ none c.loop-rest.invariant.least

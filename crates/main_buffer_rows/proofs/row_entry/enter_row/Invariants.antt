@@ -2,6 +2,7 @@ use Rattle.std.proofs.Common.{◌≡◌, ℕ, ◌+◌, ◌≤◌, All}
 use Rattle.packet_arrival.specs.Rows.{IsTimed, times_of}
 use Rattle.decoder_buffers.specs.BufferState.{IsSound}
 use Rattle.main_buffer_rows.specs.RowEntry.{fullness_with, peak_with}
+use Rattle.main_buffer_rows.specs.Least.{least_in}
 use Rattle.main_buffer_rows.proofs.row_entry.enter_row.Given as goal
 
 abbrev pub invariant-loop-rest : goal.invariant-loop-rest
@@ -13,6 +14,7 @@ invariant-loop-rest g l = record {
   later : (x : ℕ) → All (λ t. t ≤ x) (times_of l.row) → All (λ t. t ≤ x) (times_of l.rest);
   there : (x : ℕ) → All (λ t. t ≤ x) (times_of l.row) →
       fullness_with l.buffer (times_of l.rest) x ≡ fullness_with l.fn.buffer (times_of l.row) x;
+  least : least_in l.buffer l.lowest (times_of l.rest) ≡ least_in l.fn.buffer l.fn.least (times_of l.row);
   peak : peak_with l.buffer (times_of l.rest) ≡ peak_with l.fn.buffer (times_of l.row);
 }
 

@@ -2,7 +2,7 @@ use Rattle.std.proofs.Common.{◌≡◌, ◌∙◌, ℕ, refl, ap, arith}
 use Rattle.stream_arrival.specs.Arrivals.{times_at}
 use Rattle.packet_arrival.specs.Rows.{times_of}
 use Rattle.stream_view.proofs.Views.{bytes_more}
-use Rattle.stream_buffers.proofs.Rows.{carried_ended, carried_held, main_most_found, transport_most_found}
+use Rattle.stream_buffers.proofs.Rows.{carried_ended, carried_held, main_lowest_found, main_most_found, transport_most_found}
 use Rattle.stream_buffers.proofs.buffers.StreamBuffers.carry.Goals as goal
 
 pub returns-clause-held : goal.returns-clause-held
@@ -37,6 +37,14 @@ returns-clause-main_most c = λ h k.
     c.row-row.ensures.times ∙ ap (λ (r : ℕ). times_at c.args.arrival.now r c.args.byte c.args.count) (c.from.ensures ∙ k.rx) in
     main_most_found old h (times_of c.row-row.result) (times_at c.args.arrival.now h.rx c.args.byte c.args.count) c.carry-seen.result.main k times old.view.paced.some
     c.carry-seen.ensures.main
+
+pub returns-clause-main_least : goal.returns-clause-main_least
+returns-clause-main_least c = λ h k.
+    let old = c.args.self.now in
+    let times : times_of c.row-row.result ≡ times_at c.args.arrival.now h.rx c.args.byte c.args.count =
+    c.row-row.ensures.times ∙ ap (λ (r : ℕ). times_at c.args.arrival.now r c.args.byte c.args.count) (c.from.ensures ∙ k.rx) in
+    main_lowest_found old h (times_of c.row-row.result) (times_at c.args.arrival.now h.rx c.args.byte c.args.count) c.carry-seen.result.least k times old.view.paced.some
+    c.carry-seen.ensures.least
 
 pub returns-clause-bytes : goal.returns-clause-bytes
 returns-clause-bytes c = omega (

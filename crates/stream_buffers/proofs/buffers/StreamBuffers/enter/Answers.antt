@@ -40,5 +40,6 @@ returns-clause-entered c = λ h k.
       main = c.take-main.ensures.main;
       payload_found = c.take-main.ensures.most;
       main_found = c.take-main.ensures.main_most;
+      least_found = c.take-main.ensures.main_least;
       most = search rules;
     })

@@ -4,16 +4,16 @@ use Rattle.packet_arrival.specs.Rows.{times_of}
 use Rattle.clock27.specs.Departure.{departures}
 use Rattle.main_buffer_rows.proofs.Pieces.{length-row}
 use Rattle.stream_view.specs.History.{with_bytes}
-use Rattle.stream_view.proofs.Views.{carried, left_bytes, bytes_more, climbing, held_left, most_left, counted_more}
+use Rattle.stream_view.proofs.Views.{carried, left_bytes, bytes_more, climbing, held_left, least_left, most_left, counted_more}
 use Rattle.stream_view.proofs.buffers.StreamView.carry.Goals as goal
 
-pub enter_leaving-main-requires-clause-climbing : goal.enter_leaving-main-requires-clause-climbing
-enter_leaving-main-requires-clause-climbing g c =
+pub enter_leaving-found-requires-clause-climbing : goal.enter_leaving-found-requires-clause-climbing
+enter_leaving-found-requires-clause-climbing g c =
     let old = c.args.self.now in
     climbing old.transport.step old.transport.last c.arrive-arrived.result.leaving (times_of c.args.row.now) old.paced.some c.arrive-arrived.ensures.left
 
-pub enter_leaving-main-requires-clause-room : goal.enter_leaving-main-requires-clause-room
-enter_leaving-main-requires-clause-room g c =
+pub enter_leaving-found-requires-clause-room : goal.enter_leaving-found-requires-clause-room
+enter_leaving-found-requires-clause-room g c =
     let old = c.args.self.now in
     let all = left_bytes old.transport.step old.transport.last c.arrive-arrived.result.leaving c.args.row.now c.arrive-arrived.ensures.left in
     omega (arith, all, old.fewer, c.requires.count)
@@ -23,7 +23,7 @@ invariant_of-self-clause-fewer g c =
     let old = c.args.self.now in
     let all = left_bytes old.transport.step old.transport.last c.arrive-arrived.result.leaving c.args.row.now c.arrive-arrived.ensures.left in
     let more = bytes_more old.transport c.arrive-arrived.new.transport c.args.row.now c.arrive-arrived.ensures.buffer in
-    omega (arith, all, more, old.fewer, c.enter_leaving-main.ensures.fullness)
+    omega (arith, all, more, old.fewer, c.enter_leaving-found.ensures.fullness)
 
 pub invariant_of-self-clause-counted : goal.invariant_of-self-clause-counted
 invariant_of-self-clause-counted g c =
@@ -38,9 +38,21 @@ returns-clause-view g c = λ parts v.
     let row : Row = c.args.row.now in
     let leaving = c.arrive-arrived.result.leaving in
     let ds = departures old.transport.step old.transport.last (times_of row) in
-    let e = c.enter_leaving-main.ensures in
+    let e = c.enter_leaving-found.ensures in
     let many : row.bytes ≡ length (times_of row) = sym (length-row row.from row.pace row.parts row.bytes) in
     carried old _ parts (times_of row) v old.paced.some c.arrive-arrived.ensures.buffer c.arrive-arrived.ensures.under_way c.arrive-arrived.ensures.size
-    (held_left old.main c.enter_leaving-main.new.buffer leaving ds c.arrive-arrived.ensures.left e.there) e.until
+    (held_left old.main c.enter_leaving-found.new.buffer leaving ds c.arrive-arrived.ensures.left e.there) e.until
     (e.peak ∙ ap (λ (n : ℕ). max old.main.peak n) (e.most ∙ most_left old.main leaving ds c.arrive-arrived.ensures.left))
     (c.with_bytes-self.ensures ∙ ap (λ (n : ℕ). with_bytes old.unit n c.arrive-arrived.new.transport.last) many)
+
+pub returns-clause-main : goal.returns-clause-main
+returns-clause-main g c =
+    let old = c.args.self.now in
+    c.enter_leaving-found.ensures.most
+    ∙ most_left old.main c.arrive-arrived.result.leaving (departures old.transport.step old.transport.last (times_of c.args.row.now)) c.arrive-arrived.ensures.left
+
+pub returns-clause-least : goal.returns-clause-least
+returns-clause-least g c =
+    let old = c.args.self.now in
+    c.enter_leaving-found.ensures.least
+    ∙ least_left old.main c.arrive-arrived.result.leaving (departures old.transport.step old.transport.last (times_of c.args.row.now)) c.arrive-arrived.ensures.left

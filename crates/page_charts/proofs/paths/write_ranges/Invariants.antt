@@ -1,6 +1,0 @@
-use Rattle.std.proofs.Common.{◌≡◌, ◌++◌, drop, string_bytes}
-use Rattle.page_charts.specs.Paths.{numbered, range}
-use Rattle.page_charts.proofs.paths.write_ranges.Given as goal
-
-abbrev pub invariant-loop-slot : goal.invariant-loop-slot
-invariant-loop-slot l = string_bytes l.text ++ numbered (range l.frame l.span) l.slot (drop l.slot l.slots) ≡ string_bytes l.fn.text ++ numbered (range l.frame l.span) 0 l.slots
