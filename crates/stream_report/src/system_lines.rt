@@ -165,8 +165,24 @@ fn write_program(
     let number = program.number();
     let transport = program.transport_excess();
     let system = program.system_excess();
-    write_under_way(text, options, choice, packets, number, TableBuffer::Transport, &transport)?;
-    write_under_way(text, options, choice, packets, number, TableBuffer::System, &system)?;
+    write_under_way(
+        text,
+        options,
+        choice,
+        packets,
+        number,
+        TableBuffer::Transport,
+        &transport,
+    )?;
+    write_under_way(
+        text,
+        options,
+        choice,
+        packets,
+        number,
+        TableBuffer::System,
+        &system,
+    )?;
     write_if(text, options, choice, program)
 }
 

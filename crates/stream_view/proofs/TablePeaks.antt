@@ -33,8 +33,7 @@ tables_law view step times some rises v =
     let first : 0 < 2 * step = omega (arith, some) in
     let second : 0 < 25 * step = omega (arith, some) in
     let ds = departures (2 * step) 0 times in
-    let leave = climbs_rises 0 ds (climbs_low 0 1 ds (omega arith) (departures_climb (2 * step) 0 times first)) in
-    (
+    let leave = climbs_rises 0 ds (climbs_low 0 1 ds (omega arith) (departures_climb (2 * step) 0 times first)) in (
       passed_peak (2 * step) view.transport.queue times first rises (ap (λ (b : WatchedQueue). b.queue) v.transport),
       passed_peak (25 * step) view.system.queue ds second leave (ap (λ (b : WatchedQueue). b.queue) v.system),
     )

@@ -7,6 +7,7 @@ use transport_buffer::Excess;
 
 /// The size of the transport buffer of a program's tables in bytes, and of their system buffer.
 pub const TABLE_TRANSPORT_BYTES: u64 = 512;
+
 pub const SYSTEM_BYTES: u64 = 1_536;
 
 /// The buffers of a program's tables, and what they have held so far: all bytes of the packets of the PAT and of the program's

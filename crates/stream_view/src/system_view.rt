@@ -83,7 +83,13 @@ impl SystemView {
         ensures system_ended { OnOk result (ended.new.system.items
             ≡ ended.old.system.items ++ ended_by self.old.system (left_at self.old.transport (times_of row.now))) }
     {
-        let result = pass_row(&mut self.transport, &mut self.system, self.bytes, row, ended);
+        let result = pass_row(
+            &mut self.transport,
+            &mut self.system,
+            self.bytes,
+            row,
+            ended,
+        );
         self.bytes += row.bytes;
         result
     }

@@ -126,7 +126,8 @@ impl ProgramTables {
             ≡ ended.old.system.items ++ spec.system_ended arrival.now byte count self.old) }
     {
         if self.view.bytes + count <= MOST_BYTES && arrival.has_times(byte, count) {
-            self.view.pass(&arrival.row(u64::from(DRAIN), byte, count), ended)?;
+            self.view
+                .pass(&arrival.row(u64::from(DRAIN), byte, count), ended)?;
         }
         Ok(())
     }
