@@ -40,3 +40,9 @@ lines_some options index clocks t packet place e p q = rw (p, q) refl
 pub three : (t0 t1 t2 t3 a b c : List ℕ) → t1 ≡ t0 ++ a → t2 ≡ t1 ++ b → t3 ≡ t2 ++ c → t3 ≡ t0 ++ (a ++ (b ++ c))
 three t0 t1 t2 t3 a b c p q r =
     r ∙ ap (λ (t : List ℕ). t ++ c) (q ∙ ap (λ (t : List ℕ). t ++ b) p) ∙ append_assoc (t0 ++ a) b c ∙ append_assoc t0 a (b ++ c)
+
+-- and four
+pub four : (t0 t1 t2 t3 t4 a b c d : List ℕ) → t1 ≡ t0 ++ a → t2 ≡ t1 ++ b → t3 ≡ t2 ++ c → t4 ≡ t3 ++ d → t4 ≡ t0 ++ (a ++ (b ++ (c ++ d)))
+four t0 t1 t2 t3 t4 a b c d p q r s =
+    s ∙ ap (λ (t : List ℕ). t ++ d) (three t0 t1 t2 t3 a b c p q r) ∙ append_assoc t0 (a ++ (b ++ c)) d
+    ∙ ap (λ (t : List ℕ). t0 ++ t) (append_assoc a (b ++ c) d ∙ ap (λ (t : List ℕ). a ++ t) (append_assoc b c d))

@@ -20,7 +20,9 @@ use Rattle.stream_arrival.specs.declared.arrival.Arrival.TheVariants.{Unknown, A
 use Rattle.stream_report.specs.declared.view_options.ViewOptions.{ViewOptions}
 use Rattle.stream_report.specs.Clocks.{ClockEntries, clocks_after, no_clocks}
 use Rattle.stream_report.specs.ClockLines.{clock_lines, errors_in, report_lines_if}
+use Rattle.stream_report.specs.Choices.{ChoiceView}
 use Rattle.stream_report.specs.ReferenceLines.{reference_lines}
+use Rattle.stream_report.specs.SystemLines.{excess_lines}
 use Rattle.stream_report.specs.TableLines.{TablesState, no_tables, table_lines}
 use Rattle.stream_report.specs.TableLines as tables
 use Rattle.stream_report.specs.ReportLines.{line_of, number_field}
@@ -131,6 +133,11 @@ counted s packet = record s {
   window = taken s.window (next_window s) packet.header.pid (has_pcr packet.adaptation);
   totals = taken s.totals 0 packet.header.pid (has_pcr packet.adaptation);
 }
+
+-- the lines of the excesses of programs' tables that end with it
+abbrev pub system_excesses : SeenState → ChoiceView → PacketView → List ℕ
+system_excesses s choice packet =
+    excess_lines s.options choice s.packets (programs.excesses_at s.options.arrival s.packets s.named packet.header.pid s.systems)
 
 -- the sections of tables in 188 bytes, and the lines of those that begin too late
 abbrev pub with_sections : SeenState → List ℕ → SeenState

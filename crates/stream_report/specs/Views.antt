@@ -7,7 +7,7 @@ use Rattle.ts_packet.specs.Packets.{null_packet}
 use Rattle.stream_report.specs.declared.view.View.{View}
 use Rattle.stream_arrival.specs.declared.arrival.Arrival.{Arrival}
 use Rattle.stream_report.specs.Choices.{RequestView}
-use Rattle.stream_report.specs.Seen.{SeenState, clock_errors, counted, section_lines, end_line, next_window, nothing_seen, pid_ends, with_clock}
+use Rattle.stream_report.specs.Seen.{SeenState, clock_errors, counted, section_lines, end_line, next_window, nothing_seen, pid_ends, system_excesses, with_clock}
 use Rattle.stream_report.specs.Seen as seeing
 use Rattle.stream_report.specs.StreamTables.{IsTable, TableState, begin_lines, begun, has_stream, lines_of, no_streams, table_end, table_units, taken}
 use Rattle.stream_report.specs.StreamTables as tables
@@ -67,13 +67,18 @@ all_window_lines s = window_lines s.seen.options s.seen.window ++ table_units s.
 abbrev pub last_window : ViewState → List ℕ
 last_window s = if s.seen.window.number == next_window s.seen then [] else all_window_lines s
 
--- and then those of the errors of its clock reference, of buffers that begin with it, and of what ends with it
+-- and then those of the errors of its clock reference, of buffers that begin with it, and of what ends with it: of streams, and of
+-- programs' tables
 abbrev pub buffer_lines_at : ViewState → PacketView → List ℕ
 buffer_lines_at s packet = begin_lines s.seen.options s.seen.packets s.seen.named s.table packet
     ++ lines_of s.seen.options s.seen.packets s.seen.clocks (with_begun s packet) packet
 
+abbrev pub system_lines_at : ViewState → PacketView → List ℕ
+system_lines_at s packet = system_excesses s.seen (with_buffers s packet).table.choice packet
+
 abbrev pub packet_lines : ViewState → PacketView → List ℕ
-packet_lines s packet = last_window s ++ (clock_errors s.seen packet ++ buffer_lines_at (clocked s packet) packet)
+packet_lines s packet =
+    last_window s ++ (clock_errors s.seen packet ++ (buffer_lines_at (clocked s packet) packet ++ system_lines_at (clocked s packet) packet))
 
 unfoldable pub lines_read : ViewState → Result PacketView PacketError → List ℕ
 lines_read s (Err error) = []
@@ -113,7 +118,7 @@ lines_all s (bytes ∷ packets) = lines_at s bytes ++ lines_all (after_packet s 
 abbrev pub end_lines : ViewState → ℕ → List ℕ
 end_lines s left = window_lines s.seen.options s.seen.window
     ++ (table_end s.seen.options s.seen.packets s.seen.window.number s.table
-    ++ (system_lines s.seen.options s.table.choice (known s.seen.systems) ++ (pid_ends s.seen ++ end_line s.seen left)))
+    ++ (system_lines s.seen.options s.table.choice s.seen.packets (known s.seen.systems) ++ (pid_ends s.seen ++ end_line s.seen left)))
 
 -- nothing is wrong
 abbrev pub is_good : ViewState → ℕ → Bool

@@ -91,8 +91,8 @@ pub(crate) fn span_of(options: &ViewOptions, rx: u32, time: u128) -> u128
     ticks_of(options.arrival.step(), rx, time)
 }
 
-// A time of a buffer in ticks from the first byte of the stream on.
-fn moment_of(options: &ViewOptions, rx: u32, time: u128) -> u128
+/// A time of a buffer in ticks from the first byte of the stream on.
+pub(crate) fn moment_of(options: &ViewOptions, rx: u32, time: u128) -> u128
     ensures { result ≡ spec.moment_of options.now rx time }
 {
     span_of(options, rx, time).saturating_sub(u128::from(options.origin))
@@ -235,7 +235,8 @@ pub(crate) fn write_ended(
     write_late_if(text, options, place, &entered.unit)
 }
 
-fn with_one(ended: u64, under_way: &Option<Excess>) -> u128
+/// The number of excesses, with the one under way.
+pub(crate) fn with_one(ended: u64, under_way: &Option<Excess>) -> u128
     ensures { result ≡ spec.with_one ended under_way.now }
 {
     u128::from(ended) + u128::from(u8::from(under_way.is_some()))

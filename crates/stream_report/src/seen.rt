@@ -7,7 +7,9 @@ use crate::clock_lines::{errors_in, write_clocks, write_report};
 use crate::clocks::Clocks;
 use crate::lines::{number, write_line};
 use crate::reference_lines::write_references;
+use crate::system_lines::write_excesses;
 use crate::table_watch::TableWatch;
+use crate::view_choice::ViewChoice;
 use crate::view_options::ViewOptions;
 use crate::window_lines::{window_of, write_pids};
 use named_streams::NamedStreams;
@@ -205,15 +207,30 @@ impl Seen {
         window_of(&self.options, self.packets)
     }
 
-    /// A packet that is not known to be wrong enters the buffers of programs' tables, and is counted.
-    pub fn count(&mut self, packet: &Packet<'_>) -> Result<(), AllocError>
-        ensures { OnOk result (self.new ≡ spec.counted self.old (packet_view packet.now)) }
+    /// A packet that is not known to be wrong enters the buffers of programs' tables, and is counted: the lines of the excesses that end
+    /// with it are appended, of programs that are viewed.
+    pub fn count(
+        &mut self,
+        choice: &ViewChoice,
+        packet: &Packet<'_>,
+        text: &mut String,
+    ) -> Result<(), AllocError>
+        ensures seen { OnOk result (self.new ≡ spec.counted self.old (packet_view packet.now)) }
+        ensures lines { OnOk result (string_bytes text.new
+            ≡ string_bytes text.old ++ spec.system_excesses self.old choice.now (packet_view packet.now)) }
     {
         let window = self.next_window();
         let pid = packet.header.pid;
         let pcr = has_pcr(packet);
-        self.systems
-            .take(&self.options.arrival, self.packets, &self.named, pid)?;
+        let mut excesses = Vec::new(self.alloc);
+        self.systems.take(
+            &self.options.arrival,
+            self.packets,
+            &self.named,
+            pid,
+            &mut excesses,
+        )?;
+        write_excesses(text, &self.options, choice, self.packets, &excesses)?;
         self.window.take(window, pid, pcr)?;
         self.totals.take(0, pid, pcr)?;
         self.packets = self.packets.saturating_add(1);

@@ -98,7 +98,7 @@ impl View {
         self.end_window(text)?;
         self.seen.take_clock(packet, text)?;
         self.buffer(packet, text)?;
-        self.seen.count(packet)
+        self.seen.count(self.table.choice(), packet, text)
     }
 
     // A packet as it was read.
@@ -194,6 +194,7 @@ impl View {
             text,
             options,
             self.table.choice(),
+            self.seen.packets,
             self.seen.systems.programs(),
         )?;
         self.seen.write_pid_ends(text)?;

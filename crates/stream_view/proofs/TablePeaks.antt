@@ -13,13 +13,16 @@ use Rattle.decoder_buffers.proofs.RisingTimes.{climbs_low}
 use Rattle.decoder_buffers.proofs.Residence.{most_residence, longest_arrived}
 use Rattle.main_buffer_rows.proofs.Leaving.{climbs_rises}
 use Rattle.stream_view.specs.Laws.{TablesLaw}
-use Rattle.stream_view.specs.SystemViewed.{empty_queue}
+use Rattle.stream_view.specs.declared.watched_queue.WatchedQueue.{WatchedQueue}
+
+abbrev empty_of : ℕ → Queue
+empty_of step = record { step = step; last = 0; longest_residence = 0 }
 
 -- bytes that have passed an empty buffer
-passed_peak : (step : ℕ) (q : Queue) (ts : List ℕ) → 0 < step → Rises 0 ts → q ≡ all_arrived (empty_queue step) ts →
+passed_peak : (step : ℕ) (q : Queue) (ts : List ℕ) → 0 < step → Rises 0 ts → q ≡ all_arrived (empty_of step) ts →
     IsPeak (λ x. fullness x ts (departures step 0 ts)) (bytes_within q.step q.longest_residence)
 passed_peak step q ts some rises is =
-    let steps : q.step ≡ step = ap (λ (b : Queue). b.step) is ∙ passed-step (empty_queue step) ts in
+    let steps : q.step ≡ step = ap (λ (b : Queue). b.step) is ∙ passed-step (empty_of step) ts in
     let longest = longest_arrived step q ts is in
     let peak = most_law step ts some rises in
     let most : bytes_within q.step q.longest_residence ≡ most_found step 0 ts = rw (steps, longest) (most_residence step 0 ts some) in
@@ -30,5 +33,7 @@ tables_law view step times some rises v =
     let first : 0 < 2 * step = omega (arith, some) in
     let second : 0 < 25 * step = omega (arith, some) in
     let ds = departures (2 * step) 0 times in
-    let leave = climbs_rises 0 ds (climbs_low 0 1 ds (omega arith) (departures_climb (2 * step) 0 times first)) in
-    (passed_peak (2 * step) view.transport times first rises v.transport, passed_peak (25 * step) view.system ds second leave v.system)
+    let leave = climbs_rises 0 ds (climbs_low 0 1 ds (omega arith) (departures_climb (2 * step) 0 times first)) in (
+      passed_peak (2 * step) view.transport.queue times first rises (ap (λ (b : WatchedQueue). b.queue) v.transport),
+      passed_peak (25 * step) view.system.queue ds second leave (ap (λ (b : WatchedQueue). b.queue) v.system),
+    )

@@ -5,4 +5,5 @@ pub mod MainExcess
 pub mod ConstantRate
 pub mod Laws
 pub mod Refusal
+pub mod WatchedQueues
 pub mod SystemViewed

@@ -5,7 +5,8 @@
 //! - [`DueTime`], [`UnitSeen`]: when a unit is due, and when it came.
 //! - [`RowSeen`]: what the bytes of one row found.
 //! - [`MainWatch`]: excesses of the main buffer, row by row.
-//! - [`SystemView`]: the two buffers of a program's tables.
+//! - [`SystemView`]: the two buffers of a program's tables, with each excess of both.
+//! - [`WatchedQueue`]: a buffer that bytes pass one after another, with its excesses.
 //! - [`laws`]: what the figures are over all moments, and that at a constant rate they are those of the model of finished bytes.
 //!
 //! It knows no packets and no clock: the rows of `packet_arrival` say when bytes arrive, at a constant rate or by clock
@@ -22,10 +23,12 @@ mod system_buffers;
 mod system_view;
 mod unit_seen;
 mod view;
+mod watched_queue;
 
 pub use buffers::StreamView;
 pub use main_watch::MainWatch;
 pub use row_seen::RowSeen;
-pub use system_buffers::SystemView;
+pub use system_buffers::{EndedExcesses, SYSTEM_BYTES, SystemView, TABLE_TRANSPORT_BYTES};
 pub use unit_seen::{DueTime, UnitSeen};
 pub use view::{BeginError, MOST_WAITING};
+pub use watched_queue::WatchedQueue;

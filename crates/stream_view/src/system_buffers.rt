@@ -1,23 +1,52 @@
 //! The two buffers of a program's tables.
 ghost use Rattle.std.specs.Prelude.{◌+◌, ◌*◌, ◌<◌, ◌≤◌, ◌^◌};
 
-use decoder_buffers::Queue;
+use crate::watched_queue::WatchedQueue;
+use std::alloc::Global;
+use transport_buffer::Excess;
+
+/// The size of the transport buffer of a program's tables in bytes, and of their system buffer.
+pub const TABLE_TRANSPORT_BYTES: u64 = 512;
+
+pub const SYSTEM_BYTES: u64 = 1_536;
 
 /// The buffers of a program's tables, and what they have held so far: all bytes of the packets of the PAT and of the program's
 /// PMT enter a transport buffer, and from there a system buffer (ISO/IEC 13818-1, 2.4.2.3).
 #[derive(Drop)]
 pub struct SystemView {
-    pub transport: Queue,
-    pub system: Queue,
+    pub transport: WatchedQueue,
+    pub system: WatchedQueue,
     /// The number of bytes that have arrived.
     pub bytes: u64,
     pub ghost few: { bytes ≤ 2 ^ 40 },
-    pub ghost some: { 0 < transport.step },
-    pub ghost slow: { transport.step ≤ 2 ^ 33 },
-    pub ghost system_some: { 0 < system.step },
-    pub ghost system_slow: { system.step ≤ 2 ^ 33 },
-    pub ghost last: { transport.last ≤ 2 ^ 87 + bytes * 2 ^ 33 },
-    pub ghost left: { system.last ≤ 2 ^ 87 + bytes * 2 ^ 34 },
-    pub ghost inner: { transport.longest_residence ≤ transport.last },
-    pub ghost within: { system.longest_residence ≤ system.last },
+    pub ghost some: { 0 < transport.queue.step },
+    pub ghost slow: { transport.queue.step ≤ 2 ^ 33 },
+    pub ghost system_some: { 0 < system.queue.step },
+    pub ghost system_slow: { system.queue.step ≤ 2 ^ 33 },
+    pub ghost last: { transport.queue.last ≤ 2 ^ 87 + bytes * 2 ^ 33 },
+    pub ghost left: { system.queue.last ≤ 2 ^ 87 + bytes * 2 ^ 34 },
+    pub ghost inner: { transport.queue.longest_residence ≤ transport.queue.last },
+    pub ghost within: { system.queue.longest_residence ≤ system.queue.last },
+}
+
+/// The excesses of both buffers that have ended.
+#[derive(Drop)]
+pub struct EndedExcesses {
+    pub transport: Vec<Excess>,
+    pub system: Vec<Excess>,
+}
+
+impl EndedExcesses {
+    ghost use Rattle.std.specs.Prelude.{◌≡◌, []};
+
+    /// None.
+    pub fn new(alloc: Global) -> EndedExcesses
+        ensures transport { result.transport.items ≡ [] }
+        ensures system { result.system.items ≡ [] }
+    {
+        EndedExcesses {
+            transport: Vec::new(alloc),
+            system: Vec::new(alloc),
+        }
+    }
 }

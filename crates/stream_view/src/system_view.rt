@@ -1,38 +1,52 @@
 //! The two buffers of a program's tables.
-ghost use Rattle.std.specs.Prelude.{◌≡◌, ℕ, List, [], ◌++◌, ◌+◌, ◌*◌, ◌<◌, ◌≤◌, ◌^◌};
-ghost use Rattle.clock27.specs.Departure.{departures};
+ghost use Rattle.std.specs.Prelude.{◌≡◌, ℕ, List, [], ◌++◌, ◌+◌, ◌*◌, ◌<◌, ◌≤◌, ◌^◌, OnOk};
 ghost use Rattle.packet_arrival.specs.Rows.{IsTimed, times_of};
-ghost use Rattle.decoder_buffers.specs.Queues.{all_arrived, bytes_within};
-ghost use Rattle.stream_view.specs.SystemViewed.{IsSystemViewOf, empty_queue};
+ghost use Rattle.decoder_buffers.specs.Queues.{bytes_within};
+ghost use Rattle.stream_view.specs.SystemViewed.{IsSystemViewOf};
+ghost use Rattle.stream_view.specs.WatchedQueues.{all_entered, empty_queue, ended_by, left_at};
 
-use crate::system_buffers::SystemView;
-use decoder_buffers::Queue;
+use crate::system_buffers::{EndedExcesses, SYSTEM_BYTES, SystemView, TABLE_TRANSPORT_BYTES};
+use crate::watched_queue::WatchedQueue;
 use packet_arrival::Row;
+use std::alloc::AllocError;
 
-// The bytes of a row arrive and go from one buffer into the other; `before` have arrived before them.
-fn pass_row(transport: &mut Queue, system: &mut Queue, before: u64, row: &Row)
-    requires step { transport.old.step ≤ 2 ^ 33 }
-    requires system_step { system.old.step ≤ 2 ^ 33 }
+// The bytes of a row arrive and go from one buffer into the other; `before` have arrived before them. The excesses that have
+// ended are appended.
+fn pass_row(
+    transport: &mut WatchedQueue,
+    system: &mut WatchedQueue,
+    before: u64,
+    row: &Row,
+    ended: &mut EndedExcesses,
+) -> Result<(), AllocError>
+    requires some { 0 < transport.old.queue.step }
+    requires system_some { 0 < system.old.queue.step }
+    requires step { transport.old.queue.step ≤ 2 ^ 33 }
+    requires system_step { system.old.queue.step ≤ 2 ^ 33 }
     requires timed { IsTimed row.now }
     requires count { before + row.now.bytes ≤ 2 ^ 40 }
-    requires last { transport.old.last ≤ 2 ^ 87 + before * 2 ^ 33 }
-    requires left { system.old.last ≤ 2 ^ 87 + before * 2 ^ 34 }
-    requires longest_residence { transport.old.longest_residence ≤ transport.old.last }
-    requires inner { system.old.longest_residence ≤ system.old.last }
-    ensures transport { transport.new ≡ all_arrived transport.old (times_of row.now) }
-    ensures system { system.new
-        ≡ all_arrived system.old (departures transport.old.step transport.old.last (times_of row.now)) }
-    ensures last { transport.new.last ≤ 2 ^ 87 + (before + row.now.bytes) * 2 ^ 33 }
-    ensures left { system.new.last ≤ 2 ^ 87 + (before + row.now.bytes) * 2 ^ 34 }
-    ensures longest_residence { transport.new.longest_residence ≤ transport.new.last }
-    ensures inner { system.new.longest_residence ≤ system.new.last }
-    ensures step { transport.new.step ≡ transport.old.step }
-    ensures system_step { system.new.step ≡ system.old.step }
+    requires last { transport.old.queue.last ≤ 2 ^ 87 + before * 2 ^ 33 }
+    requires left { system.old.queue.last ≤ 2 ^ 87 + before * 2 ^ 34 }
+    requires longest_residence { transport.old.queue.longest_residence ≤ transport.old.queue.last }
+    requires inner { system.old.queue.longest_residence ≤ system.old.queue.last }
+    ensures transport { OnOk result (transport.new ≡ all_entered transport.old (times_of row.now)) }
+    ensures system { OnOk result (system.new ≡ all_entered system.old (left_at transport.old (times_of row.now))) }
+    ensures transport_ended { OnOk result (ended.new.transport.items
+        ≡ ended.old.transport.items ++ ended_by transport.old (times_of row.now)) }
+    ensures system_ended { OnOk result (ended.new.system.items
+        ≡ ended.old.system.items ++ ended_by system.old (left_at transport.old (times_of row.now))) }
+    ensures last { transport.new.queue.last ≤ 2 ^ 87 + (before + row.now.bytes) * 2 ^ 33 }
+    ensures left { system.new.queue.last ≤ 2 ^ 87 + (before + row.now.bytes) * 2 ^ 34 }
+    ensures longest_residence { transport.new.queue.longest_residence ≤ transport.new.queue.last }
+    ensures inner { system.new.queue.longest_residence ≤ system.new.queue.last }
+    ensures step { transport.new.queue.step ≡ transport.old.queue.step }
+    ensures system_step { system.new.queue.step ≡ system.old.queue.step }
 {
     for j in 0..row.bytes {
-        let left = transport.arrive(row.time(j));
-        system.arrive(left);
+        let left = transport.arrive(row.time(j), &mut ended.transport)?;
+        system.arrive(left, &mut ended.system)?;
     }
+    Ok(())
 }
 
 impl SystemView {
@@ -43,43 +57,54 @@ impl SystemView {
         requires some { 0 < step }
         requires slow { step ≤ 2 ^ 28 }
         ensures view { IsSystemViewOf result step [] }
-        ensures transport { result.transport ≡ empty_queue (2 * step) }
-        ensures system { result.system ≡ empty_queue (25 * step) }
+        ensures transport { result.transport ≡ empty_queue (2 * step) TABLE_TRANSPORT_BYTES }
+        ensures system { result.system ≡ empty_queue (25 * step) SYSTEM_BYTES }
         ensures bytes { result.bytes ≡ 0 }
     {
         SystemView {
-            transport: Queue::new(2 * step),
-            system: Queue::new(25 * step),
+            transport: WatchedQueue::new(2 * step, TABLE_TRANSPORT_BYTES),
+            system: WatchedQueue::new(25 * step, SYSTEM_BYTES),
             bytes: 0,
         }
     }
 
-    /// Bytes arrive of packets of the PAT or of the program's PMT: all of their packets.
-    pub fn pass(&mut self, row: &Row)
+    /// Bytes arrive of packets of the PAT or of the program's PMT: all of their packets. The excesses that have ended are appended.
+    pub fn pass(&mut self, row: &Row, ended: &mut EndedExcesses) -> Result<(), AllocError>
         requires timed { IsTimed row.now }
         requires count { self.old.bytes + row.now.bytes ≤ 2 ^ 40 }
         ensures view { (step : ℕ) (times : List ℕ) → IsSystemViewOf self.old step times →
-            IsSystemViewOf self.new step (times ++ times_of row.now) }
-        ensures transport { self.new.transport ≡ all_arrived self.old.transport (times_of row.now) }
-        ensures system { self.new.system ≡ all_arrived self.old.system
-            (departures self.old.transport.step self.old.transport.last (times_of row.now)) }
+            OnOk result (IsSystemViewOf self.new step (times ++ times_of row.now)) }
+        ensures transport { OnOk result (self.new.transport ≡ all_entered self.old.transport (times_of row.now)) }
+        ensures system { OnOk result (self.new.system
+            ≡ all_entered self.old.system (left_at self.old.transport (times_of row.now))) }
         ensures bytes { self.new.bytes ≡ self.old.bytes + row.now.bytes }
+        ensures transport_ended { OnOk result (ended.new.transport.items
+            ≡ ended.old.transport.items ++ ended_by self.old.transport (times_of row.now)) }
+        ensures system_ended { OnOk result (ended.new.system.items
+            ≡ ended.old.system.items ++ ended_by self.old.system (left_at self.old.transport (times_of row.now))) }
     {
-        pass_row(&mut self.transport, &mut self.system, self.bytes, row);
+        let result = pass_row(
+            &mut self.transport,
+            &mut self.system,
+            self.bytes,
+            row,
+            ended,
+        );
         self.bytes += row.bytes;
+        result
     }
 
     /// The most bytes that were in the first buffer together.
     pub fn transport_most(&self) -> u128
-        ensures { result ≡ bytes_within self.now.transport.step self.now.transport.longest_residence }
+        ensures { result ≡ bytes_within self.now.transport.queue.step self.now.transport.queue.longest_residence }
     {
-        self.transport.peak()
+        self.transport.queue.peak()
     }
 
     /// The most bytes that were in the second buffer together.
     pub fn system_most(&self) -> u128
-        ensures { result ≡ bytes_within self.now.system.step self.now.system.longest_residence }
+        ensures { result ≡ bytes_within self.now.system.queue.step self.now.system.queue.longest_residence }
     {
-        self.system.peak()
+        self.system.queue.peak()
     }
 }

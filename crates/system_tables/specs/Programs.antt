@@ -1,58 +1,116 @@
 -- The buffers of the tables of programs (ISO/IEC 13818-1, 2.4.2.3): all bytes of the packets of the PAT and of a program's PMT enter a transport
 -- buffer, which is drained at 1,000,000 bits a second, and from there a system buffer, which is drained at 80,000.
-use Rattle.std.specs.Prelude.{ℕ, ◌+◌, ◌-◌, ◌*◌, ◌^◌, ◌==◌, ◌&&◌, ◌||◌, min, nat_le, nat_lt, Bool, if◌then◌else◌, List, [], map, Option, Some, None}
+use Rattle.std.specs.Prelude.{ℕ, ◌+◌, ◌-◌, ◌*◌, ◌^◌, ◌==◌, ◌&&◌, ◌||◌, min, nat_le, nat_lt, Bool, if◌then◌else◌, List, [], ◌++◌, length, map, flat_map, Option, Some, None}
 use Rattle.std.specs.Option.{option_map}
-use Rattle.clock27.specs.Departure.{departures}
-use Rattle.decoder_buffers.specs.Queues.{all_arrived, bytes_within}
-use Rattle.decoder_buffers.specs.declared.queue.Queue.{Queue}
+use Rattle.decoder_buffers.specs.Queues.{bytes_within}
+use Rattle.transport_buffer.specs.declared.excess.Excess.{Excess}
 use Rattle.stream_arrival.specs.Arrivals.{has_times, lead_of, step_of, times_at}
 use Rattle.stream_arrival.specs.declared.arrival.Arrival.{Arrival}
-use Rattle.stream_view.specs.SystemViewed.{empty_queue}
+use Rattle.stream_view.specs.WatchedQueues.{all_entered, empty_queue, ended_by, left_at}
+use Rattle.stream_view.specs.declared.system_buffers.TheConstants.{SYSTEM_BYTES, TABLE_TRANSPORT_BYTES}
+use Rattle.stream_view.specs.declared.watched_queue.WatchedQueue.{WatchedQueue}
 use Rattle.stream_programs.specs.Programs.{FoundProgramView, FoundProgramsView}
 use Rattle.named_streams.specs.NamedStreams.{NamedView}
 use Rattle.system_tables.specs.declared.program_tables.TheConstants.{LAST_INDEX}
+use Rattle.system_tables.specs.declared.table_excess.TableBuffer.{TableBuffer}
+use Rattle.system_tables.specs.declared.table_excess.TableBuffer.TheVariants.{Transport, System}
+use Rattle.system_tables.specs.declared.table_excess.TableExcess.{TableExcess}
 
--- a program, the PID of its map, its two buffers, and the number of bytes that have come
+-- a program, the PID of its map, its two buffers, the number of bytes that have come, and that of the excesses of each buffer that have ended
 pub record ProgramState : Type 0 where
   pub number : ℕ
   pub map_pid : ℕ
-  pub transport : Queue
-  pub system : Queue
+  pub transport : WatchedQueue
+  pub system : WatchedQueue
   pub bytes : ℕ
+  pub transport_excesses : ℕ
+  pub system_excesses : ℕ
 
 -- before its first packet, on the scale of a buffer that is drained at 2,000,000 bits a second
 abbrev pub program_of : ℕ → FoundProgramView → ProgramState
 program_of step found = record {
   number = found.number;
   map_pid = found.map_pid;
-  transport = empty_queue (2 * step);
-  system = empty_queue (25 * step);
+  transport = empty_queue (2 * step) TABLE_TRANSPORT_BYTES;
+  system = empty_queue (25 * step) SYSTEM_BYTES;
   bytes = 0;
+  transport_excesses = 0;
+  system_excesses = 0;
 }
 
--- n bytes of the stream from byte i on, where they have times and no more than 2^40 bytes come
+-- 1. Bytes of the stream
+
+-- n bytes from byte i on enter, where they have times and no more than 2^40 bytes come
+abbrev pub enters : Arrival → ℕ → ℕ → ProgramState → Bool
+enters arrival i n p = nat_le (p.bytes + n) (2 ^ 40) && has_times arrival i n
+
 abbrev pub passed_at : ProgramState → ℕ → List ℕ → ProgramState
 passed_at p n times = record p {
-  transport = all_arrived p.transport times;
-  system = all_arrived p.system (departures p.transport.step p.transport.last times);
+  transport = all_entered p.transport times;
+  system = all_entered p.system (left_at p.transport times);
   bytes = p.bytes + n;
 }
 
 abbrev pub passed : Arrival → ℕ → ℕ → ProgramState → ProgramState
-passed arrival i n p = if nat_le (p.bytes + n) (2 ^ 40) && has_times arrival i n then passed_at p n (times_at arrival 2000000 i n) else p
+passed arrival i n p = if enters arrival i n p then passed_at p n (times_at arrival 2000000 i n) else p
 
--- a packet: its first bytes up to where another line begins, and the others
+-- the excesses of each buffer that end with them
+abbrev pub transport_ended : Arrival → ℕ → ℕ → ProgramState → List Excess
+transport_ended arrival i n p = if enters arrival i n p then ended_by p.transport (times_at arrival 2000000 i n) else []
+
+abbrev pub system_ended : Arrival → ℕ → ℕ → ProgramState → List Excess
+system_ended arrival i n p = if enters arrival i n p then ended_by p.system (left_at p.transport (times_at arrival 2000000 i n)) else []
+
+-- 2. A packet: its first bytes up to where another line begins, and the others
+
 abbrev pub lead_in : Arrival → ℕ → ℕ
 lead_in arrival index = min (lead_of arrival (188 * index)) 188
 
+abbrev pub after_lead : Arrival → ℕ → ProgramState → ProgramState
+after_lead arrival index p = passed arrival (188 * index) (lead_in arrival index) p
+
+-- the excesses that end with it
+abbrev pub transport_in : Arrival → ℕ → ProgramState → List Excess
+transport_in arrival index p =
+    transport_ended arrival (188 * index) (lead_in arrival index) p
+    ++ transport_ended arrival (188 * index + lead_in arrival index) (188 - lead_in arrival index) (after_lead arrival index p)
+
+abbrev pub system_in : Arrival → ℕ → ProgramState → List Excess
+system_in arrival index p =
+    system_ended arrival (188 * index) (lead_in arrival index) p
+    ++ system_ended arrival (188 * index + lead_in arrival index) (188 - lead_in arrival index) (after_lead arrival index p)
+
+-- so many excesses more; numbers stop at 2^64 - 1
+abbrev pub with_ended : ℕ → ℕ → ProgramState → ProgramState
+with_ended transport system p = record p {
+  transport_excesses = min (p.transport_excesses + transport) (2 ^ 64 - 1);
+  system_excesses = min (p.system_excesses + system) (2 ^ 64 - 1);
+}
+
 abbrev pub with_packet : Arrival → ℕ → ProgramState → ProgramState
 with_packet arrival index p =
-    passed arrival (188 * index + lead_in arrival index) (188 - lead_in arrival index) (passed arrival (188 * index) (lead_in arrival index) p)
+    with_ended (length (transport_in arrival index p)) (length (system_in arrival index p))
+    (passed arrival (188 * index + lead_in arrival index) (188 - lead_in arrival index) (after_lead arrival index p))
+
+-- a packet of a PID enters where it is of the PAT or of the program's map
+abbrev pub is_of : ℕ → ℕ → ProgramState → Bool
+is_of index pid p = nat_lt index LAST_INDEX && (pid == 0 || pid == p.map_pid)
 
 abbrev pub entered : Arrival → ℕ → ℕ → ProgramState → ProgramState
-entered arrival index pid p = if nat_lt index LAST_INDEX && (pid == 0 || pid == p.map_pid) then with_packet arrival index p else p
+entered arrival index pid p = if is_of index pid p then with_packet arrival index p else p
 
--- the programs of the first tables, once these are known
+-- the excesses that end with it, each with its program: those of the transport buffer, and then those of the system buffer
+abbrev pub all_of : ℕ → TableBuffer → List Excess → List TableExcess
+all_of program buffer excesses = map (λ e. record { program = program; buffer = buffer; excess = e }) excesses
+
+abbrev pub told : ℕ → List Excess → List Excess → List TableExcess
+told program transport system = all_of program Transport transport ++ all_of program System system
+
+abbrev pub excesses_in : Arrival → ℕ → ℕ → ProgramState → List TableExcess
+excesses_in arrival index pid p = if is_of index pid p then told p.number (transport_in arrival index p) (system_in arrival index p) else []
+
+-- 3. The programs of the first tables, once these are known
+
 unfoldable pub begun : ℕ → NamedView → Option (List ProgramState) → Option (List ProgramState)
 begun step named None = option_map (λ found. map (program_of step) found.programs) named.streams
 begun step named (Some programs) = Some programs
@@ -65,9 +123,13 @@ unfoldable pub known : Option (List ProgramState) → List ProgramState
 known None = []
 known (Some programs) = programs
 
+-- the excesses of all of them that end with the packet of a PID
+abbrev pub excesses_at : Arrival → ℕ → NamedView → ℕ → Option (List ProgramState) → List TableExcess
+excesses_at arrival index named pid programs = flat_map (excesses_in arrival index pid) (known (begun (step_of arrival) named programs))
+
 -- the most bytes that were in each buffer
 abbrev pub transport_most : ProgramState → ℕ
-transport_most p = bytes_within p.transport.step p.transport.longest_residence
+transport_most p = bytes_within p.transport.queue.step p.transport.queue.longest_residence
 
 abbrev pub system_most : ProgramState → ℕ
-system_most p = bytes_within p.system.step p.system.longest_residence
+system_most p = bytes_within p.system.queue.step p.system.queue.longest_residence

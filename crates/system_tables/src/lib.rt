@@ -2,10 +2,13 @@
 //!
 //! - [`SystemTables`]: the programs of a stream's first tables, and what their two buffers have held.
 //! - [`ProgramTables`]: the buffers of one program.
+//! - [`TableExcess`]: an excess of one of them.
 #![tactic(auto)]
 
 mod program_tables;
 mod system_tables;
+mod table_excess;
 
-pub use program_tables::{ProgramTables, SYSTEM_BYTES};
+pub use program_tables::{DRAIN, ProgramTables};
 pub use system_tables::SystemTables;
+pub use table_excess::{TableBuffer, TableExcess};

@@ -1,15 +1,15 @@
 //! The buffers of the tables of a program.
-ghost use Rattle.std.specs.Prelude.{◌≡◌, ◌≤◌, ◌^◌};
+ghost use Rattle.std.specs.Prelude.{◌≡◌, ◌≤◌, ◌++◌, ◌^◌, IfOk, OnOk, length};
 ghost use Rattle.stream_arrival.specs.Arrivals.{step_of};
 ghost use Rattle.system_tables.specs.Programs as spec;
 
+use crate::table_excess::{TableExcess, append_ended};
+use std::alloc::{AllocError, Global};
 use std::marker::Model;
 use stream_arrival::Arrival;
 use stream_programs::FoundProgram;
-use stream_view::SystemView;
-
-/// The size of a system buffer in bytes.
-pub const SYSTEM_BYTES: u64 = 1_536;
+use stream_view::{EndedExcesses, SystemView};
+use transport_buffer::Excess;
 
 // Packets from this one on enter no buffer: the stream is longer than 2^40 bytes.
 const LAST_INDEX: u64 = 5_848_000_000;
@@ -17,15 +17,17 @@ const LAST_INDEX: u64 = 5_848_000_000;
 // The most bytes that enter.
 const MOST_BYTES: u64 = 1 << 40;
 
-// The buffers count time in units of one that is drained at this rate, in bits a second.
-const DRAIN: u64 = 2_000_000;
+/// The buffers count time in units of one that is drained at this rate, in bits a second.
+pub const DRAIN: u32 = 2_000_000;
 
-/// A program, the PID of its map, and the buffers of its tables.
+/// A program, the PID of its map, the buffers of its tables, and the number of excesses of each that have ended.
 #[derive(Drop)]
 pub struct ProgramTables {
     number: u16,
     map_pid: u16,
     view: SystemView,
+    transport_excesses: u64,
+    system_excesses: u64,
 }
 
 impl Model for ProgramTables {
@@ -39,6 +41,8 @@ impl Model for ProgramTables {
       transport = p.view.transport;
       system = p.view.system;
       bytes = p.view.bytes;
+      transport_excesses = p.transport_excesses;
+      system_excesses = p.system_excesses;
     } };
 }
 
@@ -51,6 +55,8 @@ impl ProgramTables {
             number: program.number,
             map_pid: program.map_pid,
             view: SystemView::new(arrival.step()),
+            transport_excesses: 0,
+            system_excesses: 0,
         }
     }
 
@@ -75,27 +81,108 @@ impl ProgramTables {
         self.view.system_most()
     }
 
-    // Bytes of the stream from byte `byte` on.
-    fn pass(&mut self, arrival: &Arrival, byte: u64, count: u64)
-        requires byte { byte ≤ 2 ^ 41 }
-        requires count { count ≤ 188 }
-        ensures { self.new ≡ spec.passed arrival.now byte count self.old }
+    /// The number of excesses of its transport buffer that have ended.
+    pub fn transport_excesses(&self) -> u64
+        ensures { result ≡ self.now.transport_excesses }
     {
-        if self.view.bytes + count <= MOST_BYTES && arrival.has_times(byte, count) {
-            self.view.pass(&arrival.row(DRAIN, byte, count));
-        }
+        self.transport_excesses
     }
 
-    /// A packet of the stream, with its index and PID.
-    pub(crate) fn take(&mut self, arrival: &Arrival, index: u64, pid: u16)
-        ensures { self.new ≡ spec.entered arrival.now index pid self.old }
+    /// The number of excesses of its system buffer that have ended.
+    pub fn system_excesses(&self) -> u64
+        ensures { result ≡ self.now.system_excesses }
     {
-        if index >= LAST_INDEX || (pid != 0 && pid != self.map_pid) {
-            return;
+        self.system_excesses
+    }
+
+    /// The excess of its transport buffer that is under way, if there is one.
+    pub fn transport_excess(&self) -> Option<Excess>
+        ensures { result ≡ self.now.transport.watch.under_way }
+    {
+        self.view.transport.watch.under_way
+    }
+
+    /// The excess of its system buffer that is under way, if there is one.
+    pub fn system_excess(&self) -> Option<Excess>
+        ensures { result ≡ self.now.system.watch.under_way }
+    {
+        self.view.system.watch.under_way
+    }
+
+    // Bytes of the stream from byte `byte` on: the excesses that end with them are appended.
+    fn pass(
+        &mut self,
+        arrival: &Arrival,
+        byte: u64,
+        count: u64,
+        ended: &mut EndedExcesses,
+    ) -> Result<(), AllocError>
+        requires byte { byte ≤ 2 ^ 41 }
+        requires count { count ≤ 188 }
+        ensures program { OnOk result (self.new ≡ spec.passed arrival.now byte count self.old) }
+        ensures transport { OnOk result (ended.new.transport.items
+            ≡ ended.old.transport.items ++ spec.transport_ended arrival.now byte count self.old) }
+        ensures system { OnOk result (ended.new.system.items
+            ≡ ended.old.system.items ++ spec.system_ended arrival.now byte count self.old) }
+    {
+        if self.view.bytes + count <= MOST_BYTES && arrival.has_times(byte, count) {
+            self.view
+                .pass(&arrival.row(u64::from(DRAIN), byte, count), ended)?;
         }
+        Ok(())
+    }
+
+    // So many excesses of each buffer have ended.
+    fn count(&mut self, ended: &EndedExcesses)
+        ensures { self.new
+            ≡ spec.with_ended (length ended.now.transport.items) (length ended.now.system.items) self.old }
+    {
+        self.transport_excesses = self
+            .transport_excesses
+            .saturating_add(ended.transport.len() as u64);
+        self.system_excesses = self
+            .system_excesses
+            .saturating_add(ended.system.len() as u64);
+    }
+
+    // A packet of the PAT or of its map at an index: the excesses that end with it.
+    fn enter(
+        &mut self,
+        alloc: Global,
+        arrival: &Arrival,
+        index: u64,
+    ) -> Result<EndedExcesses, AllocError>
+        requires { index ≤ 5848000000 }
+        ensures program { OnOk result (self.new ≡ spec.with_packet arrival.now index self.old) }
+        ensures transport { IfOk result (λ ended. ended.transport.items ≡ spec.transport_in arrival.now index self.old) }
+        ensures system { IfOk result (λ ended. ended.system.items ≡ spec.system_in arrival.now index self.old) }
+    {
+        let mut ended = EndedExcesses::new(alloc);
         let byte = 188 * index;
         let lead = arrival.lead(byte).min(188);
-        self.pass(arrival, byte, lead);
-        self.pass(arrival, byte + lead, 188 - lead);
+        self.pass(arrival, byte, lead, &mut ended)?;
+        self.pass(arrival, byte + lead, 188 - lead, &mut ended)?;
+        self.count(&ended);
+        Ok(ended)
+    }
+
+    /// A packet of the stream, with its index and PID: the excesses that end with it are appended.
+    pub(crate) fn take(
+        &mut self,
+        alloc: Global,
+        arrival: &Arrival,
+        index: u64,
+        pid: u16,
+        excesses: &mut Vec<TableExcess>,
+    ) -> Result<(), AllocError>
+        ensures program { OnOk result (self.new ≡ spec.entered arrival.now index pid self.old) }
+        ensures excesses { OnOk result (excesses.new.items
+            ≡ excesses.old.items ++ spec.excesses_in arrival.now index pid self.old) }
+    {
+        if index >= LAST_INDEX || (pid != 0 && pid != self.map_pid) {
+            return Ok(());
+        }
+        let ended = self.enter(alloc, arrival, index)?;
+        append_ended(excesses, self.number, &ended)
     }
 }

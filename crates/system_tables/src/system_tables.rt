@@ -1,9 +1,10 @@
 //! The programs of a stream, and the buffers of their tables.
-ghost use Rattle.std.specs.Prelude.{◌≡◌, IfOk, None, OnOk, map};
+ghost use Rattle.std.specs.Prelude.{◌≡◌, ◌++◌, IfOk, None, OnOk, flat_map, map};
 ghost use Rattle.stream_arrival.specs.Arrivals.{step_of};
 ghost use Rattle.system_tables.specs.Programs as spec;
 
 use crate::program_tables::ProgramTables;
+use crate::table_excess::TableExcess;
 use named_streams::NamedStreams;
 use std::alloc::{AllocError, Global};
 use std::marker::Model;
@@ -40,13 +41,23 @@ fn programs_of(
         .collect(alloc)
 }
 
-// A packet comes to the programs.
-fn take_each(programs: &mut [ProgramTables], arrival: &Arrival, index: u64, pid: u16)
-    ensures { programs.new ≡ map (spec.entered arrival.now index pid) programs.old }
+// A packet comes to the programs: the excesses that end with it are appended.
+fn take_each(
+    alloc: Global,
+    programs: &mut [ProgramTables],
+    arrival: &Arrival,
+    index: u64,
+    pid: u16,
+    excesses: &mut Vec<TableExcess>,
+) -> Result<(), AllocError>
+    ensures programs { OnOk result (programs.new ≡ map (spec.entered arrival.now index pid) programs.old) }
+    ensures excesses { OnOk result (excesses.new.items
+        ≡ excesses.old.items ++ flat_map (spec.excesses_in arrival.now index pid) programs.old) }
 {
     for at in 0..programs.len() {
-        programs[at].take(arrival, index, pid);
+        programs[at].take(alloc, arrival, index, pid, excesses)?;
     }
+    Ok(())
 }
 
 impl SystemTables {
@@ -74,19 +85,23 @@ impl SystemTables {
         Ok(())
     }
 
-    /// The packet of a PID at an index.
+    /// The packet of a PID at an index: the excesses that end with it are appended.
+    #[tactic(auto, unfolding(crate::specs::Programs::known))]
     pub fn take(
         &mut self,
         arrival: &Arrival,
         index: u64,
         named: &NamedStreams,
         pid: u16,
+        excesses: &mut Vec<TableExcess>,
     ) -> Result<(), AllocError>
-        ensures { OnOk result (self.new ≡ spec.taken arrival.now index named.now pid self.old) }
+        ensures programs { OnOk result (self.new ≡ spec.taken arrival.now index named.now pid self.old) }
+        ensures excesses { OnOk result (excesses.new.items
+            ≡ excesses.old.items ++ spec.excesses_at arrival.now index named.now pid self.old) }
     {
         self.begin(arrival, named)?;
         if let Some(programs) = &mut self.programs {
-            take_each(programs, arrival, index, pid);
+            take_each(self.alloc, programs, arrival, index, pid, excesses)?;
         }
         Ok(())
     }

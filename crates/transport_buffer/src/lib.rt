@@ -3,12 +3,13 @@
 //!
 //! - [`Leaving`]: the bytes of a row as they leave, one row or two.
 //! - [`TransportBuffer`]: its state is when the last byte leaves, which tells its fullness at any later moment.
-//! - [`ExcessWatch`]: when it holds more than its size, from when to when and by how much.
+//! - [`ExcessWatch`]: when it holds more than its size, from when to when and by how much; row by row, or byte by byte.
 //! - [`laws`]: what that state says of the fullness over all moments.
 //!
 //! All bytes of a PID's packets enter it as they arrive, and each takes one `step` to leave it, on any scale of times.
 #![tactic(auto)]
 
+mod byte_excess;
 mod excess;
 pub mod laws;
 mod leaving;

@@ -5,8 +5,8 @@ ghost use Rattle.packet_arrival.specs.Rows.{IsTimed, times_of};
 
 use packet_arrival::Row;
 
-// The bytes in a buffer when one arrives at `time`, itself included, where the one before it leaves at `prev`.
-fn found(step: u64, prev: u128, time: u128) -> u128
+/// The bytes in a buffer when one arrives at `time`, itself included, where the one before it leaves at `prev`.
+pub(crate) fn found(step: u64, prev: u128, time: u128) -> u128
     requires some { 0 < step }
     requires prev { prev < 2 ^ 100 }
     ensures { result ≡ found step prev time }

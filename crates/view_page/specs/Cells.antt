@@ -7,9 +7,11 @@ use Rattle.view_page.specs.declared.cells.Limit.TheVariants.{Field, FieldIfAny, 
 use Rattle.view_page.specs.declared.cells.CellUnit.{CellUnit}
 use Rattle.view_page.specs.declared.cells.CellUnit.TheVariants.{Same, Ticks}
 use Rattle.view_page.specs.declared.cells.CellWord.{CellWord}
-use Rattle.view_page.specs.declared.cells.CellWord.TheVariants.{Transport, Main, TransportExcess, MainExcess, LateUnit, FarAhead, PcrRepetition, PcrDiscontinuity, PcrAccuracy, TableRepetition, Unclocked, Bytes, Packets, Millis, Nanos, Unreferenced, Missing, Nothing}
+use Rattle.view_page.specs.declared.cells.CellWord.TheVariants.{Transport, Main, TransportExcess, MainExcess, SystemExcess, SystemMainExcess, LateUnit, FarAhead, PcrRepetition, PcrDiscontinuity, PcrAccuracy, TableRepetition, Unclocked, Bytes, Packets, Millis, Nanos, Unreferenced, Missing, Nothing}
 use Rattle.view_page.specs.declared.cells.Cell.{Cell}
 use Rattle.view_page.specs.declared.cells.Cell.TheVariants.{Number, Checked, Bar, Word, Coding}
+use Rattle.view_page.specs.declared.cells.Cell.TheVariants as cells
+use Rattle.view_page.specs.declared.fields.FieldName.TheVariants as fields
 use Rattle.view_page.specs.Fields.{coding_in, number_in}
 
 unfoldable pub word_text : CellWord → List ℕ
@@ -17,6 +19,8 @@ word_text Transport = codes "transport"
 word_text Main = codes "main"
 word_text TransportExcess = codes "transport buffer over its size"
 word_text MainExcess = codes "main buffer over its size"
+word_text SystemExcess = codes "transport buffer of tables over its size"
+word_text SystemMainExcess = codes "system buffer of tables over its size"
 word_text LateUnit = codes "late unit"
 word_text FarAhead = codes "unit too far ahead"
 word_text PcrRepetition = codes "clock reference too late"
@@ -75,6 +79,10 @@ bar value (Some limit) = bar_to (bar_class (nat_lt limit value)) (bar_length val
 abbrev pub word_cell : List ℕ → List ℕ
 word_cell word = codes "<td class=\"word\">" ++ word
 
+-- of a program
+abbrev pub program_cell : ℕ → List ℕ
+program_cell number = codes "<td>program " ++ decimal number
+
 -- a cell of a line of these words
 unfoldable pub cell : List (List ℕ) → Cell → List ℕ
 cell words (Number name unit) = checked (number_in name words) None unit
@@ -82,6 +90,7 @@ cell words (Checked name limit unit) = checked (number_in name words) (limit_in 
 cell words (Bar name limit) = bar (number_in name words) (limit_in limit words)
 cell words (Word word) = word_cell (word_text word)
 cell words Coding = word_cell (names.word (coding_in words))
+cell words cells.Program = program_cell (number_in fields.Program words)
 
 abbrev pub row : List (List ℕ) → List Cell → List ℕ
 row words cells = codes "<tr>" ++ (flat_map (cell words) cells ++ codes "\n")

@@ -5,7 +5,7 @@ use Rattle.page_charts.specs.declared.pid_name.PidName.{PidName}
 use Rattle.page_charts.specs.declared.pid_name.PidName.TheVariants.{Mpeg2, Avc, Hevc, Audio, Aac, Ac3, Subtitles, Teletext}
 use Rattle.page_charts.specs.declared.pid_name.PidName.TheVariants as names
 use Rattle.view_page.specs.declared.fields.FieldName.{FieldName}
-use Rattle.view_page.specs.declared.fields.FieldName.TheVariants.{Number, Pid, Program, StreamType, Rx, Main, Transport, Rate, MainLeast, Slack, Packet, Packets, Pcrs, Peak, Size, Most, Excesses, Units, Late, Unread, By, Limit, Value, References, Announced, Interval, Inaccuracy, Table, Sections, Refused, Left}
+use Rattle.view_page.specs.declared.fields.FieldName.TheVariants.{Number, Pid, Program, StreamType, Rx, Main, Transport, Rate, MainLeast, Slack, Packet, Packets, Pcrs, Peak, Size, Most, Excesses, TransportExcesses, MainExcesses, Units, Late, Unread, By, Limit, Value, References, Announced, Interval, Inaccuracy, Table, Sections, Refused, Left}
 
 unfoldable pub field_word : FieldName → List ℕ
 field_word Number = codes "number"
@@ -25,6 +25,8 @@ field_word Peak = codes "peak"
 field_word Size = codes "size"
 field_word Most = codes "most"
 field_word Excesses = codes "excesses"
+field_word TransportExcesses = codes "transport_excesses"
+field_word MainExcesses = codes "main_excesses"
 field_word Units = codes "units"
 field_word Late = codes "late"
 field_word Unread = codes "unread"

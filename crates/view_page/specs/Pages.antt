@@ -4,7 +4,7 @@ use Rattle.view_page.specs.declared.fields.FieldName.TheVariants as fields
 use Rattle.view_page.specs.declared.page.Page.{Page}
 use Rattle.view_page.specs.declared.page.ReportEnd.{ReportEnd}
 use Rattle.view_page.specs.declared.report_lines.LineKind.{LineKind}
-use Rattle.view_page.specs.declared.report_lines.LineKind.TheVariants.{Stream, Window, Held, Units, Excess, MainExcess, Late, Ahead, PcrRepetition, PcrDiscontinuity, PcrAccuracy, TableRepetition, Unclocked, Transport, Main, System, Clock, Table, Pid, Unreferenced, Missing, End, Other}
+use Rattle.view_page.specs.declared.report_lines.LineKind.TheVariants.{Stream, Window, Held, Units, Excess, MainExcess, SystemExcess, SystemMainExcess, Late, Ahead, PcrRepetition, PcrDiscontinuity, PcrAccuracy, TableRepetition, Unclocked, Transport, Main, System, Clock, Table, Pid, Unreferenced, Missing, End, Other}
 use Rattle.view_page.specs.ReportLines.{kind_in, lines_of, words_of}
 use Rattle.view_page.specs.Fields.{number_in}
 use Rattle.view_page.specs.RowTexts.{RowTexts}
@@ -36,6 +36,8 @@ end_after end Held words = end
 end_after end Units words = end
 end_after end Excess words = end
 end_after end MainExcess words = end
+end_after end SystemExcess words = end
+end_after end SystemMainExcess words = end
 end_after end Late words = end
 end_after end Ahead words = end
 end_after end PcrRepetition words = end

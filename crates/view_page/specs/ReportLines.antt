@@ -3,7 +3,7 @@ use Rattle.std.specs.Prelude.{ℕ, ◌==◌, if◌then◌else◌, List, [], ◌�
 use Rattle.std.specs.List.{slice_split}
 use Rattle.std.specs.Str.{bytes_eq}
 use Rattle.view_page.specs.declared.report_lines.LineKind.{LineKind}
-use Rattle.view_page.specs.declared.report_lines.LineKind.TheVariants.{Stream, Window, Held, Units, Excess, MainExcess, Late, Ahead, PcrRepetition, PcrDiscontinuity, PcrAccuracy, TableRepetition, Unclocked, Transport, Main, System, Clock, Table, Pid, Unreferenced, Missing, End, Other}
+use Rattle.view_page.specs.declared.report_lines.LineKind.TheVariants.{Stream, Window, Held, Units, Excess, MainExcess, SystemExcess, SystemMainExcess, Late, Ahead, PcrRepetition, PcrDiscontinuity, PcrAccuracy, TableRepetition, Unclocked, Transport, Main, System, Clock, Table, Pid, Unreferenced, Missing, End, Other}
 
 abbrev pub lines_of : List ℕ → List (List ℕ)
 lines_of text = slice_split (λ b. b == 10) text
@@ -19,6 +19,8 @@ kind_of word =
     else (if bytes_eq word (codes "units") then Units
     else (if bytes_eq word (codes "excess") then Excess
     else (if bytes_eq word (codes "main_excess") then MainExcess
+    else (if bytes_eq word (codes "system_excess") then SystemExcess
+    else (if bytes_eq word (codes "system_main_excess") then SystemMainExcess
     else (if bytes_eq word (codes "late") then Late
     else (if bytes_eq word (codes "ahead") then Ahead
     else (if bytes_eq word (codes "pcr_repetition") then PcrRepetition
@@ -34,7 +36,7 @@ kind_of word =
     else (if bytes_eq word (codes "pid") then Pid
     else (if bytes_eq word (codes "unreferenced") then Unreferenced
     else (if bytes_eq word (codes "missing") then Missing
-    else (if bytes_eq word (codes "end") then End else Other)))))))))))))))))))))
+    else (if bytes_eq word (codes "end") then End else Other)))))))))))))))))))))))
 
 unfoldable pub kind_in : List (List ℕ) → LineKind
 kind_in [] = Other

@@ -2,8 +2,8 @@
 use Rattle.std.specs.Prelude.{ℕ, ◌+◌, ◌-◌, ◌^◌, min, nat_lt, if◌then◌else◌, List, [], ◌++◌}
 use Rattle.view_page.specs.declared.cells.Cell.{Cell}
 use Rattle.view_page.specs.declared.report_lines.LineKind.{LineKind}
-use Rattle.view_page.specs.declared.report_lines.LineKind.TheVariants.{Stream, Window, Held, Units, Excess, MainExcess, Late, Ahead, PcrRepetition, PcrDiscontinuity, PcrAccuracy, TableRepetition, Unclocked, Transport, Main, System, Clock, Table, Pid, Unreferenced, Missing, End, Other}
-use Rattle.view_page.specs.declared.rows.TheConstants.{AHEAD, CLOCK, EXCESS, LATE, MAIN, MAIN_EXCESS, MISSING, MOST_FAULTS, PCR_ACCURACY, PCR_DISCONTINUITY, PCR_REPETITION, PID, STREAM, SYSTEM, TABLE, TABLE_REPETITION, TRANSPORT, UNCLOCKED, UNREFERENCED}
+use Rattle.view_page.specs.declared.report_lines.LineKind.TheVariants.{Stream, Window, Held, Units, Excess, MainExcess, SystemExcess, SystemMainExcess, Late, Ahead, PcrRepetition, PcrDiscontinuity, PcrAccuracy, TableRepetition, Unclocked, Transport, Main, System, Clock, Table, Pid, Unreferenced, Missing, End, Other}
+use Rattle.view_page.specs.declared.rows.TheConstants.{AHEAD, CLOCK, EXCESS, LATE, MAIN, MAIN_EXCESS, MISSING, MOST_FAULTS, PCR_ACCURACY, PCR_DISCONTINUITY, PCR_REPETITION, PID, STREAM, SYSTEM, SYSTEM_EXCESS, SYSTEM_MAIN_EXCESS, TABLE, TABLE_REPETITION, TRANSPORT, UNCLOCKED, UNREFERENCED}
 use Rattle.view_page.specs.Cells.{row}
 use Rattle.view_page.specs.RowTexts.{RowTexts}
 
@@ -20,6 +20,8 @@ with_fault r words cells = record r {
 unfoldable pub with_fault_line : RowTexts → LineKind → List (List ℕ) → RowTexts
 with_fault_line r Excess words = with_fault r words EXCESS
 with_fault_line r MainExcess words = with_fault r words MAIN_EXCESS
+with_fault_line r SystemExcess words = with_fault r words SYSTEM_EXCESS
+with_fault_line r SystemMainExcess words = with_fault r words SYSTEM_MAIN_EXCESS
 with_fault_line r Late words = with_fault r words LATE
 with_fault_line r Ahead words = with_fault r words AHEAD
 with_fault_line r PcrRepetition words = with_fault r words PCR_REPETITION
@@ -57,6 +59,8 @@ with_line r Held words = with_fault_line r Held words
 with_line r Units words = with_fault_line r Units words
 with_line r Excess words = with_fault_line r Excess words
 with_line r MainExcess words = with_fault_line r MainExcess words
+with_line r SystemExcess words = with_fault_line r SystemExcess words
+with_line r SystemMainExcess words = with_fault_line r SystemMainExcess words
 with_line r Late words = with_fault_line r Late words
 with_line r Ahead words = with_fault_line r Ahead words
 with_line r PcrRepetition words = with_fault_line r PcrRepetition words

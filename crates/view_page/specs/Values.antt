@@ -6,7 +6,7 @@ use Rattle.page_charts.specs.PidCurves.{AreCurves, KeptCurve, kept_name, opened,
 use Rattle.page_charts.specs.PidNames.{of_pid}
 use Rattle.view_page.specs.declared.fields.FieldName.TheVariants as fields
 use Rattle.view_page.specs.declared.report_lines.LineKind.{LineKind}
-use Rattle.view_page.specs.declared.report_lines.LineKind.TheVariants.{Stream, Window, Held, Units, Excess, MainExcess, Late, Ahead, PcrRepetition, PcrDiscontinuity, PcrAccuracy, TableRepetition, Unclocked, Transport, Main, System, Clock, Table, Pid, Unreferenced, Missing, End, Other}
+use Rattle.view_page.specs.declared.report_lines.LineKind.TheVariants.{Stream, Window, Held, Units, Excess, MainExcess, SystemExcess, SystemMainExcess, Late, Ahead, PcrRepetition, PcrDiscontinuity, PcrAccuracy, TableRepetition, Unclocked, Transport, Main, System, Clock, Table, Pid, Unreferenced, Missing, End, Other}
 use Rattle.view_page.specs.declared.values.Values.{Values}
 use Rattle.view_page.specs.declared.values.TheConstants.{TRANSPORT_BYTES}
 use Rattle.view_page.specs.Fields.{coding_in, number_in, pid_in}
@@ -75,6 +75,8 @@ with_line v Held words = with_held v words
 with_line v Units words = with_units v words
 with_line v Excess words = v
 with_line v MainExcess words = v
+with_line v SystemExcess words = v
+with_line v SystemMainExcess words = v
 with_line v Late words = v
 with_line v Ahead words = v
 with_line v PcrRepetition words = v

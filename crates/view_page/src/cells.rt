@@ -29,6 +29,8 @@ pub enum CellWord {
     Main,
     TransportExcess,
     MainExcess,
+    SystemExcess,
+    SystemMainExcess,
     LateUnit,
     FarAhead,
     PcrRepetition,
@@ -45,8 +47,8 @@ pub enum CellWord {
     Nothing,
 }
 
-/// A cell: a number, one that is marked where it exceeds its limit, a bar of it beside its limit, a word, or what the stream is
-/// called.
+/// A cell: a number, one that is marked where it exceeds its limit, a bar of it beside its limit, a word, what the stream is
+/// called, or a program.
 #[derive(Clone, Copy)]
 pub enum Cell {
     Number(FieldName, CellUnit),
@@ -54,6 +56,7 @@ pub enum Cell {
     Bar(FieldName, Limit),
     Word(CellWord),
     Coding,
+    Program,
 }
 
 #[tactic(auto, unfolding(crate::specs::Cells::word_text))]
@@ -65,6 +68,8 @@ fn word_text(word: CellWord) -> &'static str
         CellWord::Main => "main",
         CellWord::TransportExcess => "transport buffer over its size",
         CellWord::MainExcess => "main buffer over its size",
+        CellWord::SystemExcess => "transport buffer of tables over its size",
+        CellWord::SystemMainExcess => "system buffer of tables over its size",
         CellWord::LateUnit => "late unit",
         CellWord::FarAhead => "unit too far ahead",
         CellWord::PcrRepetition => "clock reference too late",
@@ -180,6 +185,12 @@ fn write_word(text: &mut String, word: &str) -> Result<(), AllocError>
     write!(text, "<td class=\"word\">{word}")
 }
 
+fn write_program(text: &mut String, number: u64) -> Result<(), AllocError>
+    ensures { OnOk result (string_bytes text.new ≡ string_bytes text.old ++ spec.program_cell number) }
+{
+    write!(text, "<td>program {number}")
+}
+
 // A cell of a line of these words.
 #[tactic(auto, unfolding(crate::specs::Cells::cell))]
 fn write_cell(text: &mut String, words: &[&str], cell: Cell) -> Result<(), AllocError>
@@ -194,6 +205,7 @@ fn write_cell(text: &mut String, words: &[&str], cell: Cell) -> Result<(), Alloc
         Cell::Bar(name, limit) => write_bar(text, number_in(name, words), limit_in(limit, words)),
         Cell::Word(word) => write_word(text, word_text(word)),
         Cell::Coding => write_word(text, coding_in(words).word()),
+        Cell::Program => write_program(text, number_in(FieldName::Program, words)),
     }
 }
 

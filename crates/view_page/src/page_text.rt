@@ -56,7 +56,7 @@ const BUFFERS: &str =
     "</table></div><h2>Buffers</h2><div class=\"wide\"><table><tr><th>PID<th class=\"word\">buffer<th>size<th>most<th class=\"word\">beside its size<th>excesses<th>units<th>late<th>headers not read\n";
 
 const SYSTEMS: &str =
-    "</table></div><h2>Buffers of programs' tables</h2><div class=\"wide\"><table><tr><th>program<th>transport buffer, most<th class=\"word\">beside 512 bytes<th>system buffer, most<th class=\"word\">beside 1,536 bytes\n";
+    "</table></div><h2>Buffers of programs' tables</h2><div class=\"wide\"><table><tr><th>program<th>transport buffer, most<th class=\"word\">beside 512 bytes<th>excesses<th>system buffer, most<th class=\"word\">beside 1,536 bytes<th>excesses\n";
 
 const CLOCKS: &str =
     "</table></div><h2>Clock references</h2><div class=\"wide\"><table><tr><th>PID<th>references<th>announced<th>rate, bit/s<th>longest interval, ms<th class=\"word\">beside 100 ms<th>inaccuracy, ns<th class=\"word\">beside 500 ns\n";

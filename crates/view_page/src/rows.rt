@@ -53,12 +53,18 @@ const MAIN: [Cell; 9] = [
     Cell::Checked(FieldName::Unread, Limit::Fixed(0), CellUnit::Same),
 ];
 
-const SYSTEM: [Cell; 5] = [
+const SYSTEM: [Cell; 7] = [
     Cell::Number(FieldName::Program, CellUnit::Same),
     Cell::Checked(FieldName::Transport, Limit::Fixed(512), CellUnit::Same),
     Cell::Bar(FieldName::Transport, Limit::Fixed(512)),
+    Cell::Checked(
+        FieldName::TransportExcesses,
+        Limit::Fixed(0),
+        CellUnit::Same,
+    ),
     Cell::Checked(FieldName::Main, Limit::Fixed(1_536), CellUnit::Same),
     Cell::Bar(FieldName::Main, Limit::Fixed(1_536)),
+    Cell::Checked(FieldName::MainExcesses, Limit::Fixed(0), CellUnit::Same),
 ];
 
 const CLOCK: [Cell; 8] = [
@@ -117,6 +123,24 @@ const EXCESS: [Cell; 6] = [
 const MAIN_EXCESS: [Cell; 6] = [
     Cell::Word(CellWord::MainExcess),
     Cell::Number(FieldName::Pid, CellUnit::Same),
+    Cell::Number(FieldName::Packet, CellUnit::Same),
+    Cell::Number(FieldName::Peak, CellUnit::Same),
+    Cell::Number(FieldName::Size, CellUnit::Same),
+    Cell::Word(CellWord::Bytes),
+];
+
+const SYSTEM_EXCESS: [Cell; 6] = [
+    Cell::Word(CellWord::SystemExcess),
+    Cell::Program,
+    Cell::Number(FieldName::Packet, CellUnit::Same),
+    Cell::Number(FieldName::Peak, CellUnit::Same),
+    Cell::Number(FieldName::Size, CellUnit::Same),
+    Cell::Word(CellWord::Bytes),
+];
+
+const SYSTEM_MAIN_EXCESS: [Cell; 6] = [
+    Cell::Word(CellWord::SystemMainExcess),
+    Cell::Program,
     Cell::Number(FieldName::Packet, CellUnit::Same),
     Cell::Number(FieldName::Peak, CellUnit::Same),
     Cell::Number(FieldName::Size, CellUnit::Same),
@@ -258,6 +282,8 @@ impl Rows {
         match kind {
             LineKind::Excess => self.take_fault(words, &EXCESS),
             LineKind::MainExcess => self.take_fault(words, &MAIN_EXCESS),
+            LineKind::SystemExcess => self.take_fault(words, &SYSTEM_EXCESS),
+            LineKind::SystemMainExcess => self.take_fault(words, &SYSTEM_MAIN_EXCESS),
             LineKind::Late => self.take_fault(words, &LATE),
             LineKind::Ahead => self.take_fault(words, &AHEAD),
             LineKind::PcrRepetition => self.take_fault(words, &PCR_REPETITION),
