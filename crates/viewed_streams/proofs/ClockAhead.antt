@@ -1,21 +1,17 @@
 -- The clock references of a program as a view keeps the last of them: each says the clock at its byte, and the next is never far.
-use Rattle.std.proofs.Common.{◌≡◌, ◌∙◌, ◌⊎◌, sym, ℕ, suc, ◌+◌, ◌-◌, ◌*◌, ◌/◌, ◌%◌, ◌^◌, ◌≤◌, ◌<◌, ◌&&◌, ◌==◌, not, min, Bool, true, false, List, [], ◌∷◌, ◌++◌, length, map, Option, Some, None, Result, Ok, Err, if◌then◌else◌, refl, ap, subst, inl, inr, nat_eq, arith}
+use Rattle.std.proofs.Common.{◌≡◌, ◌∙◌, ◌⊎◌, ℕ, ◌+◌, ◌-◌, ◌*◌, ◌/◌, ◌%◌, ◌≤◌, ◌<◌, Bool, true, false, List, [], ◌∷◌, map, Option, Some, None, if◌then◌else◌, refl, ap, inl, inr, nat_eq, arith}
 use Rattle.std.specs.Option.{option_or}
-use Rattle.std.specs.Prelude.{option_and_then}
-use Rattle.std.proofs.lemmas.Bool.Decides.{eqb_tells}
 use Rattle.clock27.specs.Recurrence.{Recur}
 use Rattle.clock27.specs.Reference.{pcr_at, pcr_ticks}
-use Rattle.ts_packet.specs.declared.packet.PacketError.{PacketError}
-use Rattle.ts_packet.specs.Views.{AdaptationView, PacketView}
+use Rattle.ts_packet.specs.Views.{PacketView}
 use Rattle.ts_packet.specs.Reading.{packet_at}
 use Rattle.ts_packet.specs.Packets.{pcr_view}
-use Rattle.ts_packet.specs.PidList.{Entry, is_of_pid}
+use Rattle.ts_packet.specs.PidList.{Entry}
 use Rattle.packet_arrival.specs.declared.clock.PcrSample.{PcrSample}
 use Rattle.stream_arrival.specs.declared.arrival.Arrival.TheVariants.{AtRate}
 use Rattle.stream_report.specs.declared.view_options.ViewOptions.{ViewOptions}
 use Rattle.stream_report.specs.Clocks.{base_byte, place_of, sample_at, sample_in}
-use Rattle.viewed_streams.specs.StreamPackets.{Before, Followed, clock_with, known_after, most_packets, reference_in, sound_packet}
-use Rattle.viewed_streams.proofs.Lists.{apart, itself}
+use Rattle.viewed_streams.specs.StreamPackets.{Before, Followed, known_after, most_packets, reference_in, sound_packet}
 use Rattle.viewed_streams.proofs.DueByClock.{reference_at}
 
 -- ---- the packets of a PID among these, the first of which has this index

@@ -1,16 +1,13 @@
 -- A unit that a multiplexer wrote is due at its stamp by each clock reference of the run.
-use Rattle.std.proofs.Common.{◌≡◌, ◌∙◌, sym, ℕ, suc, ◌+◌, ◌-◌, ◌*◌, ◌/◌, ◌%◌, ◌^◌, ◌≤◌, ◌<◌, max, min, nat_lt, true, false, Some, None, refl, ap, inl, inr, arith}
+use Rattle.std.proofs.Common.{◌≡◌, ℕ, ◌+◌, ◌-◌, ◌*◌, ◌/◌, ◌%◌, ◌^◌, ◌≤◌, ◌<◌, max, nat_lt, true, false, refl, inl, inr, arith}
 use Rattle.std.proofs.Math.Nat.{div-le_of_le-mul, le-div_iff_mul-le, mul-le-mul_left, mul-le-mul_right}
 use Rattle.std.proofs.lemmas.Bool.{cases_lt, lt-ltb}
 use Rattle.clock27.specs.Reference.{pcr_ticks}
 use Rattle.clock27.specs.Units.{slot_units_at_1bps}
 use Rattle.pes_packet.specs.Encoding.{on_wire}
-use Rattle.packet_arrival.specs.declared.clock.TheConstants.{PCR_PERIOD}
 use Rattle.packet_arrival.specs.declared.clock.PcrSample.{PcrSample}
-use Rattle.stream_report.specs.declared.clocks.TheConstants.{LONGEST_STAY}
 use Rattle.stream_report.specs.Clocks.{ahead_of, due_at, due_tick, tick_of}
 use Rattle.stream_view.specs.ConstantRate.{due_time}
-use Rattle.stream_view.specs.declared.unit_seen.DueTime.{DueTime}
 use Rattle.viewed_streams.specs.StreamPackets.{most_packets}
 
 -- the clock reference in the packet at an index

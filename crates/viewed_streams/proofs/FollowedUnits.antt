@@ -1,16 +1,15 @@
 -- Each packet of a stream that a multiplexer wrote goes with its unit in a view: the view reads its stamp, and finds it due by the clock
 -- then, once a clock reference has come.
-use Rattle.std.proofs.Common.{◌≡◌, ◌∙◌, ◌⊎◌, sym, ℕ, suc, ◌+◌, ◌-◌, ◌*◌, ◌%◌, ◌≤◌, ◌<◌, ◌&&◌, ◌==◌, not, Bool, true, false, List, [], ◌∷◌, ◌++◌, length, map, Option, Some, None, if◌then◌else◌, refl, ap, subst, inl, inr, nat_eq, arith}
-use Rattle.std.specs.Prelude.{is_some, unwrap_or}
+use Rattle.std.proofs.Common.{◌≡◌, ◌∙◌, ◌⊎◌, sym, ℕ, suc, ◌+◌, ◌*◌, ◌%◌, ◌≤◌, ◌<◌, Bool, true, false, List, [], ◌∷◌, ◌++◌, length, Option, Some, None, if◌then◌else◌, refl, ap, subst, inl, inr, nat_eq, arith}
+use Rattle.std.specs.Prelude.{is_some}
 use Rattle.std.specs.Option.{option_or}
 use Rattle.std.proofs.Math.Nat.{mul-le-mul_right}
 use Rattle.ts_packet.specs.Views.{PacketView}
 use Rattle.ts_packet.specs.Reading.{packet_at}
-use Rattle.ts_packet.specs.PidList.{Entry, payload_of}
+use Rattle.ts_packet.specs.PidList.{Entry}
 use Rattle.pes_packet.specs.AccessUnits.{AccessUnit}
 use Rattle.packet_arrival.specs.declared.clock.PcrSample.{PcrSample}
 use Rattle.stream_arrival.specs.Arrivals.{step_of}
-use Rattle.stream_arrival.specs.declared.arrival.Arrival.{Arrival}
 use Rattle.stream_arrival.specs.declared.arrival.Arrival.TheVariants.{AtRate}
 use Rattle.stream_view.specs.ConstantRate.{due_time}
 use Rattle.stream_view.specs.declared.unit_seen.DueTime.{DueTime}
@@ -18,7 +17,7 @@ use Rattle.stream_buffers.specs.declared.arriving.Arriving.{Arriving}
 use Rattle.stream_report.specs.declared.view_options.ViewOptions.{ViewOptions}
 use Rattle.stream_report.specs.declared.clocks.Beginning.{Beginning}
 use Rattle.stream_report.specs.declared.clocks.Beginning.TheVariants.{Nothing, Stamped}
-use Rattle.stream_report.specs.Clocks.{beginning_of, due_at}
+use Rattle.stream_report.specs.Clocks.{beginning_of}
 use Rattle.stream_report.specs.Entries.{arriving, beginning_in, counter_after, due_by, is_repeated, same_counter}
 use Rattle.viewed_streams.specs.StreamPackets.{Before, Followed, clock_with, known_after, most_packets, reference_in, seen_among, seen_in, sound_packet}
 use Rattle.viewed_streams.proofs.Lists.{apart, some_is}
@@ -26,7 +25,7 @@ use Rattle.viewed_streams.proofs.StreamIndices.{index_more}
 use Rattle.viewed_streams.proofs.MainBytes.{due_with}
 use Rattle.viewed_streams.proofs.KeptBytes.{Follows}
 use Rattle.viewed_streams.proofs.SentUnits.{AllSent, IsSent, wire_dts}
-use Rattle.viewed_streams.proofs.DueByClock.{due_by_clock, reference_at}
+use Rattle.viewed_streams.proofs.DueByClock.{due_by_clock}
 use Rattle.viewed_streams.proofs.ClockAhead.{AreClocks, ClockIs, IsReference, NoClocks, NoneBefore, clock_packet, clock_step, entries_from, listed, near_reference, none_before}
 
 -- a run: its rate, the clock's value at its begin, the greatest distance of clock references, and its slots

@@ -1,19 +1,17 @@
 -- The bytes of a stream's packets in its main buffer, each of the unit of which its packet is.
-use Rattle.std.proofs.Common.{◌≡◌, ◌∙◌, ◌⊎◌, sym, ℕ, suc, ◌+◌, ◌-◌, ◌*◌, ◌≤◌, ◌<◌, cond, ◌&&◌, true, false, nat_lt, nat_le, List, [], ◌∷◌, ◌++◌, length, map, take, drop, replicate, Option, Some, None, refl, ap, subst, inl, inr, arith}
-use Rattle.std.specs.List.{flat_map}
-use Rattle.std.proofs.Math.Seq.{take-add}
+use Rattle.std.proofs.Common.{◌≡◌, ◌∙◌, ◌⊎◌, sym, ℕ, suc, ◌+◌, ◌-◌, ◌*◌, ◌≤◌, cond, true, false, nat_lt, nat_le, List, [], ◌∷◌, length, map, take, drop, Option, Some, None, refl, ap, subst, inl, inr, arith}
 use Rattle.std.proofs.lemmas.Bool.{le-ltb, and_right}
-use Rattle.std.proofs.lemmas.List.{length-append, length-drop, map-append, take_at, drop_at}
+use Rattle.std.proofs.lemmas.List.{length-append, length-drop, take_at, drop_at}
 use Rattle.std.proofs.lemmas.List.Sums.{sum_by-cons}
 use Rattle.clock27.specs.Arrival.{bytes_from}
 use Rattle.clock27.specs.Departure.{departures, last_left}
 use Rattle.clock27.proofs.Departures.{length-departures}
 use Rattle.decoder_buffers.proofs.ByteRows.{length-row}
 use Rattle.pes_packet.specs.AccessUnits.{AccessUnit}
-use Rattle.unit_timing.specs.MainBuffer.{is_in_main_buffer, mb_fullness}
+use Rattle.unit_timing.specs.MainBuffer.{is_in_main_buffer}
 use Rattle.unit_timing.specs.Schedule.{Packet}
-use Rattle.unit_timing.specs.Transport.{of_payloads, pes_left}
-use Rattle.unit_timing.proofs.MainBufferBytes.{kept, kept-append}
+use Rattle.unit_timing.specs.Transport.{pes_left}
+use Rattle.unit_timing.proofs.MainBufferBytes.{kept}
 use Rattle.unit_timing.proofs.TransportBuffer.{pes_left-cons}
 use Rattle.unit_arrival.specs.Removal.{removal_time}
 use Rattle.unit_arrival.proofs.EntryPeaks.{gone_test}

@@ -1,34 +1,22 @@
 -- What the packets of a stream leave in its main buffer, and its units, as the bytes of each come.
-use Rattle.std.proofs.Common.{◌≡◌, ◌∙◌, sym, ℕ, suc, ◌+◌, ◌-◌, ◌*◌, ◌≤◌, ◌<◌, cond, Bool, true, false, List, [], ◌∷◌, ◌++◌, length, map, take, drop, min, Option, Some, None, if◌then◌else◌, refl, ap, subst, inl, inr, arith, All, nat_lt}
-use Rattle.std.specs.Prelude.{count_by}
-use Rattle.std.specs.Option.{option_or, option_to_list}
-use Rattle.std.proofs.lemmas.Bool.{le-ltb}
+use Rattle.std.proofs.Common.{◌≡◌, ◌∙◌, sym, ℕ, ◌+◌, ◌-◌, ◌*◌, ◌≤◌, Bool, true, false, List, [], ◌++◌, length, drop, Option, Some, None, if◌then◌else◌, refl, ap, inl, inr, arith}
+use Rattle.std.specs.Option.{option_or}
 use Rattle.std.proofs.lemmas.Bool.Decides.{eqb_tells}
-use Rattle.std.proofs.lemmas.List.{append_assoc, append-nil, length-append, drop_at}
-use Rattle.std.proofs.lemmas.List.Elements.{All-head, All-tail}
-use Rattle.std.proofs.lemmas.List.Sums.{sum_by-cons}
+use Rattle.std.proofs.lemmas.List.{append-nil, drop_at}
 use Rattle.clock27.specs.Arrival.{bytes_from}
 use Rattle.clock27.specs.Departure.{departures, last_left}
 use Rattle.clock27.proofs.Departures.{departures-append, last_left-append, length-departures}
-use Rattle.unit_timing.specs.MainBuffer.{is_in_main_buffer}
 use Rattle.unit_timing.specs.Schedule.{Packet}
-use Rattle.unit_timing.specs.Transport.{of_payloads, pes_left}
-use Rattle.unit_timing.proofs.MainBufferBytes.{kept}
-use Rattle.unit_timing.proofs.TransportBuffer.{pes_left-cons}
 use Rattle.decoder_buffers.proofs.ByteRows.{row_split, length-row}
-use Rattle.main_buffer_rows.specs.RowEntry.{entered, has_entered}
+use Rattle.main_buffer_rows.specs.RowEntry.{entered}
 use Rattle.stream_arrival.specs.declared.arrival.Arrival.TheVariants.{AtRate}
 use Rattle.stream_arrival.specs.Arrivals.{lead_of, times_at}
-use Rattle.stream_view.specs.History.{Part, arrivals_of, last_of, left_after, main_fullness, unit_of, until_of}
-use Rattle.stream_view.specs.History.Part.{Carries}
+use Rattle.stream_view.specs.History.{arrivals_of, last_of, left_after, main_fullness, unit_of, until_of}
 use Rattle.stream_view.specs.declared.unit_seen.DueTime.{DueTime}
-use Rattle.stream_view.specs.declared.unit_seen.UnitSeen.{UnitSeen}
 use Rattle.stream_buffers.specs.declared.arriving.Arriving.{Arriving}
 use Rattle.stream_buffers.specs.Held.{Held, carried, passed}
-use Rattle.stream_buffers.specs.Entering.{after, after_begin, after_header, after_lead, after_payload, after_unit, ended_with, lead_in, size_of, takes_in, unit_ended, with_packet}
-use Rattle.stream_report.specs.Tallies.{is_late}
-use Rattle.viewed_streams.specs.StreamUnits.{units_ended}
-use Rattle.viewed_streams.proofs.EnteredBytes.{Alike, Arrives, begin_arrives, bytes_arrive, no_times, packet_arrives, payload_alike}
+use Rattle.stream_buffers.specs.Entering.{after, after_begin, after_header, after_lead, after_payload, after_unit, lead_in, size_of, takes_in, with_packet}
+use Rattle.viewed_streams.proofs.EnteredBytes.{Alike, Arrives, begin_arrives, bytes_arrive, no_times, packet_arrives}
 
 -- the unit under way once one begins, or none does, and the moment from which its bytes are gone; before the first unit none stays
 abbrev pub due_with : Option DueTime → Option DueTime → Option DueTime

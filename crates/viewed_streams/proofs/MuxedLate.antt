@@ -18,14 +18,13 @@ use Rattle.slot_plan.specs.declared.slot.Item.TheVariants.{Stream as StreamItem}
 use Rattle.slot_plan.specs.Schedule.{owned}
 use Rattle.unit_timing.specs.Arrived.{AllLeft}
 use Rattle.unit_timing.specs.PesPacket.{PesPacket}
-use Rattle.unit_timing.specs.Plans.{KeepsDeclaration, run_packets}
+use Rattle.unit_timing.specs.Plans.{KeepsDeclaration}
 use Rattle.unit_timing.specs.Schedule.{Packet, packet_in, packets_by_slot, packets_in_slots, payload_size_at}
 use Rattle.unit_timing.specs.Transport.{pes_left}
 use Rattle.unit_timing.proofs.ScheduleLemmas.{slotwise_law}
 use Rattle.unit_queue.specs.OwnedStreams.{OwnedStream, packet_count, timed}
 use Rattle.unit_queue.specs.Payloads.{all_pieces, all_senders}
 use Rattle.unit_queue.proofs.CarriedBytes.{carried_law}
-use Rattle.tstd.specs.Carried.{packets_on}
 use Rattle.mux_core.specs.Scheduled.{Scheduled}
 use Rattle.mux_core.specs.Headline.{UnitsKept}
 use Rattle.mux_core.specs.Histories.{content_at, owned_stream}
@@ -38,17 +37,15 @@ use Rattle.stream_arrival.specs.declared.arrival.Arrival.TheVariants.{AtRate}
 use Rattle.stream_view.specs.History.{arrivals_of, unit_of, until_of}
 use Rattle.stream_buffers.specs.declared.arriving.Arriving.{Arriving}
 use Rattle.stream_buffers.specs.Held.{Held, empty}
-use Rattle.stream_report.specs.Choices.{RequestView}
-use Rattle.stream_report.specs.Entries.{EntryState}
 use Rattle.stream_report.specs.Tallies.{is_late}
-use Rattle.viewed_streams.specs.StreamPackets.{after_each, most_packets}
+use Rattle.viewed_streams.specs.StreamPackets.{after_each}
 use Rattle.viewed_streams.specs.StreamUnits.{all_units, units_ended}
 use Rattle.viewed_streams.specs.WholeStreams.{IsWhole, followed, known_at_begin, stream_packets}
-use Rattle.viewed_streams.specs.ViewedRuns.{IsViewedAs, JobLateLaw, NoLateUnit, RunLateLaw}
+use Rattle.viewed_streams.specs.ViewedRuns.{JobLateLaw, NoLateUnit, RunLateLaw}
 use Rattle.viewed_streams.proofs.MainBytes.{timed_packet, until_at}
 use Rattle.viewed_streams.proofs.EnteredBytes.{ComeFrom}
 use Rattle.viewed_streams.proofs.KeptBytes.{Follows}
-use Rattle.viewed_streams.proofs.SentBytes.{TimelyEach, packet_sizes, sizes_of, timely_units}
+use Rattle.viewed_streams.proofs.SentBytes.{packet_sizes, sizes_of, timely_units}
 use Rattle.viewed_streams.proofs.SentUnits.{AllSent, entry_packet}
 use Rattle.viewed_streams.proofs.ClockAhead.{entries_from}
 use Rattle.viewed_streams.proofs.PidEntries.{pid_entries}

@@ -1,13 +1,12 @@
 -- The main buffers of a run that a multiplexer wrote.
-use Rattle.std.proofs.Common.{◌≡◌, ◌∙◌, sym, ℕ, zero, suc, ◌+◌, ◌*◌, ◌/◌, ◌%◌, ◌≤◌, ◌<◌, ◌==◌, Bool, true, false, if◌then◌else◌, nat_eq, IsTrue, List, [], ◌∷◌, ◌++◌, length, map, take, Option, Some, None, refl, ap, subst, inl, inr, arith, All}
+use Rattle.std.proofs.Common.{◌≡◌, ◌∙◌, sym, ℕ, zero, suc, ◌+◌, ◌*◌, ◌/◌, ◌%◌, ◌≤◌, Bool, true, false, if◌then◌else◌, nat_eq, List, [], ◌∷◌, ◌++◌, length, map, take, Option, Some, None, refl, ap, subst, inl, arith, All}
 use Rattle.std.specs.Prelude.{slice_get}
-use Rattle.std.proofs.lemmas.List.{length-append, map-append}
+use Rattle.std.proofs.lemmas.List.{length-append}
 use Rattle.std.proofs.lemmas.List.Elements.{All-cons, All-get_or, All-head, All-nil, All-tail, All-weaker}
 use Rattle.std.proofs.lemmas.Option.{get_or_from_slice_get, slice_get_within}
 use Rattle.clock27.specs.Departure.{last_left}
 use Rattle.clock27.specs.Recurrence.{Recur}
 use Rattle.clock27.specs.Reference.{pcr_at}
-use Rattle.clock27.specs.Units.{slot_units_at_1bps}
 use Rattle.ts_packet.specs.PidList.{Entry, cut_packets, pid_list, payload_of}
 use Rattle.ts_packet.specs.Views.{PacketView}
 use Rattle.ts_packet.specs.Reading.{packet_at}
@@ -30,7 +29,7 @@ use Rattle.unit_queue.proofs.CauseLemmas.{fits_unit}
 use Rattle.unit_queue.specs.Queues.{IsUnit, Kept, ParametersInRange}
 use Rattle.tstd.specs.Carried.{packets_on}
 use Rattle.mux_core.specs.Scheduled.{Scheduled}
-use Rattle.mux_core.specs.Headline.{Headline, ProgramKept, StreamKept, UnitsKept}
+use Rattle.mux_core.specs.Headline.{ProgramKept, StreamKept, UnitsKept}
 use Rattle.mux_core.specs.Histories.{content_at, owned_stream}
 use Rattle.mux_core.proofs.KnownRanges.{stream_range}
 use Rattle.mux_core.proofs.JobWriting.{output_bytes}
@@ -40,7 +39,6 @@ use Rattle.mux_core.proofs.Whole.{headline}
 use Rattle.monitor.proofs.FoundWhole.{packet_count}
 use Rattle.stream_arrival.specs.declared.arrival.Arrival.TheVariants.{AtRate}
 use Rattle.stream_view.specs.History.{arrivals_of, main_fullness, until_of}
-use Rattle.stream_view.specs.declared.unit_seen.DueTime.{DueTime}
 use Rattle.stream_buffers.specs.declared.arriving.Arriving.{Arriving}
 use Rattle.stream_buffers.specs.Held.{Held, empty, main_most}
 use Rattle.stream_report.specs.declared.view_options.ViewOptions.{ViewOptions}
@@ -54,8 +52,8 @@ use Rattle.viewed_streams.proofs.LaterPackets.{peak_le}
 use Rattle.viewed_streams.proofs.MainExcesses.{no_main_excess_law}
 use Rattle.viewed_streams.proofs.MainBytes.{timed_packet, until_at}
 use Rattle.viewed_streams.proofs.KeptBytes.{Follows, kept_each, main_each}
-use Rattle.viewed_streams.proofs.SentBytes.{TimelyEach, kept_units, packet_sizes, sizes_of, timely_units}
-use Rattle.viewed_streams.proofs.OnTimePackets.{IsSized, OnTime, on_time}
+use Rattle.viewed_streams.proofs.SentBytes.{kept_units, packet_sizes, sizes_of, timely_units}
+use Rattle.viewed_streams.proofs.OnTimePackets.{IsSized, on_time}
 use Rattle.viewed_streams.proofs.SentUnits.{AllSent, Cut, FitsIn, all_sent, entry_packet, units_cut}
 use Rattle.viewed_streams.proofs.ClockAhead.{AreClocks, ClockIs, IsReference, entries_from, listed, places}
 use Rattle.viewed_streams.proofs.FollowedUnits.{IsRun, Known, Run, all_follow}

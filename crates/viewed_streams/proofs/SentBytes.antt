@@ -1,13 +1,12 @@
 -- The packets of units, unit by unit.
-use Rattle.std.proofs.Common.{◌≡◌, ◌∙◌, sym, ℕ, zero, suc, ◌+◌, ◌-◌, ◌*◌, ◌≤◌, Bool, true, false, List, [], ◌∷◌, ◌++◌, length, map, take, drop, replicate, refl, ap, subst, arith, All}
-use Rattle.std.specs.List.{concat, flat_map}
+use Rattle.std.proofs.Common.{◌≡◌, ◌∙◌, sym, ℕ, zero, suc, ◌+◌, ◌*◌, ◌≤◌, Bool, true, false, List, [], ◌∷◌, ◌++◌, length, map, take, drop, replicate, refl, ap, subst, arith, All}
+use Rattle.std.specs.List.{concat}
 use Rattle.std.proofs.Math.Seq.{take-add}
 use Rattle.std.proofs.lemmas.List.{length-append, map-append}
 use Rattle.std.proofs.lemmas.List.Elements.{All-nil, All-cons, All-head, All-tail}
 use Rattle.clock27.specs.Units.{byte_units_at_1bps, slot_units_at_1bps}
 use Rattle.pes_packet.specs.AccessUnits.{AccessUnit}
 use Rattle.pes_packet.specs.Payloads.{pieces}
-use Rattle.pes_packet.specs.Laws.{PayloadsJoin}
 use Rattle.pes_packet.proofs.Payloads.{payloads_join}
 use Rattle.slot_contents.specs.Contents.{Piece}
 use Rattle.unit_timing.specs.Arrived.{AllLeft}

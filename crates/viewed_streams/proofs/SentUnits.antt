@@ -1,11 +1,10 @@
 -- The packets of a stream that a multiplexer wrote: what begins with each, and when its unit is due.
-use Rattle.std.proofs.Common.{◌≡◌, ◌∙◌, ◌⊎◌, sym, ℕ, zero, suc, ◌+◌, ◌*◌, ◌%◌, ◌≤◌, ◌<◌, ◌==◌, Bool, true, false, IsTrue, List, [], ◌∷◌, ◌++◌, length, map, take, drop, replicate, Option, Some, None, Ok, if◌then◌else◌, refl, ap, subst, inl, inr, arith, All, eqb-true}
+use Rattle.std.proofs.Common.{◌≡◌, ◌∙◌, ◌⊎◌, sym, ℕ, suc, ◌+◌, ◌*◌, ◌%◌, ◌≤◌, ◌==◌, Bool, true, false, IsTrue, List, [], ◌∷◌, ◌++◌, length, map, take, drop, replicate, Option, Some, None, refl, ap, subst, inl, inr, arith, All, eqb-true}
 use Rattle.std.specs.Prelude.{is_some, slice_get, unwrap_or}
 use Rattle.std.proofs.Math.Nat.{mul-le-mul_right}
 use Rattle.std.proofs.lemmas.Bool.{cases_Bool}
 use Rattle.std.proofs.lemmas.List.Elements.{All-head, All-tail}
 use Rattle.clock27.specs.Units.{slot_units_at_1bps}
-use Rattle.ts_packet.specs.Views.{PacketView}
 use Rattle.ts_packet.specs.PidList.{Entry, payload_of}
 use Rattle.pes_packet.specs.AccessUnits.{AccessUnit}
 use Rattle.pes_packet.specs.Encoding.{on_wire, pes_packet_bytes}
@@ -16,11 +15,10 @@ use Rattle.pes_packet.specs.StreamIds.{fits_packet}
 use Rattle.pes_packet.proofs.Payloads.{payloads_join}
 use Rattle.slot_contents.specs.Contents.{Piece, payload_at}
 use Rattle.unit_timing.specs.Schedule.{Packet}
-use Rattle.unit_queue.specs.OwnedStreams.{OwnedStream, packet_count, pes_bytes}
+use Rattle.unit_queue.specs.OwnedStreams.{OwnedStream, pes_bytes}
 use Rattle.unit_queue.specs.Payloads.{all_pieces, all_senders, marked, piece_in}
-use Rattle.round_trip_pid.specs.Units.{unit_header, unit_header_size}
+use Rattle.round_trip_pid.specs.Units.{unit_header_size}
 use Rattle.round_trip_pid.proofs.PesPrefixes.{unit_is_pes}
-use Rattle.stream_report.specs.declared.clocks.Beginning.{Beginning}
 use Rattle.stream_report.specs.declared.clocks.Beginning.TheVariants.{Nothing, Stamped}
 use Rattle.stream_report.specs.Clocks.{beginning_of, by_header, by_payload, by_stamps}
 use Rattle.viewed_streams.proofs.OnTimePackets.{OnTime}
