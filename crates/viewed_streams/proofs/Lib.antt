@@ -13,3 +13,15 @@ pub mod MeasuredStreams
 pub mod MuxedStreams
 pub mod MainExcesses
 pub mod WindowLows
+pub mod MainBytes
+pub mod KeptBytes
+pub mod SentBytes
+pub mod OnTimePackets
+pub mod SentUnits
+pub mod DueByClock
+pub mod ClockAhead
+pub mod FollowedUnits
+pub mod PidEntries
+pub mod MuxedMain
+pub mod UnitsInTime
+pub mod MuxedLate

@@ -53,7 +53,7 @@ parts_units step h arrival p size lead e =
     payload_units step c p.enters size (times_at arrival c.rx (188 * p.index + (188 - size)) size) in
     fourth ∙ third ∙ ap (λ (l : List UnitSeen). l ++ option_to_list (unit_ended b p.begins)) (second ∙ first)
 
-packet_units : (step : ℕ) (h : Held) (arrival : Arrival) (p : Arriving) → h.rate ≡ step →
+pub packet_units : (step : ℕ) (h : Held) (arrival : Arrival) (p : Arriving) → h.rate ≡ step →
     units_ended step (after h arrival p).parts ≡ units_ended step h.parts ++ option_to_list (entered h arrival p).unit
 unfolding after entered
 packet_units step h arrival p e = by (takes_in h arrival p)
@@ -131,7 +131,7 @@ unfoldable pub late_more : ℕ → List EnteredView → ℕ
 late_more n [] = n
 late_more n (v ∷ vs) = late_more (late_with n v.unit) vs
 
-count_two : (xs ys : List UnitSeen) → count_by is_late (xs ++ ys) ≡ count_by is_late xs + count_by is_late ys
+pub count_two : (xs ys : List UnitSeen) → count_by is_late (xs ++ ys) ≡ count_by is_late xs + count_by is_late ys
 count_two [] ys = omega arith
 count_two (x ∷ xs) ys =
     rw (sum_by-cons (λ u. cond (is_late u) 1 0) x (xs ++ ys), sum_by-cons (λ u. cond (is_late u) 1 0) x xs) (omega (arith, count_two xs ys))

@@ -5,3 +5,4 @@ pub mod MeasuredStreams
 pub mod MuxedStreams
 pub mod MainExcesses
 pub mod WindowLows
+pub mod ViewedRuns

@@ -2,6 +2,7 @@
 ghost use Rattle.viewed_streams.specs.MainExcesses.{NoMainExcessLaw};
 ghost use Rattle.viewed_streams.specs.MeasuredStreams.{MeasuredStreamLaw};
 ghost use Rattle.viewed_streams.specs.MuxedStreams.{JobNoExcessLaw, MuxedStreamLaw};
+ghost use Rattle.viewed_streams.specs.ViewedRuns.{JobLateLaw, JobMainLaw, RunLateLaw, RunMainLaw};
 ghost use Rattle.viewed_streams.specs.WholeStreams.{LastLinesLaw, WholeStreamLaw};
 ghost use Rattle.viewed_streams.specs.WindowLows.{WindowLeastLaw, WindowLowLaw};
 
@@ -36,4 +37,16 @@ pub fn measured_streams()
 pub fn muxed_streams()
     ensures whole { MuxedStreamLaw }
     ensures jobs { JobNoExcessLaw }
+{}
+
+/// Nor is an excess told of the main buffer of a stream whose buffers begin with the first packet of its PID.
+pub fn muxed_main_buffers()
+    ensures run { RunMainLaw }
+    ensures jobs { JobMainLaw }
+{}
+
+/// And no unit is late in a view of it.
+pub fn muxed_units()
+    ensures run { RunLateLaw }
+    ensures jobs { JobLateLaw }
 {}

@@ -1,0 +1,65 @@
+-- A unit that a multiplexer wrote is due at its stamp by each clock reference of the run.
+use Rattle.std.proofs.Common.{◌≡◌, ℕ, ◌+◌, ◌-◌, ◌*◌, ◌/◌, ◌%◌, ◌^◌, ◌≤◌, ◌<◌, max, nat_lt, true, false, refl, inl, inr, arith}
+use Rattle.std.proofs.Math.Nat.{div-le_of_le-mul, le-div_iff_mul-le, mul-le-mul_left, mul-le-mul_right}
+use Rattle.std.proofs.lemmas.Bool.{cases_lt, lt-ltb}
+use Rattle.clock27.specs.Reference.{pcr_ticks}
+use Rattle.clock27.specs.Units.{slot_units_at_1bps}
+use Rattle.pes_packet.specs.Encoding.{on_wire}
+use Rattle.packet_arrival.specs.declared.clock.PcrSample.{PcrSample}
+use Rattle.stream_report.specs.Clocks.{ahead_of, due_at, due_tick, tick_of}
+use Rattle.stream_view.specs.ConstantRate.{due_time}
+use Rattle.viewed_streams.specs.StreamPackets.{most_packets}
+
+-- the clock reference in the packet at an index
+abbrev pub reference_at : ℕ → ℕ → ℕ → PcrSample
+reference_at rate base0 m = record { byte = 188 * m + 10; ticks = pcr_ticks rate base0 (188 * m + 10); discontinuity = false }
+
+-- from the ticks t of the clock to those of the stamp, both after the same begin
+ahead_is : (t dts base0 : ℕ) → t ≤ 300 * dts → 300 * dts - t < 2576980377600 →
+    ((dts + base0) % 8589934592 % 8589934592 * 300 + 2576980377600 - (t + 300 * base0) % 2576980377600 % 2576980377600) % 2576980377600 ≡ 300 * dts - t
+ahead_is t dts base0 le near = omega (arith, le, near)
+
+-- the whole ticks to byte i are no more than the stamp's where the byte comes by then, and not long before it
+tick_le : (rate a g : ℕ) → a ≤ g * rate → a / rate ≤ g
+tick_le rate a g le = div-le_of_le-mul rate (let turned : a ≤ rate * g = omega (arith, le) in turned)
+
+tick_near : (rate a g k : ℕ) → 0 < rate → g * rate ≤ a + k * rate → g ≤ a / rate + k + 1
+tick_near rate a g k some le = elim (cases_lt (a / rate + k + 1) g) [
+  | inl over ↦
+      let far : a / rate + k + 2 ≤ g = omega (arith, over) in
+      let room : (a / rate + 2) * rate ≤ a = omega (arith, le, mul-le-mul_right rate far) in
+      let more : a / rate + 2 ≤ a / rate = (le-div_iff_mul-le {k = rate} {x = a / rate + 2} {y = a} some).1 room in
+      absurd (omega (arith, more))
+  | inr fine ↦ fine
+]
+
+-- the ticks of a byte of the first 2^40 are below the last one
+tick_low : (rate m : ℕ) → 100000 ≤ rate → m < most_packets → 216000000 * (188 * m + 10) / rate ≤ 2 ^ 60
+tick_low rate m least few =
+    let le : 216000000 * (188 * m + 10) ≤ 2 ^ 60 * rate = omega (arith, few, mul-le-mul_left (2 ^ 60) least) in
+    tick_le rate (216000000 * (188 * m + 10)) (2 ^ 60) le
+
+units_same : (y : ℕ) → ((300 * y + 215999999) / 216000000 ≡ (y + 719999) / 720000) × (300 * y / 216000000 ≡ y / 720000)
+units_same y = (omega arith, omega arith)
+
+pub due_by_clock : (rate rx base0 m i dts : ℕ) → 100000 ≤ rate → m < i → i ≤ most_packets → (188 * i - (188 * m + 10)) * 8000 ≤ 100 * rate →
+    i * slot_units_at_1bps ≤ dts * rate → dts * rate ≤ i * slot_units_at_1bps + 90000 * rate →
+    due_at rate rx (reference_at rate base0 m) (on_wire (dts + base0)) ≡ due_time rate rx dts
+due_by_clock rate rx base0 m i dts least before few near on_time soon =
+    let clock : PcrSample = reference_at rate base0 m in
+    let a : ℕ = 216000000 * (188 * m + 10) in
+    let t : ℕ = a / rate in
+    let some : 0 < rate = omega (arith, least) in
+    let one : max 1 rate ≡ rate = omega (arith, some) in
+    let turned : (188 * m + 10) * 216000000 ≡ a = omega arith in
+    let early : a ≤ 300 * dts * rate = omega (arith, before, on_time) in
+    let le : t ≤ 300 * dts = tick_le rate a (300 * dts) early in
+    let close : 300 * dts * rate ≤ a + 29700000 * rate = omega (arith, before, near, soon) in
+    let short : 300 * dts ≤ t + 29700000 + 1 = tick_near rate a (300 * dts) 29700000 some close in
+    let tick : tick_of rate clock ≡ t = rw (one, turned) (omega (arith, tick_low rate m least (omega (arith, before, few)))) in
+    let ahead : ahead_of clock (on_wire (dts + base0)) ≡ 300 * dts - t = ahead_is t dts base0 le (omega (arith, short)) in
+    let soon_is : nat_lt (300 * dts - t) (2576980377600 / 2) ≡ true = lt-ltb (300 * dts - t) (2576980377600 / 2) (omega (arith, short)) in
+    let due : due_tick rate clock (on_wire (dts + base0)) ≡ 300 * dts = rw (ahead, tick, soon_is) (omega (arith, le, short)) in
+    let parts : 300 * dts * (rate * rx) ≡ 300 * (dts * rate * rx) = omega arith in
+    let both = units_same (dts * rate * rx) in
+    rw (due, parts, both.0, both.1) refl

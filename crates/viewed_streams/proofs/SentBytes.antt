@@ -1,0 +1,157 @@
+-- The packets of units, unit by unit.
+use Rattle.std.proofs.Common.{◌≡◌, ◌∙◌, sym, ℕ, zero, suc, ◌+◌, ◌*◌, ◌≤◌, Bool, true, false, List, [], ◌∷◌, ◌++◌, length, map, take, drop, replicate, refl, ap, subst, arith, All}
+use Rattle.std.specs.List.{concat}
+use Rattle.std.proofs.Math.Seq.{take-add}
+use Rattle.std.proofs.lemmas.List.{length-append, map-append}
+use Rattle.std.proofs.lemmas.List.Elements.{All-nil, All-cons, All-head, All-tail}
+use Rattle.clock27.specs.Units.{byte_units_at_1bps, slot_units_at_1bps}
+use Rattle.pes_packet.specs.AccessUnits.{AccessUnit}
+use Rattle.pes_packet.specs.Payloads.{pieces}
+use Rattle.pes_packet.proofs.Payloads.{payloads_join}
+use Rattle.slot_contents.specs.Contents.{Piece}
+use Rattle.unit_timing.specs.Arrived.{AllLeft}
+use Rattle.unit_timing.specs.MainBuffer.{mb_fullness}
+use Rattle.unit_timing.specs.Schedule.{Packet}
+use Rattle.unit_timing.proofs.MainBufferBytes.{kept, kept-append}
+use Rattle.unit_queue.specs.OwnedStreams.{OwnedStream, packet_count, pes_bytes, timed}
+use Rattle.unit_queue.specs.Payloads.{all_pieces, all_senders, marked, pes_pieces}
+use Rattle.viewed_streams.proofs.KeptBytes.{kept_each}
+
+-- the sizes of payloads, and their sum
+abbrev pub sizes_of : List Piece → List ℕ
+sizes_of ps = map (λ (p : Piece). length p.bytes) ps
+
+abbrev pub packet_sizes : List Packet → List ℕ
+packet_sizes ps = map (λ (p : Packet). p.size) ps
+
+unfoldable pub total : List ℕ → ℕ
+total [] = 0
+total (n ∷ ns) = n + total ns
+
+marked_sizes : (start : Bool) (bs : List (List ℕ)) → sizes_of (marked start bs) ≡ map (λ (b : List ℕ). length b) bs
+unfolding marked
+marked_sizes start [] = refl
+marked_sizes start (b ∷ bs) = ap (λ (l : List ℕ). length b ∷ l) (marked_sizes false bs)
+
+total_joined : (bs : List (List ℕ)) → total (map (λ (b : List ℕ). length b) bs) ≡ length (concat bs)
+unfolding total
+total_joined [] = refl
+total_joined (b ∷ bs) = omega (arith, total_joined bs, length-append b (concat bs))
+
+many_sizes : (bs : List (List ℕ)) → length (map (λ (b : List ℕ). length b) bs) ≡ length bs
+many_sizes [] = refl
+many_sizes (b ∷ bs) = ap (λ (n : ℕ). suc n) (many_sizes bs)
+
+-- of a unit
+abbrev unit_sizes : OwnedStream → AccessUnit → List ℕ
+unit_sizes l u = map (λ (b : List ℕ). length b) (pieces (pes_bytes l u))
+
+unit_total : (l : OwnedStream) (u : AccessUnit) → total (unit_sizes l u) ≡ length (pes_bytes l u)
+unit_total l u = total_joined (pieces (pes_bytes l u)) ∙ ap (λ (b : List ℕ). length b) (payloads_join (pes_bytes l u)).joined
+
+unit_many : (l : OwnedStream) (u : AccessUnit) → length (unit_sizes l u) ≡ packet_count l u
+unit_many l u = many_sizes (pieces (pes_bytes l u)) ∙ (payloads_join (pes_bytes l u)).count
+
+all_sizes : (l : OwnedStream) (u : AccessUnit) (us : List AccessUnit) → sizes_of (all_pieces l (u ∷ us)) ≡ unit_sizes l u ++ sizes_of (all_pieces l us)
+all_sizes l u us =
+    map-append (λ (p : Piece). length p.bytes) (pes_pieces (pes_bytes l u)) (all_pieces l us)
+    ∙ ap (λ (ns : List ℕ). ns ++ sizes_of (all_pieces l us)) (marked_sizes true (pieces (pes_bytes l u)))
+
+drop_none : (k : ℕ) → drop {A = ℕ} k [] ≡ []
+drop_none zero = refl
+drop_none (suc k) = refl
+
+drop_two : (n m : ℕ) (xs : List ℕ) → drop (n + m) xs ≡ drop m (drop n xs)
+drop_two zero m xs = let same : 0 + m ≡ m = omega arith in ap (λ (k : ℕ). drop k xs) same
+drop_two (suc n) m [] = drop_none (suc n + m) ∙ sym (drop_none m)
+drop_two (suc n) m (x ∷ xs) = let same : suc n + m ≡ suc (n + m) = omega arith in ap (λ (k : ℕ). drop k (x ∷ xs)) same ∙ drop_two n m xs
+
+-- the packets of the first unit, as far as they come, and those after them
+pub record FirstKept (rate r x : ℕ) (u : AccessUnit) (qs : List ℕ) (us : List AccessUnit) (ps : List Packet) (rest left : List ℕ) : Type 0 where
+  pub most : kept_each rate r x (replicate (length qs) u ++ us) ps left
+      ≤ kept rate r x u.dts (take (total qs) left) + kept_each rate r x us (drop (length qs) ps) (drop (total qs) left)
+  pub later : packet_sizes (drop (length qs) ps) ≡ take (length (drop (length qs) ps)) rest
+
+first_kept : (rate r x : ℕ) (u : AccessUnit) (qs : List ℕ) (us : List AccessUnit) (ps : List Packet) (rest left : List ℕ) → packet_sizes ps ≡ take (length ps) (qs ++ rest) →
+    FirstKept rate r x u qs us ps rest left
+unfolding total kept_each
+first_kept rate r x u [] us ps rest left e = record { most = omega arith; later = e }
+first_kept rate r x u (q ∷ qs) us [] rest left e = record { most = omega arith; later = refl }
+first_kept rate r x u (q ∷ qs) us (p ∷ ps) rest left e =
+    let size : p.size ≡ q = cc in
+    let others : packet_sizes ps ≡ take (length ps) (qs ++ rest) = cc in
+    let k = first_kept rate r x u qs us ps rest (drop q left) others in
+    let two : kept rate r x u.dts (take (q + total qs) left) ≡ kept rate r x u.dts (take q left) + kept rate r x u.dts (take (total qs) (drop q left)) =
+    ap (λ (l : List ℕ). kept rate r x u.dts l) (take-add q (total qs) left) ∙ kept-append rate r x u.dts (take q left) (take (total qs) (drop q left)) in
+    let last : kept_each rate r x us (drop (length qs) ps) (drop (q + total qs) left) ≡ kept_each rate r x us (drop (length qs) ps) (drop (total qs) (drop q left)) =
+    ap (λ (l : List ℕ). kept_each rate r x us (drop (length qs) ps) l) (drop_two q (total qs) left) in
+    record { most = rw size (omega (arith, k.most, two, last)); later = k.later }
+
+-- all of them are in the main buffer no more than the model's
+pub kept_units : (rate r x : ℕ) (l : OwnedStream) (us : List AccessUnit) (ps : List Packet) (left : List ℕ) → packet_sizes ps ≡ take (length ps) (sizes_of (all_pieces l us)) →
+    kept_each rate r x (all_senders l us) ps left ≤ mb_fullness rate r x (map (timed l) us) left
+unfolding mb_fullness kept
+kept_units rate r x l [] ps left e = none ps
+  where
+    none : (ps : List Packet) → kept_each rate r x [] ps left ≤ 0
+    none [] = unfold kept_each in (omega arith)
+    none (p ∷ ps) = unfold kept_each in (omega arith)
+kept_units rate r x l (u ∷ us) ps left e =
+    let qs : List ℕ = unit_sizes l u in
+    let k = first_kept rate r x u qs (all_senders l us) ps (sizes_of (all_pieces l us)) left (e ∙ ap (λ (ns : List ℕ). take (length ps) ns) (all_sizes l u us)) in
+    let rest = kept_units rate r x l us (drop (length qs) ps) (drop (total qs) left) k.later in
+    let most = rw (unit_many l u, unit_total l u) at k.most in
+    let more = rw (unit_many l u, unit_total l u) at rest in
+    omega (arith, most, more)
+
+-- ---- and they leave the transport buffer in time
+
+-- the bytes of packets, of units, leave by the decoding times of these that are due in n slots
+unfoldable pub TimelyEach : ℕ → ℕ → ℕ → List AccessUnit → List Packet → List ℕ → Type 0
+TimelyEach rate r n us [] left = Unit {0}
+TimelyEach rate r n [] (p ∷ ps) left = Unit {0}
+TimelyEach rate r n (u ∷ us) (p ∷ ps) left =
+    (u.dts * rate ≤ n * slot_units_at_1bps → All (λ d. d * byte_units_at_1bps ≤ u.dts * rate * r) (take p.size left)) × TimelyEach rate r n us ps (drop p.size left)
+
+all_parts : (m : ℕ) (xs ys : List ℕ) → All (λ d. d * 720000 ≤ m) (xs ++ ys) → All (λ d. d * 720000 ≤ m) xs × All (λ d. d * 720000 ≤ m) ys
+all_parts m [] ys h = (All-nil (λ d. d * 720000 ≤ m), h)
+all_parts m (x ∷ xs) ys h =
+    let rest = all_parts m xs ys (All-tail (λ d. d * 720000 ≤ m) x (xs ++ ys) h) in
+    (All-cons (λ d. d * 720000 ≤ m) x xs (All-head (λ d. d * 720000 ≤ m) x (xs ++ ys) h) rest.0, rest.1)
+
+all_split : (m q n : ℕ) (left : List ℕ) → All (λ d. d * 720000 ≤ m) (take (q + n) left) → All (λ d. d * 720000 ≤ m) (take q left) × All (λ d. d * 720000 ≤ m) (take n (drop q left))
+all_split m q n left h = all_parts m (take q left) (take n (drop q left)) (subst (λ (l : List ℕ). All (λ d. d * 720000 ≤ m) l) (take-add q n left) h)
+
+first_timely : (rate r n : ℕ) (u : AccessUnit) (qs : List ℕ) (us : List AccessUnit) (ps : List Packet) (rest left : List ℕ) → packet_sizes ps ≡ take (length ps) (qs ++ rest) →
+    (u.dts * rate ≤ n * slot_units_at_1bps → All (λ d. d * 720000 ≤ u.dts * rate * r) (take (total qs) left)) →
+    TimelyEach rate r n us (drop (length qs) ps) (drop (total qs) left) → TimelyEach rate r n (replicate (length qs) u ++ us) ps left
+unfolding total TimelyEach
+first_timely rate r n u [] us ps rest left e h later = later
+first_timely rate r n u (q ∷ qs) us [] rest left e h later = tt
+first_timely rate r n u (q ∷ qs) us (p ∷ ps) rest left e h later =
+    let size : p.size ≡ q = cc in
+    let others : packet_sizes ps ≡ take (length ps) (qs ++ rest) = cc in
+    let two : u.dts * rate ≤ n * slot_units_at_1bps → All (λ d. d * 720000 ≤ u.dts * rate * r) (take q left) × All (λ d. d * 720000 ≤ u.dts * rate * r) (take (total qs) (drop q left)) =
+    λ due. all_split (u.dts * rate * r) q (total qs) left (h due) in
+    let last : TimelyEach rate r n us (drop (length qs) ps) (drop (total qs) (drop q left)) =
+    subst (λ (l : List ℕ). TimelyEach rate r n us (drop (length qs) ps) l) (drop_two q (total qs) left) later in
+    rw size ((λ due. (two due).0), first_timely rate r n u qs us ps rest (drop q left) others (λ due. (two due).1) last)
+
+pub timely_units : (rate r n : ℕ) (l : OwnedStream) (us : List AccessUnit) (ps : List Packet) (left : List ℕ) → packet_sizes ps ≡ take (length ps) (sizes_of (all_pieces l us)) →
+    AllLeft rate r n (map (timed l) us) left → TimelyEach rate r n (all_senders l us) ps left
+unfolding AllLeft
+timely_units rate r n l [] ps left e all = none ps
+  where
+    none : (ps : List Packet) → TimelyEach rate r n [] ps left
+    none [] = unfold TimelyEach in tt
+    none (p ∷ ps) = unfold TimelyEach in tt
+timely_units rate r n l (u ∷ us) ps left e all =
+    let qs : List ℕ = unit_sizes l u in
+    let sizes : packet_sizes ps ≡ take (length ps) (qs ++ sizes_of (all_pieces l us)) = e ∙ ap (λ (ns : List ℕ). take (length ps) ns) (all_sizes l u us) in
+    let k = first_kept rate r 0 u qs (all_senders l us) ps (sizes_of (all_pieces l us)) left sizes in
+    let rest : TimelyEach rate r n (all_senders l us) (drop (length qs) ps) (drop (total qs) left) =
+    timely_units rate r n l us (drop (length qs) ps) (drop (total qs) left) k.later (subst (λ (m : ℕ). AllLeft rate r n (map (timed l) us) (drop m left)) (sym (unit_total l u)) all.1) in
+    let whole : u.dts * rate ≤ n * slot_units_at_1bps → All (λ d. d * 720000 ≤ u.dts * rate * r) (take (total qs) left) =
+    λ due. subst (λ (m : ℕ). All (λ d. d * 720000 ≤ u.dts * rate * r) (take m left)) (sym (unit_total l u)) (all.0 due).1 in
+    subst (λ (m : ℕ). TimelyEach rate r n (replicate m u ++ all_senders l us) ps left) (unit_many l u)
+    (first_timely rate r n u qs (all_senders l us) ps (sizes_of (all_pieces l us)) left sizes whole rest)
