@@ -12,4 +12,3 @@ pub mod LaterPackets
 pub mod MeasuredStreams
 pub mod MuxedStreams
 pub mod MainExcesses
-pub mod WindowLows

@@ -4,4 +4,3 @@ pub mod WholeStreams
 pub mod MeasuredStreams
 pub mod MuxedStreams
 pub mod MainExcesses
-pub mod WindowLows
