@@ -24,10 +24,12 @@ key unit number entry = sample_text (number % 16) ++ (pid_text entry.pid entry.n
 unfoldable pub keys : ChartUnit → List PidCurve → List ℕ
 keys unit curves = codes "<p class=\"key\">" ++ (numbered (key unit) 0 curves ++ codes "</p>\n")
 
--- the band of a curve, along its greatest values and back along its least ones; and the line of its greatest values
+-- the outline of a curve, along its greatest values and back along its least ones; its band, and the line of its greatest values
+unfoldable pub outline : Frame → PidCurve → List ℕ
+outline f entry = numbered (point f entry.curve.span) 0 entry.curve.slots ++ numbered_back (low f entry.curve.span) 0 entry.curve.slots
+
 unfoldable pub band : Frame → ℕ → PidCurve → List ℕ
-band f class entry = codes "<path class=\"range s" ++ (decimal class ++ (codes "\" d=\"M" ++ (numbered (point f entry.curve.span) 0 entry.curve.slots
-    ++ (numbered_back (low f entry.curve.span) 0 entry.curve.slots ++ codes "z\"/>"))))
+band f class entry = codes "<path class=\"range s" ++ (decimal class ++ (codes "\" d=\"M" ++ (outline f entry ++ codes "z\"/>")))
 
 unfoldable pub title : PidCurve → List ℕ
 title entry = codes "h20\"><title>" ++ (pid_text entry.pid entry.name ++ codes "</title></path>\n")

@@ -67,7 +67,16 @@ fn write_keys(text: &mut String, unit: ChartUnit, curves: &[PidCurve]) -> Result
     text.push_str("</p>\n")
 }
 
-// The band of a curve, from the least to the greatest value of each slot: along the greatest values, and back along the least.
+// The outline of a curve: along its greatest values, and back along its least ones.
+#[tactic(auto, unfolding(crate::specs::Charts::outline))]
+fn write_outline(text: &mut String, frame: &Frame, entry: &PidCurve) -> Result<(), AllocError>
+    ensures { OnOk result (string_bytes text.new ≡ string_bytes text.old ++ spec.outline frame.now entry.now) }
+{
+    write_points(text, frame, entry.curve.span(), entry.curve.slots())?;
+    write_lows_back(text, frame, entry.curve.span(), entry.curve.slots())
+}
+
+// The band of a curve, from the least to the greatest value of each slot.
 #[tactic(auto, unfolding(crate::specs::Charts::band))]
 fn write_band(
     text: &mut String,
@@ -78,8 +87,7 @@ fn write_band(
     ensures { OnOk result (string_bytes text.new ≡ string_bytes text.old ++ spec.band frame.now class entry.now) }
 {
     write!(text, "<path class=\"range s{class}\" d=\"M")?;
-    write_points(text, frame, entry.curve.span(), entry.curve.slots())?;
-    write_lows_back(text, frame, entry.curve.span(), entry.curve.slots())?;
+    write_outline(text, frame, entry)?;
     text.push_str("z\"/>")
 }
 

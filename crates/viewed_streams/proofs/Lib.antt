@@ -12,7 +12,6 @@ pub mod LaterPackets
 pub mod MeasuredStreams
 pub mod MuxedStreams
 pub mod MainExcesses
-pub mod WindowLows
 pub mod MainBytes
 pub mod KeptBytes
 pub mod SentBytes
