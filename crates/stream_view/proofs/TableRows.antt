@@ -11,7 +11,7 @@ use Rattle.decoder_buffers.proofs.QueueStates.{passed-step, passed-last}
 use Rattle.main_buffer_rows.proofs.RowEntries.{row_next, row_end}
 use Rattle.transport_buffer.specs.Excesses.{excess_after, excesses_ended}
 use Rattle.transport_buffer.specs.declared.excess.Excess.{Excess}
-use Rattle.transport_buffer.proofs.ExcessBytes.{after-append, ended-append}
+use Rattle.transport_buffer.proofs.ExcessBytes.{after-append}
 use Rattle.stream_view.specs.SystemViewed.{IsSystemViewOf}
 use Rattle.stream_view.specs.WatchedQueues.{all_entered, empty_queue, ended_by, left_at}
 use Rattle.stream_view.specs.declared.system_buffers.SystemView.{SystemView}

@@ -1,4 +1,4 @@
-use Rattle.std.proofs.Common.{◌≡◌, ◌∙◌, sym, ap, ◌+◌, ◌*◌, ◌/◌, ◌≤◌, ◌++◌, max, arith}
+use Rattle.std.proofs.Common.{◌≡◌, ◌∙◌, ◌+◌, ◌*◌, ◌/◌, ◌≤◌, max, arith}
 use Rattle.packet_arrival.specs.declared.row.Row.{Row}
 use Rattle.stream_view.proofs.TableRows.{next_first, next_second, next_ended, next_left, end_first, end_second, end_ended, end_left}
 use Rattle.stream_view.proofs.system_view.pass_row.Goals as goal

@@ -1,6 +1,6 @@
 use Rattle.std.proofs.Common.{◌≡◌, ◌∙◌, rules, get_or, sym}
 use Rattle.std.proofs.lemmas.List.Edits.{map_over_more}
-use Rattle.std.proofs.lemmas.List.{take_all, drop_all, append-nil}
+use Rattle.std.proofs.lemmas.List.{take_all, drop_all}
 use Rattle.system_tables.specs.Programs.{ProgramState, entered, excesses_in}
 use Rattle.system_tables.proofs.Elements.{not_yet, one_more}
 use Rattle.system_tables.proofs.system_tables.take_each.Goals as goal
