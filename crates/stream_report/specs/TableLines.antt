@@ -1,6 +1,6 @@
 -- The sections of tables: where they begin, the lines of those that begin too late (ETSI TR 101 290, 5.2.1, 1.3 and 1.5; 5.2.3, 3.1, 3.5,
 -- 3.6 and 3.8), and a line for each table at the end.
-use Rattle.std.specs.Prelude.{ℕ, ◌+◌, ◌-◌, ◌^◌, ◌%◌, min, unwrap_or, List, [], ◌∷◌, ◌++◌, codes, flat_map, option_and_then, Option, Some, None}
+use Rattle.std.specs.Prelude.{◌≡◌, ℕ, ◌+◌, ◌-◌, ◌^◌, ◌%◌, min, unwrap_or, List, [], ◌∷◌, ◌++◌, codes, flat_map, option_and_then, Option, Some, None}
 use Rattle.stream_arrival.specs.Arrivals.{moment_on}
 use Rattle.stream_arrival.specs.declared.arrival.Arrival.{Arrival}
 use Rattle.stream_arrival.specs.declared.arrival.Arrival.TheVariants.{Unknown, AtRate, OnLines}
@@ -83,6 +83,11 @@ findings_lines options s (f ∷ fs) = finding_lines options s f ++ findings_line
 pub record TablesState : Type 0 where
   pub demux : StreamState
   pub times : TimesState
+
+-- no part of a packet is held, and no finding
+pub record TakesPackets (s : StreamState) : Type 0 where
+  pub held : s.held ≡ []
+  pub found : s.found ≡ []
 
 abbrev pub no_tables : TableTiming → TablesState
 no_tables timing = record { demux = start; times = record { intervals = no_section timing; errors = 0 } }

@@ -1,5 +1,8 @@
 //! What is kept of a stream beside its buffers.
-ghost use Rattle.std.specs.Prelude.{◌≡◌, ◌++◌, OnOk, string_bytes};
+ghost use Rattle.std.specs.Prelude.{◌≡◌, [], ◌++◌, OnOk, string_bytes};
+ghost use Rattle.bit_fields.specs.Reading.{Gives};
+ghost use Rattle.ts_packet.specs.Packets.{null_packet};
+ghost use Rattle.ts_packet.specs.Reading.{packet_at};
 ghost use Rattle.ts_packet.specs.Views.{packet_view};
 ghost use Rattle.stream_report.specs.Seen as spec;
 
@@ -20,7 +23,7 @@ use std::marker::Model;
 use stream_arrival::Arrival;
 use system_tables::SystemTables;
 use table_intervals::TableTiming;
-use ts_packet::{Packet, has_pcr};
+use ts_packet::{Packet, PacketError, has_pcr};
 
 /// What is kept of a stream beside its buffers: the number of packets, and of those that are refused; the window of the last packet; the
 /// packets of each PID; the last clock reference of each, and what all of them came to, with the number of their errors; the
@@ -207,19 +210,20 @@ impl Seen {
         window_of(&self.options, self.packets)
     }
 
-    /// A packet that is not known to be wrong enters the buffers of programs' tables, and is counted: the lines of the excesses that end
+    /// A packet that is not known to be wrong, in this window, enters the buffers of programs' tables, and is counted: the lines of the excesses that end
     /// with it are appended, of programs that are viewed.
     pub fn count(
         &mut self,
+        window: u64,
         choice: &ViewChoice,
         packet: &Packet<'_>,
         text: &mut String,
     ) -> Result<(), AllocError>
+        requires { window ≡ spec.next_window self.old }
         ensures seen { OnOk result (self.new ≡ spec.counted self.old (packet_view packet.now)) }
         ensures lines { OnOk result (string_bytes text.new
             ≡ string_bytes text.old ++ spec.system_excesses self.old choice.now (packet_view packet.now)) }
     {
-        let window = self.next_window();
         let pid = packet.header.pid;
         let pcr = has_pcr(packet);
         let mut excesses = Vec::new(self.alloc);
@@ -237,13 +241,27 @@ impl Seen {
         Ok(())
     }
 
-    /// The sections of tables in 188 bytes: the lines of those that begin too late are appended.
-    pub fn take_sections(&mut self, bytes: &[u8; 188], text: &mut String) -> Result<(), AllocError>
+    /// The sections of tables in 188 bytes, which were read: the lines of those that begin too late are appended.
+    pub fn take_sections<'a>(
+        &mut self,
+        bytes: &'a [u8; 188],
+        read: &Result<Packet<'a>, PacketError>,
+        text: &mut String,
+    ) -> Result<(), AllocError>
+        requires { Gives packet_view read.now (packet_at bytes.now) }
         ensures seen { OnOk result (self.new ≡ spec.with_sections self.old bytes.now) }
         ensures lines { OnOk result (string_bytes text.new
             ≡ string_bytes text.old ++ spec.section_lines self.old bytes.now) }
     {
-        self.tables.take(&self.options, bytes, text)
+        self.tables.take(&self.options, bytes, read, text)
+    }
+
+    /// The null packet, which has no section.
+    pub fn pass_null(&mut self) -> Result<(), AllocError>
+        ensures seen { OnOk result (self.new ≡ spec.with_sections self.old null_packet) }
+        ensures lines { spec.section_lines self.old null_packet ≡ [] }
+    {
+        self.tables.pass_null()
     }
 
     /// What 188 bytes name counts from the next packet on.

@@ -1,5 +1,9 @@
 //! The sections of tables, packet by packet.
-ghost use Rattle.std.specs.Prelude.{◌≡◌, ◌==◌, ◌++◌, OnOk, Some, map, string_bytes};
+ghost use Rattle.std.specs.Prelude.{◌≡◌, ◌==◌, [], ◌++◌, OnOk, Some, map, string_bytes};
+ghost use Rattle.bit_fields.specs.Reading.{Gives};
+ghost use Rattle.ts_packet.specs.Packets.{null_packet, null_view};
+ghost use Rattle.ts_packet.specs.Reading.{packet_at};
+ghost use Rattle.ts_packet.specs.Views.{packet_view};
 ghost use Rattle.demux.specs.Shown.{finding_view};
 ghost use Rattle.stream_report.specs.TableLines as spec;
 
@@ -14,6 +18,7 @@ use table_intervals::{
     SectionBegin, SectionPlaces, TableError, TableIntervals, TableTiming, limit_of, pid_of,
     section_begin, table_id_of, time_between,
 };
+use ts_packet::{Header, NULL_PID, Packet, PacketError, null_packet};
 
 /// The sections of each table, and the number of those that begin too late, which stops at 2^64 - 1.
 #[derive(Drop)]
@@ -33,16 +38,38 @@ impl Model for TableTimes {
 /// The sections of tables as far as they have come.
 #[derive(Drop)]
 pub struct TableWatch {
+    alloc: Global,
     demux: Demux,
     times: TableTimes,
 }
 
 impl Model for TableWatch {
-    ghost use Rattle.stream_report.specs.TableLines.{TablesState};
+    ghost use Rattle.stream_report.specs.TableLines.{TablesState, TakesPackets};
 
     ghost Value = { TablesState };
 
     ghost view = { λ t. record { demux = t.demux; times = t.times } };
+
+    ghost invariant = { λ t. TakesPackets t.demux };
+}
+
+// The null packet as it is read.
+fn null_read(bytes: &[u8; 188]) -> Packet<'_>
+    requires { bytes.now ≡ null_packet }
+    ensures { packet_view result ≡ null_view }
+{
+    Packet {
+        header: Header {
+            transport_error_indicator: false,
+            payload_unit_start_indicator: false,
+            transport_priority: false,
+            pid: NULL_PID,
+            transport_scrambling_control: 0,
+            continuity_counter: 0,
+        },
+        adaptation: None,
+        payload: Some(&bytes[4..]),
+    }
 }
 
 fn write_error(
@@ -189,6 +216,7 @@ impl TableWatch {
         ensures { result ≡ spec.no_tables timing }
     {
         TableWatch {
+            alloc,
             demux: Demux::new(alloc),
             times: TableTimes {
                 intervals: TableIntervals::new(alloc, timing),
@@ -197,23 +225,38 @@ impl TableWatch {
         }
     }
 
-    /// The next packet: the lines of sections that begin too late are appended, once these are found.
-    pub fn take(
+    /// The next packet, which was read: the lines of sections that begin too late are appended, once these are found.
+    pub fn take<'a>(
         &mut self,
         options: &ViewOptions,
-        bytes: &[u8; 188],
+        bytes: &'a [u8; 188],
+        read: &Result<Packet<'a>, PacketError>,
         text: &mut String,
     ) -> Result<(), AllocError>
+        requires { Gives packet_view read.now (packet_at bytes.now) }
         ensures tables { OnOk result (self.new ≡ spec.with_packet options.now self.old bytes.now) }
         ensures lines { OnOk result (string_bytes text.new
             ≡ string_bytes text.old ++ spec.packet_lines options.now self.old bytes.now) }
     {
-        let Ok(()) = self.demux.push(bytes) else {
+        let mut found = Vec::new(self.alloc);
+        let Ok(()) = self.demux.take_read(bytes, read, &mut found) else {
             return Err(AllocError);
         };
-        self.times.take_all(options, self.demux.findings(), text)?;
-        self.demux.forget_findings();
-        Ok(())
+        self.times.take_all(options, found.as_slice(), text)
+    }
+
+    /// The null packet: no section begins in it.
+    pub fn pass_null(&mut self) -> Result<(), AllocError>
+        ensures tables { (options : ViewOptions) → OnOk result (self.new ≡ spec.with_packet options self.old null_packet) }
+        ensures lines { (options : ViewOptions) → spec.packet_lines options self.old null_packet ≡ [] }
+    {
+        let bytes = null_packet();
+        let read = Ok(null_read(&bytes));
+        let mut found = Vec::new(self.alloc);
+        match self.demux.take_read(&bytes, &read, &mut found) {
+            Ok(()) => Ok(()),
+            Err(_) => Err(AllocError),
+        }
     }
 
     /// Whether no section began too late.

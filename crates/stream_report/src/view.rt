@@ -4,7 +4,7 @@ ghost use Rattle.bit_fields.specs.Reading.{Gives};
 ghost use Rattle.ts_packet.specs.Reading.{packet_at};
 ghost use Rattle.ts_packet.specs.Views.{PacketView, packet_view};
 ghost use Rattle.ts_packet.specs.declared.packet.PacketError.{PacketError};
-ghost use Rattle.stream_report.specs.Seen.{arrival_lines};
+ghost use Rattle.stream_report.specs.Seen.{arrival_lines, next_window};
 ghost use Rattle.stream_report.specs.Views as spec;
 ghost use Rattle.stream_report.specs.Views.{IsView, ViewState};
 
@@ -15,7 +15,7 @@ use crate::view_request::ViewRequest;
 use crate::window_lines::write_window;
 use std::alloc::{AllocError, Global};
 use stream_arrival::Arrival;
-use ts_packet::{Packet, PacketError, null_packet, read_packet};
+use ts_packet::{Packet, PacketError, read_packet};
 
 /// A stream as far as it has come: no packet is kept.
 ///
@@ -61,19 +61,27 @@ impl View {
             .write_units(text, &self.seen.options, self.seen.window.number())
     }
 
-    // The lines of the last packet's window, if a packet lies in another one.
-    fn end_window(&self, text: &mut String) -> Result<(), AllocError>
+    // The lines of the last packet's window, if a packet of this window lies in another one.
+    fn end_window(&self, window: u64, text: &mut String) -> Result<(), AllocError>
+        requires { window ≡ next_window self.now.seen }
         ensures { (s : ViewState) → IsView self.now s → OnOk result (string_bytes text.new
             ≡ string_bytes text.old ++ spec.last_window s) }
     {
-        if self.seen.window.number() == self.seen.next_window() {
+        if self.seen.window.number() == window {
             return Ok(());
         }
         self.write_window(text)
     }
 
-    // A packet of a PID in the buffers of its stream.
-    fn buffer(&mut self, packet: &Packet<'_>, text: &mut String) -> Result<(), AllocError>
+    // A packet of a PID, in this window, in the buffers of its stream.
+    fn buffer(
+        &mut self,
+        window: u64,
+        packet: &Packet<'_>,
+        text: &mut String,
+    ) -> Result<(), AllocError>
+        requires { window ≡ next_window self.old.seen }
+        ensures seen { self.new.seen ≡ self.old.seen }
         ensures view { (s : ViewState) → IsView self.old s → OnOk result
             (IsView self.new (spec.with_buffers s (packet_view packet.now))) }
         ensures lines { (s : ViewState) → IsView self.old s → OnOk result
@@ -81,7 +89,6 @@ impl View {
     {
         let options = self.seen.options;
         let index = self.seen.packets;
-        let window = self.seen.next_window();
         self.table
             .begin(&options, index, &self.seen.named, packet, text)?;
         self.table
@@ -95,10 +102,11 @@ impl View {
         ensures lines { (s : ViewState) → IsView self.old s → OnOk result
             (string_bytes text.new ≡ string_bytes text.old ++ spec.packet_lines s (packet_view packet.now)) }
     {
-        self.end_window(text)?;
+        let window = self.seen.next_window();
+        self.end_window(window, text)?;
         self.seen.take_clock(packet, text)?;
-        self.buffer(packet, text)?;
-        self.seen.count(self.table.choice(), packet, text)
+        self.buffer(window, packet, text)?;
+        self.seen.count(window, self.table.choice(), packet, text)
     }
 
     // A packet as it was read.
@@ -131,10 +139,10 @@ impl View {
 
     // The sections of tables in 188 bytes, which were read.
     #[tactic(auto, unfolding(crate::specs::Views::without_stream))]
-    fn watch_tables(
+    fn watch_tables<'a>(
         &mut self,
-        bytes: &[u8; 188],
-        read: &Result<Packet<'_>, PacketError>,
+        bytes: &'a [u8; 188],
+        read: &Result<Packet<'a>, PacketError>,
         text: &mut String,
     ) -> Result<(), AllocError>
         requires { Gives packet_view read.now (packet_at bytes.now) }
@@ -144,12 +152,12 @@ impl View {
             ≡ string_bytes text.old ++ spec.table_lines_at s bytes.now) }
     {
         match read {
-            Err(_) => self.seen.take_sections(bytes, text),
+            Err(_) => self.seen.take_sections(bytes, read, text),
             Ok(packet) => {
                 if self.table.has_stream(packet.header.pid) {
-                    self.seen.take_sections(&null_packet(), text)
+                    self.seen.pass_null()
                 } else {
-                    self.seen.take_sections(bytes, text)
+                    self.seen.take_sections(bytes, read, text)
                 }
             }
         }

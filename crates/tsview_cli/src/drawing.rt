@@ -14,8 +14,8 @@ use std::alloc::{AllocError, Global};
 use stream_report::{ClockedView, ViewRequest};
 use view_page::Page;
 
-/// The size of a piece in bytes: 348 packets, somewhat less than 64 KiB.
-const PIECE: usize = 348 * 188;
+/// The size of a piece in bytes: 349 packets, somewhat more than 64 KiB, so that it is read past the buffer of standard input.
+const PIECE: usize = 349 * 188;
 
 /// A stream that is viewed, the page of the lines that its packets have settled, and room for those of one.
 #[derive(Drop)]

@@ -13,8 +13,8 @@ use devices::{Halt, LONGEST_INPUT, new_piece, read_piece, size_within, write_tex
 use std::alloc::Global;
 use stream_report::{ClockedView, ViewRequest};
 
-/// The size of a piece in bytes: 348 packets, somewhat less than 64 KiB.
-const PIECE: usize = 348 * 188;
+/// The size of a piece in bytes: 349 packets, somewhat more than 64 KiB, so that it is read past the buffer of standard input.
+const PIECE: usize = 349 * 188;
 
 // Views the next piece: the lines that it settles are appended to the text.
 fn view_piece(view: &mut ClockedView, piece: &[u8], text: &mut String) -> Result<(), Halt>

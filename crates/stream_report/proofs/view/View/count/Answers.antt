@@ -1,11 +1,16 @@
-use Rattle.std.proofs.Common.{◌≡◌, ◌∙◌, ◌++◌, ap, ap₂}
+use Rattle.std.proofs.Common.{◌≡◌, ◌∙◌, ◌++◌, ap, ap₂, sym}
 use Rattle.std.specs.Prelude.{string_bytes}
 use Rattle.ts_packet.specs.Views.{packet_view}
 use Rattle.stream_report.specs.Choices.{ChoiceView}
-use Rattle.stream_report.specs.Seen.{SeenState, clock_errors, counted, system_excesses}
+use Rattle.stream_report.specs.Seen.{SeenState, clock_errors, counted, next_window, system_excesses}
 use Rattle.stream_report.specs.Views.{IsView, buffer_lines_at, clocked, last_window, system_lines_at}
 use Rattle.stream_report.proofs.Tables.{on_ok, four}
 use Rattle.stream_report.proofs.view.View.count.Goals as goal
+
+pub count-requires : goal.count-requires
+count-requires c =
+    c.next_window-window.ensures ∙ sym (ap (λ (s : SeenState). next_window s) c.in_ok-take_clock.ensures.seen)
+    ∙ sym (ap (λ (s : SeenState). next_window s) c.buffer.ensures.seen)
 
 pub returns-clause-view : goal.returns-clause-view
 returns-clause-view c = λ s k.

@@ -1,0 +1,24 @@
+use Rattle.std.proofs.Common.{◌∙◌, ap}
+use Rattle.ts_packet.specs.Packets.{null_packet}
+use Rattle.stream_report.specs.Seen.{SeenState, with_sections}
+use Rattle.stream_report.specs.TableLines.{TablesState}
+use Rattle.stream_report.proofs.Tables.{on_ok}
+use Rattle.stream_report.proofs.seen.Seen.pass_null.Goals as goal
+
+pub returns-clause-seen : goal.returns-clause-seen
+returns-clause-seen c =
+    let seen : SeenState = record {
+      options = c.self.inside.options;
+      packets = c.self.inside.packets;
+      refused = c.self.inside.refused;
+      window = c.self.inside.window;
+      totals = c.self.inside.totals;
+      clocks = c.self.inside.clocks;
+      watches = c.self.inside.watches;
+      errors = c.self.inside.errors;
+      tables = c.self.inside.tables;
+      systems = c.self.inside.systems;
+      named = c.self.inside.named;
+    } in
+    on_ok c.pass_null.result (λ e. ap (λ (t : TablesState). record seen { tables = t }) e ∙ ap (λ (s : SeenState). with_sections s null_packet) c.self.view_is)
+    (c.pass_null.ensures.tables seen.options)
