@@ -41,12 +41,12 @@ filler_none zero = refl
 filler_none (suc zero) = refl
 filler_none (suc (suc n)) = refl
 
-abbrev NoClock : ℕ → Content → Type 0
+abbrev pub NoClock : ℕ → Content → Type 0
 NoClock pid (PayloadContent other number start payload) = ⊤
 NoClock pid (PcrContent other pcr) = (other == pid) ≡ false
 NoClock pid NullContent = ⊤
 
-none_here : (pid : ℕ) (c : Content) → NoClock pid c → is_of_pid pid (view_of c) ≡ true → has_pcr (view_of c).adaptation ≡ false
+pub none_here : (pid : ℕ) (c : Content) → NoClock pid c → is_of_pid pid (view_of c) ≡ true → has_pcr (view_of c).adaptation ≡ false
 unfolding view_of
 none_here pid (PayloadContent other number start payload) none of = filler_none _
 none_here pid (PcrContent other pcr) none of = absurd (false≢true (sym (ap (λ (b : Bool). b && true) none) ∙ of))
@@ -62,7 +62,7 @@ none_listed pid content s (suc n) none =
       | inr k ↦ rw k rest
     ]
 
-abbrev NoProgram : List DescribedProgram → ℕ → Type 0
+abbrev pub NoProgram : List DescribedProgram → ℕ → Type 0
 NoProgram ps pid = (i : ℕ) (p : DescribedProgram) → slice_get ps i ≡ Some p → (p.pcr_pid == pid) ≡ false
 
 stream_none : (d : Scheduled) (units : ℕ → List AccessUnit) (pid slot k : ℕ) (o : Option DescribedStream) → NoClock pid (stream_in d units slot k o)
@@ -95,7 +95,7 @@ slot_none d units pid slot (Pcr i) none = clock_none d.description pid slot i (s
 slot_none d units pid slot (Table t) none = table_none d pid slot t (slice_get (table_kinds d.description) t)
 slot_none d units pid slot Null none = tt
 
-all_none : (d : Scheduled) (units : ℕ → List AccessUnit) (pid slot : ℕ) → NoProgram d.description.programs pid → NoClock pid (content_at d units slot)
+pub all_none : (d : Scheduled) (units : ℕ → List AccessUnit) (pid slot : ℕ) → NoProgram d.description.programs pid → NoClock pid (content_at d units slot)
 unfolding content_at
 all_none d units pid slot none = slot_none d units pid slot (slot_of d.schedule slot) none
 
@@ -122,14 +122,14 @@ program_in_time d p slots limit bytes kept le =
 
 -- ---- each PID is one or the other
 
-abbrev ProgramOn : List DescribedProgram → ℕ → Type 0
+abbrev pub ProgramOn : List DescribedProgram → ℕ → Type 0
 ProgramOn ps pid = (i : ℕ) × (p : DescribedProgram) × (slice_get ps i ≡ Some p) × (p.pcr_pid ≡ pid)
 
 first_not : (x : DescribedProgram) (ps : List DescribedProgram) (pid : ℕ) → (x.pcr_pid == pid) ≡ false → NoProgram ps pid → NoProgram (x ∷ ps) pid
 first_not x ps pid n rest zero p e = let same : x ≡ p = cc in sym (ap (λ (y : DescribedProgram). y.pcr_pid == pid) same) ∙ n
 first_not x ps pid n rest (suc i) p e = rest i p e
 
-find_program : (ps : List DescribedProgram) (pid : ℕ) → ProgramOn ps pid ⊎ NoProgram ps pid
+pub find_program : (ps : List DescribedProgram) (pid : ℕ) → ProgramOn ps pid ⊎ NoProgram ps pid
 find_program [] pid = inr (λ i p e. absurd (cc))
 find_program (x ∷ ps) pid = elim (cases_Bool (x.pcr_pid == pid)) [
   | inl y ↦ inl (0, x, refl, eqb-true x.pcr_pid pid y)

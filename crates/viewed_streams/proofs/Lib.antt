@@ -21,6 +21,7 @@ pub mod DueByClock
 pub mod ClockAhead
 pub mod FollowedUnits
 pub mod PidEntries
+pub mod ProgramClocks
 pub mod MuxedMain
 pub mod UnitsInTime
 pub mod MuxedLate

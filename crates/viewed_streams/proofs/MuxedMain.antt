@@ -50,6 +50,7 @@ use Rattle.viewed_streams.specs.ViewedRuns.{FromTheFirst, IsViewedAs, JobMainLaw
 use Rattle.viewed_streams.proofs.EnteredBytes.{ComeFrom}
 use Rattle.viewed_streams.proofs.LaterPackets.{peak_le}
 use Rattle.viewed_streams.proofs.MainExcesses.{no_main_excess_law}
+use Rattle.viewed_streams.proofs.ProgramClocks.{run_clock}
 use Rattle.viewed_streams.proofs.MainBytes.{timed_packet, until_at}
 use Rattle.viewed_streams.proofs.KeptBytes.{Follows, kept_each, main_each}
 use Rattle.viewed_streams.proofs.SentBytes.{kept_units, packet_sizes, sizes_of, timely_units}
@@ -156,29 +157,6 @@ stream_sent d s k us slots bytes is ranges range units kept few =
           on;
     }
 
--- ---- and on a program's
-
-clocks_of : (rate base0 pid : ℕ) (es : List Entry) → map (λ e. e.packet) es ≡ map (λ e. pcr_view pid (pcr_at rate base0 (188 * e.index + 10))) es → AreClocks rate base0 pid es
-unfolding AreClocks
-clocks_of rate base0 pid [] h = tt
-clocks_of rate base0 pid (e ∷ es) h =
-    let first : e.packet ≡ pcr_view pid (pcr_at rate base0 (188 * e.index + 10)) = cc in
-    let others : map (λ e. e.packet) es ≡ map (λ e. pcr_view pid (pcr_at rate base0 (188 * e.index + 10))) es = cc in
-    (first, clocks_of rate base0 pid es others)
-
-pub clock_begins : (d : Scheduled) (p : DescribedProgram) (slots : ℕ) (bytes : List ℕ) (options : ViewOptions) → ProgramKept d p slots bytes →
-    ClockIs options d.description.rate d.description.base0 p.pcr_limit slots p.pcr_pid 0 None (entries_from p.pcr_pid 0 (cut_packets bytes))
-unfolding ClockIs IsReference
-clock_begins d p slots bytes options kept =
-    let same = pid_entries p.pcr_pid bytes in
-    let rate : ℕ = d.description.rate in
-    let base0 : ℕ = d.description.base0 in
-    inl (
-      clocks_of rate base0 p.pcr_pid (entries_from p.pcr_pid 0 (cut_packets bytes))
-          (subst (λ (es : List Entry). map (λ e. e.packet) es ≡ map (λ e. pcr_view p.pcr_pid (pcr_at rate base0 (188 * e.index + 10))) es) same kept.clocks),
-      subst (λ (es : List Entry). Recur rate p.pcr_limit 0 (places es) (188 * slots)) same kept.pcrs_recur,
-    )
-
 -- ---- the view
 
 index_slots : (es : List Entry) → map (λ (e : Entry). e.index) es ≡ slots_of (map entry_packet es)
@@ -199,10 +177,6 @@ main_within rate rx size low x l us ps qs come follows same sizes =
     let here : kept_each rate rx x (all_senders l us) (map timed_packet ps) (pes_left rate rx 0 (map timed_packet ps)) ≡ kept_each rate rx x (all_senders l us) qs (pes_left rate rx 0 qs) =
     ap (λ (xs : List Packet). kept_each rate rx x (all_senders l us) xs (pes_left rate rx 0 xs)) same in
     omega (arith, all, here, kept_units rate rx x l us qs (pes_left rate rx 0 qs) sizes)
-
-program_range : (d : Described) (i : ℕ) (p : DescribedProgram) → IsInRange d → slice_get d.programs i ≡ Some p → IsProgram p
-program_range d i p ranges is =
-    rw (get_or_from_slice_get d.programs i p p is) at (All-get_or IsProgram d.programs i p (slice_get_within d.programs i p is) ranges.programs)
 
 -- the packets from the one on with which the buffers begin
 pub record FromBegin (d : Scheduled) (us : List AccessUnit) (request : RequestView) (e : EntryState) (pid : ℕ) (before rest : List (List ℕ)) : Type 0 where
@@ -252,17 +226,15 @@ run_viewed d units slots request e k ranges promised kept few viewed whole =
     let rest : List (List ℕ) = whole.first ∷ whole.later in
     let split : chunks ≡ whole.before ++ rest = whole.split in
     let lengths : length whole.before + length rest ≡ slots = sym (length-append whole.before rest) ∙ ap (λ (xs : List (List ℕ)). length xs) (sym split) ∙ many in
-    let program = program_range d.description viewed.number viewed.program ranges viewed.programs in
-    let clock : ClockIs request.options rate d.description.base0 viewed.program.pcr_limit slots e.clock_pid 0 None (entries_from e.clock_pid 0 (whole.before ++ rest)) =
-    subst (λ (xs : List (List ℕ)). ClockIs request.options rate d.description.base0 viewed.program.pcr_limit slots e.clock_pid 0 None (entries_from e.clock_pid 0 xs)) split
-    (subst (λ (q : ℕ). ClockIs request.options rate d.description.base0 viewed.program.pcr_limit slots q 0 None (entries_from q 0 chunks)) (sym viewed.clock_pid)
-    (clock_begins d viewed.program slots bytes request.options (h.programs viewed.number viewed.program viewed.programs))) in
+    let of = run_clock d units slots request.options e.clock_pid ranges promised kept in
+    let clock : ClockIs request.options rate d.description.base0 of.0 slots e.clock_pid 0 None (entries_from e.clock_pid 0 (whole.before ++ rest)) =
+    subst (λ (xs : List (List ℕ)). ClockIs request.options rate d.description.base0 of.0 slots e.clock_pid 0 None (entries_from e.clock_pid 0 xs)) split of.1.1 in
     record {
       sent = stream_sent d s k (units k) slots bytes viewed.there ranges (kept.parameters k s viewed.there) (kept.kept k s viewed.there) (h.streams k s viewed.there) (omega (arith, many));
       lengths = lengths;
       entries = ap (λ (xs : List (List ℕ)). entries_from s.pid 0 xs) split ∙ entries_two s.pid 0 whole.before rest
           ∙ (let place : 0 + length whole.before ≡ length whole.before = omega arith in ap (λ (i : ℕ). entries_from s.pid 0 whole.before ++ entries_from s.pid i rest) place);
-      begins = λ us n last sent. from_begin d us request e viewed.program.pcr_limit slots s.pid n last whole.before rest viewed.arrival ranges.least_rate program.most_limit few viewed.pid
+      begins = λ us n last sent. from_begin d us request e of.0 slots s.pid n last whole.before rest viewed.arrival ranges.least_rate of.1.0 few viewed.pid
           (omega (arith, lengths)) clock sent;
     }
 

@@ -4,7 +4,7 @@ use Rattle.ts_packet.specs.PidList.{cut_packets}
 use Rattle.decoder_buffers.specs.PidPackets.{packets_from}
 use Rattle.slot_contents.specs.Contents.{run_bytes}
 use Rattle.pes_packet.specs.AccessUnits.{AccessUnit}
-use Rattle.description.specs.Described.{DescribedProgram, DescribedStream}
+use Rattle.description.specs.Described.{DescribedStream}
 use Rattle.description.specs.Ranges.{IsInRange}
 use Rattle.pes_packet.specs.Units.{units_of}
 use Rattle.tstd.specs.Carried.{packets_on}
@@ -24,7 +24,7 @@ use Rattle.viewed_streams.specs.StreamPackets.{entered_each, most_packets}
 use Rattle.viewed_streams.specs.StreamUnits.{all_units}
 use Rattle.viewed_streams.specs.WholeStreams.{IsWhole, stream_packets}
 
--- a stream of the description that is viewed with the buffers that the description gives, by the clock references of one of its programs
+-- a stream of the description that is viewed with the buffers that the description gives; whatever PID its clock references are looked for on
 pub record IsViewedAs (d : Scheduled) (request : RequestView) (k : ℕ) (e : EntryState) : Type 0 where
   pub arrival : request.options.arrival ≡ AtRate d.description.rate
   pub stream : DescribedStream
@@ -32,10 +32,6 @@ pub record IsViewedAs (d : Scheduled) (request : RequestView) (k : ℕ) (e : Ent
   pub pid : e.pid ≡ stream.pid
   pub rx : e.held.rx ≡ stream.rx
   pub size : e.held.main.size ≡ stream.main
-  pub program : DescribedProgram
-  pub number : ℕ
-  pub programs : slice_get d.description.programs number ≡ Some program
-  pub clock_pid : e.clock_pid ≡ program.pcr_pid
 
 -- no excess of the main buffer is told of such a stream, of which these units were accepted: the line `main` says no more than its size, with
 -- none of the stream's packets has an excess ended, and none is under way at the end; and it is no more than what measuring these bytes finds
