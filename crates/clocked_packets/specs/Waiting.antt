@@ -1,8 +1,9 @@
 -- Packets that wait until the line is known on which they arrive.
 --
--- A stream arrives by the references of one PID, that of the first. With each of them the packets before it have a line, and the
+-- A stream arrives by the references of one PID, that of the first, or PCR_PID of a program once the first tables are known (ISO/IEC
+-- 13818-1, 2.4.2.2: bytes arrive by the references of their program). With each of them the packets before it have a line, and the
 -- packet with the reference waits as the first of those for the next. Where too many wait, the line before goes on for them.
-use Rattle.std.specs.Prelude.{ℕ, ◌+◌, ◌-◌, ◌^◌, ◌==◌, ◌&&◌, min, nat_lt, not, is_some, Bool, true, if◌then◌else◌, List, [], ◌∷◌, ◌++◌, length, Option, Some, None, Result, Ok, Err}
+use Rattle.std.specs.Prelude.{ℕ, ◌+◌, ◌-◌, ◌^◌, ◌==◌, ◌&&◌, min, nat_lt, not, is_some, Bool, true, false, if◌then◌else◌, List, [], ◌∷◌, ◌++◌, length, Option, Some, None, Result, Ok, Err}
 use Rattle.std.specs.Option.{option_map}
 use Rattle.ts_packet.specs.declared.packet.PacketError.{PacketError}
 use Rattle.ts_packet.specs.Reading.{packet_at}
@@ -14,31 +15,38 @@ use Rattle.stream_arrival.specs.declared.arrival.Arrival.TheVariants.{Unknown, O
 use Rattle.packet_arrival.specs.declared.clock.PcrSample.{PcrSample}
 use Rattle.packet_arrival.specs.declared.line.Line.{Line}
 use Rattle.pcr_errors.specs.Samples.{pcr_sample}
+use Rattle.stream_programs.specs.Programs.{FoundProgramsView}
+use Rattle.named_streams.specs.NamedStreams.{NamedView, clock_in, none_taken}
+use Rattle.named_streams.specs.NamedStreams as naming
+use Rattle.clocked_packets.specs.declared.packet_queue.ClockPid.{ClockPid}
+use Rattle.clocked_packets.specs.declared.packet_queue.ClockPid.TheVariants.{OfFirst, OfProgram, Known}
 use Rattle.clocked_packets.specs.declared.packet_queue.TheConstants.{MOST_WAITING}
 
--- the PID of the references, the clock that they give, the line of the first bytes of the first packet that waits, the number of packets
+-- the PID of the references, the streams that are named, the clock that the references give, the line of the first bytes of the first packet that waits, the number of packets
 -- so far, and those that wait
 pub record QueueState : Type 0 where
-  pub pid : Option ℕ
+  pub pid : ClockPid
+  pub named : NamedView
   pub clock : ArrivalClockState
   pub before : Option Line
   pub packets : ℕ
   pub held : List (List ℕ)
 
-abbrev pub no_packet : QueueState
-no_packet = record { pid = None; clock = no_reference; before = None; packets = 0; held = [] }
+abbrev pub no_packet : ClockPid → QueueState
+no_packet pid = record { pid = pid; named = none_taken; clock = no_reference; before = None; packets = 0; held = [] }
 
 -- 1. The reference of a packet by which the stream arrives, and its PID
 
-unfoldable pub is_of_clock : Option ℕ → ℕ → Bool
-is_of_clock None pid = true
-is_of_clock (Some clock) pid = clock == pid
+unfoldable pub is_of_clock : ClockPid → ℕ → Bool
+is_of_clock OfFirst pid = true
+is_of_clock (OfProgram number) pid = false
+is_of_clock (Known clock) pid = clock == pid
 
-abbrev pub reference_of : Option ℕ → ℕ → PacketView → Option (ℕ × PcrSample)
+abbrev pub reference_of : ClockPid → ℕ → PacketView → Option (ℕ × PcrSample)
 reference_of clock index packet =
     if not packet.header.transport_error_indicator && is_of_clock clock packet.header.pid then option_map (λ sample. (packet.header.pid, sample)) (pcr_sample index packet) else None
 
-unfoldable pub reference_read : Option ℕ → ℕ → Result PacketView PacketError → Option (ℕ × PcrSample)
+unfoldable pub reference_read : ClockPid → ℕ → Result PacketView PacketError → Option (ℕ × PcrSample)
 reference_read clock index (Err error) = None
 reference_read clock index (Ok packet) = reference_of clock index packet
 
@@ -55,9 +63,9 @@ unfoldable pub clock_by : QueueState → Option (ℕ × PcrSample) → ArrivalCl
 clock_by q None = q.clock
 clock_by q (Some reference) = clocks.after q.clock reference.1
 
-unfoldable pub pid_by : QueueState → Option (ℕ × PcrSample) → Option ℕ
+unfoldable pub pid_by : QueueState → Option (ℕ × PcrSample) → ClockPid
 pid_by q None = q.pid
-pid_by q (Some reference) = Some reference.0
+pid_by q (Some reference) = Known reference.0
 
 -- they still wait: the reference gives no line, and they are not too many
 abbrev pub still_wait : QueueState → Option (ℕ × PcrSample) → Bool
@@ -80,19 +88,43 @@ begun_by clock (Some reference) = clock
 abbrev pub stepped_by : QueueState → Option (ℕ × PcrSample) → QueueState
 stepped_by q reference = record {
   pid = pid_by q reference;
+  named = q.named;
   clock = if still_wait q reference then clock_by q reference else begun_by (clock_by q reference) reference;
   before = if still_wait q reference then q.before else (clock_by q reference).line;
   packets = min (q.packets + 1) (2 ^ 64 - 1);
   held = q.held;
 }
 
--- 3. A packet comes: how those before it arrive, if they do; and then it waits
+-- 3. PCR_PID of a program, once the first tables are known, 8191 where they do not name it: what a packet names counts from the next one on
+
+unfoldable pub program_pid_in : ℕ → Option FoundProgramsView → ClockPid
+program_pid_in number None = OfProgram number
+program_pid_in number (Some found) = Known (clock_in number found.programs)
+
+abbrev pub program_pid : ℕ → NamedView → ClockPid
+program_pid number named = program_pid_in number named.streams
+
+-- nothing is looked for where the PID is known, or is that of the first reference
+unfoldable pub named_after : ClockPid → NamedView → List ℕ → NamedView
+named_after OfFirst named bytes = named
+named_after (OfProgram number) named bytes = naming.taken named bytes
+named_after (Known pid) named bytes = named
+
+unfoldable pub pid_after : ClockPid → NamedView → ClockPid
+pid_after OfFirst named = OfFirst
+pid_after (OfProgram number) named = program_pid number named
+pid_after (Known pid) named = Known pid
+
+abbrev pub named_by : QueueState → List ℕ → QueueState
+named_by q bytes = record q { pid = pid_after q.pid (named_after q.pid q.named bytes); named = named_after q.pid q.named bytes }
+
+-- 4. A packet comes: how those before it arrive, if they do; and then it waits
 
 abbrev pub released : QueueState → List ℕ → Option Arrival
 released q bytes = released_by q (reference_in q bytes)
 
 abbrev pub stepped : QueueState → List ℕ → QueueState
-stepped q bytes = stepped_by q (reference_in q bytes)
+stepped q bytes = named_by (stepped_by q (reference_in q bytes)) bytes
 
 abbrev pub with_held : QueueState → List (List ℕ) → QueueState
 with_held q held = record q { held = held }

@@ -1,11 +1,12 @@
 //! Packets that wait for a line.
-ghost use Rattle.std.specs.Prelude.{◌≡◌, ◌∷◌, [], ◌++◌, IfSome, OnOk, Result};
+ghost use Rattle.std.specs.Prelude.{◌≡◌, ◌∷◌, [], ◌++◌, IfOk, IfSome, OnOk, Result};
 ghost use Rattle.bit_fields.specs.Reading.{Gives};
 ghost use Rattle.ts_packet.specs.Views.{PacketView, packet_view};
 ghost use Rattle.ts_packet.specs.declared.packet.PacketError.{PacketError};
 ghost use Rattle.packet_arrival.specs.Clock.{IsInRange};
 ghost use Rattle.clocked_packets.specs.Waiting as spec;
 
+use named_streams::NamedStreams;
 use packet_arrival::PcrSample;
 use pcr_errors::pcr_sample;
 use std::alloc::{AllocError, Global};
@@ -16,10 +17,22 @@ use ts_packet::{Packet, PacketError, read_packet};
 /// The most packets that wait.
 pub const MOST_WAITING: usize = 65_536;
 
-/// The packets of a stream that wait for a line, and the clock by whose references it arrives.
+/// The PID of the clock references by which a stream arrives.
+#[derive(Clone, Copy)]
+pub enum ClockPid {
+    /// That of the first reference, before one has come.
+    OfFirst,
+    /// PCR_PID of a program, before the first tables are known.
+    OfProgram(u16),
+    /// This one.
+    Known(u16),
+}
+
+/// The packets of a stream that wait for a line, the clock by whose references it arrives, and the streams that are named.
 #[derive(Drop)]
 pub struct PacketQueue {
-    pid: Option<u16>,
+    pid: ClockPid,
+    named: NamedStreams,
     clock: ArrivalClock,
     before: Option<ClockLine>,
     packets: u64,
@@ -31,22 +44,23 @@ impl Model for PacketQueue {
 
     ghost Value = { QueueState };
 
-    ghost view = { λ q. record { pid = q.pid; clock = q.clock; before = q.before; packets = q.packets; held = q.held.items } };
+    ghost view = { λ q. record { pid = q.pid; named = q.named; clock = q.clock; before = q.before; packets = q.packets; held = q.held.items } };
 }
 
 // Whether references of a PID are those by which the stream arrives.
 #[tactic(auto, unfolding(crate::specs::Waiting::is_of_clock))]
-fn is_of_clock(clock: Option<u16>, pid: u16) -> bool
+fn is_of_clock(clock: ClockPid, pid: u16) -> bool
     ensures { result ≡ spec.is_of_clock clock pid }
 {
     match clock {
-        None => true,
-        Some(clock) => clock == pid,
+        ClockPid::OfFirst => true,
+        ClockPid::OfProgram(_) => false,
+        ClockPid::Known(clock) => clock == pid,
     }
 }
 
 // The reference of a packet by which the stream arrives, and its PID.
-fn reference_of(clock: Option<u16>, index: u64, packet: &Packet<'_>) -> Option<(u16, PcrSample)>
+fn reference_of(clock: ClockPid, index: u64, packet: &Packet<'_>) -> Option<(u16, PcrSample)>
     ensures value { result ≡ spec.reference_of clock index (packet_view packet.now) }
     ensures range { IfSome result (λ r. IsInRange r.1) }
 {
@@ -59,7 +73,7 @@ fn reference_of(clock: Option<u16>, index: u64, packet: &Packet<'_>) -> Option<(
 
 #[tactic(auto, unfolding(crate::specs::Waiting::reference_read))]
 fn reference_read(
-    clock: Option<u16>,
+    clock: ClockPid,
     index: u64,
     read: &Result<Packet<'_>, PacketError>,
 ) -> Option<(u16, PcrSample)>
@@ -70,6 +84,17 @@ fn reference_read(
     match read {
         Err(_) => None,
         Ok(packet) => reference_of(clock, index, packet),
+    }
+}
+
+// PCR_PID of a program, once the first tables are known.
+#[tactic(auto, unfolding(crate::specs::Waiting::program_pid_in, named_streams::specs::NamedStreams::clock_by))]
+fn program_pid(number: u16, named: &NamedStreams) -> ClockPid
+    ensures { result ≡ spec.program_pid number named.now }
+{
+    match named.found() {
+        None => ClockPid::OfProgram(number),
+        Some(_) => ClockPid::Known(named.clock_pid(number)),
     }
 }
 
@@ -86,12 +111,13 @@ fn arrival_by(before: Option<ClockLine>, line: Option<ClockLine>) -> Arrival
 }
 
 impl PacketQueue {
-    /// No packet has come.
-    pub fn new(alloc: Global) -> PacketQueue
-        ensures { result ≡ spec.no_packet }
+    /// No packet has come of a stream that arrives by the references of that PID.
+    pub fn new(alloc: Global, pid: ClockPid) -> PacketQueue
+        ensures { result ≡ spec.no_packet pid }
     {
         PacketQueue {
-            pid: None,
+            pid,
+            named: NamedStreams::new(alloc),
             clock: ArrivalClock::new(),
             before: None,
             packets: 0,
@@ -114,13 +140,14 @@ impl PacketQueue {
         ensures clock { self.new.clock ≡ spec.clock_by self.old reference.now }
         ensures pid { self.new.pid ≡ spec.pid_by self.old reference.now }
         ensures before { self.new.before ≡ self.old.before }
+        ensures named { self.new.named ≡ self.old.named }
         ensures packets { self.new.packets ≡ self.old.packets }
         ensures held { self.new.held ≡ self.old.held }
     {
         match reference {
             None => None,
             Some((pid, sample)) => {
-                self.pid = Some(*pid);
+                self.pid = ClockPid::Known(*pid);
                 self.clock.take(*sample)
             }
         }
@@ -146,14 +173,29 @@ impl PacketQueue {
         Some(arrival)
     }
 
+    // What a packet names counts from the next one on, where the PID is not known yet.
+    #[tactic(auto, unfolding(crate::specs::Waiting::named_after, crate::specs::Waiting::pid_after))]
+    fn name(&mut self, bytes: &[u8; 188]) -> Result<(), AllocError>
+        ensures { OnOk result (self.new ≡ spec.named_by self.old bytes.now) }
+    {
+        let ClockPid::OfProgram(number) = self.pid else {
+            return Ok(());
+        };
+        self.named.take(bytes)?;
+        self.pid = program_pid(number, &self.named);
+        Ok(())
+    }
+
     /// The next packet comes: how those that wait arrive, if it is known now. Then they are to be taken, and the packet is to wait.
-    pub fn take(&mut self, bytes: &[u8; 188]) -> Option<Arrival>
-        ensures arrival { result ≡ spec.released self.old bytes.now }
-        ensures queue { self.new ≡ spec.stepped self.old bytes.now }
+    pub fn take(&mut self, bytes: &[u8; 188]) -> Result<Option<Arrival>, AllocError>
+        ensures arrival { IfOk result (λ arrival. arrival ≡ spec.released self.old bytes.now) }
+        ensures queue { OnOk result (self.new ≡ spec.stepped self.old bytes.now) }
     {
         let read = read_packet(bytes);
         let reference = reference_read(self.pid, self.packets, &read);
-        self.step(&reference)
+        let arrival = self.step(&reference);
+        self.name(bytes)?;
+        Ok(arrival)
     }
 
     /// Those that wait are taken.

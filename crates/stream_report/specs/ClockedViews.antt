@@ -3,6 +3,8 @@ use Rattle.std.specs.Prelude.{◌≡◌, ℕ, Bool, List, [], ◌∷◌, ◌++�
 use Rattle.stream_arrival.specs.declared.arrival.Arrival.{Arrival}
 use Rattle.stream_arrival.specs.declared.arrival.Arrival.TheVariants.{Unknown, AtRate, OnLines}
 use Rattle.clocked_packets.specs.Waiting.{QueueState, last_arrival, no_packet, released, stepped, with_held}
+use Rattle.clocked_packets.specs.declared.packet_queue.ClockPid.{ClockPid}
+use Rattle.clocked_packets.specs.declared.packet_queue.ClockPid.TheVariants.{OfFirst, OfProgram}
 use Rattle.stream_report.specs.Choices.{RequestView}
 use Rattle.stream_report.specs.Seen.{arrival_lines}
 use Rattle.stream_report.specs.Views.{IsView, ViewState, arriving}
@@ -18,14 +20,19 @@ pub record IsClocked (clocked : ClockedView) (s : ClockedState) : Type 0 where
   pub view : IsView clocked.view s.view
   pub queue : clocked.queue ≡ s.queue
 
--- before the first packet
-unfoldable pub queue_of : Arrival → Option QueueState
-queue_of Unknown = Some no_packet
-queue_of (AtRate rate) = None
-queue_of (OnLines lines) = None
+-- before the first packet: where the streams of these programs are viewed, a stream arrives by the clock of the first of them, and else by
+-- that of the first reference
+unfoldable pub clock_for : List ℕ → ClockPid
+clock_for [] = OfFirst
+clock_for (number ∷ numbers) = OfProgram number
+
+unfoldable pub queue_of : Arrival → List ℕ → Option QueueState
+queue_of Unknown programs = Some (no_packet (clock_for programs))
+queue_of (AtRate rate) programs = None
+queue_of (OnLines lines) programs = None
 
 abbrev pub start : RequestView → ClockedState
-start request = record { view = views.start request; queue = queue_of request.options.arrival }
+start request = record { view = views.start request; queue = queue_of request.options.arrival request.choice.programs }
 
 -- 1. Those that wait are viewed, as they arrive
 

@@ -7,7 +7,7 @@ ghost use Rattle.stream_report.specs.Views.{IsView, ViewState};
 
 use crate::view::View;
 use crate::view_request::ViewRequest;
-use clocked_packets::PacketQueue;
+use clocked_packets::{ClockPid, PacketQueue};
 use std::alloc::{AllocError, Global};
 use stream_arrival::Arrival;
 
@@ -20,12 +20,23 @@ pub struct ClockedView {
     pub queue: Option<PacketQueue>,
 }
 
+// By whose references a stream arrives of which the streams of these programs are viewed, or of all.
+#[tactic(auto, unfolding(crate::specs::ClockedViews::clock_for))]
+fn clock_for(programs: &[u16]) -> ClockPid
+    ensures { result ≡ spec.clock_for programs.now }
+{
+    match programs.first() {
+        None => ClockPid::OfFirst,
+        Some(number) => ClockPid::OfProgram(*number),
+    }
+}
+
 #[tactic(auto, unfolding(crate::specs::ClockedViews::queue_of))]
-fn queue_of(alloc: Global, arrival: &Arrival) -> Option<PacketQueue>
-    ensures { result ≡ spec.queue_of arrival.now }
+fn queue_of(alloc: Global, arrival: &Arrival, programs: &[u16]) -> Option<PacketQueue>
+    ensures { result ≡ spec.queue_of arrival.now programs.now }
 {
     match arrival {
-        Arrival::Unknown => Some(PacketQueue::new(alloc)),
+        Arrival::Unknown => Some(PacketQueue::new(alloc, clock_for(programs))),
         Arrival::AtRate(_) | Arrival::OnLines(_) => None,
     }
 }
@@ -81,7 +92,7 @@ fn take_waiting(
         ≡ string_bytes text.old ++ spec.lines_after v (stepped queue.old bytes.now) (released queue.old bytes.now)) }
     ensures queue { OnOk result (queue.new ≡ spec.queue_after queue.old bytes.now) }
 {
-    let arrival = queue.take(bytes);
+    let arrival = queue.take(bytes)?;
     view_if(view, queue, arrival, text)?;
     queue.push(bytes)
 }
@@ -91,7 +102,7 @@ impl ClockedView {
     pub fn new(alloc: Global, request: ViewRequest) -> ClockedView
         ensures { IsClocked result (spec.start request) }
     {
-        let queue = queue_of(alloc, &request.options.arrival);
+        let queue = queue_of(alloc, &request.options.arrival, &request.choice.programs);
         ClockedView {
             view: View::new(alloc, request),
             queue,
