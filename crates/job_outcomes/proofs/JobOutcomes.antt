@@ -7,7 +7,7 @@ use Rattle.slot_plan.specs.Conditions.{IsServing}
 use Rattle.slot_plan.specs.Planned.{Planned, plan_error}
 use Rattle.slot_plan.specs.Text.{plan_text}
 use Rattle.stream_jobs.specs.Answers.{Answers, Refuses}
-use Rattle.stream_jobs.specs.Jobs.{AreUnits, IsJob}
+use Rattle.stream_jobs.specs.Jobs.{AllAgree, AreUnits, IsJob}
 use Rattle.stream_jobs.specs.JobInput.{JobInputView, job_input}
 use Rattle.stream_jobs.specs.WhyNoJob.{IsWhyNoDescription, IsWhyNoReasons}
 use Rattle.stream_jobs.specs.JobOptions.{JobOptionsView}
@@ -60,15 +60,16 @@ nothing_written [] (p ∷ plan) units = rw (cons_is_not p plan) (sym (cons_is_no
 nothing_written (t ∷ text) plan units = rw (cons_is_not t text) (sym (cons_is_not t ((text ++ plan) ++ records_of units)))
 
 pub given_job : (w : JobOptionsView) (findings : List FindingView) (m : JobInputView) (text plan : List ℕ) (d : Described) (p q : Planned) (units : List (ℕ × AccessUnit)) →
-    IsJob w findings m d text units → AreUnits w.make_dts findings d units → IsServing d p → IsUtf8 text → plan_error q.slots q.certificate ≡ None → plan ≡ plan_text q → q ≡ p →
+    IsJob w findings m d text units → AreUnits w.make_dts findings d units → AllAgree d m → IsServing d p → IsUtf8 text → plan_error q.slots q.certificate ≡ None → plan ≡ plan_text q → q ≡ p →
     GivesJob w findings m (written text plan units)
-given_job w findings m text plan d p q units j u s utf8 within e f = record {
+given_job w findings m text plan d p q units j u a s utf8 within e f = record {
   description = d;
   text = text;
   plan = p;
   units = units;
   job = j;
   found = u;
+  agree = a;
   serving = s;
   utf8 = utf8;
   within = subst (λ (x : Planned). plan_error x.slots x.certificate ≡ None) f within;

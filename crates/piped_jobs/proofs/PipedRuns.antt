@@ -1,5 +1,5 @@
 -- Both programs, one after the other.
-use Rattle.std.proofs.Common.{◌≡◌, ◌<◌, ℕ, ◌/◌, Bool, false, List, [], ◌++◌, length, Option, Some, None, Result, Ok, Err, refl, sym, ap, ◌∙◌, subst, arith, is_some, inl, inr, All}
+use Rattle.std.proofs.Common.{◌≡◌, ◌<◌, ℕ, ◌+◌, ◌-◌, ◌/◌, ◌^◌, Bool, false, List, [], ◌++◌, length, Option, Some, None, Result, Ok, Err, refl, sym, ap, ◌∙◌, subst, arith, is_some, inl, inr, All}
 use Rattle.std.specs.Io.KnownBytes.{Appends}
 use Rattle.clap.specs.Words.{Text}
 use Rattle.demux.specs.Views.{FindingView}
@@ -9,7 +9,9 @@ use Rattle.packet_sync.specs.declared.packet_sizes.OtherPackets.{OtherPackets}
 use Rattle.stream_units.proofs.KeptDeclarations.{units_kept}
 use Rattle.stream_jobs.specs.JobInput.{JobInputView, job_input}
 use Rattle.stream_jobs.specs.JobOptions.{JobOptionsView}
+use Rattle.stream_jobs.specs.JobPrograms.{clock_in}
 use Rattle.stream_jobs.specs.Jobs.{AreUnits}
+use Rattle.stream_jobs.proofs.ClockConstants.{constants_of}
 use Rattle.stream_jobs.specs.declared.refusal.JobRefusal.{JobRefusal}
 use Rattle.unit_records.proofs.RecordBytes.{records_are_read}
 use Rattle.round_trip_job.specs.Laws.{AcceptedLaw, FoundAgainLaw, schedule_for}
@@ -31,7 +33,7 @@ use Rattle.piped_jobs.proofs.PlainLines.{Passes}
 use Rattle.piped_jobs.proofs.PlainNames.{PlainOptions, options_plain}
 use Rattle.piped_jobs.proofs.ReadJobs.{job_again, text_in_range}
 use Rattle.piped_jobs.proofs.TakenJobs.{none_refused}
-use Rattle.piped_jobs.proofs.UnitsAgain.{units_again}
+use Rattle.piped_jobs.proofs.UnitsAgain.{moved_units, units_again}
 use Rattle.piped_jobs.proofs.WrittenRecords.{Fits, records_read, units_fit}
 
 -- 1. What is written is read
@@ -137,6 +139,7 @@ through accepted again words a o bytes output job_again packets faults status as
     let read = written_is_read words a (findings_of (carried bytes)) input output asked job in
     let none = none_refused accepted a.options.make_dts (findings_of (carried bytes)) o (as_mux_job job) refl m.all_slots ranges job.found in
     let done = muxed o output (as_mux_job job) job_again packets faults status m read none in
+    let constants = constants_of a.options (length (carried bytes) / 188) (findings_of (carried bytes)) input input_is in
     record {
       input = input;
       input_is = input_is;
@@ -146,9 +149,11 @@ through accepted again words a o bytes output job_again packets faults status as
       silent = done.silent;
       written = done.written;
       kept = done.kept;
+      time = λ clock. job.description.base0 + 2 ^ 33 - constants.constant clock;
       units = λ own bytes_out short k s is.
-          units_again again (findings_of (carried bytes)) o (as_mux_job job) refl m.all_slots bytes_out ranges job.serving
-          (subst (λ (made : Bool). AreUnits made (findings_of (carried bytes)) job.description job.units) own job.found) short k s is;
+          units_again again (findings_of (carried bytes)) o (as_mux_job job) (constants.constant (clock_in input.programs s.program)) refl m.all_slots bytes_out ranges job.serving
+          (subst (λ (made : Bool). AreUnits made (findings_of (carried bytes)) job.description job.units) own job.found) short k s is
+          (moved_units a.options (findings_of (carried bytes)) job.description input job.units constants own job.agree job.job.merged k s is);
     }
 
 pub the_pipe : AcceptedLaw → FoundAgainLaw → ThePipe

@@ -11,7 +11,7 @@ pub fn written_is_read()
 /// these bytes, `mux` refused nothing and told nothing: its status is 0, and it wrote the packets of that job's units,
 /// which keep every promise. Where the DTS are the stream's own, what a demultiplexer finds in these packets on the PID of
 /// each stream of the job are all units that it finds there in the input, and no other: in order, their bytes the same,
-/// their stamps later by one constant, modulo 2^33.
+/// their stamps later by a constant, modulo 2^33, which is one for all programs of a clock of the input.
 ///
 /// A device that fails, or memory that is wanting, ends either program earlier, with status 3. The writer held nothing
 /// before, and its bytes are known; the last sentence is of jobs whose units are due within 2^40 units of 90 kHz.

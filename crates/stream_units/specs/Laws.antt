@@ -51,7 +51,7 @@ MovedByOneConstant = (base : ℕ) (before : Option ℕ) (us : List AccessUnit) �
     × (map (λ u. on_wire (u.pts + base)) (moved base before us) ≡ map (λ u. on_wire u.pts) us)
     × (map (λ u. u.bytes) (moved base before us) ≡ map (λ u. u.bytes) us)
 
--- the first DTS of the streams of a program, counted from half the range before the first stream's
+-- the first DTS of the streams on a clock, counted from half the range before the first stream's
 abbrev pub after_half : ℕ → ℕ → ℕ
 after_half first stamp = distance (first + 2 ^ 32) stamp
 

@@ -69,7 +69,7 @@ first_fault base before place [] = None
 first_fault base before place (u ∷ us) =
     fault_or place (unit_fault base before u) (first_fault base (Some (dts_at base before u.dts)) (place + 1) us)
 
--- 3. The constant of a program
+-- 3. The constant of a clock
 
 -- of the first DTS of streams, how long each is after the moment half the range before that of the first stream: the least
 unfoldable pub min_distance : ℕ → ℕ → List ℕ → ℕ

@@ -34,7 +34,7 @@ pub fn moved_in_turn()
     ensures { MovedInTurn }
 {}
 
-/// With the constant of a program the least first DTS of its streams is at the moment that was asked for, and each
+/// With the constant of a clock the least first DTS of its streams is at the moment that was asked for, and each
 /// other one is as long after it as on the wire.
 pub fn constant_is_least()
     ensures { ConstantIsLeast }

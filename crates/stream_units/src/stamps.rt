@@ -116,7 +116,7 @@ fn min_distance(from: u64, most: u64, stamps: &[u64]) -> u64
     least
 }
 
-/// What the clock shows at moment 0, given the first DTS of each of a program's streams, if the least of them is to be
+/// What the clock shows at moment 0, given the first DTS of each stream that counts by it, if the least of them is to be
 /// at `earliest`. Of two stamps, which one is the earlier follows from the shorter way round the range; all are compared
 /// with `first`.
 pub fn constant(earliest: u64, first: u64, others: &[u64]) -> u64
