@@ -2,3 +2,4 @@ pub mod FieldSteps
 pub mod SlipSteps
 pub mod WholeStreams
 pub mod Stretches
+pub mod Noted
