@@ -3,3 +3,4 @@ pub mod SlipSteps
 pub mod WholeStreams
 pub mod Stretches
 pub mod Noted
+pub mod FrontBytes

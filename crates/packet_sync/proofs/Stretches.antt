@@ -72,7 +72,7 @@ at_front_by xs more k within (inl one) =
     one.2 ∙ sym (slice_get_read (xs ++ more) (length (xs ++ more)) k one.0 refl here (sym (get_or_append_left xs more one.0 k within ∙ one.3)))
 at_front_by xs more k within (inr none) = absurd (let no : ⊥ = omega (arith, within, none.0) in no)
 
-at_front : (xs more : List ℕ) (k : ℕ) → k < length xs → slice_get xs k ≡ slice_get (xs ++ more) k
+pub at_front : (xs more : List ℕ) (k : ℕ) → k < length xs → slice_get xs k ≡ slice_get (xs ++ more) k
 at_front xs more k within = at_front_by xs more k within (slice_get_cases xs k).1
 
 at_zero : (bs rest : List ℕ) (at k : ℕ) → slice_get bs (at + k) ≡ slice_get rest k → slice_get bs (at + k) ≡ slice_get rest (0 + k)

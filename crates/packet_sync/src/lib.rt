@@ -21,6 +21,6 @@ pub use field::Field;
 pub use laws::{carried_in_step, nothing_else_is_left_out};
 pub use left_out::FieldLeftOut;
 pub use notes::StreamNotes;
-pub use packet_sizes::{OtherPackets, other_packets};
+pub use packet_sizes::{FRONT, OtherPackets, other_packets};
 pub use slip::Slip;
 pub use stretch::{REACH, Stretch, next_stretch};

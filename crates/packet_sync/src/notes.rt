@@ -68,7 +68,11 @@ impl<A: Allocator> StreamNotes<A> {
             return Ok(());
         }
         let (packet, start) = (self.packet, self.start);
-        self.slips.push(Slip { packet, start, size })?;
+        self.slips.push(Slip {
+            packet,
+            start,
+            size,
+        })?;
         self.start = more(start, size)?;
         Ok(())
     }
