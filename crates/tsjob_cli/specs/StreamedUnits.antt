@@ -1,8 +1,8 @@
 -- The units of the streams of a description, while a stream comes.
-use Rattle.std.specs.Prelude.{◌≡◌, ◌⊎◌, ℕ, ◌+◌, true, List, [], ◌∷◌, map, Option, Some, None, Result, Ok, Err, codes, ⊤}
+use Rattle.std.specs.Prelude.{◌≡◌, ◌⊎◌, ℕ, ◌+◌, List, [], ◌∷◌, map, Option, Some, None, Result, Ok, Err, codes, ⊤}
 use Rattle.description.specs.Described.{Described, DescribedProgram, DescribedStream}
 use Rattle.description.specs.declared.fault.DescError.TheVariants as refused_by
-use Rattle.stream_units.specs.UnitSteps.{none_so_far}
+pub use Rattle.unit_feed.specs.EachStream.{fed_stream}
 use Rattle.unit_feed.specs.Feeding.{FeedView, FedStreamView, feed_first}
 use Rattle.unit_feed.specs.declared.fed_map.FedMap.{FedMap}
 use Rattle.unit_output.specs.Passing.{RunsStream}
@@ -23,10 +23,6 @@ use Rattle.tsjob_cli.specs.declared.streaming.NoDescription.TheVariants.{Unopene
 -- begin up to 2 s earlier are then still due late enough
 abbrev pub earliest : ℕ
 earliest = 270000
-
--- one with its number, before its first unit
-abbrev pub fed_stream : ℕ → ℕ → FedStreamView
-fed_stream number pid = record { number = number; before = None; units = none_so_far pid true }
 
 -- all of them, the first of these with number k
 unfoldable pub streams_from : ℕ → List DescribedStream → List FedStreamView
