@@ -1,5 +1,6 @@
 //! One job, written and read. Each function does nothing: its contract is the law.
 ghost use Rattle.piped_jobs.specs.PipedJobs.{ThePipe, WrittenIsRead};
+ghost use Rattle.piped_jobs.specs.StreamedUnits.{TheSameUnits};
 
 /// A job that `tsjob` writes, whatever the stream and the options of its command line, `mux` reads as that description,
 /// that plan and these units: nothing is wrong with it, no record is refused as one, and no byte is left after the last.
@@ -21,3 +22,14 @@ pub fn goes_through()
     round_trip_job::laws::accepted();
     round_trip_job::laws::found_again();
 }
+
+/// Where `tsjob units` ran to its end over the bytes of a stream and wrote records, and `tsjob units --stream` went by a
+/// description over the same bytes to their end and told nothing, and the description is of the streams of the job: the units
+/// whose records the one wrote are those of the other, stream by stream and in order, and due later by one time, the same for
+/// all streams.
+///
+/// So it is of a job whose DTS are the stream's own and whose programs are on one clock, where its streams begin within
+/// three seconds of one another, and each of their units is one PES packet that nothing interrupts.
+pub fn streamed_as_whole()
+    ensures { TheSameUnits }
+{}
