@@ -28,7 +28,7 @@ use Rattle.job_outcomes.specs.Streams.{findings_of, notes_of}
 use Rattle.tsmux_cli.specs.declared.request.MuxOptions.{MuxOptions}
 use Rattle.tsmux_cli.specs.MuxJobs.{MuxJobView, mux_job_of}
 use Rattle.tsmux_cli.specs.Multiplexing.{IsKept, KeepsPromises, KeptUnlessRefused, cause_of, multiplexed, packets_of, unless_refused, with_job}
-use Rattle.piped_jobs.specs.PipedJobs.{GoesThrough, MuxesAll, ThePipe, WritesJob, WrittenIsRead, as_mux_job}
+use Rattle.piped_jobs.specs.PipedJobs.{GoesThrough, MuxesAll, ThePipe, WrittenIsRead, as_mux_job}
 use Rattle.piped_jobs.proofs.DescriptionLines.{description_passes}
 use Rattle.piped_jobs.proofs.PlainLines.{Passes}
 use Rattle.piped_jobs.proofs.PlainNames.{PlainOptions, options_plain}

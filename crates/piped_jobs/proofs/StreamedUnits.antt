@@ -1,32 +1,30 @@
 -- What both ways of `tsjob units` write of a stream.
-use Rattle.std.proofs.Common.{◌≡◌, ◌⊎◌, ◌∙◌, ◌<◌, ◌≤◌, ℕ, zero, suc, ◌+◌, ◌/◌, ◌++◌, ◌==◌, ◌||◌, Bool, true, false, if◌then◌else◌, Option, Some, None, Result, Ok, Err, List, [], ◌∷◌, All, length, map, slice_get, get_or, refl, sym, ap, ap₂, subst, inl, inr, arith, eqb, eq-eqb}
+use Rattle.std.proofs.Common.{◌≡◌, ◌∙◌, ◌<◌, ◌≤◌, ℕ, zero, suc, ◌+◌, ◌/◌, ◌++◌, Bool, true, false, if◌then◌else◌, Option, Some, None, List, [], ◌∷◌, All, length, map, slice_get, get_or, refl, sym, ap, subst, inl, inr, arith}
 use Rattle.std.specs.Io.KnownBytes.{Consumes, IsAtEnd}
 use Rattle.std.specs.Prelude.{option_map}
 use Rattle.std.proofs.lemmas.List.{append-nil, length-map}
 use Rattle.std.proofs.lemmas.Option.{get_or_from_slice_get, same_Some, slice_get_within, slice_get-map}
-use Rattle.clap.specs.Words.{Text}
 use Rattle.pes_packet.specs.AccessUnits.{AccessUnit}
 use Rattle.pes_packet.specs.Units.{units_of}
 use Rattle.description.specs.Described.{Described, DescribedStream}
 use Rattle.description.specs.Ranges.{IsInRange}
 use Rattle.description.proofs.Pids.{pid_positions, pids_apart}
-use Rattle.description.specs.Pids.{PidPlaces}
 use Rattle.description.specs.Tables.{table_count}
 use Rattle.demux.specs.Views.{FindingView}
 use Rattle.packet_sync.specs.Slips.{carried}
 use Rattle.stream_units.specs.CarriedUnits.{wire_units}
 use Rattle.stream_units.specs.Stamps.{distance, dts_at, moved, unit_at}
-use Rattle.unit_feed.specs.EachStream.{AreFirst, fed_stream, have_fault, one_by_one, units_fed}
-use Rattle.unit_feed.specs.Feeding.{Fed, FedStreamView}
+use Rattle.unit_feed.specs.EachStream.{AreFirst, fed_stream, have_fault, one_by_one}
+use Rattle.unit_feed.specs.Feeding.{FedStreamView}
 use Rattle.unit_feed.specs.StreamFeeding.{fed_of}
 use Rattle.unit_feed.proofs.MovedApart.{fed_apart}
 use Rattle.unit_feed.specs.MovedApart.{AreWhole, after_time}
 use Rattle.unit_output.specs.FedLines.{fed_records}
-use Rattle.unit_output.specs.Passing.{EndsStream, PassesAll, RunsStream}
+use Rattle.unit_output.specs.Passing.{EndsStream}
 use Rattle.unit_order.specs.Merging.{AreMerged}
 use Rattle.stream_jobs.specs.ClockConstants.{HasConstants, IsMovedBy, clock_of}
 use Rattle.stream_jobs.specs.FoundUnits.{AreMoved, source_of}
-use Rattle.stream_jobs.specs.JobInput.{JobInputView, job_input}
+use Rattle.stream_jobs.specs.JobInput.{JobInputView}
 use Rattle.stream_jobs.specs.JobStreams.{TimedStreamView}
 use Rattle.stream_jobs.specs.declared.program_clock.ProgramClock.{ProgramClock}
 use Rattle.stream_jobs.proofs.ClockConstants.{constants_of}
@@ -37,7 +35,7 @@ use Rattle.job_outcomes.specs.JobArguments.{JobArgumentsView}
 use Rattle.job_outcomes.specs.Outcomes.{Gives, GivesUnits}
 use Rattle.job_outcomes.specs.Streams.{findings_of}
 use Rattle.tsjob_cli.specs.StreamedUnits.{GoesBy, earliest, feed_of, maps_of, pids_of, streams_from}
-use Rattle.piped_jobs.specs.StreamedUnits.{AreAlike, AreLaterByOne, StreamsUnits, TheSameUnits, WriteTheSame, WritesUnits}
+use Rattle.piped_jobs.specs.StreamedUnits.{AreAlike, AreLaterByOne, TheSameUnits}
 use Rattle.piped_jobs.proofs.PipedRuns.{GivenOf, given_by_run, taken}
 
 -- 1. The streams of a description, before their first unit
