@@ -12,3 +12,4 @@ pub mod LaterPackets
 pub mod MeasuredStreams
 pub mod MuxedStreams
 pub mod MainExcesses
+pub mod WindowLows

@@ -4,3 +4,4 @@ pub mod WholeStreams
 pub mod MeasuredStreams
 pub mod MuxedStreams
 pub mod MainExcesses
+pub mod WindowLows
