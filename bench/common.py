@@ -143,7 +143,7 @@ def limit_spent(packets):
 
 
 def hold_spent(job, count):
-    """What the machine takes at least for a program that holds this job before it writes so many packets."""
+    """What a plain program takes that holds this job before it writes so many packets; no bound for others."""
     with tempfile.TemporaryDirectory() as scratch:
         source, binary = Path(scratch, "hold.c"), Path(scratch, "hold")
         source.write_text(HOLD)
