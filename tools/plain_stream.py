@@ -188,13 +188,13 @@ def association(stream, lines=None):
 
 
 def program_maps(stream, number, pid):
-    """Of each program map in force: the packet in which it ends, its descriptors, and (stream_type, PID, descriptors) of its streams."""
+    """Of each program map in force: the packet in which it ends, its descriptors, (stream_type, PID, descriptors) of its streams, and PCR_PID."""
     maps = []
     for packet, s in stream.sections(pid, 2):
         size = (s[10] & 15) << 8 | s[11] if len(s) >= 16 else 4096
         entries = loops(s[12 + size: -4], 5) if len(s) >= 16 + size else None
         if entries is not None and s[3] << 8 | s[4] == number:
-            maps.append((packet, s[12: 12 + size], [(h[0], (h[1] & 31) << 8 | h[2], d) for h, d in entries]))
+            maps.append((packet, s[12: 12 + size], [(h[0], (h[1] & 31) << 8 | h[2], d) for h, d in entries], (s[8] & 31) << 8 | s[9]))
     return maps
 
 

@@ -7,7 +7,7 @@ use Rattle.slot_plan.specs.Conditions.{IsServing}
 use Rattle.slot_plan.specs.Planned.{Planned, plan_error}
 use Rattle.slot_plan.specs.Text.{plan_text}
 use Rattle.stream_jobs.specs.Answers.{Answers, Refuses}
-use Rattle.stream_jobs.specs.Jobs.{AreUnits, IsJob}
+use Rattle.stream_jobs.specs.Jobs.{AllAgree, AreUnits, IsJob}
 use Rattle.stream_jobs.specs.JobInput.{JobInputView, job_input}
 use Rattle.stream_jobs.specs.WhyNoJob.{IsWhyNoDescription, IsWhyNoReasons}
 use Rattle.stream_jobs.specs.JobOptions.{JobOptionsView}
@@ -15,23 +15,25 @@ use Rattle.stream_jobs.specs.declared.refusal.JobError.{JobError}
 use Rattle.stream_jobs.specs.declared.refusal.JobError.TheVariants.{Memory, Refused}
 use Rattle.stream_jobs.specs.declared.refusal.JobRefusal.{JobRefusal}
 use Rattle.demux.specs.Views.{FindingView}
-use Rattle.demux.specs.Stream.{StreamState}
 use Rattle.devices.specs.Devices.{Device, IsUntouched}
-use Rattle.devices.specs.Outcomes.{halt_line, Outcome}
+use Rattle.devices.specs.Outcomes.{halt_line, Outcome, reported}
 use Rattle.devices.specs.Lines.{Reports}
 use Rattle.devices.specs.Runs.{Performs}
-use Rattle.devices.specs.WholeInput.{ReadsInput}
+use Rattle.devices.specs.WholeInput.{IsReadAs}
 use Rattle.devices.specs.declared.halt.Halt.TheVariants as halt
 use Rattle.devices.proofs.Performances.{no_room, performed, unwritten}
 use Rattle.job_outcomes.specs.declared.job_arguments.Subcommand.{Subcommand}
 use Rattle.job_outcomes.specs.declared.job_arguments.Subcommand.TheVariants.{Whole, Describe, Units, Why}
 use Rattle.job_outcomes.specs.JobArguments.{JobArgumentsView}
-use Rattle.packet_sync.specs.Slips.{carried_from}
+use Rattle.packet_sync.specs.OtherPackets.{other_packets}
+use Rattle.packet_sync.specs.Slips.{carried}
+use Rattle.packet_sync.specs.declared.packet_sizes.OtherPackets.{OtherPackets}
+use Rattle.job_lines.specs.SlipLines.{packets_line}
 use Rattle.job_outcomes.specs.Outcomes.{BytesLead, FindingsLead, GivesJob, IsFound, IsTold, IsWritten, Leads, InputLeads, ReportsWhy, Withholds, found_line}
 use Rattle.std.specs.Int.{bytes_high_first}
 use Rattle.unit_records.specs.Records.{record_head}
 use Rattle.unit_output.specs.Records.{records_of, written}
-use Rattle.job_outcomes.specs.Streams.{PacketNotesView, TakesCarried, findings_of, notes_of}
+use Rattle.job_outcomes.specs.Streams.{IsOfStream, IsRead, PacketNotesView, ReadingView, findings_of}
 
 -- 1. What a subcommand gives
 
@@ -60,15 +62,16 @@ nothing_written [] (p ∷ plan) units = rw (cons_is_not p plan) (sym (cons_is_no
 nothing_written (t ∷ text) plan units = rw (cons_is_not t text) (sym (cons_is_not t ((text ++ plan) ++ records_of units)))
 
 pub given_job : (w : JobOptionsView) (findings : List FindingView) (m : JobInputView) (text plan : List ℕ) (d : Described) (p q : Planned) (units : List (ℕ × AccessUnit)) →
-    IsJob w findings m d text units → AreUnits w.make_dts findings d units → IsServing d p → IsUtf8 text → plan_error q.slots q.certificate ≡ None → plan ≡ plan_text q → q ≡ p →
+    IsJob w findings m d text units → AreUnits w.make_dts findings d units → AllAgree d m → IsServing d p → IsUtf8 text → plan_error q.slots q.certificate ≡ None → plan ≡ plan_text q → q ≡ p →
     GivesJob w findings m (written text plan units)
-given_job w findings m text plan d p q units j u s utf8 within e f = record {
+given_job w findings m text plan d p q units j u a s utf8 within e f = record {
   description = d;
   text = text;
   plan = p;
   units = units;
   job = j;
   found = u;
+  agree = a;
   serving = s;
   utf8 = utf8;
   within = subst (λ (x : Planned). plan_error x.slots x.certificate ≡ None) f within;
@@ -135,19 +138,27 @@ without_input arguments notes count findings error o a t = refused arguments not
 
 -- 3. What was read leads to it
 
--- the bytes of a stream that are in no slip
-pub carried_lead : (arguments : JobArgumentsView) (bytes : List ℕ) (notes : PacketNotesView) (size : ℕ) (findings : List FindingView) (demux : StreamState) (o : Outcome) →
-    notes ≡ notes_of bytes → TakesCarried bytes notes.slips demux size → findings ≡ demux.found → FindingsLead arguments notes (size / 188) findings o → BytesLead arguments bytes None o
-carried_lead arguments bytes notes size findings demux o e t f l =
-    subst (λ (x : PacketNotesView). FindingsLead arguments x (length (carried_from bytes 0 x.slips) / 188) (findings_of (carried_from bytes 0 x.slips)) o) e
-    (subst (λ (x : List FindingView). FindingsLead arguments notes (length (carried_from bytes 0 notes.slips) / 188) x o) (f ∙ t.found)
+-- a stream that was read
+pub carried_lead : (arguments : JobArgumentsView) (bytes : List ℕ) (notes : PacketNotesView) (size : ℕ) (findings found : List FindingView) (o : Outcome) →
+    IsOfStream bytes notes found size → findings ≡ found → FindingsLead arguments notes (size / 188) findings o → BytesLead arguments bytes None o
+carried_lead arguments bytes notes size findings found o t f l =
+    subst (λ (x : PacketNotesView). FindingsLead arguments x (length (carried bytes) / 188) (findings_of (carried bytes)) o) t.notes_are
+    (subst (λ (x : List FindingView). FindingsLead arguments notes (length (carried bytes) / 188) x o) (f ∙ t.found_is)
     (subst (λ (n : ℕ). FindingsLead arguments notes (n / 188) findings o) t.size_is l))
 
-pub outcome_written : (arguments : JobArgumentsView) (bytes : List ℕ) (o : Outcome) (input output faults : Device) (status : ℕ) → ReadsInput input (Ok bytes) → Leads arguments bytes o →
-    IsWritten o output faults status → Performs (Leads arguments) input output faults status
-outcome_written arguments bytes o input output faults status r l (inl w) = performed (Leads arguments) bytes o input output faults status r l w.0 w.1 w.2 w.3
-outcome_written arguments bytes o input output faults status r l (inr w) = unwritten (Leads arguments) bytes o input output faults status r l w.0 w.1 w.2 w.3
+pub none_lead : (arguments : JobArgumentsView) (bytes : List ℕ) (o : Outcome) → None ≡ other_packets bytes → BytesLead arguments bytes None o → Leads arguments bytes o
+none_lead arguments bytes o e l = subst (λ (x : Option OtherPackets). BytesLead arguments bytes x o) e l
 
-pub no_memory_left : (arguments : JobArgumentsView) (bytes : List ℕ) (input output faults : Device) (status : ℕ) →
-    ReadsInput input (Ok bytes) → IsUntouched output → Reports faults (halt_line halt.Memory) → status ≡ 3 → Performs (Leads arguments) input output faults status
-no_memory_left arguments bytes input output faults status r u m s = no_room (Leads arguments) bytes input output faults status r u m s
+pub other_lead : (arguments : JobArgumentsView) (bytes : List ℕ) (packets : OtherPackets) (o : Outcome) → Some packets ≡ other_packets bytes → o ≡ reported (packets_line packets) → Leads arguments bytes o
+other_lead arguments bytes packets o e l = subst (λ (x : Option OtherPackets). BytesLead arguments bytes x o) e l
+
+pub outcome_written : (arguments : JobArgumentsView) (r : ReadingView) (o : Outcome) (input output faults : Device) (status : ℕ) → IsReadAs input (λ bytes. IsRead bytes r) →
+    ((bytes : List ℕ) → IsRead bytes r → Leads arguments bytes o) → IsWritten o output faults status → Performs (Leads arguments) input output faults status
+outcome_written arguments r o input output faults status s l (inl w) =
+    performed (Leads arguments) s.bytes o input output faults status s.read (l s.bytes s.is) w.0 w.1 w.2 w.3
+outcome_written arguments r o input output faults status s l (inr w) =
+    unwritten (Leads arguments) s.bytes o input output faults status s.read (l s.bytes s.is) w.0 w.1 w.2 w.3
+
+pub no_memory_left : (arguments : JobArgumentsView) (r : ReadingView) (input output faults : Device) (status : ℕ) →
+    IsReadAs input (λ bytes. IsRead bytes r) → IsUntouched output → Reports faults (halt_line halt.Memory) → status ≡ 3 → Performs (Leads arguments) input output faults status
+no_memory_left arguments r input output faults status s u m e = no_room (Leads arguments) s.bytes input output faults status s.read u m e

@@ -1,2 +1,3 @@
-pub mod Taking
+pub mod Carrying
 pub mod JobOutcomes
+pub mod Fronts

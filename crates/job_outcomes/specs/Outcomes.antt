@@ -10,7 +10,7 @@ use Rattle.slot_plan.specs.Conditions.{IsServing}
 use Rattle.slot_plan.specs.Planned.{Planned, plan_error}
 use Rattle.slot_plan.specs.Text.{plan_text}
 use Rattle.unit_order.specs.Merging.{AreMerged}
-use Rattle.stream_jobs.specs.Jobs.{AreUnits, IsDescription, IsJob, IsUnplanned}
+use Rattle.stream_jobs.specs.Jobs.{AllAgree, AreUnits, IsDescription, IsJob, IsUnplanned}
 use Rattle.stream_jobs.specs.JobInput.{JobInputView, job_input}
 use Rattle.other_tables.specs.OtherTables.{other_tables}
 use Rattle.other_tables.specs.TableKinds.{is_loss}
@@ -46,8 +46,9 @@ use Rattle.job_lines.specs.WarningLines.{told_warnings, warning_lines}
 
 -- 1. What is written
 
--- a job: the text of its description, in UTF-8; that of a plan that serves it, whose numbers are a plan's; and the records of
--- its units, which are the units of the stream, with their DTS or with DTS made from the PTS
+-- a job: the text of its description, in UTF-8, which has the programs and streams of the input; that of a plan that serves it,
+-- whose numbers are a plan's; and the records of its units, which are the units of the stream, with their DTS or with DTS made from
+-- the PTS
 pub record GivesJob (w : JobOptionsView) (findings : List FindingView) (m : JobInputView) (output : List ℕ) : Type 0 where
   pub description : Described
   pub text : List ℕ
@@ -55,6 +56,7 @@ pub record GivesJob (w : JobOptionsView) (findings : List FindingView) (m : JobI
   pub units : List (ℕ × AccessUnit)
   pub job : IsJob w findings m description text units
   pub found : AreUnits w.make_dts findings description units
+  pub agree : AllAgree description m
   pub serving : IsServing description plan
   pub utf8 : IsUtf8 text
   pub within : plan_error plan.slots plan.certificate ≡ None

@@ -1,13 +1,20 @@
--- A transport stream through a demultiplexer.
-use Rattle.std.specs.Prelude.{◌≡◌, ℕ, List, length}
+-- A transport stream through a demultiplexer, piece by piece.
+use Rattle.std.specs.Prelude.{◌≡◌, ◌≤◌, ℕ, ◌+◌, Bool, true, false, List, [], ◌++◌, length, take, is_some, Result, Ok, Err}
+use Rattle.devices.specs.Devices.{Device}
+use Rattle.devices.specs.WholeInput.{IsReadAs, ReadsInput}
+use Rattle.devices.specs.declared.halt.Halt.{Halt}
 use Rattle.demux.specs.Views.{FindingView}
 use Rattle.demux.specs.Stream.{StreamState, start, pushed, finished}
 use Rattle.packet_sync.specs.FieldsLeftOut.{fields_left_out}
-use Rattle.packet_sync.specs.Slips.{carried_from, slips}
+use Rattle.packet_sync.specs.Notes.{NotesView, SayAlike, no_notes}
+use Rattle.packet_sync.specs.OtherPackets.{other_packets}
+use Rattle.packet_sync.specs.Slips.{carried, slips}
 use Rattle.packet_sync.specs.declared.left_out.FieldLeftOut.{FieldLeftOut}
 use Rattle.packet_sync.specs.declared.slip.Slip.{Slip}
 
--- the findings in a whole stream
+-- 1. A whole stream
+
+-- the findings in it
 abbrev pub findings_of : List ℕ → List FindingView
 findings_of bytes = (finished (pushed start bytes)).found
 
@@ -19,7 +26,53 @@ pub record PacketNotesView : Type 0 where
 abbrev pub notes_of : List ℕ → PacketNotesView
 notes_of bytes = record { slips = slips bytes; fields = fields_left_out bytes }
 
--- what is found in the bytes that are in no slip is kept, and these are `size` bytes
-pub record TakesCarried (bytes : List ℕ) (slips : List Slip) (demux : StreamState) (size : ℕ) : Type 0 where
-  pub found : demux.found ≡ findings_of (carried_from bytes 0 slips)
-  pub size_is : size ≡ length (carried_from bytes 0 slips)
+-- this is said of it, and this is found in the bytes that are in no slip, which are so many
+pub record IsOfStream (bytes : List ℕ) (notes : PacketNotesView) (found : List FindingView) (size : ℕ) : Type 0 where
+  pub notes_are : notes ≡ notes_of bytes
+  pub found_is : found ≡ findings_of (carried bytes)
+  pub size_is : size ≡ length (carried bytes)
+
+-- 2. A stream that comes
+
+-- what is kept of the bytes that are carried for certain: what is said of their packets, the demultiplexer, and how many they are
+pub record PacketsView : Type 0 where
+  pub notes : NotesView
+  pub demux : StreamState
+  pub size : ℕ
+
+abbrev pub no_packets : PacketsView
+no_packets = record { notes = no_notes; demux = start; size = 0 }
+
+-- with bytes through the demultiplexer
+abbrev pub with_bytes : List ℕ → PacketsView → PacketsView
+with_bytes bytes p = record { notes = p.notes; demux = pushed p.demux bytes; size = p.size + length bytes }
+
+-- the bytes of which it is not known yet whether they are carried, and what is kept of those before
+pub record CarriedView : Type 0 where
+  pub held : List ℕ
+  pub packets : PacketsView
+
+-- so far, of a stream of which these bytes came; `ended`: no more come
+pub record IsCarriedTo (bytes : List ℕ) (ended : Bool) (s : CarriedView) : Type 0 where
+  pub gone : List ℕ
+  pub carries : (more : List ℕ) → (ended ≡ true → more ≡ []) → carried (bytes ++ more) ≡ gone ++ carried (s.held ++ more)
+  pub said : (more : List ℕ) → (ended ≡ true → more ≡ []) → SayAlike no_notes (bytes ++ more) s.packets.notes (s.held ++ more)
+  pub demux_is : s.packets.demux ≡ pushed start gone
+  pub size_is : s.packets.size ≡ length gone
+
+-- the first bytes, whether they are known to be of packets of another size, and what is kept where they are not
+pub record ReadingView : Type 0 where
+  pub front : List ℕ
+  pub other : Bool
+  pub stream : CarriedView
+
+-- these bytes came
+pub record IsRead (bytes : List ℕ) (r : ReadingView) : Type 0 where
+  pub front_is : r.front ≡ take 409 bytes
+  pub refused : r.other ≡ true → (409 ≤ length r.front) × (is_some (other_packets r.front) ≡ true)
+  pub so_far : r.other ≡ false → IsCarriedTo bytes false r.stream
+
+-- the whole input was read; or a call of the reader failed, or the input is too long; or there was no memory for it
+abbrev pub ReadsStream : Device → Result ReadingView Halt → Type 0
+ReadsStream input (Ok r) = IsReadAs input (λ bytes. IsRead bytes r)
+ReadsStream input (Err halt) = ReadsInput input (Err halt)

@@ -1,10 +1,12 @@
 //! What a transport stream leads to: a job or a part of it, why there is none, the lines told, and the status.
 //!
-//! `job_arguments` is what is asked for. `reading` puts the packets that stand in step through a demultiplexer (`specs/Streams`);
+//! `job_arguments` is what is asked for. `reading` takes the bytes of a stream piece by piece, and `carried_stream` puts the packets
+//! that stand in step through a demultiplexer (`specs/Streams`);
 //! `outcome` makes the job of what it finds, and `reason_output` says why there is no plan (`specs/Outcomes`). `written` writes an
 //! outcome to the writers of a program, and all of it from the reader on.
 #![tactic(auto)]
 
+mod carried_stream;
 mod job_arguments;
 mod outcome;
 mod reading;

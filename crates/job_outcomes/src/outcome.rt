@@ -1,18 +1,21 @@
 //! The outcome for a stream, from its findings.
 
-ghost use Rattle.std.specs.Prelude.{◌≡◌, ◌==◌, ◌&&◌, ◌≤◌, IfErr, IfOk, None, Ok, length, map, string_bytes};
+ghost use Rattle.std.specs.Prelude.{◌≡◌, ◌==◌, ◌&&◌, ◌≤◌, IfErr, IfOk, List, None, Ok, ℕ, length, map, string_bytes};
 ghost use Rattle.demux.specs.Shown.{finding_view};
+ghost use Rattle.packet_sync.specs.OtherPackets.{other_packets};
 ghost use Rattle.slot_plan.specs.Planned.{plan_error};
 ghost use Rattle.slot_plan.specs.Text.{plan_text};
 ghost use Rattle.stream_jobs.specs.Jobs.{AreStreams, IsDescription};
 ghost use Rattle.stream_jobs.specs.WhyNoJob.{IsWhyNoDescription, IsWhyNoJob};
 ghost use Rattle.stream_jobs.specs.declared.refusal.JobError.TheVariants.{Memory};
 ghost use Rattle.job_outcomes.specs.Outcomes as spec;
+ghost use Rattle.job_outcomes.specs.Streams.{IsRead};
 ghost use Rattle.devices.specs.Outcomes.{reported};
 ghost use Rattle.job_lines.specs.SlipLines.{packets_line};
 
+use crate::carried_stream::{PacketNotes, ReadStream};
 use crate::job_arguments::{JobArguments, Subcommand};
-use crate::reading::{PacketNotes, packet_notes, take_carried};
+use crate::reading::StreamReading;
 use crate::reason_output::reason_output;
 use demux::Finding;
 use job_lines::{
@@ -20,7 +23,7 @@ use job_lines::{
     write_other_tables, write_packets, write_refusal, write_slips, write_warnings,
 };
 use other_tables::{OtherTable, other_tables};
-use packet_sync::{FieldLeftOut, OtherPackets, Slip, other_packets};
+use packet_sync::{FieldLeftOut, OtherPackets, Slip};
 use pes_packet::Unit;
 use slot_plan::Plan;
 use std::alloc::{AllocError, Global};
@@ -304,36 +307,37 @@ fn packets_outcome(alloc: Global, packets: OtherPackets) -> Result<JobOutcome, A
     Ok(without_output(alloc, report))
 }
 
-// The outcome for the bytes of a stream that are in no slip.
+// The outcome for a stream that was read, of packets of 188 bytes.
 #[tactic(auto, using(crate::proofs::JobOutcomes::carried_lead))]
 fn carried_outcome(
     alloc: Global,
     arguments: &JobArguments<'_>,
-    bytes: Vec<u8>,
+    stream: StreamReading,
 ) -> Result<JobOutcome, AllocError>
-    ensures { IfOk result (λ a. spec.BytesLead arguments.now bytes.items None a) }
+    ensures { (bytes : List ℕ) → IsRead bytes stream → other_packets bytes ≡ None →
+        IfOk result (λ a. spec.BytesLead arguments.now bytes None a) }
 {
-    let notes = packet_notes(alloc, &bytes)?;
-    let (demux, size) = take_carried(alloc, bytes, &notes.slips)?;
-    findings_outcome(
-        alloc,
-        arguments,
-        &notes,
-        size as u64 / 188,
-        demux.findings(),
-    )
+    let ReadStream { notes, demux, size } = stream.end()?;
+    let count = size as u64 / 188;
+    let outcome = findings_outcome(alloc, arguments, &notes, count, demux.findings())?;
+    Ok(outcome)
 }
 
-/// The outcome for the bytes of a stream.
-pub(crate) fn bytes_outcome(
+/// The outcome for a stream that was read.
+#[tactic(auto, using(crate::proofs::JobOutcomes::none_lead, crate::proofs::JobOutcomes::other_lead))]
+pub(crate) fn stream_outcome(
     alloc: Global,
     arguments: &JobArguments<'_>,
-    bytes: Vec<u8>,
+    stream: StreamReading,
 ) -> Result<JobOutcome, AllocError>
-    ensures { IfOk result (λ a. spec.Leads arguments.now bytes.items a) }
+    ensures { (bytes : List ℕ) → IsRead bytes stream → IfOk result (λ a. spec.Leads arguments.now bytes a) }
 {
-    match other_packets(&bytes) {
-        Some(packets) => packets_outcome(alloc, packets),
-        None => carried_outcome(alloc, arguments, bytes),
+    match stream.other_packets() {
+        Some(packets) => {
+            // By a call: at the end of a function the drop of each part would be a step of its proof.
+            drop(stream);
+            Ok(packets_outcome(alloc, packets)?)
+        }
+        None => Ok(carried_outcome(alloc, arguments, stream)?),
     }
 }

@@ -1,92 +1,116 @@
-//! The packets of a transport stream that stand in step, through a demultiplexer.
-ghost use Rattle.std.specs.Prelude.{◌≡◌, ◌≤◌, IfOk, OnOk, length, slice_range};
-ghost use Rattle.demux.specs.Stream.{finished, pushed, start};
-ghost use Rattle.packet_sync.specs.Slips.{AreOrdered, carried_from};
-ghost use Rattle.job_outcomes.specs.Streams.{TakesCarried, notes_of};
+//! A transport stream, read piece by piece.
+ghost use Rattle.std.specs.Prelude.{◌≡◌, ◌≤◌, ◌++◌, [], IfErr, IfOk, List, None, OnOk, ℕ, true, is_some, length, take};
+ghost use Rattle.devices.specs.Devices.{reads};
+ghost use Rattle.packet_sync.specs.OtherPackets.{other_packets};
+ghost use Rattle.job_outcomes.specs.Streams as spec;
 
-use demux::Demux;
-use packet_sync::{FieldLeftOut, Slip, fields_left_out, slips};
+use crate::carried_stream::{CarriedStream, ReadStream};
+use counted_io::Source;
+use devices::{Halt, PieceTaker, take_input};
+use packet_sync::{FRONT, OtherPackets, other_packets};
 use std::alloc::{AllocError, Global};
 use std::marker::Model;
 
-/// What is said of the packets of a stream.
+/// The size of a piece of the input in bytes.
+const PIECE: usize = 1 << 18;
+
+/// A stream that is read. Of one of packets of another size nothing is kept but the first bytes.
 #[derive(Drop)]
-pub(crate) struct PacketNotes {
-    pub slips: Vec<Slip>,
-    /// The fields that are not written again.
-    pub fields: Vec<FieldLeftOut>,
+pub(crate) struct StreamReading {
+    front: Vec<u8>,
+    other: bool,
+    stream: CarriedStream,
 }
 
-// A contract sees its parts as lists.
-impl Model for PacketNotes {
-    ghost use Rattle.job_outcomes.specs.Streams.{PacketNotesView};
+// A contract sees the first bytes as a list.
+impl Model for StreamReading {
+    ghost use Rattle.job_outcomes.specs.Streams.{ReadingView};
 
-    ghost Value = { PacketNotesView };
+    ghost Value = { ReadingView };
 
-    ghost view = { λ n. record { slips = n.slips.items; fields = n.fields.items } };
+    ghost view = { λ r. record { front = r.front.items; other = r.other; stream = r.stream } };
 }
 
-/// What is said of the packets in these bytes.
-pub(crate) fn packet_notes(alloc: Global, bytes: &[u8]) -> Result<PacketNotes, AllocError>
-    ensures value { IfOk result (λ notes. notes ≡ notes_of bytes.now) }
-    ensures ordered { IfOk result (λ notes. AreOrdered bytes.now 0 notes.slips) }
+// Appends bytes to the first ones, as far as these go.
+fn lengthen_front(front: &mut Vec<u8>, piece: &[u8]) -> Result<(), AllocError>
+    ensures { (stream : List ℕ) → front.old.items ≡ take 409 stream →
+        OnOk result (front.new.items ≡ take 409 (stream ++ piece.now)) }
 {
-    let slips = slips(alloc, bytes)?;
-    let fields = fields_left_out(alloc, bytes)?;
-    Ok(PacketNotes { slips, fields })
+    let missing = FRONT.saturating_sub(front.len());
+    let (next, _) = piece.split_at(missing.min(piece.len()));
+    front.extend_from_slice(next)?;
+    Ok(())
 }
 
-// Takes the bytes from one place to another.
-fn push_between(demux: &mut Demux, bytes: &[u8], from: usize, to: usize) -> Result<(), AllocError>
-    requires order { from ≤ to }
-    requires within { to ≤ length bytes.now }
-    ensures { OnOk result (demux.new ≡ pushed demux.old (slice_range bytes.now from to)) }
+// Whether the first bytes are known to be of packets of another size.
+fn is_other(front: &[u8]) -> bool
+    ensures known { result ≡ true → (409 ≤ length front.now) × (is_some (other_packets front.now) ≡ true) }
 {
-    match demux.push(&bytes[from..to]) {
-        Ok(()) => Ok(()),
-        Err(_) => Err(AllocError),
+    front.len() >= FRONT && other_packets(front).is_some()
+}
+
+impl StreamReading {
+    /// Before the first byte.
+    pub(crate) fn new(alloc: Global) -> StreamReading
+        ensures { (stream : List ℕ) → stream ≡ [] → spec.IsRead stream result }
+    {
+        StreamReading {
+            front: Vec::new(alloc),
+            other: false,
+            stream: CarriedStream::new(alloc),
+        }
+    }
+
+    // Takes the next bytes.
+    fn take(&mut self, piece: &[u8]) -> Result<(), AllocError>
+        ensures { (bytes : List ℕ) → spec.IsRead bytes self.old → OnOk result (spec.IsRead (bytes ++ piece.now) self.new) }
+    {
+        lengthen_front(&mut self.front, piece)?;
+        if self.other {
+            return Ok(());
+        }
+        if is_other(&self.front) {
+            self.other = true;
+            return Ok(());
+        }
+        self.stream.take(piece)?;
+        Ok(())
+    }
+
+    /// What other packets than those of 188 bytes the stream has, if any.
+    pub(crate) fn other_packets(&self) -> Option<OtherPackets>
+        ensures { (bytes : List ℕ) → spec.IsRead bytes self.now → result ≡ other_packets bytes }
+    {
+        other_packets(&self.front)
+    }
+
+    /// The stream ends, and has no other packets.
+    pub(crate) fn end(self) -> Result<ReadStream, AllocError>
+        ensures { (bytes : List ℕ) → spec.IsRead bytes self → other_packets bytes ≡ None →
+            IfOk result (λ r. spec.IsOfStream bytes r.notes r.demux.found r.size) }
+    {
+        self.stream.end()
     }
 }
 
-// Takes all bytes that are in no slip, and returns how many they are.
-fn push_carried(demux: &mut Demux, bytes: &[u8], slips: &[Slip]) -> Result<usize, AllocError>
-    requires { AreOrdered bytes.now 0 slips.now }
-    ensures pushed { OnOk result (demux.new ≡ pushed demux.old (carried_from bytes.now 0 slips.now)) }
-    ensures size { IfOk result (λ size. size ≡ length (carried_from bytes.now 0 slips.now)) }
-{
-    let mut at = 0;
-    let mut size = 0;
-    for slip in slips {
-        push_between(demux, bytes, at, slip.start)?;
-        size += slip.start - at;
-        at = slip.start + slip.size;
-    }
-    push_between(demux, bytes, at, bytes.len())?;
-    Ok(size + (bytes.len() - at))
-}
+impl PieceTaker for StreamReading {
+    ghost unit = { 1 };
 
-// Takes the end of the stream.
-fn end_stream(demux: &mut Demux) -> Result<(), AllocError>
-    ensures { OnOk result (demux.new ≡ finished demux.old) }
-{
-    match demux.finish() {
-        Ok(()) => Ok(()),
-        Err(_) => Err(AllocError),
+    ghost has_taken = { λ first bytes now. spec.IsRead bytes now };
+
+    fn take_piece(&mut self, piece: &[u8]) -> Result<(), Halt> {
+        match self.take(piece) {
+            Ok(()) => Ok(()),
+            Err(_) => Err(Halt::Memory),
+        }
     }
 }
 
-/// What a demultiplexer finds in the bytes of a stream that are in no slip, with its end, and how many these bytes are.
-#[tactic(auto, using(crate::proofs::Taking::carried_taken))]
-pub(crate) fn take_carried(
-    alloc: Global,
-    bytes: Vec<u8>,
-    slips: &[Slip],
-) -> Result<(Demux, usize), AllocError>
-    requires { AreOrdered bytes.items 0 slips.now }
-    ensures { IfOk result (λ taken. TakesCarried bytes.items slips.now taken.0 taken.1) }
+/// Reads the whole input, of 2^40 bytes at most.
+pub(crate) fn read_stream<R: Source>(alloc: Global, input: &mut R) -> Result<StreamReading, Halt>
+    ensures { spec.ReadsStream (reads R.Source input.old input.new) result }
 {
-    let mut demux = Demux::new(alloc);
-    let size = push_carried(&mut demux, &bytes, slips)?;
-    end_stream(&mut demux)?;
-    Ok((demux, size))
+    let mut stream = StreamReading::new(alloc);
+    take_input(alloc, input, PIECE, &mut stream)?;
+    Ok(stream)
 }

@@ -5,12 +5,12 @@ ghost use Rattle.devices.specs.Runs.{Performs};
 ghost use Rattle.job_outcomes.specs.Outcomes as spec;
 
 use crate::job_arguments::JobArguments;
-use crate::outcome::{JobOutcome, JobText, bytes_outcome};
+use crate::outcome::{JobOutcome, JobText, stream_outcome};
+use crate::reading::read_stream;
 use counted_io::{Sink, Source};
-use devices::{Halt, read_whole, report_halt, report_text};
+use devices::{Halt, report_halt, report_text};
 use std::alloc::Global;
 use unit_output::write_job;
-
 /// Writes an outcome, and returns the status.
 pub fn write_outcome<W: Sink, E: Sink>(outcome: &JobOutcome, output: &mut W, faults: &mut E) -> u8
     ensures { spec.IsWritten outcome.now (writes W.Sink output.old output.new)
@@ -38,11 +38,11 @@ pub fn perform<R: Source, W: Sink, E: Sink>(
     ensures { Performs (spec.Leads arguments.now) (reads R.Source input.old input.new)
         (writes W.Sink output.old output.new) (writes E.Sink faults.old faults.new) result }
 {
-    let bytes = match read_whole(alloc, input) {
-        Ok(bytes) => bytes,
+    let stream = match read_stream(alloc, input) {
+        Ok(stream) => stream,
         Err(halt) => return report_halt(faults, halt),
     };
-    match bytes_outcome(alloc, arguments, bytes) {
+    match stream_outcome(alloc, arguments, stream) {
         Ok(outcome) => write_outcome(&outcome, output, faults),
         Err(_) => report_halt(faults, Halt::Memory),
     }

@@ -1,9 +1,9 @@
 -- What is carried, from the front of a stream on.
-use Rattle.std.proofs.Common.{◌≡◌, ◌≤◌, ◌<◌, ◌⊎◌, inl, inr, ℕ, zero, suc, ◌+◌, ◌-◌, nat_lt, Bool, true, false, if◌then◌else◌, refl, sym, ap, subst, arith, ◌∙◌, List, [], ◌++◌, length, length-append, length-drop, take, drop, get_or, slice_get, slice_range, Option, None, Some, append_assoc, append-nil, drop-drop, take-add}
+use Rattle.std.proofs.Common.{◌≡◌, ◌≤◌, ◌<◌, ◌⊎◌, inl, inr, ℕ, zero, suc, ◌+◌, ◌*◌, ◌-◌, nat_lt, Bool, true, false, if◌then◌else◌, refl, sym, ap, subst, arith, ◌∙◌, List, [], ◌++◌, length, length-append, length-drop, take, drop, get_or, slice_get, slice_range, Option, None, Some, append_assoc, append-nil, drop-drop, take-add}
 use Rattle.std.proofs.lemmas.List.{take-append-drop, drop_all, take_all, get_or-drop, get_or_append_left, drop-append-le, take-append-le}
 use Rattle.std.proofs.lemmas.Option.{slice_get_cases, slice_get_past, slice_get_read}
 use Rattle.packet_sync.specs.Slips.{slips, slips_from, slip_size, new_step, is_new_step, is_in_step, is_sync, is_next, goes_on, carried, carried_from}
-use Rattle.packet_sync.specs.Stretches.{IsNextOf}
+use Rattle.packet_sync.specs.Stretches.{IsNextOf, IsStepped}
 use Rattle.packet_sync.specs.declared.slip.Slip.{Slip}
 use Rattle.packet_sync.proofs.SlipSteps.{at_end, one_packet, one_slip}
 use Rattle.packet_sync.proofs.WholeStreams.{slip_within}
@@ -72,7 +72,7 @@ at_front_by xs more k within (inl one) =
     one.2 ∙ sym (slice_get_read (xs ++ more) (length (xs ++ more)) k one.0 refl here (sym (get_or_append_left xs more one.0 k within ∙ one.3)))
 at_front_by xs more k within (inr none) = absurd (let no : ⊥ = omega (arith, within, none.0) in no)
 
-at_front : (xs more : List ℕ) (k : ℕ) → k < length xs → slice_get xs k ≡ slice_get (xs ++ more) k
+pub at_front : (xs more : List ℕ) (k : ℕ) → k < length xs → slice_get xs k ≡ slice_get (xs ++ more) k
 at_front xs more k within = at_front_by xs more k within (slice_get_cases xs k).1
 
 at_zero : (bs rest : List ℕ) (at k : ℕ) → slice_get bs (at + k) ≡ slice_get rest k → slice_get bs (at + k) ≡ slice_get rest (0 + k)
@@ -84,6 +84,12 @@ decided bs more at (inl long) =
     same_slip bs (drop at bs ++ more) at 0 (λ k less. at_zero bs (drop at bs ++ more) at k (at_drop bs at k ∙ at_front (drop at bs) more k (omega (arith, less, long, length-drop at bs))))
 decided bs more at (inr none) =
     rw (none, append-nil (drop at bs)) (same_slip bs (drop at bs) at 0 (λ k less. at_zero bs (drop at bs) at k (at_drop bs at k)))
+
+-- one in the rest of a list
+pub slip_later : (bs : List ℕ) (a b : ℕ) → slip_size bs (a + b) ≡ slip_size (drop a bs) b
+slip_later bs a b = same_slip bs (drop a bs) (a + b) b (λ k less.
+    let e : a + (b + k) ≡ a + b + k = omega arith in
+    subst (λ (i : ℕ). slice_get bs i ≡ slice_get (drop a bs) (b + k)) e (at_drop bs a (b + k)))
 
 -- 3. What is carried, packet by packet
 
@@ -193,7 +199,7 @@ unfolding slip_size
 slip_some_by bs at size true is e = let none : slip_size bs at ≡ None = rw is refl in absurd (let both : None ≡ Some size = sym none ∙ e in cc)
 slip_some_by bs at size false is e = let looked : slip_size bs at ≡ new_step bs at 1 751 = rw is refl in not_before bs at 1 751 size (sym looked ∙ e)
 
-slip_some : (bs : List ℕ) (at size : ℕ) → slip_size bs at ≡ Some size → 1 ≤ size
+pub slip_some : (bs : List ℕ) (at size : ℕ) → slip_size bs at ≡ Some size → 1 ≤ size
 slip_some bs at size e = slip_some_by bs at size (goes_on bs at) refl e
 
 fuel_packet : (n m : ℕ) (bs : List ℕ) → length bs ≤ suc n → length bs ≤ suc m → 188 ≤ length bs → (o : Option ℕ) → slip_size bs 0 ≡ o →
@@ -303,3 +309,44 @@ next_last bs more at within short none so =
     let past : drop (length bs + 0) bs ≡ [] = drop_all (length bs + 0) bs (omega arith) in
     let front : take (length bs) bs ≡ bs = take_all (length bs) bs (omega arith) in
     rw (front, past, none) (at_end_is bs more none all)
+
+-- 6. Steps
+
+-- the bytes that have come decide it of the whole stream
+whole_slip : (bs more : List ℕ) (at : ℕ) → at + 188 ≤ length bs → (at + 1128 ≤ length bs) ⊎ (more ≡ []) → slip_size (bs ++ more) at ≡ slip_size bs at
+whole_slip bs more at long known =
+    let within : at ≤ length bs = omega (arith, long) in
+    shift (bs ++ more) at ∙ ap (λ (r : List ℕ). slip_size r 0) (drop-append-le at bs more within) ∙ sym (decided bs more at known)
+
+-- the step goes on after each packet of these first bytes
+abbrev pub Steady : List ℕ → ℕ → Type 0
+Steady bs size = (k : ℕ) → 188 * k + 188 ≤ size → slip_size bs (188 * k) ≡ None
+
+pub steady_none : (bs : List ℕ) → Steady bs 0
+steady_none bs = λ k less. absurd (let no : ⊥ = omega (arith, less) in no)
+
+steady_by : (bs more : List ℕ) (at n k : ℕ) → at ≡ 188 * n → at + 188 ≤ length bs → slip_size (bs ++ more) at ≡ None → Steady (bs ++ more) at → 188 * k + 188 ≤ at + 188 →
+    (b : Bool) → nat_lt k n ≡ b → slip_size (bs ++ more) (188 * k) ≡ None
+steady_by bs more at n k place long is so less true e = let before : k < n = search (arith, e) in so k (omega (arith, before, place))
+steady_by bs more at n k place long is so less false e =
+    let past : n ≤ k = search (arith, e) in
+    let same : at ≡ 188 * k = omega (arith, past, place, less) in
+    subst (λ (i : ℕ). slip_size (bs ++ more) i ≡ None) same is
+
+pub steady_packet : (bs more : List ℕ) (at n : ℕ) → at ≡ 188 * n → at + 188 ≤ length bs → (at + 1128 ≤ length bs) ⊎ (more ≡ []) → None ≡ slip_size bs at → Steady (bs ++ more) at →
+    Steady (bs ++ more) (at + 188)
+steady_packet bs more at n place long known is so =
+    λ k less. steady_by bs more at n k place long (whole_slip bs more at long known ∙ sym is) so less (nat_lt k n) refl
+
+pub steady_last : (bs : List ℕ) (at n size : ℕ) → at ≡ 188 * n → size < at + 188 → Steady bs at → Steady bs size
+steady_last bs at n size place short so = λ k less. so k (omega (arith, less, short, place))
+
+pub stepped_slip : (bs more : List ℕ) (at size : ℕ) → at + 188 ≤ length bs → (at + 1128 ≤ length bs) ⊎ (more ≡ []) → Some size ≡ slip_size bs at → Steady (bs ++ more) at →
+    IsStepped (bs ++ more) (record { in_step = at; slipped = size })
+stepped_slip bs more at size long known is so = record {
+  steady = so;
+  lost = λ some. (whole_slip bs more at long known ∙ sym is, omega (arith, long, length-append bs more));
+}
+
+pub stepped_none : (bs : List ℕ) (at : ℕ) → Steady bs at → IsStepped bs (record { in_step = at; slipped = 0 })
+stepped_none bs at so = record { steady = so; lost = λ some. absurd (let no : ⊥ = omega (arith, some) in no) }

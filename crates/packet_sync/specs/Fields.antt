@@ -4,11 +4,11 @@ use Rattle.pes_packet.specs.StreamIds.{has_flags}
 use Rattle.packet_sync.specs.declared.field.Field.{Field}
 use Rattle.packet_sync.specs.declared.field.Field.TheVariants.{RandomAccess, AdaptationData, Alignment, Flags, Scrambling, LongHeader, PrivateData, OtherHeaderData, UnreadHeader}
 
--- 1. The adaptation field of the packet at a place
+-- 1. The adaptation field of a packet
 
 -- its flag byte; 0 where there is none, or an empty one
-unfoldable pub adaptation_flags : List ℕ → ℕ → ℕ
-adaptation_flags bs at = if slice_index bs (at + 3) / 32 % 2 == 1 && not (slice_index bs (at + 4) == 0) then slice_index bs (at + 5) else 0
+unfoldable pub adaptation_flags : List ℕ → ℕ
+adaptation_flags packet = if slice_index packet 3 / 32 % 2 == 1 && not (slice_index packet 4 == 0) then slice_index packet 5 else 0
 
 -- random_access_indicator
 abbrev pub is_random_access : ℕ → Bool
@@ -21,19 +21,19 @@ has_adaptation_data flags = not (flags % 8 == 0)
 -- 2. The payload in which a PES packet begins
 
 -- payload_unit_start_indicator and a payload, without transport_error_indicator, not scrambled
-unfoldable pub is_clear_start : List ℕ → ℕ → Bool
-is_clear_start bs at =
-    slice_index bs (at + 1) / 64 == 1
-    && slice_index bs (at + 3) / 64 == 0
-    && slice_index bs (at + 3) / 16 % 2 == 1
+unfoldable pub is_clear_start : List ℕ → Bool
+is_clear_start packet =
+    slice_index packet 1 / 64 == 1
+    && slice_index packet 3 / 64 == 0
+    && slice_index packet 3 / 16 % 2 == 1
 
 -- where it begins: after the four bytes of the header and an adaptation field
-unfoldable pub payload_place : List ℕ → ℕ → ℕ
-payload_place bs at = if slice_index bs (at + 3) / 32 % 2 == 1 then at + 5 + slice_index bs (at + 4) else at + 4
+unfoldable pub payload_place : List ℕ → ℕ
+payload_place packet = if slice_index packet 3 / 32 % 2 == 1 then 5 + slice_index packet 4 else 4
 
 -- the payload; empty where none begins
-unfoldable pub start_payload : List ℕ → ℕ → List ℕ
-start_payload bs at = if is_clear_start bs at && nat_le (payload_place bs at) (at + 188) then slice_range bs (payload_place bs at) (at + 188) else []
+unfoldable pub start_payload : List ℕ → List ℕ
+start_payload packet = if is_clear_start packet && nat_le (payload_place packet) 188 then slice_range packet (payload_place packet) 188 else []
 
 -- packet_start_code_prefix and a stream_id that flag bytes follow
 unfoldable pub is_flagged : List ℕ → Bool

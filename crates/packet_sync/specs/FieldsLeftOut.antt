@@ -1,5 +1,5 @@
 -- The fields that are not written again, each once of a PID, in packets that stand in step.
-use Rattle.std.specs.Prelude.{ℕ, zero, suc, ◌+◌, ◌*◌, ◌%◌, ◌==◌, ◌&&◌, not, nat_lt, Bool, true, if◌then◌else◌, List, [], ◌∷◌, ◌++◌, length, slice_index, Option, None, Some}
+use Rattle.std.specs.Prelude.{ℕ, zero, suc, ◌+◌, ◌*◌, ◌%◌, ◌==◌, ◌&&◌, not, nat_lt, Bool, true, if◌then◌else◌, List, [], ◌∷◌, ◌++◌, length, slice_index, slice_range, Option, None, Some}
 use Rattle.std.specs.List.{list_any}
 use Rattle.packet_sync.specs.Slips.{slip_size}
 use Rattle.packet_sync.specs.Fields.{adaptation_flags, extension_flags, has_adaptation_data, has_other_data, has_other_flags, has_private_data, is_aligned, is_cut, is_flagged, is_long, is_random_access, is_scrambled, number_of, start_payload}
@@ -9,8 +9,8 @@ use Rattle.packet_sync.specs.declared.left_out.FieldLeftOut.{FieldLeftOut}
 
 -- 1. One packet
 
-unfoldable pub pid_at : List ℕ → ℕ → ℕ
-pid_at bs at = slice_index bs (at + 1) % 32 * 256 + slice_index bs (at + 2)
+unfoldable pub pid_of : List ℕ → ℕ
+pid_of packet = slice_index packet 1 % 32 * 256 + slice_index packet 2
 
 -- the field of this PID is there already
 abbrev pub is_noted : List FieldLeftOut → ℕ → Field → Bool
@@ -43,15 +43,19 @@ with_header pid p found =
     else (if nat_lt (length p) 9 then with_field pid UnreadHeader true found
     else (if is_flagged p then with_data pid p (with_flags pid p found) else found))
 
--- with those of the packet at a place
-unfoldable pub with_packet : List ℕ → ℕ → List FieldLeftOut → List FieldLeftOut
-with_packet bs at found = with_header (pid_at bs at) (start_payload bs at) (with_adaptation (pid_at bs at) (adaptation_flags bs at) found)
+-- with those of a packet
+unfoldable pub with_packet : List ℕ → List FieldLeftOut → List FieldLeftOut
+with_packet packet found = with_header (pid_of packet) (start_payload packet) (with_adaptation (pid_of packet) (adaptation_flags packet) found)
 
 -- 2. All packets
 
--- the packet at a place, or a slip there, and then those after it
+-- the packet at a place
+abbrev pub packet_at : List ℕ → ℕ → List ℕ
+packet_at bs at = slice_range bs at (at + 188)
+
+-- that packet, or a slip there, and then those after it
 unfoldable pub with_next : List ℕ → Option ℕ → ℕ → List FieldLeftOut → (ℕ → List FieldLeftOut → List FieldLeftOut) → List FieldLeftOut
-with_next bs None at found after = after (at + 188) (with_packet bs at found)
+with_next bs None at found after = after (at + 188) (with_packet (packet_at bs at) found)
 with_next bs (Some size) at found after = after (at + size) found
 
 -- from a place on, in at most n steps
@@ -62,3 +66,10 @@ fields_from (suc n) bs at found = if nat_lt (length bs) (at + 188) then found el
 -- each step takes a byte at least
 unfoldable pub fields_left_out : List ℕ → List FieldLeftOut
 fields_left_out bs = fields_from (length bs) bs 0 []
+
+-- 3. Packets one after another
+
+-- with those of the first n packets of bytes that stand in step
+unfoldable pub with_packets : ℕ → List ℕ → List FieldLeftOut → List FieldLeftOut
+with_packets zero bs found = found
+with_packets (suc n) bs found = with_packet (packet_at bs (188 * n)) (with_packets n bs found)

@@ -4,3 +4,4 @@ pub mod Laws
 pub mod OtherPackets
 pub mod Slips
 pub mod Stretches
+pub mod Notes

@@ -1,6 +1,6 @@
 //! The fields of packets and of PES headers that are not written again (ISO/IEC 13818-1, 2.4.3.5 and 2.4.3.7).
 
-ghost use Rattle.std.specs.Prelude.{◌≡◌, ◌≤◌, ◌<◌, ◌+◌, length};
+ghost use Rattle.std.specs.Prelude.{◌≡◌, ◌≤◌, length};
 ghost use Rattle.packet_sync.specs.Fields as spec;
 
 use crate::sync_bytes::PACKET_SIZE;
@@ -62,14 +62,14 @@ impl Field {
     }
 }
 
-/// The flag byte of the adaptation field of the packet at a place; 0 where there is none.
+/// The flag byte of the adaptation field of a packet; 0 where there is none.
 #[tactic(auto, unfolding(crate::specs::Fields::adaptation_flags))]
-pub(crate) fn adaptation_flags(bytes: &[u8], at: usize) -> u8
-    requires { at + 188 ≤ length bytes.now }
-    ensures { result ≡ spec.adaptation_flags bytes.now at }
+pub(crate) fn adaptation_flags(packet: &[u8]) -> u8
+    requires { length packet.now ≡ 188 }
+    ensures { result ≡ spec.adaptation_flags packet.now }
 {
-    if bytes[at + 3] / 32 % 2 == 1 && bytes[at + 4] != 0 {
-        bytes[at + 5]
+    if packet[3] / 32 % 2 == 1 && packet[4] != 0 {
+        packet[5]
     } else {
         0
     }
@@ -77,35 +77,35 @@ pub(crate) fn adaptation_flags(bytes: &[u8], at: usize) -> u8
 
 // Whether a clear payload begins with a PES packet or a section.
 #[tactic(auto, unfolding(crate::specs::Fields::is_clear_start))]
-fn is_clear_start(bytes: &[u8], at: usize) -> bool
-    requires { at + 188 ≤ length bytes.now }
-    ensures { result ≡ spec.is_clear_start bytes.now at }
+fn is_clear_start(packet: &[u8]) -> bool
+    requires { length packet.now ≡ 188 }
+    ensures { result ≡ spec.is_clear_start packet.now }
 {
-    bytes[at + 1] / 64 == 1 && bytes[at + 3] / 64 == 0 && bytes[at + 3] / 16 % 2 == 1
+    packet[1] / 64 == 1 && packet[3] / 64 == 0 && packet[3] / 16 % 2 == 1
 }
 
-// Where the payload of the packet at a place begins.
+// Where the payload of a packet begins.
 #[tactic(auto, unfolding(crate::specs::Fields::payload_place))]
-fn payload_place(bytes: &[u8], at: usize) -> usize
-    requires { at + 188 ≤ length bytes.now }
-    ensures { result ≡ spec.payload_place bytes.now at }
+fn payload_place(packet: &[u8]) -> usize
+    requires { length packet.now ≡ 188 }
+    ensures { result ≡ spec.payload_place packet.now }
 {
-    if bytes[at + 3] / 32 % 2 == 1 {
-        at + 5 + bytes[at + 4] as usize
+    if packet[3] / 32 % 2 == 1 {
+        5 + packet[4] as usize
     } else {
-        at + 4
+        4
     }
 }
 
 /// The clear payload at whose front a PES packet or a section begins; empty where none does.
 #[tactic(auto, unfolding(crate::specs::Fields::start_payload))]
-pub(crate) fn start_payload(bytes: &[u8], at: usize) -> &[u8]
-    requires { at + 188 ≤ length bytes.now }
-    ensures { result.now ≡ spec.start_payload bytes.now at }
+pub(crate) fn start_payload(packet: &[u8]) -> &[u8]
+    requires { length packet.now ≡ 188 }
+    ensures { result.now ≡ spec.start_payload packet.now }
 {
-    let place = payload_place(bytes, at);
-    if is_clear_start(bytes, at) && place <= at + PACKET_SIZE {
-        &bytes[place..at + PACKET_SIZE]
+    let place = payload_place(packet);
+    if is_clear_start(packet) && place <= PACKET_SIZE {
+        &packet[place..PACKET_SIZE]
     } else {
         &[]
     }

@@ -1,11 +1,11 @@
-//! The fields that are not written again, in the packets that stand in step.
+//! The fields that are not written again, in packets that stand in step.
 
-ghost use Rattle.std.specs.Prelude.{◌≡◌, ◌≤◌, ◌+◌, IfOk, OnOk, length};
+ghost use Rattle.std.specs.Prelude.{◌≡◌, ◌≤◌, ◌*◌, OnOk, length};
 ghost use Rattle.packet_sync.specs.Fields as fields;
 ghost use Rattle.packet_sync.specs.FieldsLeftOut as spec;
 
 use crate::field::{Field, adaptation_flags, extension_flags, is_flagged, start_payload};
-use crate::sync_bytes::{PACKET_SIZE, slip_size};
+use crate::sync_bytes::PACKET_SIZE;
 use std::alloc::{AllocError, Allocator};
 
 /// A field that stands in packets of a PID.
@@ -15,13 +15,13 @@ pub struct FieldLeftOut {
     pub field: Field,
 }
 
-// The PID of the packet at a place.
-#[tactic(auto, unfolding(crate::specs::FieldsLeftOut::pid_at))]
-fn pid_at(bytes: &[u8], at: usize) -> u16
-    requires { at + 188 ≤ length bytes.now }
-    ensures { result ≡ spec.pid_at bytes.now at }
+// The PID of a packet.
+#[tactic(auto, unfolding(crate::specs::FieldsLeftOut::pid_of))]
+fn pid_of(packet: &[u8]) -> u16
+    requires { length packet.now ≡ 188 }
+    ensures { result ≡ spec.pid_of packet.now }
 {
-    (bytes[at + 1] % 32) as u16 * 256 + bytes[at + 2] as u16
+    (packet[1] % 32) as u16 * 256 + packet[2] as u16
 }
 
 // Whether a field of a PID is there already.
@@ -143,38 +143,32 @@ fn note_header<A: Allocator>(
     note_data(pid, payload, found)
 }
 
-// Appends what stands in the packet at a place.
+// Appends what stands in a packet.
 #[tactic(auto, unfolding(crate::specs::FieldsLeftOut::with_packet))]
 fn note_packet<A: Allocator>(
-    bytes: &[u8],
-    at: usize,
+    packet: &[u8],
     found: &mut Vec<FieldLeftOut, A>,
 ) -> Result<(), AllocError>
-    requires { at + 188 ≤ length bytes.now }
-    ensures { OnOk result (found.new.items ≡ spec.with_packet bytes.now at found.old.items) }
+    requires { length packet.now ≡ 188 }
+    ensures { OnOk result (found.new.items ≡ spec.with_packet packet.now found.old.items) }
 {
-    let pid = pid_at(bytes, at);
-    note_adaptation(pid, adaptation_flags(bytes, at), found)?;
-    note_header(pid, start_payload(bytes, at), found)
+    let pid = pid_of(packet);
+    note_adaptation(pid, adaptation_flags(packet), found)?;
+    note_header(pid, start_payload(packet), found)
 }
 
-/// The fields that are not written again and that stand in packets in step, each once of a PID, in the order of their first.
-pub fn fields_left_out<A: Allocator>(
-    alloc: A,
+/// Appends what stands in the first `count` packets of bytes that stand in step, each field once of a PID.
+pub(crate) fn note_packets<A: Allocator>(
     bytes: &[u8],
-) -> Result<Vec<FieldLeftOut, A>, AllocError>
-    ensures { IfOk result (λ found. found.items ≡ spec.fields_left_out bytes.now) }
+    count: usize,
+    found: &mut Vec<FieldLeftOut, A>,
+) -> Result<(), AllocError>
+    requires { 188 * count ≤ length bytes.now }
+    ensures { OnOk result (found.new.items ≡ spec.with_packets count bytes.now found.old.items) }
 {
-    let mut found = Vec::new(alloc);
-    let mut at = 0;
-    while bytes.len() - at >= PACKET_SIZE {
-        match slip_size(bytes, at) {
-            None => {
-                note_packet(bytes, at, &mut found)?;
-                at += PACKET_SIZE;
-            }
-            Some(size) => at += size,
-        }
+    for k in 0..count {
+        let at = PACKET_SIZE * k;
+        note_packet(&bytes[at..at + PACKET_SIZE], found)?;
     }
-    Ok(found)
+    Ok(())
 }

@@ -1,9 +1,12 @@
 //! Packets that are not of 188 bytes.
 
-ghost use Rattle.std.specs.Prelude.{◌≡◌, ◌≤◌};
+ghost use Rattle.std.specs.Prelude.{◌≡◌, ◌≤◌, ◌++◌, List, ℕ, length};
 ghost use Rattle.packet_sync.specs.OtherPackets as spec;
 
 use crate::sync_bytes::{is_in_step, is_sync};
+
+/// The first bytes of a stream that tell what packets it has: those up to the third sync byte of packets of 204 bytes.
+pub const FRONT: usize = 409;
 
 /// What other packets a stream has.
 #[derive(Clone, Copy, PartialEq, Eq)]
@@ -24,9 +27,9 @@ fn are_apart(bytes: &[u8], at: usize, size: usize) -> bool
     is_sync(bytes, at) && is_sync(bytes, at + size) && is_sync(bytes, at + 2 * size)
 }
 
-/// What other packets than those of 188 bytes stand at the front of a stream, if any do.
+// What other packets than those of 188 bytes stand at the front.
 #[tactic(auto, unfolding(crate::specs::OtherPackets::other_packets))]
-pub fn other_packets(bytes: &[u8]) -> Option<OtherPackets>
+fn packets_at_front(bytes: &[u8]) -> Option<OtherPackets>
     ensures { result ≡ spec.other_packets bytes.now }
 {
     if is_in_step(bytes, 0) {
@@ -39,4 +42,12 @@ pub fn other_packets(bytes: &[u8]) -> Option<OtherPackets>
         return Some(OtherPackets::Corrected);
     }
     None
+}
+
+/// What other packets than those of 188 bytes stand at the front of a stream, if any do.
+pub fn other_packets(bytes: &[u8]) -> Option<OtherPackets>
+    ensures value { result ≡ spec.other_packets bytes.now }
+    ensures front { (more : List ℕ) → 409 ≤ length bytes.now → result ≡ spec.other_packets (bytes.now ++ more) }
+{
+    packets_at_front(bytes)
 }

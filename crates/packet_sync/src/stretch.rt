@@ -27,6 +27,7 @@ fn decisive(ended: bool) -> usize
 /// after that; `ended`: whether no more bytes come.
 pub fn next_stretch(bytes: &[u8], ended: bool) -> Stretch
     ensures stretch { spec.IsStretch bytes.now ended result }
+    ensures stepped { spec.IsSteppedSoFar bytes.now ended result }
     ensures packets { spec.IsOfPackets (length bytes.now) ended result }
     ensures within { result.in_step + result.slipped ≤ length bytes.now }
     ensures some { (if ended then 1 else 1128) ≤ length bytes.now → 0 < result.in_step + result.slipped }

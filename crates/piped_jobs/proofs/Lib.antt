@@ -7,3 +7,4 @@ pub mod ReadJobs
 pub mod TakenJobs
 pub mod UnitsAgain
 pub mod PipedRuns
+pub mod StreamedUnits

@@ -1,5 +1,5 @@
 -- Both programs, one after the other.
-use Rattle.std.proofs.Common.{◌≡◌, ◌<◌, ℕ, ◌/◌, Bool, false, List, [], ◌++◌, length, Option, Some, None, Result, Ok, Err, refl, sym, ap, ◌∙◌, subst, arith, is_some, inl, inr, All}
+use Rattle.std.proofs.Common.{◌≡◌, ◌<◌, ℕ, ◌+◌, ◌-◌, ◌/◌, ◌^◌, Bool, false, List, [], ◌++◌, length, Option, Some, None, Result, Ok, Err, refl, sym, ap, ◌∙◌, subst, arith, is_some, inl, inr, All}
 use Rattle.std.specs.Io.KnownBytes.{Appends}
 use Rattle.clap.specs.Words.{Text}
 use Rattle.demux.specs.Views.{FindingView}
@@ -9,7 +9,9 @@ use Rattle.packet_sync.specs.declared.packet_sizes.OtherPackets.{OtherPackets}
 use Rattle.stream_units.proofs.KeptDeclarations.{units_kept}
 use Rattle.stream_jobs.specs.JobInput.{JobInputView, job_input}
 use Rattle.stream_jobs.specs.JobOptions.{JobOptionsView}
+use Rattle.stream_jobs.specs.JobPrograms.{clock_in}
 use Rattle.stream_jobs.specs.Jobs.{AreUnits}
+use Rattle.stream_jobs.proofs.ClockConstants.{constants_of}
 use Rattle.stream_jobs.specs.declared.refusal.JobRefusal.{JobRefusal}
 use Rattle.unit_records.proofs.RecordBytes.{records_are_read}
 use Rattle.round_trip_job.specs.Laws.{AcceptedLaw, FoundAgainLaw, schedule_for}
@@ -17,21 +19,22 @@ use Rattle.round_trip_job.proofs.AcceptedUnits.{all_kept}
 use Rattle.devices.specs.Devices.{Device, Takes}
 use Rattle.devices.specs.Lines.{Reports}
 use Rattle.devices.specs.Outcomes.{Outcome, printed, reported}
+use Rattle.devices.specs.Runs.{Ends}
 use Rattle.job_outcomes.specs.declared.job_arguments.Subcommand.{Subcommand}
 use Rattle.job_outcomes.specs.JobArguments.{JobArgumentsView}
 use Rattle.tsjob_cli.specs.Arguments.{arguments_in}
-use Rattle.job_outcomes.specs.Outcomes.{BytesLead, Gives, GivesJob, InputLeads}
+use Rattle.job_outcomes.specs.Outcomes.{BytesLead, Gives, GivesJob, InputLeads, Leads}
 use Rattle.job_outcomes.specs.Streams.{findings_of, notes_of}
 use Rattle.tsmux_cli.specs.declared.request.MuxOptions.{MuxOptions}
 use Rattle.tsmux_cli.specs.MuxJobs.{MuxJobView, mux_job_of}
 use Rattle.tsmux_cli.specs.Multiplexing.{IsKept, KeepsPromises, KeptUnlessRefused, cause_of, multiplexed, packets_of, unless_refused, with_job}
-use Rattle.piped_jobs.specs.PipedJobs.{GoesThrough, MuxesAll, ThePipe, WritesJob, WrittenIsRead, as_mux_job}
+use Rattle.piped_jobs.specs.PipedJobs.{GoesThrough, MuxesAll, ThePipe, WrittenIsRead, as_mux_job}
 use Rattle.piped_jobs.proofs.DescriptionLines.{description_passes}
 use Rattle.piped_jobs.proofs.PlainLines.{Passes}
 use Rattle.piped_jobs.proofs.PlainNames.{PlainOptions, options_plain}
 use Rattle.piped_jobs.proofs.ReadJobs.{job_again, text_in_range}
 use Rattle.piped_jobs.proofs.TakenJobs.{none_refused}
-use Rattle.piped_jobs.proofs.UnitsAgain.{units_again}
+use Rattle.piped_jobs.proofs.UnitsAgain.{moved_units, units_again}
 use Rattle.piped_jobs.proofs.WrittenRecords.{Fits, records_read, units_fit}
 
 -- 1. What is written is read
@@ -59,7 +62,7 @@ written_is_read words a findings m output asked job = read_with a.options findin
 -- 2. What `tsjob` wrote
 
 -- a writer that held nothing has what it took
-taken : (before after : Option (List ℕ)) (bytes output : List ℕ) → before ≡ Some [] → after ≡ Some output → Appends before after bytes → bytes ≡ output
+pub taken : (before after : Option (List ℕ)) (bytes output : List ℕ) → before ≡ Some [] → after ≡ Some output → Appends before after bytes → bytes ≡ output
 taken None after bytes output b a e = absurd cc
 taken (Some xs) None bytes output b a e = absurd cc
 taken (Some xs) (Some ys) bytes output b a e =
@@ -68,10 +71,10 @@ taken (Some xs) (Some ys) bytes output b a e =
     sym (ap (λ (front : List ℕ). front ++ bytes) none) ∙ sym e ∙ all
 
 -- the stream led to a job
-record GivenOf (a : JobArgumentsView) (bytes output : List ℕ) : Type 0 where
-  input : JobInputView
-  input_is : job_input a.options (length (carried bytes) / 188) (findings_of (carried bytes)) ≡ Ok input
-  gives : Gives a.subcommand a.options (findings_of (carried bytes)) input output
+pub record GivenOf (a : JobArgumentsView) (bytes output : List ℕ) : Type 0 where
+  pub input : JobInputView
+  pub input_is : job_input a.options (length (carried bytes) / 188) (findings_of (carried bytes)) ≡ Ok input
+  pub gives : Gives a.subcommand a.options (findings_of (carried bytes)) input output
 
 none_written : (o : Outcome) (line : List ℕ) → o ≡ reported line → 0 < length o.output → ⊥
 none_written o line e some = let none : length o.output ≡ 0 = ap (λ (x : Outcome). length x.output) e in absurd (omega (arith, none, some))
@@ -87,11 +90,12 @@ given_of : (a : JobArgumentsView) (bytes : List ℕ) (o : Outcome) (p : Option O
 given_of a bytes o (Some packets) leads some = absurd (none_written o _ leads some)
 given_of a bytes o None leads some = given_by a bytes o (job_input a.options (length (carried bytes) / 188) (findings_of (carried bytes))) refl leads some
 
-stream_job : (words : List Text) (a : JobArgumentsView) (bytes output : List ℕ) (stream job told : Device) (status : ℕ) → WritesJob words a bytes output stream job told status → GivenOf a bytes output
-stream_job words a bytes output stream job told status w =
-    let same : w.ends.outcome.output ≡ output = taken job.before.bytes job.after.bytes w.ends.outcome.output output w.empty w.output_is w.ends.written in
+pub given_by_run : (a : JobArgumentsView) (bytes output : List ℕ) (stream job told : Device) (status : ℕ) → stream.before.bytes ≡ Some bytes → Ends (Leads a) stream job told status →
+    job.before.bytes ≡ Some [] → job.after.bytes ≡ Some output → 0 < length output → GivenOf a bytes output
+given_by_run a bytes output stream job told status known ends empty output_is some =
+    let same : ends.outcome.output ≡ output = taken job.before.bytes job.after.bytes ends.outcome.output output empty output_is ends.written in
     subst (GivenOf a bytes) same
-    (given_of a bytes w.ends.outcome (other_packets bytes) (w.ends.leads bytes w.known) (subst (λ (xs : List ℕ). 0 < length xs) (sym same) w.some))
+    (given_of a bytes ends.outcome (other_packets bytes) (ends.leads bytes known) (subst (λ (xs : List ℕ). 0 < length xs) (sym same) some))
 
 -- 3. What `mux` does with it
 
@@ -137,6 +141,7 @@ through accepted again words a o bytes output job_again packets faults status as
     let read = written_is_read words a (findings_of (carried bytes)) input output asked job in
     let none = none_refused accepted a.options.make_dts (findings_of (carried bytes)) o (as_mux_job job) refl m.all_slots ranges job.found in
     let done = muxed o output (as_mux_job job) job_again packets faults status m read none in
+    let constants = constants_of a.options (length (carried bytes) / 188) (findings_of (carried bytes)) input input_is in
     record {
       input = input;
       input_is = input_is;
@@ -146,13 +151,15 @@ through accepted again words a o bytes output job_again packets faults status as
       silent = done.silent;
       written = done.written;
       kept = done.kept;
+      time = λ clock. job.description.base0 + 2 ^ 33 - constants.constant clock;
       units = λ own bytes_out short k s is.
-          units_again again (findings_of (carried bytes)) o (as_mux_job job) refl m.all_slots bytes_out ranges job.serving
-          (subst (λ (made : Bool). AreUnits made (findings_of (carried bytes)) job.description job.units) own job.found) short k s is;
+          units_again again (findings_of (carried bytes)) o (as_mux_job job) (constants.constant (clock_in input.programs s.program)) refl m.all_slots bytes_out ranges job.serving
+          (subst (λ (made : Bool). AreUnits made (findings_of (carried bytes)) job.description job.units) own job.found) short k s is
+          (moved_units a.options (findings_of (carried bytes)) job.description input job.units constants own job.agree job.job.merged k s is);
     }
 
 pub the_pipe : AcceptedLaw → FoundAgainLaw → ThePipe
 the_pipe accepted again words a o bytes output stream job told job_status job_again packets faults status w m =
-    let given = stream_job words a bytes output stream job told job_status w in
+    let given = given_by_run a bytes output stream job told job_status w.known w.ends w.empty w.output_is w.some in
     through accepted again words a o bytes output job_again packets faults status w.asked m given.input given.input_is
     (subst (λ (word : Subcommand). Gives word a.options (findings_of (carried bytes)) given.input output) w.whole given.gives)

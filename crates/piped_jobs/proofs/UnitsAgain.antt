@@ -1,16 +1,24 @@
 -- What a demultiplexer finds in the packets of a job that was written are the units that it found in the stream.
-use Rattle.std.proofs.Common.{◌≡◌, ◌≤◌, ℕ, ◌+◌, ◌-◌, ◌*◌, ◌/◌, ◌^◌, ◌==◌, min, max, Bool, false, List, [], ◌∷◌, filter, fold, slice_get, Some, None, All, ap, ◌∙◌, arith, mul-le-mul, mul-le-mul_right}
+use Rattle.std.proofs.Common.{◌≡◌, ◌≤◌, ℕ, ◌+◌, ◌-◌, ◌*◌, ◌/◌, ◌^◌, ◌==◌, min, max, Bool, false, List, [], ◌∷◌, filter, fold, map, slice_get, Some, None, All, ap, subst, ◌∙◌, arith, mul-le-mul, mul-le-mul_right}
 use Rattle.std.proofs.lemmas.List.Elements.{All-nil, All-cons, All-filter, All-map, All-weaker}
 use Rattle.pes_packet.specs.AccessUnits.{AccessUnit}
 use Rattle.pes_packet.specs.Units.{units_of}
-use Rattle.description.specs.Described.{DescribedStream}
+use Rattle.description.specs.Described.{Described, DescribedStream}
 use Rattle.description.specs.Ranges.{IsInRange}
 use Rattle.demux.specs.Views.{FindingView}
 use Rattle.slot_plan.specs.Conditions.{IsServing}
 use Rattle.mux_core.specs.WholeJobs.{job_history, output_of}
 use Rattle.stream_units.specs.CarriedUnits.{wire_units}
-use Rattle.stream_jobs.specs.FoundUnits.{AreFound, AreMoved, source_of}
-use Rattle.stream_jobs.specs.Jobs.{AreUnits}
+use Rattle.unit_order.specs.Merging.{AreMerged}
+use Rattle.stream_jobs.specs.ClockConstants.{HasConstants, IsMovedBy, clock_of}
+use Rattle.stream_jobs.specs.FoundUnits.{AreMoved, source_of}
+use Rattle.stream_jobs.specs.JobInput.{JobInputView}
+use Rattle.stream_jobs.specs.JobOptions.{JobOptionsView}
+use Rattle.stream_jobs.specs.JobPrograms.{JobProgramView, clock_in}
+use Rattle.stream_jobs.specs.Jobs.{AllAgree, AreUnits, IsEntry}
+use Rattle.stream_jobs.specs.JobStreams.{TimedStreamView}
+use Rattle.stream_jobs.specs.declared.program_clock.ProgramClock.{ProgramClock}
+use Rattle.stream_jobs.proofs.JobUnits.{stands_for}
 use Rattle.round_trip_job.specs.Laws.{AllDue, FoundAgainLaw, schedule_for}
 use Rattle.checked_jobs.specs.JobSchedules.{schedule_by}
 use Rattle.job_outcomes.specs.Streams.{findings_of}
@@ -59,19 +67,28 @@ all_due o j k all ranges short =
 
 -- 2. The units
 
-moved_units : (findings : List FindingView) (pid : ℕ) (us : List AccessUnit) (found : AreFound false findings pid us) → AreMoved (wire_units pid findings) found.base us
+-- those of a stream are moved by the constant of the clock of its program
+those_moved : (findings : List FindingView) (programs : List JobProgramView) (constant : ProgramClock → ℕ) (s : DescribedStream) (us : List AccessUnit) (t : TimedStreamView) → IsEntry s t →
+    us ≡ t.units → IsMovedBy false findings (constant (clock_of programs t)) t → AreMoved (wire_units s.pid findings) (constant (clock_in programs s.program)) us
 unfolding source_of
-moved_units findings pid us found = found.moved
+those_moved findings programs constant s us t entry same moved = rw (same, entry.pid, entry.program) moved
 
-pub units_again : FoundAgainLaw → (findings : List FindingView) (o : MuxOptions) (j : MuxJobView) → j.second ≡ None → o.slots ≡ None → o.hex ≡ false → IsInRange j.description →
+pub moved_units : (options : JobOptionsView) (findings : List FindingView) (d : Described) (input : JobInputView) (units : List (ℕ × AccessUnit)) (constants : HasConstants options findings input) →
+    options.make_dts ≡ false → AllAgree d input → AreMerged (map (λ t. t.units) input.streams) units → (k : ℕ) (s : DescribedStream) → slice_get d.streams k ≡ Some s →
+    AreMoved (wire_units s.pid findings) (constants.constant (clock_in input.programs s.program)) (units_of k units)
+moved_units options findings d input units constants own agree merged k s is =
+    let stands = stands_for d input units (λ t. IsMovedBy options.make_dts findings (constants.constant (clock_of input.programs t)) t) agree merged constants.streams k s is in
+    let moved = subst (λ (made : Bool). IsMovedBy made findings (constants.constant (clock_of input.programs stands.stream)) stands.stream) own stands.holds in
+    those_moved findings input.programs constants.constant s (units_of k units) stands.stream stands.agrees.entry stands.units_are moved
+
+pub units_again : FoundAgainLaw → (findings : List FindingView) (o : MuxOptions) (j : MuxJobView) (base : ℕ) → j.second ≡ None → o.slots ≡ None → o.hex ≡ false → IsInRange j.description →
     IsServing j.description j.plan → AreUnits false findings j.description j.units → greatest_dts j.units ≤ 2 ^ 40 →
-    (k : ℕ) (s : DescribedStream) → slice_get j.description.streams k ≡ Some s → AreLater (wire_units s.pid findings) (wire_units s.pid (findings_of (packets_of o j)))
-units_again law findings o j second all bytes ranges serving are short k s is =
-    let found = (are.streams k s is).found in
+    (k : ℕ) (s : DescribedStream) → slice_get j.description.streams k ≡ Some s → AreMoved (wire_units s.pid findings) base (units_of k j.units) →
+    AreLater (j.description.base0 + 2 ^ 33 - base) (wire_units s.pid findings) (wire_units s.pid (findings_of (packets_of o j)))
+units_again law findings o j base second all bytes ranges serving are short k s is moved =
     let slots : slots_of o j ≤ 2 ^ 40 = omega (arith, all_slots o j all) in
-    let there = law j.description j.plan findings j.units (slots_of o j) k s found.base ranges serving are slots is
-    (moved_units findings s.pid (units_of k j.units) found) (all_due o j k all ranges short) in
+    let there = law j.description j.plan findings j.units (slots_of o j) k s base ranges serving are slots is moved (all_due o j k all ranges short) in
     let same : packets_of o j ≡ output_of false (schedule_for j.description j.plan) (job_history j.units (slots_of o j)) =
     ap (λ (hex : Bool). output_of hex (schedule_of o j) (job_history j.units (slots_of o j))) bytes
     ∙ ap (λ x. output_of false (schedule_by (first_of j) x (periods_of o)) (job_history j.units (slots_of o j))) second in
-    record { time = j.description.base0 + 2 ^ 33 - found.base; are = ap (λ (xs : List ℕ). wire_units s.pid (findings_of xs)) same ∙ there }
+    ap (λ (xs : List ℕ). wire_units s.pid (findings_of xs)) same ∙ there

@@ -1,1 +1,2 @@
 pub mod PipedJobs
+pub mod StreamedUnits

@@ -8,6 +8,8 @@ use Rattle.packet_sync.specs.Slips.{carried}
 use Rattle.stream_units.specs.CarriedUnits.{wire_units}
 use Rattle.stream_jobs.specs.JobInput.{JobInputView, job_input}
 use Rattle.stream_jobs.specs.JobOptions.{JobOptionsView}
+use Rattle.stream_jobs.specs.JobPrograms.{clock_in}
+use Rattle.stream_jobs.specs.declared.program_clock.ProgramClock.{ProgramClock}
 use Rattle.round_trip_job.specs.Laws.{later_by}
 use Rattle.devices.specs.Devices.{Device, Takes}
 use Rattle.devices.specs.Lines.{Reports}
@@ -51,10 +53,9 @@ pub record MuxesAll (o : MuxOptions) (output : List ℕ) (job packets faults : D
   pub known : job.before.bytes ≡ Some output
   pub ends : Ends (Muxes o) job packets faults status
 
--- units are those before, all of them in order: their bytes are the same, and their stamps are later by one time, modulo 2^33
-pub record AreLater (before after : List AccessUnit) : Type 0 where
-  pub time : ℕ
-  pub are : after ≡ map (later_by time) before
+-- units are those before, all of them in order: their bytes are the same, and their stamps are later by a time, modulo 2^33
+abbrev pub AreLater : ℕ → List AccessUnit → List AccessUnit → Type 0
+AreLater time before after = after ≡ map (later_by time) before
 
 -- what goes through both
 pub record GoesThrough (a : JobArgumentsView) (o : MuxOptions) (bytes output : List ℕ) (packets faults : Device) (status : ℕ) : Type 0 where
@@ -69,10 +70,11 @@ pub record GoesThrough (a : JobArgumentsView) (o : MuxOptions) (bytes output : L
   -- it wrote its packets, which keep every promise
   pub written : Takes packets (packets_of o (as_mux_job job))
   pub kept : IsKept o (as_mux_job job)
-  -- and in them a demultiplexer finds the units of each of its streams that it finds in the input
+  -- and in them a demultiplexer finds the units of each of its streams that it finds in the input, later by the time of the clock of its program there
+  pub time : ProgramClock → ℕ
   pub units : a.options.make_dts ≡ false → o.hex ≡ false → greatest_dts job.units ≤ 2 ^ 40 →
       (k : ℕ) (s : DescribedStream) → slice_get job.description.streams k ≡ Some s →
-      AreLater (wire_units s.pid (findings_of (carried bytes))) (wire_units s.pid (findings_of (packets_of o (as_mux_job job))))
+      AreLater (time (clock_in input.programs s.program)) (wire_units s.pid (findings_of (carried bytes))) (wire_units s.pid (findings_of (packets_of o (as_mux_job job))))
 
 abbrev pub ThePipe : Type 0
 ThePipe = (words : List Text) (a : JobArgumentsView) (o : MuxOptions) (bytes output : List ℕ) (stream job told : Device) (job_status : ℕ) (job_again packets faults : Device) (status : ℕ) →

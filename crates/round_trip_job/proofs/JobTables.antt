@@ -9,8 +9,9 @@ use Rattle.mux_core.proofs.UnitCounts.{other_units}
 use Rattle.round_trip_run.specs.TablesFirst.{DueLate}
 use Rattle.unit_order.specs.Merging.{AreMerged}
 use Rattle.stream_jobs.specs.JobStreams.{TimedStreamView}
+use Rattle.stream_jobs.proofs.MovedInputs.{moved_of}
 use Rattle.round_trip_job.specs.FirstUnits.{FirstUnitsLaw, TablesFirstLaw}
-use Rattle.round_trip_job.proofs.FirstUnits.{all_late, moved_of}
+use Rattle.round_trip_job.proofs.FirstUnits.{all_late}
 
 -- no unit has a number that no stream has
 none_of : (k count : ℕ) (units : List (ℕ × AccessUnit)) → count ≤ k → All (λ e. e.0 < count) units → units_of k units ≡ []

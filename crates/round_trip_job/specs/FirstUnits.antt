@@ -14,6 +14,7 @@ use Rattle.round_trip_run.specs.TablesFirst.{DueLate}
 use Rattle.stream_units.specs.Laws.{after_half}
 use Rattle.stream_jobs.specs.JobInput.{JobInputView, job_input}
 use Rattle.stream_jobs.specs.JobOptions.{JobOptionsView}
+use Rattle.stream_jobs.specs.JobPrograms.{JobProgramView, clock_in}
 use Rattle.stream_jobs.specs.Jobs.{AreUnits, IsJob}
 use Rattle.stream_jobs.specs.JobStreams.{WireStreamView}
 use Rattle.stream_jobs.specs.Moments.{earliest, first_dts, firsts, stamps_of, moved_streams}
@@ -26,10 +27,14 @@ unfoldable pub head_stamp : List ℕ → ℕ
 head_stamp [] = 0
 head_stamp (stamp ∷ stamps) = stamp
 
--- the first DTS of a stream on the wire lies within half the range of 33 bits before and after that of its program's first stream, but not within
+-- the first DTS of the streams on the clock of a stream's program
+abbrev pub stamps_beside : List JobProgramView → List WireStreamView → WireStreamView → List ℕ
+stamps_beside programs streams s = stamps_of (clock_in programs s.program) (firsts programs streams)
+
+-- the first DTS of a stream on the wire lies within half the range of 33 bits before and after that of the first stream on its clock, but not within
 -- the last 2.5 s of it: else it can't be told which of the two comes first
-abbrev pub BeginsNear : List WireStreamView → WireStreamView → Type 0
-BeginsNear streams s = after_half (head_stamp (stamps_of s.program (firsts streams)) % 2 ^ 33) (first_dts s.units) + 225000 < 2 ^ 33
+abbrev pub BeginsNear : List JobProgramView → List WireStreamView → WireStreamView → Type 0
+BeginsNear programs streams s = after_half (head_stamp (stamps_beside programs streams s) % 2 ^ 33) (first_dts s.units) + 225000 < 2 ^ 33
 
 -- ---- what comes before them
 
@@ -54,9 +59,9 @@ TablesComeFirst options findings input =
 -- before them
 pub record MadeOf (options : JobOptionsView) (findings : List FindingView) (input : JobInputView) : Type 0 where
   pub streams : List WireStreamView
-  pub moved : moved_streams findings (earliest input.programs streams) streams ≡ Ok input.streams
-  pub late : All (BeginsNear streams) streams → All (λ t. DueLate t.units) input.streams
-  pub tables_first : All (BeginsNear streams) streams → TablesComeFirst options findings input
+  pub moved : moved_streams findings (earliest input.programs streams) input.programs streams ≡ Ok input.streams
+  pub late : All (BeginsNear input.programs streams) streams → All (λ t. DueLate t.units) input.streams
+  pub tables_first : All (BeginsNear input.programs streams) streams → TablesComeFirst options findings input
 
 abbrev pub FirstUnitsLaw : Type 0
 FirstUnitsLaw = (options : JobOptionsView) (count : ℕ) (findings : List FindingView) (input : JobInputView) → job_input options count findings ≡ Ok input → MadeOf options findings input

@@ -35,7 +35,7 @@ pub fn found_again()
     plan_timing::laws::accepted_plan();
 }
 
-/// PAT and PMT come before the units of a job, where the streams of a program begin near one another: what stands before
+/// PAT and PMT come before the units of a job, where the streams on a clock begin near one another: what stands before
 /// a packet of a stream tells a decoder that follows PAT and PMT (ISO/IEC 13818-1, 2.4.4.3 and 2.4.4.8) already of each
 /// program and its streams, since the units of each stream are due 2 s after the run's begin or later (`units`). So it
 /// is of any units that are due as late (`tables`).

@@ -16,27 +16,13 @@ use Rattle.stream_jobs.specs.Jobs.{IsCarried}
 use Rattle.stream_jobs.specs.FoundUnits.{source_of}
 use Rattle.stream_jobs.specs.WireStreams.{carried_streams, common_id, dts_refusal, can_carry, stream_if_any, with_stamps, stream_of, wire_stream, with_units}
 use Rattle.stream_jobs.proofs.Each.{after, each_begins, each_ends, each_goes_on, each_stops}
+use Rattle.stream_jobs.proofs.Steps.{granted, comes}
 use Rattle.stream_jobs.specs.JobStreams.{WireStreamView}
 
 -- 1. What comes of what
 
 ok_same : {A : Type 0} (x y : A) (one : Result A JobRefusal) → one ≡ Ok x → one ≡ Ok y → x ≡ y
 ok_same x y one is there = cc
-
-granted : {A : Type 0} (against : Option JobRefusal) (answer : Result A JobRefusal) (value : A) → unless against answer ≡ Ok value → answer ≡ Ok value
-unfolding unless
-granted None answer value is = is
-granted (Some refusal) answer value is = absurd cc
-
-record Comes (A B : Type 0) (next : A → Result B JobRefusal) (first : Result A JobRefusal) (last : B) : Type 0 where
-  value : A
-  first_is : first ≡ Ok value
-  last_is : next value ≡ Ok last
-
-comes : {A B : Type 0} (next : A → Result B JobRefusal) (first : Result A JobRefusal) (last : B) → and_then next first ≡ Ok last → Comes A B next first last
-unfolding and_then
-comes next (Ok value) last is = record { value = value; first_is = refl; last_is = is }
-comes next (Err refusal) last is = absurd cc
 
 -- what holds of what comes of one element holds of each that comes of a list
 each_all : {A B : Type 0} (f : A → Result B JobRefusal) (P : B → Type 0) → ((x : A) (y : B) → f x ≡ Ok y → P y) →

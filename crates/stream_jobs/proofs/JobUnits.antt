@@ -8,27 +8,48 @@ use Rattle.pes_packet.specs.Units.{units_of}
 use Rattle.demux.specs.Views.{FindingView}
 use Rattle.description.specs.Described.{Described, DescribedStream}
 use Rattle.unit_order.specs.Merging.{AreMerged}
-use Rattle.stream_jobs.specs.Jobs.{AllAgree, AreUnits, FitsQueue, IsMoved, IsStream}
+use Rattle.stream_jobs.specs.Jobs.{Agrees, AllAgree, AreUnits, FitsQueue, IsMoved, IsStream}
 use Rattle.stream_jobs.specs.JobInput.{JobInputView}
 use Rattle.stream_jobs.specs.JobStreams.{TimedStreamView}
 
 none : TimedStreamView
 none = record { program = 0; pid = 0; stream_type = 0; stream_id = 0; descriptors = []; units = [] }
 
+-- a stream of a description is one of the input in its place, with its units, and what holds of all of these holds of it
+pub record StandsFor (d : Described) (units : List (ℕ × AccessUnit)) (P : TimedStreamView → Type 0) (k : ℕ) (s : DescribedStream) : Type 0 where
+  pub stream : TimedStreamView
+  pub agrees : Agrees d s stream
+  pub units_are : units_of k units ≡ stream.units
+  pub holds : P stream
+
+pub stands_for : (d : Described) (input : JobInputView) (units : List (ℕ × AccessUnit)) (P : TimedStreamView → Type 0) → AllAgree d input → AreMerged (map (λ t. t.units) input.streams) units →
+    All P input.streams → (k : ℕ) (s : DescribedStream) → slice_get d.streams k ≡ Some s → StandsFor d units P k s
+stands_for d input units P agree merged all k s at =
+    let lt : k < length input.streams = omega (arith, slice_get_within d.streams k s at, agree.same) in
+    let t = get_or input.streams k none in
+    let here : slice_get input.streams k ≡ Some t = slice_get-get_or input.streams k none lt in
+    record {
+      stream = t;
+      agrees = agree.each k s t at here;
+      units_are = merged.each k t.units (slice_get-map (λ t. t.units) input.streams k ∙ ap (option_map (λ t. t.units)) here);
+      holds = all k none lt;
+    }
+
+is_stream : (made : Bool) (findings : List FindingView) (d : Described) (s : DescribedStream) (us : List AccessUnit) (t u : TimedStreamView) →
+    Agrees d s t → us ≡ t.units → IsMoved made findings t → us ≡ u.units → FitsQueue u → IsStream made findings d s us
+is_stream made findings d s us t u agrees same moved also fits = record {
+  found = rw (same, agrees.entry.pid) moved;
+  declares = rw same agrees.declares;
+  fits = rw also fits;
+}
+
 stream_of : (made : Bool) (findings : List FindingView) (d : Described) (input : JobInputView) (units : List (ℕ × AccessUnit)) →
     All (IsMoved made findings) input.streams → All FitsQueue input.streams → AllAgree d input → AreMerged (map (λ t. t.units) input.streams) units →
     (k : ℕ) (s : DescribedStream) → slice_get d.streams k ≡ Some s → IsStream made findings d s (units_of k units)
 stream_of made findings d input units moved fits agree merged k s at =
-    let lt : k < length input.streams = omega (arith, slice_get_within d.streams k s at, agree.same) in
-    let t = get_or input.streams k none in
-    let here : slice_get input.streams k ≡ Some t = slice_get-get_or input.streams k none lt in
-    let same : units_of k units ≡ t.units = merged.each k t.units (slice_get-map (λ t. t.units) input.streams k ∙ ap (option_map (λ t. t.units)) here) in
-    let one = agree.each k s t at here in
-    record {
-      found = rw (same, one.entry.pid) (moved k none lt);
-      declares = rw same one.declares;
-      fits = rw same (fits k none lt);
-    }
+    let one = stands_for d input units (IsMoved made findings) agree merged moved k s at in
+    let other = stands_for d input units FitsQueue agree merged fits k s at in
+    is_stream made findings d s (units_of k units) one.stream other.stream one.agrees one.units_are one.holds other.units_are other.holds
 
 pub job_units : (made : Bool) (findings : List FindingView) (d : Described) (input : JobInputView) (units : List (ℕ × AccessUnit)) →
     All (IsMoved made findings) input.streams → All FitsQueue input.streams → AllAgree d input → AreMerged (map (λ t. t.units) input.streams) units → AreUnits made findings d units

@@ -1,9 +1,12 @@
 mod Agreement
 mod Elements
-mod JobUnits
+pub mod JobUnits
 mod AndThen
 mod JobInputs
 mod Each
 mod CarriedStreams
 mod TriedRates
 mod FirstWhy
+pub mod Steps
+pub mod MovedInputs
+pub mod ClockConstants

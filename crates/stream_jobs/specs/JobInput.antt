@@ -112,8 +112,8 @@ nothing_carried all_warnings streams = if length streams == 0 then first_why all
 unfoldable pub with_streams : JobOptionsView → List FindingView → ℕ → List JobProgramView → List Warning → List WireStreamView → Result JobInputView JobRefusal
 with_streams options findings id programs all_warnings streams =
     unless (nothing_carried all_warnings streams)
-    (and_then (with_moved options id (base0_of options.base (first_base (earliest programs streams) streams)) programs all_warnings)
-    (moved_streams findings (earliest programs streams) streams))
+    (and_then (with_moved options id (base0_of options.base (first_base (earliest programs streams) programs streams)) programs all_warnings)
+    (moved_streams findings (earliest programs streams) programs streams))
 
 -- programs, and the PIDs that they are given
 unfoldable pub with_pids : JobOptionsView → ℕ → List FindingView → AssociationView → List Program → FoundProgramsView → List ProgramPids → Result JobInputView JobRefusal

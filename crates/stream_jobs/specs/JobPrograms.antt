@@ -1,26 +1,45 @@
 -- The programs of a job.
-use Rattle.std.specs.Prelude.{ℕ, ◌==◌, ◌||◌, ◌&&◌, Bool, false, is_none, if◌then◌else◌, List, [], ◌∷◌, map, filter, flat_map, zip, Option, Some, None}
+use Rattle.std.specs.Prelude.{ℕ, ◌==◌, ◌||◌, ◌&&◌, Bool, false, is_none, if◌then◌else◌, List, [], ◌∷◌, map, filter, find, flat_map, zip, Option, Some, None}
 use Rattle.std.specs.List.{list_any}
 use Rattle.demux.specs.Views.{FindingView}
 use Rattle.stream_programs.specs.Programs.{FoundProgramView}
 use Rattle.stream_programs.specs.Services.{FoundServiceView, service}
 use Rattle.stream_programs.specs.Texts.{has_unread}
 use Rattle.stream_programs.specs.declared.pid_assignment.ProgramPids.{ProgramPids}
+use Rattle.stream_jobs.specs.declared.program_clock.ProgramClock.{ProgramClock}
+use Rattle.stream_jobs.specs.declared.program_clock.ProgramClock.TheVariants.{Own}
 use Rattle.stream_jobs.specs.declared.warning.Warning.{Warning}
 use Rattle.stream_jobs.specs.declared.warning.ProgramWarning.TheVariants.{NoStream, UnreadText}
 use Rattle.stream_jobs.specs.declared.warning.Warning.TheVariants as warning
 use Rattle.stream_jobs.specs.GivenNames.{ServiceNameView, name_given}
 use Rattle.stream_jobs.specs.JobStreams.{WireStreamView}
+use Rattle.stream_jobs.specs.ProgramClocks.{clock_by}
 
--- a program, with the PIDs that its map and its clock references have in the new stream
+-- a program, with the PIDs that its map and its clock references have in the new stream, and its clock in the one before
 pub record JobProgramView : Type 0 where
   pub number : ℕ
   pub map_pid : ℕ
   pub pcr_pid : ℕ
+  pub clock : ProgramClock
   pub descriptors : List ℕ
 
 unfoldable pub program_with_pids : FoundProgramView × ProgramPids → JobProgramView
-program_with_pids p = record { number = p.0.number; map_pid = p.1.map_pid; pcr_pid = p.1.pcr_pid; descriptors = p.0.descriptors }
+program_with_pids p = record {
+  number = p.0.number;
+  map_pid = p.1.map_pid;
+  pcr_pid = p.1.pcr_pid;
+  clock = clock_by p.0.number p.0.pcr_pid;
+  descriptors = p.0.descriptors;
+}
+
+-- the clock of a program of this number, if there is one
+unfoldable pub clock_if : ℕ → Option JobProgramView → ProgramClock
+clock_if number None = Own number
+clock_if number (Some p) = p.clock
+
+-- of programs that of the first one of a number
+unfoldable pub clock_in : List JobProgramView → ℕ → ProgramClock
+clock_in programs number = clock_if number (find (λ p. p.number == number) programs)
 
 -- it has a stream with units
 unfoldable pub has_stream : List WireStreamView → FoundProgramView × ProgramPids → Bool

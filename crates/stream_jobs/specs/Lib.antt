@@ -6,6 +6,7 @@ pub mod Packets
 pub mod Warnings
 pub mod JobStreams
 pub mod WireStreams
+pub mod ProgramClocks
 pub mod JobPrograms
 pub mod Events
 pub mod Moments
@@ -13,6 +14,7 @@ pub mod Declarations
 pub mod JobInput
 pub mod Texts
 pub mod FoundUnits
+pub mod ClockConstants
 pub mod Rates
 pub mod Jobs
 pub mod WhyNoJob

@@ -8,13 +8,15 @@ use Rattle.stream_units.specs.MadeDts.{dts_fault, pts_of}
 use Rattle.stream_units.specs.Stamps.{constant_of, first_fault, moved}
 use Rattle.stream_units.specs.declared.stamps.StampFault.{StampFault}
 use Rattle.stream_jobs.specs.declared.moved_streams.FirstDts.{FirstDts}
+use Rattle.stream_jobs.specs.declared.program_clock.ProgramClock.{ProgramClock}
 use Rattle.stream_jobs.specs.declared.refusal.JobRefusal.{JobRefusal}
 use Rattle.stream_jobs.specs.declared.refusal.JobRefusal.TheVariants as refusals
 use Rattle.stream_jobs.specs.Answers.{unless, each}
-use Rattle.stream_jobs.specs.JobPrograms.{JobProgramView}
+use Rattle.stream_jobs.specs.JobPrograms.{JobProgramView, clock_in}
 use Rattle.stream_jobs.specs.JobStreams.{TimedStreamView, WireStreamView}
+use Rattle.stream_jobs.specs.ProgramClocks.{is_same_clock}
 
--- 1. When the first unit of a program is due
+-- 1. When the first unit of a clock is due
 
 -- the bytes of a stream in the program map section of its program (ISO/IEC 13818-1, 2.4.4.8): 5 and its descriptors
 unfoldable pub entry_size : ℕ → WireStreamView → ℕ
@@ -33,41 +35,41 @@ is_long_map streams p = nat_lt 183 (map_size streams p)
 unfoldable pub earliest : List JobProgramView → List WireStreamView → ℕ
 earliest programs streams = if list_any (is_long_map streams) programs then 225_000 else 180_000
 
--- 2. What the clock of a program shows at moment 0
+-- 2. What a clock shows at moment 0
 
 unfoldable pub first_dts : List CarriedUnit → ℕ
 first_dts [] = 0
 first_dts (u ∷ us) = u.unit.dts
 
--- the first DTS of each stream, beside its program
-unfoldable pub first_dts_of : WireStreamView → FirstDts
-first_dts_of s = record { program = s.program; dts = first_dts s.units }
+-- the first DTS of each stream, beside the clock of its program
+unfoldable pub first_dts_of : List JobProgramView → WireStreamView → FirstDts
+first_dts_of programs s = record { clock = clock_in programs s.program; dts = first_dts s.units }
 
-abbrev pub firsts : List WireStreamView → List FirstDts
-firsts streams = map first_dts_of streams
+abbrev pub firsts : List JobProgramView → List WireStreamView → List FirstDts
+firsts programs streams = map (first_dts_of programs) streams
 
--- those of a program
-unfoldable pub is_in_program : ℕ → FirstDts → Bool
-is_in_program number f = f.program == number
+-- those of a clock
+unfoldable pub is_on_clock : ProgramClock → FirstDts → Bool
+is_on_clock clock f = is_same_clock f.clock clock
 
-abbrev pub stamps_of : ℕ → List FirstDts → List ℕ
-stamps_of number all = map (λ f. f.dts) (filter (is_in_program number) all)
+abbrev pub stamps_of : ProgramClock → List FirstDts → List ℕ
+stamps_of clock all = map (λ f. f.dts) (filter (is_on_clock clock) all)
 
 unfoldable pub base_for : ℕ → List ℕ → ℕ
 base_for due [] = 0
 base_for due (first ∷ more) = constant_of due (first % 2 ^ 33) (first ∷ more)
 
 -- the first of its units is due at a moment
-unfoldable pub base_of : ℕ → List FirstDts → ℕ → ℕ
-base_of due all number = base_for due (stamps_of number all)
+unfoldable pub base_of : ℕ → List FirstDts → ProgramClock → ℕ
+base_of due all clock = base_for due (stamps_of clock all)
 
--- that of the first stream's program
+-- that of the first stream's clock
 unfoldable pub base_of_first : ℕ → List FirstDts → ℕ
 base_of_first due [] = 0
-base_of_first due (f ∷ fs) = base_of due (f ∷ fs) f.program
+base_of_first due (f ∷ fs) = base_of due (f ∷ fs) f.clock
 
-unfoldable pub first_base : ℕ → List WireStreamView → ℕ
-first_base due streams = base_of_first due (firsts streams)
+unfoldable pub first_base : ℕ → List JobProgramView → List WireStreamView → ℕ
+first_base due programs streams = base_of_first due (firsts programs streams)
 
 -- 3. Moments
 
@@ -100,9 +102,9 @@ unfoldable pub moved_stream : List FindingView → ℕ → WireStreamView → Re
 moved_stream findings base s =
     unless (option_map (stamps_refusal findings s.pid) (first_fault base None 0 (wire_of s))) (Ok (with_moments base s))
 
--- those of a program have one constant
-unfoldable pub moved_by : List FindingView → ℕ → List FirstDts → WireStreamView → Result TimedStreamView JobRefusal
-moved_by findings due all s = moved_stream findings (base_of due all s.program) s
+-- those of a clock have one constant
+unfoldable pub moved_by : List FindingView → ℕ → List JobProgramView → List FirstDts → WireStreamView → Result TimedStreamView JobRefusal
+moved_by findings due programs all s = moved_stream findings (base_of due all (clock_in programs s.program)) s
 
-unfoldable pub moved_streams : List FindingView → ℕ → List WireStreamView → Result (List TimedStreamView) JobRefusal
-moved_streams findings due streams = each (moved_by findings due (firsts streams)) streams
+unfoldable pub moved_streams : List FindingView → ℕ → List JobProgramView → List WireStreamView → Result (List TimedStreamView) JobRefusal
+moved_streams findings due programs streams = each (moved_by findings due programs (firsts programs streams)) streams

@@ -1,4 +1,4 @@
-//! When the first unit of each program is due.
+//! When the first unit of each clock is due.
 
 ghost use Rattle.std.specs.Prelude.{◌≡◌, ◌-◌, ◌^◌, min, sum_by};
 ghost use Rattle.std.specs.List.{list_any};
@@ -53,7 +53,7 @@ fn has_long_map(programs: &[JobProgram], streams: &[WireStream]) -> bool
     programs.iter().any(|program| is_long_map(program, streams))
 }
 
-/// When the first unit of each program is due, in units of 90 kHz.
+/// When the first unit of each clock is due, in units of 90 kHz.
 #[tactic(auto, unfolding(crate::specs::Moments::earliest))]
 pub(crate) fn earliest_of(programs: &[JobProgram], streams: &[WireStream]) -> u64
     ensures { result ≡ spec.earliest programs.now streams.now }

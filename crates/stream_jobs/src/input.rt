@@ -3,6 +3,7 @@
 ghost use Rattle.std.specs.Prelude.{◌≡◌, ◌≤◌, ◌++◌, IfOk, OnOk, All, filter, length, map};
 ghost use Rattle.demux.specs.Shown.{finding_view};
 ghost use Rattle.stream_jobs.specs.Answers.{Answers};
+ghost use Rattle.stream_jobs.specs.ClockConstants.{HasConstants, KeepDistances};
 ghost use Rattle.stream_jobs.specs.Jobs.{AreStreams, IsCarried, FitsQueue};
 ghost use Rattle.stream_jobs.specs.JobInput as spec;
 ghost use Rattle.stream_jobs.specs.JobOptions.{is_selected_program};
@@ -211,8 +212,18 @@ fn with_streams(
         return Err(JobError::Refused(refusal));
     }
     let earliest = earliest_of(&programs, &streams);
-    let base0 = base0_of(options.base, first_base(alloc, earliest, &streams)?);
-    let moved = moved_streams(alloc, options.make_dts, earliest, streams, findings)?;
+    let base0 = base0_of(
+        options.base,
+        first_base(alloc, earliest, &programs, &streams)?,
+    );
+    let moved = moved_streams(
+        alloc,
+        options.make_dts,
+        earliest,
+        &programs,
+        streams,
+        findings,
+    )?;
     with_moved(
         alloc,
         options,
@@ -324,12 +335,9 @@ fn with_association(
     with_programs(alloc, options, count, findings, association, &named, found)
 }
 
-/// What a job of these findings is made of; `count` is the number of whole packets of the stream. Refusals, the first
-/// one that holds: more than half of the packets are none, no program association table, no program with a map, no PID
-/// left; of a stream two stream_ids, DTS that can't be made; no stream, since none can be written or is clear; stamps that are no moments; too
-/// many programs, streams, or units of a stream; a unit that is too large, and buffers in which units can't wait.
+// What a job of these findings is made of, step by step.
 #[tactic(auto, unfolding(crate::specs::JobInput::job_input, crate::specs::Answers::unless, crate::specs::Answers::and_then, crate::specs::Answers::Answers, crate::specs::Answers::Refuses))]
-pub fn job_input(
+fn input_of(
     alloc: Global,
     options: &JobOptions<'_>,
     count: u64,
@@ -345,4 +353,24 @@ pub fn job_input(
         Some(association) => with_association(alloc, options, count, findings, &association),
         None => Err(JobError::Refused(JobRefusal::NoAssociation)),
     }
+}
+
+/// What a job of these findings is made of; `count` is the number of whole packets of the stream. The streams of all
+/// programs on one clock are moved by one constant. Refusals, the first one that holds: more than half of the packets are
+/// none, no program association table, no program with a map, no PID left; of a stream two stream_ids, DTS that can't be
+/// made; no stream, since none can be written or is clear; stamps that are no moments; too many programs, streams, or
+/// units of a stream; a unit that is too large, and buffers in which units can't wait.
+#[tactic(auto, using(crate::proofs::ClockConstants::constants_answered, crate::proofs::ClockConstants::distances_answered))]
+pub fn job_input(
+    alloc: Global,
+    options: &JobOptions<'_>,
+    count: u64,
+    findings: &[Finding<'_>],
+) -> Result<JobInput, JobError>
+    ensures value { Answers (spec.job_input options.now count (map finding_view findings.now)) result }
+    ensures streams { IfOk result (AreStreams options.now.make_dts (map finding_view findings.now)) }
+    ensures constants { IfOk result (HasConstants options.now (map finding_view findings.now)) }
+    ensures distances { IfOk result (KeepDistances options.now.make_dts (map finding_view findings.now)) }
+{
+    input_of(alloc, options, count, findings)
 }

@@ -1,21 +1,23 @@
 //! The programs of a job.
 
-ghost use Rattle.std.specs.Prelude.{◌≡◌, ◌==◌, ◌++◌, ◌∷◌, [], IfOk, OnOk};
+ghost use Rattle.std.specs.Prelude.{◌≡◌, ◌==◌, ◌++◌, ◌∷◌, [], find, option_map, IfOk, OnOk};
 ghost use Rattle.std.specs.List.{list_any};
 ghost use Rattle.stream_jobs.specs.JobPrograms as spec;
 
 use crate::job_stream::WireStream;
+use crate::program_clock::{ProgramClock, clock_by};
 use crate::warning::{ProgramWarning, Warning};
 use std::alloc::{AllocError, Global};
 use std::marker::Model;
 use stream_programs::{FoundProgram, ProgramPids};
 
-/// A program, with the PIDs that its map and its clock references have in the new stream.
+/// A program, with the PIDs that its map and its clock references have in the new stream, and its clock in the one before.
 #[derive(Drop)]
 pub(crate) struct JobProgram {
     pub number: u16,
     pub map_pid: u16,
     pub pcr_pid: u16,
+    pub clock: ProgramClock,
     pub descriptors: Vec<u8>,
 }
 
@@ -29,8 +31,27 @@ impl Model for JobProgram {
       number = p.number;
       map_pid = p.map_pid;
       pcr_pid = p.pcr_pid;
+      clock = p.clock;
       descriptors = p.descriptors.items;
     } };
+}
+
+// The first of some programs that has a number.
+fn first_of(programs: &[JobProgram], number: u16) -> Option<&JobProgram>
+    ensures { option_map (λ p. p.now) result ≡ find (λ p. p.number == number) programs.now }
+{
+    programs.iter().find(|program| program.number == number)
+}
+
+/// The clock of the first of some programs that has a number.
+#[tactic(auto, unfolding(crate::specs::JobPrograms::clock_in, crate::specs::JobPrograms::clock_if))]
+pub(crate) fn clock_in(programs: &[JobProgram], number: u16) -> ProgramClock
+    ensures { result ≡ spec.clock_in programs.now number }
+{
+    match first_of(programs, number) {
+        Some(program) => program.clock,
+        None => ProgramClock::Own(number),
+    }
 }
 
 // Whether a program has a stream with units.
@@ -76,6 +97,7 @@ fn program_with_pids(program: FoundProgram, assigned: ProgramPids) -> JobProgram
         number: program.number,
         map_pid: assigned.map_pid,
         pcr_pid: assigned.pcr_pid,
+        clock: clock_by(program.number, program.pcr_pid),
         descriptors: program.descriptors,
     }
 }

@@ -6,7 +6,9 @@ ghost use Rattle.stream_jobs.specs.Answers.{Answers, Refuses, each};
 ghost use Rattle.stream_jobs.specs.Jobs.{IsCarried, IsMoved};
 ghost use Rattle.stream_jobs.specs.Moments as spec;
 
+use crate::job_programs::{JobProgram, clock_in};
 use crate::job_stream::{TimedStream, WireStream};
+use crate::program_clock::{ProgramClock, is_same_clock};
 use crate::refusal::{JobError, JobRefusal};
 use clock27::STAMP_MODULUS;
 use demux::Finding;
@@ -15,71 +17,79 @@ use stream_units::{
     DtsError, StampError, StampFault, carried_units, constant, moved_units, units_with_made_dts,
 };
 
-/// The first DTS of a stream, as on the wire.
+/// The first DTS of a stream, as on the wire, and the clock by which it counts.
 #[derive(Clone, Copy)]
 pub(crate) struct FirstDts {
-    pub program: u16,
+    pub clock: ProgramClock,
     pub dts: u64,
 }
 
 // The first DTS of a stream.
 #[tactic(auto, unfolding(crate::specs::Moments::first_dts, crate::specs::Moments::first_dts_of))]
-fn first_dts_of(stream: &WireStream) -> FirstDts
-    ensures { result ≡ spec.first_dts_of stream.now }
+fn first_dts_of(programs: &[JobProgram], stream: &WireStream) -> FirstDts
+    ensures { result ≡ spec.first_dts_of programs.now stream.now }
 {
     let dts = match stream.units.first() {
         Some(unit) => unit.unit.dts,
         None => 0,
     };
     FirstDts {
-        program: stream.program,
+        clock: clock_in(programs, stream.program),
         dts,
     }
 }
 
 // The first DTS of each stream.
-fn firsts_of(alloc: Global, streams: &[WireStream]) -> Result<Vec<FirstDts>, AllocError>
-    ensures { IfOk result (λ firsts. firsts.items ≡ spec.firsts streams.now) }
+fn firsts_of(
+    alloc: Global,
+    programs: &[JobProgram],
+    streams: &[WireStream],
+) -> Result<Vec<FirstDts>, AllocError>
+    ensures { IfOk result (λ firsts. firsts.items ≡ spec.firsts programs.now streams.now) }
 {
     streams
         .iter()
-        .map(|stream| first_dts_of(stream))
+        .map(|stream| first_dts_of(programs, stream))
         .collect(alloc)
 }
 
-// Whether it is the first DTS of one of a program's streams.
-#[tactic(auto, unfolding(crate::specs::Moments::is_in_program))]
-fn is_in_program(program: u16, first: &FirstDts) -> bool
-    ensures { result ≡ spec.is_in_program program first.now }
+// Whether it is the first DTS of a stream that counts by this clock.
+#[tactic(auto, unfolding(crate::specs::Moments::is_on_clock))]
+fn is_on_clock(clock: ProgramClock, first: &FirstDts) -> bool
+    ensures { result ≡ spec.is_on_clock clock first.now }
 {
-    first.program == program
+    is_same_clock(first.clock, clock)
 }
 
-// The first DTS of each stream of a program.
-fn stamps_of(alloc: Global, program: u16, firsts: &[FirstDts]) -> Result<Vec<u64>, AllocError>
-    ensures { IfOk result (λ stamps. stamps.items ≡ spec.stamps_of program firsts.now) }
+// The first DTS of each stream that counts by this clock.
+fn stamps_of(
+    alloc: Global,
+    clock: ProgramClock,
+    firsts: &[FirstDts],
+) -> Result<Vec<u64>, AllocError>
+    ensures { IfOk result (λ stamps. stamps.items ≡ spec.stamps_of clock firsts.now) }
 {
     let mut stamps = Vec::new(alloc);
     for first in firsts {
-        if is_in_program(program, first) {
+        if is_on_clock(clock, first) {
             stamps.push(first.dts)?;
         }
     }
     Ok(stamps)
 }
 
-// What the clock of a program shows at moment 0, if the first of its units is due at `earliest`.
+// What a clock shows at moment 0, if the first unit that counts by it is due at `earliest`.
 #[tactic(auto, unfolding(crate::specs::Moments::base_for, crate::specs::Moments::base_of))]
 fn base_of(
     alloc: Global,
     earliest: u64,
-    program: u16,
+    clock: ProgramClock,
     firsts: &[FirstDts],
 ) -> Result<u64, AllocError>
-    ensures value { IfOk result (λ base. base ≡ spec.base_of earliest firsts.now program) }
+    ensures value { IfOk result (λ base. base ≡ spec.base_of earliest firsts.now clock) }
     ensures bound { IfOk result (λ base. base < 2 ^ 33) }
 {
-    let stamps = stamps_of(alloc, program, firsts)?;
+    let stamps = stamps_of(alloc, clock, firsts)?;
     match stamps.first() {
         Some(first) => Ok(constant(earliest, *first % STAMP_MODULUS, &stamps)),
         None => Ok(0),
@@ -170,21 +180,24 @@ fn moved_stream(
     }
 }
 
-// A stream with its units at moments by the constant of its program.
+// A stream with its units at moments by the constant of its program's clock.
 #[tactic(auto, unfolding(crate::specs::Moments::moved_by, crate::specs::Answers::Answers, crate::specs::Answers::Refuses))]
 fn moved_by(
     alloc: Global,
     make_dts: bool,
     earliest: u64,
+    programs: &[JobProgram],
     firsts: &[FirstDts],
     stream: WireStream,
     findings: &[Finding<'_>],
 ) -> Result<TimedStream, JobError>
     requires { IsCarried make_dts (map finding_view findings.now) stream }
-    ensures value { Answers (spec.moved_by (map finding_view findings.now) earliest firsts.now stream) result }
+    ensures value { Answers (spec.moved_by (map finding_view findings.now) earliest programs.now firsts.now stream)
+        result }
     ensures moved { IfOk result (IsMoved make_dts (map finding_view findings.now)) }
 {
-    let base = base_of(alloc, earliest, stream.program, firsts)?;
+    let clock = clock_in(programs, stream.program);
+    let base = base_of(alloc, earliest, clock, firsts)?;
     moved_stream(alloc, make_dts, base, stream, findings)
 }
 
@@ -194,57 +207,64 @@ fn each_moved(
     alloc: Global,
     make_dts: bool,
     earliest: u64,
+    programs: &[JobProgram],
     firsts: &[FirstDts],
     streams: Vec<WireStream>,
     findings: &[Finding<'_>],
 ) -> Result<Vec<TimedStream>, JobError>
     requires { All (IsCarried make_dts (map finding_view findings.now)) streams.items }
-    ensures streams { IfOk result (λ moved. each (spec.moved_by (map finding_view findings.now) earliest firsts.now)
-        streams.items ≡ Ok moved.items) }
-    ensures refused { IfErr result (Refuses (each (spec.moved_by (map finding_view findings.now) earliest firsts.now)
-        streams.items)) }
+    ensures streams { IfOk result (λ moved. each (spec.moved_by (map finding_view findings.now) earliest programs.now
+        firsts.now) streams.items ≡ Ok moved.items) }
+    ensures refused { IfErr result (Refuses (each (spec.moved_by (map finding_view findings.now) earliest programs.now
+        firsts.now) streams.items)) }
     ensures moved { IfOk result (λ moved. All (IsMoved make_dts (map finding_view findings.now)) moved.items) }
 {
     let mut moved = Vec::new(alloc);
     for stream in streams {
-        let next = moved_by(alloc, make_dts, earliest, firsts, stream, findings)?;
+        let next = moved_by(
+            alloc, make_dts, earliest, programs, firsts, stream, findings,
+        )?;
         moved.push(next)?;
     }
     Ok(moved)
 }
 
-/// What the clock of the first stream's program shows at moment 0, if the first of its units is due at `earliest`.
+/// What the clock of the first stream shows at moment 0, if the first unit that counts by it is due at `earliest`.
 #[tactic(auto, unfolding(crate::specs::Moments::first_base, crate::specs::Moments::base_of_first))]
 pub(crate) fn first_base(
     alloc: Global,
     earliest: u64,
+    programs: &[JobProgram],
     streams: &[WireStream],
 ) -> Result<u64, AllocError>
-    ensures { IfOk result (λ base. base ≡ spec.first_base earliest streams.now) }
+    ensures { IfOk result (λ base. base ≡ spec.first_base earliest programs.now streams.now) }
 {
-    let firsts = firsts_of(alloc, streams)?;
+    let firsts = firsts_of(alloc, programs, streams)?;
     match firsts.first() {
-        Some(first) => base_of(alloc, earliest, first.program, &firsts),
+        Some(first) => base_of(alloc, earliest, first.clock, &firsts),
         None => Ok(0),
     }
 }
 
-/// The streams with their units at moments, by which the first unit of each program is due at `earliest`.
+/// The streams with their units at moments, by which the first unit of each clock is due at `earliest`.
 #[tactic(auto, unfolding(crate::specs::Moments::moved_streams, crate::specs::Answers::Refuses))]
 pub(crate) fn moved_streams(
     alloc: Global,
     make_dts: bool,
     earliest: u64,
+    programs: &[JobProgram],
     streams: Vec<WireStream>,
     findings: &[Finding<'_>],
 ) -> Result<Vec<TimedStream>, JobError>
     requires { All (IsCarried make_dts (map finding_view findings.now)) streams.items }
-    ensures streams { IfOk result (λ moved. spec.moved_streams (map finding_view findings.now) earliest streams.items
-        ≡ Ok moved.items) }
-    ensures refused { IfErr result (Refuses (spec.moved_streams (map finding_view findings.now) earliest
+    ensures streams { IfOk result (λ moved. spec.moved_streams (map finding_view findings.now) earliest programs.now
+        streams.items ≡ Ok moved.items) }
+    ensures refused { IfErr result (Refuses (spec.moved_streams (map finding_view findings.now) earliest programs.now
         streams.items)) }
     ensures moved { IfOk result (λ moved. All (IsMoved make_dts (map finding_view findings.now)) moved.items) }
 {
-    let firsts = firsts_of(alloc, &streams)?;
-    each_moved(alloc, make_dts, earliest, &firsts, streams, findings)
+    let firsts = firsts_of(alloc, programs, &streams)?;
+    each_moved(
+        alloc, make_dts, earliest, programs, &firsts, streams, findings,
+    )
 }

@@ -6,7 +6,7 @@ use demux::Finding;
 use pes_packet::Unit;
 use std::alloc::Global;
 use stream_jobs::{Job, JobError, JobOptions, JobRefusal, describe, job_input, make_job, units};
-use streams::{audio, input, usual};
+use streams::{audio, input, two_programs, usual};
 
 // Units of 24 ms.
 static UNITS: [(u8, u64, usize); 3] = [(192, 3_600, 100), (192, 5_760, 100), (192, 7_920, 100)];
@@ -141,5 +141,57 @@ fn one_stream(rt: HostRuntime) {
         Ok(found) => are_jobs(rt.alloc(), &found),
         Err(_) => false,
     };
+    assert!(rt; is_well);
+}
+
+// The PIDs of the clock references of two programs, the first DTS of each on the wire, and when it is due.
+struct ClockRow {
+    references: [u16; 2],
+    first: [u64; 2],
+    moments: [u64; 2],
+}
+
+// Two programs on one clock, which keep their distance; on two; and without clock references.
+static CLOCK_ROWS: [ClockRow; 3] = [
+    ClockRow {
+        references: [256, 256],
+        first: [95_400, 90_000],
+        moments: [185_400, 180_000],
+    },
+    ClockRow {
+        references: [256, 257],
+        first: [95_400, 90_000],
+        moments: [180_000, 180_000],
+    },
+    ClockRow {
+        references: [8_191, 8_191],
+        first: [95_400, 90_000],
+        moments: [180_000, 180_000],
+    },
+];
+
+// Whether each unit is due at the moment of its stream.
+fn are_due(moments: [u64; 2], units: &[(u8, Unit)]) -> bool {
+    units.len() == 2
+        && units
+            .iter()
+            .all(|(stream, unit)| unit.dts == moments[*stream as usize % 2])
+}
+
+fn is_clock_row(alloc: Global, row: &ClockRow) -> Result<bool, JobError> {
+    let found = two_programs(alloc, row.references, row.first)?;
+    let input = job_input(alloc, &usual(), 5, &found)?;
+    match units(alloc, input) {
+        Ok(units) => Ok(are_due(row.moments, &units)),
+        Err(error) => Err(error),
+    }
+}
+
+#[test]
+fn programs_on_one_clock(rt: HostRuntime) {
+    let mut is_well = true;
+    for row in &CLOCK_ROWS {
+        is_well &= is_clock_row(rt.alloc(), row) == Ok(true);
+    }
     assert!(rt; is_well);
 }

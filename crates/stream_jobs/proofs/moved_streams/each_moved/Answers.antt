@@ -15,7 +15,7 @@ loop-stream-init c =
     let same : c.into_iter-stream-iterator.result.rest.items ≡ c.args.streams.items = search rules in
     let carried = subst (All (IsCarried c.args.make_dts fs)) (sym same) c.requires in
     let none = subst (All (IsMoved c.args.make_dts fs)) (sym c.new-moved.ensures.items) (All-nil (IsMoved c.args.make_dts fs)) in
-    let start = each_start (moved_by fs c.args.earliest c.args.firsts.now) c.args.streams.items c.into_iter-stream-iterator.result.rest.items c.new-moved.result.items same c.new-moved.ensures.items in
+    let start = each_start (moved_by fs c.args.earliest c.args.programs.now c.args.firsts.now) c.args.streams.items c.into_iter-stream-iterator.result.rest.items c.new-moved.result.items same c.new-moved.ensures.items in
     (tt, tt, carried, none, start)
 
 pub loop-stream-preserved : goal.loop-stream-preserved
@@ -25,7 +25,7 @@ loop-stream-preserved c =
     let carried : All (IsCarried c.args.make_dts fs) (c.in-Some.stream ∷ c.next.new.self.rest.items) = rw c.in-Some.ensures.steps.0 at c.loop-stream.invariant.2 in
     let rest = all_tail (IsCarried c.args.make_dts fs) c.in-Some.stream c.next.new.self.rest.items carried in
     let moved = all_more (IsMoved c.args.make_dts fs) c.loop-stream.moved.items c.in_ok-next.next c.loop-stream.invariant.3 c.in_ok-next.ensures.moved in
-    let on = each_step (moved_by fs c.args.earliest c.args.firsts.now) c.args.streams.items c.loop-stream.stream-iterator.rest.items c.next.new.self.rest.items c.in-Some.stream
+    let on = each_step (moved_by fs c.args.earliest c.args.programs.now c.args.firsts.now) c.args.streams.items c.loop-stream.stream-iterator.rest.items c.next.new.self.rest.items c.in-Some.stream
     c.loop-stream.moved.items c.push.new.self.items c.in_ok-next.next c.loop-stream.invariant.4 c.in-Some.ensures.steps.0 c.in_ok-next.ensures.value c.in_ok-push.ensures.items in
     (tt, tt, rest, rw c.in_ok-push.ensures.items moved, on)
 
@@ -33,7 +33,7 @@ pub returns-in_err-next-clause-refused : goal.returns-in_err-next-clause-refused
 unfolding Answers
 returns-in_err-next-clause-refused c =
     let fs = map finding_view c.args.findings.now in
-    let refused = each_refused (moved_by fs c.args.earliest c.args.firsts.now) c.args.streams.items c.loop-stream.stream-iterator.rest.items c.next.new.self.rest.items c.in-Some.stream
+    let refused = each_refused (moved_by fs c.args.earliest c.args.programs.now c.args.firsts.now) c.args.streams.items c.loop-stream.stream-iterator.rest.items c.next.new.self.rest.items c.in-Some.stream
     c.loop-stream.moved.items c.in_err-next.field-0.0 c.loop-stream.invariant.4 c.in-Some.ensures.steps.0 c.in_err-next.ensures.value in
     let p = err_from_is_err_and c.from_residual.result c.from_residual.ensures.1 in
     rw (p.1, p.2) refused
@@ -41,5 +41,5 @@ returns-in_err-next-clause-refused c =
 pub returns-clause-streams : goal.returns-clause-streams
 returns-clause-streams c =
     let none : length c.loop-stream.stream-iterator.rest.items ≡ 0 = search (rules, arith) in
-    each_done (moved_by (map finding_view c.args.findings.now) c.args.earliest c.args.firsts.now) c.args.streams.items c.loop-stream.stream-iterator.rest.items c.loop-stream.moved.items
+    each_done (moved_by (map finding_view c.args.findings.now) c.args.earliest c.args.programs.now c.args.firsts.now) c.args.streams.items c.loop-stream.stream-iterator.rest.items c.loop-stream.moved.items
     c.loop-stream.invariant.4 none

@@ -12,5 +12,5 @@ invariant-loop-stream l =
     (goal.iterator-loop-stream).is_finite l.stream-iterator ×
     All (IsCarried l.make_dts (map finding_view l.findings)) l.stream-iterator.rest.items ×
     All (IsMoved l.make_dts (map finding_view l.findings)) l.moved.items ×
-    (each (moved_by (map finding_view l.findings) l.earliest l.firsts) l.fn.streams.items
-    ≡ after l.moved.items (each (moved_by (map finding_view l.findings) l.earliest l.firsts) l.stream-iterator.rest.items))
+    (each (moved_by (map finding_view l.findings) l.earliest l.programs l.firsts) l.fn.streams.items
+    ≡ after l.moved.items (each (moved_by (map finding_view l.findings) l.earliest l.programs l.firsts) l.stream-iterator.rest.items))

@@ -91,6 +91,34 @@ pub fn audio(alloc: Global, units: &[(u8, u64, usize)]) -> Result<Found, AllocEr
     Ok(found)
 }
 
+// Programs 1 and 2 with their maps on PIDs 4096 and 4097.
+static TWO_PROGRAMS: [u8; 16] = [0, 0xb0, 17, 0, 1, 0xc1, 0, 0, 0, 1, 0xf0, 0, 0, 2, 0xf0, 1];
+
+// The map of a program with MPEG audio on a PID below 8192, and its clock references on another.
+fn map(number: u8, references: u16, pid: u16) -> [u8; 17] {
+    let [high, low] = (references | 0xe000).to_be_bytes();
+    let [place, rest] = (pid | 0xe000).to_be_bytes();
+    [
+        2, 0xb0, 18, 0, number, 0xc1, 0, 0, high, low, 0xf0, 0, 3, place, rest, 0xf0, 0,
+    ]
+}
+
+/// Two programs, whose maps name these PIDs for clock references, with MPEG audio on PIDs 256 and 257, and a unit of
+/// each with a PTS.
+pub fn two_programs(
+    alloc: Global,
+    references: [u16; 2],
+    first: [u64; 2],
+) -> Result<Found, AllocError> {
+    let mut found: Found = Vec::new(alloc);
+    add_section(alloc, 0, &TWO_PROGRAMS, &mut found)?;
+    add_section(alloc, 4_096, &map(1, references[0], 256), &mut found)?;
+    add_section(alloc, 4_097, &map(2, references[1], 257), &mut found)?;
+    add_unit(alloc, 256, 192, first[0], 100, &mut found)?;
+    add_unit(alloc, 257, 192, first[1], 100, &mut found)?;
+    Ok(found)
+}
+
 /// The input of a job of a stream.
 pub fn input(alloc: Global, options: &JobOptions<'_>, found: &[Finding<'_>]) -> Option<JobInput> {
     job_input(alloc, options, found.len() as u64, found).ok()

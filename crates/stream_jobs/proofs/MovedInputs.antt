@@ -1,0 +1,89 @@
+-- The streams on the wire of which those of a job are made.
+use Rattle.std.proofs.Common.{◌≡◌, ◌∙◌, ◌==◌, ℕ, List, length, Some, None, Ok, All, sym, ap, subst, if◌then◌else◌}
+use Rattle.std.specs.Prelude.{ok_or}
+use Rattle.demux.specs.Views.{FindingView}
+use Rattle.stream_programs.specs.Association.{association}
+use Rattle.stream_programs.specs.PidAssignment.{assigned_pids}
+use Rattle.stream_programs.specs.Programs.{programs_of}
+use Rattle.stream_choice.specs.declared.choice.Choice.{Choice}
+use Rattle.stream_jobs.specs.declared.warning.Warning.{Warning}
+use Rattle.stream_jobs.specs.declared.refusal.JobRefusal.TheVariants as refusals
+use Rattle.stream_jobs.specs.Answers.{and_then, unless}
+use Rattle.stream_jobs.specs.ClockBases.{base0_of}
+use Rattle.stream_jobs.specs.Declarations.{UnitCountsView, too_many, too_long, all_unit_counts, choices}
+use Rattle.stream_jobs.specs.JobInput.{JobInputView, job_input, with_association, with_programs, with_pids, with_streams, with_moved, with_unit_counts, job_warnings, named_of, nothing_carried}
+use Rattle.stream_jobs.specs.JobOptions.{JobOptionsView}
+use Rattle.stream_jobs.specs.JobPrograms.{JobProgramView, job_programs}
+use Rattle.stream_jobs.specs.Jobs.{IsCarried}
+use Rattle.stream_jobs.specs.JobStreams.{TimedStreamView, WireStreamView}
+use Rattle.stream_jobs.specs.Moments.{earliest, first_base, moved_streams}
+use Rattle.stream_jobs.specs.Packets.{no_packets}
+use Rattle.stream_jobs.specs.WireStreams.{selected, wire_streams}
+use Rattle.stream_jobs.proofs.CarriedStreams.{all_carried}
+use Rattle.stream_jobs.proofs.Steps.{granted, comes, same_value}
+
+-- what is counted of streams changes neither them, nor the programs, nor the clock
+record Made (base : ℕ) (programs : List JobProgramView) (streams : List TimedStreamView) (input : JobInputView) : Type 0 where
+  base0_is : input.base0 ≡ base
+  programs_are : input.programs ≡ programs
+  streams_are : input.streams ≡ streams
+
+made : (options : JobOptionsView) (id base : ℕ) (programs : List JobProgramView) (warnings : List Warning) (streams : List TimedStreamView) (input : JobInputView) →
+    with_moved options id base programs warnings streams ≡ Ok input → Made base programs streams input
+unfolding with_moved with_unit_counts
+made options id base programs warnings streams input is =
+    let finish = λ (all : List UnitCountsView) (chosen : List Choice). (let i : JobInputView = record {
+      transport_stream_id = id;
+      base0 = base;
+      programs = programs;
+      streams = streams;
+      unit_counts = all;
+      choices = chosen;
+      warnings = warnings;
+    } in i) in
+    let counted = granted (too_long streams) (with_unit_counts options finish streams) input
+    (granted (too_many (length programs) (length streams)) (unless (too_long streams) (with_unit_counts options finish streams)) input is) in
+    let all = comes (λ all. and_then (λ chosen. Ok (finish all chosen)) (choices options.declare_by options.lead streams all)) (all_unit_counts options.buffers streams) input counted in
+    let chosen = comes (λ chosen. Ok (finish all.value chosen)) (choices options.declare_by options.lead streams all.value) input all.last_is in
+    let same : finish all.value chosen.value ≡ input = same_value (finish all.value chosen.value) input chosen.last_is in
+    record {
+      base0_is = sym (ap (λ (i : JobInputView). i.base0) same);
+      programs_are = sym (ap (λ (i : JobInputView). i.programs) same);
+      streams_are = sym (ap (λ (i : JobInputView). i.streams) same);
+    }
+
+-- streams on the wire, with the units that are found of their PIDs; they are moved, and the clock is that of the first
+pub record Moved (options : JobOptionsView) (findings : List FindingView) (input : JobInputView) : Type 0 where
+  pub streams : List WireStreamView
+  pub carried : All (IsCarried options.make_dts findings) streams
+  pub moved : moved_streams findings (earliest input.programs streams) input.programs streams ≡ Ok input.streams
+  pub base0_is : input.base0 ≡ base0_of options.base (first_base (earliest input.programs streams) input.programs streams)
+
+pub moved_of : (options : JobOptionsView) (count : ℕ) (findings : List FindingView) (input : JobInputView) → job_input options count findings ≡ Ok input → Moved options findings input
+unfolding job_input with_association with_programs with_pids with_streams
+moved_of options count findings input is =
+    let associated = comes (with_association options count findings) (ok_or (association findings) refusals.NoAssociation) input
+    (granted (no_packets count findings) (and_then (with_association options count findings) (ok_or (association findings) refusals.NoAssociation)) input is) in
+    let a = associated.value in
+    let found = programs_of (named_of options a) findings in
+    let assigned = comes (with_pids options count findings a (named_of options a) found) (ok_or (assigned_pids found) refusals.Pids) input
+    (granted (if length found.programs == 0 then Some refusals.NoProgram else None)
+    (and_then (with_pids options count findings a (named_of options a) found) (ok_or (assigned_pids found) refusals.Pids)) input associated.last_is) in
+    let on_wire = comes (λ streams. with_streams options findings a.transport_stream_id (job_programs streams found.programs assigned.value)
+    (job_warnings options count findings a (named_of options a) found assigned.value streams) streams)
+    (wire_streams options.make_dts options.without findings found.streams) input assigned.last_is in
+    let streams = on_wire.value in
+    let programs = job_programs streams found.programs assigned.value in
+    let warnings = job_warnings options count findings a (named_of options a) found assigned.value streams in
+    let base = base0_of options.base (first_base (earliest programs streams) programs streams) in
+    let timed = comes (with_moved options a.transport_stream_id base programs warnings) (moved_streams findings (earliest programs streams) programs streams) input
+    (granted (nothing_carried warnings streams) (and_then (with_moved options a.transport_stream_id base programs warnings) (moved_streams findings (earliest programs streams) programs streams))
+    input on_wire.last_is) in
+    let done = made options a.transport_stream_id base programs warnings timed.value input timed.last_is in
+    record {
+      streams = streams;
+      carried = all_carried options.make_dts findings (selected options.without found.streams) streams on_wire.first_is;
+      moved = ap (λ (ps : List JobProgramView). moved_streams findings (earliest ps streams) ps streams) done.programs_are
+          ∙ subst (λ (ts : List TimedStreamView). moved_streams findings (earliest programs streams) programs streams ≡ Ok ts) (sym done.streams_are) timed.first_is;
+      base0_is = done.base0_is ∙ ap (λ (ps : List JobProgramView). base0_of options.base (first_base (earliest ps streams) ps streams)) (sym done.programs_are);
+    }

@@ -1,0 +1,40 @@
+//! By which clock the time stamps of a program count.
+
+ghost use Rattle.std.specs.Prelude.{◌≡◌};
+ghost use Rattle.stream_jobs.specs.ProgramClocks as spec;
+
+/// PCR_PID of a program without clock references.
+const NO_REFERENCES: u16 = 0x1fff;
+
+/// The clock of a program.
+#[derive(Clone, Copy)]
+pub(crate) enum ProgramClock {
+    /// That of the clock references on this PID.
+    References(u16),
+    /// One of its own: the program of this number has no clock references.
+    Own(u16),
+}
+
+/// That of a program whose map names this PID for its clock references.
+#[tactic(auto, unfolding(crate::specs::ProgramClocks::clock_by))]
+pub(crate) fn clock_by(number: u16, pcr_pid: u16) -> ProgramClock
+    ensures { result ≡ spec.clock_by number pcr_pid }
+{
+    if pcr_pid == NO_REFERENCES {
+        ProgramClock::Own(number)
+    } else {
+        ProgramClock::References(pcr_pid)
+    }
+}
+
+/// Whether two are one.
+#[tactic(auto, unfolding(crate::specs::ProgramClocks::is_same_clock))]
+pub(crate) fn is_same_clock(one: ProgramClock, other: ProgramClock) -> bool
+    ensures { result ≡ spec.is_same_clock one other }
+{
+    match (one, other) {
+        (ProgramClock::References(one), ProgramClock::References(other)) => one == other,
+        (ProgramClock::Own(one), ProgramClock::Own(other)) => one == other,
+        _ => false,
+    }
+}
