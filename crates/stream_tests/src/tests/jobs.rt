@@ -170,17 +170,20 @@ static CLOCK_ROWS: [ClockRow; 3] = [
     },
 ];
 
-// Whether each unit is due at the moment of its stream.
+// Whether there are four units, each due at the moment of its stream or 24 ms later.
 fn are_due(moments: [u64; 2], units: &[(u8, Unit)]) -> bool {
-    units.len() == 2
-        && units
-            .iter()
-            .all(|(stream, unit)| unit.dts == moments[*stream as usize % 2])
+    units.len() == 4
+        && units.iter().all(|(stream, unit)| {
+            matches!(
+                unit.dts.checked_sub(moments[*stream as usize % 2]),
+                Some(0 | 2_160)
+            )
+        })
 }
 
 fn is_clock_row(alloc: Global, row: &ClockRow) -> Result<bool, JobError> {
     let found = two_programs(alloc, row.references, row.first)?;
-    let input = job_input(alloc, &usual(), 5, &found)?;
+    let input = job_input(alloc, &usual(), found.len() as u64, &found)?;
     match units(alloc, input) {
         Ok(units) => Ok(are_due(row.moments, &units)),
         Err(error) => Err(error),

@@ -103,8 +103,8 @@ fn map(number: u8, references: u16, pid: u16) -> [u8; 17] {
     ]
 }
 
-/// Two programs, whose maps name these PIDs for clock references, with MPEG audio on PIDs 256 and 257, and a unit of
-/// each with a PTS.
+/// Two programs, whose maps name these PIDs for clock references, with MPEG audio on PIDs 256 and 257, and two units of
+/// each, 24 ms apart.
 pub fn two_programs(
     alloc: Global,
     references: [u16; 2],
@@ -114,8 +114,10 @@ pub fn two_programs(
     add_section(alloc, 0, &TWO_PROGRAMS, &mut found)?;
     add_section(alloc, 4_096, &map(1, references[0], 256), &mut found)?;
     add_section(alloc, 4_097, &map(2, references[1], 257), &mut found)?;
-    add_unit(alloc, 256, 192, first[0], 100, &mut found)?;
-    add_unit(alloc, 257, 192, first[1], 100, &mut found)?;
+    for later in [0, 2_160] {
+        add_unit(alloc, 256, 192, first[0] + later, 100, &mut found)?;
+        add_unit(alloc, 257, 192, first[1] + later, 100, &mut found)?;
+    }
     Ok(found)
 }
 
