@@ -25,3 +25,5 @@ pub mod ProgramClocks
 pub mod MuxedMain
 pub mod UnitsInTime
 pub mod MuxedLate
+pub mod FirstTables
+pub mod AfterTables

@@ -2,7 +2,7 @@
 ghost use Rattle.viewed_streams.specs.MainExcesses.{NoMainExcessLaw};
 ghost use Rattle.viewed_streams.specs.MeasuredStreams.{MeasuredStreamLaw};
 ghost use Rattle.viewed_streams.specs.MuxedStreams.{JobNoExcessLaw, MuxedStreamLaw};
-ghost use Rattle.viewed_streams.specs.ViewedRuns.{JobLateLaw, JobMainLaw, RunLateLaw, RunMainLaw};
+ghost use Rattle.viewed_streams.specs.ViewedRuns.{JobFirstLaw, JobLateLaw, JobLateUnitsLaw, JobMainLaw, RunFirstLaw, RunLateLaw, RunLateUnitsLaw, RunMainLaw};
 ghost use Rattle.viewed_streams.specs.WholeStreams.{LastLinesLaw, WholeStreamLaw};
 
 /// At a constant rate the last lines of a stream are about all packets of its PID, from the one with which its buffers begin: the line
@@ -35,6 +35,15 @@ pub fn muxed_streams()
 pub fn muxed_main_buffers()
     ensures run { RunMainLaw }
     ensures jobs { JobMainLaw }
+{}
+
+/// The buffers of a stream of which no unit is due before 2 s after the begin do so: PAT and PMT come before its packets (ISO/IEC
+/// 13818-1, 2.4.4), so the view knows of it by then. So of such a stream no excess is told, whatever else is viewed.
+pub fn muxed_after_tables()
+    ensures first { RunFirstLaw }
+    ensures jobs_first { JobFirstLaw }
+    ensures run { RunLateUnitsLaw }
+    ensures jobs { JobLateUnitsLaw }
 {}
 
 /// And no unit is late in a view of it.
