@@ -27,3 +27,5 @@ pub mod UnitsInTime
 pub mod MuxedLate
 pub mod FirstTables
 pub mod AfterTables
+pub mod WindowLows
+pub mod HeldWindows

@@ -5,3 +5,5 @@ pub mod MeasuredStreams
 pub mod MuxedStreams
 pub mod MainExcesses
 pub mod ViewedRuns
+pub mod WindowLows
+pub mod HeldWindows

@@ -1,9 +1,11 @@
 //! Laws of the report on a stream. Each function does nothing: its contract is the law, over the definitions of `specs/`.
+ghost use Rattle.viewed_streams.specs.HeldWindows.{HeldWindowLaw};
 ghost use Rattle.viewed_streams.specs.MainExcesses.{NoMainExcessLaw};
 ghost use Rattle.viewed_streams.specs.MeasuredStreams.{MeasuredStreamLaw};
 ghost use Rattle.viewed_streams.specs.MuxedStreams.{JobNoExcessLaw, MuxedStreamLaw};
 ghost use Rattle.viewed_streams.specs.ViewedRuns.{JobFirstLaw, JobLateLaw, JobLateUnitsLaw, JobMainLaw, RunFirstLaw, RunLateLaw, RunLateUnitsLaw, RunMainLaw};
 ghost use Rattle.viewed_streams.specs.WholeStreams.{LastLinesLaw, WholeStreamLaw};
+ghost use Rattle.viewed_streams.specs.WindowLows.{WholeWindowLaw, WindowLeastLaw, WindowLowLaw, WindowWithoutLaw};
 
 /// At a constant rate the last lines of a stream are about all packets of its PID, from the one with which its buffers begin: the line
 /// `transport` has the greatest number of bytes in the transport buffer over all moments (ISO/IEC 13818-1, 2.4.2.3) and the number of all
@@ -16,6 +18,17 @@ pub fn whole_streams()
 /// No excess of a main buffer is told where its line says no more than its size.
 pub fn main_excesses()
     ensures { NoMainExcessLaw }
+{}
+
+/// The least that a line `held` says of a main buffer is that which the bytes of its window's packets find in it, and this is the least
+/// fullness of the buffer while they come. So it is of a whole window in which a packet carries payload, and so a report counts it of a
+/// stream whose buffers began before the window; of one in which none does, the line says 0.
+pub fn window_lows()
+    ensures counted { WindowLeastLaw }
+    ensures low { WindowLowLaw }
+    ensures whole { WholeWindowLaw }
+    ensures without { WindowWithoutLaw }
+    ensures report { HeldWindowLaw }
 {}
 
 /// The greatest number of bytes in a transport buffer is no more than what `tstd::measure` finds of the same bytes, and the same
