@@ -95,14 +95,14 @@ map_size m =
     let whole : List ℕ = front ++ pmt_body m in
     omega (arith, length-append whole (check_word_bytes (check_word whole)), length-append front (pmt_body m), length-append start (long_header_bytes m.header))
 
-map_bytes : (d : Described) (t i j moment : ℕ) (p : DescribedProgram) → table_kind d t ≡ Some (Pmt i) → slice_get d.programs i ≡ Some p →
+pub map_bytes : (d : Described) (t i j moment : ℕ) (p : DescribedProgram) → table_kind d t ≡ Some (Pmt i) → slice_get d.programs i ≡ Some p →
     table_bytes d t j moment ≡ section_bytes (pmt_section (pmt_says d p))
 map_bytes d t i j moment p kind is =
     let by_kind : table_bytes d t j moment ≡ kind_bytes d (Pmt i) j moment = rw kind refl in
     let by_program : kind_bytes d (Pmt i) j moment ≡ section_bytes (pmt_section (pmt_says d p)) = rw (is, kind_bytes) refl in
     by_kind ∙ by_program
 
-map_fits : (d : Described) (t i : ℕ) (p : DescribedProgram) → IsInRange d → t < table_count d → table_kind d t ≡ Some (Pmt i) → slice_get d.programs i ≡ Some p → PmtFits (pmt_says d p)
+pub map_fits : (d : Described) (t i : ℕ) (p : DescribedProgram) → IsInRange d → t < table_count d → table_kind d t ≡ Some (Pmt i) → slice_get d.programs i ≡ Some p → PmtFits (pmt_says d p)
 map_fits d t i p r lt kind is =
     let program = at_place IsProgram d.programs i p r.programs is in
     let short = at_place (λ (x : DescribedProgram). pmt_length d x ≤ longest_section) d.programs i p r.pmt_lengths is in

@@ -79,7 +79,7 @@ entry_count : (o : Option DescribedNetwork) (programs : List Program) →
 entry_count None programs = omega arith
 entry_count (Some n) programs = omega arith
 
-pat_fits : (d : Described) → IsInRange d → PatFits (pat_says d)
+pub pat_fits : (d : Described) → IsInRange d → PatFits (pat_says d)
 pat_fits d r = record {
   header = record { table_id_extension = omega (arith, r.transport_stream_id); version_number = omega arith; section_number = omega arith; last_section_number = omega arith };
   programs = entries_fit d.network (map pat_entry d.programs) (programs_fit d.programs r.programs);

@@ -20,7 +20,7 @@ none_begins (b ∷ bs) rest zero j p lt is = absurd (let no : ⊥ = cc in no)
 none_begins (b ∷ bs) rest (suc m) zero p lt is = let same : record { start = false; bytes = b } ≡ p = cc in sym (ap (λ (q : Piece). q.start) same)
 none_begins (b ∷ bs) rest (suc m) (suc j) p lt is = none_begins bs rest m j p (omega (arith, lt)) is
 
-first_ends : (c : List (List ℕ)) (rest : List Piece) (m j : ℕ) (p : Piece) → slice_get (take m (marked true c ++ rest)) (suc j) ≡ Some p → p.start ≡ true → length c ≤ suc j
+pub first_ends : (c : List (List ℕ)) (rest : List Piece) (m j : ℕ) (p : Piece) → slice_get (take m (marked true c ++ rest)) (suc j) ≡ Some p → p.start ≡ true → length c ≤ suc j
 unfolding marked
 first_ends [] rest m j p is start = omega arith
 first_ends (b ∷ bs) rest zero j p is start = absurd (let no : ⊥ = cc in no)

@@ -9,6 +9,7 @@ use Rattle.std.proofs.lemmas.List.{length-append}
 use Rattle.std.proofs.lemmas.List.Concat.{flat_map-cons}
 use Rattle.std.proofs.lemmas.List.Elements.{All-head, All-tail}
 use Rattle.std.proofs.lemmas.Option.{slice_get-map}
+use Rattle.plan_timing.specs.Promised.{Promised}
 use Rattle.own_slots.specs.Slots.{own_before}
 use Rattle.own_slots.specs.Rounds.{starts}
 use Rattle.pes_packet.specs.AccessUnits.{AccessUnit}
@@ -120,7 +121,7 @@ sender l (u ∷ us) j p is =
     record { unit = found.0; is = ap (λ (xs : List AccessUnit). slice_get xs j) senders ∙ found.1; late = found.2 }
 
 -- so its slot begins a second after the run's begin or later
-late_slot : (d : Scheduled) (k : ℕ) (s : DescribedStream) (units : List AccessUnit) (n j : ℕ) (bytes : List ℕ) (e : Entry) → IsInRange d.description →
+pub late_slot : (d : Scheduled) (k : ℕ) (s : DescribedStream) (units : List AccessUnit) (n j : ℕ) (bytes : List ℕ) (e : Entry) → IsInRange d.description →
     slice_get d.description.streams k ≡ Some s → StreamKept d k s units n bytes → DueLate units → slice_get (pid_list s.pid bytes) j ≡ Some e →
     1000 * d.description.rate ≤ e.index * 1504000
 late_slot d k s units n j bytes e r there kept late is =
@@ -157,20 +158,27 @@ fewer own i none two = elim (cases_lt two.two i) [
       absurd (none (sym (ap own same) ∙ two.two_own))
 ]
 
-pub tables_first : TablesFirstLaw
-tables_first d units n k j s e r promised kept there late is =
-    let fits = contents_fit d units r kept in
+-- so each table that recurs within half a second begins twice before a packet of a stream whose units are due late
+pub begun_twice : (d : Scheduled) (units : ℕ → List AccessUnit) (n k j : ℕ) (s : DescribedStream) (e : Entry) → IsInRange d.description → Promised d.description d.schedule → UnitsKept d units →
+    slice_get d.description.streams k ≡ Some s → DueLate (units k) → slice_get (pid_list s.pid (run_bytes (content_at d units) 0 n)) j ≡ Some e →
+    (t : ℕ) → t < table_count d.description → table_limit d.description t ≡ 500 → TwoStarts (section_starts d.description d.schedule t 0) e.index
+begun_twice d units n k j s e r promised kept there late is t lt limit =
     let h = headline d units n r promised kept in
-    let slot = in_slot s.pid (content_at d units) 0 n j e (sym (ap (λ (es : List Entry). slice_get es j) (run_pid_list s.pid n (content_at d units) fits)) ∙ is) in
+    let slot = in_slot s.pid (content_at d units) 0 n j e (sym (ap (λ (es : List Entry). slice_get es j) (run_pid_list s.pid n (content_at d units) (contents_fit d units r kept))) ∙ is) in
     let long = late_slot d k s (units k) n j (run_bytes (content_at d units) 0 n) e r there (h.streams k s there) late is in
     let pid = stream_pid d k s there in
     let here : slot_of d.schedule e.index ≡ Stream k =
     slots_apart d.description (slot_of d.schedule e.index) (Stream k) s.pid r (names d units e.index s.pid (slots_below d.description (Stream k) s.pid r pid) slot.of) pid in
     let more = headline d units (suc e.index) r promised kept in
-    subst (IsFollowed d.description) (sym (prefix (content_at d units) 0 e.index n fits (omega (arith, slot.within))))
-    (followed_by d units e.index (run_bytes (content_at d units) 0 e.index) r (headline d units e.index r promised kept)
-    (λ t lt limit.
     fewer (section_starts d.description d.schedule t 0) e.index
     (λ y. is_table t (slot_of d.schedule e.index) (own_of (owned d.schedule (TableItem t)) (round_packets d.description t) (first_packet d.description t 0) e.index y) k here)
     (two_starts (section_starts d.description d.schedule t 0) d.description.rate (table_limit d.description t) (suc e.index) (omega (arith, long)) limit
-    ((more.tables t lt).sections_recur 0 (sections_law d.description t r lt).0))))
+    ((more.tables t lt).sections_recur 0 (sections_law d.description t r lt).0))
+
+pub tables_first : TablesFirstLaw
+tables_first d units n k j s e r promised kept there late is =
+    let fits = contents_fit d units r kept in
+    let slot = in_slot s.pid (content_at d units) 0 n j e (sym (ap (λ (es : List Entry). slice_get es j) (run_pid_list s.pid n (content_at d units) fits)) ∙ is) in
+    subst (IsFollowed d.description) (sym (prefix (content_at d units) 0 e.index n fits (omega (arith, slot.within))))
+    (followed_by d units e.index (run_bytes (content_at d units) 0 e.index) r (headline d units e.index r promised kept)
+    (begun_twice d units n k j s e r promised kept there late is))

@@ -4,8 +4,9 @@ use Rattle.std.specs.List.{concat, flat_map}
 use Rattle.std.specs.Simd.{first_chunks}
 use Rattle.std.proofs.lemmas.Bool.{cases_Bool}
 use Rattle.std.proofs.lemmas.List.Elements.{All-nil, All-cons}
+use Rattle.std.proofs.lemmas.List.Concat.{flat_map-cons}
 use Rattle.std.proofs.lemmas.List.Folds.{flat_map-map}
-use Rattle.std.proofs.lemmas.Option.{slice_get-map}
+use Rattle.std.proofs.lemmas.Option.{slice_get-map, slice_get_within}
 use Rattle.clock27.specs.Recurrence.{Recur}
 use Rattle.own_slots.specs.Slots.{own_slots}
 use Rattle.own_slots.specs.Rounds.{starts}
@@ -29,7 +30,7 @@ use Rattle.mux_core.specs.Headline.{TableKept}
 use Rattle.mux_core.specs.Decoder.{pieces_on, put_together}
 use Rattle.mux_core.proofs.PutTogether.{IsSome, all_marked}
 use Rattle.round_trip_run.proofs.DistinguishableSections.{rounds_all}
-use Rattle.round_trip_run.proofs.PutSections.{first_whole, chunks_count, fill_after, section_joined}
+use Rattle.round_trip_run.proofs.PutSections.{first_ends, first_whole, chunks_count, fill_after, section_joined}
 use Rattle.round_trip_run.proofs.RunFindings.{has_places, has_room}
 
 -- ---- two slots in which it begins
@@ -142,6 +143,24 @@ whole_of ps m j p (x ∷ xs) cut is start = record {
       ∙ ap Some (joined_section x);
 }
 
+-- and all its packets have come
+pub record FirstSent (sections : List (List ℕ)) (packets : ℕ) : Type 0 where
+  pub section : List ℕ
+  pub first : slice_get sections 0 ≡ Some section
+  pub sent : section_packets section ≤ packets
+
+sent_of : (ps : List Piece) (m j : ℕ) (p : Piece) (sections : List (List ℕ)) → ps ≡ take m (all_marked (map chunks_of sections)) → slice_get ps (suc j) ≡ Some p → p.start ≡ true →
+    FirstSent sections (length ps)
+unfolding chunks_of
+sent_of ps m j p [] cut is start = absurd (none_taken m (suc j) p (subst (λ (x : List Piece). slice_get x (suc j) ≡ Some p) cut is))
+sent_of ps m j p (x ∷ xs) cut is start =
+    let front : all_marked (chunks_of x ∷ map chunks_of xs) ≡ marked true (chunks_of x) ++ all_marked (map chunks_of xs) = flat_map-cons (marked true) (chunks_of x) (map chunks_of xs) in
+    let there : slice_get (take m (marked true (chunks_of x) ++ all_marked (map chunks_of xs))) (suc j) ≡ Some p =
+    subst (λ (q : List Piece). slice_get (take m q) (suc j) ≡ Some p) front (subst (λ (q : List Piece). slice_get q (suc j) ≡ Some p) cut is) in
+    let ends = first_ends (chunks_of x) (all_marked (map chunks_of xs)) m j p there start in
+    let count : length (chunks_of x) ≡ section_packets x = chunks_count (section_packets x) (filled_section x) in
+    record { section = x; first = refl; sent = omega (arith, ends, count, slice_get_within ps (suc j) p is) }
+
 -- ---- of a table
 
 table_cut : (d : Scheduled) (t slots : ℕ) (bytes : List ℕ) → IsInRange d.description → t < table_count d.description → TableKept d t slots bytes →
@@ -151,6 +170,27 @@ table_cut d t slots bytes r lt kept =
     sym (piece_lists (pid_list (table_pid d.description t) bytes)) ∙ ap (map piece_in) kept.sections.payloads
     ∙ rounds_are_sections table slots (has_places d t r lt) (has_room d t r)
     ∙ ap (take (length (table_payloads table slots))) (all_sections (sections_of_rounds table slots))
+
+-- something begins after its first payload
+record BeginsAgain (ps : List Piece) : Type 0 where
+  before : ℕ
+  piece : Piece
+  is : slice_get ps (suc before) ≡ Some piece
+  start : piece.start ≡ true
+
+table_again : (d : Scheduled) (t slots : ℕ) (bytes : List ℕ) → 0 < section_count d.description t → TableKept d t slots bytes → TwoStarts (section_starts d.description d.schedule t 0) slots →
+    BeginsAgain (pieces_on (table_pid d.description t) bytes)
+table_again d t slots bytes some kept two =
+    let es : List Entry = pid_list (table_pid d.description t) bytes in
+    let a = kept.begins 0 two.one some (omega (arith, two.apart, two.within)) two.one_own in
+    let b = kept.begins 0 two.two some two.within two.two_own in
+    let l = later_of es a.number b.number a.entry b.entry a.listed b.listed (omega (arith, a.slot, b.slot, two.apart)) a.start b.start in
+    record {
+      before = l.before;
+      piece = piece_in (payload_at l.entry);
+      is = slice_get-map (λ (e : Entry). piece_in (payload_at e)) es (suc l.before) ∙ ap (λ (o : Option Entry). option_map (λ (e : Entry). piece_in (payload_at e)) o) l.listed;
+      start = l.start;
+    }
 
 -- what is put together first is one of its sections, with pointer_field 0 before it and stuffing after it
 pub record Told (P : List ℕ → Type 0) (pid : ℕ) (bytes : List ℕ) : Type 0 where
@@ -163,13 +203,16 @@ pub table_told : (P : List ℕ → Type 0) (d : Scheduled) (t slots : ℕ) (byte
     ((j moment : ℕ) → j < length (section_lengths d.description t) → P (table_bytes d.description t j moment)) → Told P (table_pid d.description t) bytes
 table_told P d t slots bytes r lt some kept two each =
     let table : Table = table_of d t in
-    let es : List Entry = pid_list (table_pid d.description t) bytes in
-    let a = kept.begins 0 two.one some (omega (arith, two.apart, two.within)) two.one_own in
-    let b = kept.begins 0 two.two some two.within two.two_own in
-    let l = later_of es a.number b.number a.entry b.entry a.listed b.listed (omega (arith, a.slot, b.slot, two.apart)) a.start b.start in
-    let piece : slice_get (pieces_on (table_pid d.description t) bytes) (suc l.before) ≡ Some (piece_in (payload_at l.entry)) =
-    slice_get-map (λ (e : Entry). piece_in (payload_at e)) es (suc l.before) ∙ ap (λ (o : Option Entry). option_map (λ (e : Entry). piece_in (payload_at e)) o) l.listed in
-    let w = whole_of (pieces_on (table_pid d.description t) bytes) (length (table_payloads table slots)) l.before (piece_in (payload_at l.entry)) (sections_of_rounds table slots)
-    (table_cut d t slots bytes r lt kept) piece l.start in
+    let l = table_again d t slots bytes some kept two in
+    let w = whole_of (pieces_on (table_pid d.description t) bytes) (length (table_payloads table slots)) l.before l.piece (sections_of_rounds table slots)
+    (table_cut d t slots bytes r lt kept) l.is l.start in
     let all : All P (sections_of_rounds (table_of d t) slots) = rounds_all P table (own_slots (starts table.own (round_places table.lengths) 0) 0 slots) each in
     record { section = w.section; is = at_place P (sections_of_rounds table slots) 0 w.section all w.first; whole = w.whole }
+
+pub table_sent : (d : Scheduled) (t slots : ℕ) (bytes : List ℕ) → IsInRange d.description → t < table_count d.description → 0 < section_count d.description t →
+    TableKept d t slots bytes → TwoStarts (section_starts d.description d.schedule t 0) slots →
+    FirstSent (sections_of_rounds (table_of d t) slots) (length (pieces_on (table_pid d.description t) bytes))
+table_sent d t slots bytes r lt some kept two =
+    let l = table_again d t slots bytes some kept two in
+    sent_of (pieces_on (table_pid d.description t) bytes) (length (table_payloads (table_of d t) slots)) l.before l.piece (sections_of_rounds (table_of d t) slots)
+    (table_cut d t slots bytes r lt kept) l.is l.start

@@ -25,3 +25,9 @@ pub mod ProgramClocks
 pub mod MuxedMain
 pub mod UnitsInTime
 pub mod MuxedLate
+pub mod FirstTables
+pub mod AfterTables
+pub mod WindowLows
+pub mod HeldWindows
+pub mod AsMeasured
+pub mod ClockComes

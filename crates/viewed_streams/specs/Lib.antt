@@ -5,3 +5,6 @@ pub mod MeasuredStreams
 pub mod MuxedStreams
 pub mod MainExcesses
 pub mod ViewedRuns
+pub mod WindowLows
+pub mod HeldWindows
+pub mod AsMeasured

@@ -15,6 +15,7 @@ use Rattle.mux_core.specs.Scheduled.{Scheduled}
 use Rattle.mux_core.specs.Headline.{UnitsKept}
 use Rattle.mux_core.specs.Histories.{content_at}
 use Rattle.mux_core.specs.WholeJobs.{capacity_for, first_refused, job_history, output_of}
+use Rattle.round_trip_run.specs.TablesFirst.{DueLate}
 use Rattle.stream_arrival.specs.declared.arrival.Arrival.TheVariants.{AtRate}
 use Rattle.stream_buffers.specs.Held.{empty, main_most}
 use Rattle.stream_report.specs.Choices.{RequestView}
@@ -59,6 +60,29 @@ JobMainLaw = (d : Scheduled) (units : List (ℕ × AccessUnit)) (slots : ℕ) (r
     first_refused d (capacity_for units) [] units ≡ None → slots ≤ most_packets → (viewed : IsViewedAs d request k e) →
     (whole : IsWhole request d.description.rate (cut_packets (output_of false d (job_history units slots))) e) →
     FromTheFirst e.pid whole.before → NoMainExcess d request (units_of k units) (output_of false d (job_history units slots)) viewed.stream e whole
+
+-- they begin so where PAT and PMT have come before: no unit of the stream is due before 2 seconds after the run's begin
+abbrev pub RunFirstLaw : Type 0
+RunFirstLaw = (d : Scheduled) (units : ℕ → List AccessUnit) (slots : ℕ) (request : RequestView) (e : EntryState) (k : ℕ) → IsInRange d.description → Promised d.description d.schedule →
+    UnitsKept d units → slots ≤ most_packets → IsViewedAs d request k e → (whole : IsWhole request d.description.rate (cut_packets (run_bytes (content_at d units) 0 slots)) e) →
+    DueLate (units k) → FromTheFirst e.pid whole.before
+
+abbrev pub JobFirstLaw : Type 0
+JobFirstLaw = (d : Scheduled) (units : List (ℕ × AccessUnit)) (slots : ℕ) (request : RequestView) (e : EntryState) (k : ℕ) → IsInRange d.description → Promised d.description d.schedule →
+    first_refused d (capacity_for units) [] units ≡ None → slots ≤ most_packets → IsViewedAs d request k e →
+    (whole : IsWhole request d.description.rate (cut_packets (output_of false d (job_history units slots))) e) → DueLate (units_of k units) → FromTheFirst e.pid whole.before
+
+-- so of these streams no excess is told either
+abbrev pub RunLateUnitsLaw : Type 0
+RunLateUnitsLaw = (d : Scheduled) (units : ℕ → List AccessUnit) (slots : ℕ) (request : RequestView) (e : EntryState) (k : ℕ) → IsInRange d.description → Promised d.description d.schedule →
+    UnitsKept d units → slots ≤ most_packets → (viewed : IsViewedAs d request k e) → (whole : IsWhole request d.description.rate (cut_packets (run_bytes (content_at d units) 0 slots)) e) →
+    DueLate (units k) → NoMainExcess d request (units k) (run_bytes (content_at d units) 0 slots) viewed.stream e whole
+
+abbrev pub JobLateUnitsLaw : Type 0
+JobLateUnitsLaw = (d : Scheduled) (units : List (ℕ × AccessUnit)) (slots : ℕ) (request : RequestView) (e : EntryState) (k : ℕ) → IsInRange d.description → Promised d.description d.schedule →
+    first_refused d (capacity_for units) [] units ≡ None → slots ≤ most_packets → (viewed : IsViewedAs d request k e) →
+    (whole : IsWhole request d.description.rate (cut_packets (output_of false d (job_history units slots))) e) →
+    DueLate (units_of k units) → NoMainExcess d request (units_of k units) (output_of false d (job_history units slots)) viewed.stream e whole
 
 -- no unit of a stream is late: of all of them, those that end with its packets and the last one, none, and so the line `main` says
 pub record NoLateUnit (rate : ℕ) (e : EntryState) : Type 0 where

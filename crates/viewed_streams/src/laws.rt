@@ -1,9 +1,12 @@
 //! Laws of the report on a stream. Each function does nothing: its contract is the law, over the definitions of `specs/`.
+ghost use Rattle.viewed_streams.specs.AsMeasured.{JobAsMeasuredLaw, JobLateAsMeasuredLaw, RunAsMeasuredLaw, RunLateAsMeasuredLaw};
+ghost use Rattle.viewed_streams.specs.HeldWindows.{HeldWindowLaw};
 ghost use Rattle.viewed_streams.specs.MainExcesses.{NoMainExcessLaw};
 ghost use Rattle.viewed_streams.specs.MeasuredStreams.{MeasuredStreamLaw};
 ghost use Rattle.viewed_streams.specs.MuxedStreams.{JobNoExcessLaw, MuxedStreamLaw};
-ghost use Rattle.viewed_streams.specs.ViewedRuns.{JobLateLaw, JobMainLaw, RunLateLaw, RunMainLaw};
+ghost use Rattle.viewed_streams.specs.ViewedRuns.{JobFirstLaw, JobLateLaw, JobLateUnitsLaw, JobMainLaw, RunFirstLaw, RunLateLaw, RunLateUnitsLaw, RunMainLaw};
 ghost use Rattle.viewed_streams.specs.WholeStreams.{LastLinesLaw, WholeStreamLaw};
+ghost use Rattle.viewed_streams.specs.WindowLows.{WholeWindowLaw, WindowLeastLaw, WindowLowLaw, WindowWithoutLaw};
 
 /// At a constant rate the last lines of a stream are about all packets of its PID, from the one with which its buffers begin: the line
 /// `transport` has the greatest number of bytes in the transport buffer over all moments (ISO/IEC 13818-1, 2.4.2.3) and the number of all
@@ -16,6 +19,17 @@ pub fn whole_streams()
 /// No excess of a main buffer is told where its line says no more than its size.
 pub fn main_excesses()
     ensures { NoMainExcessLaw }
+{}
+
+/// The least that a line `held` says of a main buffer is that which the bytes of its window's packets find in it, and this is the least
+/// fullness of the buffer while they come. So it is of a whole window in which a packet carries payload, and so a report counts it of a
+/// stream whose buffers began before the window; of one in which none does, the line says 0.
+pub fn window_lows()
+    ensures counted { WindowLeastLaw }
+    ensures low { WindowLowLaw }
+    ensures whole { WholeWindowLaw }
+    ensures without { WindowWithoutLaw }
+    ensures report { HeldWindowLaw }
 {}
 
 /// The greatest number of bytes in a transport buffer is no more than what `tstd::measure` finds of the same bytes, and the same
@@ -37,8 +51,27 @@ pub fn muxed_main_buffers()
     ensures jobs { JobMainLaw }
 {}
 
+/// The buffers of a stream of which no unit is due before 2 s after the begin do so: PAT and PMT come before its packets (ISO/IEC
+/// 13818-1, 2.4.4), so the view knows of it by then. So of such a stream no excess is told, whatever else is viewed.
+pub fn muxed_after_tables()
+    ensures first { RunFirstLaw }
+    ensures jobs_first { JobFirstLaw }
+    ensures run { RunLateUnitsLaw }
+    ensures jobs { JobLateUnitsLaw }
+{}
+
 /// And no unit is late in a view of it.
 pub fn muxed_units()
     ensures run { RunLateLaw }
     ensures jobs { JobLateLaw }
+{}
+
+/// Of a stream whose buffers begin with the first packet of its PID, after a clock reference, the greatest numbers of bytes in both
+/// buffers are those that `tstd::measure` finds of the same bytes. So it is where no unit is due before 2 s after the begin, as long
+/// as the view looks for clock references on the PID of a program's.
+pub fn muxed_as_measured()
+    ensures run { RunAsMeasuredLaw }
+    ensures jobs { JobAsMeasuredLaw }
+    ensures late_run { RunLateAsMeasuredLaw }
+    ensures late_jobs { JobLateAsMeasuredLaw }
 {}
