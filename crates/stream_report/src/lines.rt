@@ -2,7 +2,7 @@
 ghost use Rattle.std.specs.Prelude.{◌≡◌, ◌++◌, OnOk, map, flat_map, string_bytes};
 ghost use Rattle.stream_report.specs.ReportLines as spec;
 
-use std::alloc::AllocError;
+use std::alloc::{AllocError, Global};
 use std::fmt::Write;
 
 /// The value of a field.
@@ -57,7 +57,8 @@ fn write_value(text: &mut String, json: bool, value: FieldValue) -> Result<(), A
     }
 }
 
-fn write_name(text: &mut String, json: bool, name: &str) -> Result<(), AllocError>
+/// Appends the name of a field.
+pub(crate) fn write_name(text: &mut String, json: bool, name: &str) -> Result<(), AllocError>
     ensures { OnOk result (string_bytes text.new ≡ string_bytes text.old ++ spec.name_text json name.now) }
 {
     if json {
@@ -67,14 +68,16 @@ fn write_name(text: &mut String, json: bool, name: &str) -> Result<(), AllocErro
     }
 }
 
-fn write_field(text: &mut String, json: bool, field: &Field) -> Result<(), AllocError>
+/// Appends a field.
+pub(crate) fn write_field(text: &mut String, json: bool, field: &Field) -> Result<(), AllocError>
     ensures { OnOk result (string_bytes text.new ≡ string_bytes text.old ++ spec.field_text json (spec.field_view field.now)) }
 {
     write_name(text, json, field.name)?;
     write_value(text, json, field.value)
 }
 
-fn write_fields(text: &mut String, json: bool, fields: &[Field]) -> Result<(), AllocError>
+/// Appends fields.
+pub(crate) fn write_fields(text: &mut String, json: bool, fields: &[Field]) -> Result<(), AllocError>
     ensures { OnOk result (string_bytes text.new
         ≡ string_bytes text.old ++ flat_map (spec.field_text json) (map spec.field_view fields.now)) }
 {
@@ -84,7 +87,8 @@ fn write_fields(text: &mut String, json: bool, fields: &[Field]) -> Result<(), A
     Ok(())
 }
 
-fn write_first(text: &mut String, json: bool, word: &str) -> Result<(), AllocError>
+/// Appends how a line of a word begins.
+pub(crate) fn write_first(text: &mut String, json: bool, word: &str) -> Result<(), AllocError>
     ensures { OnOk result (string_bytes text.new ≡ string_bytes text.old ++ spec.first_text json word.now) }
 {
     if json {
@@ -93,6 +97,42 @@ fn write_first(text: &mut String, json: bool, word: &str) -> Result<(), AllocErr
     } else {
         text.push_str(word)
     }
+}
+
+/// Appends how a line ends.
+pub(crate) fn write_last(text: &mut String, json: bool) -> Result<(), AllocError>
+    ensures { OnOk result (string_bytes text.new ≡ string_bytes text.old ++ spec.last_text json) }
+{
+    if json {
+        text.push_str("}\n")
+    } else {
+        text.push_str("\n")
+    }
+}
+
+fn write_escaped(text: &mut String, character: char) -> Result<(), AllocError>
+    ensures { OnOk result (string_bytes text.new ≡ string_bytes text.old ++ spec.escaped character) }
+{
+    if character == '"' || character == '\\' {
+        text.push_str("\\")?;
+    }
+    text.push(character)
+}
+
+/// Appends a text between quotation marks.
+pub(crate) fn write_quoted(
+    alloc: Global,
+    text: &mut String,
+    quoted: &str,
+) -> Result<(), AllocError>
+    ensures { OnOk result (string_bytes text.new ≡ string_bytes text.old ++ spec.quoted quoted.now) }
+{
+    let characters: Vec<char> = quoted.chars().collect(alloc)?;
+    text.push_str("\"")?;
+    for character in &characters {
+        write_escaped(text, *character)?;
+    }
+    text.push_str("\"")
 }
 
 /// Appends a line.
@@ -107,9 +147,5 @@ pub(crate) fn write_line(
 {
     write_first(text, json, word)?;
     write_fields(text, json, fields)?;
-    if json {
-        text.push_str("}\n")
-    } else {
-        text.push_str("\n")
-    }
+    write_last(text, json)
 }
