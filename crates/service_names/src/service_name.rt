@@ -74,11 +74,7 @@ impl ServiceName {
     }
 
     /// What is found later counts in place of that.
-    pub(crate) fn take(
-        &mut self,
-        alloc: Global,
-        findings: &[Finding<'_>],
-    ) -> Result<(), AllocError>
+    pub(crate) fn take(&mut self, alloc: Global, findings: &[Finding<'_>]) -> Result<(), AllocError>
         ensures { OnOk result (self.new ≡ spec.with_later (map finding_view findings.now) self.old) }
     {
         if let Some(name) = name_in(alloc, findings, self.program)? {

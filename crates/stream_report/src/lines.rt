@@ -1,5 +1,6 @@
 //! The lines of a report.
-ghost use Rattle.std.specs.Prelude.{◌≡◌, ◌++◌, OnOk, map, flat_map, string_bytes};
+ghost use Rattle.std.specs.Prelude.{◌≡◌, ◌++◌, IfOk, OnOk, map, flat_map, string_bytes};
+ghost use Rattle.std.specs.Str.{chars};
 ghost use Rattle.stream_report.specs.ReportLines as spec;
 
 use std::alloc::{AllocError, Global};
@@ -77,7 +78,11 @@ pub(crate) fn write_field(text: &mut String, json: bool, field: &Field) -> Resul
 }
 
 /// Appends fields.
-pub(crate) fn write_fields(text: &mut String, json: bool, fields: &[Field]) -> Result<(), AllocError>
+pub(crate) fn write_fields(
+    text: &mut String,
+    json: bool,
+    fields: &[Field],
+) -> Result<(), AllocError>
     ensures { OnOk result (string_bytes text.new
         ≡ string_bytes text.old ++ flat_map (spec.field_text json) (map spec.field_view fields.now)) }
 {
@@ -119,19 +124,28 @@ fn write_escaped(text: &mut String, character: char) -> Result<(), AllocError>
     text.push(character)
 }
 
-/// Appends a text between quotation marks.
-pub(crate) fn write_quoted(
-    alloc: Global,
-    text: &mut String,
-    quoted: &str,
-) -> Result<(), AllocError>
-    ensures { OnOk result (string_bytes text.new ≡ string_bytes text.old ++ spec.quoted quoted.now) }
+fn write_each_escaped(text: &mut String, characters: &[char]) -> Result<(), AllocError>
+    ensures { OnOk result (string_bytes text.new ≡ string_bytes text.old ++ flat_map spec.escaped characters.now) }
 {
-    let characters: Vec<char> = quoted.chars().collect(alloc)?;
-    text.push_str("\"")?;
-    for character in &characters {
+    for character in characters {
         write_escaped(text, *character)?;
     }
+    Ok(())
+}
+
+fn characters_of(alloc: Global, text: &str) -> Result<Vec<char>, AllocError>
+    ensures { IfOk result (λ cs. cs.items ≡ chars text.now) }
+{
+    text.chars().collect(alloc)
+}
+
+/// Appends a text between quotation marks.
+pub(crate) fn write_quoted(alloc: Global, text: &mut String, quoted: &str) -> Result<(), AllocError>
+    ensures { OnOk result (string_bytes text.new ≡ string_bytes text.old ++ spec.quoted quoted.now) }
+{
+    let characters = characters_of(alloc, quoted)?;
+    text.push_str("\"")?;
+    write_each_escaped(text, &characters)?;
     text.push_str("\"")
 }
 

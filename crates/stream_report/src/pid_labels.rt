@@ -79,10 +79,7 @@ fn in_programs(pid: u16, found: Option<&FoundPrograms>) -> PidLabel
 {
     match found {
         None => by_program(None, None),
-        Some(found) => by_program(
-            of_map(pid, &found.programs),
-            of_clock(pid, &found.programs),
-        ),
+        Some(found) => by_program(of_map(pid, &found.programs), of_clock(pid, &found.programs)),
     }
 }
 

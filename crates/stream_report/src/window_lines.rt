@@ -6,7 +6,8 @@ ghost use Rattle.stream_report.specs.WindowLines as spec;
 
 use crate::clocks::first_byte;
 use crate::lines::{
-    number, word, write_field, write_fields, write_first, write_last, write_line, write_name, write_quoted,
+    number, word, write_field, write_fields, write_first, write_last, write_line, write_name,
+    write_quoted,
 };
 use crate::pid_labels::{PidLabel, label_of};
 use crate::view_options::ViewOptions;
