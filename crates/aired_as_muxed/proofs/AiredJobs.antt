@@ -1,6 +1,7 @@
 -- A run over a job that `mux` takes.
 use Rattle.std.proofs.Common.{◌≡◌, ◌≤◌, ◌+◌, ◌-◌, ◌*◌, ◌/◌, ◌^◌, ℕ, min, Bool, true, false, List, [], ◌∷◌, ◌++◌, length, Option, Some, None, Ok, Err, refl, sym, ap, ap₂, ◌∙◌, subst, arith, inl, inr, append_assoc}
-use Rattle.std.specs.Prelude.{if◌then◌else◌, is_some, nat_lt, unwrap_or}
+use Rattle.std.specs.Prelude.{if◌then◌else◌, is_some, nat_lt, not, unwrap_or}
+use Rattle.std.proofs.lemmas.List.Elements.{filter-append}
 use Rattle.std.proofs.lemmas.Bool.{false≢true, lt-ltb}
 use Rattle.std.specs.Io.KnownBytes.{Consumes}
 use Rattle.pes_packet.specs.AccessUnits.{AccessUnit}
@@ -9,7 +10,7 @@ use Rattle.unit_records.specs.declared.reading.UnitFileError.{UnitFileError}
 use Rattle.unit_records.specs.declared.reading.UnitFileError.TheVariants.{Cut, Size, Device as AtReader, Memory}
 use Rattle.carry.specs.RecordRuns.{after_records}
 use Rattle.mux_core.specs.Scheduled.{Scheduled}
-use Rattle.mux_core.specs.WholeJobs.{capacity_for, cause_after, first_refused, job_history, or_cause, output_of}
+use Rattle.mux_core.specs.WholeJobs.{capacity_for, first_refused, job_history, or_cause, output_of}
 use Rattle.mux_core.specs.declared.multiplexing.MuxError.{MuxError}
 use Rattle.description.specs.Described.{Described}
 use Rattle.slot_plan.specs.Planned.{Planned}
@@ -22,9 +23,9 @@ use Rattle.checked_jobs.proofs.LongerJobs.{job_kept}
 use Rattle.on_air.specs.declared.answers.Ending.{Ending}
 use Rattle.on_air.specs.declared.answers.Ending.TheVariants.{Input, Unread, Slots, Records}
 use Rattle.on_air.specs.declared.refusals.AirRefusal.{AirRefusal}
-use Rattle.on_air.specs.Airing.{Air, Run, air_output, ended, heard, last_at, last_by, last_of, lead_of, needed_room, slots_or}
-use Rattle.on_air.specs.Laws.{ComeInOrder, greatest_of, records_of}
-use Rattle.on_air.proofs.AsMultiplexed.{aired_as_multiplexed, both_none, no_cause}
+use Rattle.on_air.specs.Airing.{Air, Run, air_output, is_tick, ended, heard, last_at, last_by, last_of, lead_of, needed_room, slots_or}
+use Rattle.on_air.specs.Laws.{ComeInOrder, greatest_of, records_of, without_ticks}
+use Rattle.on_air.proofs.AsMultiplexed.{aired_as_multiplexed, first_taken}
 use Rattle.on_air.proofs.InOrder.{aired_in_order}
 use Rattle.tsmux_cli.specs.UnitList.{Units, units_in}
 use Rattle.tsmux_cli.specs.declared.request.MuxOptions.{MuxOptions}
@@ -38,7 +39,7 @@ use Rattle.tsair_cli.specs.declared.front.FrontError.{FrontError}
 use Rattle.tsair_cli.specs.declared.front.FrontError.TheVariants.{Fault, Stopped}
 use Rattle.tsair_cli.specs.declared.front.FrontFault.TheVariants.{Job, Unended}
 use Rattle.devices.specs.declared.halt.Halt.TheVariants as halt
-use Rattle.aired_as_muxed.specs.AiredAsMuxed.{AirsWhatMuxWrites, AskTheSame, RefusesNone, TakesJob}
+use Rattle.aired_as_muxed.specs.AiredAsMuxed.{AirsWhatMuxWrites, AskTheSame, RefusesNone, TakesJob, units_alone}
 use Rattle.aired_as_muxed.proofs.WholeJobs.{all_records, first_records}
 
 -- ---- the bytes after the plans
@@ -232,14 +233,6 @@ has_room o job j is le =
     subst (λ d. needed_room (lead_of (run_of o job)) d.streams ≤ 1048576) same le in
     omega (arith, within)
 
-first_taken : (d : Scheduled) (other : ℕ) (fed units more : List (ℕ × AccessUnit)) → first_refused d other fed (units ++ more) ≡ None → first_refused d other fed units ≡ None
-unfolding first_refused
-first_taken d other fed [] more e = refl
-first_taken d other fed (entry ∷ units) more e =
-    let one = no_cause (cause_after d other fed entry) (length fed) (first_refused d other (fed ++ (entry ∷ [])) (units ++ more)) e in
-    both_none (cause_after d other fed entry) (length fed) (first_refused d other (fed ++ (entry ∷ [])) units) one.0
-    (first_taken d other (fed ++ (entry ∷ [])) units more one.1)
-
 first_in_order : (run : Run) (units more : List (ℕ × AccessUnit)) → ComeInOrder run (units ++ more) → ComeInOrder run units
 first_in_order run units more order before after entry is =
     order before (after ++ more) entry (ap (λ (l : List (ℕ × AccessUnit)). l ++ more) is ∙ append_assoc before (entry ∷ after) more)
@@ -249,12 +242,16 @@ refuses_none m o bytes j input output faults status same takes known air order e
     let l = left_of input.before.bytes air.left.bytes bytes air.begins.front known air.begins.read in
     let of = is_of m o bytes j input.before air.left air.job air.begins same.periods takes.job l in
     let n = e.airs.heard_is.count in
+    let d = (run_of o air.job).scheduled in
+    let other = capacity_for (without_ticks j.units) in
     let first = first_records l.rest j.units e.airs.heard_is.count of.units in
-    let none = none_of_job m o air.job j same of.is takes.taken in
-    let none_here = first_taken (run_of o air.job).scheduled (capacity_for j.units) [] (records_of e.airs.heard_is.count l.rest) first.0
-    (ap (λ us. first_refused (run_of o air.job).scheduled (capacity_for j.units) [] us) (sym first.1) ∙ none) in
+    let records = records_of e.airs.heard_is.count l.rest in
+    let none = none_of_job m o air.job (units_alone j) same (ap units_alone of.is) takes.taken in
+    let split : without_ticks j.units ≡ without_ticks (records_of e.airs.heard_is.count l.rest) ++ without_ticks first.0 =
+    ap without_ticks first.1 ∙ filter-append (λ entry. not (is_tick entry)) (records_of e.airs.heard_is.count l.rest) first.0 in
+    let none_here = first_taken d other [] (without_ticks records) (without_ticks first.0) (ap (λ us. first_refused d other [] us) (sym split) ∙ none) in
     let comes = first_in_order (run_of o air.job) (records_of e.airs.heard_is.count l.rest) first.0 (subst (ComeInOrder (run_of o air.job)) first.1 order.in_order) in
-    let taken = aired_in_order (run_of o air.job) (capacity_for j.units) e.airs.heard_is.count l.rest (record {
+    let taken = aired_in_order (run_of o air.job) (capacity_for (without_ticks j.units)) e.airs.heard_is.count l.rest (record {
       promises = air.promises;
       room = has_room o air.job j of.is order.room;
       accepted = none_here;

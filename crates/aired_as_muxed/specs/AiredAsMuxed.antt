@@ -2,7 +2,7 @@
 use Rattle.std.specs.Prelude.{◌≡◌, ◌≤◌, ℕ, false, List, Some, None, Ok, is_some}
 use Rattle.devices.specs.Devices.{Device, Takes, between}
 use Rattle.on_air.specs.Airing.{Run, lead_of, needed_room}
-use Rattle.on_air.specs.Laws.{ComeInOrder}
+use Rattle.on_air.specs.Laws.{ComeInOrder, without_ticks}
 use Rattle.tsmux_cli.specs.declared.request.MuxOptions.{MuxOptions}
 use Rattle.tsmux_cli.specs.MuxJobs.{MuxJobView, mux_job_of}
 use Rattle.tsmux_cli.specs.Multiplexing.{cause_of, packets_of}
@@ -26,13 +26,23 @@ abbrev pub AirsWhatMuxWrites : Type 0
 AirsWhatMuxWrites = (m : MuxOptions) (o : AirOptions) (bytes : List ℕ) (j : MuxJobView) (input output faults : Device) → AskTheSame m o → TakesJob m bytes j →
     input.before.bytes ≡ Some bytes → AirsJob o input output faults 0 → Takes output (packets_of m j)
 
--- the records of a job come in order, and there may be room for all that wait: 1,048,576 of each stream
+-- without the ticks that stand among its records
+abbrev pub units_alone : MuxJobView → MuxJobView
+units_alone j = record j { units = without_ticks j.units }
+
+-- these bytes are a job, with ticks among its records or none; `mux` takes it without them
+pub record TakesUnits (m : MuxOptions) (bytes : List ℕ) (j : MuxJobView) : Type 0 where
+  pub job : mux_job_of (is_some m.periods) bytes ≡ Ok j
+  pub taken : cause_of m (units_alone j) ≡ None
+
+-- the records of a job come in order: each unit is due no earlier than the run waits before each unit and each tick that came before it, and
+-- no record is further ahead than it allows. And there may be room for all that wait: 1,048,576 of each stream
 pub record AreInOrder (run : Run) (j : MuxJobView) : Type 0 where
   pub in_order : ComeInOrder run j.units
   pub room : needed_room (lead_of run) j.description.streams ≤ 1048576
 
--- a run over such a job that came to its end refused no record
+-- a run over such a job that came to its end refused no record, neither a unit nor a tick
 abbrev pub RefusesNone : Type 0
-RefusesNone = (m : MuxOptions) (o : AirOptions) (bytes : List ℕ) (j : MuxJobView) (input output faults : Device) (status : ℕ) → AskTheSame m o → TakesJob m bytes j →
+RefusesNone = (m : MuxOptions) (o : AirOptions) (bytes : List ℕ) (j : MuxJobView) (input output faults : Device) (status : ℕ) → AskTheSame m o → TakesUnits m bytes j →
     input.before.bytes ≡ Some bytes → (air : GoesOnAir o input output faults status) → AreInOrder (run_of o air.job) j →
     (ends : EndsRun o (run_of o air.job) (between air.left input.after) output faults status) → ends.end.has_refused ≡ false

@@ -8,7 +8,8 @@ pub fn same_output()
 {}
 
 /// Where the records of such a job come in order of their DTS, or out of order by no more than the run waits, and no
-/// further ahead than it allows, `tsair` refuses none: no unit is late, and there is room for each.
+/// further ahead than it allows, `tsair` refuses none: no unit is late, and there is room for each. Ticks may stand among
+/// them, each counted as a unit of its DTS for those that come after it.
 pub fn none_refused()
     ensures { RefusesNone }
 {}

@@ -1,5 +1,5 @@
 -- Units none of which is refused are aired as a whole job of them is multiplexed.
-use Rattle.std.proofs.Common.{◌≡◌, ℕ, zero, suc, ◌+◌, ◌-◌, ◌*◌, ◌<◌, ◌≤◌, ◌==◌, ◌&&◌, min, max, Bool, true, false, List, [], ◌∷◌, ◌++◌, length, Option, Some, None, Result, Ok, Err, refl, sym, ap, ◌∙◌, arith, inl, inr, append_assoc, append-nil}
+use Rattle.std.proofs.Common.{◌≡◌, ℕ, zero, suc, ◌-◌, ◌*◌, ◌≤◌, ◌==◌, ◌&&◌, min, max, Bool, true, false, List, [], ◌∷◌, ◌++◌, length, Option, Some, None, Result, Ok, Err, refl, sym, ap, ◌∙◌, arith, inl, inr, append_assoc, append-nil}
 use Rattle.std.specs.Prelude.{slice_get}
 use Rattle.std.proofs.Math.Nat.{mul-le-mul_right}
 use Rattle.std.proofs.lemmas.Bool.{ne_eqb, cases_lt}
@@ -34,7 +34,7 @@ release_rises rate a due b other le =
     let wide : (due - a) * rate ≤ (other - b) * rate = mul-le-mul_right rate le in
     omega (arith, wide)
 
-release_zero : (rate lead : ℕ) → release rate lead 0 ≡ 0
+pub release_zero : (rate lead : ℕ) → release rate lead 0 ≡ 0
 release_zero rate lead =
     let rises : release rate lead 0 ≤ release rate 0 0 = release_rises rate lead 0 0 0 (omega arith) in
     let none : release rate 0 0 ≡ 0 = omega arith in
@@ -64,6 +64,14 @@ last_taken d other fed (first ∷ units) entry none =
       ap (λ (l : List (ℕ × AccessUnit)). cause_after d other l entry) (sym (append_assoc fed (first ∷ []) units)) ∙ rest.1,
     )
 
+pub first_taken : (d : Scheduled) (other : ℕ) (fed units more : List (ℕ × AccessUnit)) → first_refused d other fed (units ++ more) ≡ None → first_refused d other fed units ≡ None
+unfolding first_refused
+first_taken d other fed [] more none = refl
+first_taken d other fed (entry ∷ units) more none =
+    let one = no_cause (cause_after d other fed entry) (length fed) (first_refused d other (fed ++ (entry ∷ [])) (units ++ more)) none in
+    both_none (cause_after d other fed entry) (length fed) (first_refused d other (fed ++ (entry ∷ [])) units) one.0
+    (first_taken d other (fed ++ (entry ∷ [])) units more one.1)
+
 -- the stream of a unit that is accepted
 pub record StreamOf (d : Scheduled) (other : ℕ) (units : List (ℕ × AccessUnit)) (entry : ℕ × AccessUnit) (o : Option DescribedStream) : Type 0 where
   pub stream : DescribedStream
@@ -87,7 +95,7 @@ no_tick entry some = ap (λ (b : Bool). (entry.0 == 255) && b) (ne_eqb (length e
 
 -- ---- the greatest DTS so far
 
-more_settled : (run : Run) (g due : ℕ) → on_to (settled_at run g) (settled_at run due) ≡ settled_at run (max g due)
+pub more_settled : (run : Run) (g due : ℕ) → on_to (settled_at run g) (settled_at run due) ≡ settled_at run (max g due)
 more_settled run g due = elim (cases_lt g due) [
   | inl lt ↦
       let rises = release_rises run.scheduled.description.rate (lead_of run) g (lead_of run) due (omega (arith, lt)) in
@@ -99,7 +107,7 @@ more_settled run g due = elim (cases_lt g due) [
       rw same (omega (arith, rises))
 ]
 
-greatest_more : (units : List (ℕ × AccessUnit)) (entry : ℕ × AccessUnit) → greatest_of (units ++ (entry ∷ [])) ≡ max (greatest_of units) entry.1.dts
+pub greatest_more : (units : List (ℕ × AccessUnit)) (entry : ℕ × AccessUnit) → greatest_of (units ++ (entry ∷ [])) ≡ max (greatest_of units) entry.1.dts
 greatest_more units entry = fold-append (λ greatest e. max greatest e.1.dts) 0 units (entry ∷ [])
 
 -- ---- units of which none was refused

@@ -1,12 +1,11 @@
--- Units in order are all accepted.
-use Rattle.std.proofs.Common.{◌≡◌, ℕ, zero, suc, ◌+◌, ◌-◌, ◌*◌, ◌<◌, ◌≤◌, ◌==◌, ◌&&◌, min, max, Bool, true, false, List, [], ◌∷◌, ◌++◌, length, map, Option, Some, None, Result, Ok, Err, refl, sym, ap, ◌∙◌, subst, arith, All, inl, inr, append_assoc, append-nil}
-use Rattle.std.specs.Prelude.{slice_get, fold}
+-- Units in order are all accepted, with ticks among them.
+use Rattle.std.proofs.Common.{◌≡◌, ℕ, zero, suc, ◌+◌, ◌-◌, ◌*◌, ◌<◌, ◌≤◌, ◌==◌, min, max, Bool, true, false, List, [], ◌∷◌, ◌++◌, length, map, Option, Some, None, Result, Ok, Err, refl, sym, ap, ◌∙◌, subst, arith, All, inl, inr, append_assoc, append-nil}
+use Rattle.std.specs.Prelude.{slice_get, fold, not}
 use Rattle.std.proofs.Math.Nat.{mul-le-mul_right, mul-le-mul_left}
 use Rattle.std.specs.Int.{div_ceil}
 use Rattle.std.proofs.lemmas.Grind.{div_ceil_times}
-use Rattle.std.proofs.lemmas.Bool.{le-ltb, lt-leb, ne_eqb, cases_eq, cases_lt}
-use Rattle.std.proofs.lemmas.List.Sums.{fold-append}
-use Rattle.std.proofs.lemmas.List.Elements.{All-nil, All-cons, All-get_or, All-map, All-filter}
+use Rattle.std.proofs.lemmas.Bool.{le-ltb, lt-leb, cases_eq, cases_lt}
+use Rattle.std.proofs.lemmas.List.Elements.{All-nil, All-cons, All-get_or, All-map, All-filter, filter-append}
 use Rattle.std.proofs.lemmas.Option.{get_or_from_slice_get, slice_get_within}
 use Rattle.std.specs.List.{filter}
 use Rattle.clock27.specs.Release.{release}
@@ -20,8 +19,6 @@ use Rattle.unit_queue.specs.OwnedStreams.{timed}
 use Rattle.unit_queue.specs.Places.{left_before}
 use Rattle.unit_queue.specs.Queues.{Kept}
 use Rattle.unit_queue.specs.Causes.{unit_cause, is_full}
-use Rattle.unit_queue.specs.declared.refusal.FeedError.{FeedError}
-use Rattle.unit_queue.proofs.CauseLemmas.{own_facts, or_none}
 use Rattle.unit_queue.proofs.QueueStates.{first_law, kept_law}
 use Rattle.unit_records.specs.Records.{record_at}
 use Rattle.unit_records.specs.declared.reading.UnitFileError.{UnitFileError}
@@ -29,17 +26,16 @@ use Rattle.carry.specs.RecordRuns.{after_records}
 use Rattle.mux_core.specs.Scheduled.{Scheduled}
 use Rattle.mux_core.specs.Histories.{owned_stream}
 use Rattle.mux_core.specs.MuxStates.{feed_cause}
-use Rattle.mux_core.specs.WholeJobs.{job_history, output_of, or_cause, unit_refused, cause_after, first_refused}
-use Rattle.mux_core.specs.declared.multiplexing.MuxError.{MuxError}
+use Rattle.mux_core.specs.WholeJobs.{job_history, cause_after, first_refused}
 use Rattle.mux_core.proofs.KnownRanges.{parameters_known, stream_range}
 use Rattle.mux_core.proofs.UnitCounts.{own_units, other_units, units_append}
 use Rattle.on_air.specs.declared.refusals.AirRefusal.{AirRefusal}
-use Rattle.on_air.specs.Airing.{Run, Air, silence, greatest_lead, least_interval, needed_room, lead_of, settled_at, limit_of, last_by, last_at, on_to, is_tick, is_ahead, unit_refusal, air_cause, accepted_by, aired_by, with_record, heard, ended}
+use Rattle.on_air.specs.Airing.{Run, Air, silence, greatest_lead, least_interval, needed_room, lead_of, settled_at, on_to, is_tick, is_ahead, unit_refusal, air_cause, accepted_by, aired, aired_by, with_record, heard}
 use Rattle.on_air.specs.AirStates.{Promises}
-use Rattle.on_air.specs.Laws.{with_entry, records_of, greatest_of, IsJobInOrder, AiredInOrder, AiredAsMultiplexed}
+use Rattle.on_air.specs.Laws.{with_entry, records_of, without_ticks, greatest_of, IsJobInOrder, AiredInOrder}
 use Rattle.on_air.proofs.InTime.{taken_in_time}
 use Rattle.on_air.proofs.Room.{waiting_few}
-use Rattle.on_air.proofs.AsMultiplexed.{Taken, last_taken, no_tick, none_taken, release_begins, release_rises, some_bytes, stream_of, taken_more}
+use Rattle.on_air.proofs.AsMultiplexed.{first_taken, greatest_more, last_taken, more_settled, none_taken, release_begins, release_rises, stream_of}
 
 -- ---- each stream's units
 
@@ -116,99 +112,149 @@ few_enough (suc n) interval least lead capacity some le below room =
       | inr over ↦ absurd (omega (arith, wide, below, bounds.0, mul-le-mul_right least over))
     ]
 
--- the slots that these units settle are written
-has_room : (run : Run) (k slots : ℕ) (units : List (ℕ × AccessUnit)) (s : DescribedStream) → Promises run.scheduled →
-    needed_room (lead_of run) run.scheduled.description.streams ≤ run.capacity → slice_get run.scheduled.description.streams k ≡ Some s → AllKept run.scheduled units →
-    slots ≡ release run.scheduled.description.rate (lead_of run) (greatest_of units) → is_full (owned_stream run.scheduled k s) slots run.capacity (units_of k units) ≡ false
-has_room run k slots units s promises room is kept written =
+-- the slots that these records settle are written
+has_room : (run : Run) (k slots : ℕ) (records : List (ℕ × AccessUnit)) (s : DescribedStream) → Promises run.scheduled →
+    needed_room (lead_of run) run.scheduled.description.streams ≤ run.capacity → slice_get run.scheduled.description.streams k ≡ Some s → AllKept run.scheduled (without_ticks records) →
+    slots ≡ release run.scheduled.description.rate (lead_of run) (greatest_of records) →
+    is_full (owned_stream run.scheduled k s) slots run.capacity (units_of k (without_ticks records)) ≡ false
+has_room run k slots records s promises room is kept written =
     let d = run.scheduled in
     let l = owned_stream d k s in
+    let units = without_ticks records in
     let us = units_of k units in
-    let last = greatest_of units in
+    let last = greatest_of records in
     let mine = kept k s is in
-    let keeps : KeepsDeclaration (declaration s) (map (timed (owned_stream run.scheduled k s)) (units_of k units)) =
+    let keeps : KeepsDeclaration (declaration s) (map (timed (owned_stream run.scheduled k s)) (units_of k (without_ticks records))) =
     record { spaced = mine.spaced; sized = mine.sized; allowed = mine.allowed } in
     let served = promises.promised.streams k s (map (timed l) us) is keeps in
     let range = stream_range d.description k s promises.ranges is in
-    let begins : (greatest_of units - lead_of run) * run.scheduled.description.rate ≤ slots * 135360000 =
+    let begins : (greatest_of records - lead_of run) * run.scheduled.description.rate ≤ slots * 135360000 =
     rw written (release_begins d.description.rate (lead_of run) last) in
+    let within : All (λ e. e.1.dts ≤ greatest_of records) (without_ticks records) =
+    All-filter (λ e. not (is_tick e)) (λ e. e.1.dts ≤ last) records (none_after 0 records).1 in
     let few = waiting_few l s.rx slots (lead_of run) last s.interval range.some_interval begins us 0 0 0 s.lead mine.spaced
-    (units_within k last units (none_after 0 units).1) (served.arrived slots) in
+    (units_within k last units within) (served.arrived slots) in
     let least = interval_within d.description.streams k s is in
     lt-leb run.capacity (length (left_before l slots us).units)
     (few_enough (length (left_before l slots us).units) s.interval (max (least_interval d.description.streams) 1) (lead_of run) run.capacity
     (omega arith) (omega (arith, least, range.some_interval)) few room)
 
--- ---- one unit
+-- ---- one record
 
-pub record SoFar (run : Run) (a : Air) (units : List (ℕ × AccessUnit)) : Type 0 where
-  pub taken : Taken run a units
-  pub refused : a.refused ≡ []
-  pub kept : AllKept run.scheduled units
+with_tick : (records : List (ℕ × AccessUnit)) (entry : ℕ × AccessUnit) → is_tick entry ≡ true → without_ticks (records ++ (entry ∷ [])) ≡ without_ticks records
+with_tick records entry tick =
+    let none : without_ticks (entry ∷ []) ≡ [] = rw tick refl in
+    filter-append (λ e. not (is_tick e)) records (entry ∷ []) ∙ ap (λ (l : List (ℕ × AccessUnit)). without_ticks records ++ l) none ∙ append-nil (without_ticks records)
+
+with_unit : (records : List (ℕ × AccessUnit)) (entry : ℕ × AccessUnit) → is_tick entry ≡ false → without_ticks (records ++ (entry ∷ [])) ≡ without_ticks records ++ (entry ∷ [])
+with_unit records entry tick =
+    let one : without_ticks (entry ∷ []) ≡ entry ∷ [] = rw tick refl in
+    filter-append (λ e. not (is_tick e)) records (entry ∷ []) ∙ ap (λ (l : List (ℕ × AccessUnit)). without_ticks records ++ l) one
+
+-- these records were heard, none was refused, and the slots that they settle are written
+record SoFar (run : Run) (a : Air) (records : List (ℕ × AccessUnit)) : Type 0 where
+  accepted : a.accepted ≡ without_ticks records
+  greatest : a.greatest ≡ greatest_of records
+  slots : a.slots ≡ settled_at run (greatest_of records)
+  refused : a.refused ≡ []
+  kept : AllKept run.scheduled (without_ticks records)
+
+is_near : (run : Run) (a : Air) (other : ℕ) (records : List (ℕ × AccessUnit)) (entry : ℕ × AccessUnit) → SoFar run a records → IsJobInOrder run other (records ++ (entry ∷ [])) →
+    is_ahead run a entry ≡ false
+is_near run a other records entry so job =
+    let comes = job.in_order records [] entry refl in
+    le-ltb run.terms.ahead (entry.1.dts - a.greatest) (omega (arith, comes.near, so.greatest))
 
 taken_stream : (d : Scheduled) (capacity slots : ℕ) (units : List (ℕ × AccessUnit)) (entry : ℕ × AccessUnit) (s : DescribedStream) →
     unit_cause (owned_stream d entry.0 s) slots capacity (units_of entry.0 units) entry.1 ≡ None → feed_cause d capacity (job_history units slots) entry.0 entry.1 (Some s) ≡ None
 unfolding feed_cause
 taken_stream d capacity slots units entry s none = none
 
-none_refused : (run : Run) (a : Air) (other : ℕ) (units : List (ℕ × AccessUnit)) (entry : ℕ × AccessUnit) → SoFar run a units → IsJobInOrder run other (units ++ (entry ∷ [])) →
+-- a unit is not refused
+none_refused : (run : Run) (a : Air) (other : ℕ) (records : List (ℕ × AccessUnit)) (entry : ℕ × AccessUnit) → SoFar run a records → IsJobInOrder run other (records ++ (entry ∷ [])) →
+    is_tick entry ≡ false → (first_refused run.scheduled other [] (without_ticks records) ≡ None) × (cause_after run.scheduled other (without_ticks records) entry ≡ None) →
     air_cause run a entry ≡ None
-none_refused run a other units entry so job =
+none_refused run a other records entry so job tick last =
     let d = run.scheduled in
-    let comes = job.in_order units [] entry refl in
-    let last = last_taken d other [] units entry job.accepted in
+    let units = without_ticks records in
+    let comes = (job.in_order records [] entry refl).in_time tick in
     let found = stream_of d other units entry (slice_get d.description.streams entry.0) last.1 in
     let l = owned_stream d entry.0 found.stream in
-    let own = own_facts _ _ entry.1 (or_none _ _ found.cause).0 in
-    let near : is_ahead run a entry ≡ false = le-ltb run.terms.ahead (entry.1.dts - a.greatest) (omega (arith, comes.near, so.taken.greatest)) in
-    let tick : is_tick entry ≡ false = no_tick entry own.some in
-    let written : a.slots ≡ release run.scheduled.description.rate (lead_of run) (greatest_of units) = omega (arith, so.taken.slots, comes.early) in
+    let near = is_near run a other records entry so job in
+    let written : a.slots ≡ release run.scheduled.description.rate (lead_of run) (greatest_of records) = omega (arith, so.slots, comes.early) in
     let lead = lead_within d.description.streams entry.0 found.stream found.is in
-    let rises = release_rises d.description.rate (lead_of run) (greatest_of units) found.stream.lead entry.1.dts (omega (arith, comes.in_order, lead)) in
-    let room = has_room run entry.0 a.slots units found.stream job.promises job.room found.is so.kept written in
+    let rises = release_rises d.description.rate (lead_of run) (greatest_of records) found.stream.lead entry.1.dts (omega (arith, comes.in_order, lead)) in
+    let room = has_room run entry.0 a.slots records found.stream job.promises job.room found.is so.kept written in
     let taken = taken_in_time l a.slots run.capacity other (units_of entry.0 units) entry.1 found.cause (omega (arith, written, rises)) room in
     let none = taken_stream run.scheduled run.capacity a.slots units entry found.stream taken in
     let unit : unit_refusal run a entry ≡ None =
-    ap (λ (us : List (ℕ × AccessUnit)). feed_cause run.scheduled run.capacity (job_history us a.slots) entry.0 entry.1 (slice_get run.scheduled.description.streams entry.0)) so.taken.accepted
+    ap (λ (us : List (ℕ × AccessUnit)). feed_cause run.scheduled run.capacity (job_history us a.slots) entry.0 entry.1 (slice_get run.scheduled.description.streams entry.0)) so.accepted
     ∙ ap (λ (o : Option DescribedStream). feed_cause run.scheduled run.capacity (job_history units a.slots) entry.0 entry.1 o) found.is ∙ none in
     rw (near, tick, unit) refl
 
-so_far_more : (run : Run) (a : Air) (other : ℕ) (units : List (ℕ × AccessUnit)) (entry : ℕ × AccessUnit) → SoFar run a units → IsJobInOrder run other (units ++ (entry ∷ [])) →
-    is_tick entry ≡ false → SoFar run (aired_by run a entry None) (units ++ (entry ∷ []))
+-- the slots that a record settles beside those before it
+more_slots : (run : Run) (a : Air) (records : List (ℕ × AccessUnit)) (entry : ℕ × AccessUnit) → SoFar run a records →
+    on_to a.slots (settled_at run entry.1.dts) ≡ settled_at run (greatest_of (records ++ (entry ∷ [])))
+more_slots run a records entry so =
+    ap (λ (n : ℕ). on_to n (settled_at run entry.1.dts)) so.slots ∙ more_settled run (greatest_of records) entry.1.dts
+    ∙ ap (λ (g : ℕ). settled_at run g) (sym (greatest_more records entry))
+
+so_far_unit : (run : Run) (a : Air) (other : ℕ) (records : List (ℕ × AccessUnit)) (entry : ℕ × AccessUnit) → SoFar run a records → IsJobInOrder run other (records ++ (entry ∷ [])) →
+    is_tick entry ≡ false → SoFar run (aired run a entry) (records ++ (entry ∷ []))
 unfolding aired_by accepted_by
-so_far_more run a other units entry so job tick = record {
-  taken = taken_more run a units entry so.taken tick;
-  refused = so.refused;
-  kept = kept_more run.scheduled other units entry job.promises.ranges (last_taken run.scheduled other [] units entry job.accepted).1 so.kept;
-}
+so_far_unit run a other records entry so job tick =
+    let more = with_unit records entry tick in
+    let last = last_taken run.scheduled other [] (without_ticks records) entry (ap (λ (us : List (ℕ × AccessUnit)). first_refused run.scheduled other [] us) (sym more) ∙ job.accepted) in
+    subst (λ (o : Option AirRefusal). SoFar run (aired_by run a entry o) (records ++ (entry ∷ []))) (sym (none_refused run a other records entry so job tick last)) (record {
+      accepted = rw tick (ap (λ (l : List (ℕ × AccessUnit)). l ++ (entry ∷ [])) so.accepted ∙ sym more);
+      greatest = ap (λ (g : ℕ). max g entry.1.dts) so.greatest ∙ sym (greatest_more records entry);
+      slots = more_slots run a records entry so;
+      refused = so.refused;
+      kept = subst (AllKept run.scheduled) (sym more) (kept_more run.scheduled other (without_ticks records) entry job.promises.ranges last.1 so.kept);
+    })
 
--- ---- all units
+so_far_tick : (run : Run) (a : Air) (other : ℕ) (records : List (ℕ × AccessUnit)) (entry : ℕ × AccessUnit) → SoFar run a records → IsJobInOrder run other (records ++ (entry ∷ [])) →
+    is_tick entry ≡ true → SoFar run (aired run a entry) (records ++ (entry ∷ []))
+unfolding aired_by accepted_by
+so_far_tick run a other records entry so job tick =
+    let same = with_tick records entry tick in
+    let none : air_cause run a entry ≡ None = rw (is_near run a other records entry so job, tick) refl in
+    subst (λ (o : Option AirRefusal). SoFar run (aired_by run a entry o) (records ++ (entry ∷ []))) (sym none) (record {
+      accepted = rw tick (so.accepted ∙ sym same);
+      greatest = ap (λ (g : ℕ). max g entry.1.dts) so.greatest ∙ sym (greatest_more records entry);
+      slots = more_slots run a records entry so;
+      refused = so.refused;
+      kept = subst (AllKept run.scheduled) (sym same) so.kept;
+    })
 
-shorter : (run : Run) (other : ℕ) (units : List (ℕ × AccessUnit)) (entry : ℕ × AccessUnit) → IsJobInOrder run other (units ++ (entry ∷ [])) → IsJobInOrder run other units
-shorter run other units entry job = record {
+so_far_more : (run : Run) (a : Air) (other : ℕ) (records : List (ℕ × AccessUnit)) (entry : ℕ × AccessUnit) (tick : Bool) → SoFar run a records → IsJobInOrder run other (records ++ (entry ∷ [])) →
+    is_tick entry ≡ tick → SoFar run (aired run a entry) (records ++ (entry ∷ []))
+so_far_more run a other records entry true so job is = so_far_tick run a other records entry so job is
+so_far_more run a other records entry false so job is = so_far_unit run a other records entry so job is
+
+-- ---- all records
+
+shorter : (run : Run) (other : ℕ) (records : List (ℕ × AccessUnit)) (entry : ℕ × AccessUnit) → IsJobInOrder run other (records ++ (entry ∷ [])) → IsJobInOrder run other records
+shorter run other records entry job = record {
   promises = job.promises;
   room = job.room;
-  accepted = (last_taken run.scheduled other [] units entry job.accepted).0;
+  accepted = first_taken run.scheduled other [] (without_ticks records) (without_ticks (entry ∷ []))
+      (ap (λ (us : List (ℕ × AccessUnit)). first_refused run.scheduled other [] us) (sym (filter-append (λ e. not (is_tick e)) records (entry ∷ []))) ∙ job.accepted);
   in_order = λ before after e is.
       job.in_order before (after ++ (entry ∷ [])) e (ap (λ (l : List (ℕ × AccessUnit)). l ++ (entry ∷ [])) is ∙ append_assoc before (e ∷ after) (entry ∷ []));
 }
 
-so_far_with : (run : Run) (a : Air) (other : ℕ) (units : List (ℕ × AccessUnit)) (found : Result (Option (ℕ × AccessUnit)) UnitFileError) →
-    (IsJobInOrder run other units → SoFar run a units) → IsJobInOrder run other (with_entry found units) → SoFar run (with_record run found a) (with_entry found units)
+so_far_with : (run : Run) (a : Air) (other : ℕ) (records : List (ℕ × AccessUnit)) (found : Result (Option (ℕ × AccessUnit)) UnitFileError) →
+    (IsJobInOrder run other records → SoFar run a records) → IsJobInOrder run other (with_entry found records) → SoFar run (with_record run found a) (with_entry found records)
 unfolding with_record with_entry
-so_far_with run a other units (Err fault) so job = so job
-so_far_with run a other units (Ok None) so job = so job
-so_far_with run a other units (Ok (Some entry)) so job =
-    let here = so (shorter run other units entry job) in
-    subst (λ (o : Option AirRefusal). SoFar run (aired_by run a entry o) (units ++ (entry ∷ []))) (sym (none_refused run a other units entry here job))
-    (so_far_more run a other units entry here job (some_bytes run.scheduled other units entry (last_taken run.scheduled other [] units entry job.accepted).1))
+so_far_with run a other records (Err fault) so job = so job
+so_far_with run a other records (Ok None) so job = so job
+so_far_with run a other records (Ok (Some entry)) so job = so_far_more run a other records entry (is_tick entry) (so (shorter run other records entry job)) job refl
 
 so_far_none : (run : Run) → SoFar run silence []
-so_far_none run = record {
-  taken = none_taken run;
-  refused = refl;
-  kept = kept_none run.scheduled;
-}
+so_far_none run =
+    let none = none_taken run in
+    record { accepted = refl; greatest = refl; slots = none.slots; refused = refl; kept = kept_none run.scheduled }
 
 so_far : (run : Run) (other n : ℕ) (xs : List ℕ) → IsJobInOrder run other (records_of n xs) → SoFar run (heard run n xs) (records_of n xs)
 unfolding heard records_of
@@ -218,4 +264,4 @@ so_far run other (suc n) xs job = so_far_with run (heard run n xs) other (record
 pub aired_in_order : AiredInOrder
 aired_in_order run other n xs job =
     let so = so_far run other n xs job in
-    record { accepted = so.taken.accepted; refused = so.refused }
+    record { accepted = so.accepted; refused = so.refused }

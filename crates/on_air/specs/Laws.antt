@@ -1,5 +1,6 @@
 -- What the laws of this crate say.
-use Rattle.std.specs.Prelude.{◌≡◌, ◌≤◌, ◌+◌, ℕ, zero, suc, max, false, List, [], ◌∷◌, ◌++◌, fold, Option, Some, None, Result, Ok, Err}
+use Rattle.std.specs.Prelude.{◌≡◌, ◌≤◌, ◌+◌, ℕ, zero, suc, max, not, false, List, [], ◌∷◌, ◌++◌, fold, Option, Some, None, Result, Ok, Err}
+use Rattle.std.specs.List.{filter}
 use Rattle.clock27.specs.Release.{release}
 use Rattle.pes_packet.specs.AccessUnits.{AccessUnit}
 use Rattle.unit_queue.specs.OwnedStreams.{OwnedStream}
@@ -8,7 +9,7 @@ use Rattle.unit_records.specs.Records.{record_at}
 use Rattle.unit_records.specs.declared.reading.UnitFileError.{UnitFileError}
 use Rattle.carry.specs.RecordRuns.{after_records}
 use Rattle.mux_core.specs.WholeJobs.{job_history, output_of, first_refused}
-use Rattle.on_air.specs.Airing.{Run, Air, lead_of, limit_of, last_at, needed_room, heard, ended, air_output}
+use Rattle.on_air.specs.Airing.{Run, Air, is_tick, lead_of, limit_of, last_at, needed_room, heard, ended, air_output}
 use Rattle.on_air.specs.AirStates.{Promises}
 
 -- a unit that a stream accepts before the first slot is accepted too where no slot from its release on is written, and there is room for it
@@ -18,7 +19,7 @@ TakenInTime = (l : OwnedStream) (slots capacity other : ℕ) (us : List AccessUn
 
 -- ---- records that come in order
 
--- the units of the first n records of an input, each with the number of its stream
+-- the first n records of an input: units, each with the number of its stream, and ticks
 unfoldable pub with_entry : Result (Option (ℕ × AccessUnit)) UnitFileError → List (ℕ × AccessUnit) → List (ℕ × AccessUnit)
 with_entry (Ok (Some entry)) units = units ++ (entry ∷ [])
 with_entry (Ok None) units = units
@@ -28,30 +29,39 @@ unfoldable pub records_of : ℕ → List ℕ → List (ℕ × AccessUnit)
 records_of zero xs = []
 records_of (suc n) xs = with_entry (record_at (after_records n xs)) (records_of n xs)
 
--- the greatest DTS, 0 without units
-abbrev pub greatest_of : List (ℕ × AccessUnit) → ℕ
-greatest_of units = fold (λ greatest entry. max greatest entry.1.dts) 0 units
+-- the units among records: all but ticks
+abbrev pub without_ticks : List (ℕ × AccessUnit) → List (ℕ × AccessUnit)
+without_ticks records = filter (λ entry. not (is_tick entry)) records
 
--- a unit comes after these no later and no further ahead than the terms allow, and the slots that these settle are within those of the run
-pub record Comes (run : Run) (before : List (ℕ × AccessUnit)) (entry : ℕ × AccessUnit) : Type 0 where
+-- the greatest DTS of units and ticks, 0 without any
+abbrev pub greatest_of : List (ℕ × AccessUnit) → ℕ
+greatest_of records = fold (λ greatest entry. max greatest entry.1.dts) 0 records
+
+-- a unit comes after these records no later than the terms allow: each of them, unit or tick, is due no later than that after it; and the
+-- slots that they settle are within those of the run
+pub record InTime (run : Run) (before : List (ℕ × AccessUnit)) (entry : ℕ × AccessUnit) : Type 0 where
   pub in_order : greatest_of before ≤ entry.1.dts + run.terms.wait
-  pub near : entry.1.dts ≤ greatest_of before + run.terms.ahead
   pub early : release run.scheduled.description.rate (lead_of run) (greatest_of before) ≤ limit_of run.terms
 
-abbrev pub ComeInOrder : Run → List (ℕ × AccessUnit) → Type 0
-ComeInOrder run units = (before after : List (ℕ × AccessUnit)) (entry : ℕ × AccessUnit) → units ≡ before ++ (entry ∷ after) → Comes run before entry
+-- a record comes after these no further ahead than the terms allow, and in time where it is a unit: a tick that is late moves nothing
+pub record Comes (run : Run) (before : List (ℕ × AccessUnit)) (entry : ℕ × AccessUnit) : Type 0 where
+  pub near : entry.1.dts ≤ greatest_of before + run.terms.ahead
+  pub in_time : is_tick entry ≡ false → InTime run before entry
 
--- a run over a plan that serves its description, with room for the units that may wait; a job of these units is multiplexed where `other`
--- units of a stream may wait, and they come in order
-pub record IsJobInOrder (run : Run) (other : ℕ) (units : List (ℕ × AccessUnit)) : Type 0 where
+abbrev pub ComeInOrder : Run → List (ℕ × AccessUnit) → Type 0
+ComeInOrder run records = (before after : List (ℕ × AccessUnit)) (entry : ℕ × AccessUnit) → records ≡ before ++ (entry ∷ after) → Comes run before entry
+
+-- a run over a plan that serves its description, with room for the units that may wait; a job of the units among these records is
+-- multiplexed where `other` units of a stream may wait, and they come in order
+pub record IsJobInOrder (run : Run) (other : ℕ) (records : List (ℕ × AccessUnit)) : Type 0 where
   pub promises : Promises run.scheduled
   pub room : needed_room (lead_of run) run.scheduled.description.streams ≤ run.capacity
-  pub accepted : first_refused run.scheduled other [] units ≡ None
-  pub in_order : ComeInOrder run units
+  pub accepted : first_refused run.scheduled other [] (without_ticks records) ≡ None
+  pub in_order : ComeInOrder run records
 
--- then all are accepted
-pub record AiredAll (a : Air) (units : List (ℕ × AccessUnit)) : Type 0 where
-  pub accepted : a.accepted ≡ units
+-- then all units are accepted, and no record is refused
+pub record AiredAll (a : Air) (records : List (ℕ × AccessUnit)) : Type 0 where
+  pub accepted : a.accepted ≡ without_ticks records
   pub refused : a.refused ≡ []
 
 abbrev pub AiredInOrder : Type 0

@@ -7,7 +7,8 @@ pub fn taken_in_time()
     ensures { TakenInTime }
 {}
 
-/// Units of a job that is multiplexed, in order, are all accepted on air: none is late, and none finds no room.
+/// Units of a job that is multiplexed, in order, are all accepted on air, whatever ticks stand among them that each unit
+/// after them is in order with: none is late, and none finds no room.
 pub fn aired_in_order()
     ensures { AiredInOrder }
 {}

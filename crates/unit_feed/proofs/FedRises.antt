@@ -17,13 +17,12 @@ use Rattle.stream_units.specs.declared.stamps.StampFault.TheVariants.{DtsNotIncr
 use Rattle.stream_units.proofs.StampFaults.{or_none}
 use Rattle.unit_feed.specs.Clocks.{is_on, jump_of}
 use Rattle.unit_feed.specs.EachStream.{RiseFrom, fed_if, units_fed}
-use Rattle.unit_feed.specs.Feeding.{Fed, FedStreamView, FeedView, after_at, after_found, after_one, after_place, ahead_of, at_moment, base_of, before_with, due_of, fed_at, fed_by, fed_ends, fed_last, fed_one, fed_place, fed_unit, fed_with, feed_with, greatest_of, last_dts, lost_by, lost_fed, map_fed, origin_after, place_from, stream_with, told_of, unless_ahead, unless_fault, watched, whole_by}
+use Rattle.unit_feed.specs.Feeding.{Fed, FedStreamView, FeedView, after_at, after_found, after_one, after_place, ahead_of, at_moment, base_of, before_with, due_of, fed_at, fed_by, fed_ends, fed_last, fed_one, fed_place, fed_unit, fed_with, feed_with, greatest_of, last_dts, map_fed, origin_after, place_from, stream_with, told_by, told_fed, told_of, unless_ahead, unless_fault, watched, whole_by}
 use Rattle.unit_feed.specs.Maps.{clock_pid, new_map}
 use Rattle.unit_feed.specs.Ticks.{after_end, after_end_at, after_late, after_own, after_passed, after_shown, after_tick, fed_end, fed_end_at, fed_late, fed_own, fed_passed, fed_shown, fed_tick, is_tick, jump_fed, late_in, passed_from, tick, with_shown, without_unit}
 use Rattle.unit_feed.specs.declared.due.Due.{Due}
 use Rattle.unit_feed.specs.declared.feed_fault.ClockJump.{ClockJump}
 use Rattle.unit_feed.specs.declared.feed_fault.FeedFault.{FeedFault}
-use Rattle.unit_feed.specs.declared.feed_fault.Loss.{Loss}
 use Rattle.unit_feed.specs.declared.feed_fault.NewMap.{NewMap}
 use Rattle.unit_feed.specs.declared.found_pcr.FoundPcr.{FoundPcr}
 use Rattle.unit_feed.specs.declared.origin.Origin.{Origin}
@@ -163,10 +162,10 @@ unfolding map_fed fed_if
 told_map None n few = refl
 told_map (Some change) n few = refl
 
-told_loss : (number : ℕ) (loss : Option Loss) → Unitless (option_to_list (told_of number loss))
+told_fault : (number : ℕ) (fault : Option FeedFault) → Unitless (option_to_list (told_of number fault))
 unfolding told_of fed_if
-told_loss number None n few = refl
-told_loss number (Some loss) n few = refl
+told_fault number None n few = refl
+told_fault number (Some fault) n few = refl
 
 between : (n : ℕ) (before unit after : List Fed) → units_fed n before ≡ [] → units_fed n after ≡ [] → units_fed n (before ++ (unit ++ after)) ≡ units_fed n unit
 between n before unit after one two =
@@ -188,9 +187,9 @@ finding_steps feed f (Some j) are at =
     let s = p.stream in
     let w = whole_by s f in
     let told = option_to_list (map_fed (new_map f feed.maps)) in
-    let lost = option_to_list (lost_fed s f) in
+    let tells = option_to_list (told_fed s f) in
     let one = option_to_list (fed_with (due_of feed) feed.origin s.number s.before w) in
-    let parts : fed_one feed f ≡ told ++ (one ++ lost) = rw (at, p.at) refl in
+    let parts : fed_one feed f ≡ told ++ (one ++ tells) = rw (at, p.at) refl in
     gives_one feed (after_one feed f) (fed_one feed f) j s (after_found s f) w are (record {
       due = due_of feed;
       origin = feed.origin;
@@ -201,7 +200,7 @@ finding_steps feed f (Some j) are at =
       streams = rw (at, p.at) refl;
       units = λ n few.
           ap (λ (xs : List Fed). units_fed n xs) parts
-          ∙ between n told one lost (told_map (new_map f feed.maps) n few) (told_loss s.number (lost_by f.packet f.what) n few);
+          ∙ between n told one tells (told_map (new_map f feed.maps) n few) (told_fault s.number (told_by s f) n few);
     })
 
 -- 4. A clock reference

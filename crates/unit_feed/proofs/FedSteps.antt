@@ -15,14 +15,13 @@ use Rattle.stream_units.specs.UnitSteps.{UnitsSoFar, after_finding, ended_unit, 
 use Rattle.stream_units.specs.declared.stamps.StampFault.{StampFault}
 use Rattle.unit_feed.specs.Clocks.{is_on, jump_of, jumps}
 use Rattle.unit_feed.specs.EachStream.{fed_if, has_fault, have_fault, units_fed}
-use Rattle.unit_feed.specs.Feeding.{Fed, FedStreamView, FeedView, after_at, after_found, after_one, after_place, ahead_of, at_moment, base_by, base_of, before_with, due_of, fed_at, fed_by, fed_one, fed_place, fed_with, feed_with, greatest_of, last_dts, lost_by, lost_fed, map_fed, origin_after, place_from, stream_with, told_of, unless_ahead, unless_fault, watched, whole_by}
+use Rattle.unit_feed.specs.Feeding.{Fed, FedStreamView, FeedView, after_at, after_found, after_one, after_place, ahead_of, at_moment, base_by, base_of, before_with, due_of, fed_at, fed_by, fed_one, fed_place, fed_with, feed_with, greatest_of, last_dts, map_fed, origin_after, place_from, stream_with, told_by, told_fed, told_of, unless_ahead, unless_fault, watched, whole_by}
 use Rattle.unit_feed.specs.Maps.{clock_pid, new_map}
 use Rattle.unit_feed.specs.Origins.{base_for, no_origin, origin_with}
 use Rattle.unit_feed.specs.Ticks.{after_end, after_end_at, after_late, after_moment, after_own, after_passed, after_shown, after_tick, fed_end, fed_end_at, fed_late, fed_moment, fed_own, fed_passed, fed_shown, fed_tick, is_tick, jump_fed, late_in, late_of, origin_by, passed_from, tick, with_shown, without_unit}
 use Rattle.unit_feed.specs.declared.due.Due.{Due}
 use Rattle.unit_feed.specs.declared.feed_fault.ClockJump.{ClockJump}
 use Rattle.unit_feed.specs.declared.feed_fault.FeedFault.{FeedFault}
-use Rattle.unit_feed.specs.declared.feed_fault.Loss.{Loss}
 use Rattle.unit_feed.specs.declared.feed_fault.NewMap.{NewMap}
 use Rattle.unit_feed.specs.declared.found_pcr.FoundPcr.{FoundPcr}
 use Rattle.unit_feed.specs.declared.origin.Origin.{Origin}
@@ -69,13 +68,13 @@ unfolding map_fed has_fault
 not_told_map None more none = refl
 not_told_map (Some change) more none = absurd cc
 
-not_told_loss : (number : ℕ) (loss : Option Loss) → have_fault (option_to_list (told_of number loss)) ≡ false → option_to_list (told_of number loss) ≡ []
+not_told : (number : ℕ) (fault : Option FeedFault) → have_fault (option_to_list (told_of number fault)) ≡ false → option_to_list (told_of number fault) ≡ []
 unfolding told_of has_fault
-not_told_loss number None none = refl
-not_told_loss number (Some loss) none = absurd cc
+not_told number None none = refl
+not_told number (Some fault) none = absurd cc
 
 fed_here : (feed : FeedView) (f : FindingView) (j : ℕ) (s : FedStreamView) → place_from f.pid 0 feed.streams ≡ Some j → slice_get feed.streams j ≡ Some s →
-    fed_one feed f ≡ option_to_list (map_fed (new_map f feed.maps)) ++ (option_to_list (fed_by (due_of feed) feed.origin s (whole_by s f)) ++ option_to_list (lost_fed s f))
+    fed_one feed f ≡ option_to_list (map_fed (new_map f feed.maps)) ++ (option_to_list (fed_by (due_of feed) feed.origin s (whole_by s f)) ++ option_to_list (told_fed s f))
 unfolding fed_place fed_at
 fed_here feed f j s at is = rw (at, is) refl
 
@@ -87,14 +86,14 @@ after_here feed f j s at is = rw (at, is) refl
 pub finding_gives : (feed : FeedView) (f : FindingView) (j : ℕ) (s : FedStreamView) → place_from f.pid 0 feed.streams ≡ Some j → slice_get feed.streams j ≡ Some s →
     have_fault (fed_one feed f) ≡ false → Gives feed (after_one feed f) (fed_one feed f) j s (after_found s f) (whole_by s f)
 finding_gives feed f j s at is none =
-    let told = option_to_list (map_fed (new_map f feed.maps)) in
+    let change = option_to_list (map_fed (new_map f feed.maps)) in
     let unit = option_to_list (fed_by (due_of feed) feed.origin s (whole_by s f)) in
-    let lost = option_to_list (lost_fed s f) in
+    let told = option_to_list (told_fed s f) in
     let parts = fed_here feed f j s at is in
-    let clear : have_fault (told ++ (unit ++ lost)) ≡ false = ap have_fault (sym parts) ∙ none in
-    let no_map : told ≡ [] = not_told_map (new_map f feed.maps) (unit ++ lost) clear in
-    let kept = (fault_split unit lost (fault_split told (unit ++ lost) clear).1).1 in
-    let no_loss : lost ≡ [] = not_told_loss s.number (lost_by f.packet f.what) kept in
+    let clear : have_fault (change ++ (unit ++ told)) ≡ false = ap have_fault (sym parts) ∙ none in
+    let no_map : change ≡ [] = not_told_map (new_map f feed.maps) (unit ++ told) clear in
+    let kept = (fault_split unit told (fault_split change (unit ++ told) clear).1).1 in
+    let no_told : told ≡ [] = not_told s.number (told_by s f) kept in
     let goes = after_here feed f j s at is in
     record {
       due = due_of feed;
@@ -106,7 +105,7 @@ finding_gives feed f j s at is none =
       streams = ap (λ (n : FeedView). n.streams) goes;
       origin = ap (λ (n : FeedView). n.origin) goes;
       earliest = ap (λ (n : FeedView). n.earliest) goes;
-      fed_is = parts ∙ ap (λ (xs : List Fed). xs ++ (unit ++ lost)) no_map ∙ ap (λ (xs : List Fed). unit ++ xs) no_loss ∙ append-nil unit;
+      fed_is = parts ∙ ap (λ (xs : List Fed). xs ++ (unit ++ told)) no_map ∙ ap (λ (xs : List Fed). unit ++ xs) no_told ∙ append-nil unit;
     }
 
 fed_nowhere : (feed : FeedView) (f : FindingView) → place_from f.pid 0 feed.streams ≡ None → fed_one feed f ≡ option_to_list (map_fed (new_map f feed.maps)) ++ []

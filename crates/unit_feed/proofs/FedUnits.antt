@@ -1,7 +1,7 @@
 -- What is fed, finding by finding.
 use Rattle.std.proofs.Common.{◌≡◌, ◌∙◌, ◌<◌, ℕ, ◌+◌, ◌++◌, ◌||◌, ◌&&◌, Bool, true, false, if◌then◌else◌, Option, Some, None, Result, Ok, List, [], ◌∷◌, length, map, drop, get_or, slice_get, slice_set, refl, sym, ap, subst, add-one, inl, inr, ◌⊎◌, ◌≤◌, arith}
 use Rattle.std.specs.Option.{option_to_list}
-use Rattle.std.specs.Prelude.{nat_lt}
+use Rattle.std.specs.Prelude.{nat_lt, is_some, not}
 use Rattle.std.proofs.Math.Seq.{drop-cons}
 use Rattle.std.proofs.lemmas.Bool.Decides.{nat_tests}
 use Rattle.std.proofs.lemmas.List.{append_assoc, append-nil, drop_all}
@@ -11,7 +11,7 @@ use Rattle.demux.specs.Views.{FindingView}
 use Rattle.demux.specs.Laws.{has_pid}
 use Rattle.stream_units.specs.CarriedUnits.{CarriedUnit, Ignored, role_of, carried_units}
 use Rattle.stream_units.specs.Stamps.{distance, dts_at, unit_at, moved, unit_fault, fault_or, first_fault}
-use Rattle.stream_units.specs.UnitSteps.{after_findings, ended_unit, given, goes_on_as, made_whole, none_so_far}
+use Rattle.stream_units.specs.UnitSteps.{UnitsSoFar, after_finding, after_findings, ended_unit, given, goes_on_as, has_cut, is_start_cut, lengthened, made_whole, none_so_far}
 use Rattle.stream_units.specs.declared.stamps.StampFault.{StampFault}
 use Rattle.unit_feed.specs.declared.feed_fault.FeedFault.{FeedFault}
 use Rattle.unit_feed.specs.declared.feed_fault.Loss.{Loss}
@@ -19,9 +19,10 @@ use Rattle.unit_feed.specs.Maps.{change_place, map_from, set_place}
 use Rattle.unit_feed.specs.Origins.{base_for, no_origin, origin_with}
 use Rattle.unit_feed.specs.declared.due.Due.{Due}
 use Rattle.unit_feed.specs.declared.origin.Origin.{Origin}
-use Rattle.unit_feed.specs.Feeding.{FedStreamView, Fed, FeedView, ahead_of, unless_ahead, unless_fault, at_moment, last_dts, base_by, base_of, origin_after, before_with, fed_with, stream_with, fed_by, whole_by, after_found, lost_by, lost_fed, told_of, greatest_if, due_of, with_streams, place_from, feed_with, after_at, fed_at, after_place, fed_place, after_unit, fed_unit, map_fed, after_one, fed_one, after_all, fed_all, fed_last, fed_ends, fed_to_end}
+use Rattle.unit_feed.specs.Feeding.{FedStreamView, Fed, FeedView, ahead_of, unless_ahead, unless_fault, at_moment, last_dts, base_by, base_of, origin_after, before_with, fed_with, stream_with, fed_by, whole_by, after_found, lost_by, told_by, told_fed, told_of, fault_by, cut_by, unit_after, follow_after, greatest_if, due_of, with_streams, place_from, feed_with, after_at, fed_at, after_place, fed_place, after_unit, fed_unit, map_fed, after_one, fed_one, after_all, fed_all, fed_last, fed_ends, fed_to_end}
 use Rattle.stream_units.proofs.UnitSteps.{uncut_carried}
 use Rattle.unit_feed.specs.Laws.{FedAsCarried, FedInTurn, has_loss, is_loss}
+use Rattle.unit_feed.proofs.UncutUnits.{Uncut, no_unit, past_here, uncut_step, under_cut}
 
 -- 1. In turn
 
@@ -62,7 +63,7 @@ unfolding after_place after_at
 after_is feed f k s at is = rw (sym at) (rw is refl)
 
 fed_is : (feed : FeedView) (f : FindingView) (k : ℕ) (s : FedStreamView) → Some k ≡ place_from f.pid 0 feed.streams → slice_get feed.streams k ≡ Some s →
-    fed_unit feed f ≡ option_to_list (fed_by (due_of feed) feed.origin s (whole_by s f)) ++ option_to_list (lost_fed s f)
+    fed_unit feed f ≡ option_to_list (fed_by (due_of feed) feed.origin s (whole_by s f)) ++ option_to_list (told_fed s f)
 unfolding fed_place fed_at
 fed_is feed f k s at is = rw (sym at) (rw is refl)
 
@@ -77,17 +78,17 @@ placed_after feed f k due o streams at below is sets fixes =
     ∙ ap (λ (d : Due). with_streams feed (origin_after d feed.origin (whole_by s.0 f)) (slice_set feed.streams k (stream_with d feed.origin (after_found s.0 f) (whole_by s.0 f)))) is
     ∙ sym (after_is feed f k s.0 at s.1)
 
-pub placed_fed : (feed : FeedView) (f : FindingView) (k : ℕ) (due : Due) (one loss : Option Fed) (before middle after : List Fed) → Some k ≡ place_from f.pid 0 feed.streams → k < length feed.streams → due ≡ due_of feed →
+pub placed_fed : (feed : FeedView) (f : FindingView) (k : ℕ) (due : Due) (one told : Option Fed) (before middle after : List Fed) → Some k ≡ place_from f.pid 0 feed.streams → k < length feed.streams → due ≡ due_of feed →
     ((s : FedStreamView) → slice_get feed.streams k ≡ Some s → one ≡ fed_by due feed.origin s (whole_by s f)) →
-    ((s : FedStreamView) → slice_get feed.streams k ≡ Some s → loss ≡ lost_fed s f) →
-    middle ≡ before ++ option_to_list one → after ≡ middle ++ option_to_list loss → after ≡ before ++ fed_unit feed f
-placed_fed feed f k due one loss before middle after at below is feeds loses first last =
+    ((s : FedStreamView) → slice_get feed.streams k ≡ Some s → told ≡ told_fed s f) →
+    middle ≡ before ++ option_to_list one → after ≡ middle ++ option_to_list told → after ≡ before ++ fed_unit feed f
+placed_fed feed f k due one told before middle after at below is feeds tells first last =
     let s = there feed.streams k below (slice_get_cases feed.streams k).1 in
-    last ∙ ap (λ (xs : List Fed). xs ++ option_to_list loss) first
-    ∙ append_assoc before (option_to_list one) (option_to_list loss)
-    ∙ ap (λ (o : Option Fed). before ++ (option_to_list o ++ option_to_list loss)) (feeds s.0 s.1)
-    ∙ ap (λ (d : Due). before ++ (option_to_list (fed_by d feed.origin s.0 (whole_by s.0 f)) ++ option_to_list loss)) is
-    ∙ ap (λ (o : Option Fed). before ++ (option_to_list (fed_by (due_of feed) feed.origin s.0 (whole_by s.0 f)) ++ option_to_list o)) (loses s.0 s.1)
+    last ∙ ap (λ (xs : List Fed). xs ++ option_to_list told) first
+    ∙ append_assoc before (option_to_list one) (option_to_list told)
+    ∙ ap (λ (o : Option Fed). before ++ (option_to_list o ++ option_to_list told)) (feeds s.0 s.1)
+    ∙ ap (λ (d : Due). before ++ (option_to_list (fed_by d feed.origin s.0 (whole_by s.0 f)) ++ option_to_list told)) is
+    ∙ ap (λ (o : Option Fed). before ++ (option_to_list (fed_by (due_of feed) feed.origin s.0 (whole_by s.0 f)) ++ option_to_list o)) (tells s.0 s.1)
     ∙ ap (λ (xs : List Fed). before ++ xs) (sym (fed_is feed f k s.0 at s.1))
 
 -- 3. A list that is gone through
@@ -162,21 +163,56 @@ pub other_role : (pid : ℕ) (f : FindingView) → has_pid pid f.pid ≡ false �
 unfolding role_of
 other_role pid f other = rw other refl
 
-single_after_by : (e : ℕ) (o : Origin) (s : FedStreamView) (f : FindingView) (own : Bool) → has_pid s.units.pid f.pid ≡ own →
+-- the stream at a finding that cuts nothing: a unit is under way where units follow one another
+record IsQuiet (s : FedStreamView) (f : FindingView) : Type 0 where
+  follows : s.follow ≡ is_some s.units.unit
+  goes_on : (is_some s.units.unit && not (is_some (unit_after s f))) ≡ false
+
+same_follow : (follow before after told : Bool) → follow ≡ before → (before && not after) ≡ false → told ≡ false → (after || (follow && not told)) ≡ after
+same_follow follow before true told is on none = refl
+same_follow follow true false told is on none = absurd cc
+same_follow follow false false told is on none = rw is refl
+
+other_follow : (follow before told : Bool) → follow ≡ before → (before || (follow && told)) ≡ follow
+other_follow follow true told is = sym is
+other_follow follow false told is = rw is refl
+
+nothing_told : (s : FedStreamView) (f : FindingView) → IsQuiet s f → lost_by f.packet f.what ≡ None → told_by s f ≡ None
+unfolding fault_by
+nothing_told s f quiet lost =
+    let cuts : (s.follow && not (is_some (unit_after s f))) ≡ false = ap (λ (b : Bool). b && not (is_some (unit_after s f))) quiet.follows ∙ quiet.goes_on in
+    rw (lost, cuts) refl
+
+no_loss : (own : Bool) (loss : Option Loss) → (own && is_loss loss) ≡ false → own ≡ true → loss ≡ None
+unfolding is_loss
+no_loss own None none is = refl
+no_loss true (Some loss) none is = absurd cc
+no_loss false (Some loss) none is = absurd cc
+
+other_after : (e : ℕ) (o : Origin) (s : FedStreamView) (f : FindingView) → s.follow ≡ is_some s.units.unit → role_of s.units.pid f ≡ Ignored →
+    single e o s ≡ single e o (stream_with (due_from e) o (after_found s f) None)
+unfolding before_with goes_on_as
+other_after e o s f follows other =
+    let with_these = λ (u : UnitsSoFar) (b : Bool). single e o (record { number = s.number; before = s.before; units = u; follow = b }) in
+    let units : after_finding s.units f ≡ s.units = rw other refl in
+    let same : follow_after s f ≡ s.follow =
+    ap (λ (u : UnitsSoFar). is_some u.unit || (s.follow && not (is_some (told_by s f)))) units ∙ other_follow s.follow (is_some s.units.unit) (not (is_some (told_by s f))) follows in
+    sym (ap (λ (b : Bool). with_these (after_finding s.units f) b) same ∙ ap (λ (u : UnitsSoFar). with_these u s.follow) units)
+
+single_after_by : (e : ℕ) (o : Origin) (s : FedStreamView) (f : FindingView) (own : Bool) → s.follow ≡ is_some s.units.unit → has_pid s.units.pid f.pid ≡ own →
     after_one (single e o s) f ≡ single e (origin_after (due_from e) o (whole_by s f)) (stream_with (due_from e) o (after_found s f) (whole_by s f))
-unfolding map_from set_place place_from after_place after_at origin_after before_with made_whole goes_on_as greatest_if
-single_after_by e o s f true own = rw own refl
-single_after_by e o s f false own = rw (own, other_role s.units.pid f own) refl
+unfolding map_from set_place place_from after_place after_at origin_after before_with made_whole greatest_if
+single_after_by e o s f true follows own = rw own refl
+single_after_by e o s f false follows own =
+    let other = other_role s.units.pid f own in
+    let stays : after_one (single e o s) f ≡ single e o s = rw own refl in
+    let none : whole_by s f ≡ None = rw other refl in
+    stays ∙ rw none (other_after e o s f follows other)
 
-not_told : (number : ℕ) (loss : Option Loss) → is_loss loss ≡ false → told_of number loss ≡ None
-unfolding is_loss told_of
-not_told number None none = refl
-not_told number (Some loss) none = absurd cc
-
-single_fed_by : (e : ℕ) (o : Origin) (s : FedStreamView) (f : FindingView) (own : Bool) → has_pid s.units.pid f.pid ≡ own → (own && is_loss (lost_by f.packet f.what)) ≡ false →
+single_fed_by : (e : ℕ) (o : Origin) (s : FedStreamView) (f : FindingView) (own : Bool) → has_pid s.units.pid f.pid ≡ own → (own ≡ true → told_by s f ≡ None) →
     fed_one (single e o s) f ≡ option_to_list (fed_by (due_from e) o s (whole_by s f))
-unfolding map_from set_place change_place map_fed place_from fed_place fed_at fed_with made_whole greatest_if
-single_fed_by e o s f true own none = rw (own, not_told s.number (lost_by f.packet f.what) none) (append-nil (option_to_list (fed_by (due_from e) o s (whole_by s f))))
+unfolding map_from set_place change_place map_fed place_from fed_place fed_at fed_with made_whole greatest_if told_of
+single_fed_by e o s f true own none = rw (own, none refl) (append-nil (option_to_list (fed_by (due_from e) o s (whole_by s f))))
 single_fed_by e o s f false own none = rw (own, other_role s.units.pid f own) refl
 
 neither : (a b : Bool) → (a || b) ≡ false → (a ≡ false) × (b ≡ false)
@@ -187,23 +223,63 @@ fed_more : (feed : FeedView) (f : FindingView) (fs : List FindingView) → fed_t
 unfolding fed_all after_all
 fed_more feed f fs = append_assoc (fed_one feed f) (fed_all (after_one feed f) fs) (fed_ends (after_all (after_one feed f) fs))
 
-single_timed : (e : ℕ) (o : Origin) (s : FedStreamView) (fs : List FindingView) → has_loss s.units.pid fs ≡ false →
+-- a stream of which nothing is lost or cut
+record IsWhole (s : FedStreamView) (fs : List FindingView) : Type 0 where
+  unlost : has_loss s.units.pid fs ≡ false
+  uncut : has_cut s.units.pid fs ≡ false
+  under : under_cut s.units.pid s.units.unit fs ≡ false
+  follows : s.follow ≡ is_some s.units.unit
+
+-- a finding of it: nothing is told, and it is so after it too
+record IsStep (s : FedStreamView) (f : FindingView) (fs : List FindingView) : Type 0 where
+  silent : has_pid s.units.pid f.pid ≡ true → told_by s f ≡ None
+  uncut : has_cut s.units.pid fs ≡ false
+  unlost : has_loss s.units.pid fs ≡ false
+  under : under_cut s.units.pid (unit_after s f) fs ≡ false
+  follows : follow_after s f ≡ is_some (unit_after s f)
+
+whole_step_by : (s : FedStreamView) (f : FindingView) (own : Bool) → IsQuiet s f → has_pid s.units.pid f.pid ≡ own → (own ≡ true → told_by s f ≡ None) →
+    follow_after s f ≡ is_some (unit_after s f)
+unfolding goes_on_as
+whole_step_by s f true quiet own none =
+    let silent : is_some (told_by s f) ≡ false = ap (λ (o : Option FeedFault). is_some o) (none refl) in
+    same_follow s.follow (is_some s.units.unit) (is_some (unit_after s f)) (is_some (told_by s f)) quiet.follows quiet.goes_on silent
+whole_step_by s f false quiet own none =
+    let other = other_role s.units.pid f own in
+    let same : unit_after s f ≡ s.units.unit = rw other refl in
+    let told = not (is_some (told_by s f)) in
+    ap (λ (u : Option CarriedUnit). is_some u || (s.follow && told)) same
+    ∙ other_follow s.follow (is_some s.units.unit) told quiet.follows ∙ quiet.follows ∙ ap (λ (u : Option CarriedUnit). is_some u) (sym same)
+
+whole_step : (s : FedStreamView) (f : FindingView) (fs : List FindingView) → IsWhole s (f ∷ fs) → IsStep s f fs
+unfolding has_cut Uncut
+whole_step s f fs whole =
+    let pid = s.units.pid in
+    let cut = neither (is_start_cut pid (role_of pid f) fs) (has_cut pid fs) whole.uncut in
+    let lost = neither (has_pid pid f.pid && is_loss (lost_by f.packet f.what)) (has_loss pid fs) whole.unlost in
+    let on = uncut_step pid s.units.unit (role_of pid f) fs (sym (past_here pid s.units.unit f fs) ∙ whole.under) cut.0 in
+    let quiet : IsQuiet s f = record { follows = whole.follows; goes_on = on.1 } in
+    let silent : has_pid pid f.pid ≡ true → told_by s f ≡ None = λ own. nothing_told s f quiet (no_loss (has_pid pid f.pid) (lost_by f.packet f.what) lost.0 own) in
+    record { silent = silent; uncut = cut.1; unlost = lost.1; under = on.0; follows = whole_step_by s f (has_pid pid f.pid) quiet refl silent }
+
+single_timed : (e : ℕ) (o : Origin) (s : FedStreamView) (fs : List FindingView) → IsWhole s fs →
     fed_to_end (single e o s) fs ≡ timed (due_from e) o s.number s.before (given s.units fs ++ option_to_list (ended_unit false (after_findings s.units fs).unit))
 unfolding fed_all after_all fed_last given after_findings timed greatest_if
-single_timed e o s [] unlost =
+single_timed e o s [] whole =
     let d = due_from e in
     let w = ended_unit false s.units.unit in
     sym (ap (λ (ws : List CarriedUnit). timed d o s.number s.before ws) (sym (append-nil (option_to_list w))) ∙ timed_one d o s.number s.before w [])
-single_timed e o s (f ∷ fs) unlost =
+single_timed e o s (f ∷ fs) whole =
     let d = due_from e in
-    let none = neither (has_pid s.units.pid f.pid && is_loss (lost_by f.packet f.what)) (has_loss s.units.pid fs) unlost in
+    let step = whole_step s f fs whole in
     let w = whole_by s f in
     let t = stream_with d o (after_found s f) w in
     let later = given t.units fs ++ option_to_list (ended_unit false (after_findings t.units fs).unit) in
+    let rest : IsWhole t fs = record { unlost = step.unlost; uncut = step.uncut; under = step.under; follows = step.follows } in
     fed_more (single e o s) f fs
-    ∙ ap (λ (xs : List Fed). xs ++ fed_to_end (after_one (single e o s) f) fs) (single_fed_by e o s f (has_pid s.units.pid f.pid) refl none.0)
-    ∙ ap (λ (feed : FeedView). option_to_list (fed_by d o s w) ++ fed_to_end feed fs) (single_after_by e o s f (has_pid s.units.pid f.pid) refl)
-    ∙ ap (λ (xs : List Fed). option_to_list (fed_by d o s w) ++ xs) (single_timed e (origin_after d o w) t fs none.1)
+    ∙ ap (λ (xs : List Fed). xs ++ fed_to_end (after_one (single e o s) f) fs) (single_fed_by e o s f (has_pid s.units.pid f.pid) refl step.silent)
+    ∙ ap (λ (feed : FeedView). option_to_list (fed_by d o s w) ++ fed_to_end feed fs) (single_after_by e o s f (has_pid s.units.pid f.pid) whole.follows refl)
+    ∙ ap (λ (xs : List Fed). option_to_list (fed_by d o s w) ++ xs) (single_timed e (origin_after d o w) t fs rest)
     ∙ sym (timed_one d o s.number s.before w later)
     ∙ ap (λ (ws : List CarriedUnit). timed d o s.number s.before ws) (sym (append_assoc (option_to_list w) (given t.units fs) (option_to_list (ended_unit false (after_findings t.units fs).unit))))
 
@@ -289,7 +365,7 @@ moved_by_first e n (w ∷ ws) u us is sound =
 
 pub as_carried : FedAsCarried
 as_carried earliest number pid fs u us uncut unlost is sound =
-    let s : FedStreamView = record { number = number; before = None; units = none_so_far pid true } in
-    single_timed earliest no_origin s fs unlost
+    let s : FedStreamView = record { number = number; before = None; units = none_so_far pid true; follow = false } in
+    single_timed earliest no_origin s fs (record { unlost = unlost; uncut = uncut; under = no_unit pid fs; follows = refl })
     ∙ ap (λ (ws : List CarriedUnit). timed (due_from earliest) no_origin number None ws) (sym (uncut_carried true pid fs uncut))
     ∙ moved_by_first earliest number (carried_units pid fs) u us is sound

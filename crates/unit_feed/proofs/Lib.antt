@@ -1,3 +1,4 @@
+pub mod UncutUnits
 pub mod FedUnits
 pub mod ListedStreams
 pub mod OwnUnits

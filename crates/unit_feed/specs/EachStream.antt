@@ -23,7 +23,7 @@ fed_if n (k, Err fault) = []
 abbrev pub units_fed : ℕ → List Fed → List AccessUnit
 units_fed n fed = flat_map (fed_if n) fed
 
--- something is no unit: a unit that has no moment, a loss of packets, a new map, a jump of the clock
+-- something is no unit: a unit that has no moment, a loss of packets, units that are cut, a new map, a jump of the clock
 unfoldable pub has_fault : Fed → Bool
 has_fault (n, Ok u) = false
 has_fault (n, Err fault) = true
@@ -59,7 +59,7 @@ one_by_one pid (f ∷ fs) = if_start (role_of pid f) (next_starts pid fs) && one
 
 -- one with its number, before its first unit
 abbrev pub fed_stream : ℕ → ℕ → FedStreamView
-fed_stream number pid = record { number = number; before = None; units = none_so_far pid true }
+fed_stream number pid = record { number = number; before = None; units = none_so_far pid true; follow = false }
 
 -- streams before their first unit, numbered from 0 on, each with a PID of its own
 pub record AreFirst (streams : List FedStreamView) : Type 0 where
@@ -86,7 +86,8 @@ pub record AreMovedByOne (earliest : ℕ) (streams : List FedStreamView) (findin
   pub moved_by : (k : ℕ) (s : FedStreamView) → slice_get streams k ≡ Some s → one_by_one s.units.pid findings ≡ true →
       units_fed k fed ≡ moved base None (wire_units s.units.pid findings)
 
--- so it is where nothing is told: no packet of the streams is lost, no map changes, the clock does not jump, and each unit has a moment
+-- so it is where nothing is told: no packet of the streams is lost, nothing cuts their units, no map changes, the clock does not jump, and each
+-- unit has a moment
 abbrev pub FedByOneConstant : Type 0
 FedByOneConstant = (earliest : ℕ) (maps : List FedMap) (streams : List FedStreamView) (bytes : List ℕ) → earliest < 2 ^ 33 → AreFirst streams →
     have_fault (fed_of (feed_first earliest maps streams) bytes) ≡ false →

@@ -1,17 +1,20 @@
 -- The units of a description's streams from what is found of a stream, finding by finding, each at its moment as soon as it is
 -- whole.
-use Rattle.std.specs.Prelude.{ℕ, ◌+◌, ◌-◌, ◌++◌, max, nat_lt, false, if◌then◌else◌, Option, Some, None, Result, Ok, Err, List, [], ◌∷◌, slice_get, slice_set}
+use Rattle.std.specs.Prelude.{ℕ, ◌+◌, ◌-◌, ◌++◌, ◌==◌, ◌&&◌, ◌||◌, not, max, nat_lt, Bool, false, if◌then◌else◌, Option, Some, None, is_some, Result, Ok, Err, List, [], ◌∷◌, slice_get, slice_set}
 use Rattle.std.specs.Option.{option_to_list}
 use Rattle.pes_packet.specs.AccessUnits.{AccessUnit}
-use Rattle.demux.specs.Views.{FindingView, WhatView, BreaksCounter}
+use Rattle.demux.specs.Views.{FindingView, WhatView, IsDuplicate, BreaksCounter, IsScrambled, IsTruncated, IsSection, IsBadSection, IsPes, IsBadPes, IsBadPacket, IsErrored}
 use Rattle.demux.specs.Laws.{has_pid}
-use Rattle.stream_units.specs.CarriedUnits.{CarriedUnit, role_of}
+use Rattle.stream_units.specs.CarriedUnits.{CarriedUnit, first_packet, role_of}
 use Rattle.stream_units.specs.Stamps.{distance, unit_at, unit_fault}
 use Rattle.stream_units.specs.UnitSteps.{UnitsSoFar, after_finding, ended_unit, made_whole}
 use Rattle.stream_units.specs.declared.stamps.StampFault.{StampFault}
 use Rattle.unit_feed.specs.declared.feed_fault.FeedFault.{FeedFault}
 use Rattle.unit_feed.specs.declared.due.Due.{Due}
-use Rattle.unit_feed.specs.declared.feed_fault.FeedFault.TheVariants.{Stamp, Ahead, Lost, Map}
+use Rattle.unit_feed.specs.declared.feed_fault.FeedFault.TheVariants.{Stamp, Ahead, Lost, Cut, Map}
+use Rattle.unit_feed.specs.declared.feed_fault.CutCause.{CutCause}
+use Rattle.unit_feed.specs.declared.feed_fault.CutCause.TheVariants as causes
+use Rattle.unit_feed.specs.declared.feed_fault.CutUnits.{CutUnits}
 use Rattle.unit_feed.specs.declared.feed_fault.Loss.{Loss}
 use Rattle.unit_feed.specs.declared.feed_fault.NewMap.{NewMap}
 use Rattle.unit_feed.specs.declared.fed_map.FedMap.{FedMap}
@@ -21,11 +24,13 @@ use Rattle.unit_feed.specs.Maps.{maps_after, new_map}
 
 -- 1. A stream
 
--- a stream: its number in the description, the DTS of its last unit that has a moment, and what is kept of its units
+-- a stream: its number in the description, the DTS of its last unit that has a moment, what is kept of its units, and whether units
+-- follow one another: one has started, and nothing that is told has come since
 pub record FedStreamView : Type 0 where
   pub number : ℕ
   pub before : Option ℕ
   pub units : UnitsSoFar
+  pub follow : Bool
 
 -- a unit at its moment with the number of its stream, or what is told in its place
 abbrev pub Fed : Type 0
@@ -89,20 +94,58 @@ fed_by due o s w = fed_with due o s.number s.before w
 abbrev pub whole_by : FedStreamView → FindingView → Option CarriedUnit
 whole_by s f = made_whole s.units.split s.units.unit (role_of s.units.pid f)
 
-abbrev pub after_found : FedStreamView → FindingView → FedStreamView
-after_found s f = record s { units = after_finding s.units f }
+-- the unit under way after it
+abbrev pub unit_after : FedStreamView → FindingView → Option CarriedUnit
+unit_after s f = (after_finding s.units f).unit
 
 -- the packets before it that are lost: a continuity_counter does not follow the one before (2.4.3.3)
 unfoldable pub lost_by : ℕ → WhatView → Option Loss
 lost_by packet (BreaksCounter expected found) = Some (record { packet = packet; expected = expected; found = found })
 lost_by packet _ = None
 
-unfoldable pub told_of : ℕ → Option Loss → Option Fed
-told_of number None = None
-told_of number (Some loss) = Some (number, Err (Lost loss))
+-- what it is, where it is neither lost packets nor ignored among units: padding_stream (stream_id 0xBE) is, and a packet that comes twice
+unfoldable pub cause_of : WhatView → Option CutCause
+cause_of IsDuplicate = None
+cause_of (BreaksCounter expected found) = None
+cause_of IsScrambled = Some causes.Scrambled
+cause_of (IsTruncated bytes) = Some causes.Truncated
+cause_of (IsSection bytes) = Some causes.Section
+cause_of (IsBadSection error) = Some causes.Section
+cause_of (IsPes header unended body) = if header.id == 0xBE then None else Some causes.NoPts
+cause_of (IsBadPes error) = Some causes.BadPes
+cause_of (IsBadPacket error) = None
+cause_of IsErrored = None
 
-abbrev pub lost_fed : FedStreamView → FindingView → Option Fed
-lost_fed s f = told_of s.number (lost_by f.packet f.what)
+unfoldable pub cut_at : ℕ → Option CutCause → Option CutUnits
+cut_at packet None = None
+cut_at packet (Some cause) = Some (record { packet = packet; cause = cause })
+
+-- it cuts units that follow one another where none is under way after it, with the packet of its first byte
+abbrev pub cut_by : Bool → FindingView → Option CutUnits
+cut_by cuts f = if cuts then cut_at (first_packet f.packet f.begun) (cause_of f.what) else None
+
+unfoldable pub fault_by : Option Loss → Option CutUnits → Option FeedFault
+fault_by (Some loss) cut = Some (Lost loss)
+fault_by None (Some cut) = Some (Cut cut)
+fault_by None None = None
+
+-- what is told of it: lost packets in any case
+abbrev pub told_by : FedStreamView → FindingView → Option FeedFault
+told_by s f = fault_by (lost_by f.packet f.what) (cut_by (s.follow && not (is_some (unit_after s f))) f)
+
+unfoldable pub told_of : ℕ → Option FeedFault → Option Fed
+told_of number None = None
+told_of number (Some fault) = Some (number, Err fault)
+
+abbrev pub told_fed : FedStreamView → FindingView → Option Fed
+told_fed s f = told_of s.number (told_by s f)
+
+-- units follow one another after it
+abbrev pub follow_after : FedStreamView → FindingView → Bool
+follow_after s f = is_some (unit_after s f) || (s.follow && not (is_some (told_by s f)))
+
+abbrev pub after_found : FedStreamView → FindingView → FedStreamView
+after_found s f = record s { units = after_finding s.units f; follow = follow_after s f }
 
 -- all streams, with the moment at which the first unit is due, the constants, what the clock showed last, in units of 90 kHz, once it has
 -- come, the last tick, 0 before the first, and the programs' maps
@@ -156,7 +199,7 @@ after_at feed f k (Some s) = feed_with feed k (after_found s f) (whole_by s f)
 
 unfoldable pub fed_at : FeedView → FindingView → Option FedStreamView → List Fed
 fed_at feed f None = []
-fed_at feed f (Some s) = option_to_list (fed_by (due_of feed) feed.origin s (whole_by s f)) ++ option_to_list (lost_fed s f)
+fed_at feed f (Some s) = option_to_list (fed_by (due_of feed) feed.origin s (whole_by s f)) ++ option_to_list (told_fed s f)
 
 unfoldable pub after_place : FeedView → FindingView → Option ℕ → FeedView
 after_place feed f None = feed

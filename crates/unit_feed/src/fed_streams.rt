@@ -8,7 +8,7 @@ ghost use Rattle.unit_feed.specs.Origins.{IsOrigin};
 ghost use Rattle.unit_feed.specs.Ticks as ticks;
 
 use crate::due::Due;
-use crate::fed_stream::FedStream;
+use crate::fed_stream::{FedFound, FedStream};
 use crate::feed_fault::FeedFault;
 use crate::origin::Origin;
 use demux::Finding;
@@ -63,12 +63,14 @@ pub(crate) fn take_at(
     due: Due,
     origin: &mut Origin,
     finding: &Finding<'_>,
-) -> Result<Option<(u8, Result<Unit, FeedFault>)>, AllocError>
+) -> Result<FedFound, AllocError>
     requires there { k < length streams.old.items }
     requires due { IfSome due.greatest (λ greatest. greatest ≤ 2 ^ 52) }
     requires origin { IsOrigin origin.old }
-    ensures fed { (s : spec.FedStreamView) → slice_get streams.old.items k ≡ Some s → IfOk result (λ fed. fed
+    ensures fed { (s : spec.FedStreamView) → slice_get streams.old.items k ≡ Some s → IfOk result (λ fed. fed.unit
         ≡ spec.fed_by due origin.old s (spec.whole_by s (finding_view finding.now))) }
+    ensures told { (s : spec.FedStreamView) → slice_get streams.old.items k ≡ Some s →
+        IfOk result (λ fed. fed.told ≡ spec.told_fed s (finding_view finding.now)) }
     ensures streams { (s : spec.FedStreamView) → slice_get streams.old.items k ≡ Some s →
         OnOk result (streams.new.items ≡ slice_set streams.old.items k (spec.stream_with due origin.old
         (spec.after_found s (finding_view finding.now)) (spec.whole_by s (finding_view finding.now)))) }
@@ -101,18 +103,4 @@ pub(crate) fn end_at(
 {
     let stream = &mut streams[k];
     stream.end(due, origin)
-}
-
-/// The loss of packets that a finding tells of, for the stream at a place.
-pub(crate) fn loss_at(
-    streams: &[FedStream],
-    k: usize,
-    finding: &Finding<'_>,
-) -> Option<(u8, Result<Unit, FeedFault>)>
-    requires { k < length streams.now }
-    ensures { (s : spec.FedStreamView) → slice_get streams.now k ≡ Some s →
-        result ≡ spec.lost_fed s (finding_view finding.now) }
-{
-    let stream = &streams[k];
-    stream.loss(finding)
 }

@@ -13,6 +13,30 @@ pub struct Loss {
     pub found: u8,
 }
 
+/// Why the units of a PID do not go on to the start of the next one.
+#[derive(Clone, Copy, PartialEq, Eq)]
+pub enum CutCause {
+    /// A packet whose payload is scrambled.
+    Scrambled,
+    /// A PES packet or a section that is cut short.
+    Truncated,
+    /// A section, or what is none where one should stand.
+    Section,
+    /// A PES packet whose header is refused.
+    BadPes,
+    /// A PES packet without a PTS that goes on with no unit under way: that is of another stream_id, or has ended.
+    NoPts,
+}
+
+/// The units of a PID are cut: the one under way is left out, and so is what comes before the next one starts.
+#[derive(Clone, Copy, PartialEq, Eq)]
+pub struct CutUnits {
+    /// The packet of the first byte of what cuts them.
+    pub packet: u64,
+    /// What it is.
+    pub cause: CutCause,
+}
+
 /// A map of a program that is of another version than the one before it.
 #[derive(Clone, Copy, PartialEq, Eq)]
 pub struct NewMap {
@@ -48,6 +72,8 @@ pub enum FeedFault {
     Ahead(u64),
     /// Packets of its PID are lost.
     Lost(Loss),
+    /// Its units are cut by something else than lost packets.
+    Cut(CutUnits),
     /// A program's map changes.
     Map(NewMap),
     /// The clock jumps.

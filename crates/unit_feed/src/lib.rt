@@ -33,7 +33,7 @@ mod stream_feed;
 
 pub use fed_map::{CurrentMap, FedMap};
 pub use fed_stream::FedStream;
-pub use feed_fault::{ClockJump, FeedFault, Loss, NewMap};
+pub use feed_fault::{ClockJump, CutCause, CutUnits, FeedFault, Loss, NewMap};
 pub use laws::{
     fed_apart, fed_as_carried, fed_by_one_constant, fed_in_order, fed_in_turn, fed_so_far,
     fed_without_clock, ticks_are_past,

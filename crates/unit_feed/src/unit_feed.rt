@@ -8,7 +8,7 @@ ghost use Rattle.unit_feed.specs.Feeding as spec;
 use crate::due::Due;
 use crate::fed_map::{FedMap, watch};
 use crate::fed_stream::FedStream;
-use crate::fed_streams::{greatest_of, loss_at, place_of, take_at};
+use crate::fed_streams::{greatest_of, place_of, take_at};
 use crate::feed_fault::{FeedFault, NewMap};
 use crate::origin::Origin;
 use demux::Finding;
@@ -137,16 +137,15 @@ impl UnitFeed {
         let Some(k) = place_of(finding.pid, &self.streams) else {
             return Ok(());
         };
-        let loss = loss_at(&self.streams, k, finding);
         let due = self.due();
-        let one = take_at(&mut self.streams, k, alloc, due, &mut self.origin, finding)?;
-        push_fed(fed, one)?;
-        push_fed(fed, loss)?;
+        let found = take_at(&mut self.streams, k, alloc, due, &mut self.origin, finding)?;
+        push_fed(fed, found.unit)?;
+        push_fed(fed, found.told)?;
         Ok(())
     }
 
     /// Takes a finding; the unit that it makes whole goes to `fed`, at its moment with the number of its stream, or why it
-    /// can't have one, and the loss of packets of a stream or the new version of a map that it tells of.
+    /// can't have one, and the loss of packets of a stream, what cuts its units or the new version of a map that it tells of.
     pub fn take(
         &mut self,
         alloc: &Global,

@@ -1,5 +1,5 @@
 -- What goes out of what a stream feeds: the records of its units and of ticks, and a line for each unit that has no moment, each loss of
--- packets, each new map and each jump of the clock.
+-- packets, whatever else cuts units, each new map and each jump of the clock.
 use Rattle.std.specs.Prelude.{ℕ, List, [], ◌∷◌, Ok, Err, codes, slice_get, unwrap_or}
 use Rattle.std.specs.List.{flat_map}
 use Rattle.unit_records.specs.Records.{record_bytes}
@@ -9,7 +9,10 @@ pub use Rattle.unit_feed.specs.EachStream.{has_fault, have_fault}
 use Rattle.unit_feed.specs.Feeding.{Fed}
 use Rattle.unit_feed.specs.declared.feed_fault.FeedFault.{FeedFault}
 use Rattle.unit_feed.specs.declared.feed_fault.ClockJump.{ClockJump}
-use Rattle.unit_feed.specs.declared.feed_fault.FeedFault.TheVariants.{Stamp, Ahead, Lost, Map, Clock}
+use Rattle.unit_feed.specs.declared.feed_fault.FeedFault.TheVariants.{Stamp, Ahead, Lost, Cut, Map, Clock}
+use Rattle.unit_feed.specs.declared.feed_fault.CutCause.{CutCause}
+use Rattle.unit_feed.specs.declared.feed_fault.CutCause.TheVariants.{Scrambled, Truncated, Section, BadPes, NoPts}
+use Rattle.unit_feed.specs.declared.feed_fault.CutUnits.{CutUnits}
 use Rattle.unit_feed.specs.declared.feed_fault.Loss.{Loss}
 use Rattle.unit_feed.specs.declared.feed_fault.NewMap.{NewMap}
 use Rattle.devices.specs.Lines.{line_text}
@@ -32,6 +35,17 @@ stamp_line pid DtsTooFar = line_text (codes "dts-far") (pid ∷ [])
 abbrev pub loss_line : ℕ → Loss → List ℕ
 loss_line pid loss = line_text (codes "lost") (pid ∷ loss.packet ∷ loss.expected ∷ loss.found ∷ [])
 
+-- what cuts the units of a PID, with the packet of its first byte
+unfoldable pub cut_name : CutCause → List ℕ
+cut_name Scrambled = codes "scrambled"
+cut_name Truncated = codes "truncated"
+cut_name Section = codes "section"
+cut_name BadPes = codes "bad-pes"
+cut_name NoPts = codes "no-pts"
+
+abbrev pub cut_line : ℕ → CutUnits → List ℕ
+cut_line pid cut = line_text (cut_name cut.cause) (pid ∷ cut.packet ∷ [])
+
 -- the map of a program that is whole at a packet is of another version than the one before it
 abbrev pub map_line : NewMap → List ℕ
 map_line map = line_text (codes "map") (map.program ∷ map.packet ∷ map.before ∷ map.version ∷ [])
@@ -48,6 +62,7 @@ unfoldable pub fault_line : ℕ → FeedFault → List ℕ
 fault_line pid (Stamp fault) = stamp_line pid fault
 fault_line pid (Ahead by) = ahead_line pid by
 fault_line pid (Lost loss) = loss_line pid loss
+fault_line pid (Cut cut) = cut_line pid cut
 fault_line pid (Map map) = map_line map
 fault_line pid (Clock jump) = clock_line jump
 

@@ -1,5 +1,5 @@
 -- A stream, read as it comes, and what goes out of it: the records of its units and of ticks before the next read, and a line for each
--- unit that has no moment, each loss of packets, each new map and each jump of the clock.
+-- unit that has no moment, each loss of packets, whatever else cuts units, each new map and each jump of the clock.
 use Rattle.std.specs.Prelude.{◌≡◌, ◌⊎◌, ◌<◌, ◌≤◌, ◌-◌, ◌^◌, ℕ, Bool, false, if◌then◌else◌, List, [], ◌++◌, length, take, Result, Ok, Err}
 use Rattle.std.specs.Io.KnownBytes.{Consumes, IsAtEnd}
 use Rattle.devices.specs.Devices.{Device, Port, HasFailed, IsClean, IsUntouched, Takes, between}

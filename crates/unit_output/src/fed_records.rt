@@ -1,7 +1,7 @@
-//! What a stream feeds: records on an output, and lines for units that have no moment, lost packets, new maps and a clock that
-//! jumps.
+//! What a stream feeds: records on an output, and lines for units that have no moment, lost packets, what else cuts units, new
+//! maps and a clock that jumps.
 
-ghost use Rattle.std.specs.Prelude.{◌≡◌, ◌++◌};
+ghost use Rattle.std.specs.Prelude.{◌≡◌, ◌≤◌, ◌++◌, length};
 ghost use Rattle.devices.specs.Devices.{writes};
 ghost use Rattle.devices.specs.Lines.{Reports, Tells, WritesLine};
 ghost use Rattle.unit_output.specs.FedLines as spec;
@@ -13,7 +13,7 @@ use counted_io::Sink;
 use devices::{Halt, report_line};
 use pes_packet::Unit;
 use stream_units::StampFault;
-use unit_feed::{ClockJump, FeedFault, Loss, NewMap};
+use unit_feed::{ClockJump, CutCause, CutUnits, FeedFault, Loss, NewMap};
 
 // Puts the record of a unit that is fed, where it has a moment.
 #[tactic(auto, unfolding(crate::specs::FedLines::fed_record))]
@@ -101,6 +101,29 @@ fn report_loss<E: Sink>(faults: &mut E, pid: u16, loss: Loss)
     report_line(faults, "lost", &numbers);
 }
 
+// The name of what cuts units.
+#[tactic(auto, unfolding(crate::specs::FedLines::cut_name))]
+fn cut_name(cause: CutCause) -> &'static str
+    ensures value { result.now ≡ spec.cut_name cause }
+    ensures bound { length result.now ≤ 40 }
+{
+    match cause {
+        CutCause::Scrambled => "scrambled",
+        CutCause::Truncated => "truncated",
+        CutCause::Section => "section",
+        CutCause::BadPes => "bad-pes",
+        CutCause::NoPts => "no-pts",
+    }
+}
+
+// Reports what cuts the units of a PID.
+fn report_cut<E: Sink>(faults: &mut E, pid: u16, cut: CutUnits)
+    ensures { Reports (writes E.Sink faults.old faults.new) (spec.cut_line pid cut) }
+{
+    let numbers = [u128::from(pid), u128::from(cut.packet)];
+    report_line(faults, cut_name(cut.cause), &numbers);
+}
+
 // Reports that a program's map is of another version than the one before it.
 fn report_map<E: Sink>(faults: &mut E, map: NewMap)
     ensures { Reports (writes E.Sink faults.old faults.new) (spec.map_line map) }
@@ -143,6 +166,7 @@ fn report_fault<E: Sink>(faults: &mut E, pid: u16, fault: FeedFault)
         FeedFault::Stamp(fault) => report_stamp(faults, pid, fault),
         FeedFault::Ahead(by) => report_ahead(faults, pid, by),
         FeedFault::Lost(loss) => report_loss(faults, pid, loss),
+        FeedFault::Cut(cut) => report_cut(faults, pid, cut),
         FeedFault::Map(map) => report_map(faults, map),
         FeedFault::Clock(jump) => report_jump(faults, jump),
     }
@@ -164,8 +188,8 @@ fn tell_one<E: Sink>(faults: &mut E, pids: &[u16], fed: &(u8, Result<Unit, FeedF
     }
 }
 
-/// Reports each unit that has no moment, each loss of packets, each new map and each jump of the clock, and returns whether
-/// there is one.
+/// Reports each unit that has no moment, each loss of packets, whatever else cuts units, each new map and each jump of the
+/// clock, and returns whether there is one.
 pub(crate) fn tell_faults<E: Sink>(
     faults: &mut E,
     pids: &[u16],

@@ -1,6 +1,6 @@
 use Rattle.std.proofs.Common.{◌≡◌, ◌<◌, ◌++◌, ◌∙◌, Some, None, List, length, slice_get, sym, ap, rules, arith}
 use Rattle.demux.specs.Shown.{finding_view}
-use Rattle.unit_feed.specs.Feeding.{FedStreamView, FeedView, due_of, lost_fed, place_from, after_unit, fed_unit}
+use Rattle.unit_feed.specs.Feeding.{FedStreamView, FeedView, due_of, place_from, after_unit, fed_unit}
 use Rattle.unit_feed.proofs.FedUnits.{no_place_after, no_place_fed, placed_after, placed_fed}
 use Rattle.unit_feed.proofs.unit_feed.UnitFeed.take_unit.Goals as goal
 
@@ -28,7 +28,7 @@ returns-clause-feed c =
     let due : c.due-due.result ≡ due_of feed = c.due-due.ensures.value ∙ ap (λ (v : FeedView). due_of v) (sym c.self.view_is) in
     let at = c.in-Some.ensures.value ∙ ap (λ (ss : List FedStreamView). place_from f.pid 0 ss) c.deref.ensures.value in
     let below : c.in-Some.k < length feed.streams = omega (arith, c.in-Some.ensures.bound, ap (length {A = FedStreamView}) c.deref.ensures.value) in
-    placed_after feed f c.in-Some.k c.due-due.result c.take_at.new.origin c.take_at.new.streams.items at below due c.in_ok-one.ensures.streams c.in_ok-one.ensures.origin
+    placed_after feed f c.in-Some.k c.due-due.result c.take_at.new.origin c.take_at.new.streams.items at below due c.in_ok-found.ensures.streams c.in_ok-found.ensures.origin
     ∙ ap (λ (v : FeedView). after_unit v f) c.self.view_is
 
 pub returns-clause-fed : goal.returns-clause-fed
@@ -39,8 +39,6 @@ returns-clause-fed c =
     let due : c.due-due.result ≡ due_of feed = c.due-due.ensures.value ∙ ap (λ (v : FeedView). due_of v) (sym c.self.view_is) in
     let at = c.in-Some.ensures.value ∙ ap (λ (ss : List FedStreamView). place_from f.pid 0 ss) c.deref.ensures.value in
     let below : c.in-Some.k < length feed.streams = omega (arith, c.in-Some.ensures.bound, ap (length {A = FedStreamView}) c.deref.ensures.value) in
-    let loses : (s : FedStreamView) → slice_get feed.streams c.in-Some.k ≡ Some s → c.loss_at-loss.result ≡ lost_fed s f =
-    λ s is. c.loss_at-loss.ensures s (ap (λ (ss : List FedStreamView). slice_get ss c.in-Some.k) c.deref-2.ensures.value ∙ is) in
-    placed_fed feed f c.in-Some.k c.due-due.result c.in_ok-one.one c.loss_at-loss.result c.args.fed.now.items c.push_fed.new.fed.items c.push_fed-2.new.fed.items at below due
-    c.in_ok-one.ensures.fed loses c.in_ok-push_fed.ensures c.in_ok-push_fed-2.ensures
+    placed_fed feed f c.in-Some.k c.due-due.result c.in_ok-found.found.unit c.in_ok-found.found.told c.args.fed.now.items c.push_fed.new.fed.items c.push_fed-2.new.fed.items at below due
+    c.in_ok-found.ensures.fed c.in_ok-found.ensures.told c.in_ok-push_fed.ensures c.in_ok-push_fed-2.ensures
     ∙ ap (λ (v : FeedView). c.args.fed.now.items ++ fed_unit v f) c.self.view_is
