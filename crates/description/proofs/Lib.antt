@@ -22,3 +22,4 @@ pub mod PidCounts
 pub mod Pids
 pub mod Allowed
 pub mod SectionCounts
+pub mod Entries

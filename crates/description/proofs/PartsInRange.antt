@@ -6,13 +6,15 @@ use Rattle.std.specs.Option.{option_to_list}
 use Rattle.std.specs.List.{filter_map}
 use Rattle.toml.specs.Data.{Data, get}
 use Rattle.unit_timing.specs.declared.allowance.Allowance.{Allowance}
-use Rattle.description.specs.Ranges.{IsPid, IsBytes, IsNetwork, IsEvent, IsProgram, IsStreamId, IsGroups, IsPace, IsAllowance, IsStream, IsTable}
+use Rattle.description.specs.Ranges.{IsPid, IsBytes, IsNetwork, IsEvent, IsProgram, IsStreamId, IsGroups, IsPace, IsAllowance, IsStream, IsEntry, IsTable}
 use Rattle.description.specs.Values.{integer_in, integer_at, elements, is_one_section, section_in}
 use Rattle.description.specs.StreamKeys.{is_stream_id, stream_id, is_video_id, id_or_private, greatest_size, leaves_out_buffers, stream_rx, stream_main, stream_size, stream_tag, stream_group, unit_packets, greatest_group_packets, stream_group_packets, is_paced, stream_burst_packets, stream_pace, stream_allowance}
-use Rattle.description.specs.Contents.{described_network, described_event, is_owned_by, described_number, described_program, described_stream, described_sections, described_table}
+use Rattle.description.specs.Contents.{described_network, described_event, is_owned_by, described_number, described_program, described_stream, described_sections, described_entry, described_table}
+use Rattle.description.specs.Described.{DescribedEntry}
+use Rattle.description.specs.TableKeys.{is_listed}
 use Rattle.description.specs.Refusals.{events_of}
 use Rattle.description.proofs.KeyRanges.{Within, holds_of, at_key-all, map_all, integer_in-within, integer_at-within, integer_or-within, moment_at-within}
-use Rattle.description.proofs.TextRanges.{text_at-is, text_or-is, descriptors-is, language_at-is, optional_language-is, IsSectionBytes, sections-are, weaker, then_tested}
+use Rattle.description.proofs.TextRanges.{text_at-is, text_or-is, descriptors-is, descriptors_at-is, language_at-is, optional_language-is, IsSectionBytes, sections-are, weaker, then_tested}
 use Rattle.description.proofs.Counts.{HasLength}
 
 pid_is : (key : List ℕ) (d : Data) → IsPid (unwrap_or (integer_at key (pos 32) (pos 8190) d) 32)
@@ -165,6 +167,15 @@ stream_is d =
       allowance = allowance_is d small;
     }
 
+entry_is : (d : Data) → IsEntry (described_entry d)
+entry_is d =
+    let kind = integer_at-within (codes "stream_type") 1 255 1 d (omega arith) (omega arith) in
+    record { some_type = kind.least; most_type = kind.most; descriptors = descriptors_at-is (codes "descriptors") d }
+
+listed_is : (b : Bool) (e : DescribedEntry) → IsEntry e → All IsEntry (option_to_list (if b then Some e else None))
+listed_is true e is = All-cons IsEntry e [] is (All-nil IsEntry)
+listed_is false e is = All-nil IsEntry
+
 pub table_is : (d : Data) → HasLength 1 8 (length (described_sections d)) → IsTable (described_table d)
 table_is d counted =
     let limit = integer_at-within (codes "limit") 1 30000 1 d (omega arith) (omega arith) in
@@ -178,4 +189,5 @@ table_is d counted =
       sections = All-weaker IsSectionBytes (IsBytes 4096) (λ s h. h.octets) (filter_map section_in (elements (codes "sections") d)) are;
       no_empty_section = All-weaker IsSectionBytes (λ s. 3 ≤ length s) (λ s h. h.three) (filter_map section_in (elements (codes "sections") d)) are;
       whole_sections = All-weaker IsSectionBytes (λ s. is_one_section s ≡ true) (λ s h. h.whole) (filter_map section_in (elements (codes "sections") d)) are;
+      entry = listed_is (is_listed d) (described_entry d) (entry_is d);
     }

@@ -1,5 +1,5 @@
 -- A document that is not refused describes what is in all its ranges.
-use Rattle.std.proofs.Common.{◌≡◌, ℕ, suc, zero, ◌+◌, ◌-◌, ◌≤◌, ◌==◌, ◌||◌, nat_lt, Bool, true, false, List, [], ◌∷◌, ◌++◌, map, get_or, slice_get, Option, None, Some, unwrap_or, option_map, refl, ap, sym, ◌∙◌, arith, if◌then◌else◌, All, Contains, codes, is_some, IsTrue, inl, inr}
+use Rattle.std.proofs.Common.{◌≡◌, ℕ, suc, zero, ◌+◌, ◌-◌, ◌≤◌, ◌==◌, ◌||◌, ◌&&◌, not, nat_lt, Bool, true, false, List, [], ◌∷◌, ◌++◌, map, get_or, slice_get, Option, None, Some, unwrap_or, option_map, refl, ap, sym, ◌∙◌, arith, if◌then◌else◌, All, Contains, codes, is_some, IsTrue, inl, inr}
 use Rattle.std.proofs.lemmas.Bool.{or_parts, ltb-false, cases_Bool, eqb-true}
 use Rattle.std.proofs.lemmas.List.Elements.{All-nil, All-cons, All-map}
 use Rattle.std.proofs.lemmas.List.Folds.{list_any-append}
@@ -8,12 +8,13 @@ use Rattle.std.specs.List.{list_any}
 use Rattle.std.specs.Option.{option_to_list, option_or}
 use Rattle.toml.specs.Data.{Data}
 use Rattle.description.specs.Described.{Described, DescribedNetwork}
-use Rattle.description.specs.Ranges.{IsInRange, IsNetwork, IsProgram, IsStream, IsTable, named_pids, program_numbers, longest_section}
+use Rattle.description.specs.Ranges.{IsInRange, IsNetwork, IsProgram, IsStream, IsTable, IsListed, named_pids, program_numbers, longest_section}
 use Rattle.description.specs.Tables.{only_if, has_event, service_tables, table_kinds, pmt_length, nit_length, sdt_length, numbers_from}
 use Rattle.description.specs.Values.{tables_at}
 use Rattle.description.specs.ProgramKeys.{program_number}
 use Rattle.description.specs.StreamKeys.{owner_number, has_number, declares, has_owner, refuses_stream}
-use Rattle.description.specs.Contents.{described, described_network, described_program, described_stream, described_table}
+use Rattle.description.specs.Contents.{described, described_network, described_program, described_stream, described_entry, described_table}
+use Rattle.description.specs.TableKeys.{is_listed}
 use Rattle.description.specs.Consistency.{is_distinct, is_too_long, first_place, equal_pids_fault, equal_numbers_fault, event_order_fault, too_long_fault, joint_fault}
 use Rattle.description.specs.Refusals.{key_fault, programs_of, streams_of, tables_of, network_of, first_refused, stream_keys}
 use Rattle.description.specs.declared.fault.DescFault.{DescFault}
@@ -21,7 +22,7 @@ use Rattle.description.specs.declared.fault.DescFault.TheVariants.{Streams, Stre
 use Rattle.description.specs.declared.table_kind.TableKind.{TableKind}
 use Rattle.description.specs.declared.table_kind.TableKind.TheVariants.{Pat, Pmt, Nit, Sdt, Eit, Tdt, Private}
 use Rattle.description.proofs.KeyRanges.{integer_at-within, integer_or-within, moment_at-within}
-use Rattle.description.proofs.Counts.{NoFault, no_fault, or_none, if_none, map_none, all_accept, not_false, has_counts, table_sections, elements-length}
+use Rattle.description.proofs.Counts.{NoFault, no_fault, or_none, if_none, map_none, all_accept, not_false, has_counts, tables_accepted, table_sections, elements-length}
 use Rattle.description.proofs.PartsInRange.{network_is, program_is, stream_is, table_is}
 use Rattle.description.proofs.Distinct.{IsDistinct-is, most_events}
 use Rattle.description.proofs.TableNumbers.{table_kind-pmt}
@@ -139,6 +140,17 @@ streams_declared d none =
     let accepts = all_accept (λ key. refuses_stream key d) stream_keys (streams_of d) (map_none (λ p. Stream p.0 p.1) (first_refused (λ key. refuses_stream key d) stream_keys (streams_of d)) arrays.1) in
     λ k other within. owner_declared d (owner_number (get_or (streams_of d) k other)) (not_false (has_owner d (get_or (streams_of d) k other)) (accepts.0 k other within))
 
+-- so is that of each table's entry
+listed_declared : (document part : Data) (b : Bool) → (b && not (has_owner document part)) ≡ false
+    → All (λ e. Contains (program_numbers (described document)) e.program) (option_to_list (if b then Some (described_entry part) else None))
+listed_declared document part false h = All-nil (λ e. Contains (program_numbers (described document)) e.program)
+listed_declared document part true h =
+    All-cons (λ e. Contains (program_numbers (described document)) e.program) (described_entry part) []
+    (owner_declared document (owner_number part) (not_false (has_owner document part) h)) (All-nil (λ e. Contains (program_numbers (described document)) e.program))
+
+tables_declared : (d : Data) → NoFault d → All (λ part. IsListed (described d) (described_table part)) (tables_of d)
+tables_declared d none = λ k other within. listed_declared d (get_or (tables_of d) k other) (is_listed (get_or (tables_of d) k other)) ((tables_accepted d none).1.1.1.0 k other within)
+
 within_trans : {a b c : ℕ} → a ≤ b → b ≤ c → a ≤ c
 within_trans h k = omega arith
 
@@ -175,6 +187,7 @@ described-in_range document keys joint =
       declared = All-map (λ s. Contains (program_numbers (described document)) s.program) described_stream (streams_of document) (streams_declared document none);
       most_tables = counts.most_tables;
       tables = All-map IsTable described_table (tables_of document) (λ k other within. table_is (get_or (tables_of document) k other) (table_sections document none k other within));
+      listed = All-map (IsListed (described document)) described_table (tables_of document) (tables_declared document none);
       distinct_pids = IsDistinct-is (named_pids (described document)) parts.pids;
       distinct_numbers = numbers;
       pmt_lengths = pmt_fits (described document) parts.lengths;

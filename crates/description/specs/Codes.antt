@@ -70,6 +70,9 @@ abbrev pub table_code : TableKey → ℕ
 table_code table.Pid = 71
 table_code table.Limit = 72
 table_code table.Sections = 73
+table_code table.Program = 74
+table_code table.StreamType = 75
+table_code table.Descriptors = 76
 
 -- the number of a refusal
 abbrev pub fault_code : DescFault → ℕ

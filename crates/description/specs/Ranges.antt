@@ -4,7 +4,7 @@ use Rattle.std.specs.List.{IsDistinct}
 use Rattle.std.specs.Option.{option_to_list}
 use Rattle.unit_timing.specs.declared.allowance.Allowance.{Allowance}
 use Rattle.unit_timing.specs.declared.allowance.Allowance.TheVariants.{Groups, Pace}
-use Rattle.description.specs.Described.{Described, DescribedNetwork, DescribedProgram, DescribedStream, DescribedEvent, DescribedTable}
+use Rattle.description.specs.Described.{Described, DescribedNetwork, DescribedProgram, DescribedStream, DescribedEvent, DescribedEntry, DescribedTable}
 use Rattle.description.specs.Values.{is_one_section}
 use Rattle.description.specs.Tables.{pmt_length, nit_length, sdt_length, greatest_unit_packets}
 
@@ -96,6 +96,11 @@ pub record IsStream (s : DescribedStream) : Type 0 where
   pub descriptors : IsBytes 700 s.descriptors
   pub allowance : IsAllowance (greatest_unit_packets s) s.allowance
 
+pub record IsEntry (e : DescribedEntry) : Type 0 where
+  pub some_type : 1 ≤ e.stream_type
+  pub most_type : e.stream_type ≤ 255
+  pub descriptors : IsBytes 700 e.descriptors
+
 pub record IsTable (t : DescribedTable) : Type 0 where
   pub pid : IsPid t.pid
   pub some_limit : 1 ≤ t.limit
@@ -105,6 +110,7 @@ pub record IsTable (t : DescribedTable) : Type 0 where
   pub sections : All (IsBytes 4096) t.sections
   pub no_empty_section : All (λ s. 3 ≤ length s) t.sections
   pub whole_sections : All (λ s. is_one_section s ≡ true) t.sections
+  pub entry : All IsEntry (option_to_list t.entry)
 
 -- every PID that the description names
 abbrev pub named_pids : Described → List ℕ
@@ -117,6 +123,10 @@ program_numbers d = map (λ p. p.number) d.programs
 -- a section of at most this many bytes has a section_length of at most 1,021 (ISO/IEC 13818-1, 2.4.4.4)
 abbrev pub longest_section : ℕ
 longest_section = 1024
+
+-- the PMTs that name a table are those of declared programs
+abbrev pub IsListed : Described → DescribedTable → Type 0
+IsListed d t = All (λ e. Contains (program_numbers d) e.program) (option_to_list t.entry)
 
 -- how many parts there are
 pub record HasCounts (d : Described) : Type 0 where
@@ -144,6 +154,7 @@ pub record IsInRange (d : Described) : Type 0 where
   pub declared : All (λ s. Contains (program_numbers d) s.program) d.streams
   pub most_tables : length d.tables ≤ 16
   pub tables : All IsTable d.tables
+  pub listed : All (IsListed d) d.tables
   pub distinct_pids : IsDistinct nat_eq (named_pids d)
   pub distinct_numbers : IsDistinct nat_eq (program_numbers d)
   pub pmt_lengths : All (λ p. pmt_length d p ≤ longest_section) d.programs

@@ -44,7 +44,7 @@ abbrev pub event_keys : List EventKey
 event_keys = event.Program ∷ event.Id ∷ event.Start ∷ event.Duration ∷ event.Language ∷ event.Name ∷ event.Text ∷ []
 
 abbrev pub table_keys : List TableKey
-table_keys = table.Pid ∷ table.Limit ∷ table.Sections ∷ []
+table_keys = table.Pid ∷ table.Limit ∷ table.Sections ∷ table.Program ∷ table.StreamType ∷ table.Descriptors ∷ []
 
 -- the first key in its order that refuses a part, with the first part that it refuses
 abbrev pub first_refused : {K : Type 0} → (K → Data → Bool) → List K → List Data → Option (K × ℕ)

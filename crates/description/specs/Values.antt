@@ -77,6 +77,9 @@ descriptors_in d = option_and_then (λ bytes. if are_whole_descriptors bytes the
 abbrev pub descriptors_or_none : List ℕ → Data → Option (List ℕ)
 descriptors_or_none key = at_key key (Some []) descriptors_in
 
+abbrev pub descriptors_at : List ℕ → Data → Option (List ℕ)
+descriptors_at key = at_key key None descriptors_in
+
 -- hexadecimal bytes that are exactly one section (ISO/IEC 13818-1, 2.4.4.10)
 abbrev pub is_one_section : List ℕ → Bool
 is_one_section bytes = elim (section_at bytes) [ Ok section ↦ section.1 == length bytes | Err e ↦ false ]

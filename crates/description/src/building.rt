@@ -12,6 +12,7 @@ ghost use Rattle.description.specs.Contents as spec;
 use crate::arrays::elements;
 use crate::contents::Contents;
 use crate::descriptors::DescriptorLoop;
+use crate::map_entry::MapEntry;
 use crate::network::Network;
 use crate::owner::owner_number;
 use crate::private_section::{PrivateSection, section_of};
@@ -144,6 +145,26 @@ fn sections_of(alloc: Global, parts: &[Value]) -> Result<Vec<PrivateSection>, Al
     Ok(sections)
 }
 
+fn entry_of(table: &Value) -> MapEntry
+    ensures { result ≡ spec.described_entry (view table.now) }
+{
+    MapEntry {
+        program: owner_number(table).unwrap_or(1),
+        stream_type: table_keys::entry_type(table).unwrap_or(1),
+        descriptors: table_keys::entry_descriptors(table).unwrap_or(DescriptorLoop::none()),
+    }
+}
+
+fn entry_if_listed(table: &Value) -> Option<MapEntry>
+    ensures { result ≡ spec.entry_if_listed (view table.now) }
+{
+    if table_keys::is_listed(table) {
+        Some(entry_of(table))
+    } else {
+        None
+    }
+}
+
 fn table_of(alloc: Global, table: &Value) -> Result<PrivateTable, AllocError>
     ensures { IfOk result (λ t. t ≡ spec.described_table (view table.now)) }
 {
@@ -152,6 +173,7 @@ fn table_of(alloc: Global, table: &Value) -> Result<PrivateTable, AllocError>
         pid: table_keys::pid(table).unwrap_or(32),
         limit: table_keys::limit(table).unwrap_or(1),
         sections,
+        entry: entry_if_listed(table),
     })
 }
 

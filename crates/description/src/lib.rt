@@ -10,6 +10,7 @@
 mod contents;
 mod description;
 mod descriptors;
+mod map_entry;
 mod network;
 mod private_section;
 mod private_table;
@@ -61,6 +62,7 @@ pub use description::Description;
 pub use descriptors::DescriptorLoop;
 pub use event_keys::EventKey;
 pub use fault::{DescError, DescFault};
+pub use map_entry::MapEntry;
 pub use network::Network;
 pub use network_keys::NetworkKey;
 pub use private_section::PrivateSection;

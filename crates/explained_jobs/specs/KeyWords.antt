@@ -68,3 +68,6 @@ unfoldable pub table_words : TableKey → List ℕ × List ℕ
 table_words table.Pid = (codes "pid", codes "a PID, 32 to 8190")
 table_words table.Limit = (codes "limit", codes "1 to 30000 ms")
 table_words table.Sections = (codes "sections", codes "1 to 8 strings of hex, each a whole section of up to 4096 bytes with its check word")
+table_words table.Program = (codes "program", codes "the number of a program, beside stream_type and descriptors")
+table_words table.StreamType = (codes "stream_type", codes "1 to 255, beside program and descriptors")
+table_words table.Descriptors = (codes "descriptors", codes "hex of whole descriptors, up to 700 bytes, beside program and stream_type")

@@ -127,5 +127,14 @@ pub fn table_words(key: TableKey) -> KeyWords
             "sections",
             "1 to 8 strings of hex, each a whole section of up to 4096 bytes with its check word",
         ),
+        TableKey::Program => (
+            "program",
+            "the number of a program, beside stream_type and descriptors",
+        ),
+        TableKey::StreamType => ("stream_type", "1 to 255, beside program and descriptors"),
+        TableKey::Descriptors => (
+            "descriptors",
+            "hex of whole descriptors, up to 700 bytes, beside program and stream_type",
+        ),
     }
 }

@@ -17,7 +17,7 @@ use Rattle.psi_tables.proofs.SectionWritten.{written as section_written}
 use Rattle.description.specs.Described.{Described, DescribedProgram, DescribedStream}
 use Rattle.description.specs.Ranges.{IsInRange, IsProgram, IsStream, longest_section}
 use Rattle.description.specs.Tables.{table_kinds, table_kind, table_count, table_pid, table_limit, section_count, section_lengths, kind_lengths, pmt_length}
-use Rattle.description.specs.SectionBytes.{network_entries, pat_entry, pmt_stream, is_of_program, pmt_streams, pmt_says, kind_bytes, table_bytes}
+use Rattle.description.specs.SectionBytes.{network_entries, pat_entry, pmt_stream, is_of_program, pmt_streams, pmt_tables, pmt_says, kind_bytes, table_bytes}
 use Rattle.description.specs.declared.table_kind.TableKind.TheVariants.{Pmt}
 use Rattle.description.proofs.LoopLengths.{stream_descriptors-length}
 use Rattle.description.proofs.Pids.{at_place}
@@ -31,6 +31,7 @@ use Rattle.mux_core.specs.Scheduled.{Scheduled}
 use Rattle.mux_core.specs.Headline.{Headline}
 use Rattle.mux_core.specs.Decoder.{pieces_on, put_together}
 use Rattle.round_trip_run.specs.FollowedTables.{section_in, map_by, map_in, programs_named, maps_on, IsFollowed, FollowedLaw}
+use Rattle.round_trip_run.proofs.ListedTables.{tables_fit, both_fit}
 use Rattle.round_trip_run.proofs.MapsNamed.{pat_read_before}
 use Rattle.round_trip_run.proofs.MapsRecur.{map_table}
 use Rattle.round_trip_run.proofs.PutSections.{fill_after}
@@ -115,7 +116,7 @@ map_fits d t i p r lt kind is =
     record {
       header = record { table_id_extension = omega (arith, program.most_number); version_number = omega arith; section_number = omega arith; last_section_number = omega arith };
       pcr_pid = omega (arith, program.pcr_pid.high);
-      streams = streams_fit p.number d.streams r.streams;
+      streams = both_fit (pmt_streams p.number d.streams) (pmt_tables p.number d.tables) (streams_fit p.number d.streams r.streams) (tables_fit p.number d.tables r.tables);
       room = omega (arith, map_size (pmt_says d p), within, short);
     }
 

@@ -6,7 +6,7 @@ use Rattle.std.proofs.Common.{◌≡◌, ◌≤◌, ◌<◌, ℕ, List, [], ◌�
 use Rattle.std.proofs.lemmas.List.Elements.{All-nil, All-cons}
 use Rattle.description.specs.Described.{DescribedNetwork, DescribedProgram, DescribedStream, DescribedEvent, DescribedTable}
 use Rattle.description.specs.Tables.{pmt_length, nit_length}
-use Rattle.description.specs.Ranges.{IsPid, IsBytes, IsLanguage, IsNetwork, IsProgram, IsEvent, IsStream, IsTable, IsInRange, program_numbers, longest_section}
+use Rattle.description.specs.Ranges.{IsPid, IsBytes, IsLanguage, IsNetwork, IsProgram, IsEvent, IsStream, IsTable, IsListed, IsInRange, program_numbers, longest_section}
 use Rattle.round_trip_run.specs.WorkedService.{worked_stream, worked_program, worked_service}
 
 pid : (n : ℕ) → 32 ≤ n → n ≤ 8190 → IsPid n
@@ -71,6 +71,7 @@ worked_in_range = record {
   declared = All-cons (λ (s : DescribedStream). Contains (program_numbers worked_service) s.program) worked_stream [] (0, omega arith, refl) (All-nil (λ (s : DescribedStream). Contains (program_numbers worked_service) s.program));
   most_tables = omega arith;
   tables = All-nil IsTable;
+  listed = All-nil (IsListed worked_service);
   distinct_pids = ((refl, (refl, tt)), ((refl, tt), (tt, tt)));
   distinct_numbers = (tt, tt);
   pmt_lengths = All-cons (λ (p : DescribedProgram). pmt_length worked_service p ≤ longest_section) worked_program [] (omega arith) (All-nil (λ (p : DescribedProgram). pmt_length worked_service p ≤ longest_section));
