@@ -25,8 +25,8 @@ use Rattle.dvb_tables.specs.declared.running_status.RunningStatus.TheVariants.{R
 use Rattle.dvb_tables.proofs.BodyLengths.{nit_body_length, sdt_body_length, eit_body_length}
 use Rattle.description.specs.Described.{Described, DescribedNetwork, DescribedProgram, DescribedStream, DescribedEvent, DescribedEntry, DescribedTable}
 use Rattle.description.specs.Ranges.{IsInRange, IsProgram, IsStream, IsEvent}
-use Rattle.description.specs.Tables.{has_event, pat_length, pmt_length, nit_length, sdt_length, eit_length, eit_lengths, es_info_length, entry_length, entry_in, listed_length, service_length, event_length, longest_event, kind_lengths, section_lengths, scheduled_programs, table_kind, greatest_length}
-use Rattle.description.specs.SectionBytes.{network_entries, pat_entry, pat_says, pmt_stream, is_of_program, pmt_streams, table_stream, pmt_table, pmt_tables, pmt_says, network_stream, nit_says, service_says, sdt_says, event_says, is_present_event, is_following_event, eit_says, eit_bytes, tdt_bytes, kind_bytes, table_bytes}
+use Rattle.description.specs.Tables.{has_event, pat_length, pmt_length, nit_length, sdt_length, eit_length, eit_lengths, es_info_length, entry_length, is_shared_with, shared_length, entry_in, listed_length, service_length, event_length, longest_event, kind_lengths, section_lengths, scheduled_programs, table_kind, greatest_length}
+use Rattle.description.specs.SectionBytes.{network_entries, pat_entry, pat_says, pmt_stream, is_of_program, pmt_streams, pmt_shared, table_stream, pmt_table, pmt_tables, pmt_says, network_stream, nit_says, service_says, sdt_says, event_says, is_present_event, is_following_event, eit_says, eit_bytes, tdt_bytes, kind_bytes, table_bytes}
 use Rattle.description.specs.declared.table_kind.TableKind.{TableKind}
 use Rattle.description.specs.declared.table_kind.TableKind.TheVariants as kind
 use Rattle.description.proofs.LoopLengths.{stream_descriptors-length, transport_streams_bytes-one, network_name_descriptor-length, service_descriptor-length, length_service_bytes, length_event_bytes}
@@ -55,22 +55,23 @@ pat_fits d =
       first,
     )
 
--- the streams of a program
+-- the streams of a program, and those that it shares
 one_stream : (b : Bool) (s : DescribedStream) (rest : List DescribedStream) → IsStream s
     → length (flat_map stream_bytes (map pmt_stream (cond b (s ∷ rest) rest))) ≡ (if b then 5 + es_info_length s else 0) + length (flat_map stream_bytes (map pmt_stream rest))
 one_stream true s rest h =
     omega (arith, length-append (stream_bytes (pmt_stream s)) (flat_map stream_bytes (map pmt_stream rest)), length_stream_bytes (pmt_stream s), stream_descriptors-length s h)
 one_stream false s rest h = omega arith
 
-streams_length : (n : ℕ) (ss : List DescribedStream) → All IsStream ss → length (streams_bytes (pmt_streams n ss)) ≡ sum_by (entry_length n) ss
+streams_length : (p : DescribedStream → Bool) (ss : List DescribedStream) → All IsStream ss
+    → length (streams_bytes (map pmt_stream (filter p ss))) ≡ sum_by (λ s. if p s then 5 + es_info_length s else 0) ss
 unfolding streams_bytes
-streams_length n [] h = refl
-streams_length n (s ∷ ss) h =
+streams_length p [] h = refl
+streams_length p (s ∷ ss) h =
     omega (
       arith,
-      one_stream (is_of_program n s) s (filter (is_of_program n) ss) (All-head IsStream s ss h),
-      streams_length n ss (All-tail IsStream s ss h),
-      sum_by-cons (entry_length n) s ss,
+      one_stream (p s) s (filter p ss) (All-head IsStream s ss h),
+      streams_length p ss (All-tail IsStream s ss h),
+      sum_by-cons (λ x. if p x then 5 + es_info_length x else 0) s ss,
     )
 
 -- the tables that a program's PMT names
@@ -103,8 +104,10 @@ pmt_fits d p h =
       arith,
       long_section_length 2 false (pmt_says d p).header (pmt_body (pmt_says d p)),
       length_pmt_body (pmt_says d p),
-      entries_length (pmt_streams p.number d.streams) (pmt_tables p.number d.tables),
-      streams_length p.number d.streams h,
+      entries_length (pmt_streams p.number d.streams ++ pmt_shared p.number d.streams) (pmt_tables p.number d.tables),
+      entries_length (pmt_streams p.number d.streams) (pmt_shared p.number d.streams),
+      streams_length (is_of_program p.number) d.streams h,
+      streams_length (is_shared_with p.number) d.streams h,
       tables_length p.number d.tables,
     )
 

@@ -56,6 +56,7 @@ stream_code stream.Group = 53
 stream_code stream.GroupPackets = 54
 stream_code stream.BurstPackets = 55
 stream_code stream.Pace = 56
+stream_code stream.SharedWith = 57
 
 abbrev pub event_code : EventKey → ℕ
 event_code event.Program = 61

@@ -95,6 +95,7 @@ pub record IsStream (s : DescribedStream) : Type 0 where
   pub language : All IsLanguage (option_to_list s.language)
   pub descriptors : IsBytes 700 s.descriptors
   pub allowance : IsAllowance (greatest_unit_packets s) s.allowance
+  pub few_sharers : length s.shared_with ≤ 15
 
 pub record IsEntry (e : DescribedEntry) : Type 0 where
   pub some_type : 1 ≤ e.stream_type
@@ -124,6 +125,12 @@ program_numbers d = map (λ p. p.number) d.programs
 abbrev pub longest_section : ℕ
 longest_section = 1024
 
+-- the programs that share a stream are declared ones, each once, and not its own
+pub record IsSharing (d : Described) (s : DescribedStream) : Type 0 where
+  pub declared : All (Contains (program_numbers d)) s.shared_with
+  pub others : All (λ n. n ≡ s.program → ⊥) s.shared_with
+  pub once : IsDistinct nat_eq s.shared_with
+
 -- the PMTs that name a table are those of declared programs
 abbrev pub IsListed : Described → DescribedTable → Type 0
 IsListed d t = All (λ e. Contains (program_numbers d) e.program) (option_to_list t.entry)
@@ -152,6 +159,7 @@ pub record IsInRange (d : Described) : Type 0 where
   pub most_streams : length d.streams ≤ 32
   pub streams : All IsStream d.streams
   pub declared : All (λ s. Contains (program_numbers d) s.program) d.streams
+  pub sharing : All (IsSharing d) d.streams
   pub most_tables : length d.tables ≤ 16
   pub tables : All IsTable d.tables
   pub listed : All (IsListed d) d.tables

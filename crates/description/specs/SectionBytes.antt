@@ -20,7 +20,7 @@ use Rattle.dvb_tables.specs.TimeAndDate.{tdt_section}
 use Rattle.dvb_tables.specs.declared.running_status.RunningStatus.{RunningStatus}
 use Rattle.dvb_tables.specs.declared.running_status.RunningStatus.TheVariants.{Running, NotRunning}
 use Rattle.description.specs.Described.{Described, DescribedNetwork, DescribedProgram, DescribedStream, DescribedEvent, DescribedEntry, DescribedTable}
-use Rattle.description.specs.Tables.{has_event, scheduled_programs, table_kind, entry_in}
+use Rattle.description.specs.Tables.{has_event, scheduled_programs, table_kind, is_shared_with, entry_in}
 use Rattle.description.specs.declared.table_kind.TableKind.{TableKind}
 use Rattle.description.specs.declared.table_kind.TableKind.TheVariants as kind
 
@@ -59,6 +59,10 @@ is_of_program number s = s.program == number
 abbrev pub pmt_streams : ℕ → List DescribedStream → List StreamView
 pmt_streams number streams = map pmt_stream (filter (is_of_program number) streams)
 
+-- each stream of another program that the program shares, after its own
+abbrev pub pmt_shared : ℕ → List DescribedStream → List StreamView
+pmt_shared number streams = map pmt_stream (filter (is_shared_with number) streams)
+
 -- and each table that the program's PMT names, after the streams
 abbrev pub table_stream : ℕ → DescribedEntry → StreamView
 table_stream pid e = record { stream_type = e.stream_type; elementary_pid = pid; descriptors = e.descriptors }
@@ -74,7 +78,7 @@ pmt_says d p = record {
   header = single_header p.number;
   pcr_pid = p.pcr_pid;
   program_info = p.descriptors;
-  streams = pmt_streams p.number d.streams ++ pmt_tables p.number d.tables;
+  streams = (pmt_streams p.number d.streams ++ pmt_shared p.number d.streams) ++ pmt_tables p.number d.tables;
 }
 
 -- NIT: the name, and this transport stream with the network's descriptors

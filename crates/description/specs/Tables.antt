@@ -74,6 +74,13 @@ pat_length d = section_overhead + 4 * (length (option_to_list d.network) + lengt
 abbrev pub entry_length : ℕ → DescribedStream → ℕ
 entry_length number s = if s.program == number then 5 + es_info_length s else 0
 
+-- a program beside its own shares the stream, and its bytes in that program's PMT
+abbrev pub is_shared_with : ℕ → DescribedStream → Bool
+is_shared_with number s = list_any (λ n. n == number) s.shared_with
+
+abbrev pub shared_length : ℕ → DescribedStream → ℕ
+shared_length number s = if is_shared_with number s then 5 + es_info_length s else 0
+
 -- the entry of a table in the PMT of the program of a number
 abbrev pub entry_if_of : ℕ → DescribedEntry → Option DescribedEntry
 entry_if_of number e = if e.program == number then Some e else None
@@ -86,7 +93,7 @@ abbrev pub listed_length : ℕ → DescribedTable → ℕ
 listed_length number t = elim (entry_in number t) [ None ↦ 0 | Some e ↦ 5 + length e.descriptors ]
 
 abbrev pub pmt_length : Described → DescribedProgram → ℕ
-pmt_length d p = section_overhead + 4 + length p.descriptors + sum_by (entry_length p.number) d.streams + sum_by (listed_length p.number) d.tables
+pmt_length d p = section_overhead + 4 + length p.descriptors + sum_by (entry_length p.number) d.streams + sum_by (shared_length p.number) d.streams + sum_by (listed_length p.number) d.tables
 
 abbrev pub nit_length : DescribedNetwork → ℕ
 nit_length n = section_overhead + 2 + (2 + length n.name) + 2 + 6 + length n.descriptors

@@ -1,6 +1,6 @@
 -- Values of keys, as the parsed TOML document gives them: None where the value is refused.
-use Rattle.std.specs.Prelude.{ℕ, ℤ, ◌&&◌, ◌||◌, ◌==◌, nat_le, nat_lt, Bool, false, List, [], ◌∷◌, Option, None, Some, Ok, Err, length, is_some, unsigned_abs, int_le, option_and_then, option_map, if◌then◌else◌, unwrap_or}
-use Rattle.std.specs.List.{list_all}
+use Rattle.std.specs.Prelude.{ℕ, ℤ, ◌&&◌, ◌||◌, ◌==◌, nat_le, nat_lt, not, Bool, true, false, List, [], ◌∷◌, Option, None, Some, Ok, Err, length, is_some, unsigned_abs, int_le, option_and_then, option_map, if◌then◌else◌, unwrap_or}
+use Rattle.std.specs.List.{list_all, list_any}
 use Rattle.hex.specs.Hex.{decode_of}
 use Rattle.psi_tables.specs.Reading.{section_at}
 use Rattle.dvb_tables.specs.CharacterCoding.{text_bytes}
@@ -125,3 +125,8 @@ are_sections d = elim (array_in d) [ None ↦ false | Some ds ↦ has_length 1 8
 
 abbrev pub sections_at : List ℕ → Data → Bool
 sections_at key d = elim (get key d) [ None ↦ false | Some value ↦ are_sections value ]
+
+-- no number stands in the list twice
+abbrev pub is_distinct : List ℕ → Bool
+is_distinct [] = true
+is_distinct (n ∷ ns) = not (list_any (λ m. m == n) ns) && is_distinct ns

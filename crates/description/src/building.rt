@@ -14,10 +14,11 @@ use crate::contents::Contents;
 use crate::descriptors::DescriptorLoop;
 use crate::map_entry::MapEntry;
 use crate::network::Network;
-use crate::owner::owner_number;
+use crate::owner::{is_owned_by, owner_number};
 use crate::private_section::{PrivateSection, section_of};
 use crate::private_table::PrivateTable;
 use crate::program::ProgramDescription;
+use crate::sharers::sharers;
 use crate::stream::StreamDescription;
 use crate::texts::empty_text;
 use crate::{event_keys, network_keys, program_keys, stream_keys, table_keys, top_keys};
@@ -47,12 +48,6 @@ fn event_of(event: &Value) -> Event
         name: event_keys::name(event).unwrap_or(empty_text()),
         text: event_keys::text(event).unwrap_or(empty_text()),
     }
-}
-
-fn is_owned_by(number: u16, part: &Value) -> bool
-    ensures { result ≡ spec.is_owned_by number (view part.now) }
-{
-    owner_number(part) == Some(number)
 }
 
 fn events_of(alloc: Global, number: u16, events: &[Value]) -> Result<Vec<Event>, AllocError>
@@ -120,6 +115,7 @@ fn stream_of(stream: &Value) -> StreamDescription
         language: stream_keys::language(stream).unwrap_or(None),
         descriptors: stream_keys::descriptors(stream).unwrap_or(DescriptorLoop::none()),
         allowance: stream_keys::allowance(stream),
+        shared_with: sharers(stream),
     }
 }
 

@@ -2,7 +2,7 @@
 
 ghost use Rattle.description.specs.Pids.{PidsApartLaw, PidsBelowLaw, PidPositionsLaw, StreamRangeLaw, ProgramRangeLaw};
 ghost use Rattle.description.specs.Pids.{SectionsLaw};
-ghost use Rattle.description.specs.Entries.{EntryLaw, NoEntryLaw};
+ghost use Rattle.description.specs.Entries.{SharedLaw, EntryLaw, OwnLaw};
 
 /// No two of a description's tables, clocks and streams share a PID, each is below that of null packets, and they stand
 /// in
@@ -24,8 +24,10 @@ pub fn sections()
     ensures { SectionsLaw }
 {}
 
-/// The PMT of a program names each private table that names the program; its streams alone where no table names one.
-pub fn listed_tables()
-    ensures named { EntryLaw }
-    ensures unnamed { NoEntryLaw }
+/// The PMT of a program names each stream that the program shares and each private table that names it; its own streams
+/// alone where there are none.
+pub fn program_maps()
+    ensures shared { SharedLaw }
+    ensures tables { EntryLaw }
+    ensures own { OwnLaw }
 {}

@@ -15,6 +15,7 @@ mod network;
 mod private_section;
 mod private_table;
 mod program;
+mod program_numbers;
 mod stream;
 
 // Values as the document has them.
@@ -31,6 +32,7 @@ mod known_keys;
 mod network_keys;
 mod owner;
 mod program_keys;
+mod sharers;
 mod stream_keys;
 mod table_keys;
 mod top_keys;
@@ -69,6 +71,7 @@ pub use private_section::PrivateSection;
 pub use private_table::PrivateTable;
 pub use program::ProgramDescription;
 pub use program_keys::ProgramKey;
+pub use program_numbers::ProgramNumbers;
 pub use stream::StreamDescription;
 pub use stream_keys::StreamKey;
 pub use table_keys::TableKey;

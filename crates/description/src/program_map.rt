@@ -7,7 +7,7 @@ ghost use Rattle.psi_tables.specs.ProgramMap.{stream_loop_of, streams_of, stream
 ghost use Rattle.psi_tables.specs.Encoding.{section_bytes};
 ghost use Rattle.psi_tables.specs.declared.writing.TheConstants.{GREATEST_TABLE_LENGTH};
 ghost use Rattle.description.specs.Ranges.{IsProgram, IsStream, IsTable, longest_section};
-ghost use Rattle.description.specs.Tables.{es_info_length, entry_length, listed_length, pmt_length};
+ghost use Rattle.description.specs.Tables.{es_info_length, entry_length, shared_length, listed_length, pmt_length};
 ghost use Rattle.description.specs.SectionBytes as spec;
 
 use crate::description::Description;
@@ -89,6 +89,21 @@ fn program_streams(number: u16, streams: &[StreamDescription]) -> StreamLoop
     entries
 }
 
+// Adds the streams that the program of a number shares.
+fn push_shared(entries: &mut StreamLoop, number: u16, streams: &[StreamDescription])
+    requires ranges { All IsStream streams.now }
+    requires room { length (streams_bytes (stream_loop_of entries.old)) + sum_by (shared_length number) streams.now ≤ 1012 }
+    ensures value { stream_loop_of entries.new ≡ stream_loop_of entries.old ++ spec.pmt_shared number streams.now }
+    ensures length { length (streams_bytes (stream_loop_of entries.new))
+        ≡ length (streams_bytes (stream_loop_of entries.old)) + sum_by (shared_length number) streams.now }
+{
+    for stream in streams {
+        if stream.shared_with.contains(number) {
+            push_stream(entries, stream);
+        }
+    }
+}
+
 // Adds the entry of a table on a PID, for which there is room.
 fn push_entry(entries: &mut StreamLoop, pid: u16, entry: &MapEntry)
     requires pid { pid < 8192 }
@@ -144,6 +159,7 @@ impl Description {
         ensures { out.new.items ≡ section_bytes (pmt_section (spec.pmt_says self.now program.now)) }
     {
         let mut entries = program_streams(program.number(), self.streams());
+        push_shared(&mut entries, program.number(), self.streams());
         push_tables(&mut entries, program.number(), self.private_tables());
         write_section(
             program.number(),

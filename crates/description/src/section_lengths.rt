@@ -48,6 +48,30 @@ fn entries_length(number: u16, streams: &[StreamDescription]) -> usize
     total
 }
 
+// The bytes of a stream in the PMT of the program of a number that shares it.
+fn shared_length(number: u16, stream: &StreamDescription) -> usize
+    ensures value { result ≡ spec.shared_length number stream.now }
+    ensures bound { result ≤ 714 }
+{
+    if stream.shared_with.contains(number) {
+        5 + es_info_length(stream)
+    } else {
+        0
+    }
+}
+
+fn sharing_length(number: u16, streams: &[StreamDescription]) -> usize
+    requires { length streams.now ≤ 32 }
+    ensures value { result ≡ sum_by (spec.shared_length number) streams.now }
+    ensures bound { result ≤ 22848 }
+{
+    let mut total = 0;
+    for stream in streams {
+        total += shared_length(number, stream);
+    }
+    total
+}
+
 // The bytes of a table in the PMT of the program of a number.
 fn listed_length(number: u16, table: &PrivateTable) -> usize
     ensures value { result ≡ spec.listed_length number table.now }
@@ -182,10 +206,11 @@ impl Contents {
 
     fn pmt_length(&self, program: &ProgramDescription) -> usize
         ensures value { result ≡ spec.pmt_length self.now program.now }
-        ensures bound { result ≤ 34844 }
+        ensures bound { result ≤ 57692 }
     {
         16 + program.descriptors().as_bytes().len()
             + entries_length(program.number(), self.streams())
+            + sharing_length(program.number(), self.streams())
             + tables_length(program.number(), self.private_tables())
     }
 

@@ -54,6 +54,7 @@ stream_words stream.Group = (codes "group", codes "1 to 64 units, and not beside
 stream_words stream.GroupPackets = (codes "group_packets", codes "the packets of one greatest unit to group times so many, and not beside burst_packets or pace")
 stream_words stream.BurstPackets = (codes "burst_packets", codes "the packets of one greatest unit to 100000, beside pace")
 stream_words stream.Pace = (codes "pace", codes "1 to 100000000 bits a second, beside burst_packets")
+stream_words stream.SharedWith = (codes "shared_with", codes "an array of up to 15 numbers of other programs, each once")
 
 unfoldable pub event_words : EventKey → List ℕ × List ℕ
 event_words event.Program = (codes "program", codes "the number of a program")

@@ -93,6 +93,10 @@ pub fn stream_words(key: StreamKey) -> KeyWords
             "the packets of one greatest unit to 100000, beside pace",
         ),
         StreamKey::Pace => ("pace", "1 to 100000000 bits a second, beside burst_packets"),
+        StreamKey::SharedWith => (
+            "shared_with",
+            "an array of up to 15 numbers of other programs, each once",
+        ),
     }
 }
 
