@@ -3,7 +3,8 @@ use Rattle.std.proofs.Common.{◌≡◌, ◌<◌, ℕ, zero, suc, ◌==◌, ◌|
 use Rattle.std.specs.Prelude.{slice_index_or}
 use Rattle.std.specs.List.{filter_map, cons_option, list_any}
 use Rattle.std.proofs.lemmas.Bool.{eq-eqb}
-use Rattle.std.proofs.lemmas.List.Elements.{All-head, All-tail, Contains-append_left, Contains-append_right}
+use Rattle.std.proofs.lemmas.List.{map-append}
+use Rattle.std.proofs.lemmas.List.Elements.{filter-append, All-head, All-tail, Contains-append_left, Contains-append_right}
 use Rattle.psi_tables.specs.ProgramMap.{StreamView}
 use Rattle.description.specs.Described.{DescribedStream, DescribedEntry, DescribedTable}
 use Rattle.description.specs.Tables.{is_shared_with, entry_if_of, entry_in}
@@ -51,6 +52,10 @@ any_there n (m ∷ ms) (suc k) lt is = or_right (m == n) (list_any (λ x. x == n
     or_right : (b c : Bool) → c ≡ true → (b || c) ≡ true
     or_right true c h = refl
     or_right false c h = h
+
+pub shared_in_parts : (n : ℕ) (xs ys : List DescribedStream) → pmt_shared n (xs ++ ys) ≡ pmt_shared n xs ++ pmt_shared n ys
+shared_in_parts n xs ys =
+    ap (map pmt_stream) (filter-append (is_shared_with n) xs ys) ∙ map-append pmt_stream (filter (is_shared_with n) xs) (filter (is_shared_with n) ys)
 
 cond_has : (b : Bool) (s : DescribedStream) (ss : List DescribedStream) (y : StreamView) → Contains (map pmt_stream ss) y → Contains (map pmt_stream (cond b (s ∷ ss) ss)) y
 cond_has true s ss y c = cons_has (pmt_stream s) (map pmt_stream ss) y c

@@ -89,6 +89,20 @@ fn program_streams(number: u16, streams: &[StreamDescription]) -> StreamLoop
     entries
 }
 
+// Adds a stream, for which there is room, where the program of a number shares it.
+fn push_if_shared(entries: &mut StreamLoop, number: u16, stream: &StreamDescription)
+    requires ranges { IsStream stream.now }
+    requires room { length (streams_bytes (stream_loop_of entries.old)) + shared_length number stream.now ≤ 1012 }
+    ensures value { stream_loop_of entries.new
+        ≡ stream_loop_of entries.old ++ spec.pmt_shared number (stream.now ∷ []) }
+    ensures length { length (streams_bytes (stream_loop_of entries.new))
+        ≡ length (streams_bytes (stream_loop_of entries.old)) + shared_length number stream.now }
+{
+    if stream.shared_with.contains(number) {
+        push_stream(entries, stream);
+    }
+}
+
 // Adds the streams that the program of a number shares.
 fn push_shared(entries: &mut StreamLoop, number: u16, streams: &[StreamDescription])
     requires ranges { All IsStream streams.now }
@@ -98,9 +112,7 @@ fn push_shared(entries: &mut StreamLoop, number: u16, streams: &[StreamDescripti
         ≡ length (streams_bytes (stream_loop_of entries.old)) + sum_by (shared_length number) streams.now }
 {
     for stream in streams {
-        if stream.shared_with.contains(number) {
-            push_stream(entries, stream);
-        }
+        push_if_shared(entries, number, stream);
     }
 }
 
