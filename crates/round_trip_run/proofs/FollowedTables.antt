@@ -116,8 +116,8 @@ map_fits d t i p r lt kind is =
       header = record { table_id_extension = omega (arith, program.most_number); version_number = omega arith; section_number = omega arith; last_section_number = omega arith };
       pcr_pid = omega (arith, program.pcr_pid.high);
       streams = both_fit (pmt_streams p.number d.streams ++ pmt_shared p.number d.streams) (pmt_tables p.number d.tables)
-      (both_fit (pmt_streams p.number d.streams) (pmt_shared p.number d.streams) (streams_fit (is_of_program p.number) d.streams r.streams) (streams_fit (is_shared_with p.number) d.streams r.streams))
-      (tables_fit p.number d.tables r.tables);
+          (both_fit (pmt_streams p.number d.streams) (pmt_shared p.number d.streams) (streams_fit (is_of_program p.number) d.streams r.streams) (streams_fit (is_shared_with p.number) d.streams r.streams))
+          (tables_fit p.number d.tables r.tables);
       room = omega (arith, map_size (pmt_says d p), within, short);
     }
 
