@@ -148,11 +148,15 @@ pub not_false : (b : Bool) → not b ≡ false → b ≡ true
 not_false true h = refl
 not_false false h = absurd (cc)
 
+-- no key of a table is refused
+pub tables_accepted : (d : Data) → NoFault d → AllAccept (λ key. refuses_table key d) table_keys (tables_of d)
+tables_accepted d none =
+    let arrays = if_none (tables_at true (codes "table") 0 16 d) (option_map (λ p. Table p.0 p.1) (first_refused (λ key. refuses_table key d) table_keys (tables_of d))) Tables none.table in
+    all_accept (λ key. refuses_table key d) table_keys (tables_of d) (map_none (λ p. Table p.0 p.1) (first_refused (λ key. refuses_table key d) table_keys (tables_of d)) arrays.1)
+
 pub table_sections : (d : Data) → NoFault d → All (λ part. HasLength 1 8 (length (described_sections part))) (tables_of d)
 table_sections d none =
-    let arrays = if_none (tables_at true (codes "table") 0 16 d) (option_map (λ p. Table p.0 p.1) (first_refused (λ key. refuses_table key d) table_keys (tables_of d))) Tables none.table in
-    let accepts = all_accept (λ key. refuses_table key d) table_keys (tables_of d) (map_none (λ p. Table p.0 p.1) (first_refused (λ key. refuses_table key d) table_keys (tables_of d)) arrays.1) in
-    λ k other within. sections-length (get_or (tables_of d) k other) (not_false (sections_at (codes "sections") (get_or (tables_of d) k other)) (accepts.1.1.0 k other within))
+    λ k other within. sections-length (get_or (tables_of d) k other) (not_false (sections_at (codes "sections") (get_or (tables_of d) k other)) ((tables_accepted d none).1.1.0 k other within))
 
 -- how many of each there are
 pub has_counts : (d : Data) → NoFault d → HasCounts (described d)

@@ -6,9 +6,9 @@ use Rattle.std.proofs.lemmas.List.Sums.{sum_by-cons}
 use Rattle.std.proofs.lemmas.Map.Keys.{IsDistinct-head, IsDistinct-tail, IsDistinct-cons}
 use Rattle.std.specs.List.{list_any, IsDistinct, AllByRecursion}
 use Rattle.toml.specs.Data.{Data}
-use Rattle.description.specs.StreamKeys.{owner_number}
-use Rattle.description.specs.Consistency.{is_distinct}
-use Rattle.description.specs.Contents.{is_owned_by, described_event, described_number, described_program}
+use Rattle.description.specs.StreamKeys.{owner_number, is_owned_by}
+use Rattle.description.specs.Values.{is_distinct}
+use Rattle.description.specs.Contents.{described_event, described_number, described_program}
 use Rattle.description.specs.Refusals.{events_of}
 use Rattle.description.proofs.Counts.{not_true}
 

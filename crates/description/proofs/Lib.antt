@@ -11,6 +11,8 @@ pub mod TextRanges
 pub mod Counts
 pub mod PartsInRange
 pub mod Distinct
+pub mod Declared
+pub mod NamedSharers
 pub mod WholeInRange
 pub mod Read
 pub mod LoopLengths
@@ -22,3 +24,4 @@ pub mod PidCounts
 pub mod Pids
 pub mod Allowed
 pub mod SectionCounts
+pub mod Entries

@@ -1,18 +1,20 @@
 -- Each part of a description is in its ranges.
-use Rattle.std.proofs.Common.{◌≡◌, ℕ, pos, suc, zero, ◌≤◌, ◌<◌, ◌*◌, ◌==◌, nat_le, Bool, true, false, List, [], length, filter, get_or, None, Some, IfSome, unwrap_or, option_map, refl, arith, if◌then◌else◌, All, codes, inl, inr, is_none}
+use Rattle.std.proofs.Common.{◌≡◌, ℕ, pos, suc, zero, ◌≤◌, ◌<◌, ◌*◌, ◌==◌, nat_le, Bool, true, false, List, [], ◌∷◌, length, filter, get_or, Option, None, Some, IfSome, unwrap_or, option_map, refl, arith, if◌then◌else◌, All, codes, inl, inr, is_none}
 use Rattle.std.proofs.lemmas.Bool.{leb-true, or_cases, eqb-true}
 use Rattle.std.proofs.lemmas.List.Elements.{All-nil, All-cons, All-map, All-weaker}
 use Rattle.std.specs.Option.{option_to_list}
-use Rattle.std.specs.List.{filter_map}
+use Rattle.std.specs.List.{filter_map, cons_option}
 use Rattle.toml.specs.Data.{Data, get}
 use Rattle.unit_timing.specs.declared.allowance.Allowance.{Allowance}
-use Rattle.description.specs.Ranges.{IsPid, IsBytes, IsNetwork, IsEvent, IsProgram, IsStreamId, IsGroups, IsPace, IsAllowance, IsStream, IsTable}
+use Rattle.description.specs.Ranges.{IsPid, IsBytes, IsNetwork, IsEvent, IsProgram, IsStreamId, IsGroups, IsPace, IsAllowance, IsStream, IsEntry, IsTable}
 use Rattle.description.specs.Values.{integer_in, integer_at, elements, is_one_section, section_in}
-use Rattle.description.specs.StreamKeys.{is_stream_id, stream_id, is_video_id, id_or_private, greatest_size, leaves_out_buffers, stream_rx, stream_main, stream_size, stream_tag, stream_group, unit_packets, greatest_group_packets, stream_group_packets, is_paced, stream_burst_packets, stream_pace, stream_allowance}
-use Rattle.description.specs.Contents.{described_network, described_event, is_owned_by, described_number, described_program, described_stream, described_sections, described_table}
+use Rattle.description.specs.StreamKeys.{is_owned_by, sharers_of, stream_sharers, number_in, is_stream_id, stream_id, is_video_id, id_or_private, greatest_size, leaves_out_buffers, stream_rx, stream_main, stream_size, stream_tag, stream_group, unit_packets, greatest_group_packets, stream_group_packets, is_paced, stream_burst_packets, stream_pace, stream_allowance}
+use Rattle.description.specs.Contents.{described_network, described_event, described_number, described_program, described_stream, described_sections, described_entry, described_table}
+use Rattle.description.specs.Described.{DescribedEntry}
+use Rattle.description.specs.TableKeys.{is_listed}
 use Rattle.description.specs.Refusals.{events_of}
 use Rattle.description.proofs.KeyRanges.{Within, holds_of, at_key-all, map_all, integer_in-within, integer_at-within, integer_or-within, moment_at-within}
-use Rattle.description.proofs.TextRanges.{text_at-is, text_or-is, descriptors-is, language_at-is, optional_language-is, IsSectionBytes, sections-are, weaker, then_tested}
+use Rattle.description.proofs.TextRanges.{text_at-is, text_or-is, descriptors-is, descriptors_at-is, language_at-is, optional_language-is, IsSectionBytes, sections-are, weaker, then_tested}
 use Rattle.description.proofs.Counts.{HasLength}
 
 pid_is : (key : List ℕ) (d : Data) → IsPid (unwrap_or (integer_at key (pos 32) (pos 8190) d) 32)
@@ -135,6 +137,21 @@ main_within d =
 within_trans : {a b c : ℕ} → a ≤ b → b ≤ c → a ≤ c
 within_trans h k = omega arith
 
+few_kept : (o : Option ℕ) (ns : List ℕ) (n : ℕ) → length ns ≤ n → length (cons_option o ns) ≤ suc n
+few_kept None ns n h = omega (arith, h)
+few_kept (Some x) ns n h = omega (arith, h)
+
+few_numbers : (ds : List Data) → length (filter_map number_in ds) ≤ length ds
+few_numbers [] = omega arith
+few_numbers (d ∷ ds) = few_kept (number_in d) (filter_map number_in ds) (length ds) (few_numbers ds)
+
+few_if : (b : Bool) (ns : List ℕ) → (b ≡ true → length ns ≤ 15) → length (if b then ns else []) ≤ 15
+few_if true ns h = h refl
+few_if false ns h = omega arith
+
+few_sharers : (ds : List Data) → length (sharers_of ds) ≤ 15
+few_sharers ds = few_if (nat_le (length ds) 15) (filter_map number_in ds) (λ is. omega (arith, leb-true (length ds) 15 is, few_numbers ds))
+
 pub stream_is : (d : Data) → IsStream (described_stream d)
 stream_is d =
     let interval = integer_at-within (codes "interval") 1 90000 1 d (omega arith) (omega arith) in
@@ -163,7 +180,17 @@ stream_is d =
       language = optional_language-is (codes "language") d;
       descriptors = descriptors-is (codes "descriptors") d;
       allowance = allowance_is d small;
+      few_sharers = few_sharers (elements (codes "shared_with") d);
     }
+
+entry_is : (d : Data) → IsEntry (described_entry d)
+entry_is d =
+    let kind = integer_at-within (codes "stream_type") 1 255 1 d (omega arith) (omega arith) in
+    record { some_type = kind.least; most_type = kind.most; descriptors = descriptors_at-is (codes "descriptors") d }
+
+listed_is : (b : Bool) (e : DescribedEntry) → IsEntry e → All IsEntry (option_to_list (if b then Some e else None))
+listed_is true e is = All-cons IsEntry e [] is (All-nil IsEntry)
+listed_is false e is = All-nil IsEntry
 
 pub table_is : (d : Data) → HasLength 1 8 (length (described_sections d)) → IsTable (described_table d)
 table_is d counted =
@@ -178,4 +205,5 @@ table_is d counted =
       sections = All-weaker IsSectionBytes (IsBytes 4096) (λ s h. h.octets) (filter_map section_in (elements (codes "sections") d)) are;
       no_empty_section = All-weaker IsSectionBytes (λ s. 3 ≤ length s) (λ s h. h.three) (filter_map section_in (elements (codes "sections") d)) are;
       whole_sections = All-weaker IsSectionBytes (λ s. is_one_section s ≡ true) (λ s h. h.whole) (filter_map section_in (elements (codes "sections") d)) are;
+      entry = listed_is (is_listed d) (described_entry d) (entry_is d);
     }

@@ -1,15 +1,16 @@
 -- No section is longer than its greatest length.
-use Rattle.std.proofs.Common.{◌≡◌, ℕ, suc, zero, subst, ◌+◌, ◌/◌, ◌%◌, ◌<◌, ◌≤◌, ◌==◌, max, Bool, true, false, cond, List, [], ◌∷◌, ◌++◌, length, map, filter, find, flat_map, get_or, slice_get, sum_by, Option, None, Some, refl, ap, arith, length-append, All, if◌then◌else◌}
+use Rattle.std.proofs.Common.{◌≡◌, ℕ, suc, zero, subst, ◌+◌, ◌/◌, ◌%◌, ◌<◌, ◌≤◌, ◌==◌, max, Bool, true, false, cond, List, [], ◌∷◌, ◌++◌, length, map, filter, find, flat_map, get_or, slice_get, sum_by, option_map, Option, None, Some, refl, ap, arith, length-append, All, if◌then◌else◌}
 use Rattle.std.proofs.lemmas.List.{length-map}
 use Rattle.std.proofs.lemmas.List.Elements.{All-head, All-tail, All-filter}
 use Rattle.std.proofs.lemmas.List.Sums.{sum_by-cons}
 use Rattle.std.proofs.lemmas.Option.{slice_get_within, get_or_from_slice_get}
 use Rattle.std.specs.Option.{option_to_list}
+use Rattle.std.specs.List.{filter_map, cons_option}
 use Rattle.psi_tables.specs.CheckWord.{check_word}
 use Rattle.psi_tables.specs.Encoding.{section_bytes, with_crc, header_bytes, front_bytes, start_bytes, long_header_bytes, check_word_bytes}
 use Rattle.psi_tables.specs.declared.section.LongHeader.{LongHeader}
 use Rattle.psi_tables.specs.ProgramAssociation.{pat_section, pat_header, programs_bytes}
-use Rattle.psi_tables.specs.ProgramMap.{pmt_body, pmt_section, pmt_header, streams_bytes, stream_bytes}
+use Rattle.psi_tables.specs.ProgramMap.{StreamView, pmt_body, pmt_section, pmt_header, streams_bytes, stream_bytes}
 use Rattle.psi_tables.proofs.PatForms.{length_programs_bytes}
 use Rattle.psi_tables.proofs.StreamEncodings.{length_pmt_body, length_stream_bytes}
 use Rattle.dvb_tables.specs.NetworkInformation.{nit_body, nit_section}
@@ -22,10 +23,10 @@ use Rattle.dvb_tables.specs.Descriptors.{short_event_descriptor}
 use Rattle.dvb_tables.specs.declared.running_status.RunningStatus.{RunningStatus}
 use Rattle.dvb_tables.specs.declared.running_status.RunningStatus.TheVariants.{Running, NotRunning}
 use Rattle.dvb_tables.proofs.BodyLengths.{nit_body_length, sdt_body_length, eit_body_length}
-use Rattle.description.specs.Described.{Described, DescribedNetwork, DescribedProgram, DescribedStream, DescribedEvent, DescribedTable}
+use Rattle.description.specs.Described.{Described, DescribedNetwork, DescribedProgram, DescribedStream, DescribedEvent, DescribedEntry, DescribedTable}
 use Rattle.description.specs.Ranges.{IsInRange, IsProgram, IsStream, IsEvent}
-use Rattle.description.specs.Tables.{has_event, pat_length, pmt_length, nit_length, sdt_length, eit_length, eit_lengths, es_info_length, entry_length, service_length, event_length, longest_event, kind_lengths, section_lengths, scheduled_programs, table_kind, greatest_length}
-use Rattle.description.specs.SectionBytes.{network_entries, pat_entry, pat_says, pmt_stream, is_of_program, pmt_streams, pmt_says, network_stream, nit_says, service_says, sdt_says, event_says, is_present_event, is_following_event, eit_says, eit_bytes, tdt_bytes, kind_bytes, table_bytes}
+use Rattle.description.specs.Tables.{has_event, pat_length, pmt_length, nit_length, sdt_length, eit_length, eit_lengths, es_info_length, entry_length, is_shared_with, shared_length, entry_in, listed_length, service_length, event_length, longest_event, kind_lengths, section_lengths, scheduled_programs, table_kind, greatest_length}
+use Rattle.description.specs.SectionBytes.{network_entries, pat_entry, pat_says, pmt_stream, is_of_program, pmt_streams, pmt_shared, table_stream, pmt_table, pmt_tables, pmt_says, network_stream, nit_says, service_says, sdt_says, event_says, is_present_event, is_following_event, eit_says, eit_bytes, tdt_bytes, kind_bytes, table_bytes}
 use Rattle.description.specs.declared.table_kind.TableKind.{TableKind}
 use Rattle.description.specs.declared.table_kind.TableKind.TheVariants as kind
 use Rattle.description.proofs.LoopLengths.{stream_descriptors-length, transport_streams_bytes-one, network_name_descriptor-length, service_descriptor-length, length_service_bytes, length_event_bytes}
@@ -54,27 +55,61 @@ pat_fits d =
       first,
     )
 
--- the streams of a program
+-- the streams of a program, and those that it shares
 one_stream : (b : Bool) (s : DescribedStream) (rest : List DescribedStream) → IsStream s
     → length (flat_map stream_bytes (map pmt_stream (cond b (s ∷ rest) rest))) ≡ (if b then 5 + es_info_length s else 0) + length (flat_map stream_bytes (map pmt_stream rest))
 one_stream true s rest h =
     omega (arith, length-append (stream_bytes (pmt_stream s)) (flat_map stream_bytes (map pmt_stream rest)), length_stream_bytes (pmt_stream s), stream_descriptors-length s h)
 one_stream false s rest h = omega arith
 
-streams_length : (n : ℕ) (ss : List DescribedStream) → All IsStream ss → length (streams_bytes (pmt_streams n ss)) ≡ sum_by (entry_length n) ss
+streams_length : (p : DescribedStream → Bool) (ss : List DescribedStream) → All IsStream ss
+    → length (streams_bytes (map pmt_stream (filter p ss))) ≡ sum_by (λ s. if p s then 5 + es_info_length s else 0) ss
 unfolding streams_bytes
-streams_length n [] h = refl
-streams_length n (s ∷ ss) h =
+streams_length p [] h = refl
+streams_length p (s ∷ ss) h =
     omega (
       arith,
-      one_stream (is_of_program n s) s (filter (is_of_program n) ss) (All-head IsStream s ss h),
-      streams_length n ss (All-tail IsStream s ss h),
-      sum_by-cons (entry_length n) s ss,
+      one_stream (p s) s (filter p ss) (All-head IsStream s ss h),
+      streams_length p ss (All-tail IsStream s ss h),
+      sum_by-cons (λ x. if p x then 5 + es_info_length x else 0) s ss,
+    )
+
+-- the tables that a program's PMT names
+one_table : (pid : ℕ) (o : Option DescribedEntry) (rest : List StreamView)
+    → length (flat_map stream_bytes (cons_option (option_map (table_stream pid) o) rest))
+    ≡ (elim o as (λ _. ℕ) [ None ↦ 0 | Some e ↦ 5 + length e.descriptors ]) + length (flat_map stream_bytes rest)
+one_table pid None rest = omega arith
+one_table pid (Some e) rest = omega (arith, length-append (stream_bytes (table_stream pid e)) (flat_map stream_bytes rest), length_stream_bytes (table_stream pid e))
+
+tables_length : (n : ℕ) (ts : List DescribedTable) → length (streams_bytes (pmt_tables n ts)) ≡ sum_by (listed_length n) ts
+unfolding streams_bytes
+tables_length n [] = refl
+tables_length n (t ∷ ts) = omega (arith, one_table t.pid (entry_in n t) (pmt_tables n ts), tables_length n ts, sum_by-cons (listed_length n) t ts)
+
+entries_length : (xs ys : List StreamView) → length (streams_bytes (xs ++ ys)) ≡ length (streams_bytes xs) + length (streams_bytes ys)
+unfolding streams_bytes
+entries_length [] ys = omega arith
+entries_length (x ∷ xs) ys =
+    omega (
+      arith,
+      length-append (stream_bytes x) (flat_map stream_bytes (xs ++ ys)),
+      length-append (stream_bytes x) (flat_map stream_bytes xs),
+      entries_length xs ys,
     )
 
 pmt_fits : (d : Described) (p : DescribedProgram) → All IsStream d.streams → length (section_bytes (pmt_section (pmt_says d p))) ≡ pmt_length d p
 unfolding pmt_section pmt_header
-pmt_fits d p h = omega (arith, long_section_length 2 false (pmt_says d p).header (pmt_body (pmt_says d p)), length_pmt_body (pmt_says d p), streams_length p.number d.streams h)
+pmt_fits d p h =
+    omega (
+      arith,
+      long_section_length 2 false (pmt_says d p).header (pmt_body (pmt_says d p)),
+      length_pmt_body (pmt_says d p),
+      entries_length (pmt_streams p.number d.streams ++ pmt_shared p.number d.streams) (pmt_tables p.number d.tables),
+      entries_length (pmt_streams p.number d.streams) (pmt_shared p.number d.streams),
+      streams_length (is_of_program p.number) d.streams h,
+      streams_length (is_shared_with p.number) d.streams h,
+      tables_length p.number d.tables,
+    )
 
 nit_fits : (d : Described) (n : DescribedNetwork) → length (section_bytes (nit_section (nit_says d n))) ≡ nit_length n
 unfolding nit_section

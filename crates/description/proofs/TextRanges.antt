@@ -13,7 +13,7 @@ use Rattle.dvb_tables.specs.CharacterCoding.{text_bytes}
 use Rattle.toml.specs.Data.{Data, as_str}
 use Rattle.dvb_tables.specs.DescriptorLoops.{are_whole_descriptors}
 use Rattle.description.specs.Ranges.{IsBytes, IsLanguage}
-use Rattle.description.specs.Values.{is_octet, are_octets, text_in, text_at, text_or, is_letter, language_of, language_in, language_at, optional_language, hex_bytes, descriptors_in, descriptors_or_none, is_one_section, section_in}
+use Rattle.description.specs.Values.{is_octet, are_octets, text_in, text_at, text_or, is_letter, language_of, language_in, language_at, optional_language, hex_bytes, descriptors_in, descriptors_or_none, descriptors_at, is_one_section, section_in}
 use Rattle.description.proofs.KeyRanges.{holds_of, at_key-all, then_all, map_all}
 use Rattle.description.proofs.Octets.{All_octets}
 
@@ -85,6 +85,9 @@ descriptors_in-is d =
 pub descriptors-is : (key : List ℕ) (d : Data) → IsBytes 700 (unwrap_or (descriptors_or_none key d) [])
 descriptors-is key d =
     holds_of (IsBytes 700) (descriptors_or_none key d) [] (at_key-all (IsBytes 700) key (Some []) descriptors_in d (no_bytes 700) descriptors_in-is) (no_bytes 700)
+
+pub descriptors_at-is : (key : List ℕ) (d : Data) → IsBytes 700 (unwrap_or (descriptors_at key d) [])
+descriptors_at-is key d = holds_of (IsBytes 700) (descriptors_at key d) [] (at_key-all (IsBytes 700) key None descriptors_in d tt descriptors_in-is) (no_bytes 700)
 
 -- a section has at least its first three bytes
 at_least_three : (bytes : List ℕ) → is_one_section bytes ≡ true → 3 ≤ length bytes

@@ -1,5 +1,5 @@
 -- A document that is not refused describes what is in all its ranges.
-use Rattle.std.proofs.Common.{◌≡◌, ℕ, suc, zero, ◌+◌, ◌-◌, ◌≤◌, ◌==◌, ◌||◌, nat_lt, Bool, true, false, List, [], ◌∷◌, ◌++◌, map, get_or, slice_get, Option, None, Some, unwrap_or, option_map, refl, ap, sym, ◌∙◌, arith, if◌then◌else◌, All, Contains, codes, is_some, IsTrue, inl, inr}
+use Rattle.std.proofs.Common.{◌≡◌, ℕ, suc, zero, ◌+◌, ◌-◌, ◌≤◌, ◌==◌, ◌||◌, ◌&&◌, not, nat_lt, Bool, true, false, List, [], ◌∷◌, ◌++◌, map, get_or, slice_get, Option, None, Some, unwrap_or, option_map, refl, ap, sym, ◌∙◌, arith, if◌then◌else◌, All, Contains, codes, is_some, IsTrue, inl, inr}
 use Rattle.std.proofs.lemmas.Bool.{or_parts, ltb-false, cases_Bool, eqb-true}
 use Rattle.std.proofs.lemmas.List.Elements.{All-nil, All-cons, All-map}
 use Rattle.std.proofs.lemmas.List.Folds.{list_any-append}
@@ -8,21 +8,24 @@ use Rattle.std.specs.List.{list_any}
 use Rattle.std.specs.Option.{option_to_list, option_or}
 use Rattle.toml.specs.Data.{Data}
 use Rattle.description.specs.Described.{Described, DescribedNetwork}
-use Rattle.description.specs.Ranges.{IsInRange, IsNetwork, IsProgram, IsStream, IsTable, named_pids, program_numbers, longest_section}
+use Rattle.description.specs.Ranges.{IsInRange, IsNetwork, IsProgram, IsStream, IsTable, IsListed, IsSharing, named_pids, program_numbers, longest_section}
 use Rattle.description.specs.Tables.{only_if, has_event, service_tables, table_kinds, pmt_length, nit_length, sdt_length, numbers_from}
-use Rattle.description.specs.Values.{tables_at}
+use Rattle.description.specs.Values.{tables_at, is_distinct}
 use Rattle.description.specs.ProgramKeys.{program_number}
-use Rattle.description.specs.StreamKeys.{owner_number, has_number, declares, has_owner, refuses_stream}
-use Rattle.description.specs.Contents.{described, described_network, described_program, described_stream, described_table}
-use Rattle.description.specs.Consistency.{is_distinct, is_too_long, first_place, equal_pids_fault, equal_numbers_fault, event_order_fault, too_long_fault, joint_fault}
+use Rattle.description.specs.StreamKeys.{owner_number, has_number, declares, has_owner, has_sharers, stream_sharers, refuses_stream}
+use Rattle.description.specs.Contents.{described, described_network, described_program, described_stream, described_entry, described_table}
+use Rattle.description.specs.TableKeys.{is_listed}
+use Rattle.description.specs.Consistency.{is_too_long, first_place, equal_pids_fault, equal_numbers_fault, event_order_fault, too_long_fault, joint_fault}
 use Rattle.description.specs.Refusals.{key_fault, programs_of, streams_of, tables_of, network_of, first_refused, stream_keys}
 use Rattle.description.specs.declared.fault.DescFault.{DescFault}
 use Rattle.description.specs.declared.fault.DescFault.TheVariants.{Streams, Stream, Events, EqualPids, EqualNumbers, TooLong}
 use Rattle.description.specs.declared.table_kind.TableKind.{TableKind}
 use Rattle.description.specs.declared.table_kind.TableKind.TheVariants.{Pat, Pmt, Nit, Sdt, Eit, Tdt, Private}
 use Rattle.description.proofs.KeyRanges.{integer_at-within, integer_or-within, moment_at-within}
-use Rattle.description.proofs.Counts.{NoFault, no_fault, or_none, if_none, map_none, all_accept, not_false, has_counts, table_sections, elements-length}
+use Rattle.description.proofs.Counts.{NoFault, no_fault, or_none, if_none, map_none, all_accept, AllAccept, not_false, has_counts, tables_accepted, table_sections, elements-length}
 use Rattle.description.proofs.PartsInRange.{network_is, program_is, stream_is, table_is}
+use Rattle.description.proofs.Declared.{owner_declared}
+use Rattle.description.proofs.NamedSharers.{AreSharers, sharers_are}
 use Rattle.description.proofs.Distinct.{IsDistinct-is, most_events}
 use Rattle.description.proofs.TableNumbers.{table_kind-pmt}
 
@@ -109,35 +112,37 @@ services_fit d h =
       sdt = λ is. one_length (λ (e : Described). sdt_length e) (Some d) d refl (only_none p d.has_sdt Sdt one.1 is);
     }
 
--- each stream's program is declared
-number_here : (number : ℕ) (o : Option ℕ) → (elim o [ None ↦ false | Some n ↦ n == number ]) ≡ true → unwrap_or o 1 ≡ number
-number_here number None h = absurd (cc)
-number_here number (Some n) h = eqb-true n number h
+-- each stream's program is declared, and so are those that share it
+streams_accepted : (d : Data) → NoFault d → AllAccept (λ key. refuses_stream key d) stream_keys (streams_of d)
+streams_accepted d none =
+    let arrays = if_none (tables_at true (codes "stream") 0 32 d) (option_map (λ p. Stream p.0 p.1) (first_refused (λ key. refuses_stream key d) stream_keys (streams_of d))) Streams none.stream in
+    all_accept (λ key. refuses_stream key d) stream_keys (streams_of d) (map_none (λ p. Stream p.0 p.1) (first_refused (λ key. refuses_stream key d) stream_keys (streams_of d)) arrays.1)
 
-after_false : (b c : Bool) → b ≡ false → (b || c) ≡ true → c ≡ true
-after_false true c is h = absurd (cc)
-after_false false c is h = h
-
-contains_number : (document : Data) (number : ℕ) (ps : List Data) → list_any (has_number number) ps ≡ true
-    → Contains (map (λ p. p.number) (map (described_program document) ps)) number
-contains_number document number [] h = absurd (cc)
-contains_number document number (p ∷ ps) h = elim (cases_Bool (has_number number p)) [
-  | inl here ↦ (0, omega arith, number_here number (program_number p) here)
-  | inr other ↦
-      let rest = contains_number document number ps (after_false (has_number number p) (list_any (has_number number) ps) other h) in
-      (suc rest.0, omega (arith, rest.1), rest.2)
-]
-
-owner_declared : (document : Data) (o : Option ℕ) → (elim o [ None ↦ false | Some number ↦ declares document number ]) ≡ true
-    → Contains (map (λ p. p.number) (map (described_program document) (programs_of document))) (unwrap_or o 1)
-owner_declared document None h = absurd (cc)
-owner_declared document (Some number) h = contains_number document number (programs_of document) h
+owners_there : (d : Data) → NoFault d → All (λ part. has_owner d part ≡ true) (streams_of d)
+owners_there d none = λ k other within. not_false (has_owner d (get_or (streams_of d) k other)) ((streams_accepted d none).0 k other within)
 
 streams_declared : (d : Data) → NoFault d → All (λ part. Contains (program_numbers (described d)) (unwrap_or (owner_number part) 1)) (streams_of d)
-streams_declared d none =
-    let arrays = if_none (tables_at true (codes "stream") 0 32 d) (option_map (λ p. Stream p.0 p.1) (first_refused (λ key. refuses_stream key d) stream_keys (streams_of d))) Streams none.stream in
-    let accepts = all_accept (λ key. refuses_stream key d) stream_keys (streams_of d) (map_none (λ p. Stream p.0 p.1) (first_refused (λ key. refuses_stream key d) stream_keys (streams_of d)) arrays.1) in
-    λ k other within. owner_declared d (owner_number (get_or (streams_of d) k other)) (not_false (has_owner d (get_or (streams_of d) k other)) (accepts.0 k other within))
+streams_declared d none = λ k other within. owner_declared d (owner_number (get_or (streams_of d) k other)) (owners_there d none k other within)
+
+sharing_of : (document part : Data) → AreSharers document part (stream_sharers part) → IsSharing (described document) (described_stream part)
+sharing_of document part are = record { declared = are.declared; others = are.others; once = are.once }
+
+streams_shared : (d : Data) → NoFault d → All (λ part. IsSharing (described d) (described_stream part)) (streams_of d)
+streams_shared d none = λ k other within.
+    let part = get_or (streams_of d) k other in
+    let there : has_sharers d part ≡ true = not_false (has_sharers d part) ((streams_accepted d none).1.1.1.1.1.1.1.1.1.1.1.1.1.1.1.1.0 k other within) in
+    sharing_of d part (sharers_are d part (owners_there d none k other within) there)
+
+-- so is that of each table's entry
+listed_declared : (document part : Data) (b : Bool) → (b && not (has_owner document part)) ≡ false
+    → All (λ e. Contains (program_numbers (described document)) e.program) (option_to_list (if b then Some (described_entry part) else None))
+listed_declared document part false h = All-nil (λ e. Contains (program_numbers (described document)) e.program)
+listed_declared document part true h =
+    All-cons (λ e. Contains (program_numbers (described document)) e.program) (described_entry part) []
+    (owner_declared document (owner_number part) (not_false (has_owner document part) h)) (All-nil (λ e. Contains (program_numbers (described document)) e.program))
+
+tables_declared : (d : Data) → NoFault d → All (λ part. IsListed (described d) (described_table part)) (tables_of d)
+tables_declared d none = λ k other within. listed_declared d (get_or (tables_of d) k other) (is_listed (get_or (tables_of d) k other)) ((tables_accepted d none).1.1.1.0 k other within)
 
 within_trans : {a b c : ℕ} → a ≤ b → b ≤ c → a ≤ c
 within_trans h k = omega arith
@@ -173,8 +178,10 @@ described-in_range document keys joint =
       most_streams = counts.most_streams;
       streams = All-map IsStream described_stream (streams_of document) (λ k other within. stream_is (get_or (streams_of document) k other));
       declared = All-map (λ s. Contains (program_numbers (described document)) s.program) described_stream (streams_of document) (streams_declared document none);
+      sharing = All-map (IsSharing (described document)) described_stream (streams_of document) (streams_shared document none);
       most_tables = counts.most_tables;
       tables = All-map IsTable described_table (tables_of document) (λ k other within. table_is (get_or (tables_of document) k other) (table_sections document none k other within));
+      listed = All-map (IsListed (described document)) described_table (tables_of document) (tables_declared document none);
       distinct_pids = IsDistinct-is (named_pids (described document)) parts.pids;
       distinct_numbers = numbers;
       pmt_lengths = pmt_fits (described document) parts.lengths;

@@ -56,6 +56,7 @@ stream_code stream.Group = 53
 stream_code stream.GroupPackets = 54
 stream_code stream.BurstPackets = 55
 stream_code stream.Pace = 56
+stream_code stream.SharedWith = 57
 
 abbrev pub event_code : EventKey → ℕ
 event_code event.Program = 61
@@ -70,6 +71,9 @@ abbrev pub table_code : TableKey → ℕ
 table_code table.Pid = 71
 table_code table.Limit = 72
 table_code table.Sections = 73
+table_code table.Program = 74
+table_code table.StreamType = 75
+table_code table.Descriptors = 76
 
 -- the number of a refusal
 abbrev pub fault_code : DescFault → ℕ

@@ -1,10 +1,11 @@
 -- What the parts of a document are refused for together, once each key is in its range: PIDs and program numbers that
 -- are equal, events out of order, sections that would be too long.
-use Rattle.std.specs.Prelude.{ℕ, ◌+◌, ◌==◌, ◌&&◌, not, nat_lt, Bool, true, false, List, [], ◌∷◌, ◌++◌, Option, None, Some, option_map, unwrap_or, if◌then◌else◌}
+use Rattle.std.specs.Prelude.{ℕ, ◌+◌, ◌==◌, ◌&&◌, nat_lt, Bool, false, List, [], ◌∷◌, ◌++◌, Option, None, Some, option_map, unwrap_or, if◌then◌else◌}
 use Rattle.std.specs.List.{list_any}
 use Rattle.std.specs.Option.{option_or}
 use Rattle.toml.specs.Data.{Data}
 use Rattle.description.specs.Described.{Described}
+use Rattle.description.specs.Values.{is_distinct}
 use Rattle.description.specs.StreamKeys.{owner_number}
 use Rattle.description.specs.EventKeys.{event_start, event_duration}
 use Rattle.description.specs.Refusals.{events_of}
@@ -14,11 +15,6 @@ use Rattle.description.specs.declared.table_kind.TableKind.{TableKind}
 use Rattle.description.specs.declared.table_kind.TableKind.TheVariants.{Pmt, Nit, Sdt}
 use Rattle.description.specs.declared.fault.DescFault.{DescFault}
 use Rattle.description.specs.declared.fault.DescFault.TheVariants.{EqualPids, EqualNumbers, EventOrder, TooLong}
-
--- no number stands in the list twice
-abbrev pub is_distinct : List ℕ → Bool
-is_distinct [] = true
-is_distinct (n ∷ ns) = not (list_any (λ m. m == n) ns) && is_distinct ns
 
 abbrev pub equal_pids_fault : Described → Option DescFault
 equal_pids_fault d = if is_distinct (named_pids d) then None else Some EqualPids

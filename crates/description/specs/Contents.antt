@@ -1,16 +1,16 @@
 -- What a document describes: each key's value, with the least value of its range where the key is refused. (The
 -- document is refused then, and no description has that value.)
-use Rattle.std.specs.Prelude.{ℕ, ◌==◌, Bool, false, List, [], None, Some, map, filter, unwrap_or, option_map, codes}
+use Rattle.std.specs.Prelude.{ℕ, Bool, false, List, [], Option, None, Some, map, filter, unwrap_or, option_map, codes, if◌then◌else◌}
 use Rattle.std.specs.List.{filter_map}
 use Rattle.toml.specs.Data.{Data}
-use Rattle.description.specs.Described.{Described, DescribedNetwork, DescribedProgram, DescribedStream, DescribedEvent, DescribedTable}
+use Rattle.description.specs.Described.{Described, DescribedNetwork, DescribedProgram, DescribedStream, DescribedEvent, DescribedEntry, DescribedTable}
 use Rattle.description.specs.Values.{elements, section_in}
 use Rattle.description.specs.TopKeys as top
 use Rattle.description.specs.NetworkKeys.{network_id, network_name, network_descriptors}
 use Rattle.description.specs.ProgramKeys.{program_number, program_pmt_pid, program_pcr_pid, program_pcr_limit, program_descriptors, program_service_type, program_provider, program_name}
-use Rattle.description.specs.StreamKeys.{owner_number, stream_pid, id_or_private, stream_type, stream_interval, stream_size, stream_lead, stream_rx, stream_main, stream_tag, stream_language, stream_descriptors, stream_allowance}
+use Rattle.description.specs.StreamKeys.{owner_number, is_owned_by, stream_sharers, stream_pid, id_or_private, stream_type, stream_interval, stream_size, stream_lead, stream_rx, stream_main, stream_tag, stream_language, stream_descriptors, stream_allowance}
 use Rattle.description.specs.EventKeys.{event_id, event_start, event_duration, event_language, event_name, event_text}
-use Rattle.description.specs.TableKeys.{private_pid, private_limit}
+use Rattle.description.specs.TableKeys.{private_pid, private_limit, is_listed, entry_type, entry_descriptors}
 use Rattle.description.specs.Refusals.{network_of, programs_of, streams_of, events_of, tables_of}
 
 abbrev pub described_network : Data → DescribedNetwork
@@ -33,10 +33,6 @@ described_event event = record {
   name = unwrap_or (event_name event) [];
   text = unwrap_or (event_text event) [];
 }
-
--- the event names the program of that number
-abbrev pub is_owned_by : ℕ → Data → Bool
-is_owned_by number part = elim (owner_number part) [ None ↦ false | Some n ↦ n == number ]
 
 abbrev pub described_events : ℕ → List Data → List DescribedEvent
 described_events number events = map described_event (filter (is_owned_by number) events)
@@ -72,16 +68,28 @@ described_stream stream = record {
   language = unwrap_or (stream_language stream) None;
   descriptors = unwrap_or (stream_descriptors stream) [];
   allowance = stream_allowance stream;
+  shared_with = stream_sharers stream;
 }
 
 abbrev pub described_sections : Data → List (List ℕ)
 described_sections part = filter_map section_in (elements (codes "sections") part)
+
+abbrev pub described_entry : Data → DescribedEntry
+described_entry part = record {
+  program = unwrap_or (owner_number part) 1;
+  stream_type = unwrap_or (entry_type part) 1;
+  descriptors = unwrap_or (entry_descriptors part) [];
+}
+
+abbrev pub entry_if_listed : Data → Option DescribedEntry
+entry_if_listed part = if is_listed part then Some (described_entry part) else None
 
 abbrev pub described_table : Data → DescribedTable
 described_table part = record {
   pid = unwrap_or (private_pid part) 32;
   limit = unwrap_or (private_limit part) 1;
   sections = described_sections part;
+  entry = entry_if_listed part;
 }
 
 abbrev pub described : Data → Described

@@ -2,6 +2,7 @@
 -- Texts are kept as they are written in descriptors (ETSI EN 300 468, annex A), moments as seconds since 1970 (UTC).
 use Rattle.std.specs.Prelude.{ℕ, Bool, List, Option}
 use Rattle.dvb_tables.specs.declared.schedule.Event.{Event}
+use Rattle.description.specs.declared.map_entry.MapEntry.{MapEntry}
 use Rattle.description.specs.declared.network.Network.{Network}
 use Rattle.description.specs.declared.stream.StreamDescription.{StreamDescription}
 
@@ -37,15 +38,22 @@ pub record DescribedProgram : Type 0 where
 
 -- one elementary stream of the program of that number. Its units come at least `interval` apart and `lead` before their
 -- decoding time at the latest (units of 90 kHz), of at most `size` bytes, and have at most the packets that `allowance`
--- lets units in a row have. Its transport buffer leaks `rx` bits a second into a main buffer of `main` bytes
+-- lets units in a row have. Its transport buffer leaks `rx` bits a second into a main buffer of `main` bytes. The PMTs of
+-- the programs of `shared_with` name it too
 abbrev pub DescribedStream : Type 0
 DescribedStream = StreamDescription
 
--- ready-made sections on a PID of their own; limit is the greatest time between two starts of a section, in ms
+-- what names a table in the PMT of the program of that number: its stream_type there and its descriptors
+abbrev pub DescribedEntry : Type 0
+DescribedEntry = MapEntry
+
+-- ready-made sections on a PID of their own; limit is the greatest time between two starts of a section, in ms. A PMT
+-- names the PID where there is an entry
 pub record DescribedTable : Type 0 where
   pub pid : ℕ
   pub limit : ℕ
   pub sections : List (List ℕ)
+  pub entry : Option DescribedEntry
 
 -- the whole: rate in bits a second, start the moment of the first slot, base0 the system clock's first value (90 kHz)
 pub record Described : Type 0 where

@@ -18,3 +18,4 @@ pub mod Consistency
 pub mod Reading
 pub mod SectionBytes
 pub mod Pids
+pub mod Entries

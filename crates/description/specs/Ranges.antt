@@ -4,7 +4,7 @@ use Rattle.std.specs.List.{IsDistinct}
 use Rattle.std.specs.Option.{option_to_list}
 use Rattle.unit_timing.specs.declared.allowance.Allowance.{Allowance}
 use Rattle.unit_timing.specs.declared.allowance.Allowance.TheVariants.{Groups, Pace}
-use Rattle.description.specs.Described.{Described, DescribedNetwork, DescribedProgram, DescribedStream, DescribedEvent, DescribedTable}
+use Rattle.description.specs.Described.{Described, DescribedNetwork, DescribedProgram, DescribedStream, DescribedEvent, DescribedEntry, DescribedTable}
 use Rattle.description.specs.Values.{is_one_section}
 use Rattle.description.specs.Tables.{pmt_length, nit_length, sdt_length, greatest_unit_packets}
 
@@ -95,6 +95,12 @@ pub record IsStream (s : DescribedStream) : Type 0 where
   pub language : All IsLanguage (option_to_list s.language)
   pub descriptors : IsBytes 700 s.descriptors
   pub allowance : IsAllowance (greatest_unit_packets s) s.allowance
+  pub few_sharers : length s.shared_with ≤ 15
+
+pub record IsEntry (e : DescribedEntry) : Type 0 where
+  pub some_type : 1 ≤ e.stream_type
+  pub most_type : e.stream_type ≤ 255
+  pub descriptors : IsBytes 700 e.descriptors
 
 pub record IsTable (t : DescribedTable) : Type 0 where
   pub pid : IsPid t.pid
@@ -105,6 +111,7 @@ pub record IsTable (t : DescribedTable) : Type 0 where
   pub sections : All (IsBytes 4096) t.sections
   pub no_empty_section : All (λ s. 3 ≤ length s) t.sections
   pub whole_sections : All (λ s. is_one_section s ≡ true) t.sections
+  pub entry : All IsEntry (option_to_list t.entry)
 
 -- every PID that the description names
 abbrev pub named_pids : Described → List ℕ
@@ -117,6 +124,16 @@ program_numbers d = map (λ p. p.number) d.programs
 -- a section of at most this many bytes has a section_length of at most 1,021 (ISO/IEC 13818-1, 2.4.4.4)
 abbrev pub longest_section : ℕ
 longest_section = 1024
+
+-- the programs that share a stream are declared ones, each once, and not its own
+pub record IsSharing (d : Described) (s : DescribedStream) : Type 0 where
+  pub declared : All (Contains (program_numbers d)) s.shared_with
+  pub others : All (λ n. n ≡ s.program → ⊥) s.shared_with
+  pub once : IsDistinct nat_eq s.shared_with
+
+-- the PMTs that name a table are those of declared programs
+abbrev pub IsListed : Described → DescribedTable → Type 0
+IsListed d t = All (λ e. Contains (program_numbers d) e.program) (option_to_list t.entry)
 
 -- how many parts there are
 pub record HasCounts (d : Described) : Type 0 where
@@ -142,8 +159,10 @@ pub record IsInRange (d : Described) : Type 0 where
   pub most_streams : length d.streams ≤ 32
   pub streams : All IsStream d.streams
   pub declared : All (λ s. Contains (program_numbers d) s.program) d.streams
+  pub sharing : All (IsSharing d) d.streams
   pub most_tables : length d.tables ≤ 16
   pub tables : All IsTable d.tables
+  pub listed : All (IsListed d) d.tables
   pub distinct_pids : IsDistinct nat_eq (named_pids d)
   pub distinct_numbers : IsDistinct nat_eq (program_numbers d)
   pub pmt_lengths : All (λ p. pmt_length d p ≤ longest_section) d.programs

@@ -38,13 +38,13 @@ program_keys = program.Number ∷ program.PmtPid ∷ program.PcrPid ∷ program.
 
 abbrev pub stream_keys : List StreamKey
 stream_keys = stream.Program ∷ stream.Pid ∷ stream.StreamId ∷ stream.StreamType ∷ stream.Interval ∷ stream.Size ∷ stream.Lead ∷ stream.Rx ∷ stream.Main
-    ∷ stream.Tag ∷ stream.Language ∷ stream.Descriptors ∷ stream.Group ∷ stream.GroupPackets ∷ stream.BurstPackets ∷ stream.Pace ∷ []
+    ∷ stream.Tag ∷ stream.Language ∷ stream.Descriptors ∷ stream.Group ∷ stream.GroupPackets ∷ stream.BurstPackets ∷ stream.Pace ∷ stream.SharedWith ∷ []
 
 abbrev pub event_keys : List EventKey
 event_keys = event.Program ∷ event.Id ∷ event.Start ∷ event.Duration ∷ event.Language ∷ event.Name ∷ event.Text ∷ []
 
 abbrev pub table_keys : List TableKey
-table_keys = table.Pid ∷ table.Limit ∷ table.Sections ∷ []
+table_keys = table.Pid ∷ table.Limit ∷ table.Sections ∷ table.Program ∷ table.StreamType ∷ table.Descriptors ∷ []
 
 -- the first key in its order that refuses a part, with the first part that it refuses
 abbrev pub first_refused : {K : Type 0} → (K → Data → Bool) → List K → List Data → Option (K × ℕ)

@@ -1,7 +1,7 @@
 -- What each section of each table says at a moment, and its bytes (ISO/IEC 13818-1, 2.4.4; EN 300 468, 5.2). Version 0
 -- and section 0 of 0, except in the EIT.
-use Rattle.std.specs.Prelude.{ℕ, ◌+◌, ◌/◌, ◌%◌, ◌==◌, ◌&&◌, nat_le, nat_lt, Bool, true, false, List, [], ◌∷◌, ◌++◌, map, filter, find, Option, None, Some, slice_get, slice_index_or, if◌then◌else◌}
-use Rattle.std.specs.List.{count_by}
+use Rattle.std.specs.Prelude.{ℕ, ◌+◌, ◌/◌, ◌%◌, ◌==◌, ◌&&◌, nat_le, nat_lt, Bool, true, false, List, [], ◌∷◌, ◌++◌, map, filter, find, Option, None, Some, option_map, slice_get, slice_index_or, if◌then◌else◌}
+use Rattle.std.specs.List.{count_by, filter_map}
 use Rattle.std.specs.Option.{option_to_list}
 use Rattle.psi_tables.specs.Encoding.{section_bytes}
 use Rattle.psi_tables.specs.declared.section.LongHeader.{LongHeader}
@@ -19,8 +19,8 @@ use Rattle.dvb_tables.specs.EventInformation.{EitView, eit_section}
 use Rattle.dvb_tables.specs.TimeAndDate.{tdt_section}
 use Rattle.dvb_tables.specs.declared.running_status.RunningStatus.{RunningStatus}
 use Rattle.dvb_tables.specs.declared.running_status.RunningStatus.TheVariants.{Running, NotRunning}
-use Rattle.description.specs.Described.{Described, DescribedNetwork, DescribedProgram, DescribedStream, DescribedEvent}
-use Rattle.description.specs.Tables.{has_event, scheduled_programs, table_kind}
+use Rattle.description.specs.Described.{Described, DescribedNetwork, DescribedProgram, DescribedStream, DescribedEvent, DescribedEntry, DescribedTable}
+use Rattle.description.specs.Tables.{has_event, scheduled_programs, table_kind, is_shared_with, entry_in}
 use Rattle.description.specs.declared.table_kind.TableKind.{TableKind}
 use Rattle.description.specs.declared.table_kind.TableKind.TheVariants as kind
 
@@ -59,12 +59,26 @@ is_of_program number s = s.program == number
 abbrev pub pmt_streams : ℕ → List DescribedStream → List StreamView
 pmt_streams number streams = map pmt_stream (filter (is_of_program number) streams)
 
+-- each stream of another program that the program shares, after its own
+abbrev pub pmt_shared : ℕ → List DescribedStream → List StreamView
+pmt_shared number streams = map pmt_stream (filter (is_shared_with number) streams)
+
+-- and each table that the program's PMT names, after the streams
+abbrev pub table_stream : ℕ → DescribedEntry → StreamView
+table_stream pid e = record { stream_type = e.stream_type; elementary_pid = pid; descriptors = e.descriptors }
+
+abbrev pub pmt_table : ℕ → DescribedTable → Option StreamView
+pmt_table number t = option_map (table_stream t.pid) (entry_in number t)
+
+abbrev pub pmt_tables : ℕ → List DescribedTable → List StreamView
+pmt_tables number tables = filter_map (pmt_table number) tables
+
 abbrev pub pmt_says : Described → DescribedProgram → PmtView
 pmt_says d p = record {
   header = single_header p.number;
   pcr_pid = p.pcr_pid;
   program_info = p.descriptors;
-  streams = pmt_streams p.number d.streams;
+  streams = (pmt_streams p.number d.streams ++ pmt_shared p.number d.streams) ++ pmt_tables p.number d.tables;
 }
 
 -- NIT: the name, and this transport stream with the network's descriptors

@@ -1,13 +1,13 @@
 -- The keys of a table of the array `stream`.
-use Rattle.std.specs.Prelude.{ℕ, pos, ◌+◌, ◌*◌, ◌/◌, ◌&&◌, ◌||◌, ◌==◌, not, nat_le, Bool, false, List, [], ◌∷◌, Option, None, Some, codes, is_none, is_some, unwrap_or, option_and_then, if◌then◌else◌}
-use Rattle.std.specs.List.{list_any}
+use Rattle.std.specs.Prelude.{ℕ, pos, ◌+◌, ◌*◌, ◌/◌, ◌&&◌, ◌||◌, ◌==◌, not, nat_le, Bool, true, false, List, [], ◌∷◌, length, Option, None, Some, codes, is_none, is_some, unwrap_or, option_and_then, if◌then◌else◌}
+use Rattle.std.specs.List.{list_any, list_all, filter_map}
 use Rattle.toml.specs.Data.{Data, get}
 use Rattle.unit_timing.specs.declared.allowance.Allowance.{Allowance}
 use Rattle.unit_timing.specs.declared.allowance.Allowance.TheVariants as allowance
-use Rattle.description.specs.Values.{at_key, integer_in, integer_at, integer_or, optional_integer, optional_language, descriptors_or_none, elements}
+use Rattle.description.specs.Values.{at_key, integer_in, integer_at, integer_or, optional_integer, optional_language, descriptors_or_none, elements, array_in, is_distinct}
 use Rattle.description.specs.ProgramKeys.{program_number}
 use Rattle.description.specs.declared.stream_keys.StreamKey.{StreamKey}
-use Rattle.description.specs.declared.stream_keys.StreamKey.TheVariants.{Program, Pid, StreamId, StreamType, Interval, Size, Lead, Rx, Main, Tag, Language, Descriptors, Group, GroupPackets, BurstPackets, Pace}
+use Rattle.description.specs.declared.stream_keys.StreamKey.TheVariants.{Program, Pid, StreamId, StreamType, Interval, Size, Lead, Rx, Main, Tag, Language, Descriptors, Group, GroupPackets, BurstPackets, Pace, SharedWith}
 
 -- the number of the program that a stream or an event belongs to
 abbrev pub owner_number : Data → Option ℕ
@@ -22,6 +22,10 @@ declares document number = list_any (has_number number) (elements (codes "progra
 
 abbrev pub has_owner : Data → Data → Bool
 has_owner document part = elim (owner_number part) [ None ↦ false | Some number ↦ declares document number ]
+
+-- it names the program of that number
+abbrev pub is_owned_by : ℕ → Data → Bool
+is_owned_by number part = elim (owner_number part) [ None ↦ false | Some n ↦ n == number ]
 
 abbrev pub stream_pid : Data → Option ℕ
 stream_pid = integer_at (codes "pid") (pos 32) (pos 8190)
@@ -128,11 +132,33 @@ refuses_burst_packets stream = is_paced stream && is_none (stream_burst_packets 
 abbrev pub refuses_pace : Data → Bool
 refuses_pace stream = is_paced stream && is_none (stream_pace stream)
 
+-- the programs beside its own whose PMTs name it: up to 15 numbers of declared programs, each once
+abbrev pub number_in : Data → Option ℕ
+number_in = integer_in (pos 1) (pos 65535)
+
+abbrev pub names_another : Data → Data → Data → Bool
+names_another document stream d = elim (number_in d) [ None ↦ false | Some number ↦ declares document number && not (is_owned_by number stream) ]
+
+abbrev pub are_sharers : Data → Data → Data → Bool
+are_sharers document stream d = elim (array_in d) [
+  | None ↦ false
+  | Some ds ↦ nat_le (length ds) 15 && (list_all (names_another document stream) ds && is_distinct (filter_map number_in ds))
+]
+
+abbrev pub has_sharers : Data → Data → Bool
+has_sharers document stream = elim (get (codes "shared_with") stream) [ None ↦ true | Some value ↦ are_sharers document stream value ]
+
+abbrev pub sharers_of : List Data → List ℕ
+sharers_of ds = if nat_le (length ds) 15 then filter_map number_in ds else []
+
+abbrev pub stream_sharers : Data → List ℕ
+stream_sharers stream = sharers_of (elements (codes "shared_with") stream)
+
 -- the names of the keys
 abbrev pub stream_key_names : List (List ℕ)
 stream_key_names = codes "program" ∷ codes "pid" ∷ codes "id" ∷ codes "type" ∷ codes "interval" ∷ codes "size" ∷ codes "lead"
     ∷ codes "rx" ∷ codes "main" ∷ codes "tag" ∷ codes "language" ∷ codes "descriptors" ∷ codes "group" ∷ codes "group_packets"
-    ∷ codes "burst_packets" ∷ codes "pace" ∷ []
+    ∷ codes "burst_packets" ∷ codes "pace" ∷ codes "shared_with" ∷ []
 
 -- what each key refuses
 abbrev pub refuses_stream : StreamKey → Data → Data → Bool
@@ -152,3 +178,4 @@ refuses_stream Group document stream = refuses_group stream
 refuses_stream GroupPackets document stream = refuses_group_packets stream
 refuses_stream BurstPackets document stream = refuses_burst_packets stream
 refuses_stream Pace document stream = refuses_pace stream
+refuses_stream SharedWith document stream = not (has_sharers document stream)

@@ -1,8 +1,8 @@
 -- The tables of a description: their numbers, PIDs, limits, sections and lengths (EN 300 468, 5.1.3; TR 101 290, 5.2).
-use Rattle.std.specs.Prelude.{ℕ, ◌+◌, ◌*◌, ◌/◌, max, Bool, List, [], ◌∷◌, ◌++◌, Option, None, Some, is_some, length, map, filter, sum_by, nat_le, slice_index_or, slice_get, ◌==◌, if◌then◌else◌}
+use Rattle.std.specs.Prelude.{ℕ, ◌+◌, ◌*◌, ◌/◌, max, Bool, List, [], ◌∷◌, ◌++◌, Option, None, Some, is_some, length, map, filter, sum_by, nat_le, slice_index_or, slice_get, option_and_then, ◌==◌, if◌then◌else◌}
 use Rattle.std.specs.List.{list_any}
 use Rattle.std.specs.Option.{option_to_list}
-use Rattle.description.specs.Described.{Described, DescribedNetwork, DescribedProgram, DescribedStream, DescribedEvent}
+use Rattle.description.specs.Described.{Described, DescribedNetwork, DescribedProgram, DescribedStream, DescribedEvent, DescribedEntry, DescribedTable}
 use Rattle.description.specs.declared.table_kind.TableKind.{TableKind}
 use Rattle.description.specs.declared.table_kind.TableKind.TheVariants.{Pat, Pmt, Nit, Sdt, Eit, Tdt, Private}
 
@@ -74,8 +74,26 @@ pat_length d = section_overhead + 4 * (length (option_to_list d.network) + lengt
 abbrev pub entry_length : ℕ → DescribedStream → ℕ
 entry_length number s = if s.program == number then 5 + es_info_length s else 0
 
+-- a program beside its own shares the stream, and its bytes in that program's PMT
+abbrev pub is_shared_with : ℕ → DescribedStream → Bool
+is_shared_with number s = list_any (λ n. n == number) s.shared_with
+
+abbrev pub shared_length : ℕ → DescribedStream → ℕ
+shared_length number s = if is_shared_with number s then 5 + es_info_length s else 0
+
+-- the entry of a table in the PMT of the program of a number
+abbrev pub entry_if_of : ℕ → DescribedEntry → Option DescribedEntry
+entry_if_of number e = if e.program == number then Some e else None
+
+abbrev pub entry_in : ℕ → DescribedTable → Option DescribedEntry
+entry_in number t = option_and_then (entry_if_of number) t.entry
+
+-- its bytes there: none if there is no such entry
+abbrev pub listed_length : ℕ → DescribedTable → ℕ
+listed_length number t = elim (entry_in number t) [ None ↦ 0 | Some e ↦ 5 + length e.descriptors ]
+
 abbrev pub pmt_length : Described → DescribedProgram → ℕ
-pmt_length d p = section_overhead + 4 + length p.descriptors + sum_by (entry_length p.number) d.streams
+pmt_length d p = section_overhead + 4 + length p.descriptors + sum_by (entry_length p.number) d.streams + sum_by (shared_length p.number) d.streams + sum_by (listed_length p.number) d.tables
 
 abbrev pub nit_length : DescribedNetwork → ℕ
 nit_length n = section_overhead + 2 + (2 + length n.name) + 2 + 6 + length n.descriptors

@@ -1,6 +1,6 @@
 -- Values of keys, as the parsed TOML document gives them: None where the value is refused.
-use Rattle.std.specs.Prelude.{ℕ, ℤ, ◌&&◌, ◌||◌, ◌==◌, nat_le, nat_lt, Bool, false, List, [], ◌∷◌, Option, None, Some, Ok, Err, length, is_some, unsigned_abs, int_le, option_and_then, option_map, if◌then◌else◌, unwrap_or}
-use Rattle.std.specs.List.{list_all}
+use Rattle.std.specs.Prelude.{ℕ, ℤ, ◌&&◌, ◌||◌, ◌==◌, nat_le, nat_lt, not, Bool, true, false, List, [], ◌∷◌, Option, None, Some, Ok, Err, length, is_some, unsigned_abs, int_le, option_and_then, option_map, if◌then◌else◌, unwrap_or}
+use Rattle.std.specs.List.{list_all, list_any}
 use Rattle.hex.specs.Hex.{decode_of}
 use Rattle.psi_tables.specs.Reading.{section_at}
 use Rattle.dvb_tables.specs.CharacterCoding.{text_bytes}
@@ -77,6 +77,9 @@ descriptors_in d = option_and_then (λ bytes. if are_whole_descriptors bytes the
 abbrev pub descriptors_or_none : List ℕ → Data → Option (List ℕ)
 descriptors_or_none key = at_key key (Some []) descriptors_in
 
+abbrev pub descriptors_at : List ℕ → Data → Option (List ℕ)
+descriptors_at key = at_key key None descriptors_in
+
 -- hexadecimal bytes that are exactly one section (ISO/IEC 13818-1, 2.4.4.10)
 abbrev pub is_one_section : List ℕ → Bool
 is_one_section bytes = elim (section_at bytes) [ Ok section ↦ section.1 == length bytes | Err e ↦ false ]
@@ -122,3 +125,8 @@ are_sections d = elim (array_in d) [ None ↦ false | Some ds ↦ has_length 1 8
 
 abbrev pub sections_at : List ℕ → Data → Bool
 sections_at key d = elim (get key d) [ None ↦ false | Some value ↦ are_sections value ]
+
+-- no number stands in the list twice
+abbrev pub is_distinct : List ℕ → Bool
+is_distinct [] = true
+is_distinct (n ∷ ns) = not (list_any (λ m. m == n) ns) && is_distinct ns

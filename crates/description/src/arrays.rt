@@ -9,8 +9,8 @@ ghost use Rattle.description.specs.Values.{tables_at, is_section, are_sections, 
 use crate::private_section::section_of;
 use toml::Value;
 
-// The elements of an array.
-fn array_in(value: &Value) -> Option<&[Value]>
+/// The elements of an array.
+pub fn array_in(value: &Value) -> Option<&[Value]>
     ensures { option_map (λ values. map view values.now) result ≡ array_in (view value.now) }
 {
     match value.as_array() {

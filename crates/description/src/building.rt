@@ -12,11 +12,13 @@ ghost use Rattle.description.specs.Contents as spec;
 use crate::arrays::elements;
 use crate::contents::Contents;
 use crate::descriptors::DescriptorLoop;
+use crate::map_entry::MapEntry;
 use crate::network::Network;
-use crate::owner::owner_number;
+use crate::owner::{is_owned_by, owner_number};
 use crate::private_section::{PrivateSection, section_of};
 use crate::private_table::PrivateTable;
 use crate::program::ProgramDescription;
+use crate::sharers::sharers;
 use crate::stream::StreamDescription;
 use crate::texts::empty_text;
 use crate::{event_keys, network_keys, program_keys, stream_keys, table_keys, top_keys};
@@ -46,12 +48,6 @@ fn event_of(event: &Value) -> Event
         name: event_keys::name(event).unwrap_or(empty_text()),
         text: event_keys::text(event).unwrap_or(empty_text()),
     }
-}
-
-fn is_owned_by(number: u16, part: &Value) -> bool
-    ensures { result ≡ spec.is_owned_by number (view part.now) }
-{
-    owner_number(part) == Some(number)
 }
 
 fn events_of(alloc: Global, number: u16, events: &[Value]) -> Result<Vec<Event>, AllocError>
@@ -119,6 +115,7 @@ fn stream_of(stream: &Value) -> StreamDescription
         language: stream_keys::language(stream).unwrap_or(None),
         descriptors: stream_keys::descriptors(stream).unwrap_or(DescriptorLoop::none()),
         allowance: stream_keys::allowance(stream),
+        shared_with: sharers(stream),
     }
 }
 
@@ -144,6 +141,26 @@ fn sections_of(alloc: Global, parts: &[Value]) -> Result<Vec<PrivateSection>, Al
     Ok(sections)
 }
 
+fn entry_of(table: &Value) -> MapEntry
+    ensures { result ≡ spec.described_entry (view table.now) }
+{
+    MapEntry {
+        program: owner_number(table).unwrap_or(1),
+        stream_type: table_keys::entry_type(table).unwrap_or(1),
+        descriptors: table_keys::entry_descriptors(table).unwrap_or(DescriptorLoop::none()),
+    }
+}
+
+fn entry_if_listed(table: &Value) -> Option<MapEntry>
+    ensures { result ≡ spec.entry_if_listed (view table.now) }
+{
+    if table_keys::is_listed(table) {
+        Some(entry_of(table))
+    } else {
+        None
+    }
+}
+
 fn table_of(alloc: Global, table: &Value) -> Result<PrivateTable, AllocError>
     ensures { IfOk result (λ t. t ≡ spec.described_table (view table.now)) }
 {
@@ -152,6 +169,7 @@ fn table_of(alloc: Global, table: &Value) -> Result<PrivateTable, AllocError>
         pid: table_keys::pid(table).unwrap_or(32),
         limit: table_keys::limit(table).unwrap_or(1),
         sections,
+        entry: entry_if_listed(table),
     })
 }
 

@@ -4,6 +4,7 @@ ghost use Rattle.std.specs.Prelude.{◌≡◌, ◌≤◌, ◌+◌, ◌++◌, [],
 ghost use Rattle.std.specs.List.{list_any};
 ghost use Rattle.arrayvec.specs.ArrayVec.{array_vec_len};
 ghost use Rattle.toml.specs.View.{view};
+ghost use Rattle.description.specs.Values.{is_distinct};
 ghost use Rattle.description.specs.Ranges.{last_moment, named_pids, longest_section};
 ghost use Rattle.description.specs.Tables.{table_kinds};
 ghost use Rattle.description.specs.Consistency as spec;
@@ -20,9 +21,9 @@ use crate::table_kind::TableKind;
 use arrayvec::ArrayVec;
 use toml::Value;
 
-// Whether no number is in a list twice.
-fn is_distinct(numbers: &[u16]) -> bool
-    ensures { result ≡ spec.is_distinct numbers.now }
+/// Whether no number is in a list twice.
+pub fn is_distinct(numbers: &[u16]) -> bool
+    ensures { result ≡ is_distinct numbers.now }
 {
     let mut rest = numbers;
     while let Some((first, after)) = rest.split_first() {

@@ -2,7 +2,7 @@
 
 ghost use Rattle.std.specs.Prelude.{◌≡◌, ◌≤◌, List, ℕ, [], length};
 ghost use Rattle.toml.specs.View.{view};
-ghost use Rattle.description.specs.Values.{descriptors_in, descriptors_or_none};
+ghost use Rattle.description.specs.Values.{descriptors_in, descriptors_or_none, descriptors_at};
 
 use crate::hexadecimal::hex_bytes;
 use arrayvec::ArrayVec;
@@ -58,6 +58,16 @@ pub fn descriptors_or_none(table: &Value, key: &str) -> Option<DescriptorLoop>
 {
     match table.get(key) {
         None => Some(DescriptorLoop::none()),
+        Some(value) => descriptors_of(value),
+    }
+}
+
+/// The descriptors at a key that has to be there.
+pub fn descriptors_at(table: &Value, key: &str) -> Option<DescriptorLoop>
+    ensures { result ≡ descriptors_at key.now (view table.now) }
+{
+    match table.get(key) {
+        None => None,
         Some(value) => descriptors_of(value),
     }
 }

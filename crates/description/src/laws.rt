@@ -2,6 +2,7 @@
 
 ghost use Rattle.description.specs.Pids.{PidsApartLaw, PidsBelowLaw, PidPositionsLaw, StreamRangeLaw, ProgramRangeLaw};
 ghost use Rattle.description.specs.Pids.{SectionsLaw};
+ghost use Rattle.description.specs.Entries.{SharedLaw, EntryLaw, OwnLaw};
 
 /// No two of a description's tables, clocks and streams share a PID, each is below that of null packets, and they stand
 /// in
@@ -21,4 +22,12 @@ pub fn ranges()
 /// Each table has 1 to 32 sections, and its round a place.
 pub fn sections()
     ensures { SectionsLaw }
+{}
+
+/// The PMT of a program names each stream that the program shares and each private table that names it; its own streams
+/// alone where there are none.
+pub fn program_maps()
+    ensures shared { SharedLaw }
+    ensures tables { EntryLaw }
+    ensures own { OwnLaw }
 {}

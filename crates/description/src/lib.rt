@@ -10,10 +10,12 @@
 mod contents;
 mod description;
 mod descriptors;
+mod map_entry;
 mod network;
 mod private_section;
 mod private_table;
 mod program;
+mod program_numbers;
 mod stream;
 
 // Values as the document has them.
@@ -30,6 +32,7 @@ mod known_keys;
 mod network_keys;
 mod owner;
 mod program_keys;
+mod sharers;
 mod stream_keys;
 mod table_keys;
 mod top_keys;
@@ -61,12 +64,14 @@ pub use description::Description;
 pub use descriptors::DescriptorLoop;
 pub use event_keys::EventKey;
 pub use fault::{DescError, DescFault};
+pub use map_entry::MapEntry;
 pub use network::Network;
 pub use network_keys::NetworkKey;
 pub use private_section::PrivateSection;
 pub use private_table::PrivateTable;
 pub use program::ProgramDescription;
 pub use program_keys::ProgramKey;
+pub use program_numbers::ProgramNumbers;
 pub use stream::StreamDescription;
 pub use stream_keys::StreamKey;
 pub use table_keys::TableKey;

@@ -3,7 +3,7 @@
 ghost use Rattle.std.specs.Prelude.{◌≡◌};
 ghost use Rattle.std.specs.List.{list_any};
 ghost use Rattle.toml.specs.View.{view};
-ghost use Rattle.description.specs.StreamKeys.{owner_number, has_number, declares, has_owner};
+ghost use Rattle.description.specs.StreamKeys.{owner_number, has_number, declares, has_owner, is_owned_by};
 
 use crate::arrays::elements;
 use crate::program_keys;
@@ -29,8 +29,8 @@ fn one_has_number(number: u16, programs: &[Value]) -> bool
     programs.iter().any(|program| has_number(number, program))
 }
 
-// Whether a program of the document has the number.
-fn declares(document: &Value, number: u16) -> bool
+/// Whether a program of the document has the number.
+pub fn declares(document: &Value, number: u16) -> bool
     ensures { result ≡ declares (view document.now) number }
 {
     one_has_number(number, elements(document, "program"))
@@ -44,4 +44,11 @@ pub fn has_owner(document: &Value, part: &Value) -> bool
         None => false,
         Some(number) => declares(document, number),
     }
+}
+
+/// Whether a stream or an event names the program of a number.
+pub fn is_owned_by(number: u16, part: &Value) -> bool
+    ensures { result ≡ is_owned_by number (view part.now) }
+{
+    owner_number(part) == Some(number)
 }

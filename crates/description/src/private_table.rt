@@ -1,16 +1,19 @@
 //! A private table of the description.
 
-ghost use Rattle.std.specs.Prelude.{◌≡◌};
+ghost use Rattle.std.specs.Prelude.{◌≡◌, option_map};
+ghost use Rattle.description.specs.Tables.{entry_in};
 
+use crate::map_entry::MapEntry;
 use crate::private_section::PrivateSection;
 use std::marker::Model;
 
-/// Ready-made sections on a PID of their own.
+/// Ready-made sections on a PID of their own, which the PMT of a program may name.
 #[derive(Drop)]
 pub struct PrivateTable {
     pub(crate) pid: u16,
     pub(crate) limit: u16,
     pub(crate) sections: Vec<PrivateSection>,
+    pub(crate) entry: Option<MapEntry>,
 }
 
 impl Model for PrivateTable {
@@ -18,7 +21,12 @@ impl Model for PrivateTable {
 
     ghost Value = { DescribedTable };
 
-    ghost view = { λ t. record { pid = t.pid; limit = t.limit; sections = t.sections.items } };
+    ghost view = { λ t. record {
+      pid = t.pid;
+      limit = t.limit;
+      sections = t.sections.items;
+      entry = t.entry;
+    } };
 }
 
 impl PrivateTable {
@@ -41,5 +49,22 @@ impl PrivateTable {
         ensures { result.now ≡ self.now.sections }
     {
         self.sections.as_slice()
+    }
+
+    /// What names it in a PMT, if one does.
+    pub fn entry(&self) -> Option<&MapEntry>
+        ensures { option_map (λ e. e.now) result ≡ self.now.entry }
+    {
+        self.entry.as_ref()
+    }
+
+    /// What names it in the PMT of the program of a number.
+    pub(crate) fn entry_in(&self, number: u16) -> Option<&MapEntry>
+        ensures { option_map (λ e. e.now) result ≡ entry_in number self.now }
+    {
+        match &self.entry {
+            Some(entry) if entry.program == number => Some(entry),
+            _ => None,
+        }
     }
 }

@@ -1,15 +1,18 @@
 //! The program map section of a program (ISO/IEC 13818-1, 2.4.4.8).
 
 ghost use Rattle.std.specs.Prelude.{◌≡◌, ◌≤◌, ◌<◌, ◌+◌, ◌++◌, [], ◌∷◌, All, length, sum_by};
+ghost use Rattle.std.specs.Option.{option_to_list};
 ghost use Rattle.arrayvec.specs.ArrayVec.{array_vec_len};
 ghost use Rattle.psi_tables.specs.ProgramMap.{stream_loop_of, streams_of, streams_bytes, pmt_section};
 ghost use Rattle.psi_tables.specs.Encoding.{section_bytes};
 ghost use Rattle.psi_tables.specs.declared.writing.TheConstants.{GREATEST_TABLE_LENGTH};
-ghost use Rattle.description.specs.Ranges.{IsProgram, IsStream, longest_section};
-ghost use Rattle.description.specs.Tables.{es_info_length, entry_length, pmt_length};
+ghost use Rattle.description.specs.Ranges.{IsProgram, IsStream, IsTable, longest_section};
+ghost use Rattle.description.specs.Tables.{es_info_length, entry_length, shared_length, listed_length, pmt_length};
 ghost use Rattle.description.specs.SectionBytes as spec;
 
 use crate::description::Description;
+use crate::map_entry::MapEntry;
+use crate::private_table::PrivateTable;
 use crate::program::ProgramDescription;
 use crate::stream::StreamDescription;
 use arrayvec::ArrayVec;
@@ -86,6 +89,80 @@ fn program_streams(number: u16, streams: &[StreamDescription]) -> StreamLoop
     entries
 }
 
+// Adds a stream, for which there is room, where the program of a number shares it.
+fn push_if_shared(entries: &mut StreamLoop, number: u16, stream: &StreamDescription)
+    requires ranges { IsStream stream.now }
+    requires room { length (streams_bytes (stream_loop_of entries.old)) + shared_length number stream.now ≤ 1012 }
+    ensures value { stream_loop_of entries.new
+        ≡ stream_loop_of entries.old ++ spec.pmt_shared number (stream.now ∷ []) }
+    ensures length { length (streams_bytes (stream_loop_of entries.new))
+        ≡ length (streams_bytes (stream_loop_of entries.old)) + shared_length number stream.now }
+{
+    if stream.shared_with.contains(number) {
+        push_stream(entries, stream);
+    }
+}
+
+// Adds the streams that the program of a number shares.
+fn push_shared(entries: &mut StreamLoop, number: u16, streams: &[StreamDescription])
+    requires ranges { All IsStream streams.now }
+    requires room { length (streams_bytes (stream_loop_of entries.old)) + sum_by (shared_length number) streams.now ≤ 1012 }
+    ensures value { stream_loop_of entries.new ≡ stream_loop_of entries.old ++ spec.pmt_shared number streams.now }
+    ensures length { length (streams_bytes (stream_loop_of entries.new))
+        ≡ length (streams_bytes (stream_loop_of entries.old)) + sum_by (shared_length number) streams.now }
+{
+    for stream in streams {
+        push_if_shared(entries, number, stream);
+    }
+}
+
+// Adds the entry of a table on a PID, for which there is room.
+fn push_entry(entries: &mut StreamLoop, pid: u16, entry: &MapEntry)
+    requires pid { pid < 8192 }
+    requires room { length (streams_bytes (stream_loop_of entries.old)) + 5 + length entry.now.descriptors ≤ 1012 }
+    ensures value { stream_loop_of entries.new ≡ stream_loop_of entries.old ++ spec.table_stream pid entry.now ∷ [] }
+    ensures length { length (streams_bytes (stream_loop_of entries.new))
+        ≡ length (streams_bytes (stream_loop_of entries.old)) + 5 + length entry.now.descriptors }
+{
+    let entry = Stream {
+        stream_type: entry.stream_type,
+        elementary_pid: pid,
+        descriptors: entry.descriptors.as_bytes(),
+    };
+    match entries.push(&entry) {
+        Ok(()) => {}
+        Err(_) => unreachable!(),
+    }
+}
+
+// Adds a table, for which there is room, where the program of a number names it.
+fn push_table(entries: &mut StreamLoop, number: u16, table: &PrivateTable)
+    requires ranges { IsTable table.now }
+    requires room { length (streams_bytes (stream_loop_of entries.old)) + listed_length number table.now ≤ 1012 }
+    ensures value { stream_loop_of entries.new
+        ≡ stream_loop_of entries.old ++ option_to_list (spec.pmt_table number table.now) }
+    ensures length { length (streams_bytes (stream_loop_of entries.new))
+        ≡ length (streams_bytes (stream_loop_of entries.old)) + listed_length number table.now }
+{
+    match table.entry_in(number) {
+        None => {}
+        Some(entry) => push_entry(entries, table.pid(), entry),
+    }
+}
+
+// Adds the tables that the program of a number names.
+fn push_tables(entries: &mut StreamLoop, number: u16, tables: &[PrivateTable])
+    requires ranges { All IsTable tables.now }
+    requires room { length (streams_bytes (stream_loop_of entries.old)) + sum_by (listed_length number) tables.now ≤ 1012 }
+    ensures value { stream_loop_of entries.new ≡ stream_loop_of entries.old ++ spec.pmt_tables number tables.now }
+    ensures length { length (streams_bytes (stream_loop_of entries.new))
+        ≡ length (streams_bytes (stream_loop_of entries.old)) + sum_by (listed_length number) tables.now }
+{
+    for table in tables {
+        push_table(entries, number, table);
+    }
+}
+
 impl Description {
     /// The program map section of a program.
     pub(crate) fn write_pmt(&self, program: &ProgramDescription, out: &mut ArrayVec<u8, 4096>)
@@ -93,7 +170,9 @@ impl Description {
         requires fits { pmt_length self.now program.now ≤ longest_section }
         ensures { out.new.items ≡ section_bytes (pmt_section (spec.pmt_says self.now program.now)) }
     {
-        let entries = program_streams(program.number(), self.streams());
+        let mut entries = program_streams(program.number(), self.streams());
+        push_shared(&mut entries, program.number(), self.streams());
+        push_tables(&mut entries, program.number(), self.private_tables());
         write_section(
             program.number(),
             program.pcr_pid(),

@@ -7,6 +7,7 @@ ghost use Rattle.description.specs.Tables as spec;
 use crate::contents::Contents;
 use crate::network::Network;
 use crate::private_section::PrivateSection;
+use crate::private_table::PrivateTable;
 use crate::program::ProgramDescription;
 use crate::stream::StreamDescription;
 use crate::table_kind::{TableKind, has_event};
@@ -43,6 +44,53 @@ fn entries_length(number: u16, streams: &[StreamDescription]) -> usize
     let mut total = 0;
     for stream in streams {
         total += entry_length(number, stream);
+    }
+    total
+}
+
+// The bytes of a stream in the PMT of the program of a number that shares it.
+fn shared_length(number: u16, stream: &StreamDescription) -> usize
+    ensures value { result ≡ spec.shared_length number stream.now }
+    ensures bound { result ≤ 714 }
+{
+    if stream.shared_with.contains(number) {
+        5 + es_info_length(stream)
+    } else {
+        0
+    }
+}
+
+fn sharing_length(number: u16, streams: &[StreamDescription]) -> usize
+    requires { length streams.now ≤ 32 }
+    ensures value { result ≡ sum_by (spec.shared_length number) streams.now }
+    ensures bound { result ≤ 22848 }
+{
+    let mut total = 0;
+    for stream in streams {
+        total += shared_length(number, stream);
+    }
+    total
+}
+
+// The bytes of a table in the PMT of the program of a number.
+fn listed_length(number: u16, table: &PrivateTable) -> usize
+    ensures value { result ≡ spec.listed_length number table.now }
+    ensures bound { result ≤ 705 }
+{
+    match table.entry_in(number) {
+        None => 0,
+        Some(entry) => 5 + entry.descriptors.as_bytes().len(),
+    }
+}
+
+fn tables_length(number: u16, tables: &[PrivateTable]) -> usize
+    requires { length tables.now ≤ 16 }
+    ensures value { result ≡ sum_by (spec.listed_length number) tables.now }
+    ensures bound { result ≤ 11280 }
+{
+    let mut total = 0;
+    for table in tables {
+        total += listed_length(number, table);
     }
     total
 }
@@ -158,10 +206,12 @@ impl Contents {
 
     fn pmt_length(&self, program: &ProgramDescription) -> usize
         ensures value { result ≡ spec.pmt_length self.now program.now }
-        ensures bound { result ≤ 23564 }
+        ensures bound { result ≤ 57692 }
     {
         16 + program.descriptors().as_bytes().len()
             + entries_length(program.number(), self.streams())
+            + sharing_length(program.number(), self.streams())
+            + tables_length(program.number(), self.private_tables())
     }
 
     fn sdt_length(&self) -> usize

@@ -1,6 +1,7 @@
 //! An elementary stream of the description.
 
 use crate::descriptors::DescriptorLoop;
+use crate::program_numbers::ProgramNumbers;
 use unit_timing::allowance::Allowance;
 
 /// An elementary stream and what it declares of its units (ISO/IEC 13818-1, 2.4.2 and 2.4.4.8).
@@ -27,4 +28,6 @@ pub struct StreamDescription {
     pub descriptors: DescriptorLoop,
     /// The most packets of its units in a row.
     pub allowance: Allowance,
+    /// The programs beside its own whose PMTs name it.
+    pub shared_with: ProgramNumbers,
 }

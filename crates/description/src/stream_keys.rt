@@ -14,6 +14,7 @@ use crate::descriptors::{DescriptorLoop, descriptors_or_none};
 use crate::key::Key;
 use crate::known_keys::knows_keys;
 use crate::owner::has_owner;
+use crate::sharers::has_sharers;
 use crate::texts::optional_language;
 use crate::values::{integer_at, integer_in, integer_or, optional_integer};
 use toml::Value;
@@ -38,6 +39,7 @@ pub enum StreamKey {
     GroupPackets,
     BurstPackets,
     Pace,
+    SharedWith,
 }
 
 pub fn pid(stream: &Value) -> Option<u16>
@@ -272,7 +274,7 @@ impl StreamKey {
     ghost use Rattle.description.specs.Codes.{stream_code};
 
     /// All of them, in the order of their numbers.
-    pub const ALL: [StreamKey; 16] = [
+    pub const ALL: [StreamKey; 17] = [
         StreamKey::Program,
         StreamKey::Pid,
         StreamKey::StreamId,
@@ -289,6 +291,7 @@ impl StreamKey {
         StreamKey::GroupPackets,
         StreamKey::BurstPackets,
         StreamKey::Pace,
+        StreamKey::SharedWith,
     ];
 
     /// The number of its refusal.
@@ -312,6 +315,7 @@ impl StreamKey {
             StreamKey::GroupPackets => 54,
             StreamKey::BurstPackets => 55,
             StreamKey::Pace => 56,
+            StreamKey::SharedWith => 57,
         }
     }
 }
@@ -343,6 +347,7 @@ impl Key for StreamKey {
                 "group_packets",
                 "burst_packets",
                 "pace",
+                "shared_with",
             ],
         )
     }
@@ -365,6 +370,7 @@ impl Key for StreamKey {
             StreamKey::GroupPackets => refuses_group_packets(part),
             StreamKey::BurstPackets => refuses_burst_packets(part),
             StreamKey::Pace => refuses_pace(part),
+            StreamKey::SharedWith => !has_sharers(document, part),
         }
     }
 }

@@ -3,10 +3,13 @@
 ghost use Rattle.std.specs.Prelude.{◌≡◌};
 ghost use Rattle.toml.specs.View.{view};
 ghost use Rattle.description.specs.TableKeys.{private_pid, private_limit, has_sections};
+ghost use Rattle.description.specs.TableKeys.{is_listed, entry_type, entry_descriptors};
 
 use crate::arrays::sections_at;
+use crate::descriptors::{DescriptorLoop, descriptors_at};
 use crate::key::Key;
 use crate::known_keys::knows_keys;
+use crate::owner::has_owner;
 use crate::values::integer_at;
 use toml::Value;
 
@@ -16,6 +19,9 @@ pub enum TableKey {
     Pid,
     Limit,
     Sections,
+    Program,
+    StreamType,
+    Descriptors,
 }
 
 pub fn pid(table: &Value) -> Option<u16>
@@ -36,11 +42,41 @@ fn has_sections(table: &Value) -> bool
     sections_at(table, "sections")
 }
 
+/// Whether a PMT names the table: one of the three keys of its entry stands there.
+pub fn is_listed(table: &Value) -> bool
+    ensures { result ≡ is_listed (view table.now) }
+{
+    table.get("program").is_some()
+        || table.get("stream_type").is_some()
+        || table.get("descriptors").is_some()
+}
+
+/// The stream_type of its entry.
+pub fn entry_type(table: &Value) -> Option<u8>
+    ensures { result ≡ entry_type (view table.now) }
+{
+    Some(integer_at(table, "stream_type", 1, 255)? as u8)
+}
+
+/// The descriptors of its entry.
+pub fn entry_descriptors(table: &Value) -> Option<DescriptorLoop>
+    ensures { result ≡ entry_descriptors (view table.now) }
+{
+    descriptors_at(table, "descriptors")
+}
+
 impl TableKey {
     ghost use Rattle.description.specs.Codes.{table_code};
 
     /// All of them, in the order of their numbers.
-    pub const ALL: [TableKey; 3] = [TableKey::Pid, TableKey::Limit, TableKey::Sections];
+    pub const ALL: [TableKey; 6] = [
+        TableKey::Pid,
+        TableKey::Limit,
+        TableKey::Sections,
+        TableKey::Program,
+        TableKey::StreamType,
+        TableKey::Descriptors,
+    ];
 
     /// The number of its refusal.
     pub fn code(self) -> u8
@@ -50,6 +86,9 @@ impl TableKey {
             TableKey::Pid => 71,
             TableKey::Limit => 72,
             TableKey::Sections => 73,
+            TableKey::Program => 74,
+            TableKey::StreamType => 75,
+            TableKey::Descriptors => 76,
         }
     }
 }
@@ -62,7 +101,17 @@ impl Key for TableKey {
     ghost refuses = { refuses_table };
 
     fn knows(part: &Value) -> bool {
-        knows_keys(part, &["pid", "limit", "sections"])
+        knows_keys(
+            part,
+            &[
+                "pid",
+                "limit",
+                "sections",
+                "program",
+                "stream_type",
+                "descriptors",
+            ],
+        )
     }
 
     fn refuses(self, document: &Value, part: &Value) -> bool {
@@ -70,6 +119,9 @@ impl Key for TableKey {
             TableKey::Pid => pid(part).is_none(),
             TableKey::Limit => limit(part).is_none(),
             TableKey::Sections => !has_sections(part),
+            TableKey::Program => is_listed(part) && !has_owner(document, part),
+            TableKey::StreamType => is_listed(part) && entry_type(part).is_none(),
+            TableKey::Descriptors => is_listed(part) && entry_descriptors(part).is_none(),
         }
     }
 }

@@ -54,6 +54,7 @@ stream_words stream.Group = (codes "group", codes "1 to 64 units, and not beside
 stream_words stream.GroupPackets = (codes "group_packets", codes "the packets of one greatest unit to group times so many, and not beside burst_packets or pace")
 stream_words stream.BurstPackets = (codes "burst_packets", codes "the packets of one greatest unit to 100000, beside pace")
 stream_words stream.Pace = (codes "pace", codes "1 to 100000000 bits a second, beside burst_packets")
+stream_words stream.SharedWith = (codes "shared_with", codes "an array of up to 15 numbers of other programs, each once")
 
 unfoldable pub event_words : EventKey → List ℕ × List ℕ
 event_words event.Program = (codes "program", codes "the number of a program")
@@ -68,3 +69,6 @@ unfoldable pub table_words : TableKey → List ℕ × List ℕ
 table_words table.Pid = (codes "pid", codes "a PID, 32 to 8190")
 table_words table.Limit = (codes "limit", codes "1 to 30000 ms")
 table_words table.Sections = (codes "sections", codes "1 to 8 strings of hex, each a whole section of up to 4096 bytes with its check word")
+table_words table.Program = (codes "program", codes "the number of a program, beside stream_type and descriptors")
+table_words table.StreamType = (codes "stream_type", codes "1 to 255, beside program and descriptors")
+table_words table.Descriptors = (codes "descriptors", codes "hex of whole descriptors, up to 700 bytes, beside program and stream_type")

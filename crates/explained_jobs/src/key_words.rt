@@ -93,6 +93,10 @@ pub fn stream_words(key: StreamKey) -> KeyWords
             "the packets of one greatest unit to 100000, beside pace",
         ),
         StreamKey::Pace => ("pace", "1 to 100000000 bits a second, beside burst_packets"),
+        StreamKey::SharedWith => (
+            "shared_with",
+            "an array of up to 15 numbers of other programs, each once",
+        ),
     }
 }
 
@@ -126,6 +130,15 @@ pub fn table_words(key: TableKey) -> KeyWords
         TableKey::Sections => (
             "sections",
             "1 to 8 strings of hex, each a whole section of up to 4096 bytes with its check word",
+        ),
+        TableKey::Program => (
+            "program",
+            "the number of a program, beside stream_type and descriptors",
+        ),
+        TableKey::StreamType => ("stream_type", "1 to 255, beside program and descriptors"),
+        TableKey::Descriptors => (
+            "descriptors",
+            "hex of whole descriptors, up to 700 bytes, beside program and stream_type",
         ),
     }
 }

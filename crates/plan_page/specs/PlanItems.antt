@@ -1,6 +1,6 @@
 -- The items of a description, with the limits of their gaps.
 use Rattle.std.specs.Prelude.{ℕ, ◌*◌, List, [], ◌∷◌, ◌++◌, Option, Some, None, codes, slice_get}
-use Rattle.description.specs.Described.{Described, DescribedProgram, DescribedStream}
+use Rattle.description.specs.Described.{Described, DescribedProgram, DescribedStream, DescribedEntry}
 use Rattle.description.specs.Tables.{round_packets, table_kind, table_kinds, table_limit, table_pid}
 use Rattle.description.specs.declared.table_kind.TableKind.{TableKind}
 use Rattle.description.specs.declared.table_kind.TableKind.TheVariants.{Pat, Pmt, Nit, Sdt, Eit, Tdt, Private}
@@ -82,6 +82,14 @@ pcr_item number p = record {
 unfoldable pub number_at : Described → ℕ → ℕ
 number_at d place = elim (slice_get d.programs place) [ None ↦ 0 | Some program ↦ program.number ]
 
+-- and a private table of the one whose PMT names it
+unfoldable pub entry_number : Option DescribedEntry → ℕ
+entry_number None = 0
+entry_number (Some e) = e.program
+
+unfoldable pub number_naming : Described → ℕ → ℕ
+number_naming d place = elim (slice_get d.tables place) [ None ↦ 0 | Some private ↦ entry_number private.entry ]
+
 unfoldable pub table_program : Described → Option TableKind → ℕ
 table_program d (Some (Pmt place)) = number_at d place
 table_program d (Some Pat) = 0
@@ -89,7 +97,7 @@ table_program d (Some Nit) = 0
 table_program d (Some Sdt) = 0
 table_program d (Some Eit) = 0
 table_program d (Some Tdt) = 0
-table_program d (Some (Private place)) = 0
+table_program d (Some (Private place)) = number_naming d place
 table_program d None = 0
 
 -- a section comes again after a round of all sections

@@ -8,7 +8,7 @@ ghost use Rattle.plan_page.specs.PlanItems as spec;
 use crate::owners::Owner;
 use crate::plan_items::{ItemName, LimitName, PlanItem};
 use page_charts::PidName;
-use slot_plan::{Description, Item, TableKind};
+use slot_plan::{Description, Item, PrivateTable, TableKind};
 use std::alloc::AllocError;
 
 // What a table is called.
@@ -39,13 +39,35 @@ fn number_at(description: &Description, place: usize) -> u16
     }
 }
 
-// The program of a table: that of a program map.
+// The number of the program whose map names a private table, 0 where none does.
+#[tactic(auto, unfolding(crate::specs::PlanItems::entry_number))]
+fn entry_number(table: &PrivateTable) -> u16
+    ensures { result ≡ spec.entry_number table.now.entry }
+{
+    match table.entry() {
+        None => 0,
+        Some(entry) => entry.program,
+    }
+}
+
+#[tactic(auto, unfolding(crate::specs::PlanItems::number_naming))]
+fn number_naming(description: &Description, place: usize) -> u16
+    ensures { result ≡ spec.number_naming description.now place }
+{
+    match description.private_tables().get(place) {
+        None => 0,
+        Some(table) => entry_number(table),
+    }
+}
+
+// The program of a table: that of a program map, or that whose map names it.
 #[tactic(auto, unfolding(crate::specs::PlanItems::table_program))]
 fn table_program(description: &Description, kind: Option<TableKind>) -> u16
     ensures { result ≡ spec.table_program description.now kind }
 {
     match kind {
         Some(TableKind::Pmt(place)) => number_at(description, place),
+        Some(TableKind::Private(place)) => number_naming(description, place),
         _ => 0,
     }
 }

@@ -1,5 +1,5 @@
 -- A decoder that follows PAT and PMT is told of each program and its streams.
-use Rattle.std.proofs.Common.{◌≡◌, ◌≤◌, ◌<◌, ℕ, zero, suc, ◌+◌, ◌-◌, ◌*◌, ◌^◌, ◌==◌, Bool, true, false, if◌then◌else◌, List, [], ◌∷◌, ◌++◌, length, map, filter, get_or, is_some, Option, Some, None, Ok, slice_get, All, refl, sym, ap, subst, ◌∙◌, inl, inr, arith, append-nil}
+use Rattle.std.proofs.Common.{◌≡◌, ◌≤◌, ◌<◌, ℕ, zero, suc, ◌+◌, ◌-◌, ◌*◌, ◌^◌, ◌==◌, Bool, true, false, cond, if◌then◌else◌, List, [], ◌∷◌, ◌++◌, length, map, filter, get_or, is_some, Option, Some, None, Ok, slice_get, All, refl, sym, ap, subst, ◌∙◌, inl, inr, arith, append-nil}
 use Rattle.std.specs.Prelude.{Contains, slice_index_or}
 use Rattle.std.specs.List.{flat_map}
 use Rattle.std.specs.Option.{option_to_list}
@@ -16,8 +16,8 @@ use Rattle.psi_tables.proofs.PmtForms.{written}
 use Rattle.psi_tables.proofs.SectionWritten.{written as section_written}
 use Rattle.description.specs.Described.{Described, DescribedProgram, DescribedStream}
 use Rattle.description.specs.Ranges.{IsInRange, IsProgram, IsStream, longest_section}
-use Rattle.description.specs.Tables.{table_kinds, table_kind, table_count, table_pid, table_limit, section_count, section_lengths, kind_lengths, pmt_length}
-use Rattle.description.specs.SectionBytes.{network_entries, pat_entry, pmt_stream, is_of_program, pmt_streams, pmt_says, kind_bytes, table_bytes}
+use Rattle.description.specs.Tables.{table_kinds, table_kind, table_count, table_pid, table_limit, section_count, section_lengths, kind_lengths, pmt_length, is_shared_with}
+use Rattle.description.specs.SectionBytes.{network_entries, pat_entry, pmt_stream, is_of_program, pmt_streams, pmt_shared, pmt_tables, pmt_says, kind_bytes, table_bytes}
 use Rattle.description.specs.declared.table_kind.TableKind.TheVariants.{Pmt}
 use Rattle.description.proofs.LoopLengths.{stream_descriptors-length}
 use Rattle.description.proofs.Pids.{at_place}
@@ -31,6 +31,7 @@ use Rattle.mux_core.specs.Scheduled.{Scheduled}
 use Rattle.mux_core.specs.Headline.{Headline}
 use Rattle.mux_core.specs.Decoder.{pieces_on, put_together}
 use Rattle.round_trip_run.specs.FollowedTables.{section_in, map_by, map_in, programs_named, maps_on, IsFollowed, FollowedLaw}
+use Rattle.round_trip_run.proofs.ListedTables.{tables_fit, both_fit}
 use Rattle.round_trip_run.proofs.MapsNamed.{pat_read_before}
 use Rattle.round_trip_run.proofs.MapsRecur.{map_table}
 use Rattle.round_trip_run.proofs.PutSections.{fill_after}
@@ -78,14 +79,13 @@ stream_fits s i = record {
   info_length = omega (arith, stream_descriptors-length s i, i.descriptors.fits, at_most (is_some s.tag) 3, at_most (is_some s.language) 6);
 }
 
-streams_fit : (n : ℕ) (ss : List DescribedStream) → All IsStream ss → StreamsFit (pmt_streams n ss)
-streams_fit n [] h = tt
-streams_fit n (s ∷ ss) h =
-    let rest = streams_fit n ss (All-tail IsStream s ss h) in
-    elim (cases_Bool (s.program == n)) [
-      | inl y ↦ rw y (stream_fits s (All-head IsStream s ss h), rest)
-      | inr k ↦ rw k rest
-    ]
+kept_fit : (b : Bool) (s : DescribedStream) (ss : List DescribedStream) → IsStream s → StreamsFit (map pmt_stream ss) → StreamsFit (map pmt_stream (cond b (s ∷ ss) ss))
+kept_fit true s ss is rest = (stream_fits s is, rest)
+kept_fit false s ss is rest = rest
+
+streams_fit : (p : DescribedStream → Bool) (ss : List DescribedStream) → All IsStream ss → StreamsFit (map pmt_stream (filter p ss))
+streams_fit p [] h = tt
+streams_fit p (s ∷ ss) h = kept_fit (p s) s (filter p ss) (All-head IsStream s ss h) (streams_fit p ss (All-tail IsStream s ss h))
 
 map_size : (m : PmtView) → length (section_bytes (pmt_section m)) ≡ 12 + length (pmt_body m)
 unfolding pmt_section pmt_header section_bytes with_crc header_bytes front_bytes start_bytes long_header_bytes check_word_bytes
@@ -115,7 +115,9 @@ map_fits d t i p r lt kind is =
     record {
       header = record { table_id_extension = omega (arith, program.most_number); version_number = omega arith; section_number = omega arith; last_section_number = omega arith };
       pcr_pid = omega (arith, program.pcr_pid.high);
-      streams = streams_fit p.number d.streams r.streams;
+      streams = both_fit (pmt_streams p.number d.streams ++ pmt_shared p.number d.streams) (pmt_tables p.number d.tables)
+          (both_fit (pmt_streams p.number d.streams) (pmt_shared p.number d.streams) (streams_fit (is_of_program p.number) d.streams r.streams) (streams_fit (is_shared_with p.number) d.streams r.streams))
+          (tables_fit p.number d.tables r.tables);
       room = omega (arith, map_size (pmt_says d p), within, short);
     }
 

@@ -34,5 +34,6 @@ pub mod WorkedRanges
 pub mod WorkedRun
 pub mod PutSections
 pub mod TwoStarts
+pub mod ListedTables
 pub mod FollowedTables
 pub mod TablesFirst

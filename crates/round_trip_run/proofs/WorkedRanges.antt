@@ -6,7 +6,7 @@ use Rattle.std.proofs.Common.{◌≡◌, ◌≤◌, ◌<◌, ℕ, List, [], ◌�
 use Rattle.std.proofs.lemmas.List.Elements.{All-nil, All-cons}
 use Rattle.description.specs.Described.{DescribedNetwork, DescribedProgram, DescribedStream, DescribedEvent, DescribedTable}
 use Rattle.description.specs.Tables.{pmt_length, nit_length}
-use Rattle.description.specs.Ranges.{IsPid, IsBytes, IsLanguage, IsNetwork, IsProgram, IsEvent, IsStream, IsTable, IsInRange, program_numbers, longest_section}
+use Rattle.description.specs.Ranges.{IsPid, IsBytes, IsLanguage, IsNetwork, IsProgram, IsEvent, IsStream, IsTable, IsListed, IsSharing, IsInRange, program_numbers, longest_section}
 use Rattle.round_trip_run.specs.WorkedService.{worked_stream, worked_program, worked_service}
 
 pid : (n : ℕ) → 32 ≤ n → n ≤ 8190 → IsPid n
@@ -35,6 +35,7 @@ stream_is = record {
   language = All-nil IsLanguage;
   descriptors = no_bytes 700;
   allowance = record { some_units = omega arith; most_units = omega arith; some_packets = omega arith; most_packets = omega arith };
+  few_sharers = omega arith;
 }
 
 program_is : IsProgram worked_program
@@ -51,6 +52,10 @@ program_is = record {
   name = no_bytes 100;
   events = All-nil IsEvent;
 }
+
+not_shared : IsSharing worked_service worked_stream
+unfolding IsDistinct
+not_shared = record { declared = All-nil (Contains (program_numbers worked_service)); others = All-nil (λ (n : ℕ). n ≡ 1 → ⊥); once = tt }
 
 pub worked_in_range : IsInRange worked_service
 unfolding IsDistinct
@@ -69,8 +74,10 @@ worked_in_range = record {
   most_streams = omega arith;
   streams = All-cons IsStream worked_stream [] stream_is (All-nil IsStream);
   declared = All-cons (λ (s : DescribedStream). Contains (program_numbers worked_service) s.program) worked_stream [] (0, omega arith, refl) (All-nil (λ (s : DescribedStream). Contains (program_numbers worked_service) s.program));
+  sharing = All-cons (IsSharing worked_service) worked_stream [] not_shared (All-nil (IsSharing worked_service));
   most_tables = omega arith;
   tables = All-nil IsTable;
+  listed = All-nil (IsListed worked_service);
   distinct_pids = ((refl, (refl, tt)), ((refl, tt), (tt, tt)));
   distinct_numbers = (tt, tt);
   pmt_lengths = All-cons (λ (p : DescribedProgram). pmt_length worked_service p ≤ longest_section) worked_program [] (omega arith) (All-nil (λ (p : DescribedProgram). pmt_length worked_service p ≤ longest_section));

@@ -22,6 +22,7 @@ worked_stream = record {
   language = None;
   descriptors = [];
   allowance = Groups 1 1;
+  shared_with = [];
 }
 
 abbrev pub worked_program : DescribedProgram

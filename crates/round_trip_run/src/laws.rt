@@ -83,8 +83,9 @@ pub fn monitored_pts_spacing()
 {}
 
 /// In a run of more than a second a decoder that follows PAT and PMT (ISO/IEC 13818-1, 2.4.4.3 and 2.4.4.8) is told of
-/// each program the PID of its map, and there the PIDs of its clock references and of its streams. With
-/// `mux_core::laws::decoded` it so gets each unit that is due, whole and in time.
+/// each program the PID of its map, and there the PIDs of its clock references, of its streams, of those that it shares
+/// and of the private tables that name it. With `mux_core::laws::decoded` it so gets each unit that is due, whole and
+/// in time.
 pub fn followed()
     ensures { FollowedLaw }
 {}

@@ -22,6 +22,7 @@ base_stream = record {
   language = None;
   descriptors = [];
   allowance = Groups 1 4;
+  shared_with = [];
 }
 
 abbrev pub base : Described

@@ -1,5 +1,5 @@
 use Rattle.std.proofs.Common.{◌≡◌, length}
-use Rattle.description.specs.Consistency.{is_distinct}
+use Rattle.description.specs.Values.{is_distinct}
 use Rattle.description.proofs.consistency.is_distinct.Given as goal
 
 abbrev pub invariant-loop-first : goal.invariant-loop-first

@@ -1,0 +1,36 @@
+//! The programs that share a stream with its own.
+
+ghost use Rattle.std.specs.Prelude.{◌≡◌, ◌≤◌, ◌==◌, List, ℕ, length};
+ghost use Rattle.std.specs.List.{list_any};
+
+use arrayvec::ArrayVec;
+use std::marker::Model;
+
+/// Numbers of programs, at most 15. A contract sees the list.
+#[derive(Drop)]
+pub struct ProgramNumbers {
+    pub(crate) numbers: ArrayVec<u16, 15>,
+}
+
+impl Model for ProgramNumbers {
+    ghost Value = { List ℕ };
+
+    ghost view = { λ p. p.numbers.items };
+}
+
+impl ProgramNumbers {
+    /// The numbers in their order.
+    pub fn as_slice(&self) -> &[u16]
+        ensures value { result.now ≡ self.now }
+        ensures fits { length self.now ≤ 15 }
+    {
+        self.numbers.as_slice()
+    }
+
+    /// Whether a number is one of them.
+    pub fn contains(&self, number: u16) -> bool
+        ensures { result ≡ list_any (λ n. n == number) self.now }
+    {
+        self.numbers.as_slice().contains(&number)
+    }
+}
