@@ -103,8 +103,14 @@ fn map(number: u8, references: u16, pid: u16) -> [u8; 17] {
     ]
 }
 
+// Two units, the second 24 ms later.
+fn add_two_units(alloc: Global, pid: u16, pts: u64, found: &mut Found) -> Result<(), AllocError> {
+    add_unit(alloc, pid, 192, pts, 100, found)?;
+    add_unit(alloc, pid, 192, pts.saturating_add(2_160), 100, found)
+}
+
 /// Two programs, whose maps name these PIDs for clock references, with MPEG audio on PIDs 256 and 257, and two units of
-/// each, 24 ms apart.
+/// each.
 pub fn two_programs(
     alloc: Global,
     references: [u16; 2],
@@ -114,10 +120,8 @@ pub fn two_programs(
     add_section(alloc, 0, &TWO_PROGRAMS, &mut found)?;
     add_section(alloc, 4_096, &map(1, references[0], 256), &mut found)?;
     add_section(alloc, 4_097, &map(2, references[1], 257), &mut found)?;
-    for later in [0, 2_160] {
-        add_unit(alloc, 256, 192, first[0] + later, 100, &mut found)?;
-        add_unit(alloc, 257, 192, first[1] + later, 100, &mut found)?;
-    }
+    add_two_units(alloc, 256, first[0], &mut found)?;
+    add_two_units(alloc, 257, first[1], &mut found)?;
     Ok(found)
 }
 
