@@ -62,7 +62,7 @@ ticks_again t low = omega (arith, low)
 ticks_low : (rate base0 i : ℕ) → pcr_ticks rate base0 i < 2576980377600
 ticks_low rate base0 i = omega arith
 
-sample_is : (rate base0 pid index : ℕ) (options : ViewOptions) → options.arrival ≡ AtRate rate → index < most_packets →
+pub sample_is : (rate base0 pid index : ℕ) (options : ViewOptions) → options.arrival ≡ AtRate rate → index < most_packets →
     reference_in options index (clock_packet rate base0 pid index) ≡ Some (reference_at rate base0 index)
 unfolding sample_in place_of sample_at
 sample_is rate base0 pid index options at_rate few =

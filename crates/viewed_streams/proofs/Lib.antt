@@ -29,3 +29,5 @@ pub mod FirstTables
 pub mod AfterTables
 pub mod WindowLows
 pub mod HeldWindows
+pub mod AsMeasured
+pub mod ClockComes

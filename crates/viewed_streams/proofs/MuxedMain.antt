@@ -1,22 +1,18 @@
 -- The main buffers of a run that a multiplexer wrote.
-use Rattle.std.proofs.Common.{◌≡◌, ◌∙◌, sym, ℕ, zero, suc, ◌+◌, ◌*◌, ◌/◌, ◌%◌, ◌≤◌, Bool, true, false, if◌then◌else◌, nat_eq, List, [], ◌∷◌, ◌++◌, length, map, take, Option, Some, None, refl, ap, subst, inl, arith, All}
+use Rattle.std.proofs.Common.{◌≡◌, ◌∙◌, sym, ℕ, zero, suc, ◌+◌, ◌/◌, ◌%◌, ◌≤◌, Bool, true, false, if◌then◌else◌, nat_eq, List, [], ◌∷◌, ◌++◌, length, map, take, Option, Some, None, refl, ap, subst, inl, arith, All}
 use Rattle.std.specs.Prelude.{slice_get}
 use Rattle.std.proofs.lemmas.List.{length-append}
-use Rattle.std.proofs.lemmas.List.Elements.{All-cons, All-get_or, All-head, All-nil, All-tail, All-weaker}
-use Rattle.std.proofs.lemmas.Option.{get_or_from_slice_get, slice_get_within}
+use Rattle.std.proofs.lemmas.List.Elements.{All-cons, All-head, All-nil, All-tail, All-weaker}
 use Rattle.clock27.specs.Departure.{last_left}
-use Rattle.clock27.specs.Recurrence.{Recur}
-use Rattle.clock27.specs.Reference.{pcr_at}
 use Rattle.ts_packet.specs.PidList.{Entry, cut_packets, pid_list, payload_of}
 use Rattle.ts_packet.specs.Views.{PacketView}
 use Rattle.ts_packet.specs.Reading.{packet_at}
-use Rattle.ts_packet.specs.Packets.{pcr_view}
 use Rattle.pes_packet.specs.AccessUnits.{AccessUnit}
 use Rattle.pes_packet.specs.Units.{units_of}
 use Rattle.decoder_buffers.specs.PidPackets.{packets_from}
 use Rattle.slot_contents.specs.Contents.{Piece, payload_at, run_bytes}
-use Rattle.description.specs.Described.{Described, DescribedProgram, DescribedStream}
-use Rattle.description.specs.Ranges.{IsInRange, IsProgram}
+use Rattle.description.specs.Described.{DescribedStream}
+use Rattle.description.specs.Ranges.{IsInRange}
 use Rattle.plan_timing.specs.Promised.{Promised}
 use Rattle.unit_timing.specs.Arrived.{AllLeft}
 use Rattle.unit_timing.specs.MainBuffer.{mb_fullness}
@@ -29,7 +25,7 @@ use Rattle.unit_queue.proofs.CauseLemmas.{fits_unit}
 use Rattle.unit_queue.specs.Queues.{IsUnit, Kept, ParametersInRange}
 use Rattle.tstd.specs.Carried.{packets_on}
 use Rattle.mux_core.specs.Scheduled.{Scheduled}
-use Rattle.mux_core.specs.Headline.{ProgramKept, StreamKept, UnitsKept}
+use Rattle.mux_core.specs.Headline.{StreamKept, UnitsKept}
 use Rattle.mux_core.specs.Histories.{content_at, owned_stream}
 use Rattle.mux_core.proofs.KnownRanges.{stream_range}
 use Rattle.mux_core.proofs.JobWriting.{output_bytes}
@@ -41,7 +37,6 @@ use Rattle.stream_arrival.specs.declared.arrival.Arrival.TheVariants.{AtRate}
 use Rattle.stream_view.specs.History.{arrivals_of, main_fullness, until_of}
 use Rattle.stream_buffers.specs.declared.arriving.Arriving.{Arriving}
 use Rattle.stream_buffers.specs.Held.{Held, empty, main_most}
-use Rattle.stream_report.specs.declared.view_options.ViewOptions.{ViewOptions}
 use Rattle.stream_report.specs.Choices.{RequestView}
 use Rattle.stream_report.specs.Entries.{EntryState}
 use Rattle.viewed_streams.specs.StreamPackets.{Before, Followed, after_each, most_packets, sound_packet}
@@ -52,11 +47,11 @@ use Rattle.viewed_streams.proofs.LaterPackets.{peak_le}
 use Rattle.viewed_streams.proofs.MainExcesses.{no_main_excess_law}
 use Rattle.viewed_streams.proofs.ProgramClocks.{run_clock}
 use Rattle.viewed_streams.proofs.MainBytes.{timed_packet, until_at}
-use Rattle.viewed_streams.proofs.KeptBytes.{Follows, kept_each, main_each}
+use Rattle.viewed_streams.proofs.KeptBytes.{Follows, UnderWay, kept_each, main_each, main_each_is, many_left, total}
 use Rattle.viewed_streams.proofs.SentBytes.{kept_units, packet_sizes, sizes_of, timely_units}
 use Rattle.viewed_streams.proofs.OnTimePackets.{IsSized, on_time}
 use Rattle.viewed_streams.proofs.SentUnits.{AllSent, Cut, FitsIn, all_sent, entry_packet, units_cut}
-use Rattle.viewed_streams.proofs.ClockAhead.{AreClocks, ClockIs, IsReference, entries_from, listed, places}
+use Rattle.viewed_streams.proofs.ClockAhead.{ClockIs, entries_from, listed}
 use Rattle.viewed_streams.proofs.FollowedUnits.{IsRun, Known, Run, all_follow}
 use Rattle.viewed_streams.proofs.PidEntries.{clock_all, entries_two, packets_entries, pid_entries, seen_packets}
 use Rattle.viewed_streams.proofs.StreamIndices.{they_come}
@@ -176,7 +171,22 @@ main_within rate rx size low x l us ps qs come follows same sizes =
     let all = main_each rate low x (empty rate rx size) ps (all_senders l us) None come (omega arith) follows refl in
     let here : kept_each rate rx x (all_senders l us) (map timed_packet ps) (pes_left rate rx 0 (map timed_packet ps)) ≡ kept_each rate rx x (all_senders l us) qs (pes_left rate rx 0 qs) =
     ap (λ (xs : List Packet). kept_each rate rx x (all_senders l us) xs (pes_left rate rx 0 xs)) same in
-    omega (arith, all, here, kept_units rate rx x l us qs (pes_left rate rx 0 qs) sizes)
+    let many : length (pes_left rate rx 0 qs) ≡ total (packet_sizes qs) =
+    subst (λ (xs : List Packet). length (pes_left rate rx 0 xs) ≡ total (packet_sizes xs)) same (many_left rate rx 0 ps) in
+    omega (arith, all, here, kept_units rate rx x l us qs (pes_left rate rx 0 qs) sizes many)
+
+-- and just that where a unit is under way from the first of them on
+pub main_is : (rate rx size low x : ℕ) (l : OwnedStream) (us : List AccessUnit) (ps : List Arriving) (qs : List Packet) → ComeFrom low ps → Follows rate rx None ps (all_senders l us) →
+    UnderWay None ps → map timed_packet ps ≡ qs → packet_sizes qs ≡ take (length qs) (sizes_of (all_pieces l us)) →
+    main_fullness rate (after_each (empty rate rx size) (AtRate rate) ps).parts x ≡ mb_fullness rate rx x (map (timed l) us) (pes_left rate rx 0 qs)
+unfolding main_fullness arrivals_of last_left until_of until_at
+main_is rate rx size low x l us ps qs come follows under_way same sizes =
+    let all = main_each_is rate low x (empty rate rx size) ps (all_senders l us) None come (omega arith) follows under_way refl in
+    let here : kept_each rate rx x (all_senders l us) (map timed_packet ps) (pes_left rate rx 0 (map timed_packet ps)) ≡ kept_each rate rx x (all_senders l us) qs (pes_left rate rx 0 qs) =
+    ap (λ (xs : List Packet). kept_each rate rx x (all_senders l us) xs (pes_left rate rx 0 xs)) same in
+    let many : length (pes_left rate rx 0 qs) ≡ total (packet_sizes qs) =
+    subst (λ (xs : List Packet). length (pes_left rate rx 0 xs) ≡ total (packet_sizes xs)) same (many_left rate rx 0 ps) in
+    omega (arith, all, here, kept_units rate rx x l us qs (pes_left rate rx 0 qs) sizes many)
 
 -- the packets from the one on with which the buffers begin
 pub record FromBegin (d : Scheduled) (us : List AccessUnit) (request : RequestView) (e : EntryState) (pid : ℕ) (before rest : List (List ℕ)) : Type 0 where
@@ -238,13 +248,36 @@ run_viewed d units slots request e k ranges promised kept few viewed whole =
           (omega (arith, lengths)) clock sent;
     }
 
--- at each moment the view has no more in the main buffer than the model
-pub run_fuller : (d : Scheduled) (units : ℕ → List AccessUnit) (slots : ℕ) (request : RequestView) (e : EntryState) (k : ℕ) → IsInRange d.description → Promised d.description d.schedule →
+-- where none of a PID's packets is before them, these are all
+pub none_entries : (pid viewed : ℕ) (before rest chunks : List (List ℕ)) → viewed ≡ pid → FromTheFirst viewed before →
+    entries_from pid 0 chunks ≡ entries_from pid 0 before ++ entries_from pid (length before) rest → entries_from pid 0 chunks ≡ entries_from pid (length before) rest
+none_entries pid viewed before rest chunks same first all =
+    let none : entries_from pid 0 before ≡ [] =
+    none_listed (entries_from pid 0 before) (packets_entries pid 0 before ∙ ap (λ (q : ℕ). packets_from q 0 before) (sym same) ∙ first) in
+    all ∙ ap (λ (es : List Entry). es ++ entries_from pid (length before) rest) none
+
+-- of a stream whose buffers begin with the first packet of its PID: the packets, and what view and model have in the main buffer at each moment
+pub record FromFirst (rate : ℕ) (l : OwnedStream) (us : List AccessUnit) (e : EntryState) (ps : List Arriving) (model : ℕ → ℕ) : Type 0 where
+  pub low : ℕ
+  pub packets : List Packet
+  pub come : ComeFrom low ps
+  pub follows : Follows rate e.held.rx None ps (all_senders l us)
+  pub same : map timed_packet ps ≡ packets
+  pub sizes : packet_sizes packets ≡ take (length packets) (sizes_of (all_pieces l us))
+  pub in_view : (x : ℕ) → main_fullness rate e.held.parts x ≡ main_fullness rate (after_each (empty rate e.held.rx e.held.main.size) (AtRate rate) ps).parts x
+  pub in_model : (x : ℕ) → model x ≡ mb_fullness rate e.held.rx x (map (timed l) us) (pes_left rate e.held.rx 0 packets)
+
+-- what a model has in the main buffer of a stream of a run at each moment
+abbrev pub run_model : Scheduled → DescribedStream → ℕ → List AccessUnit → List ℕ → (ℕ → ℕ)
+run_model d s k us bytes = λ x.
+    mb_fullness d.description.rate s.rx x (map (timed (owned_stream d k s)) us) (pes_left d.description.rate s.rx 0 (packets_on s.pid bytes))
+
+pub run_from_first : (d : Scheduled) (units : ℕ → List AccessUnit) (slots : ℕ) (request : RequestView) (e : EntryState) (k : ℕ) → IsInRange d.description → Promised d.description d.schedule →
     UnitsKept d units → slots ≤ most_packets → (viewed : IsViewedAs d request k e) → (whole : IsWhole request d.description.rate (cut_packets (run_bytes (content_at d units) 0 slots)) e) →
-    FromTheFirst e.pid whole.before → (x : ℕ) → main_fullness d.description.rate e.held.parts x
-    ≤ mb_fullness d.description.rate viewed.stream.rx x (map (timed (owned_stream d k viewed.stream)) (units k))
-    (pes_left d.description.rate viewed.stream.rx 0 (packets_on viewed.stream.pid (run_bytes (content_at d units) 0 slots)))
-run_fuller d units slots request e k ranges promised kept few viewed whole first x =
+    FromTheFirst e.pid whole.before →
+    FromFirst d.description.rate (owned_stream d k viewed.stream) (units k) e (stream_packets request e whole.before (whole.first ∷ whole.later))
+    (run_model d viewed.stream k (units k) (run_bytes (content_at d units) 0 slots))
+run_from_first d units slots request e k ranges promised kept few viewed whole first =
     let rate : ℕ = d.description.rate in
     let bytes : List ℕ = run_bytes (content_at d units) 0 slots in
     let chunks : List (List ℕ) = cut_packets bytes in
@@ -253,21 +286,26 @@ run_fuller d units slots request e k ranges promised kept few viewed whole first
     let us : List AccessUnit = units k in
     let rest : List (List ℕ) = whole.first ∷ whole.later in
     let v = run_viewed d units slots request e k ranges promised kept few viewed whole in
-    let none : entries_from s.pid 0 whole.before ≡ [] =
-    none_listed (entries_from s.pid 0 whole.before) (packets_entries s.pid 0 whole.before ∙ ap (λ (q : ℕ). packets_from q 0 whole.before) (sym viewed.pid) ∙ first) in
-    let all : entries_from s.pid 0 chunks ≡ entries_from s.pid (length whole.before) rest = v.entries ∙ ap (λ (es : List Entry). es ++ entries_from s.pid (length whole.before) rest) none in
+    let all : entries_from s.pid 0 chunks ≡ entries_from s.pid (length whole.before) rest = none_entries s.pid e.pid whole.before rest chunks viewed.pid first v.entries in
     let begin = v.begins (all_senders l us) 0 None (subst (λ (es : List Entry). AllSent d.description.base0 rate 0 None es (all_senders l us)) all v.sent.sent) in
     let qs : List Packet = map entry_packet (entries_from s.pid 0 chunks) in
-    let packets : map timed_packet (stream_packets request e whole.before rest) ≡ qs = begin.packets ∙ ap (λ (es : List Entry). map entry_packet es) (sym all) in
     let on : packets_on s.pid bytes ≡ qs = ap (λ (es : List Entry). map entry_packet es) (pid_entries s.pid bytes) in
-    let most = main_within rate e.held.rx e.held.main.size (known_at_begin (followed request e) whole.before).index x l us (stream_packets request e whole.before rest) qs
-    begin.come begin.follows packets v.sent.sizes in
-    let here : main_fullness rate e.held.parts x ≡ main_fullness rate (after_each (empty rate e.held.rx e.held.main.size) (AtRate rate) (stream_packets request e whole.before rest)).parts x =
-    ap (λ (h : Held). main_fullness rate h.parts x) whole.held in
-    let model : mb_fullness rate s.rx x (map (timed l) us) (pes_left rate s.rx 0 (packets_on s.pid bytes)) ≡ mb_fullness rate e.held.rx x (map (timed l) us) (pes_left rate e.held.rx 0 qs) =
-    ap (λ (ps : List Packet). mb_fullness rate s.rx x (map (timed l) us) (pes_left rate s.rx 0 ps)) on
-    ∙ ap (λ (r : ℕ). mb_fullness rate r x (map (timed l) us) (pes_left rate r 0 qs)) (sym viewed.rx) in
-    omega (arith, here, most, model)
+    record {
+      low = (known_at_begin (followed request e) whole.before).index;
+      packets = qs;
+      come = begin.come;
+      follows = begin.follows;
+      same = begin.packets ∙ ap (λ (es : List Entry). map entry_packet es) (sym all);
+      sizes = v.sent.sizes;
+      in_view = λ x. ap (λ (h : Held). main_fullness rate h.parts x) whole.held;
+      in_model = λ x. ap (λ (ps : List Packet). mb_fullness rate s.rx x (map (timed l) us) (pes_left rate s.rx 0 ps)) on
+          ∙ ap (λ (r : ℕ). mb_fullness rate r x (map (timed l) us) (pes_left rate r 0 qs)) (sym viewed.rx);
+    }
+
+-- at each moment the view has no more in the main buffer than the model
+fuller : (rate x : ℕ) (l : OwnedStream) (us : List AccessUnit) (e : EntryState) (ps : List Arriving) (model : ℕ → ℕ) → FromFirst rate l us e ps model → main_fullness rate e.held.parts x ≤ model x
+fuller rate x l us e ps model f =
+    omega (arith, f.in_view x, f.in_model x, main_within rate e.held.rx e.held.main.size f.low x l us ps f.packets f.come f.follows f.same f.sizes)
 
 pub run_main_law : RunMainLaw
 run_main_law d units slots request e k ranges promised kept few viewed whole first =
@@ -275,15 +313,19 @@ run_main_law d units slots request e k ranges promised kept few viewed whole fir
     let bytes : List ℕ = run_bytes (content_at d units) 0 slots in
     let of : StreamKept d k s (units k) slots bytes = (headline d units slots ranges promised kept).streams k s viewed.there in
     let x : ℕ = whole.main.moment in
-    let fuller = run_fuller d units slots request e k ranges promised kept few viewed whole first x in
-    let within : main_most e.held ≤ e.held.main.size = omega (arith, fuller, of.main_buffer x, whole.main.reached, viewed.size) in
+    let all = run_from_first d units slots request e k ranges promised kept few viewed whole first in
+    let no_more : main_fullness d.description.rate e.held.parts x
+    ≤ mb_fullness d.description.rate s.rx x (map (timed (owned_stream d k s)) (units k)) (pes_left d.description.rate s.rx 0 (packets_on s.pid bytes)) =
+    fuller d.description.rate x (owned_stream d k s) (units k) e (stream_packets request e whole.before (whole.first ∷ whole.later)) (run_model d s k (units k) bytes) all in
+    let within : main_most e.held ≤ e.held.main.size = omega (arith, no_more, of.main_buffer x, whole.main.reached, viewed.size) in
     let quiet = no_main_excess_law request d.description.rate (cut_packets bytes) e whole within in
     record {
       most = within;
       none_ended = quiet.0;
       none_under_way = quiet.1;
       measured = λ f full. peak_le (main_fullness d.description.rate e.held.parts) _ (main_most e.held) f.main
-          (λ x. run_fuller d units slots request e k ranges promised kept few viewed whole first x) whole.main full.main;
+          (λ x. fuller d.description.rate x (owned_stream d k s) (units k) e (stream_packets request e whole.before (whole.first ∷ whole.later)) (run_model d s k (units k) bytes) all)
+          whole.main full.main;
     }
 
 pub job_main_law : JobMainLaw

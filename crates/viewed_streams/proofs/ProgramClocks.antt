@@ -1,7 +1,7 @@
 -- The clock references of a run on any PID: on that of a program each packet is one, and on any other none has one.
-use Rattle.std.proofs.Common.{◌≡◌, ◌∙◌, sym, ℕ, zero, suc, ◌+◌, ◌*◌, ◌≤◌, cond, true, false, Bool, List, [], ◌∷◌, length, map, Option, Some, None, refl, ap, subst, inl, inr, arith}
+use Rattle.std.proofs.Common.{◌≡◌, ◌∙◌, sym, ℕ, zero, suc, ◌+◌, ◌*◌, ◌≤◌, false, List, [], ◌∷◌, map, Option, Some, None, refl, subst, inl, inr, arith}
 use Rattle.std.proofs.lemmas.Bool.{cases_Bool}
-use Rattle.ts_packet.specs.Views.{AdaptationView, FieldView, NoFlags, PacketView, WithFlags}
+use Rattle.ts_packet.specs.Views.{AdaptationView, NoFlags, WithFlags}
 use Rattle.ts_packet.specs.PcrBytes.{has_pcr}
 use Rattle.ts_packet.specs.PidList.{Entry, cut_packets, is_of_pid}
 use Rattle.clock27.specs.Recurrence.{Recur}
@@ -23,7 +23,6 @@ use Rattle.mux_core.proofs.Whole.{contents_fit, headline}
 use Rattle.round_trip_run.proofs.ClocksRecur.{NoClock, all_none, find_program, none_here}
 use Rattle.stream_report.specs.declared.view_options.ViewOptions.{ViewOptions}
 use Rattle.stream_report.specs.Clocks.{place_of, sample_in}
-use Rattle.viewed_streams.specs.StreamPackets.{reference_in}
 use Rattle.viewed_streams.proofs.ClockAhead.{AreClocks, ClockIs, IsReference, NoClocks, entries_from, places}
 use Rattle.viewed_streams.proofs.PidEntries.{pid_entries}
 
@@ -58,20 +57,25 @@ clocks_of rate base0 pid (e ∷ es) h =
     let others : map (λ e. e.packet) es ≡ map (λ e. pcr_view pid (pcr_at rate base0 (188 * e.index + 10))) es = cc in
     (first, clocks_of rate base0 pid es others)
 
-pub clock_begins : (d : Scheduled) (p : DescribedProgram) (slots : ℕ) (bytes : List ℕ) (options : ViewOptions) → ProgramKept d p slots bytes →
-    ClockIs options d.description.rate d.description.base0 p.pcr_limit slots p.pcr_pid 0 None (entries_from p.pcr_pid 0 (cut_packets bytes))
-unfolding ClockIs IsReference
-clock_begins d p slots bytes options kept =
+-- each packet on its PID is one, and they recur
+pub clocks_kept : (d : Scheduled) (p : DescribedProgram) (slots : ℕ) (bytes : List ℕ) → ProgramKept d p slots bytes →
+    AreClocks d.description.rate d.description.base0 p.pcr_pid (entries_from p.pcr_pid 0 (cut_packets bytes))
+    × Recur d.description.rate p.pcr_limit 0 (places (entries_from p.pcr_pid 0 (cut_packets bytes))) (188 * slots)
+clocks_kept d p slots bytes kept =
     let same = pid_entries p.pcr_pid bytes in
     let rate : ℕ = d.description.rate in
-    let base0 : ℕ = d.description.base0 in
-    inl (
+    let base0 : ℕ = d.description.base0 in (
       clocks_of rate base0 p.pcr_pid (entries_from p.pcr_pid 0 (cut_packets bytes))
           (subst (λ (es : List Entry). map (λ e. e.packet) es ≡ map (λ e. pcr_view p.pcr_pid (pcr_at rate base0 (188 * e.index + 10))) es) same kept.clocks),
       subst (λ (es : List Entry). Recur rate p.pcr_limit 0 (places es) (188 * slots)) same kept.pcrs_recur,
     )
 
-program_range : (d : Described) (i : ℕ) (p : DescribedProgram) → IsInRange d → slice_get d.programs i ≡ Some p → IsProgram p
+pub clock_begins : (d : Scheduled) (p : DescribedProgram) (slots : ℕ) (bytes : List ℕ) (options : ViewOptions) → ProgramKept d p slots bytes →
+    ClockIs options d.description.rate d.description.base0 p.pcr_limit slots p.pcr_pid 0 None (entries_from p.pcr_pid 0 (cut_packets bytes))
+unfolding ClockIs IsReference
+clock_begins d p slots bytes options kept = inl (clocks_kept d p slots bytes kept)
+
+pub program_range : (d : Described) (i : ℕ) (p : DescribedProgram) → IsInRange d → slice_get d.programs i ≡ Some p → IsProgram p
 program_range d i p ranges is =
     rw (get_or_from_slice_get d.programs i p p is) at (All-get_or IsProgram d.programs i p (slice_get_within d.programs i p is) ranges.programs)
 

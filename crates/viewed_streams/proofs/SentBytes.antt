@@ -2,7 +2,7 @@
 use Rattle.std.proofs.Common.{◌≡◌, ◌∙◌, sym, ℕ, zero, suc, ◌+◌, ◌*◌, ◌≤◌, Bool, true, false, List, [], ◌∷◌, ◌++◌, length, map, take, drop, replicate, refl, ap, subst, arith, All}
 use Rattle.std.specs.List.{concat}
 use Rattle.std.proofs.Math.Seq.{take-add}
-use Rattle.std.proofs.lemmas.List.{length-append, map-append}
+use Rattle.std.proofs.lemmas.List.{length-append, length-drop, map-append}
 use Rattle.std.proofs.lemmas.List.Elements.{All-nil, All-cons, All-head, All-tail}
 use Rattle.clock27.specs.Units.{byte_units_at_1bps, slot_units_at_1bps}
 use Rattle.pes_packet.specs.AccessUnits.{AccessUnit}
@@ -15,18 +15,14 @@ use Rattle.unit_timing.specs.Schedule.{Packet}
 use Rattle.unit_timing.proofs.MainBufferBytes.{kept, kept-append}
 use Rattle.unit_queue.specs.OwnedStreams.{OwnedStream, packet_count, pes_bytes, timed}
 use Rattle.unit_queue.specs.Payloads.{all_pieces, all_senders, marked, pes_pieces}
-use Rattle.viewed_streams.proofs.KeptBytes.{kept_each}
+use Rattle.viewed_streams.proofs.KeptBytes.{kept_each, total}
 
--- the sizes of payloads, and their sum
+-- the sizes of payloads
 abbrev pub sizes_of : List Piece → List ℕ
 sizes_of ps = map (λ (p : Piece). length p.bytes) ps
 
 abbrev pub packet_sizes : List Packet → List ℕ
 packet_sizes ps = map (λ (p : Packet). p.size) ps
-
-unfoldable pub total : List ℕ → ℕ
-total [] = 0
-total (n ∷ ns) = n + total ns
 
 marked_sizes : (start : Bool) (bs : List (List ℕ)) → sizes_of (marked start bs) ≡ map (λ (b : List ℕ). length b) bs
 unfolding marked
@@ -67,42 +63,70 @@ drop_two (suc n) m [] = drop_none (suc n + m) ∙ sym (drop_none m)
 drop_two (suc n) m (x ∷ xs) = let same : suc n + m ≡ suc (n + m) = omega arith in ap (λ (k : ℕ). drop k (x ∷ xs)) same ∙ drop_two n m xs
 
 -- the packets of the first unit, as far as they come, and those after them
-pub record FirstKept (rate r x : ℕ) (u : AccessUnit) (qs : List ℕ) (us : List AccessUnit) (ps : List Packet) (rest left : List ℕ) : Type 0 where
-  pub most : kept_each rate r x (replicate (length qs) u ++ us) ps left
-      ≤ kept rate r x u.dts (take (total qs) left) + kept_each rate r x us (drop (length qs) ps) (drop (total qs) left)
-  pub later : packet_sizes (drop (length qs) ps) ≡ take (length (drop (length qs) ps)) rest
+later_sizes : (qs : List ℕ) (ps : List Packet) (rest : List ℕ) → packet_sizes ps ≡ take (length ps) (qs ++ rest) → packet_sizes (drop (length qs) ps) ≡ take (length (drop (length qs) ps)) rest
+later_sizes [] ps rest e = e
+later_sizes (q ∷ qs) [] rest e = refl
+later_sizes (q ∷ qs) (p ∷ ps) rest e = later_sizes qs ps rest (let others : packet_sizes ps ≡ take (length ps) (qs ++ rest) = cc in others)
+
+none_taken : (n : ℕ) (left : List ℕ) → length left ≡ 0 → take n left ≡ []
+none_taken zero left none = refl
+none_taken (suc n) [] none = refl
+none_taken (suc n) (d ∷ left) none = absurd (omega (arith, none))
+
+kept_none : (rate r x due : ℕ) → kept rate r x due [] ≡ 0
+unfolding kept
+kept_none rate r x due = refl
+
+none_each : (rate r x : ℕ) (us : List AccessUnit) (left : List ℕ) → kept_each rate r x us [] left ≡ 0
+unfolding kept_each
+none_each rate r x [] left = refl
+none_each rate r x (u ∷ us) left = refl
+
+-- where just their bytes leave
+pub record FirstKept (rate r x : ℕ) (u : AccessUnit) (qs : List ℕ) (us : List AccessUnit) (ps : List Packet) (left : List ℕ) : Type 0 where
+  pub is : kept_each rate r x (replicate (length qs) u ++ us) ps left
+      ≡ kept rate r x u.dts (take (total qs) left) + kept_each rate r x us (drop (length qs) ps) (drop (total qs) left)
+  pub many : length (drop (total qs) left) ≡ total (packet_sizes (drop (length qs) ps))
 
 first_kept : (rate r x : ℕ) (u : AccessUnit) (qs : List ℕ) (us : List AccessUnit) (ps : List Packet) (rest left : List ℕ) → packet_sizes ps ≡ take (length ps) (qs ++ rest) →
-    FirstKept rate r x u qs us ps rest left
-unfolding total kept_each
-first_kept rate r x u [] us ps rest left e = record { most = omega arith; later = e }
-first_kept rate r x u (q ∷ qs) us [] rest left e = record { most = omega arith; later = refl }
-first_kept rate r x u (q ∷ qs) us (p ∷ ps) rest left e =
+    length left ≡ total (packet_sizes ps) → FirstKept rate r x u qs us ps left
+unfolding total kept_each kept
+first_kept rate r x u [] us ps rest left e many = record { is = omega (arith, kept_none rate r x u.dts); many = many }
+first_kept rate r x u (q ∷ qs) us [] rest left e many =
+    let nothing : take (q + total qs) left ≡ [] = none_taken (q + total qs) left many in
+    let none : kept rate r x u.dts (take (q + total qs) left) ≡ 0 = ap (λ (l : List ℕ). kept rate r x u.dts l) nothing ∙ kept_none rate r x u.dts in
+    record {
+      is = omega (arith, none, none_each rate r x (replicate (length (q ∷ qs)) u ++ us) left, none_each rate r x us (drop (q + total qs) left));
+      many = omega (arith, many, length-drop (q + total qs) left);
+    }
+first_kept rate r x u (q ∷ qs) us (p ∷ ps) rest left e many =
     let size : p.size ≡ q = cc in
     let others : packet_sizes ps ≡ take (length ps) (qs ++ rest) = cc in
-    let k = first_kept rate r x u qs us ps rest (drop q left) others in
+    let fewer : length (drop q left) ≡ total (packet_sizes ps) = omega (arith, many, size, length-drop q left) in
+    let k = first_kept rate r x u qs us ps rest (drop q left) others fewer in
     let two : kept rate r x u.dts (take (q + total qs) left) ≡ kept rate r x u.dts (take q left) + kept rate r x u.dts (take (total qs) (drop q left)) =
     ap (λ (l : List ℕ). kept rate r x u.dts l) (take-add q (total qs) left) ∙ kept-append rate r x u.dts (take q left) (take (total qs) (drop q left)) in
     let last : kept_each rate r x us (drop (length qs) ps) (drop (q + total qs) left) ≡ kept_each rate r x us (drop (length qs) ps) (drop (total qs) (drop q left)) =
     ap (λ (l : List ℕ). kept_each rate r x us (drop (length qs) ps) l) (drop_two q (total qs) left) in
-    record { most = rw size (omega (arith, k.most, two, last)); later = k.later }
+    record { is = rw size (omega (arith, k.is, two, last)); many = ap (λ (l : List ℕ). length l) (drop_two q (total qs) left) ∙ k.many }
 
--- all of them are in the main buffer no more than the model's
+-- all of them are in the main buffer as in the model's
 pub kept_units : (rate r x : ℕ) (l : OwnedStream) (us : List AccessUnit) (ps : List Packet) (left : List ℕ) → packet_sizes ps ≡ take (length ps) (sizes_of (all_pieces l us)) →
-    kept_each rate r x (all_senders l us) ps left ≤ mb_fullness rate r x (map (timed l) us) left
+    length left ≡ total (packet_sizes ps) → kept_each rate r x (all_senders l us) ps left ≡ mb_fullness rate r x (map (timed l) us) left
 unfolding mb_fullness kept
-kept_units rate r x l [] ps left e = none ps
+kept_units rate r x l [] ps left e many = none ps
   where
-    none : (ps : List Packet) → kept_each rate r x [] ps left ≤ 0
-    none [] = unfold kept_each in (omega arith)
-    none (p ∷ ps) = unfold kept_each in (omega arith)
-kept_units rate r x l (u ∷ us) ps left e =
+    none : (ps : List Packet) → kept_each rate r x [] ps left ≡ 0
+    none [] = unfold kept_each in refl
+    none (p ∷ ps) = unfold kept_each in refl
+kept_units rate r x l (u ∷ us) ps left e many =
     let qs : List ℕ = unit_sizes l u in
-    let k = first_kept rate r x u qs (all_senders l us) ps (sizes_of (all_pieces l us)) left (e ∙ ap (λ (ns : List ℕ). take (length ps) ns) (all_sizes l u us)) in
-    let rest = kept_units rate r x l us (drop (length qs) ps) (drop (total qs) left) k.later in
-    let most = rw (unit_many l u, unit_total l u) at k.most in
+    let sizes : packet_sizes ps ≡ take (length ps) (qs ++ sizes_of (all_pieces l us)) = e ∙ ap (λ (ns : List ℕ). take (length ps) ns) (all_sizes l u us) in
+    let k = first_kept rate r x u qs (all_senders l us) ps (sizes_of (all_pieces l us)) left sizes many in
+    let rest = kept_units rate r x l us (drop (length qs) ps) (drop (total qs) left) (later_sizes qs ps (sizes_of (all_pieces l us)) sizes) k.many in
+    let first = rw (unit_many l u, unit_total l u) at k.is in
     let more = rw (unit_many l u, unit_total l u) at rest in
-    omega (arith, most, more)
+    omega (arith, first, more)
 
 -- ---- and they leave the transport buffer in time
 
@@ -148,9 +172,8 @@ timely_units rate r n l [] ps left e all = none ps
 timely_units rate r n l (u ∷ us) ps left e all =
     let qs : List ℕ = unit_sizes l u in
     let sizes : packet_sizes ps ≡ take (length ps) (qs ++ sizes_of (all_pieces l us)) = e ∙ ap (λ (ns : List ℕ). take (length ps) ns) (all_sizes l u us) in
-    let k = first_kept rate r 0 u qs (all_senders l us) ps (sizes_of (all_pieces l us)) left sizes in
     let rest : TimelyEach rate r n (all_senders l us) (drop (length qs) ps) (drop (total qs) left) =
-    timely_units rate r n l us (drop (length qs) ps) (drop (total qs) left) k.later (subst (λ (m : ℕ). AllLeft rate r n (map (timed l) us) (drop m left)) (sym (unit_total l u)) all.1) in
+    timely_units rate r n l us (drop (length qs) ps) (drop (total qs) left) (later_sizes qs ps (sizes_of (all_pieces l us)) sizes) (subst (λ (m : ℕ). AllLeft rate r n (map (timed l) us) (drop m left)) (sym (unit_total l u)) all.1) in
     let whole : u.dts * rate ≤ n * slot_units_at_1bps → All (λ d. d * 720000 ≤ u.dts * rate * r) (take (total qs) left) =
     λ due. subst (λ (m : ℕ). All (λ d. d * 720000 ≤ u.dts * rate * r) (take m left)) (sym (unit_total l u)) (all.0 due).1 in
     subst (λ (m : ℕ). TimelyEach rate r n (replicate m u ++ all_senders l us) ps left) (unit_many l u)

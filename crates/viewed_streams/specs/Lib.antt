@@ -7,3 +7,4 @@ pub mod MainExcesses
 pub mod ViewedRuns
 pub mod WindowLows
 pub mod HeldWindows
+pub mod AsMeasured

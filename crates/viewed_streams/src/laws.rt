@@ -1,4 +1,5 @@
 //! Laws of the report on a stream. Each function does nothing: its contract is the law, over the definitions of `specs/`.
+ghost use Rattle.viewed_streams.specs.AsMeasured.{JobAsMeasuredLaw, JobLateAsMeasuredLaw, RunAsMeasuredLaw, RunLateAsMeasuredLaw};
 ghost use Rattle.viewed_streams.specs.HeldWindows.{HeldWindowLaw};
 ghost use Rattle.viewed_streams.specs.MainExcesses.{NoMainExcessLaw};
 ghost use Rattle.viewed_streams.specs.MeasuredStreams.{MeasuredStreamLaw};
@@ -63,4 +64,14 @@ pub fn muxed_after_tables()
 pub fn muxed_units()
     ensures run { RunLateLaw }
     ensures jobs { JobLateLaw }
+{}
+
+/// Of a stream whose buffers begin with the first packet of its PID, after a clock reference, the greatest numbers of bytes in both
+/// buffers are those that `tstd::measure` finds of the same bytes. So it is where no unit is due before 2 s after the begin, as long
+/// as the view looks for clock references on the PID of a program's.
+pub fn muxed_as_measured()
+    ensures run { RunAsMeasuredLaw }
+    ensures jobs { JobAsMeasuredLaw }
+    ensures late_run { RunLateAsMeasuredLaw }
+    ensures late_jobs { JobLateAsMeasuredLaw }
 {}
