@@ -1,4 +1,5 @@
 pub mod ReportLines
+pub mod PidLabels
 pub mod WindowLines
 pub mod Choices
 pub mod Clocks

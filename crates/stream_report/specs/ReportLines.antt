@@ -1,5 +1,7 @@
 -- The lines of a report: a word and fields, each a name and a number or a word.
-use Rattle.std.specs.Prelude.{ℕ, Bool, if◌then◌else◌, List, [], ◌∷◌, ◌++◌, codes, decimal, flat_map}
+use Rattle.std.specs.Prelude.{ℕ, ◌==◌, ◌||◌, Bool, if◌then◌else◌, List, [], ◌∷◌, ◌++◌, codes, decimal, flat_map}
+use Rattle.std.specs.Char.{encode_utf8}
+use Rattle.std.specs.Str.{chars}
 use Rattle.stream_report.specs.declared.lines.Field.{Field}
 use Rattle.stream_report.specs.declared.lines.FieldValue.{FieldValue}
 use Rattle.stream_report.specs.declared.lines.FieldValue.TheVariants.{Number, Word}
@@ -47,6 +49,16 @@ first_text json word = if json then codes "{" ++ (quote ++ (codes "line" ++ (quo
 
 abbrev pub last_text : Bool → List ℕ
 last_text json = if json then codes "}\n" else codes "\n"
+
+-- a text between quotation marks, as JSON has it: a backslash before a quotation mark and before a backslash; it has no control characters
+abbrev pub escape : ℕ → List ℕ
+escape c = if c == 34 || c == 92 then 92 ∷ [] else []
+
+abbrev pub escaped : ℕ → List ℕ
+escaped c = escape c ++ encode_utf8 c
+
+abbrev pub quoted : List ℕ → List ℕ
+quoted text = quote ++ (flat_map escaped (chars text) ++ quote)
 
 -- a line
 abbrev pub line_of : Bool → List ℕ → List FieldView → List ℕ

@@ -5,6 +5,8 @@ use Rattle.ts_packet.specs.PcrBytes.{has_pcr}
 use Rattle.pid_windows.specs.Windows.{WindowView, no_packet, one_more, taken}
 use Rattle.named_streams.specs.NamedStreams.{NamedView, none_taken}
 use Rattle.named_streams.specs.NamedStreams as naming
+use Rattle.service_names.specs.ServiceNames.{NamesState}
+use Rattle.service_names.specs.ServiceNames as naming_services
 use Rattle.system_tables.specs.Programs.{ProgramState}
 use Rattle.system_tables.specs.Programs as programs
 use Rattle.pcr_errors.specs.PidWatches.{WatchesState, report_at}
@@ -30,7 +32,7 @@ use Rattle.stream_report.specs.WindowLines.{pid_lines, window_of}
 
 -- the number of packets, and of those that are refused or have transport_error_indicator; the window of the last packet that is
 -- not; the packets of each PID; the last clock reference of each, and what all of them came to, by the rate, with the number of
--- their errors; the sections of tables; the buffers of programs' tables; and the streams that are named
+-- their errors; the sections of tables; the buffers of programs' tables; the streams that are named; and the names of their services
 pub record SeenState : Type 0 where
   pub options : ViewOptions
   pub packets : ℕ
@@ -43,6 +45,7 @@ pub record SeenState : Type 0 where
   pub tables : TablesState
   pub systems : Option (List ProgramState)
   pub named : NamedView
+  pub services : NamesState
 
 -- by what references are measured: by the rate, or by each other
 unfoldable pub timing_of : Arrival → PcrTiming
@@ -70,6 +73,7 @@ nothing_seen options = record {
   tables = no_tables (table_timing options.arrival);
   systems = None;
   named = none_taken;
+  services = naming_services.none_taken;
 }
 
 -- packets arrive so from here on: the first line that is known gives the moment of the stream's first byte
@@ -148,7 +152,7 @@ section_lines s bytes = tables.packet_lines s.options s.tables bytes
 
 -- what 188 bytes name counts from the next packet on
 abbrev pub with_named : SeenState → List ℕ → SeenState
-with_named s bytes = record s { named = naming.taken s.named bytes }
+with_named s bytes = record s { named = naming.taken s.named bytes; services = naming_services.taken s.services (naming.taken s.named bytes) bytes }
 
 -- at the end: clock references by PID, tables, all packets by PID, and which of these are not named or have none
 abbrev pub pid_ends : SeenState → List ℕ

@@ -61,7 +61,7 @@ after_read s (Ok packet) = if packet.header.transport_error_indicator then witho
 
 -- the lines of the last packet's window: bit rates by PID, and units by stream
 abbrev pub all_window_lines : ViewState → List ℕ
-all_window_lines s = window_lines s.seen.options s.seen.window ++ table_units s.seen.options s.seen.window.number s.table
+all_window_lines s = window_lines s.seen.options s.seen.named s.seen.services.names s.seen.window ++ table_units s.seen.options s.seen.window.number s.table
 
 -- a packet of another window settles them
 abbrev pub last_window : ViewState → List ℕ
@@ -116,7 +116,7 @@ lines_all s (bytes ∷ packets) = lines_at s bytes ++ lines_all (after_packet s 
 
 -- the lines at the end of a stream
 abbrev pub end_lines : ViewState → ℕ → List ℕ
-end_lines s left = window_lines s.seen.options s.seen.window
+end_lines s left = window_lines s.seen.options s.seen.named s.seen.services.names s.seen.window
     ++ (table_end s.seen.options s.seen.packets s.seen.window.number s.table
     ++ (system_lines s.seen.options s.table.choice s.seen.packets (known s.seen.systems) ++ (pid_ends s.seen ++ end_line s.seen left)))
 

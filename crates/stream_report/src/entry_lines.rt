@@ -36,8 +36,9 @@ pub struct MainFigures {
 // A byte at 1 bit a second in ticks of 27 MHz.
 const BYTE_TICKS: u128 = 216_000_000;
 
+/// The word for a coding.
 #[tactic(auto, unfolding(crate::specs::EntryLines::coding_word))]
-fn coding_word(coding: Coding) -> &'static str
+pub(crate) fn coding_word(coding: Coding) -> &'static str
     ensures { result.now ≡ spec.coding_word coding }
 {
     match coding {

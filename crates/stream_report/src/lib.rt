@@ -16,6 +16,7 @@ mod clocks;
 mod entry_lines;
 mod held_lines;
 mod lines;
+mod pid_labels;
 mod reference_lines;
 mod seen;
 mod stream_entry;

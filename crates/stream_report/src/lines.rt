@@ -1,8 +1,9 @@
 //! The lines of a report.
-ghost use Rattle.std.specs.Prelude.{◌≡◌, ◌++◌, OnOk, map, flat_map, string_bytes};
+ghost use Rattle.std.specs.Prelude.{◌≡◌, ◌++◌, IfOk, OnOk, map, flat_map, string_bytes};
+ghost use Rattle.std.specs.Str.{chars};
 ghost use Rattle.stream_report.specs.ReportLines as spec;
 
-use std::alloc::AllocError;
+use std::alloc::{AllocError, Global};
 use std::fmt::Write;
 
 /// The value of a field.
@@ -57,7 +58,8 @@ fn write_value(text: &mut String, json: bool, value: FieldValue) -> Result<(), A
     }
 }
 
-fn write_name(text: &mut String, json: bool, name: &str) -> Result<(), AllocError>
+/// Appends the name of a field.
+pub(crate) fn write_name(text: &mut String, json: bool, name: &str) -> Result<(), AllocError>
     ensures { OnOk result (string_bytes text.new ≡ string_bytes text.old ++ spec.name_text json name.now) }
 {
     if json {
@@ -67,14 +69,20 @@ fn write_name(text: &mut String, json: bool, name: &str) -> Result<(), AllocErro
     }
 }
 
-fn write_field(text: &mut String, json: bool, field: &Field) -> Result<(), AllocError>
+/// Appends a field.
+pub(crate) fn write_field(text: &mut String, json: bool, field: &Field) -> Result<(), AllocError>
     ensures { OnOk result (string_bytes text.new ≡ string_bytes text.old ++ spec.field_text json (spec.field_view field.now)) }
 {
     write_name(text, json, field.name)?;
     write_value(text, json, field.value)
 }
 
-fn write_fields(text: &mut String, json: bool, fields: &[Field]) -> Result<(), AllocError>
+/// Appends fields.
+pub(crate) fn write_fields(
+    text: &mut String,
+    json: bool,
+    fields: &[Field],
+) -> Result<(), AllocError>
     ensures { OnOk result (string_bytes text.new
         ≡ string_bytes text.old ++ flat_map (spec.field_text json) (map spec.field_view fields.now)) }
 {
@@ -84,7 +92,8 @@ fn write_fields(text: &mut String, json: bool, fields: &[Field]) -> Result<(), A
     Ok(())
 }
 
-fn write_first(text: &mut String, json: bool, word: &str) -> Result<(), AllocError>
+/// Appends how a line of a word begins.
+pub(crate) fn write_first(text: &mut String, json: bool, word: &str) -> Result<(), AllocError>
     ensures { OnOk result (string_bytes text.new ≡ string_bytes text.old ++ spec.first_text json word.now) }
 {
     if json {
@@ -93,6 +102,51 @@ fn write_first(text: &mut String, json: bool, word: &str) -> Result<(), AllocErr
     } else {
         text.push_str(word)
     }
+}
+
+/// Appends how a line ends.
+pub(crate) fn write_last(text: &mut String, json: bool) -> Result<(), AllocError>
+    ensures { OnOk result (string_bytes text.new ≡ string_bytes text.old ++ spec.last_text json) }
+{
+    if json {
+        text.push_str("}\n")
+    } else {
+        text.push_str("\n")
+    }
+}
+
+fn write_escaped(text: &mut String, character: char) -> Result<(), AllocError>
+    ensures { OnOk result (string_bytes text.new ≡ string_bytes text.old ++ spec.escaped character) }
+{
+    if character == '"' || character == '\\' {
+        text.push_str("\\")?;
+    }
+    text.push(character)
+}
+
+fn write_each_escaped(text: &mut String, characters: &[char]) -> Result<(), AllocError>
+    ensures { OnOk result (string_bytes text.new ≡ string_bytes text.old ++ flat_map spec.escaped characters.now) }
+{
+    for character in characters {
+        write_escaped(text, *character)?;
+    }
+    Ok(())
+}
+
+fn characters_of(alloc: Global, text: &str) -> Result<Vec<char>, AllocError>
+    ensures { IfOk result (λ cs. cs.items ≡ chars text.now) }
+{
+    text.chars().collect(alloc)
+}
+
+/// Appends a text between quotation marks.
+pub(crate) fn write_quoted(alloc: Global, text: &mut String, quoted: &str) -> Result<(), AllocError>
+    ensures { OnOk result (string_bytes text.new ≡ string_bytes text.old ++ spec.quoted quoted.now) }
+{
+    let characters = characters_of(alloc, quoted)?;
+    text.push_str("\"")?;
+    write_each_escaped(text, &characters)?;
+    text.push_str("\"")
 }
 
 /// Appends a line.
@@ -107,9 +161,5 @@ pub(crate) fn write_line(
 {
     write_first(text, json, word)?;
     write_fields(text, json, fields)?;
-    if json {
-        text.push_str("}\n")
-    } else {
-        text.push_str("\n")
-    }
+    write_last(text, json)
 }

@@ -5,6 +5,7 @@ ghost use Rattle.ts_packet.specs.Packets.{null_packet};
 ghost use Rattle.ts_packet.specs.Reading.{packet_at};
 ghost use Rattle.ts_packet.specs.Views.{packet_view};
 ghost use Rattle.stream_report.specs.Seen as spec;
+ghost use Rattle.stream_report.specs.WindowLines.{window_lines};
 
 use crate::clock_lines::{errors_in, write_clocks, write_report};
 use crate::clocks::Clocks;
@@ -14,10 +15,11 @@ use crate::system_lines::write_excesses;
 use crate::table_watch::TableWatch;
 use crate::view_choice::ViewChoice;
 use crate::view_options::ViewOptions;
-use crate::window_lines::{window_of, write_pids};
+use crate::window_lines::{window_of, write_pids, write_window};
 use named_streams::NamedStreams;
 use pcr_errors::{PcrTiming, PcrWatches};
 use pid_windows::PidWindow;
+use service_names::ServiceNames;
 use std::alloc::{AllocError, Global};
 use std::marker::Model;
 use stream_arrival::Arrival;
@@ -27,7 +29,7 @@ use ts_packet::{Packet, PacketError, has_pcr};
 
 /// What is kept of a stream beside its buffers: the number of packets, and of those that are refused; the window of the last packet; the
 /// packets of each PID; the last clock reference of each, and what all of them came to, with the number of their errors; the
-/// sections of tables; the buffers of programs' tables; and the streams that are named.
+/// sections of tables; the buffers of programs' tables; the streams that are named; and the names of their services.
 #[derive(Drop)]
 pub struct Seen {
     alloc: Global,
@@ -42,6 +44,7 @@ pub struct Seen {
     pub tables: TableWatch,
     pub systems: SystemTables,
     pub named: NamedStreams,
+    pub services: ServiceNames,
 }
 
 impl Model for Seen {
@@ -61,6 +64,7 @@ impl Model for Seen {
       tables = s.tables;
       systems = s.systems;
       named = s.named;
+      services = s.services;
     } };
 }
 
@@ -146,6 +150,7 @@ impl Seen {
             tables: TableWatch::new(alloc, table_timing(&options.arrival)),
             systems: SystemTables::new(alloc),
             named: NamedStreams::new(alloc),
+            services: ServiceNames::new(alloc),
         }
     }
 
@@ -268,7 +273,23 @@ impl Seen {
     pub fn name(&mut self, bytes: &[u8; 188]) -> Result<(), AllocError>
         ensures { OnOk result (self.new ≡ spec.with_named self.old bytes.now) }
     {
-        self.named.take(bytes)
+        self.named.take(bytes)?;
+        self.services.take(&self.named, bytes)
+    }
+
+    /// Appends the lines of the last packet's window.
+    pub fn write_window(&self, text: &mut String) -> Result<(), AllocError>
+        ensures { OnOk result (string_bytes text.new ≡ string_bytes text.old
+            ++ window_lines self.now.options self.now.named self.now.services.names self.now.window) }
+    {
+        write_window(
+            self.alloc,
+            text,
+            &self.options,
+            &self.named,
+            &self.services,
+            &self.window,
+        )
     }
 
     /// Appends the lines of clock references by PID, of tables, of all packets by PID, and of PIDs that are not named or have no packet.

@@ -12,7 +12,6 @@ use crate::seen::Seen;
 use crate::stream_table::StreamTable;
 use crate::system_lines::{all_fit, write_systems};
 use crate::view_request::ViewRequest;
-use crate::window_lines::write_window;
 use std::alloc::{AllocError, Global};
 use stream_arrival::Arrival;
 use ts_packet::{Packet, PacketError, read_packet};
@@ -56,7 +55,7 @@ impl View {
         ensures { (s : ViewState) → IsView self.now s → OnOk result (string_bytes text.new
             ≡ string_bytes text.old ++ spec.all_window_lines s) }
     {
-        write_window(text, &self.seen.options, &self.seen.window)?;
+        self.seen.write_window(text)?;
         self.table
             .write_units(text, &self.seen.options, self.seen.window.number())
     }
@@ -193,9 +192,10 @@ impl View {
         ensures { (s : ViewState) → IsView self.now s →
             OnOk result (string_bytes text.new ≡ string_bytes text.old ++ spec.end_lines s left) }
     {
-        let options = &self.seen.options;
-        let window = self.seen.window.number();
-        write_window(text, options, &self.seen.window)?;
+        let seen = &self.seen;
+        let options = &seen.options;
+        let window = seen.window.number();
+        seen.write_window(text)?;
         self.table
             .write_end(text, options, self.seen.packets, window)?;
         write_systems(

@@ -1,12 +1,20 @@
 //! The lines of a window, and of all packets of a PID.
-ghost use Rattle.std.specs.Prelude.{◌≡◌, ◌++◌, ◌*◌, ◌/◌, ◌-◌, ◌^◌, OnOk, max, min, string_bytes};
+ghost use Rattle.std.specs.Prelude.{◌≡◌, ◌++◌, ◌*◌, ◌/◌, ◌-◌, ◌^◌, OnOk, flat_map, max, min, option_map, string_bytes};
+ghost use Rattle.stream_report.specs.PidLabels.{label_view};
+ghost use Rattle.stream_report.specs.ReportLines.{field_text};
 ghost use Rattle.stream_report.specs.WindowLines as spec;
 
 use crate::clocks::first_byte;
-use crate::lines::{number, write_line};
+use crate::lines::{
+    number, word, write_field, write_fields, write_first, write_last, write_line, write_name,
+    write_quoted,
+};
+use crate::pid_labels::{PidLabel, label_of};
 use crate::view_options::ViewOptions;
 use clock27::{Rate, SLOT_MS_AT_1BPS};
+use named_streams::NamedStreams;
 use pid_windows::{PidCounts, PidWindow};
+use service_names::ServiceNames;
 use std::alloc::{AllocError, Global};
 use stream_arrival::Arrival;
 
@@ -46,14 +54,15 @@ fn rate_in(options: &ViewOptions, packets: u64) -> u128
     u128::from(packets) * SLOT_MS_AT_1BPS / u128::from(options.window.max(1))
 }
 
-fn write_window_line(
+fn write_counts(
     text: &mut String,
     options: &ViewOptions,
     window: u64,
     pid: u16,
     counts: PidCounts,
 ) -> Result<(), AllocError>
-    ensures { OnOk result (string_bytes text.new ≡ string_bytes text.old ++ spec.window_line options.now window (pid, counts)) }
+    ensures { OnOk result (string_bytes text.new ≡ string_bytes text.old
+        ++ flat_map (field_text options.now.json) (spec.count_fields options.now window (pid, counts))) }
 {
     let fields = [
         number("number", u128::from(window)),
@@ -62,20 +71,98 @@ fn write_window_line(
         number("pcrs", u128::from(counts.pcrs)),
         number("rate", rate_in(options, counts.packets)),
     ];
-    write_line(text, options.json, "window", &fields)
+    write_fields(text, options.json, &fields)
 }
 
-/// Appends the lines of a window.
-pub(crate) fn write_window(
+#[tactic(auto, unfolding(crate::specs::WindowLines::program_text))]
+fn write_program(text: &mut String, json: bool, program: Option<u16>) -> Result<(), AllocError>
+    ensures { OnOk result (string_bytes text.new ≡ string_bytes text.old ++ spec.program_text json program) }
+{
+    match program {
+        None => Ok(()),
+        Some(program) => write_field(text, json, &number("program", u128::from(program))),
+    }
+}
+
+#[tactic(auto, unfolding(crate::specs::WindowLines::service_text))]
+fn write_service(
+    alloc: Global,
+    text: &mut String,
+    json: bool,
+    name: Option<&str>,
+) -> Result<(), AllocError>
+    ensures { OnOk result (string_bytes text.new
+        ≡ string_bytes text.old ++ spec.service_text json (option_map (λ name. name.now) name.entry)) }
+{
+    match name {
+        None => Ok(()),
+        Some(name) => {
+            write_name(text, json, "service")?;
+            write_quoted(alloc, text, name)
+        }
+    }
+}
+
+#[tactic(auto, unfolding(crate::specs::WindowLines::service_of))]
+fn service_of(names: &ServiceNames, program: Option<u16>) -> Option<&str>
+    ensures { option_map (λ name. name.now) result ≡ spec.service_of names.now.names program }
+{
+    match program {
+        None => None,
+        Some(program) => names.name(program),
+    }
+}
+
+// What a PID carries.
+fn write_label(
+    alloc: Global,
+    text: &mut String,
+    json: bool,
+    names: &ServiceNames,
+    label: PidLabel,
+) -> Result<(), AllocError>
+    ensures { OnOk result (string_bytes text.new
+        ≡ string_bytes text.old ++ spec.label_text json names.now.names (label_view label)) }
+{
+    write_program(text, json, label.program)?;
+    write_field(text, json, &word("coding", label.coding))?;
+    write_service(alloc, text, json, service_of(names, label.program))
+}
+
+fn write_window_line(
+    alloc: Global,
     text: &mut String,
     options: &ViewOptions,
+    named: &NamedStreams,
+    names: &ServiceNames,
+    window: u64,
+    pid: u16,
+    counts: PidCounts,
+) -> Result<(), AllocError>
+    ensures { OnOk result (string_bytes text.new ≡ string_bytes text.old
+        ++ spec.window_line options.now named.now names.now.names window (pid, counts)) }
+{
+    write_first(text, options.json, "window")?;
+    write_counts(text, options, window, pid, counts)?;
+    write_label(alloc, text, options.json, names, label_of(named, pid))?;
+    write_last(text, options.json)
+}
+
+/// Appends the lines of a window, with what its PIDs carry by the tables that are known.
+pub(crate) fn write_window(
+    alloc: Global,
+    text: &mut String,
+    options: &ViewOptions,
+    named: &NamedStreams,
+    names: &ServiceNames,
     window: &PidWindow<Global>,
 ) -> Result<(), AllocError>
-    ensures { OnOk result (string_bytes text.new ≡ string_bytes text.old ++ spec.window_lines options.now window.now) }
+    ensures { OnOk result (string_bytes text.new
+        ≡ string_bytes text.old ++ spec.window_lines options.now named.now names.now.names window.now) }
 {
     let number = window.number();
     for (pid, counts) in window.counts() {
-        write_window_line(text, options, number, *pid, *counts)?;
+        write_window_line(alloc, text, options, named, names, number, *pid, *counts)?;
     }
     Ok(())
 }
