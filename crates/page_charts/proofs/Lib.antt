@@ -2,3 +2,4 @@ pub mod Backward
 pub mod Kept
 pub mod Scales
 pub mod Texts
+pub mod Services

@@ -4,7 +4,7 @@ use Rattle.page_curves.specs.Slots as slots
 use Rattle.page_charts.specs.declared.frame.ChartUnit.{ChartUnit}
 use Rattle.page_charts.specs.declared.frame.Frame.{Frame}
 use Rattle.page_charts.specs.declared.pid_curves.PidCurve.{PidCurve}
-use Rattle.page_charts.specs.PidNames.{pid_text}
+use Rattle.page_charts.specs.PidLabels.{LabelsState, pid_text}
 use Rattle.page_charts.specs.Scale.{height_of}
 use Rattle.page_charts.specs.Frames.{scales_text, top_value, unit_name, value_text}
 use Rattle.page_charts.specs.Paths.{low, numbered, numbered_back, over, point}
@@ -18,11 +18,11 @@ abbrev pub with_unit : ChartUnit → ℕ → List ℕ
 with_unit unit value = value_text unit value ++ (codes " " ++ (unit_name unit ++ codes "</span>\n"))
 
 -- what a curve says, beside a piece of its line
-unfoldable pub key : ChartUnit → ℕ → PidCurve → List ℕ
-key unit number entry = sample_text (number % 16) ++ (pid_text entry.pid entry.name ++ (codes ", at most " ++ with_unit unit (slots.greatest_of entry.curve.slots)))
+unfoldable pub key : ChartUnit → LabelsState → ℕ → PidCurve → List ℕ
+key unit labels number entry = sample_text (number % 16) ++ (pid_text labels entry.pid entry.name ++ (codes ", at most " ++ with_unit unit (slots.greatest_of entry.curve.slots)))
 
-unfoldable pub keys : ChartUnit → List PidCurve → List ℕ
-keys unit curves = codes "<p class=\"key\">" ++ (numbered (key unit) 0 curves ++ codes "</p>\n")
+unfoldable pub keys : ChartUnit → LabelsState → List PidCurve → List ℕ
+keys unit labels curves = codes "<p class=\"key\">" ++ (numbered (key unit labels) 0 curves ++ codes "</p>\n")
 
 -- the outline of a curve, along its greatest values and back along its least ones; its band, and the line of its greatest values
 unfoldable pub outline : Frame → PidCurve → List ℕ
@@ -31,11 +31,11 @@ outline f entry = numbered (point f entry.curve.span) 0 entry.curve.slots ++ num
 unfoldable pub band : Frame → ℕ → PidCurve → List ℕ
 band f class entry = codes "<path class=\"range s" ++ (decimal class ++ (codes "\" d=\"M" ++ (outline f entry ++ codes "z\"/>")))
 
-unfoldable pub title : PidCurve → List ℕ
-title entry = codes "h20\"><title>" ++ (pid_text entry.pid entry.name ++ codes "</title></path>\n")
+unfoldable pub title : LabelsState → PidCurve → List ℕ
+title labels entry = codes "h20\"><title>" ++ (pid_text labels entry.pid entry.name ++ codes "</title></path>\n")
 
-unfoldable pub line : Frame → ℕ → PidCurve → List ℕ
-line f class entry = codes "<path class=\"line s" ++ (decimal class ++ (codes "\" d=\"M" ++ (numbered (point f entry.curve.span) 0 entry.curve.slots ++ title entry)))
+unfoldable pub line : Frame → LabelsState → ℕ → PidCurve → List ℕ
+line f labels class entry = codes "<path class=\"line s" ++ (decimal class ++ (codes "\" d=\"M" ++ (numbered (point f entry.curve.span) 0 entry.curve.slots ++ title labels entry)))
 
 -- what lies over a limit, and the limit
 unfoldable pub limit_line : ℕ → ℕ → List ℕ
@@ -49,14 +49,14 @@ abbrev pub limit_if : Frame → PidCurve → List ℕ
 limit_if f entry = if nat_lt 0 entry.limit then limit f entry else []
 
 -- a curve; nothing where no value has come
-unfoldable pub values_text : Frame → ℕ → PidCurve → List ℕ
-values_text f class entry = band f class entry ++ (line f class entry ++ limit_if f entry)
+unfoldable pub values_text : Frame → LabelsState → ℕ → PidCurve → List ℕ
+values_text f labels class entry = band f class entry ++ (line f labels class entry ++ limit_if f entry)
 
-abbrev pub curve : Frame → ℕ → PidCurve → List ℕ
-curve f number entry = if length entry.curve.slots == 0 then [] else values_text f (number % 16) entry
+abbrev pub curve : Frame → LabelsState → ℕ → PidCurve → List ℕ
+curve f labels number entry = if length entry.curve.slots == 0 then [] else values_text f labels (number % 16) entry
 
-unfoldable pub picture : Frame → List PidCurve → List ℕ
-picture f curves = codes "<svg class=\"chart\" viewBox=\"0 -80 9900 2560\" role=\"img\">\n" ++ (scales_text f ++ (numbered (curve f) 0 curves ++ codes "</svg>\n"))
+unfoldable pub picture : Frame → LabelsState → List PidCurve → List ℕ
+picture f labels curves = codes "<svg class=\"chart\" viewBox=\"0 -80 9900 2560\" role=\"img\">\n" ++ (scales_text f ++ (numbered (curve f labels) 0 curves ++ codes "</svg>\n"))
 
-abbrev pub chart : Frame → List PidCurve → List ℕ
-chart f curves = keys f.unit curves ++ (picture f curves ++ values.table f curves)
+abbrev pub chart : Frame → LabelsState → List PidCurve → List ℕ
+chart f labels curves = keys f.unit labels curves ++ (picture f labels curves ++ values.table f curves)

@@ -1,5 +1,6 @@
 pub mod Numbers
 pub mod PidNames
+pub mod PidLabels
 pub mod Scale
 pub mod Frames
 pub mod Paths

@@ -7,7 +7,7 @@ use crate::frame::{ChartUnit, Frame};
 use crate::frame_text::{unit_name, write_value};
 use crate::paths::{write_lows_back, write_overs, write_points};
 use crate::pid_curves::PidCurve;
-use crate::pid_name::write_pid;
+use crate::pid_labels::{PidLabels, write_pid};
 use crate::scale::height_of;
 use crate::value_table::write_value_table;
 use std::alloc::AllocError;
@@ -38,32 +38,44 @@ fn write_with_unit(text: &mut String, unit: ChartUnit, value: u64) -> Result<(),
 fn write_key(
     text: &mut String,
     unit: ChartUnit,
+    labels: &PidLabels,
     number: usize,
     entry: &PidCurve,
 ) -> Result<(), AllocError>
-    ensures { OnOk result (string_bytes text.new ≡ string_bytes text.old ++ spec.key unit number entry.now) }
+    ensures { OnOk result (string_bytes text.new ≡ string_bytes text.old ++ spec.key unit labels.now number entry.now) }
 {
     write_sample(text, number % 16)?;
-    write_pid(text, entry.pid, entry.name)?;
+    write_pid(text, labels, entry.pid, entry.name)?;
     text.push_str(", at most ")?;
     write_with_unit(text, unit, entry.curve.greatest())
 }
 
-fn write_each_key(text: &mut String, unit: ChartUnit, curves: &[PidCurve]) -> Result<(), AllocError>
-    ensures { OnOk result (string_bytes text.new ≡ string_bytes text.old ++ numbered (spec.key unit) 0 curves.now) }
+fn write_each_key(
+    text: &mut String,
+    unit: ChartUnit,
+    labels: &PidLabels,
+    curves: &[PidCurve],
+) -> Result<(), AllocError>
+    ensures { OnOk result (string_bytes text.new
+        ≡ string_bytes text.old ++ numbered (spec.key unit labels.now) 0 curves.now) }
 {
     for (number, entry) in curves.iter().enumerate() {
-        write_key(text, unit, number, entry)?;
+        write_key(text, unit, labels, number, entry)?;
     }
     Ok(())
 }
 
 #[tactic(auto, unfolding(crate::specs::Charts::keys))]
-fn write_keys(text: &mut String, unit: ChartUnit, curves: &[PidCurve]) -> Result<(), AllocError>
-    ensures { OnOk result (string_bytes text.new ≡ string_bytes text.old ++ spec.keys unit curves.now) }
+fn write_keys(
+    text: &mut String,
+    unit: ChartUnit,
+    labels: &PidLabels,
+    curves: &[PidCurve],
+) -> Result<(), AllocError>
+    ensures { OnOk result (string_bytes text.new ≡ string_bytes text.old ++ spec.keys unit labels.now curves.now) }
 {
     text.push_str("<p class=\"key\">")?;
-    write_each_key(text, unit, curves)?;
+    write_each_key(text, unit, labels, curves)?;
     text.push_str("</p>\n")
 }
 
@@ -93,11 +105,11 @@ fn write_band(
 
 // The PID of a curve, as the title of its line.
 #[tactic(auto, unfolding(crate::specs::Charts::title))]
-fn write_title(text: &mut String, entry: &PidCurve) -> Result<(), AllocError>
-    ensures { OnOk result (string_bytes text.new ≡ string_bytes text.old ++ spec.title entry.now) }
+fn write_title(text: &mut String, labels: &PidLabels, entry: &PidCurve) -> Result<(), AllocError>
+    ensures { OnOk result (string_bytes text.new ≡ string_bytes text.old ++ spec.title labels.now entry.now) }
 {
     text.push_str("h20\"><title>")?;
-    write_pid(text, entry.pid, entry.name)?;
+    write_pid(text, labels, entry.pid, entry.name)?;
     text.push_str("</title></path>\n")
 }
 
@@ -106,14 +118,15 @@ fn write_title(text: &mut String, entry: &PidCurve) -> Result<(), AllocError>
 fn write_line(
     text: &mut String,
     frame: &Frame,
+    labels: &PidLabels,
     class: usize,
     entry: &PidCurve,
 ) -> Result<(), AllocError>
-    ensures { OnOk result (string_bytes text.new ≡ string_bytes text.old ++ spec.line frame.now class entry.now) }
+    ensures { OnOk result (string_bytes text.new ≡ string_bytes text.old ++ spec.line frame.now labels.now class entry.now) }
 {
     write!(text, "<path class=\"line s{class}\" d=\"M")?;
     write_points(text, frame, entry.curve.span(), entry.curve.slots())?;
-    write_title(text, entry)
+    write_title(text, labels, entry)
 }
 
 // A limit: a line across the picture, and its value.
@@ -159,13 +172,14 @@ fn write_limit_if(text: &mut String, frame: &Frame, entry: &PidCurve) -> Result<
 fn write_values(
     text: &mut String,
     frame: &Frame,
+    labels: &PidLabels,
     class: usize,
     entry: &PidCurve,
 ) -> Result<(), AllocError>
-    ensures { OnOk result (string_bytes text.new ≡ string_bytes text.old ++ spec.values_text frame.now class entry.now) }
+    ensures { OnOk result (string_bytes text.new ≡ string_bytes text.old ++ spec.values_text frame.now labels.now class entry.now) }
 {
     write_band(text, frame, class, entry)?;
-    write_line(text, frame, class, entry)?;
+    write_line(text, frame, labels, class, entry)?;
     write_limit_if(text, frame, entry)
 }
 
@@ -173,44 +187,60 @@ fn write_values(
 fn write_curve(
     text: &mut String,
     frame: &Frame,
+    labels: &PidLabels,
     number: usize,
     entry: &PidCurve,
 ) -> Result<(), AllocError>
-    ensures { OnOk result (string_bytes text.new ≡ string_bytes text.old ++ spec.curve frame.now number entry.now) }
+    ensures { OnOk result (string_bytes text.new ≡ string_bytes text.old ++ spec.curve frame.now labels.now number entry.now) }
 {
     if entry.curve.slots().is_empty() {
         Ok(())
     } else {
-        write_values(text, frame, number % 16, entry)
+        write_values(text, frame, labels, number % 16, entry)
     }
 }
 
-fn write_curves(text: &mut String, frame: &Frame, curves: &[PidCurve]) -> Result<(), AllocError>
+fn write_curves(
+    text: &mut String,
+    frame: &Frame,
+    labels: &PidLabels,
+    curves: &[PidCurve],
+) -> Result<(), AllocError>
     ensures { OnOk result (string_bytes text.new
-        ≡ string_bytes text.old ++ numbered (spec.curve frame.now) 0 curves.now) }
+        ≡ string_bytes text.old ++ numbered (spec.curve frame.now labels.now) 0 curves.now) }
 {
     for (number, entry) in curves.iter().enumerate() {
-        write_curve(text, frame, number, entry)?;
+        write_curve(text, frame, labels, number, entry)?;
     }
     Ok(())
 }
 
 // The picture itself.
 #[tactic(auto, unfolding(crate::specs::Charts::picture))]
-fn write_picture(text: &mut String, frame: &Frame, curves: &[PidCurve]) -> Result<(), AllocError>
-    ensures { OnOk result (string_bytes text.new ≡ string_bytes text.old ++ spec.picture frame.now curves.now) }
+fn write_picture(
+    text: &mut String,
+    frame: &Frame,
+    labels: &PidLabels,
+    curves: &[PidCurve],
+) -> Result<(), AllocError>
+    ensures { OnOk result (string_bytes text.new ≡ string_bytes text.old ++ spec.picture frame.now labels.now curves.now) }
 {
     text.push_str("<svg class=\"chart\" viewBox=\"0 -80 9900 2560\" role=\"img\">\n")?;
     frame.write_scales(text)?;
-    write_curves(text, frame, curves)?;
+    write_curves(text, frame, labels, curves)?;
     text.push_str("</svg>\n")
 }
 
-/// Appends a picture of curves: their key, their lines beside their limits, and their numbers as a table.
-pub fn write_chart(text: &mut String, frame: &Frame, curves: &[PidCurve]) -> Result<(), AllocError>
-    ensures { OnOk result (string_bytes text.new ≡ string_bytes text.old ++ spec.chart frame.now curves.now) }
+/// Appends a picture of curves: their key, their lines beside their limits, and their numbers as a table; with what each PID carries.
+pub fn write_chart(
+    text: &mut String,
+    frame: &Frame,
+    labels: &PidLabels,
+    curves: &[PidCurve],
+) -> Result<(), AllocError>
+    ensures { OnOk result (string_bytes text.new ≡ string_bytes text.old ++ spec.chart frame.now labels.now curves.now) }
 {
-    write_keys(text, frame.unit, curves)?;
-    write_picture(text, frame, curves)?;
+    write_keys(text, frame.unit, labels, curves)?;
+    write_picture(text, frame, labels, curves)?;
     write_value_table(text, frame, curves)
 }

@@ -4,9 +4,10 @@
 //! - [`ChartUnit`]: in which units numbers are written, and what a window without a value means.
 //! - [`write_chart`]: a picture of some of them over all windows, with a key and all its numbers as a table; [`PidName`] names
 //!   a PID.
+//! - [`PidLabels`]: the programs of PIDs and the names of their services, which stand beside each PID ([`write_label`]).
 //! - [`write_tenths`]: a number in a greater unit.
 //!
-//! Text that is written is that of this crate, and decimal numbers: nothing else can get into a page.
+//! Text that is written is that of this crate, decimal numbers, and the names that [`PidLabels`] are given: nothing else can get into a page.
 #![tactic(auto)]
 
 mod chart;
@@ -15,6 +16,7 @@ mod frame_text;
 mod numbers;
 mod paths;
 mod pid_curves;
+mod pid_labels;
 mod pid_name;
 mod scale;
 mod value_table;
@@ -23,4 +25,5 @@ pub use chart::write_chart;
 pub use frame::{ChartUnit, Frame};
 pub use numbers::write_tenths;
 pub use pid_curves::{MOST_CURVES, PidCurve, PidCurves, greatest_value};
+pub use pid_labels::{PidLabels, PidProgram, write_label};
 pub use pid_name::PidName;

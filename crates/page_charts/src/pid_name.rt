@@ -1,11 +1,8 @@
 //! What a PID is called.
-ghost use Rattle.std.specs.Prelude.{◌≡◌, ◌++◌, OnOk, string_bytes};
+ghost use Rattle.std.specs.Prelude.{◌≡◌};
 ghost use Rattle.page_charts.specs.PidNames as spec;
 
-use std::alloc::AllocError;
-use std::fmt::Write;
-
-/// What a PID carries: a table by its PID, null packets, or a stream of a coding.
+/// What a PID carries: a table by its PID, null packets, the map of a program, its clock references alone, or a stream of a coding.
 #[derive(Clone, Copy)]
 pub enum PidName {
     Pat,
@@ -15,6 +12,8 @@ pub enum PidName {
     Eit,
     Tdt,
     Null,
+    Pmt,
+    Pcr,
     Mpeg2,
     Avc,
     Hevc,
@@ -56,6 +55,8 @@ impl PidName {
             PidName::Eit => "EIT",
             PidName::Tdt => "TDT",
             PidName::Null => "null",
+            PidName::Pmt => "PMT",
+            PidName::Pcr => "PCR",
             PidName::Mpeg2 => "MPEG-2 video",
             PidName::Avc => "H.264",
             PidName::Hevc => "H.265",
@@ -67,12 +68,4 @@ impl PidName {
             PidName::Other => "other",
         }
     }
-}
-
-/// Appends a PID and its name.
-pub(crate) fn write_pid(text: &mut String, pid: u16, name: PidName) -> Result<(), AllocError>
-    ensures { OnOk result (string_bytes text.new ≡ string_bytes text.old ++ spec.pid_text pid name) }
-{
-    let word = name.word();
-    write!(text, "PID {pid} {word}")
 }

@@ -6,6 +6,7 @@ use Rattle.view_page.specs.Pages.{IsPage, PageState, after_line, after_lines}
 use Rattle.view_page.specs.declared.page.Page.{Page}
 use Rattle.view_page.specs.Pages.{after_text, end_after}
 use Rattle.view_page.specs.ReportLines as lines
+use Rattle.view_page.specs.PageLabels as labels
 use Rattle.view_page.specs.Rows as rows
 use Rattle.view_page.specs.Values as values
 
@@ -42,7 +43,7 @@ past page lines i whole left c = no_more page whole (subst (λ (ls : List (Bor (
 
 -- a text of nothing says nothing
 no_text : (s : PageState) → after_text s [] ≡ s
-unfolding after_lines end_after lines.kind_of lines.kind_in rows.with_line rows.with_fault_line values.with_line
+unfolding after_lines end_after lines.kind_of lines.kind_in rows.with_line rows.with_fault_line values.with_line labels.with_line
 no_text s = refl
 
 pub none_taken : (page : Page) (s : PageState) (text : List ℕ) → text ≡ [] → IsPage page s → IsPage page (after_text s text)

@@ -1,7 +1,7 @@
 -- The cells of a row, each made of the fields of a line.
 use Rattle.std.specs.Prelude.{ℕ, ◌*◌, ◌/◌, ◌^◌, ◌==◌, min, max, nat_lt, Bool, false, if◌then◌else◌, List, ◌++◌, codes, decimal, flat_map, Option, Some, None}
 use Rattle.page_charts.specs.Numbers.{tenths}
-use Rattle.page_charts.specs.PidNames as names
+use Rattle.page_charts.specs.PidLabels.{LabelsState, label_text}
 use Rattle.view_page.specs.declared.cells.Limit.{Limit}
 use Rattle.view_page.specs.declared.cells.Limit.TheVariants.{Field, FieldIfAny, Fixed}
 use Rattle.view_page.specs.declared.cells.CellUnit.{CellUnit}
@@ -9,10 +9,10 @@ use Rattle.view_page.specs.declared.cells.CellUnit.TheVariants.{Same, Ticks}
 use Rattle.view_page.specs.declared.cells.CellWord.{CellWord}
 use Rattle.view_page.specs.declared.cells.CellWord.TheVariants.{Transport, Main, TransportExcess, MainExcess, SystemExcess, SystemMainExcess, LateUnit, FarAhead, PcrRepetition, PcrDiscontinuity, PcrAccuracy, TableRepetition, Unclocked, Bytes, Packets, Millis, Nanos, Unreferenced, Missing, Nothing}
 use Rattle.view_page.specs.declared.cells.Cell.{Cell}
-use Rattle.view_page.specs.declared.cells.Cell.TheVariants.{Number, Checked, Bar, Word, Coding}
+use Rattle.view_page.specs.declared.cells.Cell.TheVariants.{Number, Checked, Bar, Word, Carried}
 use Rattle.view_page.specs.declared.cells.Cell.TheVariants as cells
 use Rattle.view_page.specs.declared.fields.FieldName.TheVariants as fields
-use Rattle.view_page.specs.Fields.{coding_in, number_in}
+use Rattle.view_page.specs.Fields.{number_in, short_in}
 
 unfoldable pub word_text : CellWord → List ℕ
 word_text Transport = codes "transport"
@@ -83,14 +83,18 @@ word_cell word = codes "<td class=\"word\">" ++ word
 abbrev pub program_cell : ℕ → List ℕ
 program_cell number = codes "<td>program " ++ decimal number
 
--- a cell of a line of these words
-unfoldable pub cell : List (List ℕ) → Cell → List ℕ
-cell words (Number name unit) = checked (number_in name words) None unit
-cell words (Checked name limit unit) = checked (number_in name words) (limit_in limit words) unit
-cell words (Bar name limit) = bar (number_in name words) (limit_in limit words)
-cell words (Word word) = word_cell (word_text word)
-cell words Coding = word_cell (names.word (coding_in words))
-cell words cells.Program = program_cell (number_in fields.Program words)
+-- of what a PID carries
+unfoldable pub carried_cell : LabelsState → ℕ → List ℕ
+carried_cell labels pid = codes "<td class=\"word\">" ++ label_text labels pid
 
-abbrev pub row : List (List ℕ) → List Cell → List ℕ
-row words cells = codes "<tr>" ++ (flat_map (cell words) cells ++ codes "\n")
+-- a cell of a line of these words
+unfoldable pub cell : LabelsState → List (List ℕ) → Cell → List ℕ
+cell labels words (Number name unit) = checked (number_in name words) None unit
+cell labels words (Checked name limit unit) = checked (number_in name words) (limit_in limit words) unit
+cell labels words (Bar name limit) = bar (number_in name words) (limit_in limit words)
+cell labels words (Word word) = word_cell (word_text word)
+cell labels words (Carried name) = carried_cell labels (short_in name words)
+cell labels words cells.Program = program_cell (number_in fields.Program words)
+
+abbrev pub row : LabelsState → List (List ℕ) → List Cell → List ℕ
+row labels words cells = codes "<tr>" ++ (flat_map (cell labels words) cells ++ codes "\n")

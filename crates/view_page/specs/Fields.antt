@@ -2,7 +2,7 @@
 use Rattle.std.specs.Prelude.{ℕ, ◌+◌, ◌-◌, ◌*◌, ◌^◌, ◌&&◌, min, nat_le, Bool, if◌then◌else◌, List, [], ◌∷◌, codes, Option, Some, None}
 use Rattle.std.specs.Str.{bytes_eq}
 use Rattle.page_charts.specs.declared.pid_name.PidName.{PidName}
-use Rattle.page_charts.specs.declared.pid_name.PidName.TheVariants.{Mpeg2, Avc, Hevc, Audio, Aac, Ac3, Subtitles, Teletext}
+use Rattle.page_charts.specs.declared.pid_name.PidName.TheVariants.{Mpeg2, Avc, Hevc, Audio, Aac, Ac3, Subtitles, Teletext, Pmt, Pcr}
 use Rattle.page_charts.specs.declared.pid_name.PidName.TheVariants as names
 use Rattle.view_page.specs.declared.fields.FieldName.{FieldName}
 use Rattle.view_page.specs.declared.fields.FieldName.TheVariants.{Number, Pid, Program, StreamType, Rx, Main, Transport, Rate, MainLeast, Slack, Packet, Packets, Pcrs, Peak, Size, Most, Excesses, TransportExcesses, MainExcesses, Units, Late, Unread, By, Limit, Value, References, Announced, Interval, Inaccuracy, Table, Sections, Refused, Left}
@@ -78,8 +78,12 @@ number_or_zero (Some word) = number_of word
 abbrev pub number_in : FieldName → List (List ℕ) → ℕ
 number_in name words = number_or_zero (word_after (field_word name) words)
 
+-- at most 65,535
+abbrev pub short_in : FieldName → List (List ℕ) → ℕ
+short_in name words = min (number_in name words) 65535
+
 abbrev pub pid_in : List (List ℕ) → ℕ
-pid_in words = min (number_in Pid words) 65535
+pid_in words = short_in Pid words
 
 unfoldable pub coding_name : List ℕ → PidName
 coding_name word =
@@ -90,7 +94,9 @@ coding_name word =
     else (if bytes_eq word (codes "aac") then Aac
     else (if bytes_eq word (codes "ac3") then Ac3
     else (if bytes_eq word (codes "subtitles") then Subtitles
-    else (if bytes_eq word (codes "teletext") then Teletext else names.Other)))))))
+    else (if bytes_eq word (codes "teletext") then Teletext
+    else (if bytes_eq word (codes "pmt") then Pmt
+    else (if bytes_eq word (codes "pcr") then Pcr else names.Other)))))))))
 
 unfoldable pub coding_or_other : Option (List ℕ) → PidName
 coding_or_other None = names.Other

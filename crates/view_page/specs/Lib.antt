@@ -1,5 +1,7 @@
 pub mod ReportLines
 pub mod Fields
+pub mod ServiceNames
+pub mod PageLabels
 pub mod Cells
 pub mod RowTexts
 pub mod Rows

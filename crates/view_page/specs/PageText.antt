@@ -9,7 +9,9 @@ use Rattle.page_charts.specs.PidCurves.{greatest_value}
 use Rattle.view_page.specs.declared.page.Page.{Page}
 use Rattle.view_page.specs.declared.page.ReportEnd.{ReportEnd}
 use Rattle.view_page.specs.declared.page_text.TheConstants.{APART, BACK, BUFFERS, CLOCKS, FAULTS, FRONT, MAINS, PIDS, RATES, SLACKS, STREAMS, SYSTEMS, TABLES, TRANSPORTS}
-use Rattle.view_page.specs.RowTexts.{RowTexts}
+use Rattle.page_charts.specs.PidLabels.{LabelsState}
+use Rattle.view_page.specs.Cells.{carried_cell}
+use Rattle.view_page.specs.RowTexts.{RowTexts, StreamText}
 
 -- texts that are always the same
 unfoldable pub front_text : List ℕ
@@ -64,7 +66,7 @@ summary end faults = codes "<p>" ++ (decimal end.packets ++ (codes " packets, " 
 
 -- a picture of curves in one frame, up to the greatest value of all
 unfoldable pub one_chart : Page → ChartUnit → List PidCurve → List ℕ
-one_chart p unit curves = chart (frame unit p.values.windows p.millis (greatest_value curves)) curves
+one_chart p unit curves = chart (frame unit p.values.windows p.millis (greatest_value curves)) p.labels curves
 
 abbrev pub buffer_chart : Page → PidCurve → List ℕ
 buffer_chart p entry = one_chart p Bytes (entry ∷ [])
@@ -73,11 +75,18 @@ unfoldable pub charts : Page → List ℕ
 charts p = (rates_text ++ one_chart p BitRate p.values.rates.curves.items) ++ ((transports_text ++ flat_map (buffer_chart p) p.values.transports.curves.items)
     ++ ((mains_text ++ flat_map (buffer_chart p) p.values.mains.curves.items) ++ (slacks_text ++ one_chart p Time p.values.slacks.curves.items)))
 
-unfoldable pub measures : RowTexts → List ℕ
-measures r = (faults_text ++ r.faults) ++ ((streams_text ++ r.streams) ++ ((buffers_text ++ r.buffers) ++ ((systems_text ++ r.systems) ++ (clocks_text ++ r.clocks))))
+abbrev pub row_head : ℕ → List ℕ
+row_head pid = codes "<tr><td>" ++ decimal pid
+
+-- the row of a stream, with what is known at the end of what it carries
+unfoldable pub stream_row : LabelsState → StreamText → List ℕ
+stream_row labels r = row_head r.pid ++ (carried_cell labels r.pid ++ (r.cells ++ codes "\n"))
+
+unfoldable pub measures : LabelsState → RowTexts → List ℕ
+measures labels r = (faults_text ++ r.faults) ++ ((streams_text ++ flat_map (stream_row labels) r.streams) ++ ((buffers_text ++ r.buffers) ++ ((systems_text ++ r.systems) ++ (clocks_text ++ r.clocks))))
 
 unfoldable pub lists : RowTexts → List ℕ
 lists r = (tables_text ++ r.tables) ++ ((pids_text ++ r.pids) ++ (apart_text ++ r.apart))
 
 abbrev pub page_text : Page → List ℕ
-page_text p = front_text ++ (summary p.end p.rows.count ++ (charts p ++ (measures p.rows ++ (lists p.rows ++ back_text))))
+page_text p = front_text ++ (summary p.end p.rows.count ++ (charts p ++ (measures p.labels p.rows ++ (lists p.rows ++ back_text))))

@@ -1,8 +1,13 @@
--- The rows of each table of the page, as text, and the number of faults.
+-- The rows of each table of the page, as text, and the number of faults. Of a stream the row has its PID, and what it carries, before
+-- these cells.
 use Rattle.std.specs.Prelude.{ℕ, List}
 
+pub record StreamText : Type 0 where
+  pub pid : ℕ
+  pub cells : List ℕ
+
 pub record RowTexts : Type 0 where
-  pub streams : List ℕ
+  pub streams : List StreamText
   pub buffers : List ℕ
   pub systems : List ℕ
   pub clocks : List ℕ

@@ -2,8 +2,8 @@
 ghost use Rattle.std.specs.Prelude.{◌≡◌, ◌++◌, OnOk, flat_map, map, string_bytes};
 ghost use Rattle.view_page.specs.Cells as spec;
 
-use crate::fields::{FieldName, coding_in, number_in};
-use page_charts::write_tenths;
+use crate::fields::{FieldName, number_in, short_in};
+use page_charts::{PidLabels, write_label, write_tenths};
 use std::alloc::AllocError;
 use std::fmt::Write;
 
@@ -47,15 +47,15 @@ pub enum CellWord {
     Nothing,
 }
 
-/// A cell: a number, one that is marked where it exceeds its limit, a bar of it beside its limit, a word, what the stream is
-/// called, or a program.
+/// A cell: a number, one that is marked where it exceeds its limit, a bar of it beside its limit, a word, what the PID of a field
+/// carries, or a program.
 #[derive(Clone, Copy)]
 pub enum Cell {
     Number(FieldName, CellUnit),
     Checked(FieldName, Limit, CellUnit),
     Bar(FieldName, Limit),
     Word(CellWord),
-    Coding,
+    Carried(FieldName),
     Program,
 }
 
@@ -191,11 +191,28 @@ fn write_program(text: &mut String, number: u64) -> Result<(), AllocError>
     write!(text, "<td>program {number}")
 }
 
+/// Appends the cell of what a PID carries.
+pub(crate) fn write_carried(
+    text: &mut String,
+    labels: &PidLabels,
+    pid: u16,
+) -> Result<(), AllocError>
+    ensures { OnOk result (string_bytes text.new ≡ string_bytes text.old ++ spec.carried_cell labels.now pid) }
+{
+    text.push_str("<td class=\"word\">")?;
+    write_label(text, labels, pid)
+}
+
 // A cell of a line of these words.
 #[tactic(auto, unfolding(crate::specs::Cells::cell))]
-fn write_cell(text: &mut String, words: &[&str], cell: Cell) -> Result<(), AllocError>
+fn write_cell(
+    text: &mut String,
+    labels: &PidLabels,
+    words: &[&str],
+    cell: Cell,
+) -> Result<(), AllocError>
     ensures { OnOk result (string_bytes text.new
-        ≡ string_bytes text.old ++ spec.cell (map (λ s. s.now) words.now) cell) }
+        ≡ string_bytes text.old ++ spec.cell labels.now (map (λ s. s.now) words.now) cell) }
 {
     match cell {
         Cell::Number(name, unit) => write_checked(text, number_in(name, words), None, unit),
@@ -204,27 +221,38 @@ fn write_cell(text: &mut String, words: &[&str], cell: Cell) -> Result<(), Alloc
         }
         Cell::Bar(name, limit) => write_bar(text, number_in(name, words), limit_in(limit, words)),
         Cell::Word(word) => write_word(text, word_text(word)),
-        Cell::Coding => write_word(text, coding_in(words).word()),
+        Cell::Carried(name) => write_carried(text, labels, short_in(name, words)),
         Cell::Program => write_program(text, number_in(FieldName::Program, words)),
     }
 }
 
-fn write_cells(text: &mut String, words: &[&str], cells: &[Cell]) -> Result<(), AllocError>
+/// Appends cells of a line of these words.
+pub(crate) fn write_cells(
+    text: &mut String,
+    labels: &PidLabels,
+    words: &[&str],
+    cells: &[Cell],
+) -> Result<(), AllocError>
     ensures { OnOk result (string_bytes text.new
-        ≡ string_bytes text.old ++ flat_map (spec.cell (map (λ s. s.now) words.now)) cells.now) }
+        ≡ string_bytes text.old ++ flat_map (spec.cell labels.now (map (λ s. s.now) words.now)) cells.now) }
 {
     for cell in cells {
-        write_cell(text, words, *cell)?;
+        write_cell(text, labels, words, *cell)?;
     }
     Ok(())
 }
 
 /// Appends the row of a line of these words.
-pub(crate) fn write_row(text: &mut String, words: &[&str], cells: &[Cell]) -> Result<(), AllocError>
+pub(crate) fn write_row(
+    text: &mut String,
+    labels: &PidLabels,
+    words: &[&str],
+    cells: &[Cell],
+) -> Result<(), AllocError>
     ensures { OnOk result (string_bytes text.new
-        ≡ string_bytes text.old ++ spec.row (map (λ s. s.now) words.now) cells.now) }
+        ≡ string_bytes text.old ++ spec.row labels.now (map (λ s. s.now) words.now) cells.now) }
 {
     text.push_str("<tr>")?;
-    write_cells(text, words, cells)?;
+    write_cells(text, labels, words, cells)?;
     text.push_str("\n")
 }

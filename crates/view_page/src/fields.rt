@@ -173,14 +173,21 @@ pub(crate) fn number_in(name: FieldName, words: &[&str]) -> u64
     }
 }
 
-/// The PID of a line; 65,535 where it is greater.
+/// The number of a field; 65,535 where it is greater.
+pub(crate) fn short_in(name: FieldName, words: &[&str]) -> u16
+    ensures { result ≡ spec.short_in name (map (λ s. s.now) words.now) }
+{
+    number_in(name, words).min(65_535) as u16
+}
+
+/// The PID of a line.
 pub(crate) fn pid_in(words: &[&str]) -> u16
     ensures { result ≡ spec.pid_in (map (λ s. s.now) words.now) }
 {
-    number_in(FieldName::Pid, words).min(65_535) as u16
+    short_in(FieldName::Pid, words)
 }
 
-// What a stream is called by the word for its coding.
+// What a PID is called by the word for its coding.
 #[tactic(auto, unfolding(crate::specs::Fields::coding_name))]
 fn coding_name(word: &str) -> PidName
     ensures { result ≡ spec.coding_name word.now }
@@ -194,11 +201,13 @@ fn coding_name(word: &str) -> PidName
         "ac3" => PidName::Ac3,
         "subtitles" => PidName::Subtitles,
         "teletext" => PidName::Teletext,
+        "pmt" => PidName::Pmt,
+        "pcr" => PidName::Pcr,
         _ => PidName::Other,
     }
 }
 
-/// What the stream of a line is called.
+/// What the PID of a line is called.
 #[tactic(auto, unfolding(crate::specs::Fields::coding_or_other))]
 pub(crate) fn coding_in(words: &[&str]) -> PidName
     ensures { result ≡ spec.coding_in (map (λ s. s.now) words.now) }

@@ -4,10 +4,12 @@ ghost use Rattle.view_page.specs.Pages.{IsPage, PageState, after_line, after_lin
 ghost use Rattle.view_page.specs.PageText.{page_text};
 
 use crate::fields::{FieldName, number_in};
+use crate::page_labels::take_label;
 use crate::page_text::write_page;
 use crate::report_lines::{LineKind, kind_in, lines_of, words_of};
 use crate::rows::Rows;
 use crate::values::Values;
+use page_charts::PidLabels;
 use std::alloc::{AllocError, Global};
 
 /// What the last line of a report says: packets, those refused, and the bytes left after the last whole one.
@@ -27,6 +29,7 @@ pub struct Page {
     pub millis: u32,
     pub rows: Rows,
     pub values: Values,
+    pub labels: PidLabels,
     pub end: ReportEnd,
 }
 
@@ -40,6 +43,7 @@ impl Page {
             millis,
             rows: Rows::new(alloc),
             values: Values::new(alloc),
+            labels: PidLabels::new(alloc),
             end: ReportEnd {
                 packets: 0,
                 refused: 0,
@@ -63,14 +67,15 @@ impl Page {
         }
     }
 
-    // A line of these words.
-    fn take_words(&mut self, words: &[&str]) -> Result<(), AllocError>
+    // A line and its words.
+    fn take_words(&mut self, line: &str, words: &[&str]) -> Result<(), AllocError>
         ensures { (s : PageState) → IsPage self.old s →
-            OnOk result (IsPage self.new (after_words s (map (λ s. s.now) words.now))) }
+            OnOk result (IsPage self.new (after_words s line.now (map (λ s. s.now) words.now))) }
     {
         let kind = kind_in(words);
-        self.rows.take(kind, words)?;
+        self.rows.take(&self.labels, kind, words)?;
         self.values.take(kind, words)?;
+        take_label(self.alloc, &mut self.labels, kind, line, words)?;
         self.take_end(kind, words);
         Ok(())
     }
@@ -80,7 +85,7 @@ impl Page {
         ensures { (s : PageState) → IsPage self.old s → OnOk result (IsPage self.new (after_line s line.now)) }
     {
         let words = words_of(self.alloc, line)?;
-        self.take_words(&words)
+        self.take_words(line, &words)
     }
 
     // Lines.

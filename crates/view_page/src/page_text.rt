@@ -1,10 +1,11 @@
 //! The text of a page.
-ghost use Rattle.std.specs.Prelude.{◌≡◌, ◌++◌, OnOk, flat_map, string_bytes};
+ghost use Rattle.std.specs.Prelude.{◌≡◌, ◌++◌, OnOk, codes, flat_map, string_bytes};
 ghost use Rattle.view_page.specs.PageText as spec;
 
+use crate::cells::write_carried;
 use crate::page::{Page, ReportEnd};
-use crate::rows::Rows;
-use page_charts::{ChartUnit, Frame, PidCurve, greatest_value, write_chart};
+use crate::rows::{Rows, StreamRow};
+use page_charts::{ChartUnit, Frame, PidCurve, PidLabels, greatest_value, write_chart};
 use std::alloc::AllocError;
 use std::fmt::Write;
 use std::slice;
@@ -50,10 +51,10 @@ const FAULTS: &str =
     "<h2>Faults</h2><p class=\"soft\">The first 100.</p><div class=\"wide tall\"><table><tr><th class=\"word\">what<th>PID<th>packet<th>value<th>limit<th class=\"word\">unit\n";
 
 const STREAMS: &str =
-    "</table></div><h2>Streams</h2><div class=\"wide\"><table><tr><th>PID<th>program<th>stream_type<th class=\"word\">coding<th>out of the transport buffer, bit/s<th>main buffer, bytes\n";
+    "</table></div><h2>Streams</h2><div class=\"wide\"><table><tr><th>PID<th class=\"word\">carries<th>stream_type<th>out of the transport buffer, bit/s<th>main buffer, bytes\n";
 
 const BUFFERS: &str =
-    "</table></div><h2>Buffers</h2><div class=\"wide\"><table><tr><th>PID<th class=\"word\">buffer<th>size<th>most<th class=\"word\">beside its size<th>excesses<th>units<th>late<th>headers not read\n";
+    "</table></div><h2>Buffers</h2><div class=\"wide\"><table><tr><th>PID<th class=\"word\">carries<th class=\"word\">buffer<th>size<th>most<th class=\"word\">beside its size<th>excesses<th>units<th>late<th>headers not read\n";
 
 const SYSTEMS: &str =
     "</table></div><h2>Buffers of programs' tables</h2><div class=\"wide\"><table><tr><th>program<th>transport buffer, most<th class=\"word\">beside 512 bytes<th>excesses<th>system buffer, most<th class=\"word\">beside 1,536 bytes<th>excesses\n";
@@ -65,7 +66,7 @@ const TABLES: &str =
     "</table></div><h2>Tables</h2><div class=\"wide\"><table><tr><th>PID<th>table_id<th>sections<th>longest interval, ms<th>limit, ms<th class=\"word\">beside its limit\n";
 
 const PIDS: &str =
-    "</table></div><h2>PIDs</h2><div class=\"wide\"><table><tr><th>PID<th>packets<th>with a clock reference\n";
+    "</table></div><h2>PIDs</h2><div class=\"wide\"><table><tr><th>PID<th class=\"word\">carries<th>packets<th>with a clock reference\n";
 
 const APART: &str = "</table><table>\n";
 
@@ -216,7 +217,7 @@ fn write_one(
         page.millis,
         greatest_value(curves),
     );
-    write_chart(text, &frame, curves)
+    write_chart(text, &frame, &page.labels, curves)
 }
 
 // A picture of each curve.
@@ -291,13 +292,66 @@ fn write_table(text: &mut String, head: &str, rows: &String) -> Result<(), Alloc
     text.push_str(rows.as_str())
 }
 
+fn write_row_head(text: &mut String, pid: u16) -> Result<(), AllocError>
+    ensures { OnOk result (string_bytes text.new ≡ string_bytes text.old ++ spec.row_head pid) }
+{
+    write!(text, "<tr><td>{pid}")
+}
+
+fn write_row_end(text: &mut String, cells: &str) -> Result<(), AllocError>
+    ensures { OnOk result (string_bytes text.new ≡ string_bytes text.old ++ (cells.now ++ codes "\n")) }
+{
+    write!(text, "{cells}\n")
+}
+
+// The row of a stream.
+#[tactic(auto, unfolding(crate::specs::PageText::stream_row))]
+fn write_stream_row(
+    text: &mut String,
+    labels: &PidLabels,
+    row: &StreamRow,
+) -> Result<(), AllocError>
+    ensures { OnOk result (string_bytes text.new ≡ string_bytes text.old ++ spec.stream_row labels.now row.now) }
+{
+    write_row_head(text, row.pid)?;
+    write_carried(text, labels, row.pid)?;
+    write_row_end(text, row.cells.as_str())
+}
+
+fn write_stream_rows(
+    text: &mut String,
+    labels: &PidLabels,
+    rows: &[StreamRow],
+) -> Result<(), AllocError>
+    ensures { OnOk result (string_bytes text.new
+        ≡ string_bytes text.old ++ flat_map (spec.stream_row labels.now) rows.now) }
+{
+    for row in rows {
+        write_stream_row(text, labels, row)?;
+    }
+    Ok(())
+}
+
+// The table of streams.
+fn write_streams(
+    text: &mut String,
+    labels: &PidLabels,
+    rows: &[StreamRow],
+) -> Result<(), AllocError>
+    ensures { OnOk result (string_bytes text.new
+        ≡ string_bytes text.old ++ (spec.streams_text ++ flat_map (spec.stream_row labels.now) rows.now)) }
+{
+    text.push_str(streams_text())?;
+    write_stream_rows(text, labels, rows)
+}
+
 // The tables of what is measured.
 #[tactic(auto, unfolding(crate::specs::PageText::measures))]
-fn write_measures(text: &mut String, rows: &Rows) -> Result<(), AllocError>
-    ensures { OnOk result (string_bytes text.new ≡ string_bytes text.old ++ spec.measures rows.now) }
+fn write_measures(text: &mut String, labels: &PidLabels, rows: &Rows) -> Result<(), AllocError>
+    ensures { OnOk result (string_bytes text.new ≡ string_bytes text.old ++ spec.measures labels.now rows.now) }
 {
     write_table(text, faults_text(), &rows.faults)?;
-    write_table(text, streams_text(), &rows.streams)?;
+    write_streams(text, labels, &rows.streams)?;
     write_table(text, buffers_text(), &rows.buffers)?;
     write_table(text, systems_text(), &rows.systems)?;
     write_table(text, clocks_text(), &rows.clocks)
@@ -320,7 +374,7 @@ pub(crate) fn write_page(text: &mut String, page: &Page) -> Result<(), AllocErro
     text.push_str(front_text())?;
     write_summary(text, page.end, page.rows.count)?;
     write_charts(text, page)?;
-    write_measures(text, &page.rows)?;
+    write_measures(text, &page.labels, &page.rows)?;
     write_lists(text, &page.rows)?;
     text.push_str(back_text())
 }

@@ -2,27 +2,26 @@
 ghost use Rattle.std.specs.Prelude.{◌≡◌, ◌++◌, OnOk, map, string_bytes};
 ghost use Rattle.view_page.specs.Rows as spec;
 
-use crate::cells::{Cell, CellUnit, CellWord, Limit, write_row};
-use crate::fields::FieldName;
+use crate::cells::{Cell, CellUnit, CellWord, Limit, write_cells, write_row};
+use crate::fields::{FieldName, pid_in};
 use crate::report_lines::LineKind;
+use page_charts::PidLabels;
 use std::alloc::{AllocError, Global};
 use std::marker::Model;
 
 /// How many faults have rows.
 const MOST_FAULTS: u64 = 100;
 
-// The cells of a line of each kind that has a row.
-const STREAM: [Cell; 6] = [
-    Cell::Number(FieldName::Pid, CellUnit::Same),
-    Cell::Number(FieldName::Program, CellUnit::Same),
+// The cells of a line of each kind that has a row; of `stream` those after its PID and what that carries.
+const STREAM: [Cell; 3] = [
     Cell::Number(FieldName::StreamType, CellUnit::Same),
-    Cell::Coding,
     Cell::Number(FieldName::Rx, CellUnit::Same),
     Cell::Number(FieldName::Main, CellUnit::Same),
 ];
 
-const TRANSPORT: [Cell; 9] = [
+const TRANSPORT: [Cell; 10] = [
     Cell::Number(FieldName::Pid, CellUnit::Same),
+    Cell::Carried(FieldName::Pid),
     Cell::Word(CellWord::Transport),
     Cell::Number(FieldName::Size, CellUnit::Same),
     Cell::Checked(
@@ -37,8 +36,9 @@ const TRANSPORT: [Cell; 9] = [
     Cell::Word(CellWord::Nothing),
 ];
 
-const MAIN: [Cell; 9] = [
+const MAIN: [Cell; 10] = [
     Cell::Number(FieldName::Pid, CellUnit::Same),
+    Cell::Carried(FieldName::Pid),
     Cell::Word(CellWord::Main),
     Cell::Number(FieldName::Size, CellUnit::Same),
     Cell::Checked(
@@ -95,8 +95,9 @@ const TABLE: [Cell; 6] = [
     Cell::Bar(FieldName::Interval, Limit::FieldIfAny(FieldName::Limit)),
 ];
 
-const PID: [Cell; 3] = [
+const PID: [Cell; 4] = [
     Cell::Number(FieldName::Number, CellUnit::Same),
+    Cell::Carried(FieldName::Number),
     Cell::Number(FieldName::Packets, CellUnit::Same),
     Cell::Number(FieldName::Pcrs, CellUnit::Same),
 ];
@@ -210,10 +211,27 @@ const UNCLOCKED: [Cell; 6] = [
     Cell::Word(CellWord::Packets),
 ];
 
+/// A row of a stream: its PID, and its cells after what that carries, which is known only at the end.
+#[derive(Drop)]
+pub struct StreamRow {
+    pub pid: u16,
+    pub cells: String,
+}
+
+impl Model for StreamRow {
+    ghost use Rattle.std.specs.Prelude.{string_bytes};
+    ghost use Rattle.view_page.specs.RowTexts.{StreamText};
+
+    ghost Value = { StreamText };
+
+    ghost view = { λ r. record { pid = r.pid; cells = string_bytes r.cells } };
+}
+
 /// The rows of each table, and how many faults have come; 100 of them have rows.
 #[derive(Drop)]
 pub struct Rows {
-    pub streams: String,
+    alloc: Global,
+    pub streams: Vec<StreamRow>,
     pub buffers: String,
     pub systems: String,
     pub clocks: String,
@@ -231,7 +249,7 @@ impl Model for Rows {
     ghost Value = { RowTexts };
 
     ghost view = { λ r. record {
-      streams = string_bytes r.streams;
+      streams = r.streams.items;
       buffers = string_bytes r.buffers;
       systems = string_bytes r.systems;
       clocks = string_bytes r.clocks;
@@ -249,7 +267,8 @@ impl Rows {
         ensures { result ≡ spec.no_rows }
     {
         Rows {
-            streams: String::new(alloc),
+            alloc,
+            streams: Vec::new(alloc),
             buffers: String::new(alloc),
             systems: String::new(alloc),
             clocks: String::new(alloc),
@@ -262,13 +281,18 @@ impl Rows {
     }
 
     // A fault, with a row if it is one of the first.
-    fn take_fault(&mut self, words: &[&str], cells: &[Cell]) -> Result<(), AllocError>
-        ensures { OnOk result (self.new ≡ spec.with_fault self.old (map (λ s. s.now) words.now) cells.now) }
+    fn take_fault(
+        &mut self,
+        labels: &PidLabels,
+        words: &[&str],
+        cells: &[Cell],
+    ) -> Result<(), AllocError>
+        ensures { OnOk result (self.new ≡ spec.with_fault labels.now self.old (map (λ s. s.now) words.now) cells.now) }
     {
         let count = self.count;
         self.count = count.saturating_add(1);
         if count < MOST_FAULTS {
-            write_row(&mut self.faults, words, cells)
+            write_row(&mut self.faults, labels, words, cells)
         } else {
             Ok(())
         }
@@ -276,41 +300,64 @@ impl Rows {
 
     // The line of a fault, if it is one.
     #[tactic(auto, unfolding(crate::specs::Rows::with_fault_line))]
-    fn take_faults(&mut self, kind: LineKind, words: &[&str]) -> Result<(), AllocError>
-        ensures { OnOk result (self.new ≡ spec.with_fault_line self.old kind (map (λ s. s.now) words.now)) }
+    fn take_faults(
+        &mut self,
+        labels: &PidLabels,
+        kind: LineKind,
+        words: &[&str],
+    ) -> Result<(), AllocError>
+        ensures { OnOk result (self.new ≡ spec.with_fault_line labels.now self.old kind (map (λ s. s.now) words.now)) }
     {
         match kind {
-            LineKind::Excess => self.take_fault(words, &EXCESS),
-            LineKind::MainExcess => self.take_fault(words, &MAIN_EXCESS),
-            LineKind::SystemExcess => self.take_fault(words, &SYSTEM_EXCESS),
-            LineKind::SystemMainExcess => self.take_fault(words, &SYSTEM_MAIN_EXCESS),
-            LineKind::Late => self.take_fault(words, &LATE),
-            LineKind::Ahead => self.take_fault(words, &AHEAD),
-            LineKind::PcrRepetition => self.take_fault(words, &PCR_REPETITION),
-            LineKind::PcrDiscontinuity => self.take_fault(words, &PCR_DISCONTINUITY),
-            LineKind::PcrAccuracy => self.take_fault(words, &PCR_ACCURACY),
-            LineKind::TableRepetition => self.take_fault(words, &TABLE_REPETITION),
-            LineKind::Unclocked => self.take_fault(words, &UNCLOCKED),
+            LineKind::Excess => self.take_fault(labels, words, &EXCESS),
+            LineKind::MainExcess => self.take_fault(labels, words, &MAIN_EXCESS),
+            LineKind::SystemExcess => self.take_fault(labels, words, &SYSTEM_EXCESS),
+            LineKind::SystemMainExcess => self.take_fault(labels, words, &SYSTEM_MAIN_EXCESS),
+            LineKind::Late => self.take_fault(labels, words, &LATE),
+            LineKind::Ahead => self.take_fault(labels, words, &AHEAD),
+            LineKind::PcrRepetition => self.take_fault(labels, words, &PCR_REPETITION),
+            LineKind::PcrDiscontinuity => self.take_fault(labels, words, &PCR_DISCONTINUITY),
+            LineKind::PcrAccuracy => self.take_fault(labels, words, &PCR_ACCURACY),
+            LineKind::TableRepetition => self.take_fault(labels, words, &TABLE_REPETITION),
+            LineKind::Unclocked => self.take_fault(labels, words, &UNCLOCKED),
             _ => Ok(()),
         }
     }
 
-    /// A line of these words.
+    // `stream`.
+    fn take_stream(&mut self, labels: &PidLabels, words: &[&str]) -> Result<(), AllocError>
+        ensures { OnOk result (self.new ≡ spec.with_stream labels.now self.old (map (λ s. s.now) words.now)) }
+    {
+        let mut cells = String::new(self.alloc);
+        write_cells(&mut cells, labels, words, &STREAM)?;
+        self.streams.push(StreamRow {
+            pid: pid_in(words),
+            cells,
+        })?;
+        Ok(())
+    }
+
+    /// A line of these words, with what its PIDs carry.
     #[tactic(auto, unfolding(crate::specs::Rows::with_line))]
-    pub fn take(&mut self, kind: LineKind, words: &[&str]) -> Result<(), AllocError>
-        ensures { OnOk result (self.new ≡ spec.with_line self.old kind (map (λ s. s.now) words.now)) }
+    pub fn take(
+        &mut self,
+        labels: &PidLabels,
+        kind: LineKind,
+        words: &[&str],
+    ) -> Result<(), AllocError>
+        ensures { OnOk result (self.new ≡ spec.with_line labels.now self.old kind (map (λ s. s.now) words.now)) }
     {
         match kind {
-            LineKind::Stream => write_row(&mut self.streams, words, &STREAM),
-            LineKind::Transport => write_row(&mut self.buffers, words, &TRANSPORT),
-            LineKind::Main => write_row(&mut self.buffers, words, &MAIN),
-            LineKind::System => write_row(&mut self.systems, words, &SYSTEM),
-            LineKind::Clock => write_row(&mut self.clocks, words, &CLOCK),
-            LineKind::Table => write_row(&mut self.tables, words, &TABLE),
-            LineKind::Pid => write_row(&mut self.pids, words, &PID),
-            LineKind::Unreferenced => write_row(&mut self.apart, words, &UNREFERENCED),
-            LineKind::Missing => write_row(&mut self.apart, words, &MISSING),
-            _ => self.take_faults(kind, words),
+            LineKind::Stream => self.take_stream(labels, words),
+            LineKind::Transport => write_row(&mut self.buffers, labels, words, &TRANSPORT),
+            LineKind::Main => write_row(&mut self.buffers, labels, words, &MAIN),
+            LineKind::System => write_row(&mut self.systems, labels, words, &SYSTEM),
+            LineKind::Clock => write_row(&mut self.clocks, labels, words, &CLOCK),
+            LineKind::Table => write_row(&mut self.tables, labels, words, &TABLE),
+            LineKind::Pid => write_row(&mut self.pids, labels, words, &PID),
+            LineKind::Unreferenced => write_row(&mut self.apart, labels, words, &UNREFERENCED),
+            LineKind::Missing => write_row(&mut self.apart, labels, words, &MISSING),
+            _ => self.take_faults(labels, kind, words),
         }
     }
 }

@@ -4,4 +4,4 @@ use Rattle.page_charts.specs.Paths.{numbered}
 use Rattle.page_charts.proofs.chart.write_each_key.Given as goal
 
 abbrev pub invariant-loop-number : goal.invariant-loop-number
-invariant-loop-number l = string_bytes l.text ++ numbered (key l.unit) l.number (drop l.number l.curves) ≡ string_bytes l.fn.text ++ numbered (key l.unit) 0 l.curves
+invariant-loop-number l = string_bytes l.text ++ numbered (key l.unit l.labels) l.number (drop l.number l.curves) ≡ string_bytes l.fn.text ++ numbered (key l.unit l.labels) 0 l.curves

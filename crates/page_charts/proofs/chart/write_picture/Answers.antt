@@ -10,6 +10,6 @@ pub returns : goal.returns
 unfolding spec.picture
 returns c = four c.push_str-2.result (string_bytes c.args.text.now) (string_bytes c.push_str.new.self) (string_bytes c.write_scales.new.text) (string_bytes c.write_curves.new.text)
     (string_bytes c.push_str-2.new.self) (codes "<svg class=\"chart\" viewBox=\"0 -80 9900 2560\" role=\"img\">\n") (scales_text c.args.frame.now)
-    (numbered (spec.curve c.args.frame.now) 0 c.args.curves.now) (codes "</svg>\n")
+    (numbered (spec.curve c.args.frame.now c.args.labels.now) 0 c.args.curves.now) (codes "</svg>\n")
     c.in_ok-push_str.ensures.bytes c.in_ok-write_scales.ensures c.in_ok-write_curves.ensures
     (pushed c.push_str-2.result (string_bytes c.write_curves.new.text) (string_bytes c.push_str-2.new.self) (codes "</svg>\n") c.push_str-2.ensures.bytes)

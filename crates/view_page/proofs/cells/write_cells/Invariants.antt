@@ -4,5 +4,5 @@ use Rattle.view_page.specs.Cells.{cell}
 use Rattle.view_page.proofs.cells.write_cells.Given as goal
 
 abbrev pub invariant-loop-cell : goal.invariant-loop-cell
-invariant-loop-cell l = string_bytes l.text ++ flat_map (cell (map (λ s. s.now) l.words)) (drop l.cell-index l.cells)
-    ≡ string_bytes l.fn.text ++ flat_map (cell (map (λ s. s.now) l.words)) l.cells
+invariant-loop-cell l = string_bytes l.text ++ flat_map (cell l.labels (map (λ s. s.now) l.words)) (drop l.cell-index l.cells)
+    ≡ string_bytes l.fn.text ++ flat_map (cell l.labels (map (λ s. s.now) l.words)) l.cells

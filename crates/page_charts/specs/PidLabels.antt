@@ -1,0 +1,46 @@
+-- What PIDs carry, by the lines that have come: the program of each and a word for what it carries of it, and the names of programs' services.
+use Rattle.std.specs.Prelude.{ℕ, nat_eq, List, [], ◌++◌, codes, decimal, Option, Some, None}
+use Rattle.std.specs.Map.{lookup}
+use Rattle.indexmap.specs.IndexMap.{insert_entry}
+use Rattle.page_charts.specs.declared.pid_name.PidName.{PidName}
+use Rattle.page_charts.specs.declared.pid_labels.PidProgram.{PidProgram}
+use Rattle.page_charts.specs.PidNames.{of_pid, word}
+
+-- by PID, and by program; a name is text of a page
+pub record LabelsState : Type 0 where
+  pub programs : List (ℕ × PidProgram)
+  pub services : List (ℕ × List ℕ)
+
+abbrev pub no_labels : LabelsState
+no_labels = record { programs = []; services = [] }
+
+-- the last one counts
+abbrev pub with_program : ℕ → PidProgram → LabelsState → LabelsState
+with_program pid p l = record { programs = insert_entry nat_eq l.programs pid p; services = l.services }
+
+abbrev pub with_service : ℕ → List ℕ → LabelsState → LabelsState
+with_service program name l = record { programs = l.programs; services = insert_entry nat_eq l.services program name }
+
+-- `, NAME`, where a name is known
+unfoldable pub service_text : Option (List ℕ) → List ℕ
+service_text None = []
+service_text (Some name) = codes ", " ++ name
+
+abbrev pub program_text : ℕ → List ℕ
+program_text program = codes " (program " ++ (decimal program ++ codes ")")
+
+-- `WORD, NAME (program N)`, or another name's word where no program is known
+unfoldable pub carried_text : LabelsState → PidName → Option PidProgram → List ℕ
+carried_text l name None = word name
+carried_text l name (Some p) = word p.name ++ (service_text (lookup (nat_eq p.program) l.services) ++ program_text p.program)
+
+abbrev pub carried_or : LabelsState → ℕ → PidName → List ℕ
+carried_or l pid name = carried_text l name (lookup (nat_eq pid) l.programs)
+
+-- what a PID carries
+unfoldable pub label_text : LabelsState → ℕ → List ℕ
+label_text l pid = carried_or l pid (of_pid pid)
+
+-- a PID and what it carries
+unfoldable pub pid_text : LabelsState → ℕ → PidName → List ℕ
+pid_text l pid name = codes "PID " ++ (decimal pid ++ (codes " " ++ carried_or l pid name))
