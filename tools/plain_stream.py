@@ -52,7 +52,9 @@ class Pid(syntax.Pid):
 
     def tell(self, packet, text):
         kind, *rest = text.split()
-        begins = self.begun if kind in ("truncated", "bad-pes", "section", "bad-section") and self.begun is not None else packet
+        # a pointer_field past the end of its packet is of that packet, whatever was begun before
+        of_part = kind in ("truncated", "bad-pes", "section", "bad-section") and text != "bad-section 5"
+        begins = self.begun if of_part and self.begun is not None else packet
         value = self.part[1][: int(rest[2])] if kind == "section" else rest
         value = (rest[0], self.unstamped(self.part)) if kind == "truncated" else value
         self.found.append((packet, begins, kind, value))

@@ -1,34 +1,29 @@
 -- What is fed of each stream of bytes, by one constant.
-use Rattle.std.proofs.Common.{◌≡◌, ◌∙◌, ◌<◌, ◌≤◌, ℕ, zero, suc, ◌+◌, ◌-◌, ◌*◌, ◌/◌, ◌++◌, ◌^◌, true, false, Option, Some, None, List, [], ◌∷◌, All, map, length, take, drop, slice_get, refl, sym, ap, subst, arith, drop-drop, length-append, length-drop, length-take-le, mul-le-mul_right, take-append-drop}
+use Rattle.std.proofs.Common.{◌≡◌, ◌∙◌, ◌<◌, ◌≤◌, ℕ, zero, suc, ◌+◌, ◌-◌, ◌*◌, ◌/◌, ◌++◌, ◌^◌, true, Option, Some, None, List, [], ◌∷◌, All, map, length, take, drop, slice_get, refl, sym, ap, subst, arith, drop-drop, length-drop, length-take-le, mul-le-mul_right, take-append-drop}
 use Rattle.std.specs.List.{concat}
 use Rattle.std.specs.Simd.{first_chunks}
 use Rattle.std.proofs.lemmas.List.{append_assoc, append-nil, length-map}
 use Rattle.std.proofs.lemmas.List.Elements.{All-cons, All-nil}
-use Rattle.std.proofs.lemmas.Option.{slice_get-map}
-use Rattle.std.specs.Prelude.{option_map}
-use Rattle.clock27.specs.Release.{release}
-use Rattle.pes_packet.specs.AccessUnits.{AccessUnit}
 use Rattle.ts_packet.specs.PidList.{cut_packets}
 use Rattle.demux.specs.Stream.{StreamState, finished, found_in, pushed, start, taken}
 use Rattle.demux.specs.FoundSoFar.{FoundSoFar, found_in_all, taken_all}
 use Rattle.demux.specs.Views.{FindingView}
 use Rattle.demux.proofs.FoundSoFar.{all_are_found, nothing_at_first, packets_add}
 use Rattle.packet_sync.specs.Slips.{carried}
-use Rattle.stream_units.specs.CarriedUnits.{CarriedUnit, wire_units}
+use Rattle.stream_units.specs.CarriedUnits.{CarriedUnit}
 use Rattle.stream_units.specs.Stamps.{moved}
 use Rattle.stream_units.specs.UnitSteps.{none_so_far}
 use Rattle.unit_feed.specs.Clocks.{pcr_at}
-use Rattle.unit_feed.specs.EachStream.{AreFirst, BeginsAt, AreMovedByOne, EachRises, FedByOneConstant, ReleasesRise, RiseFrom, fed_stream, found_of_all, have_fault, one_by_one, units_fed}
-use Rattle.unit_feed.specs.Feeding.{Fed, FedStreamView, FeedView, after_all, after_one, fed_all, fed_ends, fed_one, fed_to_end, feed_first}
-use Rattle.unit_feed.specs.StreamFeeding.{after_cut, fed_in, fed_of, is_packet}
-use Rattle.unit_feed.specs.Ticks.{after_packet, after_packets, after_pcr, fed_packet, fed_packets, fed_pcr}
+use Rattle.unit_feed.specs.EachStream.{AreFirst, BeginsAt, EachRises, FedByOneConstant, ReleasesRise, RiseFrom, fed_stream, found_of_all, have_fault, units_fed}
+use Rattle.unit_feed.specs.Feeding.{Fed, FedStreamView, FeedView, after_all, after_one, fed_all, fed_one, fed_to_end, feed_first}
+use Rattle.unit_feed.specs.StreamFeeding.{after_cut, fed_of, is_packet}
+use Rattle.unit_feed.specs.Ticks.{after_packets, after_pcr, fed_packets, fed_pcr}
 use Rattle.unit_feed.specs.declared.fed_map.FedMap.{FedMap}
 use Rattle.unit_feed.specs.declared.found_pcr.FoundPcr.{FoundPcr}
 use Rattle.unit_feed.proofs.FedEach.{Event, Finds, Shows, after_event, fed_event, fed_events, finds, found_by}
 use Rattle.unit_feed.proofs.FedFirst.{AreUnfed, AreWaiting, MovedByFirst, first_moved}
-use Rattle.unit_feed.proofs.FedPackets.{packets_length}
 use Rattle.unit_feed.proofs.FedRises.{rise_on}
-use Rattle.unit_feed.proofs.ListedStreams.{AreKeys, Key, key, key_at, keys}
+use Rattle.unit_feed.proofs.ListedStreams.{AreKeys, Key, key, keys}
 use Rattle.unit_feed.proofs.OwnUnits.{AreAlone, alone_first, come_carried, to_come}
 
 -- 1. Packets as findings and clock references

@@ -1,29 +1,25 @@
 -- What is fed of each stream, step by step, where nothing is told.
-use Rattle.std.proofs.Common.{◌≡◌, ◌≢◌, ◌∙◌, ◌⊎◌, ◌<◌, ◌≤◌, ℕ, zero, suc, ◌+◌, ◌++◌, ◌==◌, eqb, ◌^◌, Bool, true, false, Option, Some, None, Result, Ok, Err, List, [], ◌∷◌, map, length, slice_get, slice_set, refl, sym, ap, ap₂, subst, inl, inr, arith}
-use Rattle.std.specs.List.{flat_map, list_any}
+use Rattle.std.proofs.Common.{◌≡◌, ◌≢◌, ◌∙◌, ◌⊎◌, ◌<◌, ℕ, zero, suc, ◌+◌, ◌++◌, eqb, Bool, true, false, Option, Some, None, List, [], ◌∷◌, map, slice_get, refl, sym, ap, ap₂, subst, inl, inr, arith}
 use Rattle.std.specs.Option.{option_to_list}
 use Rattle.std.proofs.lemmas.Bool.Decides.{eqb_tells}
 use Rattle.std.proofs.lemmas.Grind.{flat_map-append}
-use Rattle.std.proofs.lemmas.List.{append-nil, append_assoc, map-append}
-use Rattle.std.proofs.lemmas.Option.{slice_get_within}
+use Rattle.std.proofs.lemmas.List.{append-nil}
 use Rattle.pes_packet.specs.AccessUnits.{AccessUnit}
 use Rattle.demux.specs.Laws.{has_pid}
 use Rattle.demux.specs.Views.{FindingView}
-use Rattle.stream_units.specs.CarriedUnits.{CarriedUnit, Ignored, RoleView, role_of}
-use Rattle.stream_units.specs.Stamps.{distance, dts_after, moved, unit_at}
+use Rattle.stream_units.specs.CarriedUnits.{CarriedUnit, role_of}
+use Rattle.stream_units.specs.Stamps.{dts_after, moved}
 use Rattle.stream_units.specs.UnitSteps.{UnitsSoFar, after_finding, ended_unit, goes_on_as, made_whole}
-use Rattle.stream_units.proofs.MovedUnits.{moved_in_turn}
-use Rattle.unit_feed.specs.EachStream.{BeginsAt, fed_if, has_fault, have_fault, units_fed}
-use Rattle.unit_feed.specs.Feeding.{Fed, FedStreamView, FeedView, after_found, after_one, before_with, due_of, fed_by, fed_ends, fed_last, fed_one, fed_with, origin_after, place_from, stream_with, whole_by}
-use Rattle.unit_feed.specs.Origins.{no_origin}
+use Rattle.unit_feed.specs.EachStream.{fed_if, have_fault, units_fed}
+use Rattle.unit_feed.specs.Feeding.{Fed, FedStreamView, FeedView, after_found, after_one, before_with, fed_by, fed_ends, fed_last, fed_one, fed_with, origin_after, place_from, stream_with, whole_by}
 use Rattle.unit_feed.specs.Ticks.{after_own, fed_own, without_unit}
 use Rattle.unit_feed.specs.declared.due.Due.{Due}
 use Rattle.unit_feed.specs.declared.found_pcr.FoundPcr.{FoundPcr}
 use Rattle.unit_feed.specs.declared.origin.Origin.{Origin}
 use Rattle.unit_feed.proofs.FedUnits.{fixed, other_role}
-use Rattle.unit_feed.proofs.FedSteps.{Gives, HasBase, Out, Rests, clock_out, fault_split, finding_gives, finding_rests, fixes_first, fixes_fixed, given_before, given_ok, given_others, given_units, units_in}
-use Rattle.unit_feed.proofs.ListedStreams.{AreKeys, Key, PlacedAt, get_set_other, get_set_same, key, key_at, keys, not_placed, placed, set_keys}
-use Rattle.unit_feed.proofs.OwnUnits.{AreAlone, alone_after, alone_without, to_come, to_come_early, to_come_last, to_come_more}
+use Rattle.unit_feed.proofs.FedSteps.{Gives, HasBase, Out, Rests, clock_out, fault_split, finding_gives, finding_rests, fixes_fixed, given_before, given_others, given_units, units_in}
+use Rattle.unit_feed.proofs.ListedStreams.{AreKeys, Key, get_set_other, get_set_same, key, key_at, keys, not_placed, placed, set_keys}
+use Rattle.unit_feed.proofs.OwnUnits.{AreAlone, alone_after, alone_without, to_come, to_come_early, to_come_more}
 
 -- 1. Findings and clock references
 

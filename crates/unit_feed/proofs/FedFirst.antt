@@ -1,25 +1,23 @@
 -- What is fed of each stream, where the first unit of all fixes the constant.
-use Rattle.std.proofs.Common.{◌≡◌, ◌≢◌, ◌∙◌, ◌⊎◌, ◌<◌, ◌≤◌, ℕ, zero, suc, ◌+◌, ◌-◌, ◌%◌, ◌++◌, ◌^◌, eqb, Bool, true, false, Option, Some, None, Result, Ok, Err, List, [], ◌∷◌, All, map, length, slice_get, slice_set, refl, sym, ap, ap₂, subst, inl, inr, arith}
-use Rattle.std.specs.List.{concat, flat_map, list_any}
+use Rattle.std.proofs.Common.{◌≡◌, ◌≢◌, ◌∙◌, ◌⊎◌, ◌<◌, ◌≤◌, ℕ, zero, suc, ◌+◌, ◌++◌, ◌^◌, eqb, true, false, Option, Some, None, Result, List, [], ◌∷◌, length, slice_get, slice_set, refl, sym, ap, ap₂, subst, inl, inr, arith}
 use Rattle.std.specs.Option.{option_to_list}
 use Rattle.std.proofs.lemmas.Bool.Decides.{eqb_tells}
 use Rattle.std.proofs.lemmas.Grind.{flat_map-append}
-use Rattle.std.proofs.lemmas.List.{append-nil, append_assoc, length-map, map-append}
+use Rattle.std.proofs.lemmas.List.{map-append}
 use Rattle.std.proofs.lemmas.Option.{slice_get_within}
 use Rattle.pes_packet.specs.AccessUnits.{AccessUnit}
-use Rattle.demux.specs.Views.{FindingView}
 use Rattle.stream_units.specs.CarriedUnits.{CarriedUnit}
 use Rattle.stream_units.specs.Stamps.{distance, dts_after, dts_at, moved, unit_at}
 use Rattle.stream_units.specs.UnitSteps.{ended_unit}
 use Rattle.stream_units.proofs.MovedUnits.{moved_in_turn}
 use Rattle.unit_feed.specs.EachStream.{BeginsAt, fed_if, have_fault, units_fed}
-use Rattle.unit_feed.specs.Feeding.{Fed, FedStreamView, FeedView, at_moment, before_with, base_of, due_of, fed_by, fed_ends, fed_last, fed_with, origin_after, stream_with}
+use Rattle.unit_feed.specs.Feeding.{Fed, FedStreamView, FeedView, at_moment, before_with, base_of, due_of, fed_ends, fed_last, fed_with, origin_after, stream_with}
 use Rattle.unit_feed.specs.Origins.{no_origin}
 use Rattle.unit_feed.specs.declared.due.Due.{Due}
 use Rattle.unit_feed.specs.declared.origin.Origin.{Origin}
 use Rattle.unit_feed.proofs.FedUnits.{fixed}
-use Rattle.unit_feed.proofs.FedSteps.{Fixes, Gives, HasBase, fault_split, fixes_first, fixes_fixed, given_ok, units_in}
-use Rattle.unit_feed.proofs.FedEach.{Advances, AreFrom, Event, Step, StepGives, StepRests, after_event, fed_event, fed_events, finds, gives_by, last_moved, rests_on, step, step_advances, step_fixed, step_keys, units_of_all}
+use Rattle.unit_feed.proofs.FedSteps.{Fixes, HasBase, fault_split, fixes_first, fixes_fixed, given_ok, units_in}
+use Rattle.unit_feed.proofs.FedEach.{AreFrom, Event, Step, StepGives, StepRests, after_event, fed_event, fed_events, finds, gives_by, last_moved, rests_on, step, step_advances, step_fixed, step_keys, units_of_all}
 use Rattle.unit_feed.proofs.ListedStreams.{AreKeys, Key, get_set_other, get_set_same, key, key_at, keys}
 use Rattle.unit_feed.proofs.OwnUnits.{AreAlone, to_come, to_come_last}
 

@@ -1,12 +1,10 @@
 -- The DTS of each stream rise, whatever is told.
-use Rattle.std.proofs.Common.{◌≡◌, ◌≢◌, ◌∙◌, ◌⊎◌, ◌<◌, ◌≤◌, ℕ, zero, suc, ◌+◌, ◌++◌, ◌==◌, eqb, ◌^◌, ◌||◌, Bool, true, false, if◌then◌else◌, IfSome, Option, Some, None, Result, Ok, Err, List, [], ◌∷◌, map, length, slice_get, slice_set, refl, sym, ap, ap₂, subst, inl, inr, arith}
-use Rattle.std.specs.List.{flat_map}
+use Rattle.std.proofs.Common.{◌≡◌, ◌≢◌, ◌∙◌, ◌⊎◌, ◌<◌, ℕ, zero, suc, ◌+◌, ◌++◌, ◌==◌, eqb, ◌^◌, ◌||◌, Bool, true, false, if◌then◌else◌, IfSome, Option, Some, None, List, [], ◌∷◌, slice_get, slice_set, refl, sym, ap, ap₂, subst, inl, inr, arith}
 use Rattle.std.specs.Option.{option_to_list}
 use Rattle.std.specs.Prelude.{nat_le}
 use Rattle.std.proofs.lemmas.Bool.Decides.{eqb_tells, nat_tests}
 use Rattle.std.proofs.lemmas.Grind.{flat_map-append}
 use Rattle.std.proofs.lemmas.List.{append-nil}
-use Rattle.std.proofs.lemmas.Option.{slice_get_within}
 use Rattle.pes_packet.specs.AccessUnits.{AccessUnit}
 use Rattle.demux.specs.Views.{FindingView}
 use Rattle.stream_units.specs.CarriedUnits.{CarriedUnit}
@@ -17,9 +15,9 @@ use Rattle.stream_units.specs.declared.stamps.StampFault.TheVariants.{DtsNotIncr
 use Rattle.stream_units.proofs.StampFaults.{or_none}
 use Rattle.unit_feed.specs.Clocks.{is_on, jump_of}
 use Rattle.unit_feed.specs.EachStream.{RiseFrom, fed_if, units_fed}
-use Rattle.unit_feed.specs.Feeding.{Fed, FedStreamView, FeedView, after_at, after_found, after_one, after_place, ahead_of, at_moment, base_of, before_with, due_of, fed_at, fed_by, fed_ends, fed_last, fed_one, fed_place, fed_unit, fed_with, feed_with, greatest_of, last_dts, map_fed, origin_after, place_from, stream_with, told_by, told_fed, told_of, unless_ahead, unless_fault, watched, whole_by}
+use Rattle.unit_feed.specs.Feeding.{Fed, FedStreamView, FeedView, after_at, after_found, after_one, after_place, ahead_of, at_moment, base_of, before_with, due_of, fed_at, fed_by, fed_ends, fed_last, fed_one, fed_place, fed_with, greatest_of, last_dts, map_fed, origin_after, place_from, stream_with, told_by, told_fed, told_of, unless_ahead, unless_fault, whole_by}
 use Rattle.unit_feed.specs.Maps.{clock_pid, new_map}
-use Rattle.unit_feed.specs.Ticks.{after_end, after_end_at, after_late, after_own, after_passed, after_shown, after_tick, fed_end, fed_end_at, fed_late, fed_own, fed_passed, fed_shown, fed_tick, is_tick, jump_fed, late_in, passed_from, tick, with_shown, without_unit}
+use Rattle.unit_feed.specs.Ticks.{after_end, after_end_at, after_late, after_passed, after_shown, after_tick, fed_end, fed_end_at, fed_late, fed_passed, fed_shown, fed_tick, is_tick, jump_fed, late_in, passed_from, tick, with_shown, without_unit}
 use Rattle.unit_feed.specs.declared.due.Due.{Due}
 use Rattle.unit_feed.specs.declared.feed_fault.ClockJump.{ClockJump}
 use Rattle.unit_feed.specs.declared.feed_fault.FeedFault.{FeedFault}
@@ -28,7 +26,7 @@ use Rattle.unit_feed.specs.declared.found_pcr.FoundPcr.{FoundPcr}
 use Rattle.unit_feed.specs.declared.origin.Origin.{Origin}
 use Rattle.unit_feed.proofs.FedEach.{Event, Finds, Shows, after_event, fed_event, fed_events}
 use Rattle.unit_feed.proofs.FedSteps.{given_others, own_unit}
-use Rattle.unit_feed.proofs.ListedStreams.{AreKeys, Key, PlacedAt, get_set_other, get_set_same, key, key_at, keys, passed, placed, set_keys}
+use Rattle.unit_feed.proofs.ListedStreams.{AreKeys, Key, get_set_other, get_set_same, key, key_at, keys, passed, placed, set_keys}
 
 -- 1. The unit that is given
 

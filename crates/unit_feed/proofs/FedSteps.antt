@@ -1,33 +1,29 @@
 -- What one finding and one clock reference do to the streams of a feed, where nothing is told.
-use Rattle.std.proofs.Common.{◌≡◌, ◌≢◌, ◌∙◌, ◌⊎◌, ◌<◌, ℕ, ◌+◌, ◌++◌, ◌==◌, eqb, ◌&&◌, ◌||◌, Bool, true, false, if◌then◌else◌, Option, Some, None, Result, Ok, Err, List, [], ◌∷◌, map, length, slice_get, slice_set, refl, sym, ap, subst, inl, inr, arith}
-use Rattle.std.specs.List.{flat_map, list_any}
+use Rattle.std.proofs.Common.{◌≡◌, ◌≢◌, ◌∙◌, ◌⊎◌, ◌<◌, ℕ, ◌++◌, ◌==◌, eqb, ◌||◌, Bool, true, false, if◌then◌else◌, Option, Some, None, Result, Ok, Err, List, [], ◌∷◌, map, slice_get, slice_set, refl, sym, ap, inl, inr, arith}
 use Rattle.std.specs.Option.{option_to_list}
 use Rattle.std.specs.Prelude.{nat_lt}
 use Rattle.std.proofs.lemmas.Bool.Decides.{eqb_tells, nat_tests}
-use Rattle.std.proofs.lemmas.Grind.{flat_map-append}
 use Rattle.std.proofs.lemmas.List.{append-nil}
 use Rattle.pes_packet.specs.AccessUnits.{AccessUnit}
-use Rattle.demux.specs.Laws.{has_pid}
 use Rattle.demux.specs.Views.{FindingView}
-use Rattle.stream_units.specs.CarriedUnits.{CarriedUnit, Ignored, role_of}
-use Rattle.stream_units.specs.Stamps.{distance, dts_after, dts_at, moved, unit_at, unit_fault}
-use Rattle.stream_units.specs.UnitSteps.{UnitsSoFar, after_finding, ended_unit, goes_on_as, made_whole}
+use Rattle.stream_units.specs.CarriedUnits.{CarriedUnit}
+use Rattle.stream_units.specs.Stamps.{distance, dts_after, moved, unit_at, unit_fault}
+use Rattle.stream_units.specs.UnitSteps.{ended_unit}
 use Rattle.stream_units.specs.declared.stamps.StampFault.{StampFault}
 use Rattle.unit_feed.specs.Clocks.{is_on, jump_of, jumps}
 use Rattle.unit_feed.specs.EachStream.{fed_if, has_fault, have_fault, units_fed}
 use Rattle.unit_feed.specs.Feeding.{Fed, FedStreamView, FeedView, after_at, after_found, after_one, after_place, ahead_of, at_moment, base_by, base_of, before_with, due_of, fed_at, fed_by, fed_one, fed_place, fed_with, feed_with, greatest_of, last_dts, map_fed, origin_after, place_from, stream_with, told_by, told_fed, told_of, unless_ahead, unless_fault, watched, whole_by}
 use Rattle.unit_feed.specs.Maps.{clock_pid, new_map}
-use Rattle.unit_feed.specs.Origins.{base_for, no_origin, origin_with}
-use Rattle.unit_feed.specs.Ticks.{after_end, after_end_at, after_late, after_moment, after_own, after_passed, after_shown, after_tick, fed_end, fed_end_at, fed_late, fed_moment, fed_own, fed_passed, fed_shown, fed_tick, is_tick, jump_fed, late_in, late_of, origin_by, passed_from, tick, with_shown, without_unit}
+use Rattle.unit_feed.specs.Origins.{no_origin, origin_with}
+use Rattle.unit_feed.specs.Ticks.{after_end, after_end_at, after_late, after_own, after_passed, after_shown, after_tick, fed_end, fed_end_at, fed_late, fed_own, fed_passed, fed_shown, fed_tick, is_tick, jump_fed, late_in, late_of, passed_from, with_shown, without_unit}
 use Rattle.unit_feed.specs.declared.due.Due.{Due}
 use Rattle.unit_feed.specs.declared.feed_fault.ClockJump.{ClockJump}
 use Rattle.unit_feed.specs.declared.feed_fault.FeedFault.{FeedFault}
 use Rattle.unit_feed.specs.declared.feed_fault.NewMap.{NewMap}
 use Rattle.unit_feed.specs.declared.found_pcr.FoundPcr.{FoundPcr}
 use Rattle.unit_feed.specs.declared.origin.Origin.{Origin}
-use Rattle.unit_feed.proofs.FedUnits.{base_first, base_fixed, fixed, origin_fixed, origin_first, other_role}
-use Rattle.unit_feed.proofs.ListedStreams.{passed, placed}
-use Rattle.unit_feed.proofs.OwnUnits.{AreAlone, alone_after, alone_without, to_come, to_come_early, to_come_more}
+use Rattle.unit_feed.proofs.FedUnits.{base_first, base_fixed, fixed, origin_fixed, origin_first}
+use Rattle.unit_feed.proofs.ListedStreams.{passed}
 
 -- 1. Nothing is told
 

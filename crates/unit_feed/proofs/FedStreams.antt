@@ -1,5 +1,5 @@
 -- What is fed of a stream, piece by piece.
-use Rattle.std.proofs.Common.{◌≡◌, inl, inr, ◌∙◌, ◌<◌, ◌≤◌, ℕ, ◌+◌, ◌-◌, ◌*◌, ◌++◌, Bool, true, false, List, [], length, take, drop, refl, sym, ap, subst, arith, drop-drop, length-drop, length-take-le, take_all, take-append-drop}
+use Rattle.std.proofs.Common.{◌≡◌, inl, inr, ◌∙◌, ◌<◌, ◌≤◌, ℕ, ◌+◌, ◌*◌, ◌++◌, Bool, true, false, List, [], length, take, drop, refl, sym, ap, subst, arith, drop-drop, length-drop, length-take-le, take_all, take-append-drop}
 use Rattle.std.specs.List.{concat}
 use Rattle.std.proofs.lemmas.List.{append_assoc, append-nil, drop_all}
 use Rattle.std.proofs.lemmas.List.Folds.{concat-append}

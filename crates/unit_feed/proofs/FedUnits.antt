@@ -11,7 +11,7 @@ use Rattle.demux.specs.Views.{FindingView}
 use Rattle.demux.specs.Laws.{has_pid}
 use Rattle.stream_units.specs.CarriedUnits.{CarriedUnit, Ignored, role_of, carried_units}
 use Rattle.stream_units.specs.Stamps.{distance, dts_at, unit_at, moved, unit_fault, fault_or, first_fault}
-use Rattle.stream_units.specs.UnitSteps.{UnitsSoFar, after_finding, after_findings, ended_unit, given, goes_on_as, has_cut, is_start_cut, lengthened, made_whole, none_so_far}
+use Rattle.stream_units.specs.UnitSteps.{UnitsSoFar, after_finding, after_findings, ended_unit, given, goes_on_as, has_cut, is_start_cut, made_whole, none_so_far}
 use Rattle.stream_units.specs.declared.stamps.StampFault.{StampFault}
 use Rattle.unit_feed.specs.declared.feed_fault.FeedFault.{FeedFault}
 use Rattle.unit_feed.specs.declared.feed_fault.Loss.{Loss}
@@ -19,7 +19,7 @@ use Rattle.unit_feed.specs.Maps.{change_place, map_from, set_place}
 use Rattle.unit_feed.specs.Origins.{base_for, no_origin, origin_with}
 use Rattle.unit_feed.specs.declared.due.Due.{Due}
 use Rattle.unit_feed.specs.declared.origin.Origin.{Origin}
-use Rattle.unit_feed.specs.Feeding.{FedStreamView, Fed, FeedView, ahead_of, unless_ahead, unless_fault, at_moment, last_dts, base_by, base_of, origin_after, before_with, fed_with, stream_with, fed_by, whole_by, after_found, lost_by, told_by, told_fed, told_of, fault_by, cut_by, unit_after, follow_after, greatest_if, due_of, with_streams, place_from, feed_with, after_at, fed_at, after_place, fed_place, after_unit, fed_unit, map_fed, after_one, fed_one, after_all, fed_all, fed_last, fed_ends, fed_to_end}
+use Rattle.unit_feed.specs.Feeding.{FedStreamView, Fed, FeedView, ahead_of, unless_ahead, unless_fault, at_moment, last_dts, base_by, base_of, origin_after, before_with, fed_with, stream_with, fed_by, whole_by, after_found, lost_by, told_by, told_fed, told_of, fault_by, unit_after, follow_after, greatest_if, due_of, with_streams, place_from, feed_with, after_at, fed_at, after_place, fed_place, after_unit, fed_unit, map_fed, after_one, fed_one, after_all, fed_all, fed_last, fed_ends, fed_to_end}
 use Rattle.stream_units.proofs.UnitSteps.{uncut_carried}
 use Rattle.unit_feed.specs.Laws.{FedAsCarried, FedInTurn, has_loss, is_loss}
 use Rattle.unit_feed.proofs.UncutUnits.{Uncut, no_unit, past_here, uncut_step, under_cut}

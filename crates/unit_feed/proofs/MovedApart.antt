@@ -1,14 +1,13 @@
 -- Units that two constants move.
-use Rattle.std.proofs.Common.{◌≡◌, ◌∙◌, ◌<◌, ◌≤◌, ℕ, zero, suc, ◌+◌, ◌-◌, ◌%◌, ◌++◌, ◌^◌, ◌==◌, Bool, true, false, if◌then◌else◌, Option, Some, None, Ok, Err, List, [], ◌∷◌, length, map, slice_get, refl, sym, ap, ap₂, subst, arith}
+use Rattle.std.proofs.Common.{◌≡◌, ◌∙◌, ◌<◌, ◌≤◌, ℕ, ◌+◌, ◌-◌, ◌%◌, ◌++◌, ◌^◌, false, Some, None, Ok, Err, List, [], ◌∷◌, length, map, slice_get, refl, sym, ap, ap₂, arith}
 use Rattle.pes_packet.specs.AccessUnits.{AccessUnit}
 use Rattle.demux.specs.Views.{FindingView}
 use Rattle.stream_units.specs.CarriedUnits.{wire_units}
 use Rattle.stream_units.specs.Stamps.{distance, dts_at, moved, unit_at}
-use Rattle.unit_feed.specs.EachStream.{AreFirst, AreMovedByOne, BeginsAt, fed_if, found_of_all, has_fault, have_fault, units_fed}
+use Rattle.unit_feed.specs.EachStream.{BeginsAt, fed_if, found_of_all, has_fault, have_fault, units_fed}
 use Rattle.unit_feed.specs.Feeding.{Fed, FedStreamView, feed_first}
 use Rattle.unit_feed.specs.MovedApart.{AreApart, AreWhole, BeginNear, FedApart, after_time}
 use Rattle.unit_feed.specs.StreamFeeding.{fed_of}
-use Rattle.unit_feed.specs.declared.fed_map.FedMap.{FedMap}
 use Rattle.unit_feed.proofs.EachStream.{by_one_constant, first_stream}
 use Rattle.unit_feed.proofs.FedSteps.{own_unit}
 

@@ -1,9 +1,8 @@
 -- The units that are still to come of a PID, also where one is given before what follows it is found.
-use Rattle.std.proofs.Common.{◌≡◌, ◌∙◌, ℕ, ◌++◌, ◌&&◌, ◌||◌, Bool, true, false, Option, Some, None, List, [], ◌∷◌, refl, sym, ap, subst}
+use Rattle.std.proofs.Common.{◌≡◌, ◌∙◌, ℕ, ◌++◌, ◌&&◌, ◌||◌, Bool, true, false, Option, Some, None, List, [], ◌∷◌, refl, sym, ap}
 use Rattle.std.specs.Option.{option_to_list}
 use Rattle.std.specs.Prelude.{unwrap_or}
 use Rattle.std.proofs.lemmas.List.{append_assoc, append-nil}
-use Rattle.demux.specs.Laws.{has_pid}
 use Rattle.demux.specs.Views.{FindingView}
 use Rattle.stream_units.specs.CarriedUnits.{CarriedUnit, RoleView, Ignored, Start, Continuation, Interruption, end_of, is_cut, role_of, carried_units}
 use Rattle.stream_units.specs.UnitSteps.{UnitsSoFar, after_finding, after_findings, ended_unit, given, goes_on_as, has_cut, is_start_cut, lengthened, made_whole, none_so_far}

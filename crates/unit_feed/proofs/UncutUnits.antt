@@ -1,5 +1,5 @@
 -- A unit under way that is not cut by what comes after it.
-use Rattle.std.proofs.Common.{◌≡◌, ◌∙◌, ℕ, ◌==◌, ◌&&◌, Bool, true, false, Option, Some, None, List, [], ◌∷◌, refl}
+use Rattle.std.proofs.Common.{◌≡◌, ℕ, ◌==◌, ◌&&◌, Bool, true, false, Option, Some, None, List, ◌∷◌, refl}
 use Rattle.std.specs.Prelude.{is_some, not, unwrap_or}
 use Rattle.demux.specs.Views.{FindingView}
 use Rattle.stream_units.specs.CarriedUnits.{CarriedUnit, RoleView, Ignored, Start, Continuation, Interruption, role_of, end_of, is_cut}

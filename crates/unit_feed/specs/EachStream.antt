@@ -7,9 +7,9 @@ use Rattle.demux.specs.Stream.{start, pushed, finished}
 use Rattle.demux.specs.Views.{FindingView}
 use Rattle.packet_sync.specs.Slips.{carried}
 use Rattle.stream_units.specs.CarriedUnits.{RoleView, Ignored, Start, Continuation, Interruption, role_of, wire_units}
-use Rattle.stream_units.specs.Stamps.{first_fault, moved}
+use Rattle.stream_units.specs.Stamps.{moved}
 use Rattle.stream_units.specs.UnitSteps.{none_so_far}
-use Rattle.unit_feed.specs.Feeding.{Fed, FedStreamView, FeedView, feed_first}
+use Rattle.unit_feed.specs.Feeding.{Fed, FedStreamView, feed_first}
 use Rattle.unit_feed.specs.StreamFeeding.{fed_of}
 use Rattle.unit_feed.specs.declared.fed_map.FedMap.{FedMap}
 

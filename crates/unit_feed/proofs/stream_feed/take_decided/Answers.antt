@@ -1,4 +1,4 @@
-use Rattle.std.proofs.Common.{◌≡◌, ◌≤◌, ◌-◌, ◌∙◌, ℕ, true, false, refl, sym, ap, arith, length, length-drop, length-take-le, take}
+use Rattle.std.proofs.Common.{◌≡◌, ◌≤◌, ◌∙◌, ℕ, true, false, refl, sym, ap, arith, length, length-drop, length-take-le, take}
 use Rattle.unit_feed.proofs.FedStreams.{ended_last, is_last, stretch_fed}
 use Rattle.unit_feed.proofs.stream_feed.take_decided.Goals as goal
 

@@ -1,4 +1,4 @@
-use Rattle.std.proofs.Common.{◌≡◌, ◌<◌, ◌++◌, ◌∙◌, Some, None, List, length, slice_get, sym, ap, rules, arith}
+use Rattle.std.proofs.Common.{◌≡◌, ◌<◌, ◌++◌, ◌∙◌, None, List, length, sym, ap, rules, arith}
 use Rattle.demux.specs.Shown.{finding_view}
 use Rattle.unit_feed.specs.Feeding.{FedStreamView, FeedView, due_of, place_from, after_unit, fed_unit}
 use Rattle.unit_feed.proofs.FedUnits.{no_place_after, no_place_fed, placed_after, placed_fed}

@@ -3,7 +3,6 @@ use Rattle.view_page.specs.declared.report_lines.LineKind.{LineKind}
 use Rattle.page_charts.specs.PidLabels.{LabelsState}
 use Rattle.view_page.specs.PageLabels as labels
 use Rattle.view_page.specs.Pages.{IsPage, PageState, after_kind}
-use Rattle.view_page.specs.RowTexts.{RowTexts}
 use Rattle.view_page.specs.Rows as rows
 use Rattle.view_page.specs.Values as values
 use Rattle.view_page.proofs.page.Page.take_words.Goals as goal
