@@ -19,6 +19,7 @@ returns-clause-seen c =
       tables = c.self.inside.tables;
       systems = c.self.inside.systems;
       named = c.self.inside.named;
+      services = c.self.inside.services;
     } in
     on_ok c.pass_null.result (λ e. ap (λ (t : TablesState). record seen { tables = t }) e ∙ ap (λ (s : SeenState). with_sections s null_packet) c.self.view_is)
     (c.pass_null.ensures.tables seen.options)
