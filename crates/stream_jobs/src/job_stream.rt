@@ -52,5 +52,5 @@ impl<U> Model for JobStream<U> {
 pub(crate) fn is_stream_of(number: u16, stream: &WireStream) -> bool
     ensures { result ≡ spec.is_stream_of number stream.now }
 {
-    stream.program == number || stream.shared_with.contains(&number)
+    stream.program == number || stream.shared_with.iter().any(|other| *other == number)
 }
