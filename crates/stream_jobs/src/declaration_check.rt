@@ -88,6 +88,7 @@ fn is_entry(declared: &StreamDescription, stream: &TimedStream) -> bool
         && declared.stream_id == stream.stream_id
         && declared.stream_type == stream.stream_type
         && declared.descriptors.as_bytes() == stream.descriptors.as_slice()
+        && declared.shared_with.as_slice() == stream.shared_with.as_slice()
 }
 
 // Whether a stream is the declared one, and its units are as declared.
