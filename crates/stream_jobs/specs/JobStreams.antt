@@ -1,9 +1,9 @@
 -- The elementary streams of a job.
 use Rattle.std.specs.Prelude.{ℕ, ◌==◌, ◌||◌, Bool, List, refl}
-use Rattle.std.specs.List.{list_any}
 use Rattle.std.specs.Coded.{Coded, code_by, coded×, coded_list, coded_ℕ}
 use Rattle.pes_packet.specs.AccessUnits.{AccessUnit}
 use Rattle.stream_units.specs.CarriedUnits.{CarriedUnit}
+use Rattle.stream_jobs.specs.JobOptions.{is_among}
 
 -- an elementary stream of a program: what its map says, the stream_id of its PES packets, the other programs that share it, and its
 -- units
@@ -44,4 +44,4 @@ TimedStreamView = JobStreamView AccessUnit
 
 -- a program has a stream, as its own or a shared one
 unfoldable pub is_stream_of : ℕ → WireStreamView → Bool
-is_stream_of number s = s.program == number || list_any (λ n. n == number) s.shared_with
+is_stream_of number s = s.program == number || is_among number s.shared_with

@@ -3,6 +3,7 @@
 ghost use Rattle.std.specs.Prelude.{◌≡◌};
 ghost use Rattle.stream_jobs.specs.JobStreams as spec;
 
+use crate::job_options::is_among;
 use pes_packet::Unit;
 use std::marker::Model;
 use stream_units::WireUnit;
@@ -52,5 +53,5 @@ impl<U> Model for JobStream<U> {
 pub(crate) fn is_stream_of(number: u16, stream: &WireStream) -> bool
     ensures { result ≡ spec.is_stream_of number stream.now }
 {
-    stream.program == number || stream.shared_with.iter().any(|other| *other == number)
+    stream.program == number || is_among(number, &stream.shared_with)
 }
