@@ -1,6 +1,7 @@
 //! An elementary stream of a job.
 
-ghost use Rattle.std.specs.Prelude.{◌≡◌};
+ghost use Rattle.std.specs.Prelude.{◌≡◌, ◌==◌};
+ghost use Rattle.std.specs.List.{list_any};
 ghost use Rattle.stream_jobs.specs.JobStreams as spec;
 
 use pes_packet::Unit;
@@ -47,10 +48,20 @@ impl<U> Model for JobStream<U> {
     } };
 }
 
+// Whether a number is one of these.
+fn is_one_of(number: u16, numbers: &[u16]) -> bool
+    ensures { result ≡ list_any (λ n. n == number) numbers.now }
+{
+    numbers.iter().any(|other| *other == number)
+}
+
 /// Whether a program has a stream, as its own or a shared one.
 #[tactic(auto, unfolding(crate::specs::JobStreams::is_stream_of))]
 pub(crate) fn is_stream_of(number: u16, stream: &WireStream) -> bool
     ensures { result ≡ spec.is_stream_of number stream.now }
 {
-    stream.program == number || stream.shared_with.iter().any(|other| *other == number)
+    if stream.program == number {
+        return true;
+    }
+    is_one_of(number, &stream.shared_with)
 }
