@@ -3,7 +3,7 @@ use Rattle.std.specs.Prelude.{ℕ, ◌+◌, ◌-◌, ◌*◌, ◌/◌, ◌==◌,
 use Rattle.std.specs.List.{list_any}
 use Rattle.pes_packet.specs.AccessUnits.{AccessUnit}
 use Rattle.demux.specs.Views.{FindingView}
-use Rattle.other_tables.specs.SteadySections.{SteadySections, steady_sections}
+use Rattle.other_tables.specs.SteadySections.{SteadySectionsView, steady_sections}
 use Rattle.stream_programs.specs.Streams.{FoundStreamView}
 use Rattle.stream_programs.specs.declared.omission.TableOmission.{TableOmission}
 use Rattle.stream_programs.specs.declared.omission.TableOmission.TheVariants.{NoPes}
@@ -54,7 +54,7 @@ unfoldable pub span_if : Option WireStreamView → ℕ
 span_if None = 0
 span_if (Some s) = packet_span s.units
 
-abbrev pub table_of : List WireStreamView → FoundStreamView → SteadySections → JobTableView
+abbrev pub table_of : List WireStreamView → FoundStreamView → SteadySectionsView → JobTableView
 table_of streams e steady = record {
   program = e.program;
   pid = e.pid;
@@ -65,7 +65,7 @@ table_of streams e steady = record {
   packets = span_if (find (is_stream_of e.program) streams);
 }
 
-unfoldable pub table_if : List WireStreamView → FoundStreamView → Option SteadySections → List JobTableView
+unfoldable pub table_if : List WireStreamView → FoundStreamView → Option SteadySectionsView → List JobTableView
 table_if streams e None = []
 table_if streams e (Some steady) = table_of streams e steady ∷ []
 
