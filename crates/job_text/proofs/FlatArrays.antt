@@ -67,6 +67,13 @@ next_parts bytes_of (b ∷ parts) = ap (λ (t : List ℕ). next_digits (bytes_of
 pub digits_written : (key b : List ℕ) (bs all : List (List ℕ)) → all ≡ b ∷ bs → digits_line key b bs ≡ key_line key (array (digits_of all))
 digits_written key b bs all is = rw is (digits_some key b bs)
 
+pub digits_all : {P : Type 0} (bytes_of : P → List ℕ) (key : List ℕ) (b : P) (bs all : List P) → all ≡ b ∷ bs →
+    (key ++ (codes " = [" ++ string_text (encode_lower (bytes_of b)))) ++ (flat_map (λ p. next_digits (bytes_of p)) bs ++ codes "]\n")
+    ≡ key_line key (array (digits_of (map bytes_of all)))
+digits_all bytes_of key b bs all is =
+    ap (λ (t : List ℕ). (key ++ (codes " = [" ++ string_text (encode_lower (bytes_of b)))) ++ (t ++ codes "]\n")) (next_parts bytes_of bs)
+    ∙ digits_written key (bytes_of b) (map bytes_of bs) (map bytes_of all) (ap (map bytes_of) is)
+
 -- 2. As TOML reads it
 
 -- numbers and strings alone

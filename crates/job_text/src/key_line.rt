@@ -6,7 +6,7 @@ ghost use Rattle.toml_writer.specs.Text.{string_text};
 ghost use Rattle.std.specs.List.{flat_map};
 ghost use Rattle.toml.specs.Data.{string, boolean, array};
 ghost use Rattle.job_text.specs.KeyLines.{key_line, number_line, field_line, table_header, header, hex_line, list_line};
-ghost use Rattle.job_text.specs.KeyLines.{next_number, array_line, digits_of, next_digits, digits_line};
+ghost use Rattle.job_text.specs.KeyLines.{next_number, array_line, digits_of, next_digits};
 
 use std::alloc::{AllocError, Allocator, Global};
 use std::fmt;
@@ -188,7 +188,6 @@ fn write_first(alloc: Global, text: &mut String, key: &str, bytes: &[u8]) -> Res
 }
 
 // A key with an array of strings of digits.
-#[tactic(auto, using(crate::proofs::FlatArrays::next_parts))]
 fn write_digits_array(
     alloc: Global,
     text: &mut String,
@@ -196,8 +195,9 @@ fn write_digits_array(
     first: &[u8],
     others: &[Vec<u8>],
 ) -> Result<(), AllocError>
-    ensures { OnOk result (string_bytes text.new
-        ≡ string_bytes text.old ++ digits_line key.now first.now (map (λ b. b.items) others.now)) }
+    ensures { OnOk result (string_bytes text.new ≡ string_bytes text.old
+        ++ ((key.now ++ (codes " = [" ++ string_text (encode_lower first.now)))
+        ++ (flat_map (λ b. next_digits b.items) others.now ++ codes "]\n"))) }
 {
     write_first(alloc, text, key, first)?;
     write_next_digits(alloc, text, others)?;
@@ -205,7 +205,7 @@ fn write_digits_array(
 }
 
 /// Bytes as strings of digits, in an array.
-#[tactic(auto, using(crate::proofs::FlatArrays::digits_written), unfolding(crate::specs::KeyLines::key_line))]
+#[tactic(auto, using(crate::proofs::FlatArrays::digits_all), unfolding(crate::specs::KeyLines::key_line))]
 pub(crate) fn write_digits_list(
     alloc: Global,
     text: &mut String,
