@@ -62,7 +62,7 @@ nothing_written [] (p ∷ plan) units = rw (cons_is_not p plan) (sym (cons_is_no
 nothing_written (t ∷ text) plan units = rw (cons_is_not t text) (sym (cons_is_not t ((text ++ plan) ++ records_of units)))
 
 pub given_job : (w : JobOptionsView) (findings : List FindingView) (m : JobInputView) (text plan : List ℕ) (d : Described) (p q : Planned) (units : List (ℕ × AccessUnit)) →
-    IsJob w findings m d text units → AreUnits w.make_dts findings d units → AllAgree d m → IsServing d p → IsUtf8 text → plan_error q.slots q.certificate ≡ None → plan ≡ plan_text q → q ≡ p →
+    IsJob w m d text units → AreUnits w.make_dts findings d units → AllAgree d m → IsServing d p → IsUtf8 text → plan_error q.slots q.certificate ≡ None → plan ≡ plan_text q → q ≡ p →
     GivesJob w findings m (written text plan units)
 given_job w findings m text plan d p q units j u a s utf8 within e f = record {
   description = d;
@@ -84,34 +84,34 @@ four_texts a b c d first second third fourth e f h k =
     k ∙ ap (λ (x : List ℕ). x ++ fourth) (h ∙ ap (λ (x : List ℕ). x ++ third) (f ∙ ap (λ (x : List ℕ). x ++ second) e))
 
 -- reasons, and what is found by trying rates
-pub told_nothing : (w : JobOptionsView) (findings : List FindingView) (m : JobInputView) (lines output : List ℕ) → (length lines == 0) ≡ true → output ≡ lines →
-    IsTold (length lines == 0) w findings m lines output
-told_nothing w findings m lines output e h = subst (λ (b : Bool). IsTold b w findings m lines output) (sym e) h
+pub told_nothing : (w : JobOptionsView) (m : JobInputView) (lines output : List ℕ) → (length lines == 0) ≡ true → output ≡ lines →
+    IsTold (length lines == 0) w m lines output
+told_nothing w m lines output e h = subst (λ (b : Bool). IsTold b w m lines output) (sym e) h
 
-pub told_found : (w : JobOptionsView) (findings : List FindingView) (m : JobInputView) (lines output : List ℕ) (found : Option ℕ) → (length lines == 0) ≡ false →
-    IsFound w findings m found → output ≡ lines ++ found_line found → IsTold (length lines == 0) w findings m lines output
-told_found w findings m lines output found e f h =
-    subst (λ (b : Bool). IsTold b w findings m lines output) (sym e) (record { found = found; tried = f; is = h })
+pub told_found : (w : JobOptionsView) (m : JobInputView) (lines output : List ℕ) (found : Option ℕ) → (length lines == 0) ≡ false →
+    IsFound w m found → output ≡ lines ++ found_line found → IsTold (length lines == 0) w m lines output
+told_found w m lines output found e f h =
+    subst (λ (b : Bool). IsTold b w m lines output) (sym e) (record { found = found; tried = f; is = h })
 
 -- 2. What a job input leads to
 
-undescribed : (rate : Option ℕ) (w : JobOptionsView) (findings : List FindingView) (m : JobInputView) → IsWhyNoDescription rate w findings m Memory
-undescribed (Some arguments) w findings m = refl
-undescribed None w findings m = tt
+undescribed : (rate : Option ℕ) (w : JobOptionsView) (m : JobInputView) → IsWhyNoDescription rate w m Memory
+undescribed (Some arguments) w m = refl
+undescribed None w m = tt
 
-unreasoned : (rate : Option ℕ) (w : JobOptionsView) (findings : List FindingView) (m : JobInputView) → IsWhyNoReasons rate w findings m Memory
-unreasoned (Some arguments) w findings m = tt
-unreasoned None w findings m = tt
+unreasoned : (rate : Option ℕ) (w : JobOptionsView) (m : JobInputView) → IsWhyNoReasons rate w m Memory
+unreasoned (Some arguments) w m = tt
+unreasoned None w m = tt
 
 -- there is no memory for what a subcommand gives
-pub no_memory : (subcommand : Subcommand) (w : JobOptionsView) (findings : List FindingView) (m : JobInputView) (error : JobError) → error ≡ Memory → Withholds subcommand w findings m error
-no_memory Whole w findings m error e = subst (λ (x : JobError). Withholds Whole w findings m x) (sym e) tt
-no_memory Describe w findings m error e = subst (λ (x : JobError). Withholds Describe w findings m x) (sym e) (undescribed w.rate w findings m)
-no_memory Units w findings m error e = e
-no_memory Why w findings m error e = subst (λ (x : JobError). Withholds Why w findings m x) (sym e) (unreasoned w.rate w findings m)
+pub no_memory : (subcommand : Subcommand) (w : JobOptionsView) (m : JobInputView) (error : JobError) → error ≡ Memory → Withholds subcommand w m error
+no_memory Whole w m error e = subst (λ (x : JobError). Withholds Whole w m x) (sym e) tt
+no_memory Describe w m error e = subst (λ (x : JobError). Withholds Describe w m x) (sym e) (undescribed w.rate w m)
+no_memory Units w m error e = e
+no_memory Why w m error e = subst (λ (x : JobError). Withholds Why w m x) (sym e) (unreasoned w.rate w m)
 
 pub withheld : (arguments : JobArgumentsView) (notes : PacketNotesView) (findings : List FindingView) (m : JobInputView) (error : JobError) (o : Outcome) →
-    Withholds arguments.subcommand arguments.options findings m error → ReportsWhy error o → InputLeads arguments notes findings (Ok m) o
+    Withholds arguments.subcommand arguments.options m error → ReportsWhy error o → InputLeads arguments notes findings (Ok m) o
 withheld arguments notes findings m Memory o h t = absurd t
 withheld arguments notes findings m (Refused refusal) o h t = inr (record { refusal = refusal; holds = h; is = t })
 

@@ -2,6 +2,7 @@
 
 ghost use Rattle.std.specs.Prelude.{◌≡◌, ◌==◌, ◌&&◌, ◌≤◌, IfErr, IfOk, List, None, Ok, ℕ, length, map, string_bytes};
 ghost use Rattle.demux.specs.Shown.{finding_view};
+ghost use Rattle.demux.specs.Views.{FindingView};
 ghost use Rattle.packet_sync.specs.OtherPackets.{other_packets};
 ghost use Rattle.slot_plan.specs.Planned.{plan_error};
 ghost use Rattle.slot_plan.specs.Text.{plan_text};
@@ -90,17 +91,13 @@ fn plan_text(alloc: Global, plan: &Plan) -> Result<String, AllocError>
 }
 
 // The whole job.
-fn job_output(
-    alloc: Global,
-    options: &JobOptions<'_>,
-    findings: &[Finding<'_>],
-    input: JobInput,
-) -> Result<JobText, JobError>
-    requires { AreStreams options.now.make_dts (map finding_view findings.now) input }
-    ensures given { IfOk result (λ p. spec.GivesJob options.now (map finding_view findings.now) input p) }
-    ensures withheld { IfErr result (IsWhyNoJob options.now (map finding_view findings.now) input) }
+fn job_output(alloc: Global, options: &JobOptions<'_>, input: JobInput) -> Result<JobText, JobError>
+    requires { length input.streams ≤ 32 }
+    ensures given { (findings : List FindingView) → AreStreams options.now.make_dts findings input →
+        IfOk result (λ p. spec.GivesJob options.now findings input p) }
+    ensures withheld { IfErr result (IsWhyNoJob options.now input) }
 {
-    let Job { text, plan, units } = make_job(alloc, options, findings, input)?;
+    let Job { text, plan, units } = make_job(alloc, options, input)?;
     let plan = plan_text(alloc, plan.plan())?;
     Ok(JobText { text, plan, units })
 }
@@ -109,14 +106,12 @@ fn job_output(
 fn description_output(
     alloc: Global,
     options: &JobOptions<'_>,
-    findings: &[Finding<'_>],
     input: &JobInput,
 ) -> Result<JobText, JobError>
-    ensures given { IfOk result (λ p. IsDescription options.now (map finding_view findings.now) input.now p) }
-    ensures withheld { IfErr result
-        (IsWhyNoDescription options.now.rate options.now (map finding_view findings.now) input.now) }
+    ensures given { IfOk result (λ p. IsDescription options.now input.now p) }
+    ensures withheld { IfErr result (IsWhyNoDescription options.now.rate options.now input.now) }
 {
-    let text = describe(alloc, options, findings, input)?;
+    let text = describe(alloc, options, input)?;
     Ok(only_text(alloc, text))
 }
 
@@ -138,21 +133,19 @@ fn unit_output(alloc: Global, input: JobInput) -> Result<JobText, JobError>
 fn output_for(
     alloc: Global,
     arguments: &JobArguments<'_>,
-    findings: &[Finding<'_>],
     input: JobInput,
 ) -> Result<JobText, JobError>
-    requires { AreStreams arguments.now.options.make_dts (map finding_view findings.now) input }
-    ensures given { IfOk result (λ p.
-        spec.Gives arguments.now.subcommand arguments.now.options (map finding_view findings.now) input p) }
-    ensures withheld { IfErr result
-        (spec.Withholds arguments.now.subcommand arguments.now.options (map finding_view findings.now) input) }
+    requires { length input.streams ≤ 32 }
+    ensures given { (findings : List FindingView) → AreStreams arguments.now.options.make_dts findings input →
+        IfOk result (λ p. spec.Gives arguments.now.subcommand arguments.now.options findings input p) }
+    ensures withheld { IfErr result (spec.Withholds arguments.now.subcommand arguments.now.options input) }
 {
     let options = arguments.options();
     match arguments.subcommand {
-        Subcommand::Whole => job_output(alloc, &options, findings, input),
-        Subcommand::Describe => description_output(alloc, &options, findings, &input),
+        Subcommand::Whole => job_output(alloc, &options, input),
+        Subcommand::Describe => description_output(alloc, &options, &input),
         Subcommand::Units => unit_output(alloc, input),
-        Subcommand::Why => reason_output(alloc, &options, findings, &input),
+        Subcommand::Why => reason_output(alloc, &options, &input),
     }
 }
 
@@ -223,15 +216,14 @@ fn job_outcome(
 ) -> Result<JobOutcome, JobError>
     requires { AreStreams arguments.now.options.make_dts (map finding_view findings.now) input }
     ensures given { IfOk result (λ a. spec.IsGiven arguments.now notes.now (map finding_view findings.now) input a) }
-    ensures withheld { IfErr result
-        (spec.Withholds arguments.now.subcommand arguments.now.options (map finding_view findings.now) input) }
+    ensures withheld { IfErr result (spec.Withholds arguments.now.subcommand arguments.now.options input) }
 {
     let told = told_warnings(alloc, arguments.whole, &input.warnings)?;
     let fields = told_fields(alloc, &input, &notes.fields)?;
     let tables = other_tables(alloc, findings)?;
     let report = loss_report(alloc, &notes.slips, &fields, &tables, &told)?;
     let less = is_less(&notes.slips, &fields, &tables, &told);
-    let output = output_for(alloc, arguments, findings, input)?;
+    let output = output_for(alloc, arguments, input)?;
     let status = status_of(arguments.subcommand, &output, less);
     Ok(JobOutcome {
         output,

@@ -29,10 +29,10 @@ use Rattle.tsmux_cli.specs.Multiplexing.{IsKept, Muxes, packets_of}
 abbrev pub as_mux_job : {w : JobOptionsView} {findings : List FindingView} {m : JobInputView} {output : List ℕ} → GivesJob w findings m output → MuxJobView
 as_mux_job job = record { description = job.description; plan = job.plan; second = None; units = job.units }
 
--- so a job is read, whatever words ask for it
+-- so a job is read, whatever words ask for it and whatever stream it is made of
 abbrev pub WrittenIsRead : Type 0
-WrittenIsRead = (words : List Text) (a : JobArgumentsView) (findings : List FindingView) (m : JobInputView) (output : List ℕ) → arguments_in words ≡ Some a →
-    (job : GivesJob a.options findings m output) → mux_job_of false output ≡ Ok (as_mux_job job)
+WrittenIsRead = (words : List Text) (a : JobArgumentsView) (count : ℕ) (findings : List FindingView) (m : JobInputView) (output : List ℕ) → arguments_in words ≡ Some a →
+    job_input a.options count findings ≡ Ok m → (job : GivesJob a.options findings m output) → mux_job_of false output ≡ Ok (as_mux_job job)
 
 -- ---- both programs
 

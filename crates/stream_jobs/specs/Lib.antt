@@ -9,6 +9,7 @@ pub mod WireStreams
 pub mod ProgramClocks
 pub mod JobPrograms
 pub mod Events
+pub mod Information
 pub mod Moments
 pub mod Declarations
 pub mod JobInput

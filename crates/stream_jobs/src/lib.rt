@@ -2,7 +2,8 @@
 //!
 //! `job_input` says what a job takes from what a demultiplexer finds, with which warnings, and what it refuses
 //! (`specs/JobInput`). Step by step: the packets (`specs/Packets`), the programs and streams that the options select
-//! (`specs/JobOptions`, `specs/GivenNames`, `specs/JobPrograms`), their units with the stamps on the wire (`specs/WireStreams`) and at
+//! (`specs/JobOptions`, `specs/GivenNames`, `specs/JobPrograms`), what is said of the transport stream as a whole
+//! (`specs/Information`), the units of the streams with the stamps on the wire (`specs/WireStreams`) and at
 //! moments of a run (`specs/Moments`, `specs/ProgramClocks`, `specs/ClockBases`), and what is declared of them (`specs/Declarations`). `specs/Warnings` has the
 //! warnings. `describe` and `make_job` write the description (`specs/Texts`), find a rate with a plan (`specs/Rates`),
 //! and give the units in order (`specs/Jobs`), or say why there is no job (`specs/WhyNoJob`).
@@ -15,6 +16,7 @@ mod declarations;
 mod description_draft;
 mod earliest;
 mod given_names;
+mod information;
 mod input;
 mod job;
 mod job_events;
