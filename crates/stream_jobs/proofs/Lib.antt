@@ -3,6 +3,8 @@ mod Elements
 pub mod JobUnits
 mod AndThen
 mod JobInputs
+mod NewPlaces
+pub mod NewNumbersApart
 mod Each
 mod CarriedStreams
 mod TriedRates
@@ -10,3 +12,6 @@ mod FirstWhy
 pub mod Steps
 pub mod MovedInputs
 pub mod ClockConstants
+mod JoinedSteps
+pub mod JoinedStreams
+pub mod JoinedUnits

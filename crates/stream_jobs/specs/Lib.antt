@@ -1,6 +1,7 @@
 pub mod ClockBases
 pub mod GivenNames
 pub mod JobOptions
+pub mod NewNumbers
 pub mod Answers
 pub mod Packets
 pub mod Warnings
@@ -18,4 +19,6 @@ pub mod FoundUnits
 pub mod ClockConstants
 pub mod Rates
 pub mod Jobs
+pub mod RenumberedInputs
+pub mod JoinedInputs
 pub mod WhyNoJob

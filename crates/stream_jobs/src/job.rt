@@ -1,10 +1,13 @@
 //! A job: a description, a plan that serves it, and the units of its streams.
 
-ghost use Rattle.std.specs.Prelude.{◌≡◌, ◌≤◌, Bool, IfErr, IfOk, List, None, length, map, string_bytes};
+ghost use Rattle.std.specs.Prelude.{◌≡◌, ◌≤◌, All, Bool, IfErr, IfOk, List, None, length, map, string_bytes};
+ghost use Rattle.std.specs.List.{AllZip};
 ghost use Rattle.demux.specs.Views.{FindingView};
 ghost use Rattle.slot_plan.specs.Conditions.{IsServing};
 ghost use Rattle.unit_order.specs.Merging.{AreMerged};
-ghost use Rattle.stream_jobs.specs.Jobs.{AllAgree, AreStreams, AreUnits, IsDescription, IsJob, IsText, IsUnplanned};
+ghost use Rattle.stream_jobs.specs.Jobs.{AllAgree, AreStreams, AreUnits, FitsQueue, IsDescription, IsJob, IsText, IsUnplanned};
+ghost use Rattle.stream_jobs.specs.JoinedInputs.{AreUnitsIn, IsFoundIn};
+ghost use Rattle.stream_jobs.specs.declared.joined_inputs.Origin.{Origin};
 ghost use Rattle.stream_jobs.specs.Rates.{IsAskedOrFirst, IsPlanned, IsRate, IsServed, IsTried};
 ghost use Rattle.stream_jobs.specs.WhyNoJob.{IsWhyNoDescription, IsWhyNoJob, IsWhyNoPlan, IsWhyNoReasons};
 ghost use Rattle.stream_jobs.specs.declared.refusal.JobError.TheVariants.{Memory};
@@ -75,7 +78,7 @@ fn agreed_plan(
     }
 }
 
-/// The job of this input. Its units are those of the streams, wherever these were found.
+/// The job of this input. Its units are those of the streams, wherever these were found: in one input, or in several that are joined.
 pub fn make_job(alloc: Global, options: &JobOptions<'_>, input: JobInput) -> Result<Job, JobError>
     requires { length input.streams ≤ 32 }
     ensures job { IfOk result (λ j. IsJob options.now input j.plan.description
@@ -83,6 +86,9 @@ pub fn make_job(alloc: Global, options: &JobOptions<'_>, input: JobInput) -> Res
     ensures text { IfOk result (λ j. IsText j.plan.description (string_bytes j.text)) }
     ensures units { (made : Bool) (findings : List FindingView) → AreStreams made findings input →
         IfOk result (λ j. AreUnits made findings j.plan.description j.units.items) }
+    ensures units_in { (made : Bool) (inputs : List (List FindingView)) (origins : List Origin) →
+        AllZip (IsFoundIn made inputs) origins input.streams → All FitsQueue input.streams →
+        IfOk result (λ j. AreUnitsIn made inputs origins j.plan.description j.units.items) }
     ensures agree { IfOk result (λ j. AllAgree j.plan.description input) }
     ensures refused { IfErr result (IsWhyNoJob options.now input) }
 {
