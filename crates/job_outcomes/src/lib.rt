@@ -8,9 +8,11 @@
 
 mod carried_stream;
 mod job_arguments;
+mod joined_outcome;
 mod outcome;
 mod reading;
 mod reason_output;
+mod several_inputs;
 mod written;
 
 pub use job_arguments::{JobArguments, Subcommand};

@@ -9,7 +9,9 @@ ghost use Rattle.slot_plan.specs.Text.{plan_text};
 ghost use Rattle.stream_jobs.specs.Jobs.{AreStreams, IsDescription};
 ghost use Rattle.stream_jobs.specs.WhyNoJob.{IsWhyNoDescription, IsWhyNoJob};
 ghost use Rattle.stream_jobs.specs.declared.refusal.JobError.TheVariants.{Memory};
+ghost use Rattle.stream_jobs.specs.JoinedInputs.{AreStreamsIn, JoinedInputsView};
 ghost use Rattle.job_outcomes.specs.Outcomes as spec;
+ghost use Rattle.job_outcomes.specs.SeveralInputs as spec_several;
 ghost use Rattle.job_outcomes.specs.Streams.{IsRead};
 ghost use Rattle.devices.specs.Outcomes.{reported};
 ghost use Rattle.job_lines.specs.SlipLines.{packets_line};
@@ -95,6 +97,8 @@ fn job_output(alloc: Global, options: &JobOptions<'_>, input: JobInput) -> Resul
     requires { length input.streams ≤ 32 }
     ensures given { (findings : List FindingView) → AreStreams options.now.make_dts findings input →
         IfOk result (λ p. spec.GivesJob options.now findings input p) }
+    ensures given_in { (inputs : List (List FindingView)) (j : JoinedInputsView) → j.input ≡ input →
+        AreStreamsIn options.now.make_dts inputs j → IfOk result (λ p. spec_several.GivesJobIn options.now inputs j p) }
     ensures withheld { IfErr result (IsWhyNoJob options.now input) }
 {
     let Job { text, plan, units } = make_job(alloc, options, input)?;
@@ -130,7 +134,7 @@ fn unit_output(alloc: Global, input: JobInput) -> Result<JobText, JobError>
 }
 
 // The output of a subcommand.
-fn output_for(
+pub(crate) fn output_for(
     alloc: Global,
     arguments: &JobArguments<'_>,
     input: JobInput,
@@ -138,6 +142,9 @@ fn output_for(
     requires { length input.streams ≤ 32 }
     ensures given { (findings : List FindingView) → AreStreams arguments.now.options.make_dts findings input →
         IfOk result (λ p. spec.Gives arguments.now.subcommand arguments.now.options findings input p) }
+    ensures given_in { (inputs : List (List FindingView)) (j : JoinedInputsView) → j.input ≡ input →
+        AreStreamsIn arguments.now.options.make_dts inputs j →
+        IfOk result (λ p. spec_several.GivesIn arguments.now.subcommand arguments.now.options inputs j p) }
     ensures withheld { IfErr result (spec.Withholds arguments.now.subcommand arguments.now.options input) }
 {
     let options = arguments.options();
@@ -151,7 +158,7 @@ fn output_for(
 
 // The lines of what is left out.
 #[tactic(auto, using(crate::proofs::JobOutcomes::four_texts))]
-fn loss_report(
+pub(crate) fn loss_report(
     alloc: Global,
     slips: &[Slip],
     fields: &[FieldLeftOut],
@@ -170,7 +177,7 @@ fn loss_report(
 }
 
 // Whether one of these says that something is lost.
-fn is_less(slips: &[Slip], fields: &[FieldLeftOut], tables: &[OtherTable], told: &[Warning]) -> bool
+pub(crate) fn is_less(slips: &[Slip], fields: &[FieldLeftOut], tables: &[OtherTable], told: &[Warning]) -> bool
     ensures { result ≡ spec.is_less slips.now fields.now tables.now told.now }
 {
     !slips.is_empty() || are_needed(fields) || are_missed(tables) || is_damaged(told)
@@ -195,7 +202,7 @@ fn is_empty(output: &JobText) -> bool
 }
 
 // The status of an output, beside which something is lost or not.
-fn status_of(subcommand: Subcommand, output: &JobText, less: bool) -> u8
+pub(crate) fn status_of(subcommand: Subcommand, output: &JobText, less: bool) -> u8
     ensures { result ≡ spec.status_of subcommand output.now less }
 {
     let bad = match subcommand {
@@ -233,7 +240,7 @@ fn job_outcome(
 }
 
 // An outcome without output.
-fn without_output(alloc: Global, report: String) -> JobOutcome
+pub(crate) fn without_output(alloc: Global, report: String) -> JobOutcome
     ensures { result ≡ reported (string_bytes report) }
 {
     JobOutcome {
@@ -244,7 +251,7 @@ fn without_output(alloc: Global, report: String) -> JobOutcome
 }
 
 // The outcome for a stream that is refused.
-fn refused_outcome(alloc: Global, error: JobError) -> Result<JobOutcome, AllocError>
+pub(crate) fn refused_outcome(alloc: Global, error: JobError) -> Result<JobOutcome, AllocError>
     ensures { IfOk result (λ a. spec.ReportsWhy error a) }
 {
     let JobError::Refused(refusal) = error else {
