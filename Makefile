@@ -11,8 +11,8 @@ PREFIX ?= /usr/local
 .PHONY: run try install test edits bench binary tsjob tsair tsview pages picture any-stream on-air clean
 
 # The main job on an example: a plan is made for a radio service, and its 167 access units, four seconds of MPEG audio, become
-# a transport stream with all its tables; what is in that stream is listed, and the monitor reports on it. Where tsview is built, the stream
-# and the plan become pages (out/radio.html, out/radio-plan.html), which takes hundredths of a second.
+# a transport stream with all its tables; what is in that stream is listed, the monitor reports on it, and the stream and the plan become
+# pages: by tsview where it is built, which takes hundredths of a second, else by the same program without its proofs, in a minute or two.
 run: binary
 	mkdir -p out
 	$(BINARY) plan < examples/radio/radio.toml > out/radio.plan
@@ -23,8 +23,11 @@ run: binary
 	@tail -n 1 out/radio.findings
 	$(BINARY) monitor --rate 1504000 < out/radio.ts
 	@if test -x $(TSVIEW); then \
-	    $(TSVIEW) --rate 1504000 --window 100 --page < out/radio.ts > out/radio.html && $(TSVIEW) --plan < out/radio.job > out/radio-plan.html && \
-	    ls -l out/radio.html out/radio-plan.html; else echo "for a page of each: make tsview, and this once more"; fi
+	    $(TSVIEW) --rate 1504000 --window 100 --page < out/radio.ts > out/radio.html && $(TSVIEW) --plan < out/radio.job > out/radio-plan.html; \
+	else cd crates/tsview && echo "pages by the unproved tsview (make tsview: the proved one)" && \
+	    rt try -- --rate 1504000 --window 100 --page < ../../out/radio.ts > ../../out/radio.html && \
+	    rt try -- --plan < ../../out/radio.job > ../../out/radio-plan.html; fi
+	@ls -l out/radio.html out/radio-plan.html
 
 # The same program without its proofs, in a minute or two: it makes a plan for the radio service. With WORDS it does what they say with
 # one's own input, as in `make try WORDS='check' < JOB`, and with PROGRAM=tsjob another program does. The kit's trial run takes 64 MiB of

@@ -31,4 +31,4 @@ for name, sizes, job in jobs:
             size, most = made.stat().st_size / 1e6, peak_bytes([binary, "mux"], made) / 1e6
             print(beside(f"mux, {name}, {size:.0f} MB of job", count, ours, limit, copy) + f"; the slots alone {slots:.3f} s,"
                   f" {count / slots / 1e6:.1f} million a second, {limit.whole / slots:.2f} of the limit; at most {most:.0f} MB of memory,"
-                  f" {most / size:.2f} times the job")
+                  f" {most / size:.2f} times the job; a program that holds the job {hold}, {limit.whole / hold.whole:.2f} of the limit")

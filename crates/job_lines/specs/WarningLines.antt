@@ -24,6 +24,7 @@ table_line (table.ConditionalAccess program) = codes "CA descriptors of program 
 table_line (table.NoPes program pid stream_type) = codes "pid " ++ decimal pid ++ codes " of program " ++ decimal program ++ codes " stream_type " ++ decimal stream_type ++ codes " has no PES: left out\n"
 table_line (table.Reserved program pid) = codes "pid " ++ decimal pid ++ codes " of program " ++ decimal program ++ codes " is none of a stream: left out\n"
 table_line (table.Taken program pid holder) = codes "pid " ++ decimal pid ++ codes " of program " ++ decimal program ++ codes " stands in program " ++ decimal holder ++ codes " already: left out\n"
+table_line (table.SharedOtherwise program pid holder) = codes "pid " ++ decimal pid ++ codes " of program " ++ decimal program ++ codes " has the stream_type and descriptors of program " ++ decimal holder ++ codes ": its own left out\n"
 table_line (table.NoStream program) = codes "program " ++ decimal program ++ codes " has no stream: left out\n"
 
 -- why a finding on a PID is in no unit

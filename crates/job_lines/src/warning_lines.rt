@@ -43,6 +43,14 @@ fn write_table(left_out: TableOmission, text: &mut String) -> Result<(), AllocEr
             text,
             "pid {pid} of program {program} stands in program {holder} already: left out\n"
         ),
+        TableOmission::SharedOtherwise {
+            program,
+            pid,
+            holder,
+        } => write!(
+            text,
+            "pid {pid} of program {program} has the stream_type and descriptors of program {holder}: its own left out\n"
+        ),
         TableOmission::NoStream { program } => {
             write!(text, "program {program} has no stream: left out\n")
         }

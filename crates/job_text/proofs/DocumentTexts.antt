@@ -9,17 +9,18 @@ use Rattle.unit_timing.specs.declared.allowance.Allowance.{Allowance}
 use Rattle.unit_timing.specs.declared.allowance.Allowance.TheVariants.{Groups, Pace}
 use Rattle.hex.specs.Hex.{encode_lower}
 use Rattle.toml_writer.specs.Text.{key_text}
-use Rattle.toml.specs.Data.{string, integer, boolean, Members, no_members, member, is_before, members_depth, members_have_valid_dates, members_are_sorted}
+use Rattle.toml.specs.Data.{string, integer, boolean, array, Members, no_members, member, is_before, members_depth, members_have_valid_dates, members_are_sorted}
 use Rattle.toml.specs.Text.{IsLinesText, IsDocumentText, expressions, pairs, sections, elements}
 use Rattle.toml.specs.Tables.{Expression}
 use Rattle.toml.proofs.Lines.{IsLinesText-append, after}
 use Rattle.toml.proofs.ReadBack.{parse_document-printed}
 use Rattle.job_text.specs.DescriptionParts.{EventPartView, HeadingView, NetworkPartView, ProgramPartView, StreamPartView}
-use Rattle.job_text.specs.KeyLines.{with_numbers, with_hex, hex_line, key_line, number_lines}
-use Rattle.job_text.specs.Fields.{program_numbers, burst_numbers, group_numbers, time_numbers, pace_numbers, last_numbers}
-use Rattle.job_text.specs.Documents.{document, elements_of, with_table, with_tables, event_table, network_table, program_table, stream_rest, stream_members, stream_table}
+use Rattle.job_text.specs.KeyLines.{with_numbers, with_hex, with_list, items_of, hex_line, list_line, key_line, number_lines}
+use Rattle.job_text.specs.Fields.{program_numbers, burst_numbers, group_numbers, time_numbers, pace_numbers, place_numbers, last_numbers}
+use Rattle.job_text.specs.Documents.{document, elements_of, with_table, with_tables, event_table, network_table, program_table, stream_end, stream_place, stream_rest, stream_members, stream_table}
 use Rattle.job_text.specs.Texts.{event_text, heading_text, network_text, network_if_any, program_text, stream_text}
 use Rattle.job_text.specs.Laws.{Fits, FitsEvent, FitsHeading, FitsNetwork, FitsProgram, FitsAllowance, FitsStream, TextsAreRead}
+use Rattle.job_text.proofs.NumberLists.{list_none, list_some, numbers_are, numbers_sorted}
 use Rattle.job_text.proofs.Scalars.{AreScalars, IsScalar, scalar_lines, lines_are_text}
 use Rattle.job_text.proofs.TableArrays.{AreTables, element_lines, elements_are_text, pairs_past, sections_with, shallow, dated_past, sorted_past, before_tables}
 use Rattle.job_text.proofs.SingleTables.{IsTable, lines_if_any, expressions_if_any, table_is_text, pairs_past_table, sections_with_table, shallow_table, dated_past_table, sorted_past_table, before_table}
@@ -67,6 +68,26 @@ hex_after key (b ∷ bytes) more first last = ap (is_before key) (hex_some b byt
 hex_lines : (bytes : List ℕ) (more : Members) → scalar_lines (with_hex (codes "descriptors") bytes more) ≡ hex_line (codes "descriptors") bytes ++ scalar_lines more
 hex_lines [] more = ap scalar_lines (hex_none more) ∙ ap (λ (l : List ℕ). l ++ scalar_lines more) (sym line_none)
 hex_lines (b ∷ bytes) more = ap scalar_lines (hex_some b bytes more) ∙ ap (λ (l : List ℕ). l ++ scalar_lines more) (sym (line_some b bytes))
+
+-- numbers before other keys
+list_scalars : (ns : List ℕ) (more : Members) → All Fits ns → AreScalars more → AreScalars (with_list (codes "shared_with") ns more)
+unfolding key_text
+list_scalars [] more f h = h
+list_scalars (n ∷ ns) more f h = (refl, numbers_are (n ∷ ns) f, h)
+
+list_sorted : (ns : List ℕ) (more : Members) → is_before (codes "shared_with") more ≡ true → members_are_sorted more ≡ true
+    → members_are_sorted (with_list (codes "shared_with") ns more) ≡ true
+list_sorted [] more first sorted = sorted
+list_sorted (n ∷ ns) more first sorted = rw (first, numbers_sorted ns, sorted)
+
+list_after : (key : List ℕ) (ns : List ℕ) (more : Members) → is_lt (slice_cmp nat_cmp key (codes "shared_with")) ≡ true → is_before key more ≡ true
+    → is_before key (with_list (codes "shared_with") ns more) ≡ true
+list_after key [] more first last = last
+list_after key (n ∷ ns) more first last = first
+
+list_lines : (ns : List ℕ) (more : Members) → scalar_lines (with_list (codes "shared_with") ns more) ≡ list_line (codes "shared_with") ns ++ scalar_lines more
+list_lines [] more = ap (λ (l : List ℕ). l ++ scalar_lines more) (sym (list_none (codes "shared_with")))
+list_lines (n ∷ ns) more = ap (λ (l : List ℕ). l ++ scalar_lines more) (sym (list_some (codes "shared_with") n ns))
 
 -- an event
 event_scalars : (e : EventPartView) → FitsEvent e → AreScalars (event_table e)
@@ -127,31 +148,56 @@ unfolding program_rest
 program_lines p = rw (hex_lines p.descriptors (program_rest p)) (simp (append_assoc, append-nil))
 
 -- a stream
+place_scalars : (s : StreamPartView) → FitsStream s → AreScalars (stream_place s)
+unfolding key_text
+place_scalars s h = (
+  refl,
+  small s.pid h.pid,
+  (
+    refl,
+    small s.program h.program,
+    (
+      refl,
+      small s.rx h.rx,
+      list_scalars s.shared_with (stream_end s) h.shared_with (refl, small s.size h.size, (refl, small s.stream_type h.stream_type, tt)),
+    ),
+  ),
+)
+
 scalars_with : (a : Allowance) (s : StreamPartView) → FitsAllowance a → FitsStream s → AreScalars (stream_members a s)
 unfolding key_text
 scalars_with (Groups units packets) s f h =
     hex_scalars s.descriptors (stream_rest (Groups units packets) s)
-    (refl, small units f.0, (refl, small packets f.1, (refl, small s.stream_id h.stream_id, (refl, small s.interval h.interval, (refl, small s.lead h.lead, (refl, small s.main h.main, (refl, small s.pid h.pid, (refl, small s.program h.program, (refl, small s.rx h.rx, (refl, small s.size h.size, (refl, small s.stream_type h.stream_type, tt)))))))))))
+    (refl, small units f.0, (refl, small packets f.1, (refl, small s.stream_id h.stream_id, (refl, small s.interval h.interval, (refl, small s.lead h.lead, (refl, small s.main h.main, place_scalars s h))))))
 scalars_with (Pace burst pace) s f h = (
   refl,
   small burst f.0,
   hex_scalars s.descriptors (stream_rest (Pace burst pace) s)
-      (refl, small s.stream_id h.stream_id, (refl, small s.interval h.interval, (refl, small s.lead h.lead, (refl, small s.main h.main, (refl, small pace f.1, (refl, small s.pid h.pid, (refl, small s.program h.program, (refl, small s.rx h.rx, (refl, small s.size h.size, (refl, small s.stream_type h.stream_type, tt)))))))))),
+      (refl, small s.stream_id h.stream_id, (refl, small s.interval h.interval, (refl, small s.lead h.lead, (refl, small s.main h.main, (refl, small pace f.1, place_scalars s h))))),
 )
 
+rest_sorted : (a : Allowance) (s : StreamPartView) → members_are_sorted (stream_rest a s) ≡ true
+rest_sorted (Groups units packets) s =
+    rw (list_after (codes "rx") s.shared_with (stream_end s) refl refl, list_sorted s.shared_with (stream_end s) refl refl)
+rest_sorted (Pace burst pace) s =
+    rw (list_after (codes "rx") s.shared_with (stream_end s) refl refl, list_sorted s.shared_with (stream_end s) refl refl)
+
 sorted_with : (a : Allowance) (s : StreamPartView) → members_are_sorted (stream_members a s) ≡ true
-sorted_with (Groups units packets) s = hex_sorted s.descriptors (stream_rest (Groups units packets) s) refl refl
+sorted_with (Groups units packets) s = hex_sorted s.descriptors (stream_rest (Groups units packets) s) refl (rest_sorted (Groups units packets) s)
 sorted_with (Pace burst pace) s =
     rw (
       hex_after (codes "burst_packets") s.descriptors (stream_rest (Pace burst pace) s) refl refl,
-      hex_sorted s.descriptors (stream_rest (Pace burst pace) s) refl refl,
+      hex_sorted s.descriptors (stream_rest (Pace burst pace) s) refl (rest_sorted (Pace burst pace) s),
     )
 
 lines_with : (a : Allowance) (s : StreamPartView) → scalar_lines (stream_members a s)
     ≡ number_lines (burst_numbers a) ++ (hex_line (codes "descriptors") s.descriptors
-    ++ (number_lines (group_numbers a) ++ (number_lines (time_numbers s) ++ (number_lines (pace_numbers a) ++ number_lines (last_numbers s)))))
-lines_with (Groups units packets) s = rw (hex_lines s.descriptors (stream_rest (Groups units packets) s)) (simp (append_assoc, append-nil))
-lines_with (Pace burst pace) s = rw (hex_lines s.descriptors (stream_rest (Pace burst pace) s)) (simp (append_assoc, append-nil))
+    ++ (number_lines (group_numbers a) ++ (number_lines (time_numbers s) ++ (number_lines (pace_numbers a)
+    ++ (number_lines (place_numbers s) ++ (list_line (codes "shared_with") s.shared_with ++ number_lines (last_numbers s)))))))
+lines_with (Groups units packets) s =
+    rw (hex_lines s.descriptors (stream_rest (Groups units packets) s), list_lines s.shared_with (stream_end s)) (simp (append_assoc, append-nil))
+lines_with (Pace burst pace) s =
+    rw (hex_lines s.descriptors (stream_rest (Pace burst pace) s), list_lines s.shared_with (stream_end s)) (simp (append_assoc, append-nil))
 
 stream_lines : (s : StreamPartView) → element_lines (codes "stream") (stream_table s) ≡ stream_text s
 stream_lines s = rw (lines_with s.allowance s) (simp append_assoc)
@@ -287,12 +333,12 @@ document_is_text h es n ts us f e t a b =
 
 document_shallow : (h : HeadingView) (es : List Members) (n : Option Members) (ts us : List Members) → AreTables es → IsTable n → AreTables ts → AreTables us → members_depth (document h es n ts us) ≤ 80
 document_shallow h es n ts us e t a b =
-    let last : members_depth (after_streams h) ≤ 2 = grind (arith, nat_tests) in
+    let last : members_depth (after_streams h) ≤ 3 = grind (arith, nat_tests) in
     let inner = shallow (codes "stream") us (after_streams h) b last in
-    let middle : members_depth (after_programs h us) ≤ 2 = grind (arith, nat_tests) in
+    let middle : members_depth (after_programs h us) ≤ 3 = grind (arith, nat_tests) in
     let outer = shallow (codes "program") ts (after_programs h us) a middle in
-    let named : members_depth (after_network h ts us) ≤ 2 = grind (arith, nat_tests) in
-    let within : members_depth (after_events h n ts us) ≤ 2 = shallow_table (codes "network") n (after_network h ts us) t named in
+    let named : members_depth (after_network h ts us) ≤ 3 = grind (arith, nat_tests) in
+    let within : members_depth (after_events h n ts us) ≤ 3 = shallow_table (codes "network") n (after_network h ts us) t named in
     let all = shallow (codes "event") es (after_events h n ts us) e within in
     grind (arith, nat_tests)
 

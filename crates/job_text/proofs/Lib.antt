@@ -1,3 +1,4 @@
+pub mod NumberLists
 pub mod Scalars
 pub mod TableArrays
 pub mod SingleTables

@@ -1,18 +1,21 @@
--- Tables of strings, numbers and truth values, as lines.
-use Rattle.std.proofs.Common.{◌≡◌, ℕ, Bool, true, false, List, [], ◌++◌, refl}
+-- Tables of strings, numbers, truth values and arrays of numbers, as lines.
+use Rattle.std.proofs.Common.{◌≡◌, ℕ, ◌≤◌, max, Bool, true, false, List, [], ◌++◌, refl, arith}
+use Rattle.std.proofs.lemmas.Bool.Decides.{nat_tests}
 use Rattle.std.specs.Int.{w64}
 use Rattle.std.specs.Prelude.{FitsSigned}
 use Rattle.toml_writer.specs.Text.{key_text}
-use Rattle.toml.specs.Data.{Data, string, integer, float, boolean, datetime, array, table, Members, no_members, member, members_depth, members_have_valid_dates}
+use Rattle.toml.specs.Data.{Data, string, integer, float, boolean, datetime, array, table, Members, no_members, member, depth, members_depth, members_have_valid_dates}
 use Rattle.toml.specs.Tables.{key_value}
 use Rattle.toml.specs.Text.{IsLineText, IsLinesText, IsValueText, pairs, sections, is_section}
 use Rattle.job_text.specs.KeyLines.{value_text, key_line}
+use Rattle.job_text.proofs.NumberLists.{AreNumbers, array_is_text, array_is_no_section, no_array_section, array_low, array_dated}
 
 -- a value that stands on one line
 abbrev pub IsScalar : Data → Type 0
 IsScalar (string s) = Unit {0}
 IsScalar (integer z) = FitsSigned w64 z
 IsScalar (boolean b) = Unit {0}
+IsScalar (array ds) = AreNumbers ds
 IsScalar _ = ⊥
 
 -- each value of a table is one, at a key that needs no quotes
@@ -31,7 +34,7 @@ value_is_text (integer z) h = (refl, h)
 value_is_text (boolean b) h = refl
 value_is_text (float x) h = absurd h
 value_is_text (datetime x) h = absurd h
-value_is_text (array x) h = absurd h
+value_is_text (array x) h = array_is_text x h
 value_is_text (table x) h = absurd h
 
 pub is_no_section : (d : Data) → IsScalar d → is_section d ≡ false
@@ -40,7 +43,7 @@ is_no_section (integer z) h = refl
 is_no_section (boolean b) h = refl
 is_no_section (float x) h = absurd h
 is_no_section (datetime x) h = absurd h
-is_no_section (array x) h = absurd h
+is_no_section (array x) h = array_is_no_section x h
 is_no_section (table x) h = absurd h
 
 -- the line of a scalar is TOML's
@@ -53,7 +56,7 @@ lines_are_text started no_members h = refl
 lines_are_text started (member k d ms) h =
     rw (is_no_section d h.1) (key_line k d, scalar_lines ms, refl, line_is_text started k d h.0 h.1, lines_are_text true ms h.2)
 
--- and it has no tables, is flat, and has no dates
+-- and it has no tables, is no deeper than an array, and has no dates
 pub no_sections : (path : List (List ℕ)) (ms : Members) → AreScalars ms → sections path ms ≡ []
 no_sections path no_members h = refl
 no_sections path (member k (string s) ms) h = no_sections path ms h.2
@@ -61,18 +64,24 @@ no_sections path (member k (integer z) ms) h = no_sections path ms h.2
 no_sections path (member k (boolean b) ms) h = no_sections path ms h.2
 no_sections path (member k (float x) ms) h = absurd h.1
 no_sections path (member k (datetime x) ms) h = absurd h.1
-no_sections path (member k (array x) ms) h = absurd h.1
+no_sections path (member k (array x) ms) h = rw (no_array_section path k x h.1) (no_sections path ms h.2)
 no_sections path (member k (table x) ms) h = absurd h.1
 
-pub flat : (ms : Members) → AreScalars ms → members_depth ms ≡ 0
-flat no_members h = refl
-flat (member k (string s) ms) h = rw (flat ms h.2)
-flat (member k (integer z) ms) h = rw (flat ms h.2)
-flat (member k (boolean b) ms) h = rw (flat ms h.2)
-flat (member k (float x) ms) h = absurd h.1
-flat (member k (datetime x) ms) h = absurd h.1
-flat (member k (array x) ms) h = absurd h.1
-flat (member k (table x) ms) h = absurd h.1
+low : (d : Data) → IsScalar d → depth d ≤ 1
+low (string s) h = omega arith
+low (integer z) h = omega arith
+low (boolean b) h = omega arith
+low (float x) h = absurd h
+low (datetime x) h = absurd h
+low (array x) h = array_low x h
+low (table x) h = absurd h
+
+both_low : (m n : ℕ) → m ≤ 1 → n ≤ 1 → max m n ≤ 1
+both_low m n h k = grind (arith, nat_tests)
+
+pub flat : (ms : Members) → AreScalars ms → members_depth ms ≤ 1
+flat no_members h = omega arith
+flat (member k d ms) h = both_low (depth d) (members_depth ms) (low d h.1) (flat ms h.2)
 
 pub dated : (ms : Members) → AreScalars ms → members_have_valid_dates ms ≡ true
 dated no_members h = refl
@@ -81,5 +90,5 @@ dated (member k (integer z) ms) h = dated ms h.2
 dated (member k (boolean b) ms) h = dated ms h.2
 dated (member k (float x) ms) h = absurd h.1
 dated (member k (datetime x) ms) h = absurd h.1
-dated (member k (array x) ms) h = absurd h.1
+dated (member k (array x) ms) h = rw (array_dated x h.1) (dated ms h.2)
 dated (member k (table x) ms) h = absurd h.1

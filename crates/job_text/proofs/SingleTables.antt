@@ -1,5 +1,5 @@
 -- A table at a key, as lines.
-use Rattle.std.proofs.Common.{◌≡◌, ℕ, max, ◌≤◌, true, false, List, [], ◌∷◌, ◌++◌, Option, Some, None, refl, arith, append-nil}
+use Rattle.std.proofs.Common.{◌≡◌, ℕ, suc, max, ◌≤◌, true, false, List, [], ◌∷◌, ◌++◌, Option, Some, None, refl, arith, append-nil}
 use Rattle.std.proofs.lemmas.Bool.Decides.{nat_tests}
 use Rattle.toml_writer.specs.Text.{key_text}
 use Rattle.std.specs.Ordering.{nat_cmp, is_lt}
@@ -49,12 +49,12 @@ pub sections_with_table : (key : List ℕ) (t : Option Members) (more : Members)
 sections_with_table key None more = refl
 sections_with_table key (Some t) more = refl
 
-one_max : (n : ℕ) → n ≤ 2 → max 1 n ≤ 2
-one_max n h = grind (arith, nat_tests)
+one_max : (m n : ℕ) → m ≤ 1 → n ≤ 3 → max (suc m) n ≤ 3
+one_max m n h k = grind (arith, nat_tests)
 
-pub shallow_table : (key : List ℕ) (t : Option Members) (more : Members) → IsTable t → members_depth more ≤ 2 → members_depth (with_table key t more) ≤ 2
+pub shallow_table : (key : List ℕ) (t : Option Members) (more : Members) → IsTable t → members_depth more ≤ 3 → members_depth (with_table key t more) ≤ 3
 shallow_table key None more h low_more = low_more
-shallow_table key (Some t) more h low_more = rw (flat t h.0) (one_max (members_depth more) low_more)
+shallow_table key (Some t) more h low_more = one_max (members_depth t) (members_depth more) (flat t h.0) low_more
 
 pub dated_past_table : (key : List ℕ) (t : Option Members) (more : Members) → IsTable t →
     members_have_valid_dates (with_table key t more) ≡ members_have_valid_dates more

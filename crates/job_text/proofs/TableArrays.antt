@@ -26,15 +26,15 @@ pub all_tables : (ts : List Members) → are_tables (elements_of ts) ≡ true
 all_tables [] = refl
 all_tables (t ∷ ts) = all_tables ts
 
-low_max : (n : ℕ) → n ≤ 1 → max 1 n ≤ 1
-low_max n h = grind (arith, nat_tests)
+low_max : (m n : ℕ) → m ≤ 1 → n ≤ 2 → max (suc m) n ≤ 2
+low_max m n h k = grind (arith, nat_tests)
 
-two_max : (m n : ℕ) → m ≤ 1 → n ≤ 2 → max (suc m) n ≤ 2
-two_max m n h k = grind (arith, nat_tests)
+high_max : (m n : ℕ) → m ≤ 2 → n ≤ 3 → max (suc m) n ≤ 3
+high_max m n h k = grind (arith, nat_tests)
 
-pub low : (ts : List Members) → AreTables ts → items_depth (elements_of ts) ≤ 1
+pub low : (ts : List Members) → AreTables ts → items_depth (elements_of ts) ≤ 2
 low [] h = omega arith
-low (t ∷ ts) h = rw (flat t h.0) (low_max (items_depth (elements_of ts)) (low ts h.2))
+low (t ∷ ts) h = low_max (members_depth t) (items_depth (elements_of ts)) (flat t h.0) (low ts h.2)
 
 pub all_dated : (ts : List Members) → AreTables ts → items_have_valid_dates (elements_of ts) ≡ true
 all_dated [] h = refl
@@ -68,11 +68,11 @@ pub sections_with : (key : List ℕ) (ts : List Members) (more : Members)
 sections_with key [] more = refl
 sections_with key (t ∷ ts) more = rw (all_tables ts)
 
-pub shallow : (key : List ℕ) (ts : List Members) (more : Members) → AreTables ts → members_depth more ≤ 2 → members_depth (with_tables key ts more) ≤ 2
+pub shallow : (key : List ℕ) (ts : List Members) (more : Members) → AreTables ts → members_depth more ≤ 3 → members_depth (with_tables key ts more) ≤ 3
 shallow key [] more h low_more = low_more
 shallow key (t ∷ ts) more h low_more =
-    let here : items_depth (elements_of (t ∷ ts)) ≤ 1 = low (t ∷ ts) h in
-    two_max (items_depth (elements_of (t ∷ ts))) (members_depth more) here low_more
+    let here : items_depth (elements_of (t ∷ ts)) ≤ 2 = low (t ∷ ts) h in
+    high_max (items_depth (elements_of (t ∷ ts))) (members_depth more) here low_more
 
 pub dated_past : (key : List ℕ) (ts : List Members) (more : Members) → AreTables ts → members_have_valid_dates (with_tables key ts more) ≡ members_have_valid_dates more
 dated_past key [] more h = refl

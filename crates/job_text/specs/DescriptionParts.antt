@@ -52,6 +52,7 @@ pub record StreamPartView : Type 0 where
   pub main : ℕ
   pub descriptors : List ℕ
   pub allowance : Allowance
+  pub shared_with : List ℕ
 
 -- the parts of the code as lists and numbers
 abbrev pub heading_view : Heading → HeadingView
@@ -104,4 +105,5 @@ stream_view s = record {
   main = s.main;
   descriptors = s.descriptors.now;
   allowance = s.allowance;
+  shared_with = s.shared_with.now;
 }

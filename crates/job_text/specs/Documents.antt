@@ -3,8 +3,8 @@ use Rattle.std.specs.Prelude.{ℕ, pos, List, [], ◌∷◌, codes, Option, Some
 use Rattle.toml.specs.Data.{string, integer, boolean, array, table, Items, no_items, item, Members, no_members, member}
 use Rattle.unit_timing.specs.declared.allowance.Allowance.{Allowance}
 use Rattle.job_text.specs.DescriptionParts.{EventPartView, HeadingView, NetworkPartView, ProgramPartView, StreamPartView}
-use Rattle.job_text.specs.KeyLines.{with_numbers, with_hex}
-use Rattle.job_text.specs.Fields.{program_numbers, burst_numbers, group_numbers, time_numbers, pace_numbers, last_numbers}
+use Rattle.job_text.specs.KeyLines.{with_numbers, with_hex, with_list}
+use Rattle.job_text.specs.Fields.{program_numbers, burst_numbers, group_numbers, time_numbers, pace_numbers, place_numbers, last_numbers}
 
 -- tables as the elements of an array
 abbrev pub elements_of : List Members → Items
@@ -42,9 +42,15 @@ program_table p =
     (member (codes "provider") (string p.provider)
     (member (codes "service_type") (integer (pos p.service_type)) no_members))))
 
--- of a stream: what stands after its descriptors, and the whole
+-- of a stream: what stands from its PID on, after its descriptors, and the whole
+abbrev pub stream_end : StreamPartView → Members
+stream_end s = with_numbers (last_numbers s) no_members
+
+abbrev pub stream_place : StreamPartView → Members
+stream_place s = with_numbers (place_numbers s) (with_list (codes "shared_with") s.shared_with (stream_end s))
+
 abbrev pub stream_rest : Allowance → StreamPartView → Members
-stream_rest a s = with_numbers (group_numbers a) (with_numbers (time_numbers s) (with_numbers (pace_numbers a) (with_numbers (last_numbers s) no_members)))
+stream_rest a s = with_numbers (group_numbers a) (with_numbers (time_numbers s) (with_numbers (pace_numbers a) (stream_place s)))
 
 abbrev pub stream_members : Allowance → StreamPartView → Members
 stream_members a s = with_numbers (burst_numbers a) (with_hex (codes "descriptors") s.descriptors (stream_rest a s))

@@ -38,11 +38,10 @@ abbrev pub pace_numbers : Allowance → List (List ℕ × ℕ)
 pace_numbers (Groups units packets) = []
 pace_numbers (Pace burst pace) = (codes "pace", pace) ∷ []
 
+-- those before the programs that it is shared with
+abbrev pub place_numbers : StreamPartView → List (List ℕ × ℕ)
+place_numbers s = (codes "pid", s.pid) ∷ (codes "program", s.program) ∷ (codes "rx", s.rx) ∷ []
+
 -- and the last
 abbrev pub last_numbers : StreamPartView → List (List ℕ × ℕ)
-last_numbers s =
-    (codes "pid", s.pid)
-    ∷ (codes "program", s.program)
-    ∷ (codes "rx", s.rx)
-    ∷ (codes "size", s.size)
-    ∷ (codes "type", s.stream_type) ∷ []
+last_numbers s = (codes "size", s.size) ∷ (codes "type", s.stream_type) ∷ []

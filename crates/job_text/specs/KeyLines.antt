@@ -1,18 +1,25 @@
 -- Lines of TOML: a key, and its value.
-use Rattle.std.specs.Prelude.{ℕ, pos, ◌==◌, if◌then◌else◌, List, [], ◌∷◌, ◌++◌, length, codes}
+use Rattle.std.specs.Prelude.{ℕ, pos, ◌==◌, Bool, true, false, if◌then◌else◌, List, [], ◌∷◌, ◌++◌, length, codes, decimal}
 use Rattle.std.specs.Borrow.{Bor}
 use Rattle.std.specs.List.{flat_map}
 use Rattle.std.specs.Fmt.{signed_decimal}
 use Rattle.hex.specs.Hex.{encode_lower}
-use Rattle.toml.specs.Data.{Data, string, integer, boolean, Members, member}
+use Rattle.toml.specs.Data.{Data, string, integer, boolean, array, Items, no_items, item, Members, member}
 use Rattle.toml_writer.specs.Text.{string_text}
 
--- a string, a number or a truth value; no other kind of value is written
-abbrev pub value_text : Data → List ℕ
-value_text (string s) = string_text s
-value_text (integer n) = signed_decimal n
-value_text (boolean b) = if b then codes "true" else codes "false"
-value_text _ = []
+-- a string, a number, a truth value or an array of these on one line; no other kind of value is written
+abbrev mutual
+  pub value_text : Data → List ℕ
+  value_text (string s) = string_text s
+  value_text (integer n) = signed_decimal n
+  value_text (boolean b) = if b then codes "true" else codes "false"
+  value_text (array ds) = codes "[" ++ items_text true ds
+  value_text _ = []
+
+  -- the elements of an array from its first one on, or after it, and its end
+  pub items_text : Bool → Items → List ℕ
+  items_text is_first no_items = codes "]"
+  items_text is_first (item d ds) = (if is_first then [] else codes ", ") ++ (value_text d ++ items_text false ds)
 
 -- `KEY = VALUE` and LF
 unfoldable pub key_line : List ℕ → Data → List ℕ
@@ -42,6 +49,28 @@ hex_line key bytes = if length bytes == 0 then [] else key_line key (string (enc
 -- they stand in a table before its other keys
 unfoldable pub with_hex : List ℕ → List ℕ → Members → Members
 with_hex key bytes more = if length bytes == 0 then more else member key (string (encode_lower bytes)) more
+
+-- numbers as the elements of an array
+abbrev pub items_of : List ℕ → Items
+items_of [] = no_items
+items_of (n ∷ ns) = item (integer (pos n)) (items_of ns)
+
+-- a number after another one
+abbrev pub next_number : ℕ → List ℕ
+next_number n = codes ", " ++ decimal n
+
+-- the array of a number and others after it
+abbrev pub array_line : List ℕ → ℕ → List ℕ → List ℕ
+array_line key n ns = (key ++ (codes " = [" ++ decimal n)) ++ (flat_map next_number ns ++ codes "]\n")
+
+-- the array of numbers; no line if there are none
+unfoldable pub list_line : List ℕ → List ℕ → List ℕ
+list_line key ns = if length ns == 0 then [] else key_line key (array (items_of ns))
+
+-- it stands in a table before its other keys
+abbrev pub with_list : List ℕ → List ℕ → Members → Members
+with_list key [] more = more
+with_list key (n ∷ ns) more = member key (array (items_of (n ∷ ns))) more
 
 -- an empty line, and the header of a table
 unfoldable pub table_header : List ℕ → List ℕ

@@ -44,6 +44,7 @@ FitsAllowance (Pace burst pace) = Fits burst × Fits pace
 
 pub record FitsStream (s : StreamPartView) : Type 0 where
   pub allowance : FitsAllowance s.allowance
+  pub shared_with : All Fits s.shared_with
   pub stream_id : Fits s.stream_id
   pub interval : Fits s.interval
   pub lead : Fits s.lead

@@ -2,8 +2,8 @@
 use Rattle.std.specs.Prelude.{ℕ, List, [], ◌∷◌, ◌++◌, codes, Option, Some, None}
 use Rattle.toml.specs.Data.{string, boolean}
 use Rattle.job_text.specs.DescriptionParts.{EventPartView, HeadingView, NetworkPartView, ProgramPartView, StreamPartView}
-use Rattle.job_text.specs.KeyLines.{key_line, number_line, number_lines, hex_line, table_header, header}
-use Rattle.job_text.specs.Fields.{first_numbers, program_numbers, burst_numbers, group_numbers, time_numbers, pace_numbers, last_numbers}
+use Rattle.job_text.specs.KeyLines.{key_line, number_line, number_lines, hex_line, list_line, table_header, header}
+use Rattle.job_text.specs.Fields.{first_numbers, program_numbers, burst_numbers, group_numbers, time_numbers, pace_numbers, place_numbers, last_numbers}
 
 -- the keys of the document itself
 abbrev pub heading_text : HeadingView → List ℕ
@@ -59,6 +59,9 @@ stream_front s =
 abbrev pub stream_times : StreamPartView → List ℕ
 stream_times s = number_lines (time_numbers s) ++ number_lines (pace_numbers s.allowance)
 
+abbrev pub stream_back : StreamPartView → List ℕ
+stream_back s = number_lines (place_numbers s) ++ (list_line (codes "shared_with") s.shared_with ++ number_lines (last_numbers s))
+
 -- an element of the array `stream`
 abbrev pub stream_text : StreamPartView → List ℕ
-stream_text s = stream_front s ++ (stream_times s ++ number_lines (last_numbers s))
+stream_text s = stream_front s ++ (stream_times s ++ stream_back s)

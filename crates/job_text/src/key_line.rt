@@ -3,7 +3,8 @@
 ghost use Rattle.std.specs.Prelude.{◌≡◌, ◌++◌, OnOk, string_bytes};
 ghost use Rattle.std.specs.List.{flat_map};
 ghost use Rattle.toml.specs.Data.{string, boolean};
-ghost use Rattle.job_text.specs.KeyLines.{key_line, number_line, field_line, table_header, header, hex_line};
+ghost use Rattle.job_text.specs.KeyLines.{key_line, number_line, field_line, table_header, header, hex_line, list_line};
+ghost use Rattle.job_text.specs.KeyLines.{next_number, array_line};
 
 use std::alloc::{AllocError, Allocator};
 use std::fmt;
@@ -95,6 +96,45 @@ pub(crate) fn write_hex<A: Allocator + Clone>(
     }
     let digits = hex::encode(text.allocator().clone()?, bytes)?;
     write_string(text, key, digits.as_str())
+}
+
+// The numbers of an array after its first.
+fn write_next_numbers<A: Allocator>(text: &mut String<A>, numbers: &[u16]) -> Result<(), AllocError>
+    ensures { OnOk result (string_bytes text.new ≡ string_bytes text.old ++ flat_map next_number numbers.now) }
+{
+    for number in numbers {
+        write!(text, ", {number}")?;
+    }
+    Ok(())
+}
+
+// A key with the array of a number and those after it.
+fn write_array<A: Allocator>(
+    text: &mut String<A>,
+    key: &str,
+    first: u16,
+    others: &[u16],
+) -> Result<(), AllocError>
+    ensures { OnOk result (string_bytes text.new ≡ string_bytes text.old ++ array_line key.now first others.now) }
+{
+    write!(text, "{key} = [{first}")?;
+    write_next_numbers(text, others)?;
+    write!(text, "]\n")
+}
+
+/// Numbers as an array, and no line if there are none.
+#[tactic(auto, using(crate::proofs::NumberLists::list_written), unfolding(crate::specs::KeyLines::list_line))]
+pub(crate) fn write_list<A: Allocator>(
+    text: &mut String<A>,
+    key: &str,
+    numbers: &[u16],
+) -> Result<(), AllocError>
+    ensures { OnOk result (string_bytes text.new ≡ string_bytes text.old ++ list_line key.now numbers.now) }
+{
+    match numbers.split_first() {
+        None => Ok(()),
+        Some((first, others)) => write_array(text, key, *first, others),
+    }
 }
 
 /// The header of a table.

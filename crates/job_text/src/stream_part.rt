@@ -2,11 +2,11 @@
 
 ghost use Rattle.std.specs.Prelude.{◌≡◌, ◌++◌, OnOk, string_bytes};
 ghost use Rattle.job_text.specs.DescriptionParts.{stream_view};
-ghost use Rattle.job_text.specs.Fields.{burst_numbers, group_numbers, last_numbers};
+ghost use Rattle.job_text.specs.Fields.{burst_numbers, group_numbers};
 ghost use Rattle.job_text.specs.KeyLines.{number_lines};
-ghost use Rattle.job_text.specs.Texts.{stream_text, stream_front, stream_times};
+ghost use Rattle.job_text.specs.Texts.{stream_text, stream_front, stream_times, stream_back};
 
-use crate::key_line::{write_header, write_hex, write_number, write_numbers};
+use crate::key_line::{write_header, write_hex, write_list, write_number, write_numbers};
 use std::alloc::{AllocError, Allocator};
 use unit_timing::allowance::Allowance;
 
@@ -34,11 +34,13 @@ pub struct StreamPart<'a> {
     pub descriptors: &'a [u8],
     /// The most packets of successive units.
     pub allowance: Allowance,
+    /// The numbers of the programs beside its own whose PMTs name it.
+    pub shared_with: &'a [u16],
 }
 
 impl StreamPart<'_> {
-    /// Appends an empty line, `[[stream]]`, and its lines: every key, but `descriptors` only if there are any, and of the
-    /// keys of its packets those by groups or those by pace.
+    /// Appends an empty line, `[[stream]]`, and its lines: every key, but `descriptors` and `shared_with` only if there
+    /// are any, and of the keys of its packets those by groups or those by pace.
     pub fn write_text<A: Allocator + Clone>(&self, text: &mut String<A>) -> Result<(), AllocError>
         ensures { OnOk result (string_bytes text.new ≡ string_bytes text.old ++ stream_text (stream_view self.now)) }
     {
@@ -104,16 +106,19 @@ impl StreamPart<'_> {
 
     // The lines from `pid` on.
     fn write_back<A: Allocator>(&self, text: &mut String<A>) -> Result<(), AllocError>
-        ensures { OnOk result (string_bytes text.new ≡ string_bytes text.old
-            ++ number_lines (last_numbers (stream_view self.now))) }
+        ensures { OnOk result (string_bytes text.new ≡ string_bytes text.old ++ stream_back (stream_view self.now)) }
     {
-        let numbers = [
+        let place = [
             ("pid", self.pid as u64),
             ("program", self.program as u64),
             ("rx", self.rx as u64),
+        ];
+        let last = [
             ("size", self.size as u64),
             ("type", self.stream_type as u64),
         ];
-        write_numbers(text, &numbers)
+        write_numbers(text, &place)?;
+        write_list(text, "shared_with", self.shared_with)?;
+        write_numbers(text, &last)
     }
 }

@@ -1,17 +1,17 @@
 -- The text of a description that `tsjob` writes: no line of it is the first of a plan's text.
-use Rattle.std.proofs.Common.{◌≡◌, ℕ, pos, ◌==◌, Bool, true, false, List, [], ◌∷◌, ◌++◌, length, map, zip, flat_map, refl, ap, ◌∙◌, subst, append_assoc, codes, Option, Some, None}
+use Rattle.std.proofs.Common.{◌≡◌, ℕ, pos, ◌==◌, Bool, true, false, if◌then◌else◌, decimal, List, [], ◌∷◌, ◌++◌, length, map, zip, flat_map, refl, ap, ◌∙◌, subst, append_assoc, codes, Option, Some, None}
 use Rattle.std.specs.Prelude.{nat_eq}
 use Rattle.std.specs.List.{starts_with}
 use Rattle.std.proofs.lemmas.Bool.{cond_both}
 use Rattle.hex.specs.Hex.{encode_lower}
-use Rattle.toml.specs.Data.{Data, string, integer, boolean}
+use Rattle.toml.specs.Data.{Data, string, integer, boolean, array}
 use Rattle.unit_timing.specs.declared.allowance.Allowance.{Allowance}
 use Rattle.unit_timing.specs.declared.allowance.Allowance.TheVariants.{Groups, Pace}
 use Rattle.demux.specs.Views.{FindingView}
 use Rattle.job_text.specs.DescriptionParts.{EventPartView, HeadingView, NetworkPartView, ProgramPartView, StreamPartView}
-use Rattle.job_text.specs.Fields.{burst_numbers, first_numbers, group_numbers, last_numbers, pace_numbers, program_numbers, time_numbers}
-use Rattle.job_text.specs.KeyLines.{header, hex_line, key_line, number_line, number_lines, table_header, value_text}
-use Rattle.job_text.specs.Texts.{event_back, event_names, event_numbers, event_text, heading_text, network_if_any, program_front, program_service, program_text, stream_front, stream_text, stream_times}
+use Rattle.job_text.specs.Fields.{burst_numbers, first_numbers, group_numbers, last_numbers, pace_numbers, place_numbers, program_numbers, time_numbers}
+use Rattle.job_text.specs.KeyLines.{header, hex_line, items_of, items_text, key_line, list_line, number_line, number_lines, table_header, value_text}
+use Rattle.job_text.specs.Texts.{event_back, event_names, event_numbers, event_text, heading_text, network_if_any, program_front, program_service, program_text, stream_back, stream_front, stream_text, stream_times}
 use Rattle.stream_programs.specs.NetworkInformation.{stream_network}
 use Rattle.stream_programs.specs.Services.{FoundServiceView, service}
 use Rattle.service_information.specs.Events.{FoundEventView}
@@ -64,6 +64,23 @@ unfolding hex_line
 bytes_pass bytes =
     cond_both (length bytes == 0) [] (key_line (codes "descriptors") (string (encode_lower bytes))) Passes (λ _. none_passes)
     (λ _. text_passes (codes "descriptors") (encode_lower bytes) (λ rest. refl) refl (hex_flat bytes))
+
+-- of an array of numbers
+comma_flat : (is_first : Bool) → is_flat (if is_first then [] else codes ", ") ≡ true
+comma_flat true = refl
+comma_flat false = refl
+
+items_flat : (is_first : Bool) (ns : List ℕ) → is_flat (items_text is_first (items_of ns)) ≡ true
+items_flat is_first [] = refl
+items_flat is_first (n ∷ ns) =
+    flat_both (if is_first then [] else codes ", ") (decimal n ++ items_text false (items_of ns)) (comma_flat is_first)
+    (flat_both (decimal n) (items_text false (items_of ns)) (decimal_flat n) (items_flat false ns))
+
+list_passes : (ns : List ℕ) → Passes (list_line (codes "shared_with") ns)
+unfolding list_line
+list_passes ns =
+    cond_both (length ns == 0) [] (key_line (codes "shared_with") (array (items_of ns))) Passes (λ _. none_passes)
+    (λ _. key_passes (codes "shared_with") (array (items_of ns)) (λ rest. refl) refl (flat_both (codes "[") (items_text true (items_of ns)) refl (items_flat true ns)))
 
 truth_flat : (b : Bool) → is_flat (value_text (boolean b)) ≡ true
 truth_flat true = refl
@@ -156,8 +173,11 @@ stream_passes s =
     let front = both_pass (header (codes "stream")) _ stream_header burst in
     let times = numbers_pass (time_numbers s) ((λ rest. refl), (refl, ((λ rest. refl), (refl, ((λ rest. refl), (refl, ((λ rest. refl), (refl, tt)))))))) in
     let middle = both_pass (number_lines (time_numbers s)) (number_lines (pace_numbers s.allowance)) times (pace_passes s.allowance) in
-    let last = numbers_pass (last_numbers s) ((λ rest. refl), (refl, ((λ rest. refl), (refl, ((λ rest. refl), (refl, ((λ rest. refl), (refl, ((λ rest. refl), (refl, tt)))))))))) in
-    both_pass (stream_front s) (stream_times s ++ number_lines (last_numbers s)) front (both_pass (stream_times s) (number_lines (last_numbers s)) middle last)
+    let place = numbers_pass (place_numbers s) ((λ rest. refl), (refl, ((λ rest. refl), (refl, ((λ rest. refl), (refl, tt)))))) in
+    let last = numbers_pass (last_numbers s) ((λ rest. refl), (refl, ((λ rest. refl), (refl, tt)))) in
+    let shared = both_pass (list_line (codes "shared_with") s.shared_with) (number_lines (last_numbers s)) (list_passes s.shared_with) last in
+    let back = both_pass (number_lines (place_numbers s)) _ place shared in
+    both_pass (stream_front s) (stream_times s ++ stream_back s) front (both_pass (stream_times s) (stream_back s) middle back)
 
 -- 3. The whole
 

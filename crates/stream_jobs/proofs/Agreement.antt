@@ -49,12 +49,14 @@ entry_is s t e =
     let after_program = and_parts _ _ all.1 in
     let after_pid = and_parts _ _ after_program.1 in
     let after_id = and_parts _ _ after_pid.1 in
+    let after_type = and_parts _ _ after_id.1 in
     record {
       program = eqb-true _ _ all.0;
       pid = eqb-true _ _ after_program.0;
       stream_id = eqb-true _ _ after_pid.0;
       stream_type = eqb-true _ _ after_id.0;
-      descriptors = same_bytes s.descriptors t.descriptors after_id.1;
+      descriptors = same_bytes s.descriptors t.descriptors after_type.0;
+      shared_with = same_bytes s.shared_with t.shared_with after_type.1;
     }
 
 -- and a program

@@ -13,7 +13,7 @@ use Rattle.stream_jobs.specs.JobInput.{JobInputView}
 use Rattle.stream_jobs.specs.JobStreams.{TimedStreamView}
 
 none : TimedStreamView
-none = record { program = 0; pid = 0; stream_type = 0; stream_id = 0; descriptors = []; units = [] }
+none = record { program = 0; pid = 0; stream_type = 0; stream_id = 0; descriptors = []; shared_with = []; units = [] }
 
 -- a stream of a description is one of the input in its place, with its units, and what holds of all of these holds of it
 pub record StandsFor (d : Described) (units : List (ℕ × AccessUnit)) (P : TimedStreamView → Type 0) (k : ℕ) (s : DescribedStream) : Type 0 where

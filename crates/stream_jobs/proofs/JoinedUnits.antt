@@ -25,7 +25,7 @@ at_place P (p ∷ os) (u ∷ ts) zero o t all one other = subst (λ (x : Origin)
 at_place P (p ∷ os) (u ∷ ts) (suc k) o t all one other = at_place P os ts k o t all.1 one other
 
 none : TimedStreamView
-none = record { program = 0; pid = 0; stream_type = 0; stream_id = 0; descriptors = []; units = [] }
+none = record { program = 0; pid = 0; stream_type = 0; stream_id = 0; descriptors = []; shared_with = []; units = [] }
 
 is_stream : (made : Bool) (inputs : List (List FindingView)) (o : Origin) (d : Described) (s : DescribedStream) (us : List AccessUnit) (t : TimedStreamView) →
     IsFoundIn made inputs o t → Agrees d s t → us ≡ t.units → FitsQueue t → IsStreamIn made inputs o d s us

@@ -12,7 +12,7 @@ use Rattle.stream_jobs.specs.declared.warning.Warning.{Warning}
 use Rattle.stream_jobs.specs.declared.warning.ProgramWarning.TheVariants.{NoStream, UnreadText}
 use Rattle.stream_jobs.specs.declared.warning.Warning.TheVariants as warning
 use Rattle.stream_jobs.specs.GivenNames.{ServiceNameView, name_given}
-use Rattle.stream_jobs.specs.JobStreams.{WireStreamView}
+use Rattle.stream_jobs.specs.JobStreams.{WireStreamView, is_stream_of}
 use Rattle.stream_jobs.specs.ProgramClocks.{clock_by}
 
 -- a program, with the PIDs that its map and its clock references have in the new stream, and its clock in the one before
@@ -41,9 +41,9 @@ clock_if number (Some p) = p.clock
 unfoldable pub clock_in : List JobProgramView → ℕ → ProgramClock
 clock_in programs number = clock_if number (find (λ p. p.number == number) programs)
 
--- it has a stream with units
+-- it has a stream with units, of its own or a shared one
 unfoldable pub has_stream : List WireStreamView → FoundProgramView × ProgramPids → Bool
-has_stream streams p = list_any (λ s. s.program == p.0.number) streams
+has_stream streams p = list_any (is_stream_of p.0.number) streams
 
 -- those that have one, each with the PIDs that it is given
 abbrev pub job_programs : List WireStreamView → List FoundProgramView → List ProgramPids → List JobProgramView

@@ -40,13 +40,14 @@ pub record AreStreams (made : Bool) (findings : List FindingView) (input : JobIn
 
 -- 2. What a description declares of them
 
--- a stream of a description is this one, as its PES packets and its entry in the program map say
+-- a stream of a description is this one, as its PES packets and its entry in the program map say, and as the programs that share it
 pub record IsEntry (s : DescribedStream) (t : TimedStreamView) : Type 0 where
   pub program : s.program ≡ t.program
   pub pid : s.pid ≡ t.pid
   pub stream_id : s.stream_id ≡ t.stream_id
   pub stream_type : s.stream_type ≡ t.stream_type
   pub descriptors : s.descriptors ≡ t.descriptors
+  pub shared_with : s.shared_with ≡ t.shared_with
 
 -- the same as a test
 unfoldable pub is_entry : DescribedStream → TimedStreamView → Bool
@@ -55,7 +56,8 @@ is_entry s t =
     && (s.pid == t.pid
     && (s.stream_id == t.stream_id
     && (s.stream_type == t.stream_type
-    && bytes_eq s.descriptors t.descriptors)))
+    && (bytes_eq s.descriptors t.descriptors
+    && bytes_eq s.shared_with t.shared_with))))
 
 -- and what it declares of its units is what they need
 pub record Agrees (d : Described) (s : DescribedStream) (t : TimedStreamView) : Type 0 where

@@ -1,5 +1,5 @@
 -- The units of streams at the moments of a run.
-use Rattle.std.specs.Prelude.{ℕ, ◌+◌, ◌%◌, ◌^◌, ◌==◌, nat_lt, Bool, is_none, if◌then◌else◌, List, [], ◌∷◌, length, map, filter, sum_by, slice_get, unwrap_or, None, option_map, Result, Ok}
+use Rattle.std.specs.Prelude.{ℕ, ◌+◌, ◌%◌, ◌^◌, nat_lt, Bool, is_none, if◌then◌else◌, List, [], ◌∷◌, length, map, filter, sum_by, slice_get, unwrap_or, None, option_map, Result, Ok}
 use Rattle.std.specs.List.{list_any}
 use Rattle.pes_packet.specs.AccessUnits.{AccessUnit}
 use Rattle.demux.specs.Views.{FindingView}
@@ -13,14 +13,14 @@ use Rattle.stream_jobs.specs.declared.refusal.JobRefusal.{JobRefusal}
 use Rattle.stream_jobs.specs.declared.refusal.JobRefusal.TheVariants as refusals
 use Rattle.stream_jobs.specs.Answers.{unless, each}
 use Rattle.stream_jobs.specs.JobPrograms.{JobProgramView, clock_in}
-use Rattle.stream_jobs.specs.JobStreams.{TimedStreamView, WireStreamView}
+use Rattle.stream_jobs.specs.JobStreams.{TimedStreamView, WireStreamView, is_stream_of}
 use Rattle.stream_jobs.specs.ProgramClocks.{is_same_clock}
 
 -- 1. When the first unit of a clock is due
 
--- the bytes of a stream in the program map section of its program (ISO/IEC 13818-1, 2.4.4.8): 5 and its descriptors
+-- the bytes of a stream in the program map section of a program that has it (ISO/IEC 13818-1, 2.4.4.8): 5 and its descriptors
 unfoldable pub entry_size : ℕ → WireStreamView → ℕ
-entry_size number s = if s.program == number then 5 + length s.descriptors else 0
+entry_size number s = if is_stream_of number s then 5 + length s.descriptors else 0
 
 -- those of the section: 16, the program's descriptors, and its streams
 unfoldable pub map_size : List WireStreamView → JobProgramView → ℕ
@@ -94,6 +94,7 @@ with_moments base s = record {
   stream_type = s.stream_type;
   stream_id = s.stream_id;
   descriptors = s.descriptors;
+  shared_with = s.shared_with;
   units = moved base None (wire_of s);
 }
 

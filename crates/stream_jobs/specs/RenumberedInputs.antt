@@ -58,6 +58,7 @@ stream_with r s = record {
   stream_type = s.stream_type;
   stream_id = s.stream_id;
   descriptors = s.descriptors;
+  shared_with = map (becomes r.programs) s.shared_with;
   units = s.units;
 }
 

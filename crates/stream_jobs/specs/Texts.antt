@@ -56,6 +56,7 @@ stream_part s = record {
   main = s.1.0.needs.main;
   descriptors = s.0.descriptors;
   allowance = s.1.1.allowance;
+  shared_with = s.0.shared_with;
 }
 
 -- 4. The whole

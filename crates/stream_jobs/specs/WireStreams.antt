@@ -47,6 +47,7 @@ with_units s id units = record {
   stream_type = s.stream_type;
   stream_id = id;
   descriptors = s.descriptors;
+  shared_with = s.shared_with;
   units = units;
 }
 

@@ -1,6 +1,6 @@
 //! Whether a description has the programs of a job and declares what the units of its streams need.
 
-ghost use Rattle.std.specs.Prelude.{◌≡◌, ◌==◌, ◌&&◌, IfNone, IsTrue};
+ghost use Rattle.std.specs.Prelude.{◌≡◌, ◌==◌, ◌&&◌, IfNone, IfOk, IsTrue};
 ghost use Rattle.stream_units.specs.Declaration.{AllowsUnits};
 ghost use Rattle.stream_units.specs.Laws.{FirstDue};
 ghost use Rattle.stream_jobs.specs.Jobs.{AgreeInTurn, Agrees, AllAgree, AreInTurn, IsEntry, IsProgram};
@@ -12,7 +12,8 @@ use crate::job_programs::JobProgram;
 use crate::job_stream::TimedStream;
 use description::{Description, ProgramDescription, StreamDescription};
 use pes_packet::Unit;
-use stream_units::{burst_packets, group_packets, max_unit_size, min_interval};
+use std::alloc::{AllocError, Global};
+use stream_units::{CountedPackets, burst_packets, max_unit_size, min_interval};
 use unit_timing::allowance::Allowance;
 
 // Whether the first unit is due no earlier than a moment.
@@ -28,29 +29,52 @@ fn first_due(from: u64, units: &[Unit]) -> bool
 }
 
 // Whether the packets of units are as declared.
-fn packets_fit(base0: u64, declared: &StreamDescription, units: &[Unit]) -> bool
-    ensures value { result ≡ spec.allows_units declared.now.allowance declared.now.stream_id base0 units.now }
-    ensures fit { IsTrue result → AllowsUnits declared.now.allowance declared.now.stream_id base0 units.now }
+fn packets_fit(
+    alloc: Global,
+    base0: u64,
+    declared: &StreamDescription,
+    units: &[Unit],
+) -> Result<bool, AllocError>
+    ensures value { IfOk result (λ fit. fit ≡ spec.allows_units declared.now.allowance declared.now.stream_id base0
+        units.now) }
+    ensures fit { IfOk result (λ fit. IsTrue fit → AllowsUnits declared.now.allowance declared.now.stream_id base0
+        units.now) }
 {
     match declared.allowance {
         Allowance::Groups {
             units: group,
             packets,
-        } => group <= 64 && group_packets(base0, units, group) <= u64::from(packets),
-        Allowance::Pace { burst, pace } => { burst_packets(base0, units, pace) <= u64::from(burst) }
+        } => {
+            if group > 64 {
+                return Ok(false);
+            }
+            let counted = CountedPackets::of_units(alloc, base0, units)?;
+            Ok(counted.of_group(group) <= u64::from(packets))
+        }
+        Allowance::Pace { burst, pace } => {
+            Ok(burst_packets(base0, units, pace) <= u64::from(burst))
+        }
     }
 }
 
 // Whether a description declares what units need.
 #[tactic(auto, unfolding(crate::specs::Jobs::keeps))]
-fn declares(description: &Description, declared: &StreamDescription, units: &[Unit]) -> bool
-    ensures value { result ≡ spec.keeps description.now declared.now units.now }
-    ensures declares { IsTrue result → Declares description.now declared.now units.now }
+fn declares(
+    alloc: Global,
+    description: &Description,
+    declared: &StreamDescription,
+    units: &[Unit],
+) -> Result<bool, AllocError>
+    ensures value { IfOk result (λ declares. declares ≡ spec.keeps description.now declared.now units.now) }
+    ensures declares { IfOk result (λ declares. IsTrue declares → Declares description.now declared.now units.now) }
 {
     let size = max_unit_size(units) <= declared.size as usize;
     let interval = declared.interval <= min_interval(units);
     let lead = first_due(u64::from(declared.lead), units);
-    interval && size && lead && packets_fit(description.base0(), declared, units)
+    if !(interval && size && lead) {
+        return Ok(false);
+    }
+    packets_fit(alloc, description.base0(), declared, units)
 }
 
 // Whether a stream is the declared one, as its PES packets and its entry in the program map say.
@@ -64,40 +88,50 @@ fn is_entry(declared: &StreamDescription, stream: &TimedStream) -> bool
         && declared.stream_id == stream.stream_id
         && declared.stream_type == stream.stream_type
         && declared.descriptors.as_bytes() == stream.descriptors.as_slice()
+        && declared.shared_with.as_slice() == stream.shared_with.as_slice()
 }
 
 // Whether a stream is the declared one, and its units are as declared.
-fn agrees(description: &Description, declared: &StreamDescription, stream: &TimedStream) -> bool
-    ensures value { result ≡ (spec.is_entry declared.now stream.now
-        && spec.keeps description.now declared.now stream.now.units) }
-    ensures agrees { IsTrue result → Agrees description.now declared.now stream.now }
+fn agrees(
+    alloc: Global,
+    description: &Description,
+    declared: &StreamDescription,
+    stream: &TimedStream,
+) -> Result<bool, AllocError>
+    ensures value { IfOk result (λ agrees. agrees ≡ (spec.is_entry declared.now stream.now
+        && spec.keeps description.now declared.now stream.now.units)) }
+    ensures agrees { IfOk result (λ agrees. IsTrue agrees → Agrees description.now declared.now stream.now) }
 {
-    is_entry(declared, stream) && declares(description, declared, &stream.units)
+    if !is_entry(declared, stream) {
+        return Ok(false);
+    }
+    declares(alloc, description, declared, &stream.units)
 }
 
 // The PID of the first stream that is not the declared one in its place.
 #[tactic(auto, unfolding(crate::specs::Jobs::AgreeInTurn, crate::specs::Jobs::first_disagreeing))]
 fn first_disagreeing(
+    alloc: Global,
     description: &Description,
     declared: &[StreamDescription],
     streams: &[TimedStream],
-) -> Option<u16>
-    ensures value { result ≡ spec.first_disagreeing description.now declared.now streams.now }
-    ensures agree { IfNone result (AgreeInTurn description.now declared.now streams.now) }
+) -> Result<Option<u16>, AllocError>
+    ensures value { IfOk result (λ pid. pid ≡ spec.first_disagreeing description.now declared.now streams.now) }
+    ensures agree { IfOk result (λ pid. IfNone pid (AgreeInTurn description.now declared.now streams.now)) }
 {
     let mut ones = declared;
     let mut rest = streams;
     'streams: while let Some((one, later_ones)) = ones.split_first() {
         let Some((stream, later)) = rest.split_first() else {
-            return None;
+            return Ok(None);
         };
-        if !agrees(description, one, stream) {
-            return Some(stream.pid);
+        if !agrees(alloc, description, one, stream)? {
+            return Ok(Some(stream.pid));
         }
         ones = later_ones;
         rest = later;
     }
-    None
+    Ok(None)
 }
 
 // Whether a program is the declared one.
@@ -135,9 +169,13 @@ fn first_other_program(declared: &[ProgramDescription], programs: &[JobProgram])
 /// The PID of the clock references of the first program that is not the declared one, else that of the first stream that is not, or of
 /// whose units the description does not declare what they need; 0 where there are not as many of either, or the clock begins otherwise.
 #[tactic(auto, using(crate::proofs::Agreement::in_turn), unfolding(crate::specs::Jobs::disagreeing))]
-pub(crate) fn disagreeing(description: &Description, input: &JobInput) -> Option<u16>
-    ensures value { result ≡ spec.disagreeing description.now input.now }
-    ensures agree { IfNone result (AllAgree description.now input.now) }
+pub(crate) fn disagreeing(
+    alloc: Global,
+    description: &Description,
+    input: &JobInput,
+) -> Result<Option<u16>, AllocError>
+    ensures value { IfOk result (λ pid. pid ≡ spec.disagreeing description.now input.now) }
+    ensures agree { IfOk result (λ pid. IfNone pid (AllAgree description.now input.now)) }
 {
     let programs = description.programs();
     let streams = description.streams();
@@ -145,10 +183,10 @@ pub(crate) fn disagreeing(description: &Description, input: &JobInput) -> Option
         || programs.len() != input.programs.len()
         || streams.len() != input.streams.len()
     {
-        return Some(0);
+        return Ok(Some(0));
     }
     match first_other_program(programs, &input.programs) {
-        Some(pid) => Some(pid),
-        None => first_disagreeing(description, streams, &input.streams),
+        Some(pid) => Ok(Some(pid)),
+        None => first_disagreeing(alloc, description, streams, &input.streams),
     }
 }

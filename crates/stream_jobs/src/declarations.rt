@@ -1,7 +1,8 @@
 //! What is counted of a stream's units.
 
-ghost use Rattle.std.specs.Prelude.{◌≡◌, ◌≤◌, IfErr, IfNone, IfOk, Ok, All};
-ghost use Rattle.stream_units.specs.Declaration.{max_unit_size};
+ghost use Rattle.std.specs.Prelude.{◌≡◌, ◌≤◌, IfErr, IfNone, IfOk, List, Ok, All};
+ghost use Rattle.pes_packet.specs.AccessUnits.{AccessUnit};
+ghost use Rattle.stream_units.specs.Declaration.{counted_packets, max_unit_size};
 ghost use Rattle.stream_jobs.specs.Answers.{Answers, Refuses};
 ghost use Rattle.stream_jobs.specs.Declarations as spec;
 ghost use Rattle.stream_jobs.specs.Jobs.{FitsQueue};
@@ -13,7 +14,7 @@ use std::alloc::{AllocError, Global};
 use std::marker::Model;
 use stream_choice::Needs;
 use stream_coding::{Buffers, PidBuffers, buffers_of, coding_of, given_buffers};
-use stream_units::{group_packets, max_unit_size, min_interval};
+use stream_units::{CountedPackets, max_unit_size, min_interval};
 
 /// The greatest number of programs, and of streams, in a description.
 const MAX_PROGRAMS: usize = 16;
@@ -106,12 +107,12 @@ fn buffers_for(given: &[PidBuffers], stream: &TimedStream) -> Buffers
 
 // The greatest number of packets of `group` units in a row, as a number of 32 bits.
 #[tactic(auto, unfolding(crate::specs::Declarations::packets_of_group))]
-fn packets_of_group(stream: &TimedStream, group: usize) -> u32
+fn packets_of_group(packets: &CountedPackets, group: usize) -> u32
     requires { group ≤ 64 }
-    ensures { result ≡ spec.packets_of_group stream.now.units group }
+    ensures { (us : List AccessUnit) → packets.now ≡ counted_packets 0 0 us → result ≡ spec.packets_of_group us group }
 {
-    let packets = group_packets(0, &stream.units, group as u8);
-    packets.min(u64::from(u32::MAX)) as u32
+    let most = packets.of_group(group as u8);
+    most.min(u64::from(u32::MAX)) as u32
 }
 
 // The greatest number of packets of 1, 2, .. units in a row.
@@ -119,9 +120,10 @@ fn packets_of_group(stream: &TimedStream, group: usize) -> u32
 fn max_group_packets(alloc: Global, stream: &TimedStream) -> Result<Vec<u32>, AllocError>
     ensures { IfOk result (λ packets. packets.items ≡ spec.max_group_packets stream.now) }
 {
+    let packets = CountedPackets::of_units(alloc, 0, &stream.units)?;
     let groups = stream.units.len().min(MAX_GROUP);
     (0..groups)
-        .map(|before| packets_of_group(stream, before + 1))
+        .map(|before| packets_of_group(&packets, before + 1))
         .collect(alloc)
 }
 

@@ -145,6 +145,7 @@ fn write_stream(
         main: unit_counts.needs.main,
         descriptors: &stream.descriptors,
         allowance: choice.allowance,
+        shared_with: &stream.shared_with,
     };
     entry.write_text(text)
 }

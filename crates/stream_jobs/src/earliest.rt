@@ -5,7 +5,7 @@ ghost use Rattle.std.specs.List.{list_any};
 ghost use Rattle.stream_jobs.specs.Moments as spec;
 
 use crate::job_programs::JobProgram;
-use crate::job_stream::WireStream;
+use crate::job_stream::{WireStream, is_stream_of};
 
 /// The first unit is due two seconds after the first slot, in units of 90 kHz: a unit may be sent a second before it is
 /// due, and in the other second each table that it needs has come. Half a second more if a program map section has more
@@ -19,7 +19,7 @@ const LATER: u64 = 225_000;
 fn entry_size(number: u16, stream: &WireStream) -> usize
     ensures { result ≡ spec.entry_size number stream.now }
 {
-    if stream.program == number {
+    if is_stream_of(number, stream) {
         5 + stream.descriptors.len()
     } else {
         0

@@ -72,7 +72,7 @@ fn agreed_plan(
 {
     let draft = DescriptionDraft { options, input };
     let planned = plan_draft(alloc, &draft)?;
-    match disagreeing(planned.plan.description(), input) {
+    match disagreeing(alloc, planned.plan.description(), input)? {
         Some(pid) => Err(JobError::Refused(JobRefusal::Declaration(pid))),
         None => Ok(planned),
     }

@@ -3,8 +3,9 @@
 ghost use Rattle.std.specs.Prelude.{◌≡◌, ◌==◌, ◌++◌, ◌∷◌, [], find, option_map, IfOk, OnOk};
 ghost use Rattle.std.specs.List.{list_any};
 ghost use Rattle.stream_jobs.specs.JobPrograms as spec;
+ghost use Rattle.stream_jobs.specs.JobStreams.{is_stream_of};
 
-use crate::job_stream::WireStream;
+use crate::job_stream::{WireStream, is_stream_of};
 use crate::program_clock::{ProgramClock, clock_by};
 use crate::warning::{ProgramWarning, Warning};
 use std::alloc::{AllocError, Global};
@@ -56,9 +57,9 @@ pub(crate) fn clock_in(programs: &[JobProgram], number: u16) -> ProgramClock
 
 // Whether a program has a stream with units.
 fn has_stream(streams: &[WireStream], number: u16) -> bool
-    ensures { result ≡ list_any (λ s. s.program == number) streams.now }
+    ensures { result ≡ list_any (is_stream_of number) streams.now }
 {
-    streams.iter().any(|stream| stream.program == number)
+    streams.iter().any(|stream| is_stream_of(number, stream))
 }
 
 // Appends the warning that a program has no stream, or that its map moves.

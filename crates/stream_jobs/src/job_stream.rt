@@ -1,5 +1,9 @@
 //! An elementary stream of a job.
 
+ghost use Rattle.std.specs.Prelude.{◌≡◌};
+ghost use Rattle.stream_jobs.specs.JobStreams as spec;
+
+use crate::job_options::is_among;
 use pes_packet::Unit;
 use std::marker::Model;
 use stream_units::WireUnit;
@@ -14,6 +18,8 @@ pub(crate) struct JobStream<U> {
     pub stream_id: u8,
     /// The descriptors of the stream in the program map.
     pub descriptors: Vec<u8>,
+    /// The numbers of the other programs that share it.
+    pub shared_with: Vec<u16>,
     pub units: Vec<U>,
 }
 
@@ -37,6 +43,15 @@ impl<U> Model for JobStream<U> {
       stream_type = s.stream_type;
       stream_id = s.stream_id;
       descriptors = s.descriptors.items;
+      shared_with = s.shared_with.items;
       units = s.units.items;
     } };
+}
+
+/// Whether a program has a stream, as its own or a shared one.
+#[tactic(auto, unfolding(crate::specs::JobStreams::is_stream_of))]
+pub(crate) fn is_stream_of(number: u16, stream: &WireStream) -> bool
+    ensures { result ≡ spec.is_stream_of number stream.now }
+{
+    stream.program == number || is_among(number, &stream.shared_with)
 }

@@ -170,6 +170,7 @@ fn moved_stream(
             stream_type: stream.stream_type,
             stream_id: stream.stream_id,
             descriptors: stream.descriptors,
+            shared_with: stream.shared_with,
             units,
         }),
         Err(StampError::Memory) => Err(JobError::Memory),

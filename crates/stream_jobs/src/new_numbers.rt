@@ -114,6 +114,20 @@ pub(crate) fn becomes(all: &[NewNumber], number: u16) -> u16
     }
 }
 
+/// What these numbers become.
+pub(crate) fn all_become(
+    alloc: Global,
+    all: &[NewNumber],
+    numbers: &[u16],
+) -> Result<Vec<u16>, AllocError>
+    ensures { IfOk result (λ new. new.items ≡ map (spec.becomes all.now) numbers.now) }
+{
+    numbers
+        .iter()
+        .map(|number| becomes(all, *number))
+        .collect(alloc)
+}
+
 // A number beside what it becomes.
 #[tactic(auto, unfolding(crate::specs::NewNumbers::becoming))]
 fn becoming(all: &[NewNumber], number: u16) -> NewNumber

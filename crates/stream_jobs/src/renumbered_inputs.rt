@@ -8,7 +8,7 @@ use crate::input::JobInput;
 use crate::job_events::JobEvent;
 use crate::job_programs::JobProgram;
 use crate::job_stream::TimedStream;
-use crate::new_numbers::{NewNumber, becomes, new_numbers};
+use crate::new_numbers::{NewNumber, all_become, becomes, new_numbers};
 use std::alloc::{AllocError, Global};
 use std::marker::Model;
 
@@ -152,16 +152,22 @@ fn program_with(numbers: &Renumbering, program: JobProgram) -> JobProgram
 
 // A stream with its own.
 #[tactic(auto, unfolding(crate::specs::RenumberedInputs::stream_with))]
-fn stream_with(numbers: &Renumbering, stream: TimedStream) -> TimedStream
-    ensures { result ≡ spec.stream_with numbers.now stream }
+fn stream_with(
+    alloc: Global,
+    numbers: &Renumbering,
+    stream: TimedStream,
+) -> Result<TimedStream, AllocError>
+    ensures { IfOk result (λ s. s ≡ spec.stream_with numbers.now stream) }
 {
     let program = becomes(&numbers.programs, stream.program);
     let pid = becomes(&numbers.pids, stream.pid);
-    TimedStream {
+    let shared_with = all_become(alloc, &numbers.programs, &stream.shared_with)?;
+    Ok(TimedStream {
         program,
         pid,
+        shared_with,
         ..stream
-    }
+    })
 }
 
 // An event with that of its program.
@@ -190,6 +196,7 @@ fn push_programs(
 
 // Appends these streams with theirs.
 fn push_streams(
+    alloc: Global,
     numbers: &Renumbering,
     found: Vec<TimedStream>,
     streams: &mut Vec<TimedStream>,
@@ -197,7 +204,7 @@ fn push_streams(
     ensures { OnOk result (streams.new.items ≡ streams.old.items ++ map (spec.stream_with numbers.now) found.items) }
 {
     for stream in found {
-        streams.push(stream_with(numbers, stream))?;
+        streams.push(stream_with(alloc, numbers, stream)?)?;
     }
     Ok(())
 }
@@ -270,7 +277,7 @@ pub(crate) fn renumbered(
     let mut programs = Vec::new(alloc);
     push_programs(numbers, found_programs, &mut programs)?;
     let mut streams = Vec::new(alloc);
-    push_streams(numbers, found_streams, &mut streams)?;
+    push_streams(alloc, numbers, found_streams, &mut streams)?;
     Ok(JobInput {
         information: information_with(alloc, numbers, information)?,
         base0,

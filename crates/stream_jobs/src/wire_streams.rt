@@ -101,6 +101,7 @@ fn stream_of(
         stream_type: stream.stream_type,
         stream_id,
         descriptors: stream.descriptors,
+        shared_with: stream.shared_with,
         units,
     })
 }

@@ -1,5 +1,5 @@
 -- PIDs of which none stands twice.
-use Rattle.std.proofs.Common.{◌≡◌, ◌≤◌, ◌<◌, ℕ, suc, ◌+◌, ◌==◌, ◌||◌, nat_eq, nat_le, nat_lt, false, List, [], ◌∷◌, ◌++◌, length, map, append_assoc, append-nil, Option, None, Some, refl, sym, subst, ap, ◌∙◌, inl, inr, arith}
+use Rattle.std.proofs.Common.{◌≡◌, ◌≤◌, ◌<◌, ℕ, suc, ◌+◌, ◌==◌, ◌||◌, nat_eq, nat_le, nat_lt, Bool, true, false, if◌then◌else◌, List, [], ◌∷◌, ◌++◌, length, map, append_assoc, append-nil, Option, None, Some, refl, sym, subst, ap, ◌∙◌, inl, inr, arith}
 use Rattle.std.proofs.lemmas.Bool.{cases_Bool, or_parts, leb-false, eqb-false, ne_eqb}
 use Rattle.std.proofs.lemmas.List.{map-append, length-append, length-map}
 use Rattle.std.proofs.lemmas.List.Elements.{All-push, All-nil}
@@ -16,11 +16,13 @@ use Rattle.stream_programs.specs.FreePids.{is_taken, least_free}
 use Rattle.stream_programs.specs.Laws.{PidsAreDistinct, EachHasPids}
 use Rattle.stream_programs.specs.PidAssignment.{IsPid, AreDistinctPids, stream_pids, map_pids, assigned_map_pid, assigned_map_pids, with_pcr_pids, assigned_pids, all_pids}
 use Rattle.stream_programs.specs.ProgramMaps.{program_map}
-use Rattle.stream_programs.specs.Programs.{FoundProgramsView, FoundProgramView, nothing, with_stream_if, with_stream, with_streams, is_scrambled_map, with_access, with_program_if, with_map, with_program_by, with_programs, programs_of, kept_stream, kept_program}
-use Rattle.stream_programs.specs.Streams.{FoundStreamView, is_reserved, has_no_pes, holder, taken, omission_of}
+use Rattle.stream_programs.specs.Programs.{FoundProgramsView, FoundProgramView, nothing, can_share, with_left_out, with_shared, with_stream_if, with_stream, with_streams, is_scrambled_map, with_access, with_program_if, with_map, with_program_by, with_programs, programs_of, kept_stream, kept_program}
+use Rattle.stream_programs.specs.Streams.{FoundStreamView, is_reserved, has_no_pes, holder, is_stream_of, taken, omission_of}
 use Rattle.stream_programs.specs.declared.omission.TableOmission.{TableOmission}
+use Rattle.stream_programs.specs.declared.omission.TableOmission.TheVariants.{NoMap, ConditionalAccess, NoPes, Reserved, Taken, SharedOtherwise, NoStream}
 use Rattle.stream_programs.specs.declared.pid_assignment.ProgramPids.{ProgramPids}
 use Rattle.stream_programs.proofs.LeastFreePid.{free_is}
+use Rattle.stream_programs.proofs.Sharers.{shared_pids}
 
 -- 1. One more PID
 
@@ -163,20 +165,41 @@ kept_free program type pid kept none = elim (cases_Bool (has_no_pes type)) [
   ]
 ]
 
-one_kept : (found : FoundProgramsView) (program : ℕ) (s : StreamView) (why : Option TableOmission) → omission_of program s.stream_type s.elementary_pid found.streams ≡ why →
-    AreDistinctPids (stream_pids found) → AreDistinctPids (stream_pids (with_stream_if why found (kept_stream program s)))
+-- a stream that is shared, or not
+shared_kept : (found : FoundProgramsView) (holder : ℕ) (s : FoundStreamView) → stream_pids (with_shared found holder s) ≡ stream_pids found
+unfolding with_shared
+shared_kept found holder s = shared_pids s.program s.pid found.streams
+
+taken_kept : (b : Bool) (found : FoundProgramsView) (program pid holder : ℕ) (s : FoundStreamView) →
+    stream_pids (if b then with_shared found holder s else with_left_out found (Taken program pid holder)) ≡ stream_pids found
+taken_kept true found program pid holder s = shared_kept found holder s
+taken_kept false found program pid holder s = refl
+
+left_kept : (found : FoundProgramsView) (pcr_pid : ℕ) (s : FoundStreamView) (why : TableOmission) → stream_pids (with_stream_if (Some why) found pcr_pid s) ≡ stream_pids found
 unfolding with_stream_if
-one_kept found program s (Some why) is h = h
-one_kept found program s None is h =
+left_kept found pcr_pid s (Taken program pid holder) = taken_kept (can_share found holder pcr_pid s) found program pid holder s
+left_kept found pcr_pid s (NoMap program) = refl
+left_kept found pcr_pid s (ConditionalAccess program) = refl
+left_kept found pcr_pid s (NoPes program pid type) = refl
+left_kept found pcr_pid s (Reserved program pid) = refl
+left_kept found pcr_pid s (SharedOtherwise program pid holder) = refl
+left_kept found pcr_pid s (NoStream program) = refl
+
+one_kept : (found : FoundProgramsView) (program pcr_pid : ℕ) (s : StreamView) (why : Option TableOmission) → omission_of program s.stream_type s.elementary_pid found.streams ≡ why →
+    AreDistinctPids (stream_pids found) → AreDistinctPids (stream_pids (with_stream_if why found pcr_pid (kept_stream program s)))
+unfolding with_stream_if
+one_kept found program pcr_pid s (Some why) is h = subst AreDistinctPids (sym (left_kept found pcr_pid (kept_stream program s) why)) h
+one_kept found program pcr_pid s None is h =
     let free = kept_free program s.stream_type s.elementary_pid found.streams is in
     subst (λ (ps : List ℕ). AreDistinctPids ps) (sym (map-append (λ (t : FoundStreamView). t.pid) found.streams (kept_stream program s ∷ [])))
     (one_more (stream_pids found) s.elementary_pid h free.0 free.1)
 
-all_kept : (found : FoundProgramsView) (program : ℕ) (ss : List StreamView) → AreDistinctPids (stream_pids found) → AreDistinctPids (stream_pids (with_streams found program ss))
+all_kept : (found : FoundProgramsView) (program pcr_pid : ℕ) (ss : List StreamView) → AreDistinctPids (stream_pids found) → AreDistinctPids (stream_pids (with_streams found program pcr_pid ss))
 unfolding with_streams with_stream
-all_kept found program [] h = h
-all_kept found program (s ∷ ss) h =
-    all_kept (with_stream found program s) program ss (one_kept found program s (omission_of program s.stream_type s.elementary_pid found.streams) refl h)
+all_kept found program pcr_pid [] h = h
+all_kept found program pcr_pid (s ∷ ss) h =
+    all_kept (with_stream found program pcr_pid s) program pcr_pid ss
+    (one_kept found program pcr_pid s (omission_of program s.stream_type s.elementary_pid found.streams) refl h)
 
 access_same : (found : FoundProgramsView) (program : ℕ) (pmt : PmtView) → stream_pids (with_access found program pmt) ≡ stream_pids found
 unfolding with_access
@@ -185,20 +208,20 @@ access_same found program pmt = elim (cases_Bool (is_scrambled_map pmt)) [
   | inr clear ↦ rw clear refl
 ]
 
-program_same : (before : ℕ) (found : FoundProgramsView) (p : FoundProgramView) → stream_pids (with_program_if before found p) ≡ stream_pids found
+program_same : (found : FoundProgramsView) (p : FoundProgramView) → stream_pids (with_program_if found p) ≡ stream_pids found
 unfolding with_program_if
-program_same before found p = elim (cases_Bool (length found.streams == before)) [
-  | inl none ↦ rw none refl
-  | inr some ↦ rw some refl
+program_same found p = elim (cases_Bool (list_any (is_stream_of p.number) found.streams)) [
+  | inl some ↦ rw some refl
+  | inr none ↦ rw none refl
 ]
 
 map_kept : (found : FoundProgramsView) (p : Program) (pmt : PmtView) → AreDistinctPids (stream_pids found) → AreDistinctPids (stream_pids (with_map found p pmt))
 unfolding with_map
 map_kept found p pmt h =
     let access = with_access found p.program_number pmt in
-    let streams = with_streams access p.program_number pmt.streams in
-    subst (λ (ps : List ℕ). AreDistinctPids ps) (sym (program_same (length found.streams) streams (kept_program p pmt)))
-    (all_kept access p.program_number pmt.streams (subst (λ (ps : List ℕ). AreDistinctPids ps) (sym (access_same found p.program_number pmt)) h))
+    let streams = with_streams access p.program_number pmt.pcr_pid pmt.streams in
+    subst (λ (ps : List ℕ). AreDistinctPids ps) (sym (program_same streams (kept_program p pmt)))
+    (all_kept access p.program_number pmt.pcr_pid pmt.streams (subst (λ (ps : List ℕ). AreDistinctPids ps) (sym (access_same found p.program_number pmt)) h))
 
 program_kept : (found : FoundProgramsView) (p : Program) (pmt : Option PmtView) → AreDistinctPids (stream_pids found) → AreDistinctPids (stream_pids (with_program_by found p pmt))
 unfolding with_program_by

@@ -11,6 +11,7 @@ pub mod LeastFreePid
 pub mod AssignedPids
 pub mod FittingText
 pub mod CharacterSteps
+pub mod Sharers
 pub mod DistinctPids
 pub mod TablesAlone
 pub mod StrayPids

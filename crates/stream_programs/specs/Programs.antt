@@ -1,14 +1,14 @@
 -- The programs of a stream and their elementary streams.
-use Rattle.std.specs.Prelude.{ℕ, ◌==◌, ◌||◌, Bool, if◌then◌else◌, List, [], ◌∷◌, ◌++◌, length, Option, Some, None}
+use Rattle.std.specs.Prelude.{ℕ, ◌==◌, ◌||◌, ◌&&◌, not, Bool, if◌then◌else◌, List, [], ◌∷◌, ◌++◌, Option, Some, None}
 use Rattle.std.specs.List.{list_any}
 use Rattle.psi_tables.specs.ProgramMap.{StreamView, PmtView}
 use Rattle.psi_tables.specs.declared.pat.programs.Program.{Program}
 use Rattle.demux.specs.Views.{FindingView}
 use Rattle.descriptor_loops.specs.Descriptors.{has_ca, kept_descriptors}
 use Rattle.stream_programs.specs.ProgramMaps.{program_map}
-use Rattle.stream_programs.specs.Streams.{FoundStreamView, omission_of}
+use Rattle.stream_programs.specs.Streams.{FoundStreamView, is_alike, is_shared_with, is_stream_of, omission_of, shared_by}
 use Rattle.stream_programs.specs.declared.omission.TableOmission.{TableOmission}
-use Rattle.stream_programs.specs.declared.omission.TableOmission.TheVariants.{NoMap, NoStream, ConditionalAccess}
+use Rattle.stream_programs.specs.declared.omission.TableOmission.TheVariants.{NoMap, NoStream, ConditionalAccess, Taken, SharedOtherwise}
 
 -- a program that has a stream
 pub record FoundProgramView : Type 0 where
@@ -34,21 +34,52 @@ kept_stream number s = record {
   stream_type = s.stream_type;
   pid = s.elementary_pid;
   descriptors = kept_descriptors s.descriptors;
+  shared_with = [];
 }
 
 abbrev pub with_left_out : FoundProgramsView → TableOmission → FoundProgramsView
 with_left_out found why = record { programs = found.programs; streams = found.streams; left_out = found.left_out ++ why ∷ [] }
 
-unfoldable pub with_stream_if : Option TableOmission → FoundProgramsView → FoundStreamView → FoundProgramsView
-with_stream_if (Some why) found s = with_left_out found why
-with_stream_if None found s = record { programs = found.programs; streams = found.streams ++ s ∷ []; left_out = found.left_out }
+abbrev pub with_kept : FoundProgramsView → FoundStreamView → FoundProgramsView
+with_kept found s = record { programs = found.programs; streams = found.streams ++ s ∷ []; left_out = found.left_out }
 
-unfoldable pub with_stream : FoundProgramsView → ℕ → StreamView → FoundProgramsView
-with_stream found number s = with_stream_if (omission_of number s.stream_type s.elementary_pid found.streams) found (kept_stream number s)
+-- a program of this number has its clock references on this PID (2.4.4.9; 0x1FFF is none), so with another that has them there
+-- one clock
+unfoldable pub has_clock : List FoundProgramView → ℕ → ℕ → Bool
+has_clock programs number pcr_pid = not (pcr_pid == 8191) && list_any (λ p. p.number == number && p.pcr_pid == pcr_pid) programs
 
-unfoldable pub with_streams : FoundProgramsView → ℕ → List StreamView → FoundProgramsView
-with_streams found number [] = found
-with_streams found number (s ∷ ss) = with_streams (with_stream found number s) number ss
+-- a program names the stream already
+unfoldable pub shares : List FoundStreamView → ℕ → ℕ → Bool
+shares streams number pid = list_any (λ s. s.pid == pid && is_shared_with number s) streams
+
+-- a stream of a holder's is shared where both have one clock, once
+unfoldable pub can_share : FoundProgramsView → ℕ → ℕ → FoundStreamView → Bool
+can_share found holder pcr_pid s = has_clock found.programs holder pcr_pid && not (shares found.streams s.program s.pid)
+
+-- it is shared; where the map says something else of it, that is left out
+abbrev pub otherwise : FoundStreamView → ℕ → TableOmission
+otherwise s holder = SharedOtherwise s.program s.pid holder
+
+unfoldable pub with_shared : FoundProgramsView → ℕ → FoundStreamView → FoundProgramsView
+with_shared found holder s = record {
+  programs = found.programs;
+  streams = shared_by s.program s.pid found.streams;
+  left_out = if list_any (is_alike s) found.streams then found.left_out else found.left_out ++ otherwise s holder ∷ [];
+}
+
+-- what there is of a stream of a map with clock references on a PID
+unfoldable pub with_stream_if : Option TableOmission → FoundProgramsView → ℕ → FoundStreamView → FoundProgramsView
+with_stream_if None found pcr_pid s = with_kept found s
+with_stream_if (Some (Taken program pid holder)) found pcr_pid s =
+    if can_share found holder pcr_pid s then with_shared found holder s else with_left_out found (Taken program pid holder)
+with_stream_if (Some why) found pcr_pid s = with_left_out found why
+
+unfoldable pub with_stream : FoundProgramsView → ℕ → ℕ → StreamView → FoundProgramsView
+with_stream found number pcr_pid s = with_stream_if (omission_of number s.stream_type s.elementary_pid found.streams) found pcr_pid (kept_stream number s)
+
+unfoldable pub with_streams : FoundProgramsView → ℕ → ℕ → List StreamView → FoundProgramsView
+with_streams found number pcr_pid [] = found
+with_streams found number pcr_pid (s ∷ ss) = with_streams (with_stream found number pcr_pid s) number pcr_pid ss
 
 -- 2. A program
 
@@ -63,11 +94,11 @@ is_scrambled_map pmt = has_ca pmt.program_info || any_ca pmt.streams
 unfoldable pub with_access : FoundProgramsView → ℕ → PmtView → FoundProgramsView
 with_access found number pmt = if is_scrambled_map pmt then with_left_out found (ConditionalAccess number) else found
 
--- a program before whose map there were this number of streams
-unfoldable pub with_program_if : ℕ → FoundProgramsView → FoundProgramView → FoundProgramsView
-with_program_if before found p =
-    if length found.streams == before then with_left_out found (NoStream p.number)
-    else record { programs = found.programs ++ p ∷ []; streams = found.streams; left_out = found.left_out }
+-- a program is kept if it has a stream, of its own or shared
+unfoldable pub with_program_if : FoundProgramsView → FoundProgramView → FoundProgramsView
+with_program_if found p =
+    if list_any (is_stream_of p.number) found.streams then record { programs = found.programs ++ p ∷ []; streams = found.streams; left_out = found.left_out }
+    else with_left_out found (NoStream p.number)
 
 abbrev pub kept_program : Program → PmtView → FoundProgramView
 kept_program p pmt = record {
@@ -78,7 +109,8 @@ kept_program p pmt = record {
 }
 
 unfoldable pub with_map : FoundProgramsView → Program → PmtView → FoundProgramsView
-with_map found p pmt = with_program_if (length found.streams) (with_streams (with_access found p.program_number pmt) p.program_number pmt.streams) (kept_program p pmt)
+with_map found p pmt =
+    with_program_if (with_streams (with_access found p.program_number pmt) p.program_number pmt.pcr_pid pmt.streams) (kept_program p pmt)
 
 unfoldable pub with_program_by : FoundProgramsView → Program → Option PmtView → FoundProgramsView
 with_program_by found p None = with_left_out found (NoMap p.program_number)

@@ -1,14 +1,18 @@
 -- Which streams of a program map table are kept.
-use Rattle.std.specs.Prelude.{ℕ, ◌==◌, ◌&&◌, ◌||◌, nat_le, nat_lt, Bool, if◌then◌else◌, List, [], ◌∷◌, Option, Some, None}
+use Rattle.std.specs.Prelude.{ℕ, ◌==◌, ◌&&◌, ◌||◌, nat_le, nat_lt, Bool, if◌then◌else◌, List, [], ◌∷◌, ◌++◌, Option, Some, None}
+use Rattle.std.specs.List.{list_any}
+use Rattle.std.specs.Str.{bytes_eq}
 use Rattle.stream_programs.specs.declared.omission.TableOmission.{TableOmission}
 use Rattle.stream_programs.specs.declared.omission.TableOmission.TheVariants.{NoPes, Reserved, Taken}
 
--- an elementary stream of a program, with its whole descriptors but for those of conditional access
+-- an elementary stream of a program, with its whole descriptors but for those of conditional access, and the other programs whose
+-- maps name it too
 pub record FoundStreamView : Type 0 where
   pub program : ℕ
   pub stream_type : ℕ
   pub pid : ℕ
   pub descriptors : List ℕ
+  pub shared_with : List ℕ
 
 -- stream_types whose data are sections (ISO/IEC 13818-1, table 2-34; SCTE 35 for 0x86), and DSM-CC (0x08), whose stream_id
 -- is one of its own: private sections, ISO/IEC 13818-6 A to D, ISO/IEC 14496 sections, synchronized download, metadata
@@ -34,3 +38,30 @@ unfoldable pub omission_of : ℕ → ℕ → ℕ → List FoundStreamView → Op
 omission_of program stream_type pid kept =
     if has_no_pes stream_type then Some (NoPes program pid stream_type)
     else (if is_reserved pid then Some (Reserved program pid) else taken program pid (holder pid kept))
+
+-- a program shares a stream
+unfoldable pub is_shared_with : ℕ → FoundStreamView → Bool
+is_shared_with number s = list_any (λ n. n == number) s.shared_with
+
+-- it has the stream, as its own or a shared one
+unfoldable pub is_stream_of : ℕ → FoundStreamView → Bool
+is_stream_of number s = s.program == number || is_shared_with number s
+
+-- a stream that one more program shares
+abbrev pub with_sharer : ℕ → FoundStreamView → FoundStreamView
+with_sharer number s = record {
+  program = s.program;
+  stream_type = s.stream_type;
+  pid = s.pid;
+  descriptors = s.descriptors;
+  shared_with = s.shared_with ++ number ∷ [];
+}
+
+-- streams of which a program shares that of a PID
+unfoldable pub shared_by : ℕ → ℕ → List FoundStreamView → List FoundStreamView
+shared_by number pid [] = []
+shared_by number pid (s ∷ ss) = if s.pid == pid then with_sharer number s ∷ ss else s ∷ shared_by number pid ss
+
+-- two maps say the same of the stream of a PID
+unfoldable pub is_alike : FoundStreamView → FoundStreamView → Bool
+is_alike one other = one.pid == other.pid && (one.stream_type == other.stream_type && bytes_eq one.descriptors other.descriptors)

@@ -25,8 +25,15 @@ pub enum TableOmission {
         program: u16,
         pid: u16,
     },
-    /// The PID is that of a stream of the program `holder` already, which may be the same program.
+    /// The PID is that of a stream of the program `holder` already, which may be the same program, and can't be shared.
     Taken {
+        program: u16,
+        pid: u16,
+        holder: u16,
+    },
+    /// The stream of this PID is one of the program `holder`, and shared; the program's map says of it another stream_type or other
+    /// descriptors.
+    SharedOtherwise {
         program: u16,
         pid: u16,
         holder: u16,
@@ -47,6 +54,7 @@ impl TableOmission {
             TableOmission::NoPes { .. } => true,
             TableOmission::Reserved { .. } => true,
             TableOmission::Taken { .. } => true,
+            TableOmission::SharedOtherwise { .. } => true,
             _ => false,
         }
     }

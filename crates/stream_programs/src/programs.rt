@@ -1,6 +1,7 @@
 //! The programs of a stream and their elementary streams.
 
-ghost use Rattle.std.specs.Prelude.{◌≡◌, IfOk, OnOk, map};
+ghost use Rattle.std.specs.Prelude.{◌≡◌, ◌==◌, ◌&&◌, not, IfOk, OnOk, map};
+ghost use Rattle.std.specs.List.{list_any};
 ghost use Rattle.psi_tables.specs.ProgramMap.{pmt_view, stream_view, streams_of};
 ghost use Rattle.demux.specs.Shown.{finding_view};
 ghost use Rattle.stream_programs.specs.ProgramMaps.{program_map};
@@ -8,12 +9,15 @@ ghost use Rattle.stream_programs.specs.Programs as spec;
 
 use crate::omission::TableOmission;
 use crate::program_map::last_program_map;
-use crate::streams::{FoundStream, omission_of};
+use crate::streams::{FoundStream, has_alike, has_stream_of, omission_of, share};
 use demux::Finding;
 use descriptor_loops::{has_ca, kept_descriptors};
 use psi_tables::{Pmt, Program, Stream, Streams};
 use std::alloc::{AllocError, Allocator, Global};
 use std::marker::Model;
+
+/// The PID that a map names where its program has no clock references (ISO/IEC 13818-1, 2.4.4.9).
+const NO_CLOCK_REFERENCES: u16 = 0x1fff;
 
 /// A program that has a stream.
 #[derive(Drop)]
@@ -46,7 +50,8 @@ impl<A: Allocator> Model for FoundProgram<A> {
 pub struct FoundPrograms<A: Allocator = Global> {
     /// In the order of the program association table.
     pub programs: Vec<FoundProgram<A>, A>,
-    /// By program, then in the order of its program map table. No two have the same PID.
+    /// By program, then in the order of its program map table. No two have the same PID: one that several programs have is the
+    /// first one's.
     pub streams: Vec<FoundStream<A>, A>,
     /// What is left out, program by program.
     pub left_out: Vec<TableOmission, A>,
@@ -78,6 +83,43 @@ fn any_ca(streams: Streams<'_>) -> bool
     false
 }
 
+// Whether a program of this number has its clock references on a PID.
+#[tactic(auto, unfolding(crate::specs::Programs::has_clock))]
+fn has_clock<A: Allocator>(programs: &[FoundProgram<A>], number: u16, pcr_pid: u16) -> bool
+    ensures { result ≡ spec.has_clock programs.now number pcr_pid }
+{
+    pcr_pid != NO_CLOCK_REFERENCES && has_program(programs, number, pcr_pid)
+}
+
+// Whether there is a program of this number with its clock references on a PID.
+fn has_program<A: Allocator>(programs: &[FoundProgram<A>], number: u16, pcr_pid: u16) -> bool
+    ensures { result ≡ list_any (λ p. p.number == number && p.pcr_pid == pcr_pid) programs.now }
+{
+    programs.iter().any(|program| program.number == number && program.pcr_pid == pcr_pid)
+}
+
+// Whether a program shares the stream of a PID already.
+#[tactic(auto, unfolding(crate::specs::Programs::shares))]
+fn shares<A: Allocator>(streams: &[FoundStream<A>], number: u16, pid: u16) -> bool
+    ensures { result ≡ spec.shares streams.now number pid }
+{
+    streams.iter().any(|stream| stream.pid == pid && stream.is_shared_with(number))
+}
+
+// Whether a program can share the stream that a holder has: both have one clock, and it does not share it already.
+fn can_share<A: Allocator>(
+    programs: &[FoundProgram<A>],
+    streams: &[FoundStream<A>],
+    holder: u16,
+    pcr_pid: u16,
+    stream: &FoundStream<A>,
+) -> bool
+    ensures { result ≡ (spec.has_clock programs.now holder pcr_pid
+        && not (spec.shares streams.now stream.now.program stream.now.pid)) }
+{
+    has_clock(programs, holder, pcr_pid) && !shares(streams, stream.program, stream.pid)
+}
+
 impl<A: Allocator + Copy> FoundPrograms<A> {
     fn new(alloc: A) -> FoundPrograms<A>
         ensures { result ≡ spec.nothing }
@@ -89,27 +131,77 @@ impl<A: Allocator + Copy> FoundPrograms<A> {
         }
     }
 
-    // Keeps a stream of a program, or says why it is left out.
-    #[tactic(auto, unfolding(crate::specs::Programs::with_stream, crate::specs::Programs::with_stream_if))]
-    fn note_stream(&mut self, alloc: A, program: u16, stream: Stream<'_>) -> Result<(), AllocError>
-        ensures { OnOk result (self.new ≡ spec.with_stream self.old program (stream_view stream.entry)) }
+    // Shares a holder's stream.
+    #[tactic(auto, unfolding(crate::specs::Programs::with_shared))]
+    fn note_shared(&mut self, holder: u16, stream: FoundStream<A>) -> Result<(), AllocError>
+        ensures { OnOk result (self.new ≡ spec.with_shared self.old holder stream) }
     {
-        let (stream_type, pid) = (stream.stream_type, stream.elementary_pid);
-        match omission_of(program, stream_type, pid, &self.streams) {
-            Some(why) => {
-                self.left_out.push(why)?;
-            }
-            None => {
-                let descriptors = kept_descriptors(alloc, stream.descriptors)?;
-                self.streams.push(FoundStream {
+        let (program, pid) = (stream.program, stream.pid);
+        if !has_alike(&self.streams, &stream) {
+            self.left_out.push(TableOmission::SharedOtherwise {
+                program,
+                pid,
+                holder,
+            })?;
+        }
+        share(program, pid, &mut self.streams)
+    }
+
+    // A stream of a map, and why it is not kept as it is, if so.
+    #[tactic(auto, unfolding(crate::specs::Programs::with_stream_if, crate::specs::Programs::can_share))]
+    fn note_if(
+        &mut self,
+        why: Option<TableOmission>,
+        pcr_pid: u16,
+        stream: FoundStream<A>,
+    ) -> Result<(), AllocError>
+        ensures { OnOk result (self.new ≡ spec.with_stream_if why self.old pcr_pid stream) }
+    {
+        match why {
+            None => self.streams.push(stream)?,
+            Some(
+                TableOmission::Taken {
                     program,
-                    stream_type,
                     pid,
-                    descriptors,
+                    holder,
+                },
+            ) => {
+                if can_share(&self.programs, &self.streams, holder, pcr_pid, &stream) {
+                    return self.note_shared(holder, stream);
+                }
+                self.left_out.push(TableOmission::Taken {
+                    program,
+                    pid,
+                    holder,
                 })?;
             }
+            Some(why) => self.left_out.push(why)?,
         }
         Ok(())
+    }
+
+    // Keeps a stream of a program, shares it, or says why it is left out.
+    #[tactic(auto, unfolding(crate::specs::Programs::with_stream))]
+    fn note_stream(
+        &mut self,
+        alloc: A,
+        program: u16,
+        pcr_pid: u16,
+        stream: Stream<'_>,
+    ) -> Result<(), AllocError>
+        ensures { OnOk result (self.new ≡ spec.with_stream self.old program pcr_pid (stream_view stream.entry)) }
+    {
+        let (stream_type, pid) = (stream.stream_type, stream.elementary_pid);
+        let why = omission_of(program, stream_type, pid, &self.streams);
+        let descriptors = kept_descriptors(alloc, stream.descriptors)?;
+        let stream = FoundStream {
+            program,
+            stream_type,
+            pid,
+            descriptors,
+            shared_with: Vec::new(alloc),
+        };
+        self.note_if(why, pcr_pid, stream)
     }
 
     #[tactic(auto, unfolding(crate::specs::Programs::with_streams))]
@@ -117,12 +209,13 @@ impl<A: Allocator + Copy> FoundPrograms<A> {
         &mut self,
         alloc: A,
         program: u16,
+        pcr_pid: u16,
         streams: Streams<'_>,
     ) -> Result<(), AllocError>
-        ensures { OnOk result (self.new ≡ spec.with_streams self.old program (streams_of streams.entry)) }
+        ensures { OnOk result (self.new ≡ spec.with_streams self.old program pcr_pid (streams_of streams.entry)) }
     {
         for stream in streams {
-            self.note_stream(alloc, program, stream)?;
+            self.note_stream(alloc, program, pcr_pid, stream)?;
         }
         Ok(())
     }
@@ -139,15 +232,15 @@ impl<A: Allocator + Copy> FoundPrograms<A> {
     }
 
     #[tactic(auto, unfolding(crate::specs::Programs::with_program_if))]
-    fn note_program(&mut self, before: usize, program: FoundProgram<A>) -> Result<(), AllocError>
-        ensures { OnOk result (self.new ≡ spec.with_program_if before self.old program) }
+    fn note_program(&mut self, program: FoundProgram<A>) -> Result<(), AllocError>
+        ensures { OnOk result (self.new ≡ spec.with_program_if self.old program) }
     {
-        if self.streams.len() == before {
+        if has_stream_of(&self.streams, program.number) {
+            self.programs.push(program)?;
+        } else {
             self.left_out.push(TableOmission::NoStream {
                 program: program.number,
             })?;
-        } else {
-            self.programs.push(program)?;
         }
         Ok(())
     }
@@ -156,9 +249,8 @@ impl<A: Allocator + Copy> FoundPrograms<A> {
     fn note_map(&mut self, alloc: A, program: Program, pmt: &Pmt<'_>) -> Result<(), AllocError>
         ensures { OnOk result (self.new ≡ spec.with_map self.old program (pmt_view pmt.now)) }
     {
-        let before = self.streams.len();
         self.note_access(program.program_number, pmt)?;
-        self.note_streams(alloc, program.program_number, pmt.streams)?;
+        self.note_streams(alloc, program.program_number, pmt.pcr_pid, pmt.streams)?;
         let descriptors = kept_descriptors(alloc, pmt.program_info)?;
         let found = FoundProgram {
             number: program.program_number,
@@ -166,7 +258,7 @@ impl<A: Allocator + Copy> FoundPrograms<A> {
             pcr_pid: pmt.pcr_pid,
             descriptors,
         };
-        self.note_program(before, found)
+        self.note_program(found)
     }
 
     #[tactic(auto, unfolding(crate::specs::Programs::with_program_by))]
@@ -192,7 +284,7 @@ impl<A: Allocator + Copy> FoundPrograms<A> {
 }
 
 /// The programs of a stream, by what is found of it: of those that are named the ones with a program map table that has
-/// a stream, each as its last table says. Of streams with one PID the first is kept.
+/// a stream, each as its last table says. Of streams with one PID the first is kept, and programs with its program's clock share it.
 #[tactic(auto, unfolding(crate::specs::Programs::programs_of))]
 pub fn found_programs<A: Allocator + Copy>(
     alloc: A,

@@ -33,6 +33,7 @@ fn omitted_pid(omission: TableOmission) -> Option<u16>
         TableOmission::NoPes { pid, .. } => Some(pid),
         TableOmission::Reserved { pid, .. } => Some(pid),
         TableOmission::Taken { pid, .. } => Some(pid),
+        TableOmission::SharedOtherwise { .. } => None,
         TableOmission::NoMap { .. } => None,
         TableOmission::ConditionalAccess { .. } => None,
         TableOmission::NoStream { .. } => None,

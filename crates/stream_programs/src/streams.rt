@@ -1,13 +1,16 @@
 //! Which streams of a program map table are kept.
 
-ghost use Rattle.std.specs.Prelude.{◌≡◌};
+ghost use Rattle.std.specs.Prelude.{◌≡◌, OnOk};
+ghost use Rattle.std.specs.List.{list_any};
 ghost use Rattle.stream_programs.specs.Streams as spec;
 
 use crate::omission::TableOmission;
-use std::alloc::{Allocator, Global};
+use std::alloc::{AllocError, Allocator, Global};
 use std::marker::Model;
 
 /// An elementary stream of a program.
+///
+/// Several programs may have it (regional services with one picture): it is the first one's that names it, and the others share it.
 #[derive(Drop)]
 pub struct FoundStream<A: Allocator = Global> {
     /// program_number of its program.
@@ -16,6 +19,8 @@ pub struct FoundStream<A: Allocator = Global> {
     pub pid: u16,
     /// Its whole descriptors but for those of conditional access.
     pub descriptors: Vec<u8, A>,
+    /// The program_numbers of the other programs whose program map tables name it.
+    pub shared_with: Vec<u16, A>,
 }
 
 // A contract sees the descriptors as a list of bytes.
@@ -29,6 +34,7 @@ impl<A: Allocator> Model for FoundStream<A> {
       stream_type = s.stream_type;
       pid = s.pid;
       descriptors = s.descriptors.items;
+      shared_with = s.shared_with.items;
     } };
 }
 
@@ -65,6 +71,72 @@ fn holder<A: Allocator>(pid: u16, streams: &[FoundStream<A>]) -> Option<u16>
         }
     }
     None
+}
+
+impl<A: Allocator> FoundStream<A> {
+    /// Whether a program shares it.
+    #[tactic(auto, unfolding(crate::specs::Streams::is_shared_with))]
+    pub fn is_shared_with(&self, number: u16) -> bool
+        ensures { result ≡ spec.is_shared_with number self.now }
+    {
+        self.shared_with.iter().any(|other| *other == number)
+    }
+
+    /// Whether a program has it, as its own or a shared one.
+    #[tactic(auto, unfolding(crate::specs::Streams::is_stream_of))]
+    pub fn is_stream_of(&self, number: u16) -> bool
+        ensures { result ≡ spec.is_stream_of number self.now }
+    {
+        self.program == number || self.is_shared_with(number)
+    }
+
+    // Whether another map's entry says the same of it.
+    #[tactic(auto, unfolding(crate::specs::Streams::is_alike))]
+    fn is_alike(&self, other: &FoundStream<A>) -> bool
+        ensures { result ≡ spec.is_alike self.now other.now }
+    {
+        self.pid == other.pid
+            && self.stream_type == other.stream_type
+            && self.descriptors.as_slice() == other.descriptors.as_slice()
+    }
+
+    fn push_sharer(&mut self, number: u16) -> Result<(), AllocError>
+        ensures { OnOk result (self.new ≡ spec.with_sharer number self.old) }
+    {
+        self.shared_with.push(number)?;
+        Ok(())
+    }
+}
+
+/// Whether one of these streams is as another map's entry says.
+pub(crate) fn has_alike<A: Allocator>(streams: &[FoundStream<A>], other: &FoundStream<A>) -> bool
+    ensures { result ≡ list_any (spec.is_alike other.now) streams.now }
+{
+    streams.iter().any(|stream| other.is_alike(stream))
+}
+
+/// Whether one of these streams is a program's, or shared by it.
+pub(crate) fn has_stream_of<A: Allocator>(streams: &[FoundStream<A>], number: u16) -> bool
+    ensures { result ≡ list_any (spec.is_stream_of number) streams.now }
+{
+    streams.iter().any(|stream| stream.is_stream_of(number))
+}
+
+/// A program shares the stream of a PID.
+pub(crate) fn share<A: Allocator>(
+    number: u16,
+    pid: u16,
+    streams: &mut Vec<FoundStream<A>, A>,
+) -> Result<(), AllocError>
+    ensures { OnOk result (streams.new.items ≡ spec.shared_by number pid streams.old.items) }
+{
+    for k in 0..streams.len() {
+        if streams[k].pid == pid {
+            let stream = &mut streams[k];
+            return stream.push_sharer(number);
+        }
+    }
+    Ok(())
 }
 
 /// Why a stream is left out beside those that are kept.

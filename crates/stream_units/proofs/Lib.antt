@@ -3,6 +3,7 @@ pub mod StampFaults
 pub mod StampMoments
 pub mod MovedUnits
 pub mod UnitCounts
+pub mod PacketRows
 pub mod KeptDeclarations
 pub mod QueueAcceptance
 pub mod UnitWarnings

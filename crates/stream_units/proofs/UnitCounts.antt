@@ -1,19 +1,17 @@
 -- Counting over units from their front.
-use Rattle.std.proofs.Common.{◌≡◌, ◌≤◌, ◌<◌, ℕ, zero, suc, ◌+◌, ◌*◌, ◌^◌, ◌==◌, ◌∙◌, ap, ◌-◌, min, max, List, [], ◌∷◌, length, take, drop, get_or, refl, sym, arith, add-one, inl, inr}
+use Rattle.std.proofs.Common.{◌≡◌, ◌≤◌, ◌<◌, ℕ, ◌+◌, ◌*◌, ◌==◌, ◌-◌, min, max, List, [], ◌∷◌, length, drop, get_or, refl, sym, arith, add-one, inl, inr}
 use Rattle.std.specs.Int.{div_ceil}
-use Rattle.std.proofs.Math.Seq.{drop-cons, take-add}
+use Rattle.std.proofs.Math.Seq.{drop-cons}
 use Rattle.std.proofs.lemmas.Bool.{cases_Bool}
-use Rattle.std.proofs.lemmas.List.Sums.{sum_by-append, sum_by-cons}
 use Rattle.std.proofs.lemmas.Grind.{div_ceil_times}
-use Rattle.std.proofs.lemmas.List.{drop_all, take-map, map-append, length-append}
+use Rattle.std.proofs.lemmas.List.{drop_all, length-append}
 use Rattle.pes_packet.specs.AccessUnits.{AccessUnit}
 use Rattle.pes_packet.specs.Encoding.{pes_packet_bytes, pes_header_bytes, on_wire, header_size}
 use Rattle.pes_packet.proofs.Written.{header_sizes}
 use Rattle.stream_units.specs.Stamps.{distance, min_distance}
 use Rattle.clock27.specs.Units.{slot_units_at_1bps}
-use Rattle.unit_timing.specs.PesPacket.{packets_of_unit, packets_of_units}
 use Rattle.unit_timing.specs.Levels.{next_level, greatest_level, greatest_after}
-use Rattle.stream_units.specs.Declaration.{interval_after, min_interval, max_unit_size, max_group, timed_unit, timed_units}
+use Rattle.stream_units.specs.Declaration.{interval_after, min_interval, max_unit_size, timed_unit, timed_units}
 
 pub size_more : (i : ℕ) (us : List AccessUnit) (u : AccessUnit) → i < length us → u ≡ get_or us i u →
     max_unit_size (drop i us) ≡ max (length u.bytes) (max_unit_size (drop (i + 1) us))
@@ -23,12 +21,6 @@ size_more i us u below at = rw (drop-cons us i u below, add-one i, sym at) refl
 pub size_end : (i : ℕ) (us : List AccessUnit) → length us ≤ i → max_unit_size (drop i us) ≡ 0
 unfolding max_unit_size
 size_end i us over = rw (drop_all i us over) refl
-
-pub size_first : (us rest : List AccessUnit) (u : AccessUnit) → us ≡ u ∷ rest → max_unit_size us < 2 ^ 63 → max_unit_size rest < 2 ^ 63
-unfolding max_unit_size
-size_first us rest u is size =
-    let both : max (length u.bytes) (max_unit_size rest) < 2 ^ 63 = rw is at size in
-    omega (arith, both)
 
 pub interval_more : (i last : ℕ) (us : List AccessUnit) (u : AccessUnit) → i < length us → u ≡ get_or us i u →
     interval_after last (drop i us) ≡ min (u.dts - last) (interval_after u.dts (drop (i + 1) us))
@@ -62,37 +54,6 @@ pub least_some : (us rest : List AccessUnit) (u : AccessUnit) → us ≡ u ∷ r
 unfolding min_interval
 least_some us rest u is = rw is refl
 
-pub group_more : (id base0 group most total : ℕ) (units rest : List AccessUnit) (u : AccessUnit) → units ≡ u ∷ rest →
-    total ≡ packets_of_units (timed_units id base0 (take group units)) →
-    max most (max_group group (timed_units id base0 units)) ≡ max (max most total) (max_group group (timed_units id base0 rest))
-unfolding max_group
-group_more id base0 group most total units rest u is counted =
-    let front : packets_of_units (timed_units id base0 (take group (u ∷ rest))) ≡ packets_of_units (take group (timed_units id base0 (u ∷ rest))) = ap packets_of_units (sym (take-map (timed_unit id base0) group (u ∷ rest))) in
-    let all : total ≡ packets_of_units (take group (timed_units id base0 (u ∷ rest))) = rw is at counted ∙ front in
-    rw is (omega (arith, all))
-
--- the unit after the first `count`, and none after the last
-pub after_some : (id base0 count : ℕ) (units : List AccessUnit) (u : AccessUnit) → count < length units → u ≡ get_or units count u →
-    packets_of_unit (timed_unit id base0 u) ≡ packets_of_units (timed_units id base0 (take 1 (drop count units)))
-after_some id base0 count units u below at = rw (drop-cons units count u below, sym at) omega arith
-
-pub after_none : (id base0 count : ℕ) (units : List AccessUnit) → length units ≤ count → packets_of_units (timed_units id base0 (take 1 (drop count units))) ≡ 0
-after_none id base0 count units over = rw (drop_all count units over) refl
-
--- a row of units that goes one unit on: the next one enters, the first one leaves
-pub row_step : (id base0 group : ℕ) (units rest : List AccessUnit) (u : AccessUnit) → units ≡ u ∷ rest →
-    packets_of_units (timed_units id base0 (take group rest)) + packets_of_unit (timed_unit id base0 u)
-    ≡ packets_of_units (timed_units id base0 (take group units)) + packets_of_units (timed_units id base0 (take 1 (drop group units)))
-row_step id base0 group units rest u is =
-    let all = u ∷ rest in
-    let front : packets_of_units (timed_units id base0 (take (group + 1) all)) ≡ packets_of_unit (timed_unit id base0 u) + packets_of_units (timed_units id base0 (take group rest)) =
-    rw (add-one group) (sum_by-cons packets_of_unit (timed_unit id base0 u) (timed_units id base0 (take group rest))) in
-    let parts : packets_of_units (timed_units id base0 (take (group + 1) all)) ≡ packets_of_units (timed_units id base0 (take group all)) + packets_of_units (timed_units id base0 (take 1 (drop group all))) =
-    ap (λ (us : List AccessUnit). packets_of_units (timed_units id base0 us)) (take-add group 1 all)
-    ∙ ap packets_of_units (map-append (timed_unit id base0) (take group all) (take 1 (drop group all)))
-    ∙ sum_by-append packets_of_unit (timed_units id base0 (take group all)) (timed_units id base0 (take 1 (drop group all))) in
-    rw is (omega (arith, front, parts))
-
 header_most : (pts dts : ℕ) → header_size pts dts ≤ 19
 header_most pts dts = elim (cases_Bool (on_wire pts == on_wire dts)) [ inl y ↦ rw y (omega arith) | inr n ↦ rw n (omega arith) ]
 
@@ -102,21 +63,6 @@ unfolding pes_packet_bytes
 bytes_most id base0 size u le =
     let head = pes_header_bytes id (length u.bytes) (u.pts + base0) (u.dts + base0) in
     omega (arith, le, length-append head u.bytes, header_sizes id (length u.bytes) (u.pts + base0) (u.dts + base0), header_most (u.pts + base0) (u.dts + base0))
-
--- so a row of few units has few packets
-pub row_most : (id base0 group : ℕ) (units : List AccessUnit) → max_unit_size units < 2 ^ 63 → packets_of_units (timed_units id base0 (take group units)) ≤ group * 2 ^ 56
-unfolding max_unit_size
-row_most id base0 zero units size = omega arith
-row_most id base0 (suc group) [] size = omega arith
-row_most id base0 (suc group) (u ∷ us) size =
-    let most = bytes_most id base0 (2 ^ 63 - 1) u (omega (arith, size)) in
-    let all = sum_by-cons packets_of_unit (timed_unit id base0 u) (timed_units id base0 (take group us)) in
-    omega (arith, most, all, row_most id base0 group us (omega (arith, size)))
-
-pub group_end : (id base0 group : ℕ) (units : List AccessUnit) → length units ≡ 0 → max_group group (timed_units id base0 units) ≡ 0
-unfolding max_group
-group_end id base0 group [] is = refl
-group_end id base0 group (u ∷ us) is = absurd (let no : ⊥ = omega (arith, is) in no)
 
 -- ---- levels
 

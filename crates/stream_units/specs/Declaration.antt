@@ -6,7 +6,7 @@ use Rattle.pes_packet.specs.AccessUnits.{AccessUnit}
 use Rattle.pes_packet.specs.Encoding.{pes_packet_bytes}
 use Rattle.unit_timing.specs.declared.allowance.Allowance.{Allowance}
 use Rattle.unit_timing.specs.declared.allowance.Allowance.TheVariants.{Groups, Pace}
-use Rattle.unit_timing.specs.PesPacket.{PesPacket, packets_of_units}
+use Rattle.unit_timing.specs.PesPacket.{PesPacket, packets_of_unit, packets_of_units}
 use Rattle.unit_timing.specs.Levels.{greatest_level}
 
 -- the least time from one DTS to the next, at most a second
@@ -43,6 +43,14 @@ timed_units id base0 us = map (timed_unit id base0) us
 -- unit may have
 abbrev pub group_packets : ℕ → ℕ → ℕ → List AccessUnit → ℕ
 group_packets id base0 group us = max (max_unit_packets (max_unit_size us)) (max_group group (timed_units id base0 us))
+
+-- the packets of each unit, and of one of the largest size
+pub record CountedPacketsView : Type 0 where
+  pub numbers : List ℕ
+  pub largest : ℕ
+
+unfoldable pub counted_packets : ℕ → ℕ → List AccessUnit → CountedPacketsView
+counted_packets id base0 us = record { numbers = map packets_of_unit (timed_units id base0 us); largest = max_unit_packets (max_unit_size us) }
 
 abbrev pub burst_packets : ℕ → ℕ → ℕ → List AccessUnit → ℕ
 burst_packets id base0 pace us = max (max_unit_packets (max_unit_size us)) (div_ceil (greatest_level pace (timed_units id base0 us)) slot_units_at_1bps)

@@ -1,8 +1,7 @@
 //! What a stream declares of its units, counted from them.
 
-ghost use Rattle.std.specs.Prelude.{◌≡◌, ◌≤◌, ◌<◌, ◌+◌, ◌-◌, ◌/◌, ◌^◌, ℕ, min, length, take, drop};
+ghost use Rattle.std.specs.Prelude.{◌≡◌, ◌≤◌, ◌<◌, ◌+◌, ◌-◌, ◌/◌, ◌^◌, ℕ, min, length};
 ghost use Rattle.pes_packet.specs.Encoding.{pes_packet_bytes};
-ghost use Rattle.unit_timing.specs.PesPacket.{packets_of_units};
 ghost use Rattle.unit_timing.specs.Levels.{next_level};
 ghost use Rattle.stream_units.specs.Declaration as spec;
 
@@ -60,75 +59,20 @@ pub fn max_unit_size<A: Allocator>(units: &[Unit<A>]) -> usize
     greatest
 }
 
-// The packets of a unit, whatever its stream_id.
-fn unit_packets<A: Allocator>(base0: u64, unit: &Unit<A>) -> u64
+/// The packets of a unit, whatever its stream_id.
+pub(crate) fn unit_packets<A: Allocator>(base0: u64, unit: &Unit<A>) -> u64
     ensures value { (id : ℕ) → result ≡ (length (pes_packet_bytes id base0 unit.now) + 183) / 184 }
     ensures bound { result ≤ 2 ^ 56 }
 {
     (packet_size(base0, unit) + 183) / 184
 }
 
-// The packets of fewer than 128 units.
-fn total_packets<A: Allocator>(base0: u64, units: &[Unit<A>]) -> u64
-    requires { length units.now < 2 ^ 7 }
-    ensures value { (id : ℕ) → result ≡ packets_of_units (spec.timed_units id base0 units.now) }
-    ensures bound { result ≤ 2 ^ 63 }
-{
-    let mut total = 0;
-    for unit in units {
-        total += unit_packets(base0, unit);
-    }
-    total
-}
-
-// The packets of the unit after the first `count`, or none if there is no such unit.
-fn packets_after<A: Allocator>(base0: u64, units: &[Unit<A>], count: usize) -> u64
-    ensures value { (id : ℕ) → result ≡ packets_of_units (spec.timed_units id base0 (take 1 (drop count units.now))) }
-    ensures bound { result ≤ 2 ^ 56 }
-{
-    if count < units.len() {
-        unit_packets(base0, &units[count])
-    } else {
-        0
-    }
-}
-
-// The first `count` units, or all if they are fewer.
-fn front<A: Allocator>(units: &[Unit<A>], count: usize) -> &[Unit<A>]
-    ensures value { result.now ≡ take count units.now }
-    ensures bound { length result.now ≤ count }
-{
-    if count < units.len() {
-        &units[..count]
-    } else {
-        units
-    }
-}
-
-// The packets of a unit of `size` bytes with the longest header.
-fn max_unit_packets(size: usize) -> u64
+/// The packets of a unit of `size` bytes with the longest header.
+pub(crate) fn max_unit_packets(size: usize) -> u64
     requires { size < 2 ^ 63 }
     ensures { result ≡ spec.max_unit_packets size }
 {
     (19 + size as u64 + 183) / 184
-}
-
-/// The most packets of `group` units in a row, or of all if they are fewer; at least as many as a unit of the largest
-/// size has, whatever its header. The units are counted with the clock's first value `base0`, which decides which of
-/// them have a DTS in their header.
-pub fn group_packets<A: Allocator>(base0: u64, units: &[Unit<A>], group: u8) -> u64
-    requires { group ≤ 64 }
-    ensures { (id : ℕ) → result ≡ spec.group_packets id base0 group units.now }
-{
-    let mut most = max_unit_packets(max_unit_size(units));
-    let mut row = total_packets(base0, front(units, group as usize));
-    let mut rest = units;
-    while let Some((first, next)) = rest.split_first() {
-        most = most.max(row);
-        row = row + packets_after(base0, rest, group as usize) - unit_packets(base0, first);
-        rest = next;
-    }
-    most
 }
 
 // The greatest level that is counted: that of the greatest number of packets.

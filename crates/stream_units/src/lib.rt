@@ -7,6 +7,7 @@
 #![tactic(auto)]
 
 mod carried;
+mod counted_packets;
 mod declaration;
 mod dts_from_pts;
 mod laws;
@@ -24,7 +25,8 @@ mod warnings;
 mod wire_unit;
 
 pub use carried::carried_units;
-pub use declaration::{burst_packets, group_packets, max_unit_size, min_interval};
+pub use counted_packets::CountedPackets;
+pub use declaration::{burst_packets, max_unit_size, min_interval};
 pub use dts_from_pts::{DtsError, DtsFault, made_dts};
 pub use laws::{
     constant_is_least, findings_of_the_pid, given_as_carried, moved_by_one_constant, moved_in_turn,

@@ -56,6 +56,7 @@ static STREAMS: [StreamPart<'static>; 2] = [
             units: 1,
             packets: 4,
         },
+        shared_with: &[2, 65_535],
     },
     StreamPart {
         program: 65_535,
@@ -72,6 +73,7 @@ static STREAMS: [StreamPart<'static>; 2] = [
             burst: 2_000,
             pace: 3_217_300,
         },
+        shared_with: &[],
     },
 ];
 
@@ -113,6 +115,7 @@ main = 3584
 pid = 256
 program = 1
 rx = 2000000
+shared_with = [2, 65535]
 size = 576
 type = 3
 

@@ -13,3 +13,7 @@ returns-in-Reserved c = rw c.in-Reserved.is (simp append_assoc c.write-in-Reserv
 pub returns-in-Taken : goal.returns-in-Taken
 unfolding table_line
 returns-in-Taken c = rw c.in-Taken.is (simp append_assoc c.write-in-Taken.ensures.bytes)
+
+pub returns-in-SharedOtherwise : goal.returns-in-SharedOtherwise
+unfolding table_line
+returns-in-SharedOtherwise c = rw c.in-SharedOtherwise.is (simp append_assoc c.write-in-SharedOtherwise.ensures.bytes)

@@ -33,6 +33,7 @@ fn streams_of<A: Allocator + Copy>(
             stream_type: 2,
             pid: *pid,
             descriptors: Vec::new(alloc),
+            shared_with: Vec::new(alloc),
         })?;
     }
     Ok(streams)

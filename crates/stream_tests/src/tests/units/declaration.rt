@@ -1,10 +1,12 @@
 //! What units need declared, and that a queue takes them, by hand.
 
+ghost use Rattle.std.specs.Prelude.{◌≤◌};
+
 use super::moments::moved;
 use clock27::Rate;
 use pes_packet::Unit;
 use std::alloc::Global;
-use stream_units::{burst_packets, group_packets, max_unit_size, min_interval};
+use stream_units::{CountedPackets, burst_packets, max_unit_size, min_interval};
 use unit_queue::{FeedError, StreamParameters, UnitQueue};
 use unit_timing::allowance::Allowance;
 
@@ -16,13 +18,21 @@ static FOUR: [(u64, u64, usize); 4] = [
     (190_800, 190_800, 170),
 ];
 
+// The most packets of `group` units in a row.
+fn group_packets(alloc: Global, units: &[Unit], group: u8) -> Option<u64>
+    requires { group ≤ 64 }
+{
+    let packets = CountedPackets::of_units(alloc, 0, units).ok()?;
+    Some(packets.of_group(group))
+}
+
 // Whether that is what a stream declares of them. A packet takes 3,600 units of 90 kHz at 37,600 bits a second, and a little
 // less than 3,599 at 37,611.
-fn is_declared(units: &[Unit]) -> bool {
+fn is_declared(alloc: Global, units: &[Unit]) -> bool {
     min_interval(units) == 3_599
         && max_unit_size(units) == 340
-        && group_packets(0, units, 1) == 2
-        && group_packets(0, units, 3) == 4
+        && group_packets(alloc, units, 1) == Some(2)
+        && group_packets(alloc, units, 3) == Some(4)
         && burst_packets(0, units, 37_600) == 3
         && burst_packets(0, units, 37_611) == 2
 }
@@ -100,7 +110,7 @@ fn is_fed(alloc: Global, allowance: Allowance, wanted: Option<FeedError>) -> boo
     else {
         return false;
     };
-    let is_well = is_declared(&units) && refusal_of(&mut queue, units) == wanted;
+    let is_well = is_declared(alloc, &units) && refusal_of(&mut queue, units) == wanted;
     drop(queue);
     is_well
 }
@@ -111,7 +121,7 @@ fn are_few(alloc: Global) -> bool {
         return false;
     };
     min_interval(&units) == 90_000
-        && group_packets(0, &units, 64) == 2
+        && group_packets(alloc, &units, 64) == Some(2)
         && max_unit_size::<Global>(&[]) == 0
 }
 
