@@ -5,6 +5,7 @@ mod AndThen
 mod JobInputs
 mod NewPlaces
 pub mod NewNumbersApart
+pub mod NewNumbersBecome
 mod Each
 mod CarriedStreams
 mod TriedRates
