@@ -4,10 +4,11 @@ use Rattle.std.specs.Prelude.{slice_get}
 use Rattle.pes_packet.specs.AccessUnits.{AccessUnit}
 use Rattle.slot_contents.specs.Contents.{Content, run_bytes}
 use Rattle.unit_timing.specs.Schedule.{Packet}
-use Rattle.unit_timing.specs.Transport.{slots_of, tb_fullness, pes_left}
+use Rattle.unit_timing.specs.Transport.{slots_of, tb_fullness, pes_left, NoneLeavesEarly}
 use Rattle.unit_timing.specs.MainBuffer.{mb_fullness}
 use Rattle.unit_timing.specs.Plans.{KeepsDeclaration, run_packets}
 use Rattle.unit_timing.proofs.LateUnits.{late_law}
+use Rattle.unit_timing.proofs.NotEarly.{run_left}
 use Rattle.description.specs.Described.{DescribedStream}
 use Rattle.slot_plan.specs.declared.slot.Item.TheVariants.{Stream as StreamItem}
 use Rattle.slot_plan.specs.Schedule.{owned}
@@ -20,6 +21,18 @@ use Rattle.unit_queue.proofs.CarriedBytes.{carried_law}
 use Rattle.mux_core.specs.Scheduled.{Scheduled}
 use Rattle.mux_core.specs.Histories.{owned_stream}
 use Rattle.mux_core.specs.Headline.{StreamKept}
+
+-- its main buffer never holds more than its size, whenever bytes leave the transport buffer after their packet has begun
+pub main_kept : (d : Scheduled) (k : ℕ) (s : DescribedStream) (units : List AccessUnit) (content : ℕ → Content) (n : ℕ) →
+    slice_get d.description.streams k ≡ Some s → StreamIsAlone (owned_stream d k s) units content → Kept (owned_stream d k s) units → Promised d.description d.schedule →
+    (x : ℕ) (left : List ℕ) → NoneLeavesEarly s.rx (packets_on s.pid (run_bytes content 0 n)) left →
+    mb_fullness d.description.rate s.rx x (timed_pes_packets s.stream_id d.description.base0 units) left ≤ s.main
+main_kept d k s units content n is alone kept promised x left late =
+    let pes = timed_pes_packets s.stream_id d.description.base0 units in
+    let keeps : KeepsDeclaration (declaration s) (timed_pes_packets s.stream_id d.description.base0 units) =
+    record { spaced = kept.spaced; sized = kept.sized; allowed = kept.allowed } in
+    (promised.streams k s pes is keeps).main n x left
+    (subst (λ (ps : List Packet). NoneLeavesEarly s.rx ps left) (carried_law (owned_stream d k s) units content n alone).packets late)
 
 pub stream_kept : (d : Scheduled) (k : ℕ) (s : DescribedStream) (units : List AccessUnit) (content : ℕ → Content) (n : ℕ) →
     slice_get d.description.streams k ≡ Some s → StreamIsAlone (owned_stream d k s) units content → Kept (owned_stream d k s) units → Promised d.description d.schedule →
@@ -41,5 +54,6 @@ stream_kept d k s units content n is alone kept promised =
       transport = λ x. subst (λ (ps : List Packet). tb_fullness rate s.rx x (slots_of ps) ≤ 512) packets (served.transport n x);
       arrived = subst (λ (ps : List Packet). late_of rate d.description.base0 n s units ps ≡ None) packets
           (late_law.none_late rate s.rx n 0 pes (pes_left rate s.rx 0 (run_packets (owned d.schedule (StreamItem k)) rate (declaration s) pes n)) (served.arrived n));
-      main_buffer = λ x. subst (λ (ps : List Packet). mb_fullness rate s.rx x pes (pes_left rate s.rx 0 ps) ≤ s.main) packets (served.main n x);
+      main_buffer = λ x. main_kept d k s units content n is alone kept promised x (pes_left rate s.rx 0 (packets_on s.pid (run_bytes content 0 n)))
+          (subst (λ (ps : List Packet). NoneLeavesEarly s.rx ps (pes_left rate s.rx 0 ps)) packets (run_left (owned d.schedule (StreamItem k)) rate s.lead s.rx n pes));
     }

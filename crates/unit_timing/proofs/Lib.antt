@@ -17,3 +17,4 @@ pub mod DeadlineLemmas
 pub mod LateUnits
 pub mod MainBufferPeak
 pub mod MomentLemmas
+pub mod NotEarly

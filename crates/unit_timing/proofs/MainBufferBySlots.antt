@@ -1,22 +1,19 @@
 -- The main buffer counted by slots: the packets whose bytes it holds stand within the lead of one another.
-use Rattle.std.proofs.Common.{◌≡◌, ℕ, suc, ◌+◌, ◌-◌, ◌*◌, ◌<◌, ◌≤◌, min, Bool, true, false, cond, nat_lt, ◌&&◌, List, [], ◌∷◌, ◌++◌, length, take, drop, map, refl, ap, inl, inr, arith, All}
+use Rattle.std.proofs.Common.{◌≡◌, ℕ, suc, ◌+◌, ◌-◌, ◌*◌, ◌<◌, ◌≤◌, min, Bool, true, false, cond, nat_le, nat_lt, ◌&&◌, List, [], ◌∷◌, ◌++◌, length, take, drop, map, refl, ap, ◌∙◌, sym, inl, inr, arith, All}
 use Rattle.std.proofs.Math.Nat.{mul-le-mul_right}
-use Rattle.std.proofs.lemmas.Bool.{cases_Bool, cases_lt, lt-ltb, ltb-true, and_parts, and_from}
-use Rattle.std.proofs.lemmas.List.{length-drop, map-append}
-use Rattle.std.proofs.lemmas.List.Elements.{All-nil, All-head, All-tail, All-append, All-drop, All-weaker, All-map}
-use Rattle.clock27.specs.Arrival.{bytes_from, arrivals}
-use Rattle.clock27.specs.Departure.{departures, last_left}
+use Rattle.std.proofs.lemmas.Bool.{cases_Bool, cases_lt, le-leb, leb-true, lt-ltb, ltb-true, and_parts, and_from}
+use Rattle.std.proofs.lemmas.List.{map-append, take-append-drop}
+use Rattle.std.proofs.lemmas.List.Elements.{All-nil, All-head, All-tail, All-append, All-weaker, All-map}
 use Rattle.clock27.specs.Release.{release}
-use Rattle.clock27.proofs.Departures.{length-departures}
 use Rattle.own_slots.specs.Slots.{own_before, own_slots, Rises, AtMostPerWindow}
 use Rattle.own_slots.proofs.Counts.{own_before_own, own_before_le}
 use Rattle.unit_timing.specs.PesPacket.{PesPacket, packets_of_unit}
 use Rattle.unit_timing.specs.Schedule.{Packet, first_slot, cut, packets_in_slots}
-use Rattle.unit_timing.specs.Transport.{slots_of, of_payloads, pes_left}
+use Rattle.unit_timing.specs.Transport.{slots_of, NoneLeavesEarly}
 use Rattle.unit_timing.specs.MainBuffer.{mb_fullness, BySlots}
-use Rattle.unit_timing.proofs.TransportBuffer.{pes_left-cons, length-bytes_from}
 use Rattle.unit_timing.proofs.PacketsInSlots.{slots_of-cut, rises_from, rising_run}
-use Rattle.unit_timing.proofs.MainBufferBytes.{kept, kept-append, kept_le, kept_after, kept_before, packet_later, unit_slots, mb_fullness-cons}
+use Rattle.unit_timing.proofs.MainBufferBytes.{kept, kept-append, kept_le, kept_after, kept_before, unit_slots}
+use Rattle.unit_timing.proofs.NotEarly.{unit_parts}
 
 -- a packet and the stamp of its unit
 record Piece : Type 0 where
@@ -32,9 +29,9 @@ all_pieces own rate lead free (unit ∷ units) slots =
     pieces unit.dts (take (packets_of_unit unit) (drop (first_slot own rate lead free unit) slots))
     ++ all_pieces own rate lead (first_slot own rate lead free unit + packets_of_unit unit) units slots
 
--- it has begun before x, and x lies before the stamp
+-- it has begun by x, and x lies before the stamp
 abbrev is_live : ℕ → ℕ → ℕ → Piece → Bool
-is_live rate r x p = nat_lt (188 * p.slot * r) x && nat_lt (x * 720000) (p.dts * rate * r)
+is_live rate r x p = nat_le (188 * p.slot * r) x && nat_lt (x * 720000) (p.dts * rate * r)
 
 unfoldable live : ℕ → ℕ → ℕ → List Piece → ℕ
 live rate r x [] = 0
@@ -54,56 +51,48 @@ unfolding live
 live_none rate r x p ps not = rw not (omega arith)
 
 -- only then it has bytes in the main buffer, 184 at most
-kept_packet : (rate r x due prev s size : ℕ) → 0 < rate →
-    kept rate r x due (drop (188 - min 184 size) (departures rate prev (bytes_from r (188 * s) 188)))
-    ≤ 184 * (let n : ℕ = cond (is_live rate r x (record { slot = s; dts = due })) 1 0 in n)
-kept_packet rate r x due prev s size pos =
-    let first = bytes_from r (188 * s) 188 in
-    let ds = drop (188 - min 184 size) (departures rate prev first) in
-    elim (cases_lt (188 * s * r) x) [
-      | inr early ↦
-          let all = All-drop (λ d. x + rate ≤ d) (188 - min 184 size) (departures rate prev first) (packet_later rate r prev s x early) in
-          let none = kept_before rate r x due ds (All-weaker (λ d. x + rate ≤ d) (λ d. x < d) (λ d h. omega (arith, h, pos)) ds all) in
+kept_packet : (rate r x due s : ℕ) (left : List ℕ) → length left ≤ 184 → All (λ d. 188 * s * r ≤ d) left →
+    kept rate r x due left ≤ 184 * (let n : ℕ = cond (is_live rate r x (record { slot = s; dts = due })) 1 0 in n)
+kept_packet rate r x due s left few all =
+    elim (cases_lt x (188 * s * r)) [
+      | inl early ↦
+          let none = kept_before rate r x due left (All-weaker (λ d. 188 * s * r ≤ d) (λ d. x < d) (λ d h. omega (arith, h, early)) left all) in
           omega (arith, none)
-      | inl begun ↦ elim (cases_lt (x * 720000) (due * rate * r)) [
-        | inr late ↦ omega (arith, kept_after rate r x due ds late)
+      | inr begun ↦ elim (cases_lt (x * 720000) (due * rate * r)) [
+        | inr late ↦ omega (arith, kept_after rate r x due left late)
         | inl before ↦
             let is : is_live rate r x (record { slot = s; dts = due }) ≡ true =
-            and_from _ _ (lt-ltb (188 * s * r) x begun) (lt-ltb (x * 720000) (due * rate * r) before) in
-            let many : length ds ≡ min 184 size =
-            rw (length-drop (188 - min 184 size) (departures rate prev first), length-departures rate prev first, length-bytes_from r (188 * s) 188) (omega arith) in
-            rw is (omega (arith, kept_le rate r x due ds, many))
+            and_from _ _ (le-leb (188 * s * r) x begun) (lt-ltb (x * 720000) (due * rate * r) before) in
+            rw is (omega (arith, kept_le rate r x due left, few))
       ]
     ]
 
-kept_pieces : (rate r x due prev size : ℕ) (slots : List ℕ) → 0 < rate →
-    kept rate r x due (pes_left rate r prev (cut size slots)) ≤ 184 * live rate r x (pieces due slots)
-unfolding cut live
-kept_pieces rate r x due prev size [] pos = unfold of_payloads in (omega (arith, kept_le rate r x due []))
-kept_pieces rate r x due prev size (s ∷ slots) pos =
-    let first = bytes_from r (188 * s) 188 in
-    let one = drop (188 - min 184 size) (departures rate prev first) in
-    let rest = pes_left rate r (last_left rate prev first) (cut (size - 184) slots) in
-    rw (pes_left-cons rate r prev (record { slot = s; size = min 184 size }) (cut (size - 184) slots), kept-append rate r x due one rest)
-    (omega (arith, kept_packet rate r x due prev s size pos, kept_pieces rate r x due (last_left rate prev first) (size - 184) slots pos))
+kept_pieces : (rate r x due size : ℕ) (slots left : List ℕ) → NoneLeavesEarly r (cut size slots) left → kept rate r x due left ≤ 184 * live rate r x (pieces due slots)
+unfolding cut live NoneLeavesEarly
+kept_pieces rate r x due size [] left none = rw none (omega (arith, kept_le rate r x due []))
+kept_pieces rate r x due size (s ∷ slots) left late =
+    let one = take (min 184 size) left in
+    let rest = drop (min 184 size) left in
+    let parts : kept rate r x due left ≡ kept rate r x due one + kept rate r x due rest =
+    ap (λ (l : List ℕ). kept rate r x due l) (sym (take-append-drop (min 184 size) left)) ∙ kept-append rate r x due one rest in
+    omega (arith, parts, kept_packet rate r x due s one (omega (arith, late.0)) late.1, kept_pieces rate r x due (size - 184) slots rest late.2)
 
-main_pieces : (own : ℕ → Bool) (rate lead r n x : ℕ) → 0 < rate → (units : List PesPacket) (free prev : ℕ) →
-    mb_fullness rate r x units (pes_left rate r prev (packets_in_slots own rate lead free units (own_slots own 0 n)))
-    ≤ 184 * live rate r x (all_pieces own rate lead free units (own_slots own 0 n))
-unfolding all_pieces
-main_pieces own rate lead r n x pos [] free prev = unfold mb_fullness in (omega arith)
-main_pieces own rate lead r n x pos (unit ∷ units) free prev =
+main_pieces : (own : ℕ → Bool) (rate lead r n x : ℕ) (units : List PesPacket) (free : ℕ) (left : List ℕ) →
+    NoneLeavesEarly r (packets_in_slots own rate lead free units (own_slots own 0 n)) left →
+    mb_fullness rate r x units left ≤ 184 * live rate r x (all_pieces own rate lead free units (own_slots own 0 n))
+unfolding mb_fullness packets_in_slots all_pieces kept
+main_pieces own rate lead r n x [] free left late = omega arith
+main_pieces own rate lead r n x (unit ∷ units) free left late =
     let slots = own_slots own 0 n in
     let b = first_slot own rate lead free unit in
-    let xs = take (packets_of_unit unit) (drop b slots) in
-    rw (
-      mb_fullness-cons own rate lead r n x free prev unit units,
-      live-append rate r x (pieces unit.dts xs) (all_pieces own rate lead (b + packets_of_unit unit) units slots),
-    )
+    let p = packets_of_unit unit in
+    let xs = take p (drop b slots) in
+    let parts = unit_parts own rate lead r n b p unit.size units left (omega arith) late in
+    rw (live-append rate r x (pieces unit.dts xs) (all_pieces own rate lead (b + p) units slots))
     (omega (
       arith,
-      kept_pieces rate r x unit.dts prev unit.size xs pos,
-      main_pieces own rate lead r n x pos units (b + packets_of_unit unit) (last_left rate prev (arrivals r xs)),
+      kept_pieces rate r x unit.dts unit.size xs (take unit.size left) parts.0,
+      main_pieces own rate lead r n x units (b + p) (drop unit.size left) parts.1,
     ))
 
 -- the packets stand in rising own slots
@@ -153,15 +142,15 @@ none_early own rate lead n (unit ∷ units) free =
     (none_early own rate lead n units (b + packets_of_unit unit))
 
 -- those that are live stand before a slot, and so are no more than the own slots up to it
-live_before : (own : ℕ → Bool) (rate r x limit : ℕ) → ((s : ℕ) → 188 * s * r < x → s < limit) → (ps : List Piece) (from : ℕ) → from ≤ limit → Rises own from (slots_in ps) →
+live_before : (own : ℕ → Bool) (rate r x limit : ℕ) → ((s : ℕ) → 188 * s * r ≤ x → s < limit) → (ps : List Piece) (from : ℕ) → from ≤ limit → Rises own from (slots_in ps) →
     live rate r x ps + own_before own from ≤ own_before own limit
 unfolding Rises
 live_before own rate r x limit before [] from le rises = unfold live in (omega (arith, own_before_le own from limit le))
 live_before own rate r x limit before (p ∷ ps) from le rises =
     elim (cases_Bool (is_live rate r x p)) [
       | inl is ↦
-          let parts = and_parts (nat_lt (188 * p.slot * r) x) (nat_lt (x * 720000) (p.dts * rate * r)) is in
-          let lt = before p.slot (ltb-true (188 * p.slot * r) x parts.0) in
+          let parts = and_parts (nat_le (188 * p.slot * r) x) (nat_lt (x * 720000) (p.dts * rate * r)) is in
+          let lt = before p.slot (leb-true (188 * p.slot * r) x parts.0) in
           let rest = live_before own rate r x limit before ps (suc p.slot) (omega arith) rises.2 in
           let one = live_one rate r x p ps is in
           omega (arith, one, rest, own_before_own own p.slot rises.1, own_before_le own from p.slot rises.0)
@@ -173,8 +162,8 @@ live_before own rate r x limit before (p ∷ ps) from le rises =
 
 -- two packets that are live stand less than w slots apart
 apart_slots : (s t r x due rate lead w : ℕ) → x * 720000 < due * rate * r → due * rate ≤ s * 135360000 + lead * rate → lead * rate ≤ w * 135360000 →
-    188 * t * r < x → 0 < r → t < s + w
-apart_slots s t r x due rate lead w before early wide begun pos = elim (cases_lt t (s + w)) [
+    188 * t * r ≤ x → t < s + w
+apart_slots s t r x due rate lead w before early wide begun = elim (cases_lt t (s + w)) [
   | inl lt ↦ lt
   | inr le ↦ absurd (omega (arith, before, mul-le-mul_right r early, mul-le-mul_right r wide, mul-le-mul_right (135360000 * r) le, begun))
 ]
@@ -187,24 +176,24 @@ rises_rest : (own : ℕ → Bool) (from s : ℕ) (slots : List ℕ) → Rises ow
 unfolding Rises
 rises_rest own from s slots rises = rises.2
 
-live_few : (own : ℕ → Bool) (rate lead r x w m : ℕ) → 0 < r → lead * rate ≤ w * 135360000 → AtMostPerWindow own w m → (ps : List Piece) (from : ℕ) → Rises own from (slots_in ps) →
+live_few : (own : ℕ → Bool) (rate lead r x w m : ℕ) → lead * rate ≤ w * 135360000 → AtMostPerWindow own w m → (ps : List Piece) (from : ℕ) → Rises own from (slots_in ps) →
     All (NotEarly rate lead) ps → live rate r x ps ≤ m
-live_few own rate lead r x w m pos wide spares [] from rises early = unfold live in (omega arith)
-live_few own rate lead r x w m pos wide spares (p ∷ ps) from rises early = elim (cases_Bool (is_live rate r x p)) [
+live_few own rate lead r x w m wide spares [] from rises early = unfold live in (omega arith)
+live_few own rate lead r x w m wide spares (p ∷ ps) from rises early = elim (cases_Bool (is_live rate r x p)) [
   | inl is ↦
-      let parts = and_parts (nat_lt (188 * p.slot * r) x) (nat_lt (x * 720000) (p.dts * rate * r)) is in
+      let parts = and_parts (nat_le (188 * p.slot * r) x) (nat_lt (x * 720000) (p.dts * rate * r)) is in
       let stamp = ltb-true (x * 720000) (p.dts * rate * r) parts.1 in
-      let near = λ (t : ℕ) (h : 188 * t * r < x). apart_slots p.slot t r x p.dts rate lead w stamp (All-head (NotEarly rate lead) p ps early) wide h pos in
+      let near = λ (t : ℕ) (h : 188 * t * r ≤ x). apart_slots p.slot t r x p.dts rate lead w stamp (All-head (NotEarly rate lead) p ps early) wide h in
       let here : Rises own p.slot (slots_in (p ∷ ps)) = rises_here own from p.slot (slots_in ps) rises in
       let all = live_before own rate r x (p.slot + w) near (p ∷ ps) p.slot (omega arith) here in
       omega (arith, all, spares p.slot)
   | inr not ↦
       let none = live_none rate r x p ps not in
-      omega (arith, none, live_few own rate lead r x w m pos wide spares ps (suc p.slot) (rises_rest own from p.slot (slots_in ps) rises) (All-tail (NotEarly rate lead) p ps early))
+      omega (arith, none, live_few own rate lead r x w m wide spares ps (suc p.slot) (rises_rest own from p.slot (slots_in ps) rises) (All-tail (NotEarly rate lead) p ps early))
 ]
 
 pub by_slots : BySlots
-by_slots own rate lead r w m units n x pos pos' wide spares =
+by_slots own rate lead r w m units n x left wide spares late =
     let ps = all_pieces own rate lead 0 units (own_slots own 0 n) in
-    let few = live_few own rate lead r x w m pos' wide spares ps 0 (rw (slots_in-all own rate lead 0 units (own_slots own 0 n)) (rising_run own rate lead n units)) (none_early own rate lead n units 0) in
-    omega (arith, main_pieces own rate lead r n x pos units 0 0, few)
+    let few = live_few own rate lead r x w m wide spares ps 0 (rw (slots_in-all own rate lead 0 units (own_slots own 0 n)) (rising_run own rate lead n units)) (none_early own rate lead n units 0) in
+    omega (arith, main_pieces own rate lead r n x units 0 left late, few)

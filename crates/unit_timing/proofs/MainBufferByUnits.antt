@@ -1,19 +1,17 @@
 -- The main buffer counted by units: those whose bytes it holds are due within the lead of one another.
-use Rattle.std.proofs.Common.{◌≡◌, ℕ, ◌+◌, ◌-◌, ◌*◌, ◌<◌, ◌≤◌, Bool, true, cond, nat_le, nat_lt, ◌&&◌, List, [], ◌∷◌, take, drop, inl, inr, arith}
+use Rattle.std.proofs.Common.{◌≡◌, ℕ, suc, ◌+◌, ◌-◌, ◌*◌, ◌<◌, ◌≤◌, Bool, true, cond, nat_le, nat_lt, ◌&&◌, List, [], ◌∷◌, take, drop, inl, inr, arith}
 use Rattle.std.proofs.Math.Nat.{le_trans, mul-le-mul_left, mul-le-mul_right}
 use Rattle.std.proofs.lemmas.Bool.{cases_Bool, cases_lt, le-leb, leb-true, lt-ltb, ltb-true, and_parts, and_from}
 use Rattle.std.proofs.lemmas.List.Elements.{All-weaker}
-use Rattle.clock27.specs.Arrival.{arrivals}
-use Rattle.clock27.specs.Departure.{last_left}
 use Rattle.clock27.specs.Release.{release}
 use Rattle.own_slots.specs.Slots.{own_slots}
 use Rattle.unit_timing.specs.PesPacket.{PesPacket, packets_of_unit}
 use Rattle.unit_timing.specs.Allowances.{Runs, Allows, IsRising}
 use Rattle.unit_timing.specs.Schedule.{first_slot, cut, packets_in_slots}
-use Rattle.unit_timing.specs.Transport.{pes_left}
+use Rattle.unit_timing.specs.Transport.{NoneLeavesEarly}
 use Rattle.unit_timing.specs.MainBuffer.{mb_fullness, ByCurve}
-use Rattle.unit_timing.proofs.PacketsInSlots.{length-left-cut}
-use Rattle.unit_timing.proofs.MainBufferBytes.{kept, kept_le, kept_after, kept_before, unit_later, unit_slots, mb_fullness-cons}
+use Rattle.unit_timing.proofs.MainBufferBytes.{kept, kept_le, kept_after, kept_before, unit_slots}
+use Rattle.unit_timing.proofs.NotEarly.{few_left, unit_later, unit_parts}
 
 -- the unit may have been released before x, and x lies before its stamp
 abbrev is_live : ℕ → ℕ → ℕ → ℕ → PesPacket → Bool
@@ -24,47 +22,46 @@ unfoldable live : (PesPacket → ℕ) → ℕ → ℕ → ℕ → ℕ → List P
 live f rate lead r x [] = 0
 live f rate lead r x (unit ∷ units) = cond (is_live rate lead r x unit) (f unit) 0 + live f rate lead r x units
 
-early_slot : (x rate lead r due s : ℕ) → x * 720000 < (due - lead) * rate * r → release rate lead due ≤ s → x ≤ 188 * s * r
+early_slot : (x rate lead r due s : ℕ) → x * 720000 < (due - lead) * rate * r → release rate lead due ≤ s → suc x ≤ 188 * s * r
 early_slot x rate lead r due s early le =
     let soon : (due - lead) * rate ≤ s * 135360000 = omega arith in
     omega (arith, early, mul-le-mul_right r soon)
 
 -- only a live unit has bytes in the main buffer, `each` for each that it counts
-kept_unit : (own : ℕ → Bool) (rate lead r x free prev n : ℕ) (unit : PesPacket) (each : ℕ) (f : PesPacket → ℕ) → 0 < rate → unit.size ≤ each * f unit →
-    kept rate r x unit.dts (pes_left rate r prev (cut unit.size (take (packets_of_unit unit) (drop (first_slot own rate lead free unit) (own_slots own 0 n)))))
-    ≤ each * cond (is_live rate lead r x unit) (f unit) 0
-kept_unit own rate lead r x free prev n unit each f pos few =
+kept_unit : (own : ℕ → Bool) (rate lead r x free n : ℕ) (unit : PesPacket) (each : ℕ) (f : PesPacket → ℕ) (left : List ℕ) → unit.size ≤ each * f unit →
+    NoneLeavesEarly r (cut unit.size (take (packets_of_unit unit) (drop (first_slot own rate lead free unit) (own_slots own 0 n)))) left →
+    kept rate r x unit.dts left ≤ each * cond (is_live rate lead r x unit) (f unit) 0
+kept_unit own rate lead r x free n unit each f left few late =
     let xs = take (packets_of_unit unit) (drop (first_slot own rate lead free unit) (own_slots own 0 n)) in
-    let ds = pes_left rate r prev (cut unit.size xs) in
     elim (cases_lt (x * 720000) ((unit.dts - lead) * rate * r)) [
       | inl early ↦
-          let all = unit_later rate r prev unit.size x xs
-          (All-weaker (λ s. release rate lead unit.dts ≤ s) (λ s. x ≤ 188 * s * r) (λ s le. early_slot x rate lead r unit.dts s early le) xs (unit_slots own rate lead free n unit)) in
-          let none = kept_before rate r x unit.dts ds (All-weaker (λ d. x + rate ≤ d) (λ d. x < d) (λ d h. omega (arith, h, pos)) ds all) in
+          let all = unit_later r unit.size (suc x) xs left late
+          (All-weaker (λ s. release rate lead unit.dts ≤ s) (λ s. suc x ≤ 188 * s * r) (λ s le. early_slot x rate lead r unit.dts s early le) xs (unit_slots own rate lead free n unit)) in
+          let none = kept_before rate r x unit.dts left all in
           omega (arith, none)
       | inr begun ↦ elim (cases_lt (x * 720000) (unit.dts * rate * r)) [
-        | inr late ↦ omega (arith, kept_after rate r x unit.dts ds late)
+        | inr late ↦ omega (arith, kept_after rate r x unit.dts left late)
         | inl before ↦
             let is : is_live rate lead r x unit ≡ true =
             and_from _ _ (le-leb ((unit.dts - lead) * rate * r) (x * 720000) begun) (lt-ltb (x * 720000) (unit.dts * rate * r) before) in
-            rw is (omega (arith, few, kept_le rate r x unit.dts ds, length-left-cut rate r unit.size prev xs))
+            rw is (omega (arith, few, kept_le rate r x unit.dts left, few_left r unit.size xs left late))
       ]
     ]
 
-main_units : (own : ℕ → Bool) (rate lead r n x each : ℕ) (f : PesPacket → ℕ) → 0 < rate → ((unit : PesPacket) → unit.size ≤ each * f unit) →
-    (units : List PesPacket) (free prev : ℕ) →
-    mb_fullness rate r x units (pes_left rate r prev (packets_in_slots own rate lead free units (own_slots own 0 n))) ≤ each * live f rate lead r x units
-unfolding live
-main_units own rate lead r n x each f pos few [] free prev = unfold mb_fullness in (omega arith)
-main_units own rate lead r n x each f pos few (unit ∷ units) free prev =
+main_units : (own : ℕ → Bool) (rate lead r n x each : ℕ) (f : PesPacket → ℕ) → ((unit : PesPacket) → unit.size ≤ each * f unit) →
+    (units : List PesPacket) (free : ℕ) (left : List ℕ) → NoneLeavesEarly r (packets_in_slots own rate lead free units (own_slots own 0 n)) left →
+    mb_fullness rate r x units left ≤ each * live f rate lead r x units
+unfolding live mb_fullness packets_in_slots kept
+main_units own rate lead r n x each f few [] free left late = omega arith
+main_units own rate lead r n x each f few (unit ∷ units) free left late =
     let b = first_slot own rate lead free unit in
-    let xs = take (packets_of_unit unit) (drop b (own_slots own 0 n)) in
-    rw (mb_fullness-cons own rate lead r n x free prev unit units)
-    (omega (
+    let p = packets_of_unit unit in
+    let parts = unit_parts own rate lead r n b p unit.size units left (omega arith) late in
+    omega (
       arith,
-      kept_unit own rate lead r x free prev n unit each f pos (few unit),
-      main_units own rate lead r n x each f pos few units (b + packets_of_unit unit) (last_left rate prev (arrivals r xs)),
-    ))
+      kept_unit own rate lead r x free n unit each f (take unit.size left) (few unit) parts.0,
+      main_units own rate lead r n x each f few units (b + p) (drop unit.size left) parts.1,
+    )
 
 -- a unit that is live with another is due less than `lead` after it
 still_near : (rate lead r x first due : ℕ) → x * 720000 < first * rate * r → (due - lead) * rate * r ≤ x * 720000 → due - first ≤ lead - 1
@@ -106,5 +103,5 @@ live_few f allowed rate lead r x rises (unit ∷ units) allows = elim (cases_Boo
 ]
 
 pub by_curve : ByCurve
-by_curve own rate lead r each f allowed units n x pos pos' few rises allows =
-    le_trans (main_units own rate lead r n x each f pos few units 0 0) (mul-le-mul_left each (live_few f allowed rate lead r x rises units allows))
+by_curve own rate lead r each f allowed units n x left few rises allows late =
+    le_trans (main_units own rate lead r n x each f few units 0 left late) (mul-le-mul_left each (live_few f allowed rate lead r x rises units allows))

@@ -8,7 +8,6 @@ use Rattle.clock27.specs.Arrival.{arrivals}
 use Rattle.clock27.specs.Departure.{departures}
 use Rattle.clock27.specs.Fullness.{fullness}
 use Rattle.clock27.proofs.Scale.{departures-scale, arrivals-scale, fullness-scale}
-use Rattle.unit_timing.specs.PesPacket.{PesPacket}
 use Rattle.unit_timing.specs.Schedule.{Packet}
 use Rattle.unit_timing.specs.Transport.{slots_of, of_payloads}
 use Rattle.unit_timing.specs.MainBuffer.{is_in_main_buffer, mb_fullness}

@@ -17,7 +17,7 @@ use Rattle.unit_timing.specs.Deadline.{InTime}
 use Rattle.unit_timing.specs.Plans.{Declaration, KeepsDeclaration, StreamServed, run_packets}
 use Rattle.unit_timing.specs.Conditions.{IsProper, packets_in_row, waiting_units, waiting_slots, bytes_by_units}
 use Rattle.unit_timing.specs.PlanLaws.{in_turn, StreamLaw, DeadlineSwitchLaw, MainSwitchLaw, StreamSwitchLaw, ProgramLaw, ProgramSwitchLaw}
-use Rattle.unit_timing.specs.Transport.{slots_of, pes_left}
+use Rattle.unit_timing.specs.Transport.{slots_of, NoneLeavesEarly}
 use Rattle.unit_timing.specs.MainBuffer.{mb_fullness}
 use Rattle.unit_timing.proofs.TransportBuffer.{transport_room}
 use Rattle.unit_timing.proofs.Allowing.{allowance_law, curve_within, sizes_within}
@@ -42,7 +42,8 @@ some_slots rate s pos pos' = let some : 0 < s.lead * rate = mul-pos pos' pos in 
 -- from deadlines, work and the main buffer to what is promised
 served : (rate : ℕ) (s : Declaration) (own : ℕ → Bool) (peak : ℕ) (W : ℕ → ℕ) (units : List PesPacket) → IsProper rate s →
     BoundsWork own rate s.drain 512 peak W → InTime own rate s.lead s.drain peak 0 units →
-    ((n x : ℕ) → mb_fullness rate s.drain x units (pes_left rate s.drain 0 (run_packets own rate s units n)) ≤ s.main) → StreamServed own rate s units
+    ((n x : ℕ) (left : List ℕ) → NoneLeavesEarly s.drain (run_packets own rate s units n) left → mb_fullness rate s.drain x units left ≤ s.main) →
+    StreamServed own rate s units
 served rate s own peak W units proper work in_time main = record {
   transport = λ n x. transport_room own rate s.drain 512 peak W (slots_of (run_packets own rate s units n)) x proper.some_rate work (rising_run own rate s.lead n units);
   arrived = λ n. arrived_law own rate s.lead s.drain 512 peak W units n proper.some_drain work in_time;
@@ -94,19 +95,19 @@ all_bytes unit = omega arith
 packed_bytes : (unit : PesPacket) → unit.size ≤ 184 * packets_of_unit unit
 packed_bytes unit = omega arith
 
-by_units : (rate : ℕ) (s : Declaration) (own : ℕ → Bool) (units : List PesPacket) (n x : ℕ) → IsProper rate s → KeepsDeclaration s units →
-    mb_fullness rate s.drain x units (pes_left rate s.drain 0 (run_packets own rate s units n)) ≤ bytes_by_units s
-by_units rate s own units n x proper keeps =
+by_units : (rate : ℕ) (s : Declaration) (own : ℕ → Bool) (units : List PesPacket) (n x : ℕ) (left : List ℕ) → IsProper rate s → KeepsDeclaration s units →
+    NoneLeavesEarly s.drain (run_packets own rate s units n) left → mb_fullness rate s.drain x units left ≤ bytes_by_units s
+by_units rate s own units n x left proper keeps late =
     let pos = proper.some_interval in
     let size = size_curve s.largest s.interval in
     let most = curve s.allowance s.unit_packets s.interval in
     let wide = enough_units s pos in
-    let sizes = by_curve own rate s.lead s.drain 1 (λ unit. unit.size) size units n x proper.some_rate proper.some_drain all_bytes
+    let sizes = by_curve own rate s.lead s.drain 1 (λ unit. unit.size) size units n x left all_bytes
     (allowance_law.sizes_rise s.largest s.interval pos)
-    (allowance_law.sized s.largest s.interval s.lead units pos keeps.spaced keeps.sized) in
-    let packets = by_curve own rate s.lead s.drain 184 packets_of_unit most units n x proper.some_rate proper.some_drain packed_bytes
+    (allowance_law.sized s.largest s.interval s.lead units pos keeps.spaced keeps.sized) late in
+    let packets = by_curve own rate s.lead s.drain 184 packets_of_unit most units n x left packed_bytes
     (allowance_law.rises s.allowance s.unit_packets s.interval proper.some_rows pos)
-    (allowance_law.kept s.allowance s.unit_packets s.interval s.lead units proper.some_rows pos keeps.spaced keeps.allowed) in
+    (allowance_law.kept s.allowance s.unit_packets s.interval s.lead units proper.some_rows pos keeps.spaced keeps.allowed) late in
     omega (
       arith,
       sizes,
@@ -115,24 +116,24 @@ by_units rate s own units n x proper keeps =
       curve_within s.allowance s.unit_packets s.interval s.lead (waiting_units s) proper.some_rows pos proper.some_lead wide,
     )
 
-main_fits : (rate : ℕ) (s : Declaration) (own : ℕ → Bool) (m : ℕ) (units : List PesPacket) (n x : ℕ) → IsProper rate s → KeepsDeclaration s units →
+main_fits : (rate : ℕ) (s : Declaration) (own : ℕ → Bool) (m : ℕ) (units : List PesPacket) (n x : ℕ) (left : List ℕ) → IsProper rate s → KeepsDeclaration s units →
     AtMostPerWindow own (waiting_slots rate s) m → min (bytes_by_units s) (184 * m) ≤ s.main →
-    mb_fullness rate s.drain x units (pes_left rate s.drain 0 (run_packets own rate s units n)) ≤ s.main
-main_fits rate s own m units n x proper keeps spares fits =
-    let slots = by_slots own rate s.lead s.drain (waiting_slots rate s) m units n x proper.some_rate proper.some_drain (enough_slots rate s) spares in
-    omega (arith, slots, by_units rate s own units n x proper keeps, fits)
+    NoneLeavesEarly s.drain (run_packets own rate s units n) left → mb_fullness rate s.drain x units left ≤ s.main
+main_fits rate s own m units n x left proper keeps spares fits late =
+    let slots = by_slots own rate s.lead s.drain (waiting_slots rate s) m units n x left (enough_slots rate s) spares late in
+    omega (arith, slots, by_units rate s own units n x left proper keeps late, fits)
 
 pub main_switch_law : MainSwitchLaw
-main_switch_law rate s claim first next second periods units n x proper one two near next_near fits keeps =
+main_switch_law rate s claim first next second periods units n x left proper one two near next_near fits keeps late =
     let wait = waiting_slots rate s in
     let some = some_slots rate s proper.some_rate proper.some_lead in
     let w1 = most_within (per_period first) (length first) claim.spread wait in
     let w2 = most_within (per_period second) (length second) next.spread wait in
     let both : min (bytes_by_units s) (184 * (w1 + w2)) ≤ s.main = omega (arith, fits) in
-    main_fits rate s (in_turn first periods second) (w1 + w2) units n x proper keeps
+    main_fits rate s (in_turn first periods second) (w1 + w2) units n x left proper keeps
     (switch_spare_law (own first) (own second) (periods * length first) wait w1 w2 (share_law first claim.spread wait one near some)
     (share_law second next.spread wait two next_near some))
-    both
+    both late
 
 pub stream_switch_law : StreamSwitchLaw
 stream_switch_law rate s claim first next second periods units proper one two joins keeps =
@@ -141,7 +142,7 @@ stream_switch_law rate s claim first next second periods units proper one two jo
     (omega (arith, two.owned, per_period_le second)) one.work two.work joins.work)
     (deadline_switch_law rate s claim first next second periods units proper.some_rows proper.some_interval one.owned two.owned
     one.spread_claimed two.spread_claimed one.rate_serves two.rate_serves joins.lead_serves keeps)
-    (λ n x. main_switch_law rate s claim first next second periods units n x proper one.owned two.owned one.spread_claimed two.spread_claimed joins.main_fits keeps)
+    (λ n x left. main_switch_law rate s claim first next second periods units n x left proper one.owned two.owned one.spread_claimed two.spread_claimed joins.main_fits keeps)
 
 pub stream_law : StreamLaw
 stream_law rate s claim marks units proper holds keeps =
@@ -149,7 +150,7 @@ stream_law rate s claim marks units proper holds keeps =
     (work_law rate s.drain 512 claim.start claim.peak marks (omega (arith, holds.owned, per_period_le marks)) holds.work)
     (in_time rate s (own marks) (per_period marks) (length marks) claim.spread claim.peak units proper.some_rows proper.some_interval
     (rate_law marks claim.spread holds.owned holds.spread_claimed) holds.owned holds.rate_serves holds.lead_serves keeps)
-    (λ n x. main_fits rate s (own marks) (most_within (per_period marks) (length marks) claim.spread (waiting_slots rate s)) units n x proper keeps
+    (λ n x left. main_fits rate s (own marks) (most_within (per_period marks) (length marks) claim.spread (waiting_slots rate s)) units n x left proper keeps
     (share_law marks claim.spread (waiting_slots rate s) holds.owned holds.spread_claimed (some_slots rate s proper.some_rate proper.some_lead)) holds.main_fits)
 
 pub program_law : ProgramLaw

@@ -1,6 +1,6 @@
 -- The main buffer of a stream: the bytes of its units enter it as they leave the transport buffer, and leave it at
 -- their unit's stamp (ISO/IEC 13818-1, 2.4.2.3; one main buffer for each stream is this profile's).
-use Rattle.std.specs.Prelude.{ℕ, ◌+◌, ◌-◌, ◌*◌, ◌<◌, ◌≤◌, Bool, nat_le, nat_lt, ◌&&◌, List, [], ◌∷◌, take, drop, count_by}
+use Rattle.std.specs.Prelude.{ℕ, ◌+◌, ◌-◌, ◌*◌, ◌≤◌, Bool, nat_le, nat_lt, ◌&&◌, List, [], ◌∷◌, take, drop, count_by}
 use Rattle.clock27.specs.Peak.{IsPeak, greatest_at}
 use Rattle.clock27.specs.Units.{slot_units_at_1bps}
 use Rattle.clock27.specs.Units.{byte_units_at_1bps}
@@ -8,7 +8,7 @@ use Rattle.own_slots.specs.Slots.{AtMostPerWindow, own_slots}
 use Rattle.unit_timing.specs.PesPacket.{PesPacket}
 use Rattle.unit_timing.specs.Allowances.{IsRising, Allows}
 use Rattle.unit_timing.specs.Schedule.{packets_in_slots}
-use Rattle.unit_timing.specs.Transport.{pes_left}
+use Rattle.unit_timing.specs.Transport.{NoneLeavesEarly}
 
 -- a byte that leaves the transport buffer at d, of a unit with the stamp `due`, is in the main buffer at the moment x
 abbrev pub is_in_main_buffer : ℕ → ℕ → ℕ → ℕ → ℕ → Bool
@@ -21,18 +21,19 @@ mb_fullness rate r x [] left = 0
 mb_fullness rate r x (unit ∷ units) left =
     count_by (is_in_main_buffer rate r x unit.dts) (take unit.size left) + mb_fullness rate r x units (drop unit.size left)
 
--- at any moment it holds bytes of slots that begin within `lead` of one another
+-- whenever bytes leave the transport buffer, none before its packet's slot begins: at any moment it holds bytes of slots that begin
+-- within `lead` of one another
 abbrev pub BySlots : Type 0
-BySlots = (own : ℕ → Bool) (rate lead r w m : ℕ) (units : List PesPacket) (n x : ℕ) → 0 < rate → 0 < r →
+BySlots = (own : ℕ → Bool) (rate lead r w m : ℕ) (units : List PesPacket) (n x : ℕ) (left : List ℕ) →
     lead * rate ≤ w * slot_units_at_1bps → AtMostPerWindow own w m →
-    mb_fullness rate r x units (pes_left rate r 0 (packets_in_slots own rate lead 0 units (own_slots own 0 n))) ≤ 184 * m
+    NoneLeavesEarly r (packets_in_slots own rate lead 0 units (own_slots own 0 n)) left → mb_fullness rate r x units left ≤ 184 * m
 
 -- and of units that are due within less than `lead` of one another, of which no more than is allowed come in that time;
 -- a unit has at most `each` bytes for each that it counts
 abbrev pub ByCurve : Type 0
-ByCurve = (own : ℕ → Bool) (rate lead r each : ℕ) (f : PesPacket → ℕ) (allowed : ℕ → ℕ) (units : List PesPacket) (n x : ℕ) → 0 < rate → 0 < r →
+ByCurve = (own : ℕ → Bool) (rate lead r each : ℕ) (f : PesPacket → ℕ) (allowed : ℕ → ℕ) (units : List PesPacket) (n x : ℕ) (left : List ℕ) →
     ((unit : PesPacket) → unit.size ≤ each * f unit) → IsRising allowed → Allows f allowed units →
-    mb_fullness rate r x units (pes_left rate r 0 (packets_in_slots own rate lead 0 units (own_slots own 0 n))) ≤ each * allowed (lead - 1)
+    NoneLeavesEarly r (packets_in_slots own rate lead 0 units (own_slots own 0 n)) left → mb_fullness rate r x units left ≤ each * allowed (lead - 1)
 
 -- the greatest fullness over all moments is found at the departures from the transport buffer, whatever the order of
 -- the stamps

@@ -5,7 +5,7 @@ use Rattle.own_slots.specs.Spread.{spread}
 use Rattle.own_slots.specs.Switch.{joined, shift}
 use Rattle.unit_timing.specs.PesPacket.{PesPacket}
 use Rattle.unit_timing.specs.Allowances.{allowance_rows}
-use Rattle.unit_timing.specs.Transport.{pes_left}
+use Rattle.unit_timing.specs.Transport.{NoneLeavesEarly}
 use Rattle.unit_timing.specs.Deadline.{InTime}
 use Rattle.unit_timing.specs.MainBuffer.{mb_fullness}
 use Rattle.unit_timing.specs.Plans.{Declaration, KeepsDeclaration, run_packets, StreamServed, ProgramServed}
@@ -38,10 +38,10 @@ DeadlineSwitchLaw = (rate : ℕ) (s : Declaration) (claim : StreamClaim) (first 
 -- the main buffer alone
 abbrev pub MainSwitchLaw : Type 0
 MainSwitchLaw = (rate : ℕ) (s : Declaration) (claim : StreamClaim) (first : List Bool) (next : StreamClaim) (second : List Bool)
-    (periods : ℕ) (units : List PesPacket) (n x : ℕ) → IsProper rate s → 0 < per_period first → 0 < per_period second →
+    (periods : ℕ) (units : List PesPacket) (n x : ℕ) (left : List ℕ) → IsProper rate s → 0 < per_period first → 0 < per_period second →
     spread first ≤ claim.spread → spread second ≤ next.spread →
     bytes_across rate s (share_of claim first) (share_of next second) ≤ s.main → KeepsDeclaration s units →
-    mb_fullness rate s.drain x units (pes_left rate s.drain 0 (run_packets (in_turn first periods second) rate s units n)) ≤ s.main
+    NoneLeavesEarly s.drain (run_packets (in_turn first periods second) rate s units n) left → mb_fullness rate s.drain x units left ≤ s.main
 
 abbrev pub ProgramLaw : Type 0
 ProgramLaw = (rate : ℕ) (claim : ProgramClaim) (marks : List Bool) → 0 < rate → 0 < length marks →

@@ -7,7 +7,7 @@ use Rattle.unit_timing.specs.declared.allowance.Allowance.{Allowance}
 use Rattle.unit_timing.specs.PesPacket.{PesPacket, Spaced, Sized}
 use Rattle.unit_timing.specs.Allowances.{KeepsAllowance}
 use Rattle.unit_timing.specs.Schedule.{Packet, packets_in_slots}
-use Rattle.unit_timing.specs.Transport.{slots_of, tb_fullness, pes_left}
+use Rattle.unit_timing.specs.Transport.{slots_of, tb_fullness, pes_left, NoneLeavesEarly}
 use Rattle.unit_timing.specs.Arrived.{AllLeft}
 use Rattle.unit_timing.specs.MainBuffer.{mb_fullness}
 use Rattle.unit_timing.specs.SystemBuffer.{system_tb_fullness, bsys_fullness}
@@ -32,12 +32,13 @@ pub record KeepsDeclaration (s : Declaration) (units : List PesPacket) : Type 0 
 abbrev pub run_packets : (ℕ → Bool) → ℕ → Declaration → List PesPacket → ℕ → List Packet
 run_packets own rate s units n = packets_in_slots own rate s.lead 0 units (own_slots own 0 n)
 
--- what is promised of a stream in runs of any length: at each moment the transport buffer holds at most 512 bytes and
--- the main buffer at most its size, and each unit that is due has left the transport buffer whole by its stamp
+-- what is promised of a stream in runs of any length: at each moment the transport buffer holds at most 512 bytes, and
+-- each unit that is due has left it whole by its stamp; and at each moment the main buffer holds at most its size, even
+-- where bytes leave the transport buffer at other times, as in one that begins empty after some of the packets
 pub record StreamServed (own : ℕ → Bool) (rate : ℕ) (s : Declaration) (units : List PesPacket) : Type 0 where
   pub transport : (n x : ℕ) → tb_fullness rate s.drain x (slots_of (run_packets own rate s units n)) ≤ tb_size
   pub arrived : (n : ℕ) → AllLeft rate s.drain n units (pes_left rate s.drain 0 (run_packets own rate s units n))
-  pub main : (n x : ℕ) → mb_fullness rate s.drain x units (pes_left rate s.drain 0 (run_packets own rate s units n)) ≤ s.main
+  pub main : (n x : ℕ) (left : List ℕ) → NoneLeavesEarly s.drain (run_packets own rate s units n) left → mb_fullness rate s.drain x units left ≤ s.main
 
 -- what is promised of the buffers of a program's tables at each moment, whichever of the program's slots are used
 pub record ProgramServed (own : ℕ → Bool) (rate : ℕ) : Type 0 where

@@ -1,6 +1,6 @@
 -- The transport buffer of a stream (ISO/IEC 13818-1, 2.4.2.3): all bytes of its packets enter it as they arrive, and
 -- leave it at r bits a second.
-use Rattle.std.specs.Prelude.{ℕ, ◌+◌, ◌-◌, ◌*◌, ◌<◌, ◌≤◌, Bool, List, [], ◌∷◌, ◌++◌, take, drop, map, All}
+use Rattle.std.specs.Prelude.{◌≡◌, ℕ, ◌+◌, ◌-◌, ◌*◌, ◌<◌, ◌≤◌, Bool, List, [], ◌∷◌, ◌++◌, length, take, drop, map, All}
 use Rattle.clock27.specs.Arrival.{arrivals}
 use Rattle.clock27.specs.Departure.{departures}
 use Rattle.clock27.specs.Fullness.{fullness}
@@ -25,6 +25,19 @@ tb_fullness rate r x slots = fullness x (arrivals r slots) (departures rate 0 (a
 -- there is none
 abbrev pub pes_left : ℕ → ℕ → ℕ → List Packet → List ℕ
 pes_left rate r prev packets = of_payloads packets (departures rate prev (arrivals r (slots_of packets)))
+
+-- these are departures of the payload bytes of these packets, one for each, and no byte leaves before its packet's slot begins:
+-- whatever stands in the transport buffer before them, and however fast it is drained
+unfoldable pub NoneLeavesEarly : ℕ → List Packet → List ℕ → Type 0
+NoneLeavesEarly r [] left = left ≡ []
+NoneLeavesEarly r (p ∷ packets) left =
+    (length (take p.size left) ≡ p.size) × All (λ d. 188 * p.slot * r ≤ d) (take p.size left) × NoneLeavesEarly r packets (drop p.size left)
+
+-- so are those of `pes_left`, and those of some packets and then of further ones, as where a buffer begins empty with these
+pub record NoneLeavesEarlyLaw : Type 0 where
+  pub model : (rate r prev : ℕ) (packets : List Packet) → All (λ p. p.size ≤ 188) packets → NoneLeavesEarly r packets (pes_left rate r prev packets)
+  pub joined : (r : ℕ) (packets packets' : List Packet) (left left' : List ℕ) → NoneLeavesEarly r packets left → NoneLeavesEarly r packets' left' →
+      NoneLeavesEarly r (packets ++ packets') (left ++ left')
 
 -- the buffer never holds more than `room` bytes, where the work fits
 abbrev pub RoomLaw : Type 0

@@ -1,8 +1,8 @@
 //! The main buffer.
 ghost use Rattle.unit_timing.specs.MainBuffer.{BySlots, ByCurve, MainPeakLaw};
 
-/// Bounds of the fullness of the main buffer at any moment: by slots, and by what is allowed of units, their bytes or their
-/// packets. Units that are late count too.
+/// Bounds of the fullness of the main buffer at any moment, whenever bytes leave the transport buffer after their slot has
+/// begun: by slots, and by what is allowed of units, their bytes or their packets. Units that are late count too.
 pub fn fullness()
     ensures by_slots { BySlots }
     ensures by_curve { ByCurve }

@@ -16,7 +16,6 @@ use Rattle.slot_contents.proofs.Runs.{content_again}
 use Rattle.description.specs.Ranges.{IsInRange}
 use Rattle.plan_timing.specs.Promised.{Promised}
 use Rattle.demux.specs.Stream.{pushed, start as first_state}
-use Rattle.unit_queue.specs.Payloads.{all_senders}
 use Rattle.mux_core.specs.Scheduled.{Scheduled}
 use Rattle.mux_core.specs.Headline.{Headline, UnitsKept}
 use Rattle.mux_core.specs.Histories.{content_at, owned_stream}
@@ -35,16 +34,16 @@ use Rattle.stream_programs.specs.Association.{association, first_pat}
 use Rattle.named_streams.specs.Laws.{bytes_of, first_streams, found_of, state_of}
 use Rattle.named_streams.specs.NamedStreams.{NamedView, is_last, stream_by, stream_of, streams_at, streams_by, taken as named_with, taken_if as named_if}
 use Rattle.named_streams.proofs.First.{first_law}
-use Rattle.stream_report.specs.declared.clocks.Beginning.TheVariants.{Stamped}
 use Rattle.stream_report.specs.declared.view_options.ViewOptions.{ViewOptions}
 use Rattle.stream_report.specs.Choices.{RequestView, chosen}
-use Rattle.stream_report.specs.Clocks.{ClockEntries, by_payload}
+use Rattle.stream_report.specs.Clocks.{ClockEntries}
 use Rattle.stream_report.specs.Entries.{EntryState}
 use Rattle.stream_report.specs.StreamTables.{TableState, beginning, begun, begun_if, taken, taken_at, taken_if}
 use Rattle.stream_report.specs.Seen.{next_window}
 use Rattle.stream_report.specs.Views.{ViewState, after_all, clocked, start, with_begun, with_packet}
 use Rattle.decoder_buffers.specs.PidPackets.{packets_from}
 use Rattle.viewed_streams.specs.StreamPackets.{most_packets, sound_packet}
+use Rattle.viewed_streams.specs.CarriedStreams.{cut_senders}
 use Rattle.viewed_streams.specs.WholeStreams.{IsWhole, followed, nothing_known}
 use Rattle.viewed_streams.specs.ViewedRuns.{FromTheFirst, IsViewedAs, JobFirstLaw, JobLateUnitsLaw, RunFirstLaw, RunLateUnitsLaw}
 use Rattle.viewed_streams.proofs.ClockAhead.{entries_from, listed}
@@ -52,6 +51,7 @@ use Rattle.viewed_streams.proofs.Entries.{Agree, new_place}
 use Rattle.viewed_streams.proofs.FirstTables.{streams_known}
 use Rattle.viewed_streams.proofs.Grown.{grown, next, sound_packets}
 use Rattle.viewed_streams.proofs.Lists.{lookup_same}
+use Rattle.viewed_streams.proofs.RunUnits.{cuts_of}
 use Rattle.viewed_streams.proofs.MuxedMain.{job_main_law, run_main_law, run_viewed}
 use Rattle.viewed_streams.proofs.PidEntries.{packets_entries, pid_entries}
 use Rattle.viewed_streams.proofs.SentUnits.{AllSent, entry_packet}
@@ -246,17 +246,11 @@ first_entry pid i (x ∷ chunks) e es is =
     (λ rest. entry_later pid i x chunks e (first_entry pid (i + 1) chunks e es rest))
 
 -- it carries the begin of a unit
-starts_by : (start : Bool) (o : Option (List ℕ)) (dts : ℕ) → by_payload start o ≡ Stamped dts → start ≡ true
-unfolding by_payload
-starts_by true o dts is = refl
-starts_by false None dts is = absurd (let no : ⊥ = cc in no)
-starts_by false (Some b) dts is = absurd (let no : ⊥ = cc in no)
-
-first_starts : (base0 rate : ℕ) (e : Entry) (es : List Entry) (us : List AccessUnit) → AllSent base0 rate 0 None (e ∷ es) us → e.packet.header.payload_unit_start_indicator ≡ true
+first_starts : (base0 n : ℕ) (e : Entry) (es : List Entry) (us : List AccessUnit) → AllSent base0 n None (e ∷ es) us → e.packet.header.payload_unit_start_indicator ≡ true
 unfolding AllSent
-first_starts base0 rate e es [] sent = absurd sent
-first_starts base0 rate e es (u ∷ us) sent = elim sent.0.begins [
-  | inl stamped ↦ starts_by e.packet.header.payload_unit_start_indicator e.packet.payload _ stamped
+first_starts base0 n e es [] sent = absurd sent
+first_starts base0 n e es (u ∷ us) sent = elim sent.0.begins [
+  | inl stamped ↦ stamped.0
   | inr goes ↦ absurd (let none : None ≡ Some u = goes.1 in (let no : ⊥ = cc in no))
 ]
 
@@ -340,8 +334,9 @@ from_the_first d units slots request e k ranges promised kept few viewed whole l
         let v = run_viewed d units slots request e k ranges promised kept few viewed whole in
         let all : entries_from pid 0 (cut_packets bytes) ≡ first ∷ (es ++ entries_from pid (length whole.before) rest) =
         v.entries ∙ ap (λ (l : List Entry). l ++ entries_from pid (length whole.before) rest) is in
-        let starts = first_starts d.description.base0 d.description.rate first (es ++ entries_from pid (length whole.before) rest) (all_senders (owned_stream d k viewed.stream) (units k))
-        (subst (λ (l : List Entry). AllSent d.description.base0 d.description.rate 0 None l (all_senders (owned_stream d k viewed.stream) (units k))) all v.sent.sent) in
+        let us : List AccessUnit = cut_senders (cuts_of (owned_stream d k viewed.stream) (units k)) in
+        let starts = first_starts d.description.base0 v.sent.first first (es ++ entries_from pid (length whole.before) rest) us
+        (subst (λ (l : List Entry). AllSent d.description.base0 v.sent.first None l us) all v.sent.sent) in
         let there : slice_get (pid_list pid bytes) 0 ≡ Some first = ap (λ (l : List Entry). slice_get l 0) (pid_entries pid bytes ∙ all) in
         let f = first_entry pid 0 whole.before first es is in
         let n : ℕ = length f.pre in
@@ -381,7 +376,7 @@ run_first_law = from_the_first
 
 pub run_late_units_law : RunLateUnitsLaw
 run_late_units_law d units slots request e k ranges promised kept few viewed whole late =
-    run_main_law d units slots request e k ranges promised kept few viewed whole (from_the_first d units slots request e k ranges promised kept few viewed whole late)
+    (run_main_law d units slots request e k ranges promised kept few viewed whole).measured (from_the_first d units slots request e k ranges promised kept few viewed whole late)
 
 pub job_first_law : JobFirstLaw
 job_first_law d units slots request e k ranges promised none few viewed =
@@ -392,4 +387,4 @@ job_first_law d units slots request e k ranges promised none few viewed =
 
 pub job_late_units_law : JobLateUnitsLaw
 job_late_units_law d units slots request e k ranges promised none few viewed whole late =
-    job_main_law d units slots request e k ranges promised none few viewed whole (job_first_law d units slots request e k ranges promised none few viewed whole late)
+    (job_main_law d units slots request e k ranges promised none few viewed whole).measured (job_first_law d units slots request e k ranges promised none few viewed whole late)

@@ -1,6 +1,7 @@
 -- A program's clock reference has come before a stream whose units are due late.
 use Rattle.std.proofs.Common.{◌≡◌, ◌∙◌, ◌⊎◌, sym, ℕ, ◌+◌, ◌*◌, ◌≤◌, ◌<◌, false, is_some, Bool, true, List, [], ◌∷◌, ◌++◌, length, Option, Some, None, if◌then◌else◌, refl, ap, subst, inl, inr, nat_eq, arith}
 use Rattle.std.specs.Prelude.{slice_get}
+use Rattle.std.specs.Option.{option_or}
 use Rattle.std.proofs.Math.Nat.{mul-le-mul_right}
 use Rattle.clock27.specs.Recurrence.{Recur}
 use Rattle.ts_packet.specs.Views.{PacketView}
@@ -24,15 +25,17 @@ use Rattle.mux_core.proofs.Whole.{headline}
 use Rattle.round_trip_run.specs.TablesFirst.{DueLate}
 use Rattle.round_trip_run.proofs.MonitoredJobs.{job_kept}
 use Rattle.round_trip_run.proofs.TablesFirst.{late_slot}
+use Rattle.packet_arrival.specs.declared.clock.PcrSample.{PcrSample}
 use Rattle.stream_arrival.specs.declared.arrival.Arrival.TheVariants.{AtRate}
+use Rattle.stream_report.specs.declared.view_options.ViewOptions.{ViewOptions}
 use Rattle.stream_report.specs.Choices.{RequestView}
 use Rattle.stream_report.specs.Entries.{EntryState}
 use Rattle.viewed_streams.specs.AsMeasured.{AsMeasured, HasClock, IsClockOf, JobLateAsMeasuredLaw, RunLateAsMeasuredLaw}
-use Rattle.viewed_streams.specs.StreamPackets.{Before, Followed, known_after, known_after_all, most_packets, reference_in, sound_packet}
+use Rattle.viewed_streams.specs.StreamPackets.{Before, Followed, clock_with, known_after, known_after_all, most_packets, reference_in, sound_packet}
 use Rattle.viewed_streams.specs.ViewedRuns.{FromTheFirst, IsViewedAs}
 use Rattle.viewed_streams.specs.WholeStreams.{IsWhole, followed, nothing_known}
 use Rattle.viewed_streams.proofs.AfterTables.{run_first_law}
-use Rattle.viewed_streams.proofs.AsMeasured.{run_as_measured_law, some_clock}
+use Rattle.viewed_streams.proofs.AsMeasured.{known_two, run_as_measured_law}
 use Rattle.viewed_streams.proofs.ClockAhead.{AreClocks, NoneBefore, entries_from, listed, none_before, places, sample_is}
 use Rattle.viewed_streams.proofs.Lists.{itself}
 use Rattle.viewed_streams.proofs.MuxedMain.{none_entries, run_viewed}
@@ -41,6 +44,14 @@ use Rattle.viewed_streams.proofs.ProgramClocks.{clocks_kept, program_range}
 use Rattle.viewed_streams.proofs.StreamIndices.{index_more}
 
 -- ---- once one has come, one is known
+
+some_clock : (options : ViewOptions) (clock_pid index : ℕ) (packet : PacketView) (clock : Option PcrSample) → is_some clock ≡ true → is_some (clock_with options clock_pid index packet clock) ≡ true
+some_clock options clock_pid index packet clock e = by (nat_eq clock_pid packet.header.pid) (reference_in options index packet)
+  where
+    by : (b : Bool) (o : Option PcrSample) → is_some (if b then option_or o clock else clock) ≡ true
+    by true None = e
+    by true (Some s) = refl
+    by false o = e
 
 known_some : (f : Followed) (b : Before) (o : Option PacketView) → is_some b.clock ≡ true → is_some (known_after f b o).clock ≡ true
 unfolding known_after
@@ -162,7 +173,11 @@ has_clock d units slots request e k ranges promised kept few viewed clock whole 
 pub run_late_as_measured_law : RunLateAsMeasuredLaw
 run_late_as_measured_law d units slots request e k ranges promised kept few viewed clock whole late =
     let first = run_first_law d units slots request e k ranges promised kept few viewed whole late in
-    run_as_measured_law d units slots request e k ranges promised kept few viewed whole first (has_clock d units slots request e k ranges promised kept few viewed clock whole first late)
+    let before = has_clock d units slots request e k ranges promised kept few viewed clock whole first late in
+    let f : Followed = followed request e in
+    let with_first : HasClock request e (whole.before ++ whole.first ∷ []) =
+    ap (λ (b : Before). is_some b.clock) (known_two f nothing_known whole.before (whole.first ∷ [])) ∙ stays_some f (known_after_all f nothing_known whole.before) (whole.first ∷ []) before in
+    run_as_measured_law d units slots request e k ranges promised kept few viewed whole first with_first
 
 pub job_late_as_measured_law : JobLateAsMeasuredLaw
 job_late_as_measured_law d units slots request e k ranges promised none few viewed clock =

@@ -1,9 +1,9 @@
--- Each packet of a stream that a multiplexer wrote goes with its unit in a view: the view reads its stamp, and finds it due by the clock
--- then, once a clock reference has come.
-use Rattle.std.proofs.Common.{◌≡◌, ◌∙◌, ◌⊎◌, sym, ℕ, suc, ◌+◌, ◌*◌, ◌%◌, ◌≤◌, ◌<◌, Bool, true, false, List, [], ◌∷◌, ◌++◌, length, Option, Some, None, if◌then◌else◌, refl, ap, subst, inl, inr, nat_eq, arith}
-use Rattle.std.specs.Prelude.{is_some}
+-- Each packet of a PID that carries units goes with its unit in a view: the view reads its stamp, and finds it due by the clock then, once a
+-- clock reference has come.
+use Rattle.std.proofs.Common.{◌≡◌, ◌∙◌, ◌⊎◌, sym, ℕ, zero, suc, ◌+◌, ◌%◌, Bool, true, false, List, [], ◌∷◌, ◌++◌, Option, Some, None, if◌then◌else◌, refl, ap, subst, inl, inr, nat_eq, arith}
+use Rattle.std.specs.Prelude.{is_some, slice_get}
 use Rattle.std.specs.Option.{option_or}
-use Rattle.std.proofs.Math.Nat.{mul-le-mul_right}
+use Rattle.std.proofs.lemmas.Bool.{cases_Bool}
 use Rattle.ts_packet.specs.Views.{PacketView}
 use Rattle.ts_packet.specs.Reading.{packet_at}
 use Rattle.ts_packet.specs.PidList.{Entry}
@@ -19,33 +19,61 @@ use Rattle.stream_report.specs.declared.clocks.Beginning.{Beginning}
 use Rattle.stream_report.specs.declared.clocks.Beginning.TheVariants.{Nothing, Stamped}
 use Rattle.stream_report.specs.Clocks.{beginning_of}
 use Rattle.stream_report.specs.Entries.{arriving, beginning_in, counter_after, due_by, is_repeated, same_counter}
-use Rattle.viewed_streams.specs.StreamPackets.{Before, Followed, clock_with, known_after, most_packets, reference_in, seen_among, seen_in, sound_packet}
+use Rattle.viewed_streams.specs.StreamPackets.{Before, Followed, clock_in, clock_with, clocks_seen, known_after, reference_in, seen_among, seen_in, sound_packet}
+use Rattle.viewed_streams.specs.CarriedStreams.{GoesBy}
 use Rattle.viewed_streams.proofs.Lists.{apart, some_is}
 use Rattle.viewed_streams.proofs.StreamIndices.{index_more}
 use Rattle.viewed_streams.proofs.MainBytes.{due_with}
 use Rattle.viewed_streams.proofs.KeptBytes.{Follows}
-use Rattle.viewed_streams.proofs.SentUnits.{AllSent, IsSent, wire_dts}
+use Rattle.viewed_streams.proofs.SentUnits.{AllSent, IsSent, number_after, wire_dts}
 use Rattle.viewed_streams.proofs.DueByClock.{due_by_clock}
-use Rattle.viewed_streams.proofs.ClockAhead.{AreClocks, ClockIs, IsReference, NoClocks, NoneBefore, clock_packet, clock_step, entries_from, listed, near_reference, none_before}
+use Rattle.viewed_streams.proofs.ClockAhead.{entries_from, listed}
 
--- a run: its rate, the clock's value at its begin, the greatest distance of clock references, and its slots
-pub record Run : Type 0 where
-  pub rate : ℕ
-  pub base0 : ℕ
-  pub limit : ℕ
-  pub slots : ℕ
+-- ---- by which clock reference a unit goes that begins with a packet
 
-pub record IsRun (r : Run) (options : ViewOptions) : Type 0 where
-  pub arrival : options.arrival ≡ AtRate r.rate
-  pub least : 100000 ≤ r.rate
-  pub limit : r.limit ≤ 100
-  pub slots : r.slots ≤ most_packets
+abbrev pub BeginsBy : ℕ → ℕ → Entry → AccessUnit → Option PcrSample → Type 0
+BeginsBy rate base0 e u clock = (k : PcrSample) → e.packet.header.payload_unit_start_indicator ≡ true → clock ≡ Some k → GoesBy rate base0 k u
 
--- what is known before packet number n of a stream: its counter, when the unit goes of which the last packet was, and that none has begun
--- before a clock reference
-pub record Known (r : Run) (f : Followed) (n : ℕ) (b : Before) (before : Option AccessUnit) (due : Option DueTime) : Type 0 where
+unfoldable pub Clocked : ℕ → ℕ → List Entry → List AccessUnit → List (Option PcrSample) → Type 0
+Clocked rate base0 [] us clocks = Unit {0}
+Clocked rate base0 (e ∷ es) [] clocks = Unit {0}
+Clocked rate base0 (e ∷ es) (u ∷ us) [] = Unit {0}
+Clocked rate base0 (e ∷ es) (u ∷ us) (clock ∷ clocks) = BeginsBy rate base0 e u clock × Clocked rate base0 es us clocks
+
+-- the same by numbers
+abbrev pub ClockedAt : ℕ → ℕ → List Entry → List AccessUnit → List (Option PcrSample) → Type 0
+ClockedAt rate base0 es us clocks = (j : ℕ) (e : Entry) (u : AccessUnit) (k : PcrSample) → slice_get es j ≡ Some e → slice_get us j ≡ Some u →
+    e.packet.header.payload_unit_start_indicator ≡ true → slice_get clocks j ≡ Some (Some k) → GoesBy rate base0 k u
+
+pub clocked_by_number : (rate base0 : ℕ) (es : List Entry) (us : List AccessUnit) (clocks : List (Option PcrSample)) → ClockedAt rate base0 es us clocks → Clocked rate base0 es us clocks
+unfolding Clocked
+clocked_by_number rate base0 [] us clocks h = tt
+clocked_by_number rate base0 (e ∷ es) [] clocks h = tt
+clocked_by_number rate base0 (e ∷ es) (u ∷ us) [] h = tt
+clocked_by_number rate base0 (e ∷ es) (u ∷ us) (clock ∷ clocks) h = (
+  λ k starts is. h 0 e u k refl refl starts (ap (λ (c : Option PcrSample). Some c) is),
+  clocked_by_number rate base0 es us clocks (λ j f v k found sender starts is. h (suc j) f v k found sender starts is),
+)
+
+pub number_clocked : (rate base0 : ℕ) (es : List Entry) (us : List AccessUnit) (clocks : List (Option PcrSample)) → Clocked rate base0 es us clocks → ClockedAt rate base0 es us clocks
+unfolding Clocked
+number_clocked rate base0 [] us clocks h j e u k found sender starts is = absurd (let no : ⊥ = cc in no)
+number_clocked rate base0 (f ∷ es) [] clocks h j e u k found sender starts is = absurd (let no : ⊥ = cc in no)
+number_clocked rate base0 (f ∷ es) (v ∷ us) [] h j e u k found sender starts is = absurd (let no : ⊥ = cc in no)
+number_clocked rate base0 (f ∷ es) (v ∷ us) (clock ∷ clocks) h zero e u k found sender starts is =
+    let entry : f ≡ e = some_is f e found in
+    let unit : v ≡ u = some_is v u sender in
+    let here : clock ≡ Some k = some_is clock (Some k) is in
+    subst (λ (w : AccessUnit). GoesBy rate base0 k w) unit
+    (h.0 k (subst (λ (x : Entry). x.packet.header.payload_unit_start_indicator ≡ true) (sym entry) starts) here)
+number_clocked rate base0 (f ∷ es) (v ∷ us) (clock ∷ clocks) h (suc j) e u k found sender starts is =
+    number_clocked rate base0 es us clocks h.1 j e u k found sender starts is
+
+-- ---- what is known before packet number n of those with a payload: its counter, when the unit goes of which the last packet was, and that none
+-- has begun before a clock reference
+pub record Known (rate : ℕ) (f : Followed) (n : ℕ) (b : Before) (before : Option AccessUnit) (due : Option DueTime) : Type 0 where
   pub counter : (b.counter ≡ None) ⊎ (b.counter ≡ Some ((n + 15) % 16))
-  pub goes : (due ≡ None) ⊎ ((u : AccessUnit) × ((before ≡ Some u) × (due ≡ Some (due_time r.rate f.rx u.dts))))
+  pub goes : (due ≡ None) ⊎ ((u : AccessUnit) × ((before ≡ Some u) × (due ≡ Some (due_time rate f.rx u.dts))))
   pub none : b.clock ≡ None → due ≡ None
 
 -- its counter is another than the last one's
@@ -54,52 +82,27 @@ unfolding same_counter
 other_counter n o (inl none) = rw none refl
 other_counter n o (inr some) = rw some (apart ((n + 15) % 16) (n % 16) (λ same. omega (arith, same)))
 
-not_repeated : (n : ℕ) (o : Option ℕ) (packet : PacketView) → is_some packet.payload ≡ true → packet.header.continuity_counter ≡ n % 16 →
+not_repeated : (n : ℕ) (o : Option ℕ) (packet : PacketView) → (is_some packet.payload ≡ true → packet.header.continuity_counter ≡ n % 16) →
     (o ≡ None) ⊎ (o ≡ Some ((n + 15) % 16)) → is_repeated o packet ≡ false
-not_repeated n o packet some counter known = rw (some, counter) (other_counter n o known)
+not_repeated n o packet counter known = elim (cases_Bool (is_some packet.payload)) [
+  | inl some ↦ rw (some, counter some) (other_counter n o known)
+  | inr none ↦ rw none refl
+]
 
-next_counter : (n : ℕ) (o : Option ℕ) (packet : PacketView) → is_some packet.payload ≡ true → packet.header.continuity_counter ≡ n % 16 →
-    counter_after o packet ≡ Some ((suc n + 15) % 16)
-next_counter n o packet some counter = let same : n % 16 ≡ (suc n + 15) % 16 = omega arith in rw (some, counter, same) refl
-
--- a clock reference has no payload, so the clock stays the same
-own_stays : (r : Run) (options : ViewOptions) (pid index : ℕ) (bytes : List ℕ) (packet : PacketView) (clock : Option PcrSample) (es : List Entry) → is_some packet.payload ≡ true →
-    ClockIs options r.rate r.base0 r.limit r.slots pid index clock (record { index = index; bytes = bytes; packet = packet } ∷ es) → option_or (reference_in options index packet) clock ≡ clock
-unfolding ClockIs AreClocks NoClocks
-own_stays r options pid index bytes packet clock es some (inl told) =
-    let is : packet ≡ clock_packet r.rate r.base0 pid index = told.0.0 in
-    let no : true ≡ false = sym some ∙ ap (λ (q : PacketView). is_some q.payload) is in
-    absurd (let bad : ⊥ = cc in bad)
-own_stays r options pid index bytes packet clock es some (inr quiet) = rw (quiet.1.0, quiet.0) refl
-
-clock_stays : (r : Run) (f : Followed) (b : Before) (bytes : List ℕ) (packet : PacketView) (es : List Entry) → is_some packet.payload ≡ true →
-    ClockIs f.options r.rate r.base0 r.limit r.slots f.clock_pid b.index b.clock (listed f.clock_pid b.index bytes (Some packet) es) →
-    clock_with f.options f.clock_pid b.index packet b.clock ≡ b.clock
-unfolding listed
-clock_stays r f b bytes packet es some h = by (nat_eq f.clock_pid packet.header.pid) refl h
-  where
-    e : Entry
-    e = record { index = b.index; bytes = bytes; packet = packet }
-
-    by : (w : Bool) → nat_eq f.clock_pid packet.header.pid ≡ w →
-        ClockIs f.options r.rate r.base0 r.limit r.slots f.clock_pid b.index b.clock (if nat_eq f.clock_pid packet.header.pid then e ∷ es else es) →
-        (if nat_eq f.clock_pid packet.header.pid then option_or (reference_in f.options b.index packet) b.clock else b.clock) ≡ b.clock
-    by true own k = rw own (own_stays r f.options f.clock_pid b.index bytes packet b.clock es some (rw own at k))
-    by false other k = rw other refl
+next_counter : (n : ℕ) (o : Option ℕ) (index : ℕ) (bytes : List ℕ) (packet : PacketView) → (is_some packet.payload ≡ true → packet.header.continuity_counter ≡ n % 16) →
+    (o ≡ None) ⊎ (o ≡ Some ((n + 15) % 16)) →
+    (counter_after o packet ≡ None) ⊎ (counter_after o packet ≡ Some ((number_after n (record { index = index; bytes = bytes; packet = packet }) + 15) % 16))
+next_counter n o index bytes packet counter known = elim (cases_Bool (is_some packet.payload)) [
+  | inl some ↦ let same : n % 16 ≡ (suc n + 15) % 16 = omega arith in inr (rw (some, counter some, same) refl)
+  | inr none ↦ rw none known
+]
 
 -- when the unit is due that begins with it
-due_told : (r : Run) (f : Followed) (i : ℕ) (clock : Option PcrSample) (u : AccessUnit) (es : List Entry) → IsRun r f.options → i ≤ r.slots → NoneBefore i es →
-    i * 135360000 ≤ u.dts * r.rate → u.dts * r.rate ≤ i * 135360000 + 90000 * r.rate → IsReference r.rate r.base0 r.limit r.slots i clock es →
-    (clock ≡ None) ⊎ (due_by f.options f.rx clock (Stamped (wire_dts r.base0 u)) ≡ Some (due_time r.rate f.rx u.dts))
-unfolding due_by step_of IsReference
-due_told r f i None u es run few none on_time soon h = inl refl
-due_told r f i (Some clock) u es run few none on_time soon h =
-    let m : ℕ = h.0 in
-    let near = near_reference r.rate r.limit r.slots m i es none few h.1.1.1 in
-    let limit : r.limit * r.rate ≤ 100 * r.rate = mul-le-mul_right r.rate run.limit in
-    let most : i ≤ most_packets = omega (arith, few, run.slots) in
-    let is = due_by_clock r.rate f.rx r.base0 m i u.dts run.least h.1.1.0 most (omega (arith, near, limit)) on_time soon in
-    inr (rw (h.1.0, run.arrival, is) refl)
+due_told : (rate base0 : ℕ) (f : Followed) (clock : Option PcrSample) (u : AccessUnit) → f.options.arrival ≡ AtRate rate → ((k : PcrSample) → clock ≡ Some k → GoesBy rate base0 k u) →
+    (clock ≡ None) ⊎ (due_by f.options f.rx clock (Stamped (wire_dts base0 u)) ≡ Some (due_time rate f.rx u.dts))
+unfolding due_by step_of
+due_told rate base0 f None u at_rate goes = inl refl
+due_told rate base0 f (Some k) u at_rate goes = inr (rw (at_rate, due_by_clock rate f.rx base0 k u (goes k refl)) refl)
 
 no_due : (options : ViewOptions) (rx : ℕ) (clock : Option PcrSample) → due_by options rx clock Nothing ≡ None
 unfolding due_by
@@ -110,111 +113,105 @@ none_due : (options : ViewOptions) (rx : ℕ) (clock : Option PcrSample) (beginn
 unfolding due_by
 none_due options rx clock beginning e = rw e refl
 
+-- no clock reference has come where none has with the packet
+earlier : (w : Bool) (o c : Option PcrSample) → (if w then option_or o c else c) ≡ None → c ≡ None
+earlier true None c e = e
+earlier true (Some s) c e = absurd (let no : ⊥ = cc in no)
+earlier false o c e = e
+
 -- so the packet goes with its unit, or none has begun
-goes_with : (r : Run) (f : Followed) (n : ℕ) (b : Before) (before : Option AccessUnit) (due : Option DueTime) (e : Entry) (u : AccessUnit) (es : List Entry) → IsRun r f.options →
-    e.index ≡ b.index → b.index ≤ r.slots → NoneBefore b.index es → Known r f n b before due → IsSent r.base0 r.rate n before e u →
-    ClockIs f.options r.rate r.base0 r.limit r.slots f.clock_pid b.index b.clock es →
-    (due_with (due_by f.options f.rx b.clock (beginning_of e.packet)) due ≡ None) ⊎ (due_with (due_by f.options f.rx b.clock (beginning_of e.packet)) due ≡ Some (due_time r.rate f.rx u.dts))
-unfolding ClockIs
-goes_with r f n b before due e u es run place few none known sent clock = elim sent.begins [
-  | inl stamped ↦ elim clock [
-    | inl told ↦
-        let on_time : b.index * 135360000 ≤ u.dts * r.rate = rw place at sent.on_time in
-        let soon : u.dts * r.rate ≤ b.index * 135360000 + 90000 * r.rate = rw place at sent.soon in
-        elim (due_told r f b.index b.clock u es run few none on_time soon told.1) [
-          | inl nothing ↦ inl (rw (none_due f.options f.rx b.clock (beginning_of e.packet) nothing, known.none nothing) refl)
-          | inr some ↦ inr (rw (stamped, some) refl)
-        ]
-    | inr quiet ↦ inl (rw (none_due f.options f.rx b.clock (beginning_of e.packet) quiet.0, known.none quiet.0) refl)
+goes_with : (rate base0 : ℕ) (f : Followed) (n : ℕ) (b : Before) (before : Option AccessUnit) (due : Option DueTime) (e : Entry) (u : AccessUnit) (now : Option PcrSample) →
+    f.options.arrival ≡ AtRate rate → Known rate f n b before due → (now ≡ None → due ≡ None) → IsSent base0 n before e u → BeginsBy rate base0 e u now →
+    (due_with (due_by f.options f.rx now (beginning_of e.packet)) due ≡ None) ⊎ (due_with (due_by f.options f.rx now (beginning_of e.packet)) due ≡ Some (due_time rate f.rx u.dts))
+goes_with rate base0 f n b before due e u now at_rate known nothing_yet sent clock = elim sent.begins [
+  | inl stamped ↦ elim (due_told rate base0 f now u at_rate (λ k is. clock k stamped.0 is)) [
+    | inl nothing ↦ inl (rw (none_due f.options f.rx now (beginning_of e.packet) nothing, nothing_yet nothing) refl)
+    | inr some ↦ inr (rw (stamped.1, some) refl)
   ]
   | inr goes ↦
-      let nothing : due_by f.options f.rx b.clock (beginning_of e.packet) ≡ None = ap (λ (x : Beginning). due_by f.options f.rx b.clock x) goes.0 ∙ no_due f.options f.rx b.clock in
+      let nothing : due_by f.options f.rx now (beginning_of e.packet) ≡ None = ap (λ (x : Beginning). due_by f.options f.rx now x) goes.0 ∙ no_due f.options f.rx now in
       elim known.goes [
         | inl nought ↦ inl (rw (nothing, nought) refl)
         | inr of ↦
             let same : of.0 ≡ u = some_is of.0 u (sym of.1.0 ∙ goes.1) in
-            inr (rw nothing (of.1.1 ∙ ap (λ (v : AccessUnit). Some (due_time r.rate f.rx v.dts)) same))
+            inr (rw nothing (of.1.1 ∙ ap (λ (v : AccessUnit). Some (due_time rate f.rx v.dts)) same))
       ]
 ]
 
 -- and what is known after it
-pub record Goes (r : Run) (f : Followed) (n : ℕ) (b : Before) (packet : PacketView) (due : Option DueTime) (u : AccessUnit) (p : Arriving) : Type 0 where
+pub record Goes (rate : ℕ) (f : Followed) (n : ℕ) (b : Before) (packet : PacketView) (due : Option DueTime) (u : AccessUnit) (p : Arriving) : Type 0 where
   pub enters : p.enters ≡ true
-  pub unit : (due_with p.begins due ≡ None) ⊎ (due_with p.begins due ≡ Some (due_time r.rate f.rx u.dts))
-  pub known : Known r f (suc n) (known_after f b (Some packet)) (Some u) (due_with p.begins due)
+  pub unit : (due_with p.begins due ≡ None) ⊎ (due_with p.begins due ≡ Some (due_time rate f.rx u.dts))
+  pub known : Known rate f n (known_after f b (Some packet)) (Some u) (due_with p.begins due)
 
-packet_goes : (r : Run) (f : Followed) (n : ℕ) (b : Before) (before : Option AccessUnit) (due : Option DueTime) (bytes : List ℕ) (packet : PacketView) (u : AccessUnit) (es : List Entry) →
-    IsRun r f.options → nat_eq f.pid packet.header.pid ≡ true → b.index ≤ r.slots → NoneBefore b.index (listed f.clock_pid b.index bytes (Some packet) es) → Known r f n b before due →
-    IsSent r.base0 r.rate n before (record { index = b.index; bytes = bytes; packet = packet }) u →
-    ClockIs f.options r.rate r.base0 r.limit r.slots f.clock_pid b.index b.clock (listed f.clock_pid b.index bytes (Some packet) es) →
-    Goes r f n b packet due u (arriving f.options b.index f.rx b.counter (clock_with f.options f.clock_pid b.index packet b.clock) packet)
+packet_goes : (rate base0 : ℕ) (f : Followed) (n : ℕ) (b : Before) (before : Option AccessUnit) (due : Option DueTime) (bytes : List ℕ) (packet : PacketView) (u : AccessUnit) →
+    f.options.arrival ≡ AtRate rate → nat_eq f.pid packet.header.pid ≡ true → Known rate f n b before due →
+    IsSent base0 n before (record { index = b.index; bytes = bytes; packet = packet }) u →
+    BeginsBy rate base0 (record { index = b.index; bytes = bytes; packet = packet }) u (clock_with f.options f.clock_pid b.index packet b.clock) →
+    Goes rate f (number_after n (record { index = b.index; bytes = bytes; packet = packet })) b packet due u
+    (arriving f.options b.index f.rx b.counter (clock_with f.options f.clock_pid b.index packet b.clock) packet)
 unfolding known_after
-packet_goes r f n b before due bytes packet u es run own few none known sent clock =
+packet_goes rate base0 f n b before due bytes packet u at_rate own known sent clock =
     let e : Entry = record { index = b.index; bytes = bytes; packet = packet } in
     let now : Option PcrSample = clock_with f.options f.clock_pid b.index packet b.clock in
-    let stays : now ≡ b.clock = clock_stays r f b bytes packet es sent.some clock in
-    let new : is_repeated b.counter packet ≡ false = not_repeated n b.counter packet sent.some sent.counter known.counter in
-    let begins : due_by f.options f.rx now (beginning_in b.counter packet) ≡ due_by f.options f.rx b.clock (beginning_of packet) = rw (new, stays) refl in
-    let with_unit = goes_with r f n b before due e u (listed f.clock_pid b.index bytes (Some packet) es) run refl few none known sent clock in
-    let is : (due_with (due_by f.options f.rx now (beginning_in b.counter packet)) due ≡ None) ⊎ (due_with (due_by f.options f.rx now (beginning_in b.counter packet)) due ≡ Some (due_time r.rate f.rx u.dts)) =
+    let nothing_yet : clock_with f.options f.clock_pid b.index packet b.clock ≡ None → due ≡ None =
+    λ nothing. known.none (earlier (nat_eq f.clock_pid packet.header.pid) (reference_in f.options b.index packet) b.clock nothing) in
+    let new : is_repeated b.counter packet ≡ false = not_repeated n b.counter packet sent.counter known.counter in
+    let begins : due_by f.options f.rx now (beginning_in b.counter packet) ≡ due_by f.options f.rx now (beginning_of packet) = rw new refl in
+    let with_unit = goes_with rate base0 f n b before due e u now at_rate known nothing_yet sent clock in
+    let is : (due_with (due_by f.options f.rx now (beginning_in b.counter packet)) due ≡ None) ⊎ (due_with (due_by f.options f.rx now (beginning_in b.counter packet)) due ≡ Some (due_time rate f.rx u.dts)) =
     rw begins with_unit in
     record {
       enters = rw new refl;
       unit = is;
       known = record {
-        counter = inr (rw own (next_counter n b.counter packet sent.some sent.counter));
+        counter = rw own (next_counter n b.counter b.index bytes packet sent.counter known.counter);
         goes = elim is [ inl none ↦ inl none | inr some ↦ inr (u, (refl, some)) ];
-        none = λ nothing.
-            let before_it : b.clock ≡ None = sym stays ∙ nothing in
-            rw (begins, none_due f.options f.rx b.clock (beginning_of packet) before_it, known.none before_it) refl;
+        none = λ nothing. rw (begins, none_due f.options f.rx now (beginning_of packet) nothing, nothing_yet nothing) refl;
       };
     }
 
 -- a packet of another PID changes nothing of it
-other_known : (r : Run) (f : Followed) (n : ℕ) (b : Before) (before : Option AccessUnit) (due : Option DueTime) (packet : PacketView) → nat_eq f.pid packet.header.pid ≡ false →
-    Known r f n b before due → Known r f n (known_after f b (Some packet)) before due
+other_known : (rate : ℕ) (f : Followed) (n : ℕ) (b : Before) (before : Option AccessUnit) (due : Option DueTime) (packet : PacketView) → nat_eq f.pid packet.header.pid ≡ false →
+    Known rate f n b before due → Known rate f n (known_after f b (Some packet)) before due
 unfolding known_after
-other_known r f n b before due packet other known = record {
+other_known rate f n b before due packet other known = record {
   counter = rw other known.counter;
   goes = known.goes;
   none = λ nothing. known.none (earlier (nat_eq f.clock_pid packet.header.pid) (reference_in f.options b.index packet) b.clock nothing);
 }
-  where
-    earlier : (w : Bool) (o c : Option PcrSample) → (if w then option_or o c else c) ≡ None → c ≡ None
-    earlier true None c e = e
-    earlier true (Some s) c e = absurd (let no : ⊥ = cc in no)
-    earlier false o c e = e
 
 -- ---- all of them
 
-abbrev Rest : Run → Followed → Before → List (List ℕ) → Type 0
-Rest r f b chunks = (n : ℕ) (before : Option AccessUnit) (due : Option DueTime) (us : List AccessUnit) → AllSent r.base0 r.rate n before (entries_from f.pid b.index chunks) us →
-    Known r f n b before due → Follows r.rate f.rx due (seen_among f b chunks) us
+abbrev Rest : ℕ → ℕ → Followed → Before → List (List ℕ) → Type 0
+Rest rate base0 f b chunks = (n : ℕ) (before : Option AccessUnit) (due : Option DueTime) (us : List AccessUnit) → AllSent base0 n before (entries_from f.pid b.index chunks) us →
+    Clocked rate base0 (entries_from f.pid b.index chunks) us (clocks_seen f b chunks) → Known rate f n b before due → Follows rate f.rx due (seen_among f b chunks) us
 
-none_known : (r : Run) (f : Followed) (n : ℕ) (b : Before) (before : Option AccessUnit) (due : Option DueTime) → Known r f n b before due → Known r f n (known_after f b None) before due
+none_known : (rate : ℕ) (f : Followed) (n : ℕ) (b : Before) (before : Option AccessUnit) (due : Option DueTime) → Known rate f n b before due → Known rate f n (known_after f b None) before due
 unfolding known_after
-none_known r f n b before due k = record { counter = k.counter; goes = k.goes; none = k.none }
+none_known rate f n b before due k = record { counter = k.counter; goes = k.goes; none = k.none }
 
-own_follows : (r : Run) (f : Followed) (n : ℕ) (b : Before) (before : Option AccessUnit) (due : Option DueTime) (bytes : List ℕ) (packet : PacketView) (chunks : List (List ℕ)) (es : List Entry) (us : List AccessUnit) →
-    IsRun r f.options → nat_eq f.pid packet.header.pid ≡ true → b.index ≤ r.slots → NoneBefore b.index (listed f.clock_pid b.index bytes (Some packet) es) → Known r f n b before due →
-    AllSent r.base0 r.rate n before (record { index = b.index; bytes = bytes; packet = packet } ∷ entries_from f.pid (known_after f b (Some packet)).index chunks) us →
-    ClockIs f.options r.rate r.base0 r.limit r.slots f.clock_pid b.index b.clock (listed f.clock_pid b.index bytes (Some packet) es) → Rest r f (known_after f b (Some packet)) chunks →
-    Follows r.rate f.rx due (arriving f.options b.index f.rx b.counter (clock_with f.options f.clock_pid b.index packet b.clock) packet ∷ seen_among f (known_after f b (Some packet)) chunks) us
-unfolding AllSent Follows
-own_follows r f n b before due bytes packet chunks es [] run own few none known all clock rest = absurd all
-own_follows r f n b before due bytes packet chunks es (u ∷ us) run own few none known all clock rest =
+own_follows : (rate base0 : ℕ) (f : Followed) (n : ℕ) (b : Before) (before : Option AccessUnit) (due : Option DueTime) (bytes : List ℕ) (packet : PacketView) (chunks : List (List ℕ)) (us : List AccessUnit) →
+    f.options.arrival ≡ AtRate rate → nat_eq f.pid packet.header.pid ≡ true → Known rate f n b before due →
+    AllSent base0 n before (record { index = b.index; bytes = bytes; packet = packet } ∷ entries_from f.pid (known_after f b (Some packet)).index chunks) us →
+    Clocked rate base0 (record { index = b.index; bytes = bytes; packet = packet } ∷ entries_from f.pid (known_after f b (Some packet)).index chunks) us
+    (clock_with f.options f.clock_pid b.index packet b.clock ∷ clocks_seen f (known_after f b (Some packet)) chunks) → Rest rate base0 f (known_after f b (Some packet)) chunks →
+    Follows rate f.rx due (arriving f.options b.index f.rx b.counter (clock_with f.options f.clock_pid b.index packet b.clock) packet ∷ seen_among f (known_after f b (Some packet)) chunks) us
+unfolding AllSent Clocked Follows
+own_follows rate base0 f n b before due bytes packet chunks [] at_rate own known all clock rest = absurd all
+own_follows rate base0 f n b before due bytes packet chunks (u ∷ us) at_rate own known all clock rest =
+    let e : Entry = record { index = b.index; bytes = bytes; packet = packet } in
     let p : Arriving = arriving f.options b.index f.rx b.counter (clock_with f.options f.clock_pid b.index packet b.clock) packet in
-    let goes = packet_goes r f n b before due bytes packet u es run own few none known all.0 clock in
-    (goes.enters, goes.unit, rest (suc n) (Some u) (due_with p.begins due) us all.1 goes.known)
+    let goes = packet_goes rate base0 f n b before due bytes packet u at_rate own known all.0 clock.0 in
+    (goes.enters, goes.unit, rest (number_after n e) (Some u) (due_with p.begins due) us all.1 clock.1 goes.known)
 
-one_follows : (r : Run) (f : Followed) (n : ℕ) (b : Before) (before : Option AccessUnit) (due : Option DueTime) (bytes : List ℕ) (o : Option PacketView) (chunks : List (List ℕ)) (es : List Entry) (us : List AccessUnit) →
-    IsRun r f.options → b.index ≤ r.slots → NoneBefore b.index (listed f.clock_pid b.index bytes o es) → Known r f n b before due →
-    AllSent r.base0 r.rate n before (listed f.pid b.index bytes o (entries_from f.pid (known_after f b o).index chunks)) us →
-    ClockIs f.options r.rate r.base0 r.limit r.slots f.clock_pid b.index b.clock (listed f.clock_pid b.index bytes o es) →
-    Rest r f (known_after f b o) chunks → Follows r.rate f.rx due (seen_in f b o ++ seen_among f (known_after f b o) chunks) us
-unfolding seen_in listed
-one_follows r f n b before due bytes None chunks es us run few none known sent clock rest = rest n before due us sent (none_known r f n b before due known)
-one_follows r f n b before due bytes (Some packet) chunks es us run few none known sent clock rest = by (nat_eq f.pid packet.header.pid) refl sent
+one_follows : (rate base0 : ℕ) (f : Followed) (n : ℕ) (b : Before) (before : Option AccessUnit) (due : Option DueTime) (bytes : List ℕ) (o : Option PacketView) (chunks : List (List ℕ)) (us : List AccessUnit) →
+    f.options.arrival ≡ AtRate rate → Known rate f n b before due → AllSent base0 n before (listed f.pid b.index bytes o (entries_from f.pid (known_after f b o).index chunks)) us →
+    Clocked rate base0 (listed f.pid b.index bytes o (entries_from f.pid (known_after f b o).index chunks)) us (clock_in f b o ++ clocks_seen f (known_after f b o) chunks) →
+    Rest rate base0 f (known_after f b o) chunks → Follows rate f.rx due (seen_in f b o ++ seen_among f (known_after f b o) chunks) us
+unfolding seen_in clock_in listed
+one_follows rate base0 f n b before due bytes None chunks us at_rate known sent clock rest = rest n before due us sent clock (none_known rate f n b before due known)
+one_follows rate base0 f n b before due bytes (Some packet) chunks us at_rate known sent clock rest = by (nat_eq f.pid packet.header.pid) refl sent clock
   where
     e : Entry
     e = record { index = b.index; bytes = bytes; packet = packet }
@@ -222,28 +219,30 @@ one_follows r f n b before due bytes (Some packet) chunks es us run few none kno
     later : List Entry
     later = entries_from f.pid (known_after f b (Some packet)).index chunks
 
+    now : Option PcrSample
+    now = clock_with f.options f.clock_pid b.index packet b.clock
+
     p : Arriving
     p = arriving f.options b.index f.rx b.counter (clock_with f.options f.clock_pid b.index packet b.clock) packet
 
-    by : (w : Bool) → nat_eq f.pid packet.header.pid ≡ w → AllSent r.base0 r.rate n before (if nat_eq f.pid packet.header.pid then e ∷ later else later) us →
-        Follows r.rate f.rx due ((if nat_eq f.pid packet.header.pid then p ∷ [] else []) ++ seen_among f (known_after f b (Some packet)) chunks) us
-    by true own all = rw own (own_follows r f n b before due bytes packet chunks es us run own few none known (rw own at all) clock rest)
-    by false other all = rw other (rest n before due us (rw other at all) (other_known r f n b before due packet other known))
+    by : (w : Bool) → nat_eq f.pid packet.header.pid ≡ w → AllSent base0 n before (if nat_eq f.pid packet.header.pid then e ∷ later else later) us →
+        Clocked rate base0 (if nat_eq f.pid packet.header.pid then e ∷ later else later) us
+        ((if nat_eq f.pid packet.header.pid then now ∷ [] else []) ++ clocks_seen f (known_after f b (Some packet)) chunks) →
+        Follows rate f.rx due ((if nat_eq f.pid packet.header.pid then p ∷ [] else []) ++ seen_among f (known_after f b (Some packet)) chunks) us
+    by true own all clocked = rw own (own_follows rate base0 f n b before due bytes packet chunks us at_rate own known (rw own at all) (rw own at clocked) rest)
+    by false other all clocked = rw other (rest n before due us (rw other at all) (rw other at clocked) (other_known rate f n b before due packet other known))
 
-pub all_follow : (r : Run) (f : Followed) (n : ℕ) (b : Before) (before : Option AccessUnit) (due : Option DueTime) (chunks : List (List ℕ)) (us : List AccessUnit) → IsRun r f.options →
-    b.index + length chunks ≤ r.slots → Known r f n b before due → AllSent r.base0 r.rate n before (entries_from f.pid b.index chunks) us →
-    ClockIs f.options r.rate r.base0 r.limit r.slots f.clock_pid b.index b.clock (entries_from f.clock_pid b.index chunks) → Follows r.rate f.rx due (seen_among f b chunks) us
-unfolding seen_among entries_from
-all_follow r f n b before due [] us run few known sent clock = unfold Follows in tt
-all_follow r f n b before due (bytes ∷ chunks) us run few known sent clock =
+pub all_follow : (rate base0 : ℕ) (f : Followed) (n : ℕ) (b : Before) (before : Option AccessUnit) (due : Option DueTime) (chunks : List (List ℕ)) (us : List AccessUnit) → f.options.arrival ≡ AtRate rate →
+    Known rate f n b before due → AllSent base0 n before (entries_from f.pid b.index chunks) us → Clocked rate base0 (entries_from f.pid b.index chunks) us (clocks_seen f b chunks) →
+    Follows rate f.rx due (seen_among f b chunks) us
+unfolding seen_among clocks_seen entries_from
+all_follow rate base0 f n b before due [] us at_rate known sent clock = unfold Follows in tt
+all_follow rate base0 f n b before due (bytes ∷ chunks) us at_rate known sent clock =
     let o : Option PacketView = sound_packet (packet_at bytes) in
     let b' : Before = known_after f b o in
     let more : b'.index ≡ b.index + 1 = index_more f b o in
-    let early : b.index < most_packets = omega (arith, few, run.slots) in
-    let next = clock_step f b r.rate r.base0 r.limit r.slots bytes o (entries_from f.clock_pid (b.index + 1) chunks) run.arrival early clock in
-    let next_is : ClockIs f.options r.rate r.base0 r.limit r.slots f.clock_pid b'.index b'.clock (entries_from f.clock_pid b'.index chunks) =
-    subst (λ (i : ℕ). ClockIs f.options r.rate r.base0 r.limit r.slots f.clock_pid i b'.clock (entries_from f.clock_pid i chunks)) (sym more) next in
-    let sent_is : AllSent r.base0 r.rate n before (listed f.pid b.index bytes o (entries_from f.pid b'.index chunks)) us =
-    subst (λ (i : ℕ). AllSent r.base0 r.rate n before (listed f.pid b.index bytes o (entries_from f.pid i chunks)) us) (sym more) sent in
-    one_follows r f n b before due bytes o chunks (entries_from f.clock_pid (b.index + 1) chunks) us run (omega (arith, few)) (none_before f.clock_pid b.index (bytes ∷ chunks)) known sent_is clock
-    (λ m v d vs all k. all_follow r f m b' v d chunks vs run (omega (arith, few, more)) k all next_is)
+    let sent_is : AllSent base0 n before (listed f.pid b.index bytes o (entries_from f.pid b'.index chunks)) us =
+    subst (λ (i : ℕ). AllSent base0 n before (listed f.pid b.index bytes o (entries_from f.pid i chunks)) us) (sym more) sent in
+    let clock_is : Clocked rate base0 (listed f.pid b.index bytes o (entries_from f.pid b'.index chunks)) us (clock_in f b o ++ clocks_seen f b' chunks) =
+    subst (λ (i : ℕ). Clocked rate base0 (listed f.pid b.index bytes o (entries_from f.pid i chunks)) us (clock_in f b o ++ clocks_seen f b' chunks)) (sym more) clock in
+    one_follows rate base0 f n b before due bytes o chunks us at_rate known sent_is clock_is (λ m v d vs all told k. all_follow rate base0 f m b' v d chunks vs at_rate k all told)

@@ -1,7 +1,8 @@
 -- The bytes of a stream's packets in its main buffer, each of the unit of which its packet is.
-use Rattle.std.proofs.Common.{◌≡◌, ◌∙◌, ◌⊎◌, sym, ℕ, suc, ◌+◌, ◌-◌, ◌*◌, ◌≤◌, ◌<◌, cond, true, false, nat_lt, nat_le, List, [], ◌∷◌, length, map, take, drop, Option, Some, None, refl, ap, subst, inl, inr, arith}
+use Rattle.std.proofs.Common.{◌≡◌, ◌∙◌, ◌⊎◌, sym, ℕ, suc, ◌+◌, ◌-◌, ◌*◌, ◌≤◌, ◌<◌, cond, true, false, nat_lt, nat_le, List, [], ◌∷◌, length, map, take, drop, Option, Some, None, refl, ap, subst, inl, inr, arith, All}
 use Rattle.std.proofs.lemmas.Bool.{le-ltb, and_right}
 use Rattle.std.proofs.lemmas.List.{length-append, length-drop, take_at, drop_at}
+use Rattle.std.proofs.lemmas.List.Elements.{All-head, All-tail}
 use Rattle.std.proofs.lemmas.List.Sums.{sum_by-cons}
 use Rattle.clock27.specs.Arrival.{bytes_from}
 use Rattle.clock27.specs.Departure.{departures, last_left}
@@ -167,18 +168,16 @@ main_each_is rate low x h (p ∷ ps) (u ∷ us) before come few follows under_wa
     omega (arith, rest, m.later x us, m.main x, same_entered rate h.rx x u.dts due (take (timed_packet p).size (pes_left rate h.rx (last_of rate h.parts) (timed_packet p ∷ qs))) under_way follows.1)
 
 -- as many bytes leave as the packets have
-pub many_left : (rate r prev : ℕ) (ps : List Arriving) → length (pes_left rate r prev (map timed_packet ps)) ≡ total (map (λ (p : Packet). p.size) (map timed_packet ps))
+pub many_left : (rate r prev : ℕ) (ps : List Packet) → All (λ p. p.size ≤ 188) ps → length (pes_left rate r prev ps) ≡ total (map (λ (p : Packet). p.size) ps)
 unfolding total of_payloads
-many_left rate r prev [] = refl
-many_left rate r prev (p ∷ ps) =
-    let q : Packet = timed_packet p in
-    let le : q.size ≤ 188 = omega arith in
-    let qs : List Packet = map timed_packet ps in
-    let next : ℕ = last_left rate prev (bytes_from r (188 * q.slot) 188) in
+many_left rate r prev [] small = refl
+many_left rate r prev (p ∷ ps) small =
+    let le : p.size ≤ 188 = All-head (λ p. p.size ≤ 188) p ps small in
+    let next : ℕ = last_left rate prev (bytes_from r (188 * p.slot) 188) in
     omega (
       arith,
-      ap (λ (l : List ℕ). length l) (pes_left-cons rate r prev q qs),
-      length-append (payload_of_packet rate r prev q) (pes_left rate r next qs),
-      left_packet rate r prev q le,
-      many_left rate r next ps,
+      ap (λ (l : List ℕ). length l) (pes_left-cons rate r prev p ps),
+      length-append (payload_of_packet rate r prev p) (pes_left rate r next ps),
+      left_packet rate r prev p le,
+      many_left rate r next ps (All-tail (λ p. p.size ≤ 188) p ps small),
     )

@@ -22,6 +22,9 @@ pub mod ClockAhead
 pub mod FollowedUnits
 pub mod PidEntries
 pub mod ProgramClocks
+pub mod RunClocks
+pub mod CarriedMain
+pub mod RunUnits
 pub mod MuxedMain
 pub mod UnitsInTime
 pub mod MuxedLate

@@ -23,7 +23,8 @@ use Rattle.unit_timing.specs.Schedule.{Packet, packet_in, packets_by_slot, packe
 use Rattle.unit_timing.specs.Transport.{pes_left}
 use Rattle.unit_timing.proofs.ScheduleLemmas.{slotwise_law}
 use Rattle.unit_queue.specs.OwnedStreams.{OwnedStream, packet_count, timed}
-use Rattle.unit_queue.specs.Payloads.{all_pieces, all_senders}
+use Rattle.unit_queue.specs.Payloads.{all_senders}
+use Rattle.tstd.specs.Carried.{timed_pes_packets}
 use Rattle.unit_queue.proofs.CarriedBytes.{carried_law}
 use Rattle.mux_core.specs.Scheduled.{Scheduled}
 use Rattle.mux_core.specs.Headline.{UnitsKept}
@@ -39,6 +40,7 @@ use Rattle.stream_buffers.specs.declared.arriving.Arriving.{Arriving}
 use Rattle.stream_buffers.specs.Held.{Held, empty}
 use Rattle.stream_report.specs.Tallies.{is_late}
 use Rattle.viewed_streams.specs.StreamPackets.{after_each}
+use Rattle.viewed_streams.specs.CarriedStreams.{CutUnit, IsCut, cut_pieces, cut_senders, cut_units}
 use Rattle.viewed_streams.specs.StreamUnits.{all_units, units_ended}
 use Rattle.viewed_streams.specs.WholeStreams.{IsWhole, followed, known_at_begin, stream_packets}
 use Rattle.viewed_streams.specs.ViewedRuns.{JobLateLaw, NoLateUnit, RunLateLaw}
@@ -46,10 +48,11 @@ use Rattle.viewed_streams.proofs.MainBytes.{timed_packet, until_at}
 use Rattle.viewed_streams.proofs.EnteredBytes.{ComeFrom}
 use Rattle.viewed_streams.proofs.KeptBytes.{Follows}
 use Rattle.viewed_streams.proofs.SentBytes.{packet_sizes, sizes_of, timely_units}
-use Rattle.viewed_streams.proofs.SentUnits.{AllSent, entry_packet}
+use Rattle.viewed_streams.proofs.SentUnits.{entry_packet, many_packets, sizes_below}
 use Rattle.viewed_streams.proofs.ClockAhead.{entries_from}
 use Rattle.viewed_streams.proofs.PidEntries.{pid_entries}
 use Rattle.viewed_streams.proofs.UnitsInTime.{LeaveInTime, UnitFine, fine_each, leave_last, leave_timely}
+use Rattle.viewed_streams.proofs.RunUnits.{cuts_of, same_senders, same_units}
 use Rattle.viewed_streams.proofs.MuxedMain.{run_viewed}
 
 -- ---- a run that goes on
@@ -108,19 +111,13 @@ due_all : (rate n m : ℕ) (us : List AccessUnit) → All (λ u. u.dts ≤ m) us
 due_all rate n m us all =
     All-weaker (λ u. u.dts ≤ m) (λ u. u.dts * rate ≤ (n + m * rate) * slot_units_at_1bps) (λ u le. let far : u.dts * rate ≤ m * rate = mul-le-mul_right rate le in omega (arith, far)) us all
 
-sizes_below : (base0 rate n : ℕ) (before : Option AccessUnit) (es : List Entry) (us : List AccessUnit) → AllSent base0 rate n before es us → All (λ p. p.size ≤ 188) (map entry_packet es)
-unfolding AllSent
-sizes_below base0 rate n before [] us sent = All-nil (λ (p : Packet). p.size ≤ 188)
-sizes_below base0 rate n before (e ∷ es) [] sent = absurd sent
-sizes_below base0 rate n before (e ∷ es) (u ∷ us) sent =
-    All-cons (λ p. p.size ≤ 188) (entry_packet e) (map entry_packet es) (omega (arith, sent.0.most)) (sizes_below base0 rate (suc n) (Some u) es us sent.1)
-
 -- the packets of a stream, each of which leaves by its unit's decoding time
 stream_in_time : (d : Scheduled) (units : ℕ → List AccessUnit) (slots k : ℕ) (s : DescribedStream) → IsInRange d.description → Promised d.description d.schedule → UnitsKept d units →
     slice_get d.description.streams k ≡ Some s → (es : List Entry) → es ≡ entries_from s.pid 0 (cut_packets (run_bytes (content_at d units) 0 slots)) → All (λ p. p.size ≤ 188) (map entry_packet es) →
-    packet_sizes (map entry_packet es) ≡ take (length (map entry_packet es)) (sizes_of (all_pieces (owned_stream d k s) (units k))) →
-    LeaveInTime d.description.rate s.rx 0 (all_senders (owned_stream d k s) (units k)) (map entry_packet es)
-stream_in_time d units slots k s ranges promised kept is es same sized sizes =
+    All (IsCut s.stream_id d.description.base0) (cuts_of (owned_stream d k s) (units k)) →
+    packet_sizes (map entry_packet es) ≡ take (length (map entry_packet es)) (sizes_of (cut_pieces (cuts_of (owned_stream d k s) (units k)))) →
+    LeaveInTime d.description.rate s.rx 0 (cut_senders (cuts_of (owned_stream d k s) (units k))) (map entry_packet es)
+stream_in_time d units slots k s ranges promised kept is es same sized cut sizes =
     let rate : ℕ = d.description.rate in
     let l : OwnedStream = owned_stream d k s in
     let us : List AccessUnit = units k in
@@ -139,29 +136,15 @@ stream_in_time d units slots k s ranges promised kept is es same sized sizes =
     let on : packets_in_slots own rate s.lead 0 pes (own_slots own 0 (slots + more)) ≡ qs ++ later = packets_go_on own rate s.lead slots more pes ∙ ap (λ (ps : List Packet). ps ++ later) first in
     let all : AllLeft rate s.rx (slots + more) pes (pes_left rate s.rx 0 (qs ++ later)) =
     subst (λ (ps : List Packet). AllLeft rate s.rx (slots + more) pes (pes_left rate s.rx 0 ps)) on (served.arrived (slots + more)) in
-    let timely = timely_units rate s.rx (slots + more) l us qs (pes_left rate s.rx 0 (qs ++ later)) sizes all in
-    let due = due_all rate slots (latest us) (all_senders l us) (senders_before l us (latest us) (all_before us (latest us) (omega arith))) in
-    leave_timely rate s.rx (slots + more) 0 (all_senders l us) qs later sized due timely
+    let cuts : List CutUnit = cuts_of l us in
+    let all_too : AllLeft rate s.rx (slots + more) (timed_pes_packets s.stream_id d.description.base0 (cut_units cuts)) (pes_left rate s.rx 0 (qs ++ later)) =
+    subst (λ (vs : List AccessUnit). AllLeft rate s.rx (slots + more) (timed_pes_packets s.stream_id d.description.base0 vs) (pes_left rate s.rx 0 (qs ++ later))) (sym (same_units l us)) all in
+    let timely = timely_units rate s.rx (slots + more) s.stream_id d.description.base0 cuts qs (pes_left rate s.rx 0 (qs ++ later)) cut sizes all_too in
+    let before : All (λ u. u.dts ≤ latest us) (cut_senders cuts) =
+    subst (λ (vs : List AccessUnit). All (λ u. u.dts ≤ latest us) vs) (same_senders l us) (senders_before l us (latest us) (all_before us (latest us) (omega arith))) in
+    leave_timely rate s.rx (slots + more) 0 (cut_senders cuts) qs later sized (due_all rate slots (latest us) (cut_senders cuts) before) timely
 
 -- ---- the view
-
--- the packets after these
-pub record LaterSent (base0 rate n : ℕ) (es fs : List Entry) (us : List AccessUnit) : Type 0 where
-  pub last : Option AccessUnit
-  pub sent : AllSent base0 rate (n + length es) last fs (drop (length es) us)
-
-later_sent : (base0 rate n : ℕ) (before : Option AccessUnit) (es fs : List Entry) (us : List AccessUnit) → AllSent base0 rate n before (es ++ fs) us → LaterSent base0 rate n es fs us
-unfolding AllSent
-later_sent base0 rate n before [] fs us sent = let same : n ≡ n + 0 = omega arith in record { last = before; sent = subst (λ (i : ℕ). AllSent base0 rate i before fs us) same sent }
-later_sent base0 rate n before (e ∷ es) fs [] sent = absurd sent
-later_sent base0 rate n before (e ∷ es) fs (u ∷ us) sent =
-    let rest = later_sent base0 rate (suc n) (Some u) es fs us sent.1 in
-    let same : suc n + length es ≡ n + suc (length es) = omega arith in
-    record { last = rest.last; sent = subst (λ (i : ℕ). AllSent base0 rate i rest.last fs (drop (length es) us)) same rest.sent }
-
-many_packets : (es : List Entry) → length (map entry_packet es) ≡ length es
-many_packets [] = refl
-many_packets (e ∷ es) = ap (λ (n : ℕ). suc n) (many_packets es)
 
 view_fine : (rate rx size low : ℕ) (ps : List Arriving) (us : List AccessUnit) → ComeFrom low ps → Follows rate rx None ps us → LeaveInTime rate rx 0 us (map timed_packet ps) →
     count_by is_late (all_units rate (after_each (empty rate rx size) (AtRate rate) ps).parts) ≡ 0
@@ -174,24 +157,21 @@ run_late_law d units slots request e k ranges promised kept few viewed whole =
     let base0 : ℕ = d.description.base0 in
     let chunks : List (List ℕ) = cut_packets (run_bytes (content_at d units) 0 slots) in
     let s : DescribedStream = viewed.stream in
-    let l : OwnedStream = owned_stream d k s in
-    let us : List AccessUnit = all_senders l (units k) in
+    let us : List AccessUnit = cut_senders (cuts_of (owned_stream d k s) (units k)) in
     let rest : List (List ℕ) = whole.first ∷ whole.later in
     let v = run_viewed d units slots request e k ranges promised kept few viewed whole in
     let es : List Entry = entries_from s.pid 0 whole.before in
     let fs : List Entry = entries_from s.pid (length whole.before) rest in
-    let later = later_sent base0 rate 0 None es fs us (subst (λ (xs : List Entry). AllSent base0 rate 0 None xs us) v.entries v.sent.sent) in
-    let begin = v.begins (drop (length es) us) (0 + length es) later.last later.sent in
-    let all = stream_in_time d units slots k s ranges promised kept viewed.there (entries_from s.pid 0 chunks) refl (sizes_below base0 rate 0 None (entries_from s.pid 0 chunks) us v.sent.sent) v.sent.sizes in
+    let all = stream_in_time d units slots k s ranges promised kept viewed.there (entries_from s.pid 0 chunks) refl (sizes_below base0 v.sent.first None (entries_from s.pid 0 chunks) us v.sent.sent) v.sent.cut v.sent.sizes in
     let two : map entry_packet (entries_from s.pid 0 chunks) ≡ map entry_packet es ++ map entry_packet fs = ap (λ (xs : List Entry). map entry_packet xs) v.entries ∙ map-append entry_packet es fs in
     let last : LeaveInTime rate s.rx 0 (drop (length es) us) (map entry_packet fs) =
     subst (λ (n : ℕ). LeaveInTime rate s.rx 0 (drop n us) (map entry_packet fs)) (many_packets es)
     (leave_last rate s.rx 0 us (map entry_packet es) (map entry_packet fs) (subst (λ (ps : List Packet). LeaveInTime rate s.rx 0 us ps) two all)) in
     let in_time : LeaveInTime rate e.held.rx 0 (drop (length es) us) (map timed_packet (stream_packets request e whole.before rest)) =
     subst (λ (r : ℕ). LeaveInTime rate r 0 (drop (length es) us) (map timed_packet (stream_packets request e whole.before rest))) (sym viewed.rx)
-    (subst (λ (ps : List Packet). LeaveInTime rate s.rx 0 (drop (length es) us) ps) (sym begin.packets) last) in
+    (subst (λ (ps : List Packet). LeaveInTime rate s.rx 0 (drop (length es) us) ps) (sym v.begin.packets) last) in
     let none = view_fine rate e.held.rx e.held.main.size (known_at_begin (followed request e) whole.before).index (stream_packets request e whole.before rest) (drop (length es) us)
-    begin.come begin.follows in_time in
+    v.begin.come v.begin.follows in_time in
     let no_late : count_by is_late (all_units rate e.held.parts) ≡ 0 = ap (λ (h : Held). count_by is_late (all_units rate h.parts)) whole.held ∙ none in
     record { none = no_late; number = λ window. whole.late window ∙ no_late }
 

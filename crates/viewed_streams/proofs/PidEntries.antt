@@ -1,5 +1,5 @@
 -- The packets of a PID in finished bytes, one by one, and as a stream's buffers see them.
-use Rattle.std.proofs.Common.{◌≡◌, ◌∙◌, sym, ℕ, suc, ◌+◌, ◌≤◌, ◌<◌, ◌&&◌, ◌==◌, not, min, cond, Bool, true, false, List, [], ◌∷◌, ◌++◌, length, map, filter, Option, Some, None, Result, Ok, Err, if◌then◌else◌, refl, ap, subst, inl, inr, nat_eq, arith}
+use Rattle.std.proofs.Common.{◌≡◌, ◌∙◌, sym, ℕ, ◌+◌, ◌≤◌, ◌<◌, ◌&&◌, ◌==◌, not, min, cond, Bool, true, false, List, [], ◌∷◌, ◌++◌, length, map, filter, Option, Some, None, Result, Ok, Err, if◌then◌else◌, refl, ap, subst, inl, inr, nat_eq, arith}
 use Rattle.std.specs.List.{enumerate_from, filter_map}
 use Rattle.std.proofs.lemmas.Bool.Decides.{eqb_tells}
 use Rattle.ts_packet.specs.declared.packet.PacketError.{PacketError}
@@ -15,9 +15,9 @@ use Rattle.viewed_streams.specs.StreamPackets.{Before, Followed, known_after, kn
 use Rattle.viewed_streams.proofs.Lists.{apart, itself}
 use Rattle.viewed_streams.proofs.StreamIndices.{index_more}
 use Rattle.viewed_streams.proofs.MainBytes.{timed_packet}
-use Rattle.viewed_streams.proofs.SentUnits.{AllSent, entry_packet}
+use Rattle.viewed_streams.proofs.SentUnits.{AllSent, entry_packet, number_after}
 use Rattle.viewed_streams.proofs.ClockAhead.{ClockIs, clock_step, entries_from, listed}
-use Rattle.viewed_streams.proofs.FollowedUnits.{IsRun, Run}
+use Rattle.viewed_streams.proofs.RunClocks.{IsRun, Run}
 
 -- ---- the list of a PID
 
@@ -107,17 +107,17 @@ seen_cut f b (bytes ∷ chunks) =
     subst (λ (i : ℕ). map timed_packet (seen_among f b' chunks) ≡ map cut_packet (entries_from f.pid i chunks)) (index_more f b o) (seen_cut f b' chunks) in
     one_seen f b bytes o (seen_among f b' chunks) (entries_from f.pid (b.index + 1) chunks) rest
 
-sent_cut : (base0 rate n : ℕ) (before : Option AccessUnit) (es : List Entry) (us : List AccessUnit) → AllSent base0 rate n before es us → map cut_packet es ≡ map entry_packet es
+sent_cut : (base0 n : ℕ) (before : Option AccessUnit) (es : List Entry) (us : List AccessUnit) → AllSent base0 n before es us → map cut_packet es ≡ map entry_packet es
 unfolding AllSent cut_packet
-sent_cut base0 rate n before [] us sent = refl
-sent_cut base0 rate n before (e ∷ es) [] sent = absurd sent
-sent_cut base0 rate n before (e ∷ es) (u ∷ us) sent =
+sent_cut base0 n before [] us sent = refl
+sent_cut base0 n before (e ∷ es) [] sent = absurd sent
+sent_cut base0 n before (e ∷ es) (u ∷ us) sent =
     let size : min (length (payload_of e.packet)) 184 ≡ length (payload_of e.packet) = omega (arith, sent.0.most) in
-    rw size (ap (λ (l : List Packet). record { slot = e.index; size = length (payload_of e.packet) } ∷ l) (sent_cut base0 rate (suc n) (Some u) es us sent.1))
+    rw size (ap (λ (l : List Packet). record { slot = e.index; size = length (payload_of e.packet) } ∷ l) (sent_cut base0 (number_after n e) (Some u) es us sent.1))
 
-pub seen_packets : (base0 rate n : ℕ) (before : Option AccessUnit) (us : List AccessUnit) (f : Followed) (b : Before) (chunks : List (List ℕ)) →
-    AllSent base0 rate n before (entries_from f.pid b.index chunks) us → map timed_packet (seen_among f b chunks) ≡ map entry_packet (entries_from f.pid b.index chunks)
-seen_packets base0 rate n before us f b chunks sent = seen_cut f b chunks ∙ sent_cut base0 rate n before (entries_from f.pid b.index chunks) us sent
+pub seen_packets : (base0 n : ℕ) (before : Option AccessUnit) (us : List AccessUnit) (f : Followed) (b : Before) (chunks : List (List ℕ)) →
+    AllSent base0 n before (entries_from f.pid b.index chunks) us → map timed_packet (seen_among f b chunks) ≡ map entry_packet (entries_from f.pid b.index chunks)
+seen_packets base0 n before us f b chunks sent = seen_cut f b chunks ∙ sent_cut base0 n before (entries_from f.pid b.index chunks) us sent
 
 -- ---- the clock references before them
 

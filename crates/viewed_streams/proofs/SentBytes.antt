@@ -2,19 +2,19 @@
 use Rattle.std.proofs.Common.{◌≡◌, ◌∙◌, sym, ℕ, zero, suc, ◌+◌, ◌*◌, ◌≤◌, Bool, true, false, List, [], ◌∷◌, ◌++◌, length, map, take, drop, replicate, refl, ap, subst, arith, All}
 use Rattle.std.specs.List.{concat}
 use Rattle.std.proofs.Math.Seq.{take-add}
-use Rattle.std.proofs.lemmas.List.{length-append, length-drop, map-append}
+use Rattle.std.proofs.lemmas.List.{drop-append-le, length-append, length-drop, map-append}
 use Rattle.std.proofs.lemmas.List.Elements.{All-nil, All-cons, All-head, All-tail}
 use Rattle.clock27.specs.Units.{byte_units_at_1bps, slot_units_at_1bps}
 use Rattle.pes_packet.specs.AccessUnits.{AccessUnit}
-use Rattle.pes_packet.specs.Payloads.{pieces}
-use Rattle.pes_packet.proofs.Payloads.{payloads_join}
+use Rattle.pes_packet.specs.Encoding.{pes_packet_bytes}
 use Rattle.slot_contents.specs.Contents.{Piece}
 use Rattle.unit_timing.specs.Arrived.{AllLeft}
 use Rattle.unit_timing.specs.MainBuffer.{mb_fullness}
 use Rattle.unit_timing.specs.Schedule.{Packet}
 use Rattle.unit_timing.proofs.MainBufferBytes.{kept, kept-append}
-use Rattle.unit_queue.specs.OwnedStreams.{OwnedStream, packet_count, pes_bytes, timed}
-use Rattle.unit_queue.specs.Payloads.{all_pieces, all_senders, marked, pes_pieces}
+use Rattle.unit_queue.specs.Payloads.{marked}
+use Rattle.tstd.specs.Carried.{timed_pes_packets}
+use Rattle.viewed_streams.specs.CarriedStreams.{CutUnit, IsCut, cut_pieces, cut_senders, cut_units}
 use Rattle.viewed_streams.proofs.KeptBytes.{kept_each, total}
 
 -- the sizes of payloads
@@ -38,20 +38,17 @@ many_sizes : (bs : List (List ℕ)) → length (map (λ (b : List ℕ). length b
 many_sizes [] = refl
 many_sizes (b ∷ bs) = ap (λ (n : ℕ). suc n) (many_sizes bs)
 
--- of a unit
-abbrev unit_sizes : OwnedStream → AccessUnit → List ℕ
-unit_sizes l u = map (λ (b : List ℕ). length b) (pieces (pes_bytes l u))
+-- of the payloads of a unit
+abbrev payload_sizes : List (List ℕ) → List ℕ
+payload_sizes bs = map (λ (b : List ℕ). length b) bs
 
-unit_total : (l : OwnedStream) (u : AccessUnit) → total (unit_sizes l u) ≡ length (pes_bytes l u)
-unit_total l u = total_joined (pieces (pes_bytes l u)) ∙ ap (λ (b : List ℕ). length b) (payloads_join (pes_bytes l u)).joined
+all_sizes : (c : CutUnit) (cuts : List CutUnit) → sizes_of (cut_pieces (c ∷ cuts)) ≡ payload_sizes c.payloads ++ sizes_of (cut_pieces cuts)
+all_sizes c cuts =
+    map-append (λ (p : Piece). length p.bytes) (marked true c.payloads) (cut_pieces cuts)
+    ∙ ap (λ (ns : List ℕ). ns ++ sizes_of (cut_pieces cuts)) (marked_sizes true c.payloads)
 
-unit_many : (l : OwnedStream) (u : AccessUnit) → length (unit_sizes l u) ≡ packet_count l u
-unit_many l u = many_sizes (pieces (pes_bytes l u)) ∙ (payloads_join (pes_bytes l u)).count
-
-all_sizes : (l : OwnedStream) (u : AccessUnit) (us : List AccessUnit) → sizes_of (all_pieces l (u ∷ us)) ≡ unit_sizes l u ++ sizes_of (all_pieces l us)
-all_sizes l u us =
-    map-append (λ (p : Piece). length p.bytes) (pes_pieces (pes_bytes l u)) (all_pieces l us)
-    ∙ ap (λ (ns : List ℕ). ns ++ sizes_of (all_pieces l us)) (marked_sizes true (pieces (pes_bytes l u)))
+unit_total : (id base0 : ℕ) (c : CutUnit) → IsCut id base0 c → total (payload_sizes c.payloads) ≡ length (pes_packet_bytes id base0 c.unit)
+unit_total id base0 c is = total_joined c.payloads ∙ ap (λ (b : List ℕ). length b) is.joined
 
 drop_none : (k : ℕ) → drop {A = ℕ} k [] ≡ []
 drop_none zero = refl
@@ -111,22 +108,46 @@ first_kept rate r x u (q ∷ qs) us (p ∷ ps) rest left e many =
     record { is = rw size (omega (arith, k.is, two, last)); many = ap (λ (l : List ℕ). length l) (drop_two q (total qs) left) ∙ k.many }
 
 -- all of them are in the main buffer as in the model's
-pub kept_units : (rate r x : ℕ) (l : OwnedStream) (us : List AccessUnit) (ps : List Packet) (left : List ℕ) → packet_sizes ps ≡ take (length ps) (sizes_of (all_pieces l us)) →
-    length left ≡ total (packet_sizes ps) → kept_each rate r x (all_senders l us) ps left ≡ mb_fullness rate r x (map (timed l) us) left
+pub kept_units : (rate r x id base0 : ℕ) (cuts : List CutUnit) (ps : List Packet) (left : List ℕ) → All (IsCut id base0) cuts →
+    packet_sizes ps ≡ take (length ps) (sizes_of (cut_pieces cuts)) → length left ≡ total (packet_sizes ps) →
+    kept_each rate r x (cut_senders cuts) ps left ≡ mb_fullness rate r x (timed_pes_packets id base0 (cut_units cuts)) left
 unfolding mb_fullness kept
-kept_units rate r x l [] ps left e many = none ps
+kept_units rate r x id base0 [] ps left cut e many = none ps
   where
     none : (ps : List Packet) → kept_each rate r x [] ps left ≡ 0
     none [] = unfold kept_each in refl
     none (p ∷ ps) = unfold kept_each in refl
-kept_units rate r x l (u ∷ us) ps left e many =
-    let qs : List ℕ = unit_sizes l u in
-    let sizes : packet_sizes ps ≡ take (length ps) (qs ++ sizes_of (all_pieces l us)) = e ∙ ap (λ (ns : List ℕ). take (length ps) ns) (all_sizes l u us) in
-    let k = first_kept rate r x u qs (all_senders l us) ps (sizes_of (all_pieces l us)) left sizes many in
-    let rest = kept_units rate r x l us (drop (length qs) ps) (drop (total qs) left) (later_sizes qs ps (sizes_of (all_pieces l us)) sizes) k.many in
-    let first = rw (unit_many l u, unit_total l u) at k.is in
-    let more = rw (unit_many l u, unit_total l u) at rest in
+kept_units rate r x id base0 (c ∷ cuts) ps left cut e many =
+    let qs : List ℕ = payload_sizes c.payloads in
+    let sizes : packet_sizes ps ≡ take (length ps) (qs ++ sizes_of (cut_pieces cuts)) = e ∙ ap (λ (ns : List ℕ). take (length ps) ns) (all_sizes c cuts) in
+    let k = first_kept rate r x c.unit qs (cut_senders cuts) ps (sizes_of (cut_pieces cuts)) left sizes many in
+    let rest = kept_units rate r x id base0 cuts (drop (length qs) ps) (drop (total qs) left) (All-tail (IsCut id base0) c cuts cut) (later_sizes qs ps (sizes_of (cut_pieces cuts)) sizes) k.many in
+    let whole = unit_total id base0 c (All-head (IsCut id base0) c cuts cut) in
+    let first = rw (many_sizes c.payloads, whole) at k.is in
+    let more = rw (many_sizes c.payloads, whole) at rest in
     omega (arith, first, more)
+
+-- the bytes of later packets are among those of all of them
+pub kept_later : (rate r x : ℕ) (us : List AccessUnit) (ps qs : List Packet) (left left' : List ℕ) → length left ≡ total (packet_sizes ps) →
+    kept_each rate r x (drop (length ps) us) qs left' ≤ kept_each rate r x us (ps ++ qs) (left ++ left')
+unfolding kept_each total
+kept_later rate r x us [] qs [] left' many = omega arith
+kept_later rate r x us [] qs (d ∷ left) left' many = absurd (omega (arith, many))
+kept_later rate r x [] (p ∷ ps) qs left left' many = none qs
+  where
+    none : (qs : List Packet) → kept_each rate r x [] qs left' ≤ 0
+    none [] = unfold kept_each in (omega arith)
+    none (q ∷ qs) = unfold kept_each in (omega arith)
+kept_later rate r x (u ∷ us) (p ∷ ps) qs left left' many =
+    let rest = kept_later rate r x us ps qs (drop p.size left) left' (omega (arith, many, length-drop p.size left)) in
+    let after_it : kept_each rate r x us (ps ++ qs) (drop p.size (left ++ left')) ≡ kept_each rate r x us (ps ++ qs) (drop p.size left ++ left') =
+    ap (λ (l : List ℕ). kept_each rate r x us (ps ++ qs) l) (drop-append-le p.size left left' (omega (arith, many))) in
+    omega (arith, rest, after_it)
+
+pub total_two : (ps qs : List Packet) → total (packet_sizes (ps ++ qs)) ≡ total (packet_sizes ps) + total (packet_sizes qs)
+unfolding total
+total_two [] qs = omega arith
+total_two (p ∷ ps) qs = omega (arith, total_two ps qs)
 
 -- ---- and they leave the transport buffer in time
 
@@ -161,20 +182,23 @@ first_timely rate r n u (q ∷ qs) us (p ∷ ps) rest left e h later =
     subst (λ (l : List ℕ). TimelyEach rate r n us (drop (length qs) ps) l) (drop_two q (total qs) left) later in
     rw size ((λ due. (two due).0), first_timely rate r n u qs us ps rest (drop q left) others (λ due. (two due).1) last)
 
-pub timely_units : (rate r n : ℕ) (l : OwnedStream) (us : List AccessUnit) (ps : List Packet) (left : List ℕ) → packet_sizes ps ≡ take (length ps) (sizes_of (all_pieces l us)) →
-    AllLeft rate r n (map (timed l) us) left → TimelyEach rate r n (all_senders l us) ps left
+pub timely_units : (rate r n id base0 : ℕ) (cuts : List CutUnit) (ps : List Packet) (left : List ℕ) → All (IsCut id base0) cuts →
+    packet_sizes ps ≡ take (length ps) (sizes_of (cut_pieces cuts)) → AllLeft rate r n (timed_pes_packets id base0 (cut_units cuts)) left → TimelyEach rate r n (cut_senders cuts) ps left
 unfolding AllLeft
-timely_units rate r n l [] ps left e all = none ps
+timely_units rate r n id base0 [] ps left cut e all = none ps
   where
     none : (ps : List Packet) → TimelyEach rate r n [] ps left
     none [] = unfold TimelyEach in tt
     none (p ∷ ps) = unfold TimelyEach in tt
-timely_units rate r n l (u ∷ us) ps left e all =
-    let qs : List ℕ = unit_sizes l u in
-    let sizes : packet_sizes ps ≡ take (length ps) (qs ++ sizes_of (all_pieces l us)) = e ∙ ap (λ (ns : List ℕ). take (length ps) ns) (all_sizes l u us) in
-    let rest : TimelyEach rate r n (all_senders l us) (drop (length qs) ps) (drop (total qs) left) =
-    timely_units rate r n l us (drop (length qs) ps) (drop (total qs) left) (later_sizes qs ps (sizes_of (all_pieces l us)) sizes) (subst (λ (m : ℕ). AllLeft rate r n (map (timed l) us) (drop m left)) (sym (unit_total l u)) all.1) in
+timely_units rate r n id base0 (c ∷ cuts) ps left cut e all =
+    let u : AccessUnit = c.unit in
+    let qs : List ℕ = payload_sizes c.payloads in
+    let size : total qs ≡ length (pes_packet_bytes id base0 c.unit) = unit_total id base0 c (All-head (IsCut id base0) c cuts cut) in
+    let sizes : packet_sizes ps ≡ take (length ps) (qs ++ sizes_of (cut_pieces cuts)) = e ∙ ap (λ (ns : List ℕ). take (length ps) ns) (all_sizes c cuts) in
+    let rest : TimelyEach rate r n (cut_senders cuts) (drop (length qs) ps) (drop (total qs) left) =
+    timely_units rate r n id base0 cuts (drop (length qs) ps) (drop (total qs) left) (All-tail (IsCut id base0) c cuts cut) (later_sizes qs ps (sizes_of (cut_pieces cuts)) sizes)
+    (subst (λ (m : ℕ). AllLeft rate r n (timed_pes_packets id base0 (cut_units cuts)) (drop m left)) (sym size) all.1) in
     let whole : u.dts * rate ≤ n * slot_units_at_1bps → All (λ d. d * 720000 ≤ u.dts * rate * r) (take (total qs) left) =
-    λ due. subst (λ (m : ℕ). All (λ d. d * 720000 ≤ u.dts * rate * r) (take m left)) (sym (unit_total l u)) (all.0 due).1 in
-    subst (λ (m : ℕ). TimelyEach rate r n (replicate m u ++ all_senders l us) ps left) (unit_many l u)
-    (first_timely rate r n u qs (all_senders l us) ps (sizes_of (all_pieces l us)) left sizes whole rest)
+    λ due. subst (λ (m : ℕ). All (λ d. d * 720000 ≤ u.dts * rate * r) (take m left)) (sym size) (all.0 due).1 in
+    subst (λ (m : ℕ). TimelyEach rate r n (replicate m u ++ cut_senders cuts) ps left) (many_sizes c.payloads)
+    (first_timely rate r n u qs (cut_senders cuts) ps (sizes_of (cut_pieces cuts)) left sizes whole rest)

@@ -1,50 +1,49 @@
--- The packets of a stream that a multiplexer wrote: what begins with each, and when its unit is due.
-use Rattle.std.proofs.Common.{◌≡◌, ◌∙◌, ◌⊎◌, sym, ℕ, suc, ◌+◌, ◌*◌, ◌%◌, ◌≤◌, ◌==◌, Bool, true, false, IsTrue, List, [], ◌∷◌, ◌++◌, length, map, take, drop, replicate, Option, Some, None, refl, ap, subst, inl, inr, arith, All, eqb-true}
-use Rattle.std.specs.Prelude.{is_some, slice_get, unwrap_or}
-use Rattle.std.proofs.Math.Nat.{mul-le-mul_right}
+-- The packets of a PID that carry units: what begins with each, and of which unit it is.
+use Rattle.std.proofs.Common.{◌≡◌, ◌∙◌, ◌⊎◌, sym, ℕ, suc, ◌+◌, ◌%◌, ◌≤◌, ◌==◌, if◌then◌else◌, cond, Bool, true, false, IsTrue, List, [], ◌∷◌, ◌++◌, length, map, take, drop, replicate, Option, Some, None, refl, ap, inl, inr, arith, All, eqb-true}
+use Rattle.std.specs.Prelude.{count_by, is_some, slice_get, unwrap_or}
+use Rattle.std.specs.List.{concat}
 use Rattle.std.proofs.lemmas.Bool.{cases_Bool}
-use Rattle.std.proofs.lemmas.List.Elements.{All-head, All-tail}
-use Rattle.clock27.specs.Units.{slot_units_at_1bps}
-use Rattle.ts_packet.specs.PidList.{Entry, payload_of}
+use Rattle.std.proofs.lemmas.List.{take_at}
+use Rattle.std.proofs.lemmas.List.Elements.{All-cons, All-head, All-nil, All-tail}
+use Rattle.std.proofs.lemmas.List.Sums.{sum_by-cons}
+use Rattle.ts_packet.specs.PidList.{Entry, payload_of, pid_list}
 use Rattle.pes_packet.specs.AccessUnits.{AccessUnit}
 use Rattle.pes_packet.specs.Encoding.{on_wire, pes_packet_bytes}
 use Rattle.pes_packet.specs.Laws.{written_header}
-use Rattle.pes_packet.specs.Payloads.{piece_count, pieces}
 use Rattle.pes_packet.specs.Reading.{header_at}
 use Rattle.pes_packet.specs.StreamIds.{fits_packet}
-use Rattle.pes_packet.proofs.Payloads.{payloads_join}
 use Rattle.slot_contents.specs.Contents.{Piece, payload_at}
 use Rattle.unit_timing.specs.Schedule.{Packet}
-use Rattle.unit_queue.specs.OwnedStreams.{OwnedStream, pes_bytes}
-use Rattle.unit_queue.specs.Payloads.{all_pieces, all_senders, marked, piece_in}
+use Rattle.unit_queue.specs.Payloads.{marked, piece_in}
 use Rattle.round_trip_pid.specs.Units.{unit_header_size}
 use Rattle.round_trip_pid.proofs.PesPrefixes.{unit_is_pes}
 use Rattle.stream_report.specs.declared.clocks.Beginning.TheVariants.{Nothing, Stamped}
 use Rattle.stream_report.specs.Clocks.{beginning_of, by_header, by_payload, by_stamps}
-use Rattle.viewed_streams.proofs.OnTimePackets.{OnTime}
+use Rattle.viewed_streams.specs.CarriedStreams.{CarriesUnits, CutUnit, IsCut, cut_pieces, cut_senders}
 
 -- the stamp of a unit on the wire
 abbrev pub wire_dts : ℕ → AccessUnit → ℕ
 wire_dts base0 u = on_wire (u.dts + base0)
 
+-- ---- payloads
+
 -- a payload of a unit, which begins with it, or goes on from the one before
 pub record HasPiece (base0 : ℕ) (before : Option AccessUnit) (p : Piece) (u : AccessUnit) : Type 0 where
-  pub some : 1 ≤ length p.bytes
   pub most : length p.bytes ≤ 184
-  pub begins : ((p.start ≡ true) × (by_header (header_at p.bytes) ≡ Stamped (wire_dts base0 u))) ⊎ ((p.start ≡ false) × (before ≡ Some u))
+  pub begins : ((p.start ≡ true) × (1 ≤ length p.bytes) × (by_header (header_at p.bytes) ≡ Stamped (wire_dts base0 u))) ⊎ ((p.start ≡ false) × (before ≡ Some u))
 
 unfoldable pub Cut : ℕ → Option AccessUnit → List Piece → List AccessUnit → Type 0
 Cut base0 before [] us = Unit {0}
 Cut base0 before (p ∷ ps) [] = ⊥
 Cut base0 before (p ∷ ps) (u ∷ us) = HasPiece base0 before p u × Cut base0 (Some u) ps us
 
-goes_on : (base0 : ℕ) (u : AccessUnit) (bs : List (List ℕ)) (ps : List Piece) (us : List AccessUnit) → All (λ b. 1 ≤ length b) bs → All (λ b. length b ≤ 184) bs →
+goes_on : (base0 : ℕ) (u : AccessUnit) (bs : List (List ℕ)) (ps : List Piece) (us : List AccessUnit) → All (λ b. length b ≤ 184) bs →
     Cut base0 (Some u) ps us → Cut base0 (Some u) (marked false bs ++ ps) (replicate (length bs) u ++ us)
 unfolding marked Cut
-goes_on base0 u [] ps us some most rest = rest
-goes_on base0 u (b ∷ bs) ps us some most rest = (
-  record { some = All-head (λ b. 1 ≤ length b) b bs some; most = All-head (λ b. length b ≤ 184) b bs most; begins = inr (refl, refl) },
-  goes_on base0 u bs ps us (All-tail (λ b. 1 ≤ length b) b bs some) (All-tail (λ b. length b ≤ 184) b bs most) rest,
+goes_on base0 u [] ps us most rest = rest
+goes_on base0 u (b ∷ bs) ps us most rest = (
+  record { most = All-head (λ b. length b ≤ 184) b bs most; begins = inr (refl, refl) },
+  goes_on base0 u bs ps us (All-tail (λ b. length b ≤ 184) b bs most) rest,
 )
 
 -- the header of a unit is read with its stamp
@@ -55,116 +54,137 @@ reads_dts id size pts dts = elim (cases_Bool (on_wire pts == on_wire dts)) [
   | inr other ↦ rw other refl
 ]
 
-header_read : (id base0 : ℕ) (u : AccessUnit) → IsTrue (fits_packet id (length u.bytes)) → by_header (header_at (take 184 (pes_packet_bytes id base0 u))) ≡ Stamped (wire_dts base0 u)
+header_read : (id base0 n : ℕ) (u : AccessUnit) → IsTrue (fits_packet id (length u.bytes)) → unit_header_size base0 u ≤ n →
+    by_header (header_at (take n (pes_packet_bytes id base0 u))) ≡ Stamped (wire_dts base0 u)
 unfolding by_header
-header_read id base0 u fits =
+header_read id base0 n u fits whole =
     let text = unit_is_pes id base0 u fits in
-    rw (text.header 184 text.short) (reads_dts id (length u.bytes) (u.pts + base0) (u.dts + base0))
+    rw (text.header n whole) (reads_dts id (length u.bytes) (u.pts + base0) (u.dts + base0))
 
--- the first payload of a unit
-first_piece : (l : OwnedStream) (u : AccessUnit) (b : List ℕ) (bs : List (List ℕ)) → pieces (pes_bytes l u) ≡ b ∷ bs → b ≡ take 184 (pes_bytes l u)
-first_piece l u b bs e =
-    let join = payloads_join (pes_bytes l u) in
-    let many : suc (length bs) ≡ piece_count (length (pes_bytes l u)) = sym (ap (λ (x : List (List ℕ)). length x) e) ∙ join.count in
-    let found = join.each 0 (omega (arith, many)) in
-    let there : slice_get (b ∷ bs) 0 ≡ Some (take 184 (drop (184 * 0) (pes_bytes l u))) = subst (λ (x : List (List ℕ)). slice_get x 0 ≡ Some (take 184 (drop (184 * 0) (pes_bytes l u)))) e found in
-    let same : Some b ≡ Some (take 184 (pes_bytes l u)) = there in
-    let r : b ≡ take 184 (pes_bytes l u) = cc in r
+pub some_header : (base0 : ℕ) (u : AccessUnit) → 1 ≤ unit_header_size base0 u
+some_header base0 u = elim (cases_Bool (on_wire (u.pts + base0) == on_wire (u.dts + base0))) [ inl y ↦ rw y (omega arith) | inr k ↦ rw k (omega arith) ]
 
-one_cut : (l : OwnedStream) (u : AccessUnit) (before : Option AccessUnit) (bs : List (List ℕ)) (ps : List Piece) (us : List AccessUnit) → IsTrue (fits_packet l.parameters.stream_id (length u.bytes)) →
-    pieces (pes_bytes l u) ≡ bs → 1 ≤ length bs → Cut l.parameters.base0 (Some u) ps us → Cut l.parameters.base0 before (marked true bs ++ ps) (replicate (length bs) u ++ us)
+-- those of one unit
+one_cut : (id base0 : ℕ) (u : AccessUnit) (before : Option AccessUnit) (bs : List (List ℕ)) (ps : List Piece) (us : List AccessUnit) → IsTrue (fits_packet id (length u.bytes)) →
+    concat bs ≡ pes_packet_bytes id base0 u → unit_header_size base0 u ≤ length (unwrap_or (slice_get bs 0) []) → All (λ b. length b ≤ 184) bs → Cut base0 (Some u) ps us →
+    Cut base0 before (marked true bs ++ ps) (replicate (length bs) u ++ us)
 unfolding marked Cut
-one_cut l u before [] ps us fits e many rest = absurd (omega (arith, many))
-one_cut l u before (b ∷ bs) ps us fits e many rest =
-    let join = payloads_join (pes_bytes l u) in
-    let some : All (λ b. 1 ≤ length b) (b ∷ bs) = subst (λ (x : List (List ℕ)). All (λ b. 1 ≤ length b) x) e join.some in
-    let most : All (λ b. length b ≤ 184) (b ∷ bs) = subst (λ (x : List (List ℕ)). All (λ b. length b ≤ 184) x) e join.most in
-    let read : by_header (header_at b) ≡ Stamped (wire_dts l.parameters.base0 u) =
-    ap (λ (x : List ℕ). by_header (header_at x)) (first_piece l u b bs e) ∙ header_read l.parameters.stream_id l.parameters.base0 u fits in (
-      record { some = All-head (λ b. 1 ≤ length b) b bs some; most = All-head (λ b. length b ≤ 184) b bs most; begins = inl (refl, read) },
-      goes_on l.parameters.base0 u bs ps us (All-tail (λ b. 1 ≤ length b) b bs some) (All-tail (λ b. length b ≤ 184) b bs most) rest,
+one_cut id base0 u before [] ps us fits joined header most rest = absurd (omega (arith, header, some_header base0 u))
+one_cut id base0 u before (b ∷ bs) ps us fits joined header most rest =
+    let front : take (length b) (pes_packet_bytes id base0 u) ≡ b = ap (λ (l : List ℕ). take (length b) l) (sym joined) ∙ take_at b (concat bs) (length b) refl in
+    let read : by_header (header_at b) ≡ Stamped (wire_dts base0 u) = ap (λ (l : List ℕ). by_header (header_at l)) (sym front) ∙ header_read id base0 (length b) u fits header in
+    let some : 1 ≤ length b = omega (arith, header, some_header base0 u) in (
+      record { most = All-head (λ b. length b ≤ 184) b bs most; begins = inl (refl, some, read) },
+      goes_on base0 u bs ps us (All-tail (λ b. length b ≤ 184) b bs most) rest,
     )
 
-abbrev pub FitsIn : OwnedStream → AccessUnit → Type 0
-FitsIn l u = IsTrue (fits_packet l.parameters.stream_id (length u.bytes))
-
-pub units_cut : (l : OwnedStream) (before : Option AccessUnit) (us : List AccessUnit) → All (FitsIn l) us → Cut l.parameters.base0 before (all_pieces l us) (all_senders l us)
-units_cut l before [] fits = unfold Cut in tt
-units_cut l before (u ∷ us) fits =
-    let bs : List (List ℕ) = pieces (pes_bytes l u) in
-    let join = payloads_join (pes_bytes l u) in
-    let rest = units_cut l (Some u) us (All-tail (FitsIn l) u us fits) in
-    let text = unit_is_pes l.parameters.stream_id l.parameters.base0 u (All-head (FitsIn l) u us fits) in
-    let many : 1 ≤ length bs = omega (arith, join.count, text.size, some_header l.parameters.base0 u) in
-    subst (λ (n : ℕ). Cut l.parameters.base0 before (marked true bs ++ all_pieces l us) (replicate n u ++ all_senders l us)) join.count
-    (one_cut l u before bs (all_pieces l us) (all_senders l us) (All-head (FitsIn l) u us fits) refl many rest)
-  where
-    some_header : (base0 : ℕ) (u : AccessUnit) → 1 ≤ unit_header_size base0 u
-    some_header base0 u = elim (cases_Bool (on_wire (u.pts + base0) == on_wire (u.dts + base0))) [ inl y ↦ rw y (omega arith) | inr k ↦ rw k (omega arith) ]
+pub all_cut : (id base0 : ℕ) (before : Option AccessUnit) (cuts : List CutUnit) → All (IsCut id base0) cuts → Cut base0 before (cut_pieces cuts) (cut_senders cuts)
+all_cut id base0 before [] all = unfold Cut in tt
+all_cut id base0 before (c ∷ cuts) all =
+    let is = All-head (IsCut id base0) c cuts all in
+    one_cut id base0 c.unit before c.payloads (cut_pieces cuts) (cut_senders cuts) is.fits is.joined is.header is.most
+    (all_cut id base0 (Some c.unit) cuts (All-tail (IsCut id base0) c cuts all))
 
 -- ---- the packets that carry them
 
--- packet number n of the stream is of this unit
-pub record IsSent (base0 rate n : ℕ) (before : Option AccessUnit) (e : Entry) (u : AccessUnit) : Type 0 where
-  pub some : is_some e.packet.payload ≡ true
+abbrev pub has_payload : Entry → Bool
+has_payload e = is_some e.packet.payload
+
+-- the number of the next packet with a payload
+abbrev pub number_after : ℕ → Entry → ℕ
+number_after n e = if is_some e.packet.payload then suc n else n
+
+-- a packet is of this unit; n is the number of the next one with a payload
+pub record IsSent (base0 n : ℕ) (before : Option AccessUnit) (e : Entry) (u : AccessUnit) : Type 0 where
   pub most : length (payload_of e.packet) ≤ 184
-  pub counter : e.packet.header.continuity_counter ≡ n % 16
-  pub begins : (beginning_of e.packet ≡ Stamped (wire_dts base0 u)) ⊎ ((beginning_of e.packet ≡ Nothing) × (before ≡ Some u))
-  pub on_time : e.index * slot_units_at_1bps ≤ u.dts * rate
-  pub soon : u.dts * rate ≤ e.index * slot_units_at_1bps + 90000 * rate
+  pub counter : is_some e.packet.payload ≡ true → e.packet.header.continuity_counter ≡ n % 16
+  pub begins : ((e.packet.header.payload_unit_start_indicator ≡ true) × (beginning_of e.packet ≡ Stamped (wire_dts base0 u)))
+      ⊎ ((beginning_of e.packet ≡ Nothing) × (before ≡ Some u))
 
-unfoldable pub AllSent : ℕ → ℕ → ℕ → Option AccessUnit → List Entry → List AccessUnit → Type 0
-AllSent base0 rate n before [] us = Unit {0}
-AllSent base0 rate n before (e ∷ es) [] = ⊥
-AllSent base0 rate n before (e ∷ es) (u ∷ us) = IsSent base0 rate n before e u × AllSent base0 rate (suc n) (Some u) es us
+unfoldable pub AllSent : ℕ → ℕ → Option AccessUnit → List Entry → List AccessUnit → Type 0
+AllSent base0 n before [] us = Unit {0}
+AllSent base0 n before (e ∷ es) [] = ⊥
+AllSent base0 n before (e ∷ es) (u ∷ us) = IsSent base0 n before e u × AllSent base0 (number_after n e) (Some u) es us
 
-has_payload : (o : Option (List ℕ)) → 1 ≤ length (unwrap_or o []) → is_some o ≡ true
-has_payload None h = absurd (omega (arith, h))
-has_payload (Some b) h = refl
-
-begins_by : (base0 : ℕ) (start : Bool) (o : Option (List ℕ)) (before : Option AccessUnit) (u : AccessUnit) → 1 ≤ length (unwrap_or o []) →
-    ((start ≡ true) × (by_header (header_at (unwrap_or o [])) ≡ Stamped (wire_dts base0 u))) ⊎ ((start ≡ false) × (before ≡ Some u)) →
-    (by_payload start o ≡ Stamped (wire_dts base0 u)) ⊎ ((by_payload start o ≡ Nothing) × (before ≡ Some u))
+nothing_begins : (o : Option (List ℕ)) → by_payload false o ≡ Nothing
 unfolding by_payload
-begins_by base0 start None before u some h = absurd (omega (arith, some))
-begins_by base0 start (Some b) before u some (inl begins) = inl (rw begins.0 begins.1)
-begins_by base0 start (Some b) before u some (inr goes) = inr (rw goes.0 refl, goes.1)
+nothing_begins None = refl
+nothing_begins (Some b) = refl
+
+begins_by : (base0 : ℕ) (start : Bool) (o : Option (List ℕ)) (before : Option AccessUnit) (u : AccessUnit) →
+    ((start ≡ true) × (1 ≤ length (unwrap_or o [])) × (by_header (header_at (unwrap_or o [])) ≡ Stamped (wire_dts base0 u))) ⊎ ((start ≡ false) × (before ≡ Some u)) →
+    ((start ≡ true) × (by_payload start o ≡ Stamped (wire_dts base0 u))) ⊎ ((by_payload start o ≡ Nothing) × (before ≡ Some u))
+unfolding by_payload
+begins_by base0 start None before u (inl begins) = absurd (omega (arith, begins.1))
+begins_by base0 start (Some b) before u (inl begins) = inl (begins.0, rw begins.0 begins.2)
+begins_by base0 start o before u (inr goes) = inr (rw goes.0 (nothing_begins o), goes.1)
 
 -- an entry as timing sees it
 abbrev pub entry_packet : Entry → Packet
 entry_packet e = record { slot = e.index; size = length (payload_of e.packet) }
 
-one_sent : (base0 rate lead n : ℕ) (before : Option AccessUnit) (e : Entry) (q : Piece) (u : AccessUnit) → lead ≤ 90000 → HasPiece base0 before q u → piece_in (payload_at e) ≡ q →
-    e.packet.header.continuity_counter ≡ n % 16 → u.dts * rate ≤ e.index * slot_units_at_1bps + lead * rate → e.index * slot_units_at_1bps ≤ u.dts * rate → IsSent base0 rate n before e u
-one_sent base0 rate lead n before e q u le piece is counter soon on_time =
+one_sent : (base0 n : ℕ) (before : Option AccessUnit) (e : Entry) (q : Piece) (u : AccessUnit) → HasPiece base0 before q u → piece_in (payload_at e) ≡ q →
+    (is_some e.packet.payload ≡ true → e.packet.header.continuity_counter ≡ n % 16) → IsSent base0 n before e u
+one_sent base0 n before e q u piece is counter =
     let bytes : payload_of e.packet ≡ q.bytes = ap (λ (p : Piece). p.bytes) is in
     let start : e.packet.header.payload_unit_start_indicator ≡ q.start = ap (λ (p : Piece). p.start) is in
     let many : length (payload_of e.packet) ≡ length q.bytes = ap (λ (b : List ℕ). length b) bytes in
-    let some : 1 ≤ length (payload_of e.packet) = omega (arith, many, piece.some) in
-    let far : lead * rate ≤ 90000 * rate = mul-le-mul_right rate le in
     record {
-      some = has_payload e.packet.payload some;
       most = omega (arith, many, piece.most);
       counter = counter;
-      begins = begins_by base0 e.packet.header.payload_unit_start_indicator e.packet.payload before u some (rw (bytes, start) piece.begins);
-      on_time = on_time;
-      soon = omega (arith, soon, far);
+      begins = begins_by base0 e.packet.header.payload_unit_start_indicator e.packet.payload before u (rw (bytes, start) piece.begins);
     }
 
-pub all_sent : (base0 rate lead n : ℕ) (before : Option AccessUnit) (es : List Entry) (qs : List Piece) (us : List AccessUnit) → lead ≤ 90000 → Cut base0 before qs us →
-    map (λ e. piece_in (payload_at e)) es ≡ take (length es) qs →
-    ((j : ℕ) (e : Entry) → slice_get es j ≡ Some e → e.packet.header.continuity_counter ≡ (n + j) % 16) →
-    ((j : ℕ) (e : Entry) (u : AccessUnit) → slice_get es j ≡ Some e → slice_get us j ≡ Some u → u.dts * rate ≤ e.index * slot_units_at_1bps + lead * rate) →
-    OnTime rate us (map entry_packet es) → AllSent base0 rate n before es us
-unfolding Cut AllSent OnTime
-all_sent base0 rate lead n before [] qs us le cut same counters soon on_time = tt
-all_sent base0 rate lead n before (e ∷ es) [] us le cut same counters soon on_time = absurd (let no : ⊥ = cc in no)
-all_sent base0 rate lead n before (e ∷ es) (q ∷ qs) [] le cut same counters soon on_time = absurd cut
-all_sent base0 rate lead n before (e ∷ es) (q ∷ qs) (u ∷ us) le cut same counters soon on_time =
+-- each has the counter after that of the last one with a payload
+abbrev CountOn : ℕ → List Entry → Type 0
+CountOn n es = (j : ℕ) (e : Entry) → slice_get es j ≡ Some e → is_some e.packet.payload ≡ true → e.packet.header.continuity_counter ≡ (n + count_by has_payload (take j es)) % 16
+
+count_next : (n : ℕ) (e : Entry) (es : List Entry) → CountOn n (e ∷ es) → CountOn (number_after n e) es
+count_next n e es counters j f found some = counters (suc j) f found some ∙ ap (λ (m : ℕ). m % 16) (same (is_some e.packet.payload) refl)
+  where
+    same : (b : Bool) → is_some e.packet.payload ≡ b → n + count_by has_payload (e ∷ take j es) ≡ number_after n e + count_by has_payload (take j es)
+    same true is = rw (sum_by-cons (λ p. cond (has_payload p) 1 0) e (take j es), is) (omega arith)
+    same false is = rw (sum_by-cons (λ p. cond (has_payload p) 1 0) e (take j es), is) (omega arith)
+
+all_sent : (base0 n : ℕ) (before : Option AccessUnit) (es : List Entry) (qs : List Piece) (us : List AccessUnit) → Cut base0 before qs us →
+    map (λ e. piece_in (payload_at e)) es ≡ take (length es) qs → CountOn n es → AllSent base0 n before es us
+unfolding Cut AllSent
+all_sent base0 n before [] qs us cut same counters = tt
+all_sent base0 n before (e ∷ es) [] us cut same counters = absurd (let no : ⊥ = cc in no)
+all_sent base0 n before (e ∷ es) (q ∷ qs) [] cut same counters = absurd cut
+all_sent base0 n before (e ∷ es) (q ∷ qs) (u ∷ us) cut same counters =
     let is : piece_in (payload_at e) ≡ q = cc in
     let others : map (λ e. piece_in (payload_at e)) es ≡ take (length es) qs = cc in
-    let first : n + 0 ≡ n = omega arith in
-    let one = one_sent base0 rate lead n before e q u le cut.0 is (counters 0 e refl ∙ ap (λ (m : ℕ). m % 16) first) (soon 0 e u refl refl) on_time.0 in
-    let next : (j : ℕ) (f : Entry) → slice_get es j ≡ Some f → f.packet.header.continuity_counter ≡ (suc n + j) % 16 =
-    λ j f found. counters (suc j) f found ∙ ap (λ (m : ℕ). m % 16) (let more : n + suc j ≡ suc n + j = omega arith in more) in
-    (one, all_sent base0 rate lead (suc n) (Some u) es qs us le cut.1 others next (λ j f v found sender. soon (suc j) f v found sender) on_time.1)
+    let none : n + count_by has_payload (take 0 (e ∷ es)) ≡ n = omega arith in
+    let one = one_sent base0 n before e q u cut.0 is (λ some. counters 0 e refl some ∙ ap (λ (m : ℕ). m % 16) none) in
+    (one, all_sent base0 (number_after n e) (Some u) es qs us cut.1 others (count_next n e es counters))
+
+-- so the packets of a PID that carries units are
+pub carried_sent : (id base0 pid : ℕ) (cuts : List CutUnit) (bytes : List ℕ) (c : CarriesUnits id base0 pid cuts bytes) → AllSent base0 c.first None (pid_list pid bytes) (cut_senders cuts)
+carried_sent id base0 pid cuts bytes c =
+    all_sent base0 c.first None (pid_list pid bytes) (cut_pieces cuts) (cut_senders cuts) (all_cut id base0 None cuts c.cut) c.pieces c.counters
+
+pub many_packets : (es : List Entry) → length (map entry_packet es) ≡ length es
+many_packets [] = refl
+many_packets (e ∷ es) = ap (λ (n : ℕ). suc n) (many_packets es)
+
+pub sizes_below : (base0 n : ℕ) (before : Option AccessUnit) (es : List Entry) (us : List AccessUnit) → AllSent base0 n before es us → All (λ p. p.size ≤ 188) (map entry_packet es)
+unfolding AllSent
+sizes_below base0 n before [] us sent = All-nil (λ (p : Packet). p.size ≤ 188)
+sizes_below base0 n before (e ∷ es) [] sent = absurd sent
+sizes_below base0 n before (e ∷ es) (u ∷ us) sent =
+    All-cons (λ p. p.size ≤ 188) (entry_packet e) (map entry_packet es) (omega (arith, sent.0.most)) (sizes_below base0 (number_after n e) (Some u) es us sent.1)
+
+-- the packets after these
+pub record LaterSent (base0 : ℕ) (es fs : List Entry) (us : List AccessUnit) : Type 0 where
+  pub last : Option AccessUnit
+  pub number : ℕ
+  pub sent : AllSent base0 number last fs (drop (length es) us)
+
+pub later_sent : (base0 n : ℕ) (before : Option AccessUnit) (es fs : List Entry) (us : List AccessUnit) → AllSent base0 n before (es ++ fs) us → LaterSent base0 es fs us
+unfolding AllSent
+later_sent base0 n before [] fs us sent = record { last = before; number = n; sent = sent }
+later_sent base0 n before (e ∷ es) fs [] sent = absurd sent
+later_sent base0 n before (e ∷ es) fs (u ∷ us) sent =
+    let rest = later_sent base0 (number_after n e) (Some u) es fs us sent.1 in
+    record { last = rest.last; number = rest.number; sent = rest.sent }

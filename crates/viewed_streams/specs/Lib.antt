@@ -1,5 +1,6 @@
 pub mod StreamPackets
 pub mod StreamUnits
+pub mod CarriedStreams
 pub mod WholeStreams
 pub mod MeasuredStreams
 pub mod MuxedStreams

@@ -67,6 +67,16 @@ seen_among s b [] = []
 seen_among s b (bytes ∷ packets) =
     seen_in s b (sound_packet (packet_at bytes)) ++ seen_among s (known_after s b (sound_packet (packet_at bytes))) packets
 
+-- and the program's last clock reference with each of them, one in it too
+unfoldable pub clock_in : Followed → Before → Option PacketView → List (Option PcrSample)
+clock_in s b None = []
+clock_in s b (Some packet) = if nat_eq s.pid packet.header.pid then clock_with s.options s.clock_pid b.index packet b.clock ∷ [] else []
+
+unfoldable pub clocks_seen : Followed → Before → List (List ℕ) → List (Option PcrSample)
+clocks_seen s b [] = []
+clocks_seen s b (bytes ∷ packets) =
+    clock_in s b (sound_packet (packet_at bytes)) ++ clocks_seen s (known_after s b (sound_packet (packet_at bytes))) packets
+
 -- what is known after these
 unfoldable pub known_after_all : Followed → Before → List (List ℕ) → Before
 known_after_all s b [] = b

@@ -34,34 +34,40 @@ pub record IsViewedAs (d : Scheduled) (request : RequestView) (k : ℕ) (e : Ent
   pub rx : e.held.rx ≡ stream.rx
   pub size : e.held.main.size ≡ stream.main
 
+-- a stream's buffers begin with the first packet of its PID
+abbrev pub FromTheFirst : ℕ → List (List ℕ) → Type 0
+FromTheFirst pid before = packets_from pid 0 before ≡ []
+
+-- the line `main` says no more than what measuring these bytes finds
+abbrev pub NoMoreThanMeasured : Scheduled → List AccessUnit → List ℕ → DescribedStream → EntryState → Type 0
+NoMoreThanMeasured d units bytes s e = (f : StreamFullness) → IsStreamFullness d.description.rate d.description.base0 s units (packets_on s.pid bytes) f → main_most e.held ≤ f.main
+
 -- no excess of the main buffer is told of such a stream, of which these units were accepted: the line `main` says no more than its size, with
--- none of the stream's packets has an excess ended, and none is under way at the end; and it is no more than what measuring these bytes finds
+-- none of the stream's packets has an excess ended, and none is under way at the end. It is no more than what measuring these bytes finds where
+-- the buffers begin with the first packet of its PID: else the bytes before are in no transport buffer of the view, so later ones leave it
+-- earlier than a decoder's
 pub record NoMainExcess (d : Scheduled) (request : RequestView) (units : List AccessUnit) (bytes : List ℕ) (s : DescribedStream) (e : EntryState)
     (whole : IsWhole request d.description.rate (cut_packets bytes) e) : Type 0 where
   pub most : main_most e.held ≤ e.held.main.size
   pub none_ended : flat_map (λ v. v.main)
       (entered_each (empty d.description.rate e.held.rx e.held.main.size) (AtRate d.description.rate) (stream_packets request e whole.before (whole.first ∷ whole.later))) ≡ []
   pub none_under_way : e.held.main.under_way ≡ None
-  pub measured : (f : StreamFullness) → IsStreamFullness d.description.rate d.description.base0 s units (packets_on s.pid bytes) f → main_most e.held ≤ f.main
+  pub measured : FromTheFirst e.pid whole.before → NoMoreThanMeasured d units bytes s e
 
--- so of each such stream whose buffers begin with the first packet of its PID: of a stream whose buffers begin later the bytes before are in
--- none of them, so later ones leave the transport buffer earlier than a decoder's
-abbrev pub FromTheFirst : ℕ → List (List ℕ) → Type 0
-FromTheFirst pid before = packets_from pid 0 before ≡ []
-
+-- so of each such stream, wherever its buffers begin
 abbrev pub RunMainLaw : Type 0
 RunMainLaw = (d : Scheduled) (units : ℕ → List AccessUnit) (slots : ℕ) (request : RequestView) (e : EntryState) (k : ℕ) → IsInRange d.description → Promised d.description d.schedule →
     UnitsKept d units → slots ≤ most_packets → (viewed : IsViewedAs d request k e) → (whole : IsWhole request d.description.rate (cut_packets (run_bytes (content_at d units) 0 slots)) e) →
-    FromTheFirst e.pid whole.before → NoMainExcess d request (units k) (run_bytes (content_at d units) 0 slots) viewed.stream e whole
+    NoMainExcess d request (units k) (run_bytes (content_at d units) 0 slots) viewed.stream e whole
 
 -- so of a whole job of which no unit is refused, over a plan that keeps its conditions or two in turn
 abbrev pub JobMainLaw : Type 0
 JobMainLaw = (d : Scheduled) (units : List (ℕ × AccessUnit)) (slots : ℕ) (request : RequestView) (e : EntryState) (k : ℕ) → IsInRange d.description → Promised d.description d.schedule →
     first_refused d (capacity_for units) [] units ≡ None → slots ≤ most_packets → (viewed : IsViewedAs d request k e) →
     (whole : IsWhole request d.description.rate (cut_packets (output_of false d (job_history units slots))) e) →
-    FromTheFirst e.pid whole.before → NoMainExcess d request (units_of k units) (output_of false d (job_history units slots)) viewed.stream e whole
+    NoMainExcess d request (units_of k units) (output_of false d (job_history units slots)) viewed.stream e whole
 
--- they begin so where PAT and PMT have come before: no unit of the stream is due before 2 seconds after the run's begin
+-- buffers begin with the first packet where PAT and PMT have come before: no unit of the stream is due before 2 seconds after the run's begin
 abbrev pub RunFirstLaw : Type 0
 RunFirstLaw = (d : Scheduled) (units : ℕ → List AccessUnit) (slots : ℕ) (request : RequestView) (e : EntryState) (k : ℕ) → IsInRange d.description → Promised d.description d.schedule →
     UnitsKept d units → slots ≤ most_packets → IsViewedAs d request k e → (whole : IsWhole request d.description.rate (cut_packets (run_bytes (content_at d units) 0 slots)) e) →
@@ -72,17 +78,17 @@ JobFirstLaw = (d : Scheduled) (units : List (ℕ × AccessUnit)) (slots : ℕ) (
     first_refused d (capacity_for units) [] units ≡ None → slots ≤ most_packets → IsViewedAs d request k e →
     (whole : IsWhole request d.description.rate (cut_packets (output_of false d (job_history units slots))) e) → DueLate (units_of k units) → FromTheFirst e.pid whole.before
 
--- so of these streams no excess is told either
+-- so of these streams the line `main` says no more than what is measured
 abbrev pub RunLateUnitsLaw : Type 0
 RunLateUnitsLaw = (d : Scheduled) (units : ℕ → List AccessUnit) (slots : ℕ) (request : RequestView) (e : EntryState) (k : ℕ) → IsInRange d.description → Promised d.description d.schedule →
-    UnitsKept d units → slots ≤ most_packets → (viewed : IsViewedAs d request k e) → (whole : IsWhole request d.description.rate (cut_packets (run_bytes (content_at d units) 0 slots)) e) →
-    DueLate (units k) → NoMainExcess d request (units k) (run_bytes (content_at d units) 0 slots) viewed.stream e whole
+    UnitsKept d units → slots ≤ most_packets → (viewed : IsViewedAs d request k e) → IsWhole request d.description.rate (cut_packets (run_bytes (content_at d units) 0 slots)) e →
+    DueLate (units k) → NoMoreThanMeasured d (units k) (run_bytes (content_at d units) 0 slots) viewed.stream e
 
 abbrev pub JobLateUnitsLaw : Type 0
 JobLateUnitsLaw = (d : Scheduled) (units : List (ℕ × AccessUnit)) (slots : ℕ) (request : RequestView) (e : EntryState) (k : ℕ) → IsInRange d.description → Promised d.description d.schedule →
     first_refused d (capacity_for units) [] units ≡ None → slots ≤ most_packets → (viewed : IsViewedAs d request k e) →
-    (whole : IsWhole request d.description.rate (cut_packets (output_of false d (job_history units slots))) e) →
-    DueLate (units_of k units) → NoMainExcess d request (units_of k units) (output_of false d (job_history units slots)) viewed.stream e whole
+    IsWhole request d.description.rate (cut_packets (output_of false d (job_history units slots))) e →
+    DueLate (units_of k units) → NoMoreThanMeasured d (units_of k units) (output_of false d (job_history units slots)) viewed.stream e
 
 -- no unit of a stream is late: of all of them, those that end with its packets and the last one, none, and so the line `main` says
 pub record NoLateUnit (rate : ℕ) (e : EntryState) : Type 0 where

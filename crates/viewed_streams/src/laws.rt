@@ -1,5 +1,5 @@
 //! Laws of the report on a stream. Each function does nothing: its contract is the law, over the definitions of `specs/`.
-ghost use Rattle.viewed_streams.specs.AsMeasured.{JobAsMeasuredLaw, JobLateAsMeasuredLaw, RunAsMeasuredLaw, RunLateAsMeasuredLaw};
+ghost use Rattle.viewed_streams.specs.AsMeasured.{AsMeasuredLaw, JobAsMeasuredLaw, JobLateAsMeasuredLaw, RunAsMeasuredLaw, RunLateAsMeasuredLaw};
 ghost use Rattle.viewed_streams.specs.HeldWindows.{HeldWindowLaw};
 ghost use Rattle.viewed_streams.specs.MainExcesses.{NoMainExcessLaw};
 ghost use Rattle.viewed_streams.specs.MeasuredStreams.{MeasuredStreamLaw};
@@ -45,14 +45,15 @@ pub fn muxed_streams()
     ensures jobs { JobNoExcessLaw }
 {}
 
-/// Nor is an excess told of the main buffer of a stream whose buffers begin with the first packet of its PID.
+/// Nor is an excess told of a main buffer, wherever the stream's buffers begin; and where they begin with the first packet of its PID, its
+/// line says no more than what `tstd::measure` finds of the same bytes.
 pub fn muxed_main_buffers()
     ensures run { RunMainLaw }
     ensures jobs { JobMainLaw }
 {}
 
 /// The buffers of a stream of which no unit is due before 2 s after the begin do so: PAT and PMT come before its packets (ISO/IEC
-/// 13818-1, 2.4.4), so the view knows of it by then. So of such a stream no excess is told, whatever else is viewed.
+/// 13818-1, 2.4.4), so the view knows of it by then, whatever else is viewed.
 pub fn muxed_after_tables()
     ensures first { RunFirstLaw }
     ensures jobs_first { JobFirstLaw }
@@ -66,9 +67,15 @@ pub fn muxed_units()
     ensures jobs { JobLateLaw }
 {}
 
-/// Of a stream whose buffers begin with the first packet of its PID, after a clock reference, the greatest numbers of bytes in both
-/// buffers are those that `tstd::measure` finds of the same bytes. So it is where no unit is due before 2 s after the begin, as long
-/// as the view looks for clock references on the PID of a program's.
+/// Of a stream at a constant rate that carries units on a PID, whoever wrote it, the greatest numbers of bytes in both buffers are those
+/// that `tstd::measure` finds of the same bytes: where its buffers begin with the first packet of the PID, with or after a clock
+/// reference, and units go by clock references that agree with the rate.
+pub fn carried_as_measured()
+    ensures { AsMeasuredLaw }
+{}
+
+/// So they are of what a multiplexer wrote, where the buffers begin so; and they do where no unit is due before 2 s after the begin, as
+/// long as the view looks for clock references on the PID of a program's.
 pub fn muxed_as_measured()
     ensures run { RunAsMeasuredLaw }
     ensures jobs { JobAsMeasuredLaw }
