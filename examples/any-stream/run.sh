@@ -23,7 +23,8 @@ try() {
     result=$results/$name$(echo "$*" | tr -d ' ')
     printf '%-28s ' "$name${*:+ $*}"
     set -- --base input "$@"
-    if ! "$tsjob" --whole "$@" < "$stream" > "$result.job" 2> "$result.lines"; then
+    "$tsjob" --whole "$@" < "$stream" > "$result.job" 2> "$result.lines"
+    if [ $? -gt 1 ] || ! [ -s "$result.job" ]; then
         echo "tsjob: $(tail -n 1 "$result.lines")"
         status=1
     elif ! "$tsmux" mux < "$result.job" > "$result.ts" 2> "$result.fault"; then

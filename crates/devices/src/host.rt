@@ -7,7 +7,8 @@ ghost use Rattle.std.specs.Str.{bytes_eq};
 use crate::files::NamedFiles;
 use crate::halt::{Halt, report_halt};
 use crate::watched::Watched;
-use counted_io::{Counted, Sink, Source};
+use counted_io::{Counted, Sink};
+use held_input::{BufferedInput, HeldInput};
 use std::alloc::Global;
 use std::env;
 use std::fs::metadata;
@@ -18,10 +19,10 @@ use std::process::ExitCode;
 /// the buffer.
 const INPUT_ROOM: usize = 1 << 16;
 
-/// A program over any files, a reader and two writers.
+/// A program over any files, a reader that tells which bytes it holds, and two writers.
 pub trait Program {
     /// Reads the input, writes the output, reports faults, and returns the exit status. It may open files by name.
-    fn run<F: NamedFiles, R: Source, W: Sink, E: Sink>(
+    fn run<F: NamedFiles, R: HeldInput, W: Sink, E: Sink>(
         alloc: Global,
         words: &[&str],
         files: &F,
@@ -111,7 +112,7 @@ fn status_of<P: Program>(rt: &HostRuntime, writers: &mut Writers) -> u8 {
         rt.alloc(),
         texts.as_slice(),
         rt,
-        &mut Counted::new(reader),
+        &mut BufferedInput::new(reader),
         &mut writers.output,
         &mut writers.faults,
     )

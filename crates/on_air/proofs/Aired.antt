@@ -46,7 +46,6 @@ refused_by run a entry cause start now old new h moves packets greatest records 
   lead = moves.lead ∙ h.lead;
   greatest = greatest ∙ h.greatest;
   records = records ∙ ap (λ (n : ℕ). n + 1) h.records;
-  none_waits = ap (λ (p : Buffered). p.waiting) packets ∙ h.none_waits;
   output = subst (λ (p : Buffered). IsOutput start now p (air_output run a)) (sym packets) h.output;
   headline = h.headline;
 }
@@ -87,7 +86,6 @@ taken_by run a entry hex start now later m old new h moves like greatest records
       lead = moves.lead ∙ h.lead;
       greatest = greatest ∙ ap (λ (n : ℕ). max n entry.1.dts) h.greatest;
       records = records ∙ ap (λ (n : ℕ). n + 1) h.records;
-      none_waits = wrote.none_waits;
       output = subst (λ (b : Bool). IsOutput start later new.packets (output_of b run.scheduled (job_history (accepted_by a entry None) slots))) (like ∙ h.hex) wrote.output;
       headline = keeps run (accepted_by a entry None) a.slots slots m h.promises mux;
     }
@@ -124,6 +122,26 @@ fails_on run a entry target sent hex start now later m old h like admits is took
       subst (λ (o : Option AirRefusal). Fails run (aired_by run a entry o) start later sent) admits.cause (fails_by run a entry start later sent m h.promises admits.mux there),
     )
 
+-- what waited was written
+pub flushed : (run : Run) (a : Air) (start now later : Option (List ℕ)) (old new : AirState) → IsOnAir run a start now old → Moves old new → new.mux ≡ old.mux →
+    new.packets.hex ≡ old.packets.hex → new.greatest ≡ old.greatest → new.records ≡ old.records → IsOutput start later new.packets (air_output run a) → IsOnAir run a start later new
+flushed run a start now later old new h moves mux hex greatest records output = record {
+  mux = subst (λ (m : MuxState). Carries run (job_of a) m) (sym mux) h.mux;
+  promises = h.promises;
+  terms = moves.terms ∙ h.terms;
+  hex = hex ∙ h.hex;
+  rate = moves.rate ∙ h.rate;
+  lead = moves.lead ∙ h.lead;
+  greatest = greatest ∙ h.greatest;
+  records = records ∙ h.records;
+  output = output;
+  headline = h.headline;
+}
+
+pub not_flushed : (run : Run) (a : Air) (start now later : Option (List ℕ)) (sent : ℕ) (old : AirState) → IsOnAir run a start now old →
+    Took start later sent (air_output run a) → Fails run a start later sent
+not_flushed run a start now later sent old h took = record { took = took; headline = h.headline }
+
 -- ---- the end
 
 pub end_output : (run : Run) (a : Air) (start now : Option (List ℕ)) (old : AirState) (packets : Buffered) → IsOnAir run a start now old → packets ≡ old.packets →
@@ -146,7 +164,6 @@ ended_on run a target hex start now later old new h moves like greatest records 
       lead = moves.lead ∙ h.lead;
       greatest = greatest ∙ h.greatest;
       records = records ∙ h.records;
-      none_waits = wrote.none_waits;
       output = subst (λ (b : Bool). IsOutput start later new.packets (output_of b run.scheduled (job_of (ended run a)))) (like ∙ h.hex) wrote.output;
       headline = keeps run a.accepted a.slots (ended run a).slots old.mux h.promises h.mux;
     }
@@ -190,7 +207,6 @@ begins d terms hex start s carries promises packets t r l g n = record {
   lead = l;
   greatest = g;
   records = n;
-  none_waits = ap (λ (p : Buffered). p.waiting) packets;
   output = holds_empty s.packets start (ap (λ (p : Buffered). p.waiting) packets) (ap (λ (p : Buffered). p.sent) packets);
   headline = keeps (run_with d terms hex) [] 0 0 s.mux promises carries;
 }

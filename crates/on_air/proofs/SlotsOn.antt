@@ -1,5 +1,5 @@
 -- Slots written until one that is settled.
-use Rattle.std.proofs.Common.{◌≡◌, ℕ, ◌+◌, ◌<◌, Bool, List, [], ◌++◌, Option, Some, None, Ok, refl, sym, ap, ◌∙◌, subst}
+use Rattle.std.proofs.Common.{◌≡◌, ℕ, ◌+◌, ◌<◌, Bool, List, ◌++◌, Option, Some, None, Ok, refl, sym, ap, ◌∙◌, subst}
 use Rattle.packet_output.specs.Buffer.{Buffered, IsOutput, Took}
 use Rattle.packet_output.specs.Formats.{formatted}
 use Rattle.mux_core.specs.Scheduled.{Scheduled}
@@ -37,10 +37,10 @@ pub way_of_run : (run : Run) (h : History) (old : MuxState) (hex : Bool) (start 
     IsOutput start now packets (output_of hex run.scheduled h) → IsOutput start now packets (output_of hex old.schedule h)
 way_of_run run h old hex start now packets c holds = subst (λ (l : List ℕ). IsOutput start now packets l) (of_run run h old hex c) holds
 
-pub way_ends : (run : Run) (h : History) (old mid : MuxState) (hex : Bool) (n target : ℕ) (start now later : Option (List ℕ)) (packets after : Buffered) →
-    Carries run h old → OnWay h old mid hex n start now packets → n ≡ on_to h.slots target → after.hex ≡ hex → after.waiting ≡ [] →
-    IsOutput start later after (run_output hex (content_at old.schedule h.units) 0 n) → WroteOn run (with_slots h (on_to h.slots target)) hex start later mid after
-way_ends run h old mid hex n target start now later packets after c w is same none holds =
+pub way_ends : (run : Run) (h : History) (old mid : MuxState) (hex : Bool) (n target : ℕ) (start now : Option (List ℕ)) (packets : Buffered) →
+    Carries run h old → OnWay h old mid hex n start now packets → n ≡ on_to h.slots target → packets.hex ≡ hex →
+    WroteOn run (with_slots h (on_to h.slots target)) hex start now mid packets
+way_ends run h old mid hex n target start now packets c w is same =
     let whole : run_output hex (content_at old.schedule h.units) 0 n ≡ output_of hex run.scheduled (with_slots h (on_to h.slots target)) =
     ap (λ (k : ℕ). run_output hex (content_at old.schedule h.units) 0 k) is ∙ ap (λ (d : Scheduled). output_of hex d (with_slots h (on_to h.slots target))) c.scheduled in
     record {
@@ -50,8 +50,7 @@ way_ends run h old mid hex n target start now later packets after c w is same no
         capacity = w.capacity ∙ c.capacity;
       };
       hex_is = same;
-      none_waits = none;
-      output = subst (λ (l : List ℕ). IsOutput start later after l) whole holds;
+      output = subst (λ (l : List ℕ). IsOutput start now packets l) whole w.written.holds;
     }
 
 -- the writer failed
@@ -62,13 +61,6 @@ pub way_failed : (run : Run) (h : History) (old mid new : MuxState) (hex phex : 
 way_failed run h old mid new hex phex n target sent start now later packets packet c w below same gives took =
     subst (λ (d : Scheduled). Took start later sent (output_of hex d (with_slots h (on_to h.slots target)))) c.scheduled
     (written_failed h old mid new hex phex n (on_to h.slots target) sent start now later packets packet w.written below same gives took)
-
-pub end_failed : (run : Run) (h : History) (old : MuxState) (hex : Bool) (n target sent : ℕ) (start later : Option (List ℕ)) → Carries run h old →
-    n ≡ on_to h.slots target → Took start later sent (run_output hex (content_at old.schedule h.units) 0 n) →
-    Took start later sent (output_of hex run.scheduled (with_slots h (on_to h.slots target)))
-end_failed run h old hex n target sent start later c is took =
-    subst (λ (d : Scheduled). Took start later sent (output_of hex d (with_slots h (on_to h.slots target)))) c.scheduled
-    (subst (λ (k : ℕ). Took start later sent (run_output hex (content_at old.schedule h.units) 0 k)) is took)
 
 -- the slots of a whole run
 pub last_some : (rate limit greatest slots : ℕ) (o : Option ℕ) → o ≡ Some slots → last_by rate limit greatest o ≡ limit

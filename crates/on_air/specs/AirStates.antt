@@ -1,9 +1,10 @@
 -- What stands in memory of a run, and which run it stands for.
-use Rattle.std.specs.Prelude.{◌≡◌, ◌+◌, ℕ, Bool, if◌then◌else◌, List, [], length, Option, Some, None, Result, Ok, Err}
+use Rattle.std.specs.Prelude.{◌≡◌, ◌+◌, ℕ, Bool, false, nat_le, if◌then◌else◌, List, [], length, Option, Some, None, Result, Ok, Err}
 use Rattle.description.specs.Ranges.{IsInRange}
 use Rattle.pes_packet.specs.AccessUnits.{AccessUnit}
 use Rattle.pes_packet.specs.Units.{units_of}
 use Rattle.packet_output.specs.Buffer.{Buffered, IsOutput}
+use Rattle.unit_records.specs.Records.{head_size, size_at}
 use Rattle.plan_checker.specs.Served.{Served}
 use Rattle.plan_checker.specs.Followed.{Followed}
 use Rattle.plan_timing.specs.Promised.{Promised}
@@ -40,11 +41,10 @@ pub record Carries (run : Run) (h : History) (m : MuxState) : Type 0 where
 abbrev pub with_slots : History → ℕ → History
 with_slots h n = record { units = h.units; slots = n }
 
--- slots were written, and nothing waits
+-- slots were written
 pub record WroteOn (run : Run) (h : History) (hex : Bool) (start now : Option (List ℕ)) (m : MuxState) (packets : Buffered) : Type 0 where
   pub mux : Carries run h m
   pub hex_is : packets.hex ≡ hex
-  pub none_waits : packets.waiting ≡ []
   pub output : IsOutput start now packets (output_of hex run.scheduled h)
 
 -- what a schedule promises of its description
@@ -63,7 +63,7 @@ abbrev pub KeepsHeadline : Run → Air → Type 0
 KeepsHeadline run a = Headline run.scheduled (λ k. units_of k a.accepted) a.slots (bytes_of run.scheduled (job_of a))
 
 -- the run has come as far as this: the multiplexer stands for the units accepted and the slots written, the writer, which held `start` at the
--- beginning, holds the output of these slots, nothing waits, and the bytes of these slots keep every promise
+-- beginning, holds the output of these slots but for what waits, and the bytes of these slots keep every promise
 pub record IsOnAir (run : Run) (a : Air) (start now : Option (List ℕ)) (s : AirState) : Type 0 where
   pub mux : Carries run (job_of a) s.mux
   pub promises : Promises run.scheduled
@@ -73,9 +73,18 @@ pub record IsOnAir (run : Run) (a : Air) (start now : Option (List ℕ)) (s : Ai
   pub lead : s.lead ≡ lead_of run
   pub greatest : s.greatest ≡ a.greatest
   pub records : s.records ≡ a.records
-  pub none_waits : s.packets.waiting ≡ []
   pub output : IsOutput start now s.packets (air_output run a)
   pub headline : KeepsHeadline run a
+
+-- ---- what waits
+
+-- the record at the front is whole in these bytes
+abbrev pub holds_record : List ℕ → Bool
+holds_record xs = nat_le (head_size + size_at xs) (length xs)
+
+-- where the record that comes next is not whole in the bytes that the input holds, so that a read of it may wait, no packet waits
+abbrev pub IsOut : List ℕ → AirState → Type 0
+IsOut held s = holds_record held ≡ false → s.packets.waiting ≡ []
 
 -- ---- what is aired of a plan, and of two
 

@@ -1,5 +1,5 @@
 -- What one record leaves of a run and of its input, and what records up to one that is to be told leave.
-use Rattle.std.specs.Prelude.{◌≡◌, ◌≤◌, ◌<◌, ◌-◌, ◌+◌, ◌^◌, ℕ, List, [], ◌∷◌, ◌++◌, Option, Some, None, Result, Ok, Err}
+use Rattle.std.specs.Prelude.{◌≡◌, ◌≤◌, ◌<◌, ◌-◌, ◌+◌, ◌^◌, ℕ, List, [], ◌∷◌, ◌++◌, Option, Some, None, Result, Ok, Err, ⊤}
 use Rattle.counted_io.specs.Device.{Failed}
 use Rattle.pes_packet.specs.AccessUnits.{AccessUnit}
 use Rattle.packet_output.specs.Buffer.{Took}
@@ -13,7 +13,7 @@ use Rattle.on_air.specs.declared.answers.Heard.TheVariants.{Taken, Refused, Ende
 use Rattle.on_air.specs.declared.answers.Ending.{Ending}
 use Rattle.on_air.specs.declared.answers.Ending.TheVariants.{Input, Unread, Slots, Records}
 use Rattle.on_air.specs.Airing.{Run, Air, air_cause, aired, air_output, heard, limit_of}
-use Rattle.on_air.specs.AirStates.{AirState, IsOnAir, KeepsHeadline}
+use Rattle.on_air.specs.AirStates.{AirState, IsOnAir, IsOut, KeepsHeadline}
 
 -- the writer failed: it took exactly the first `sent` bytes of an output that keeps every promise
 pub record Fails (run : Run) (a : Air) (start now : Option (List ℕ)) (sent : ℕ) : Type 0 where
@@ -57,6 +57,12 @@ abbrev pub CountsRecords : ℕ → ℕ → Heard → Type 0
 CountsRecords old new Taken = ⊥
 CountsRecords old new (Refused index cause) = (old < new) × (new ≤ 2 ^ 64 - 1)
 CountsRecords old new (Ended why) = old ≤ new
+
+-- what waits after a record that was taken, by the bytes that the input holds then; one that is refused moves nothing
+abbrev pub LetsOut : List ℕ → AirState → Heard → Type 0
+LetsOut held s Taken = IsOut held s
+LetsOut held s (Refused index cause) = ⊤
+LetsOut held s (Ended why) = ⊤
 
 -- a device is named exactly where a call of it failed
 abbrev pub NamesDevice : Result Heard OutputFault → ℕ → ℕ → ℕ → ℕ → Type 0

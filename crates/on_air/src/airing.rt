@@ -1,18 +1,20 @@
 //! A run without end: its calls.
 
-ghost use Rattle.std.specs.Prelude.{◌≡◌, ◌<◌, ◌≤◌, ◌-◌, ◌+◌, ◌^◌, ℕ, List, Option, IfOk, IfErr, OnOk, OnErr};
+ghost use Rattle.std.specs.Prelude.{◌≡◌, ◌<◌, ◌≤◌, ◌-◌, ◌+◌, ◌^◌, ℕ, List, [], Option, IfOk, IfErr, OnOk, OnErr};
 ghost use Rattle.counted_io.specs.Device.{Failed};
 ghost use Rattle.on_air.specs.Airing.{Run, Air, ended};
-ghost use Rattle.on_air.specs.AirStates.{IsOnAir};
-ghost use Rattle.on_air.specs.Hearing.{Fails, Hears, TakesUnit, CountsRecord, CountsRecords, NamesDevice, HasHeard, HearsOn};
+ghost use Rattle.on_air.specs.AirStates.{IsOnAir, IsOut};
+ghost use Rattle.on_air.specs.Hearing.{Fails, Hears, TakesUnit, CountsRecord, CountsRecords, LetsOut, NamesDevice, HasHeard, HearsOn};
 
 use crate::admission::admit;
 use crate::answers::{Ending, Heard};
 use crate::options::Terms;
 use crate::refusals::AirRefusal;
 use crate::slots::{last_slot, settled, write_on};
+use crate::waiting::holds_record;
 use clock27::Rate;
-use counted_io::{Sink, Source};
+use counted_io::Sink;
+use held_input::HeldInput;
 use mux_core::Mux;
 use packet_output::{OutputFault, PacketOutput};
 use pes_packet::Unit;
@@ -50,14 +52,39 @@ impl<A: Allocator> Model for OnAir<A> {
 }
 
 impl<A: Allocator + Copy> OnAir<A> {
-    /// Hears the next record: judges it, and writes the slots that are settled by it, to the last byte. A record that
-    /// is refused moves nothing.
-    pub fn hear<R: Source, W: Sink>(
+    /// Lets out what waits, unless the next record is whole in the bytes that the input holds, so that no read of it may
+    /// wait.
+    pub fn let_out<R: HeldInput, W: Sink>(
+        &mut self,
+        input: &R,
+        to: &mut W,
+    ) -> Result<(), OutputFault>
+        ensures ok { (run : Run) (a : Air) (start : Option (List ℕ)) → IsOnAir run a start (W.contents to.old) self.old →
+            OnOk result (IsOnAir run a start (W.contents to.new) self.new) }
+        ensures err { (run : Run) (a : Air) (start : Option (List ℕ)) → IsOnAir run a start (W.contents to.old) self.old →
+            IfErr result (λ fault. Fails run a start (W.contents to.new) fault.sent) }
+        ensures out { OnOk result (IsOut (R.held input.now) self.new) }
+        ensures records { self.new.records ≡ self.old.records }
+        ensures clean { OnOk result (W.fault_count to.new ≡ W.fault_count to.old) }
+        ensures fault { OnErr result (Failed (W.fault_count to.old) (W.fault_count to.new)) }
+    {
+        if holds_record(input.held()) {
+            return Ok(());
+        }
+        self.flush(to)
+    }
+
+    /// Hears the next record: judges it, and writes the slots that are settled by it, to the last byte where a read of the
+    /// record after it may wait. A record that is refused moves nothing.
+    pub fn hear<R: HeldInput, W: Sink>(
         &mut self,
         alloc: A,
         input: &mut R,
         to: &mut W,
     ) -> Result<Heard, OutputFault>
+        // Where a read may wait, nothing waits to be written.
+        requires out { IsOut (R.held input.old) self.old }
+        ensures out { IfOk result (LetsOut (R.held input.new) self.new) }
         ensures heard { (run : Run) (a : Air) (start : Option (List ℕ)) → IsOnAir run a start (W.contents to.old) self.old →
             Hears run a (R.remaining input.old) (R.remaining input.new) start (W.contents to.new) result self.new }
         ensures counts { IfOk result (CountsRecord self.old.records self.new.records) }
@@ -75,15 +102,18 @@ impl<A: Allocator + Copy> OnAir<A> {
             Ok(None) => Ok(Heard::Ended(Ending::Input)),
             Err(fault) => Ok(Heard::Ended(Ending::Unread(fault))),
             Ok(Some((stream, unit))) => match self.take(stream, unit, to) {
-                Ok(None) => Ok(Heard::Taken),
+                Ok(None) => match self.let_out(input, to) {
+                    Ok(()) => Ok(Heard::Taken),
+                    Err(fault) => Err(fault),
+                },
                 Ok(Some(cause)) => Ok(Heard::Refused { index, cause }),
                 Err(fault) => Err(fault),
             },
         }
     }
 
-    /// Hears records up to one that is refused, or to the end.
-    pub fn hear_on<R: Source, W: Sink>(
+    /// Hears records up to one that is refused, or to the end. Before a read that may wait all is written that is settled.
+    pub fn hear_on<R: HeldInput, W: Sink>(
         &mut self,
         alloc: A,
         input: &mut R,
@@ -96,6 +126,10 @@ impl<A: Allocator + Copy> OnAir<A> {
         ensures fault { NamesDevice result (R.fault_count input.old) (R.fault_count input.new)
             (W.fault_count to.old) (W.fault_count to.new) }
     {
+        match self.let_out(input, to) {
+            Ok(()) => {}
+            Err(fault) => return Err(fault),
+        }
         'records: loop {
             match self.hear(alloc, input, to) {
                 Ok(Heard::Taken) => {}
@@ -108,17 +142,21 @@ impl<A: Allocator + Copy> OnAir<A> {
         }
     }
 
-    /// Ends the run: writes on to its last slot.
+    /// Ends the run: writes on to its last slot, to the last byte.
     pub fn end<W: Sink>(&mut self, to: &mut W) -> Result<(), OutputFault>
         ensures ok { (run : Run) (a : Air) (start : Option (List ℕ)) → IsOnAir run a start (W.contents to.old) self.old →
             OnOk result (IsOnAir run (ended run a) start (W.contents to.new) self.new) }
         ensures err { (run : Run) (a : Air) (start : Option (List ℕ)) → IsOnAir run a start (W.contents to.old) self.old →
             IfErr result (λ fault. Fails run (ended run a) start (W.contents to.new) fault.sent) }
+        ensures out { OnOk result (self.new.packets.waiting ≡ []) }
         ensures clean { OnOk result (W.fault_count to.new ≡ W.fault_count to.old) }
         ensures fault { OnErr result (Failed (W.fault_count to.old) (W.fault_count to.new)) }
     {
         let target = last_slot(self.rate, self.terms, self.greatest);
-        write_on(&mut self.mux, target, &mut self.packets, to)
+        match write_on(&mut self.mux, target, &mut self.packets, to) {
+            Ok(()) => self.flush(to),
+            Err(fault) => Err(fault),
+        }
     }
 
     /// The number of records heard.
@@ -128,7 +166,21 @@ impl<A: Allocator + Copy> OnAir<A> {
         self.records
     }
 
-    // Judges a record, and writes the slots that are settled by it.
+    // Writes what waits. Nothing waits then.
+    fn flush<W: Sink>(&mut self, to: &mut W) -> Result<(), OutputFault>
+        ensures ok { (run : Run) (a : Air) (start : Option (List ℕ)) → IsOnAir run a start (W.contents to.old) self.old →
+            OnOk result (IsOnAir run a start (W.contents to.new) self.new) }
+        ensures err { (run : Run) (a : Air) (start : Option (List ℕ)) → IsOnAir run a start (W.contents to.old) self.old →
+            IfErr result (λ fault. Fails run a start (W.contents to.new) fault.sent) }
+        ensures empty { self.new.packets.waiting ≡ [] }
+        ensures records { self.new.records ≡ self.old.records }
+        ensures clean { OnOk result (W.fault_count to.new ≡ W.fault_count to.old) }
+        ensures fault { OnErr result (Failed (W.fault_count to.old) (W.fault_count to.new)) }
+    {
+        self.packets.flush(to)
+    }
+
+    // Judges a record, and writes the slots that are settled by it; what is no whole part yet waits.
     fn take<W: Sink>(
         &mut self,
         stream: u8,

@@ -2,11 +2,13 @@
 //! change them, in constant memory.
 //!
 //! `specs/Airing` is the rule: which units are accepted, and which slots are written after each record and at the end.
-//! `specs/AirStates` says what an `OnAir` stands for, `specs/Hearing` what one record, and records up to one that is to
-//! be told, leave, and `specs/Laws` that records in order are all taken, and aired as a whole job is multiplexed.
+//! `specs/AirStates` says what an `OnAir` stands for, and what may wait to be written, `specs/Hearing` what one record, and
+//! records up to one that is to be told, leave, and `specs/Laws` that records in order are all taken, and aired as a whole
+//! job is multiplexed.
 //!
 //! The modules in reading order: the terms of a run, why a record is refused, what a call answers, the rooms and leads
-//! of a description, slots up to one that is settled, a unit judged and fed, the run and its calls, how it begins; the laws.
+//! of a description, slots up to one that is settled, whether a read may wait, a unit judged and fed, the run and its calls, how
+//! it begins; the laws.
 #![tactic(auto)]
 
 mod admission;
@@ -18,6 +20,7 @@ mod leads;
 mod options;
 mod refusals;
 mod slots;
+mod waiting;
 
 pub use airing::OnAir;
 pub use answers::{Ending, Heard};

@@ -47,10 +47,10 @@ records_failed o run input output before told after sent status f r s = inr (rec
 })
 
 pub run_ended : (o : AirOptions) (run : Run) (input : Device) (begin mid end before told after : Port) (why : RecordsEnd) (s t : AirState) (records status : ℕ)
-    (e : EndsRecords run o.stop begin.bytes input (between begin mid) (between before told) why s) → IsOnAir run (ended run e.airs.came) begin.bytes end.bytes t → end.failed ≡ mid.failed →
+    (e : EndsRecords run o.stop begin.bytes input (between begin mid) (between before told) why s) → IsOnAir run (ended run e.airs.came) begin.bytes end.bytes t → t.packets.waiting ≡ [] → end.failed ≡ mid.failed →
     records ≡ t.records → Reports (between told after) (end_outcome o.terms.slots records why).report → status ≡ (end_outcome o.terms.slots records why).status →
     AirsRecords o run input (between begin end) (between before after) status
-run_ended o run input begin mid end before told after why s t records status e h clean n r st =
+run_ended o run input begin mid end before told after why s t records status e h none clean n r st =
     let count : records ≡ e.airs.came.records = n ∙ h.records in
     inl (record {
       rest = e.rest;
@@ -60,7 +60,7 @@ run_ended o run input begin mid end before told after why s t records status e h
       ends = e.ends;
       refused = e.refused;
       reader = e.reader;
-      written = whole_output begin.bytes end.bytes t.packets (air_output run (ended run e.airs.came)) h.none_waits h.output;
+      written = whole_output begin.bytes end.bytes t.packets (air_output run (ended run e.airs.came)) none h.output;
       clean = clean ∙ e.clean;
       headline = h.headline;
       reports = subst (λ (m : ℕ). Reports (between told after) (end_outcome o.terms.slots m why).report) count r;

@@ -8,7 +8,8 @@ ghost use Rattle.on_air.specs.AirStates.{IsOnAir};
 ghost use Rattle.tsair_cli.specs.HeardRecords.{HearsAll, refusal_line};
 
 use checked_jobs::report_refusal;
-use counted_io::{Sink, Source};
+use counted_io::Sink;
+use held_input::HeldInput;
 use on_air::{AirRefusal, Ending, Heard, OnAir, OutputFault};
 use std::alloc::Global;
 
@@ -31,7 +32,7 @@ fn report_refused<E: Sink>(faults: &mut E, index: u64, cause: AirRefusal)
 
 /// Hears all records of a run, and reports each that is refused before the next is read. On request the first that is
 /// refused ends the run.
-pub fn hear_all<R: Source, W: Sink, E: Sink>(
+pub fn hear_all<R: HeldInput, W: Sink, E: Sink>(
     alloc: Global,
     stop: bool,
     on_air: &mut OnAir,

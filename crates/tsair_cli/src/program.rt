@@ -22,8 +22,9 @@ use crate::front::{read_front, report_front};
 use crate::hearing::hear_all;
 use crate::known_words::KnownWords;
 use checked_jobs::{JobPlans, report_refusal};
-use counted_io::{Sink, Source};
+use counted_io::Sink;
 use devices::{Halt, report_halt, report_text};
+use held_input::HeldInput;
 use on_air::{NewError, OnAir};
 use std::alloc::Global;
 use word_faults::answer_other_words;
@@ -86,7 +87,7 @@ fn report_begin<E: Sink>(faults: &mut E, cause: NewError) -> u8
 }
 
 /// Hears the records of a run, writes its slots to the last, and returns the status.
-fn air<R: Source, W: Sink, E: Sink>(
+fn air<R: HeldInput, W: Sink, E: Sink>(
     alloc: Global,
     options: AirOptions,
     on_air: &mut OnAir,
@@ -109,7 +110,7 @@ fn air<R: Source, W: Sink, E: Sink>(
 }
 
 /// Reads the front of the input, airs the job, and returns the status.
-fn air_job<R: Source, W: Sink, E: Sink>(
+fn air_job<R: HeldInput, W: Sink, E: Sink>(
     alloc: Global,
     options: AirOptions,
     input: &mut R,
@@ -133,10 +134,10 @@ fn air_job<R: Source, W: Sink, E: Sink>(
     status
 }
 
-/// The whole program: it reads the front of the input, writes the slots that each record settles before it reads the
-/// next, reports faults on the second writer, and returns the exit status: 0 good, 1 refused, 2 a usage error, 3 a device
+/// The whole program: it reads the front of the input, writes the slots that each record settles before a read of the next
+/// may wait, reports faults on the second writer, and returns the exit status: 0 good, 1 refused, 2 a usage error, 3 a device
 /// failed or out of memory.
-pub fn run<R: Source, W: Sink, E: Sink>(
+pub fn run<R: HeldInput, W: Sink, E: Sink>(
     alloc: Global,
     words: &[&str],
     input: &mut R,

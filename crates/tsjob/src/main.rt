@@ -3,8 +3,9 @@
 //! The program is `tsjob_cli::run` over any reader and two writers; `devices::run_program` runs it over the real ones.
 #![tactic(auto)]
 
-use counted_io::{Sink, Source};
+use counted_io::Sink;
 use devices::{NamedFiles, Program, run_program};
+use held_input::HeldInput;
 use std::alloc::Global;
 use std::process::ExitCode;
 use tsjob_cli::{report_usage, run};
@@ -12,7 +13,7 @@ use tsjob_cli::{report_usage, run};
 struct Tsjob;
 
 impl Program for Tsjob {
-    fn run<F: NamedFiles, R: Source, W: Sink, E: Sink>(
+    fn run<F: NamedFiles, R: HeldInput, W: Sink, E: Sink>(
         alloc: Global,
         words: &[&str],
         files: &F,

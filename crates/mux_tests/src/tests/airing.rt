@@ -1,12 +1,14 @@
-//! Records heard one by one: what each answers and how many slots are then written; and whole runs, beside jobs of the
-//! same units, to writers that fail, and in little memory.
+//! Records heard one by one: what each answers and how many slots are then written, also of an input that holds them all;
+//! and whole runs, beside jobs of the same units, to writers that fail, and in little memory.
 
 use super::services::{ONE, SMALL, Series, units};
 use counted_io::{Counted, Failing};
+use held_input::{BufferedInput, HeldInput};
 use linked_list_allocator::LocalHeap;
 use mux_core::{NewError, multiplex_as};
 use on_air::{Ending, Heard, OnAir, Terms};
 use std::alloc::{Allocator, Global};
+use std::io::BufReader;
 
 /// Stream, size and DTS of a record of equal bytes, presented at its DTS.
 type Record = (u8, u32, u64);
@@ -166,42 +168,67 @@ fn is_answer(heard: Heard, wanted: &Answer) -> bool {
 }
 
 /// Whether the next record answers this, and this many slots are written after it.
-fn is_heard(
+fn is_heard<R: HeldInput>(
     alloc: Global,
     run: &mut OnAir,
-    input: &mut Counted<&[u8]>,
+    input: &mut R,
     written: Vec<u8>,
     wanted: (&Answer, u64),
 ) -> Option<Vec<u8>> {
     let (answer, slots) = wanted;
     let mut output = Counted::new(written);
+    let Ok(()) = run.let_out(input, &mut output) else {
+        return None;
+    };
     let heard = run.hear(alloc, input, &mut output).ok()?;
     let written = output.into_inner();
     let is_wanted = is_answer(heard, answer) && written.len() as u64 == slots.saturating_mul(188);
     if is_wanted { Some(written) } else { None }
 }
 
+/// Whether the slots that a record settles are written when it is heard: of an input that holds all records, where it is
+/// taken and none comes after it. What a refused one leaves is written by the next call.
+fn is_out(run: &Run, holds: bool, number: usize, answer: &Answer) -> bool {
+    let is_last = number.saturating_add(1) == run.heard.len();
+    match answer {
+        Answer::Taken => !holds || is_last,
+        _ => !holds,
+    }
+}
+
 /// Whether each record of a run and its end answer what they have to.
-fn is_aired(alloc: Global, run: &Run) -> Option<bool> {
-    let bytes = records(alloc, run.heard)?;
+fn is_aired<R: HeldInput>(alloc: Global, run: &Run, holds: bool, input: &mut R) -> Option<bool> {
     let mut air = begun(alloc, alloc, alloc, run.terms, false)?.ok()?;
-    let mut input = Counted::new(bytes.as_slice());
     let mut written = Vec::new(alloc);
     let mut last = 0u64;
-    for (_, answer, slots) in run.heard {
-        written = is_heard(alloc, &mut air, &mut input, written, (answer, *slots))?;
+    for (number, (_, answer, slots)) in run.heard.iter().enumerate() {
+        let out = if is_out(run, holds, number, answer) {
+            *slots
+        } else {
+            0
+        };
+        written = is_heard(alloc, &mut air, input, written, (answer, out))?;
         last = *slots;
     }
-    written = is_heard(alloc, &mut air, &mut input, written, (&run.ending, last))?;
+    written = is_heard(alloc, &mut air, input, written, (&run.ending, last))?;
     let mut output = Counted::new(written);
     air.end(&mut output).ok()?;
     Some(output.into_inner().len() as u64 == run.slots.saturating_mul(188))
 }
 
+fn is_aired_by_both(alloc: Global, run: &Run) -> Option<bool> {
+    let bytes = records(alloc, run.heard)?;
+    let mut input = Counted::new(bytes.as_slice());
+    let one = is_aired(alloc, run, false, &mut input)?;
+    let reader = BufReader::with_capacity(alloc, 65_536, bytes.as_slice()).ok()?;
+    let mut input = BufferedInput::new(reader);
+    Some(one && is_aired(alloc, run, true, &mut input)?)
+}
+
 #[test]
 fn records_are_heard(rt: HostRuntime) {
     for run in &RUNS {
-        assert!(rt; is_aired(rt.alloc(), run) == Some(true));
+        assert!(rt; is_aired_by_both(rt.alloc(), run) == Some(true));
     }
 }
 

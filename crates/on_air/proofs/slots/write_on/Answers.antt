@@ -1,8 +1,7 @@
 use Rattle.std.proofs.Common.{◌≡◌, ◌<◌, ◌≤◌, ◌+◌, ◌^◌, ℕ, arith, subst, ◌∙◌}
-use Rattle.std.proofs.lemmas.Result.{on_ok_weaker, IfErr-weaker}
 use Rattle.mux_core.proofs.JobWriting.{at_slot, not_done}
 use Rattle.on_air.specs.Airing.{on_to}
-use Rattle.on_air.proofs.SlotsOn.{OnWay, way_of_run, way_goes_on, way_ends, way_failed, end_failed}
+use Rattle.on_air.proofs.SlotsOn.{OnWay, way_of_run, way_goes_on, way_ends, way_failed}
 use Rattle.on_air.proofs.slots.write_on.Goals as goal
 
 pub returns-in_default-clause-ok : goal.returns-in_default-clause-ok
@@ -38,16 +37,4 @@ returns-clause-ok g c = λ run h start carries holds.
     let w = c.slots.invariant.written h start carries.stands (way_of_run run h c.args.mux.now c.args.packets.now.hex start _ _ carries holds) in
     let is : h.slots + c.slots.counter ≡ on_to h.slots c.args.target =
     omega (arith, c.slots-test.false, c.slots.auto.counter-end, c.saturating_sub-count.ensures, c.now.ensures h carries.stands) in
-    on_ok_weaker c.flush.result
-    (λ out. way_ends run h c.args.mux.now c.slots.mux c.args.packets.now.hex (h.slots + c.slots.counter) c.args.target start _ _ c.slots.packets _ carries w is
-    (c.flush.ensures.hex ∙ c.slots.invariant.hex) c.flush.ensures.empty out)
-    (c.flush.ensures.ok start _ w.written.holds)
-
-pub returns-clause-err : goal.returns-clause-err
-returns-clause-err g c = λ run h start carries holds.
-    let w = c.slots.invariant.written h start carries.stands (way_of_run run h c.args.mux.now c.args.packets.now.hex start _ _ carries holds) in
-    let is : h.slots + c.slots.counter ≡ on_to h.slots c.args.target =
-    omega (arith, c.slots-test.false, c.slots.auto.counter-end, c.saturating_sub-count.ensures, c.now.ensures h carries.stands) in
-    IfErr-weaker c.flush.result _ _
-    (λ fault took. end_failed run h c.args.mux.now c.args.packets.now.hex (h.slots + c.slots.counter) c.args.target fault.sent start _ carries is took)
-    (c.flush.ensures.err start _ w.written.holds)
+    way_ends run h c.args.mux.now c.slots.mux c.args.packets.now.hex (h.slots + c.slots.counter) c.args.target start _ c.slots.packets carries w is c.slots.invariant.hex

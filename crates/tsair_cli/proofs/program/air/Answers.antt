@@ -26,7 +26,7 @@ returns-in-Ok-end g c = λ run h.
     let after : Port = record { bytes = g.E.Write.contents c.report_end.new.faults; failed = g.E.Sink.fault_count c.report_end.new.faults } in
     let e = c.in-Ok.ensures run begin.bytes h in
     run_ended c.args.options run input begin mid end before told after c.in-Ok.end c.hear_all.new.on_air c.end.new.self c.records.result _ e
-    (c.in-Ok-end.ensures.ok run e.airs.came begin.bytes e.state) c.in-Ok-end.ensures.clean c.records.ensures c.report_end.ensures.report c.report_end.ensures.status
+    (c.in-Ok-end.ensures.ok run e.airs.came begin.bytes e.state) c.in-Ok-end.ensures.out c.in-Ok-end.ensures.clean c.records.ensures c.report_end.ensures.report c.report_end.ensures.status
 
 pub returns-in-Err-end : goal.returns-in-Err-end
 returns-in-Err-end g c = λ run h.

@@ -12,15 +12,15 @@ returns-then-now-limit-clause-heard g c = λ run a start h.
     let terms = ap (λ (x : AirState). limit_of x.terms) c.self.view_is ∙ ap (λ (t : Terms). limit_of t) h.terms in
     ((omega (arith, c.if-now-limit.true, c.now.ensures (job_of a) stands, c.limit.ensures.value, terms), refl), h)
 
-pub returns-in-Ok-None-take-clause-heard : goal.returns-in-Ok-None-take-clause-heard
-returns-in-Ok-None-take-clause-heard g c = λ run a start h.
+pub returns-in-Ok-clause-heard : goal.returns-in-Ok-clause-heard
+returns-in-Ok-clause-heard g c = λ run a start h.
     let t = rw c.in-Ok-None-take.field-0-is at (c.in-Ok-None-take.ensures.takes run a start h) in
     let read : HearsRecord run a (g.R.Read.remaining c.args.input.now) (g.R.Read.remaining c.read_unit.new.from) None = record {
       entry = (c.in-Ok-Some.stream, c.in-Ok-Some.unit);
       cause = t.0;
       known = λ xs e. rw c.in-Ok-Some.field-0-is at (c.in-Ok-Some.ensures.known xs e);
     } in
-    (read, t.1)
+    (read, c.in-Ok.ensures.ok run _ start t.1)
 
 pub returns-in-Ok-Some-take-clause-heard : goal.returns-in-Ok-Some-take-clause-heard
 returns-in-Ok-Some-take-clause-heard g c = λ run a start h.
@@ -31,6 +31,16 @@ returns-in-Ok-Some-take-clause-heard g c = λ run a start h.
       known = λ xs e. rw c.in-Ok-Some.field-0-is at (c.in-Ok-Some.ensures.known xs e);
     } in
     (ap (λ (x : AirState). x.records) c.self.view_is ∙ h.records, (read, t.1))
+
+pub returns-in-Err-let_out-clause-heard : goal.returns-in-Err-let_out-clause-heard
+returns-in-Err-let_out-clause-heard g c = λ run a start h.
+    let t = rw c.in-Ok-None-take.field-0-is at (c.in-Ok-None-take.ensures.takes run a start h) in
+    let read : HearsRecord run a (g.R.Read.remaining c.args.input.now) (g.R.Read.remaining c.read_unit.new.from) None = record {
+      entry = (c.in-Ok-Some.stream, c.in-Ok-Some.unit);
+      cause = t.0;
+      known = λ xs e. rw c.in-Ok-Some.field-0-is at (c.in-Ok-Some.ensures.known xs e);
+    } in
+    (read, c.in-Err-let_out.ensures.err run _ start t.1)
 
 pub returns-in-Err-take-clause-heard : goal.returns-in-Err-take-clause-heard
 returns-in-Err-take-clause-heard g c = λ run a start h.

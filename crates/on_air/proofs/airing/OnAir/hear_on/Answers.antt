@@ -5,10 +5,11 @@ use Rattle.on_air.proofs.airing.OnAir.hear_on.Goals as goal
 
 pub records-init : goal.records-init
 records-init g c = record {
-  rises = omega arith;
+  rises = omega (arith, c.let_out.ensures.records);
+  out = c.in-Ok.ensures.out;
   reads = refl;
-  writes = refl;
-  known = λ run n a origin start h has. midway_begins run n a origin start _ _ _ h has;
+  writes = c.in-Ok.ensures.clean;
+  known = λ run n a origin start h has. midway_begins run n a origin start _ _ _ (c.in-Ok.ensures.ok run a start h) has;
 }
 
 pub records-preserved : goal.records-preserved
@@ -17,6 +18,7 @@ records-preserved g c =
     let clean = rw c.in-Ok-Taken.field-0-is at c.in-Ok-Taken.ensures.fault in
     record {
       rises = omega (arith, c.records.invariant.rises, counts.1);
+      out = rw c.in-Ok-Taken.field-0-is at c.in-Ok-Taken.ensures.out;
       reads = clean.0 ∙ c.records.invariant.reads;
       writes = clean.1 ∙ c.records.invariant.writes;
       known = λ run n a origin start h has.
@@ -37,10 +39,10 @@ returns-in-Ok-Ended-clause-heard g c = λ run n a origin start h has.
     next_ended run a origin start (g.R.Read.remaining c.records.input) (g.R.Read.remaining c.hear.new.input) (g.W.Write.contents c.records.to) (g.W.Write.contents c.hear.new.to) c.records.self c.hear.new.self c.in-Ok-Ended.why w
     (rw c.in-Ok-Ended.field-0-is at (c.in-Ok-Ended.ensures.heard run w.so_far start w.state))
 
-pub returns-in-Err-clause-heard : goal.returns-in-Err-clause-heard
-returns-in-Err-clause-heard g c = λ run n a origin start h has.
+pub returns-in-Err-hear-clause-heard : goal.returns-in-Err-hear-clause-heard
+returns-in-Err-hear-clause-heard g c = λ run n a origin start h has.
     let w = c.records.invariant.known run n a origin start h has in
-    next_failed run a origin start (g.R.Read.remaining c.records.input) (g.R.Read.remaining c.hear.new.input) (g.W.Write.contents c.records.to) (g.W.Write.contents c.hear.new.to) c.records.self c.hear.new.self c.in-Err.fault w (c.in-Err.ensures.heard run w.so_far start w.state)
+    next_failed run a origin start (g.R.Read.remaining c.records.input) (g.R.Read.remaining c.hear.new.input) (g.W.Write.contents c.records.to) (g.W.Write.contents c.hear.new.to) c.records.self c.hear.new.self c.in-Err-hear.fault w (c.in-Err-hear.ensures.heard run w.so_far start w.state)
 
 pub returns-in-Ok-Refused-clause-counts : goal.returns-in-Ok-Refused-clause-counts
 returns-in-Ok-Refused-clause-counts g c =
@@ -54,3 +56,7 @@ returns-in-Ok-Ended-clause-counts g c =
 pub returns-in-Ok-Ended-clause-fault : goal.returns-in-Ok-Ended-clause-fault
 returns-in-Ok-Ended-clause-fault g c =
     names_same (Ok (Ended c.in-Ok-Ended.why)) _ _ _ _ _ _ c.records.invariant.reads c.records.invariant.writes (rw c.in-Ok-Ended.field-0-is at c.in-Ok-Ended.ensures.fault)
+
+pub returns-in-Err-clause-heard : goal.returns-in-Err-clause-heard
+returns-in-Err-clause-heard g c = λ run n a origin start h has.
+    (a, record { count = n; heard_is = has }, refl, c.in-Err.ensures.err run a start h)

@@ -1,6 +1,6 @@
 use Rattle.std.proofs.Common.{◌≡◌, ◌≤◌, ◌-◌, ◌^◌, ℕ, List, Option}
 use Rattle.on_air.specs.Airing.{Run, Air}
-use Rattle.on_air.specs.AirStates.{IsOnAir}
+use Rattle.on_air.specs.AirStates.{IsOnAir, IsOut}
 use Rattle.on_air.specs.Hearing.{HasHeard}
 use Rattle.on_air.proofs.HeardRecords.{Midway}
 use Rattle.on_air.proofs.airing.OnAir.hear_on.Given as goal
@@ -8,6 +8,7 @@ use Rattle.on_air.proofs.airing.OnAir.hear_on.Given as goal
 abbrev pub invariant-records : goal.invariant-records
 invariant-records g l = record {
   rises : l.fn.self.records ≤ l.self.records;
+  out : IsOut (g.R.HeldInput.held l.input) l.self;
   reads : g.R.Source.fault_count l.input ≡ g.R.Source.fault_count l.fn.input;
   writes : g.W.Sink.fault_count l.to ≡ g.W.Sink.fault_count l.fn.to;
   known : (run : Run) (n : ℕ) (a : Air) (origin start : Option (List ℕ)) → IsOnAir run a start (g.W.Write.contents l.fn.to) l.fn.self →
