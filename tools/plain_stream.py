@@ -335,3 +335,25 @@ def readable(data, most=100):
     while jobs.written(text) > most:
         text = text[:-1]
     return text
+
+
+# ---- sections that do not change
+
+
+def place_of(section):
+    """Which section of a table it is: table_id, and of the long form table_id_extension and section_number."""
+    return section[:1], section[1] >> 7 and (section[3:5], section[6])
+
+
+def steady(stream, pid):
+    """The sections of a PID, each once, and the greatest number of packets from one start of a section to its next; None where they change, where
+    one does not come again, where there are more than 8, or where anything else is found."""
+    found = {}
+    for packet, begins, kind, value in stream.found(pid):
+        if kind == "section":
+            found.setdefault(bytes(value), []).append(begins)
+        elif kind != "duplicate" and not (kind == "truncated" and packet >= stream.count):
+            return None
+    gaps = [max((after - before for before, after in zip(starts, starts[1:])), default=0) for starts in found.values()]
+    whole = 1 <= len(found) <= 8 and all(gaps) and len({place_of(s) for s in found}) == len(found)
+    return (list(found), max(gaps)) if whole else None

@@ -1,8 +1,9 @@
 -- The lines for tables that no job is made of.
-use Rattle.std.specs.Prelude.{ℕ, List, ◌++◌, flat_map, codes, decimal}
+use Rattle.std.specs.Prelude.{ℕ, not, List, ◌++◌, flat_map, filter, codes, decimal}
 use Rattle.other_tables.specs.declared.kinds.TableKind.{TableKind}
 use Rattle.other_tables.specs.declared.kinds.TableKind.TheVariants.{ConditionalAccess, Objects, Network, Services, Events, Time, Running, Applications, Splices, Private}
 use Rattle.other_tables.specs.declared.tables.OtherTable.{OtherTable}
+use Rattle.stream_jobs.specs.JobInput.{JobInputView, carries_table}
 
 unfoldable pub kind_name : TableKind → List ℕ
 kind_name ConditionalAccess = codes "CAT, ECM or EMM"
@@ -22,3 +23,7 @@ other_table_line t = codes "pid " ++ decimal t.pid ++ codes " has " ++ decimal t
 -- a line each
 abbrev pub other_table_lines : List OtherTable → List ℕ
 other_table_lines tables = flat_map other_table_line tables
+
+-- those that are not carried
+abbrev pub told_tables : JobInputView → List OtherTable → List OtherTable
+told_tables m tables = filter (λ t. not (carries_table m t.pid)) tables

@@ -15,5 +15,5 @@ mod warning_lines;
 pub use field_lines::{are_needed, told_fields, write_fields};
 pub use refusal_line::write_refusal;
 pub use slip_lines::{write_packets, write_slips};
-pub use table_lines::{are_missed, write_other_tables};
+pub use table_lines::{are_missed, told_tables, write_other_tables};
 pub use warning_lines::{is_damaged, told_warnings, write_warnings};

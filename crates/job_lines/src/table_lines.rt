@@ -1,13 +1,14 @@
 //! The lines for tables that no job is made of.
 
-ghost use Rattle.std.specs.Prelude.{◌≡◌, ◌++◌, OnOk, string_bytes};
+ghost use Rattle.std.specs.Prelude.{◌≡◌, ◌++◌, IfOk, OnOk, string_bytes};
 ghost use Rattle.std.specs.List.{list_any};
 ghost use Rattle.other_tables.specs.TableKinds.{is_loss};
 ghost use Rattle.job_lines.specs.TableLines as spec;
 
 use other_tables::{OtherTable, TableKind};
-use std::alloc::AllocError;
+use std::alloc::{AllocError, Global};
 use std::fmt::Write;
+use stream_jobs::JobInput;
 
 // The name of a table.
 #[tactic(auto, unfolding(crate::specs::TableLines::kind_name))]
@@ -47,6 +48,21 @@ pub fn write_other_tables(tables: &[OtherTable], text: &mut String) -> Result<()
         write_other_table(table, text)?;
     }
     Ok(())
+}
+
+/// Those that are not carried.
+pub fn told_tables(
+    alloc: Global,
+    input: &JobInput,
+    tables: &[OtherTable],
+) -> Result<Vec<OtherTable>, AllocError>
+    ensures { IfOk result (λ told. told.items ≡ spec.told_tables input.now tables.now) }
+{
+    tables
+        .iter()
+        .filter(|table| !input.carries_table(table.pid))
+        .copied()
+        .collect(alloc)
 }
 
 /// Whether a viewer loses anything without these tables.

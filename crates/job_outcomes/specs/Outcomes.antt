@@ -41,7 +41,7 @@ use Rattle.unit_output.specs.Records.{records_of, written}
 use Rattle.job_lines.specs.RefusalLine.{refusal_line}
 use Rattle.job_lines.specs.SlipLines.{packets_line, slip_lines}
 use Rattle.job_outcomes.specs.Streams.{PacketNotesView, findings_of, notes_of}
-use Rattle.job_lines.specs.TableLines.{other_table_lines}
+use Rattle.job_lines.specs.TableLines.{other_table_lines, told_tables}
 use Rattle.job_lines.specs.WarningLines.{told_warnings, warning_lines}
 
 -- 1. What is written
@@ -121,7 +121,7 @@ abbrev pub is_less : List Slip → List FieldLeftOut → List OtherTable → Lis
 is_less slips fields tables warnings =
     not (length slips == 0) || list_any (λ f. is_field_loss f.field) fields || list_any (λ t. is_loss t.kind) tables || are_damaged warnings
 
--- a line for each slip, for each field of a PID that is not written again, for each PID with tables that no job is made of, and
+-- a line for each slip, for each field of a PID that is not written again, for each PID with tables that are not carried, and
 -- for each warning that is told
 abbrev pub loss_lines : List Slip → List FieldLeftOut → List OtherTable → List Warning → List ℕ
 loss_lines slips fields tables warnings = slip_lines slips ++ field_lines fields ++ other_table_lines tables ++ warning_lines warnings
@@ -136,8 +136,8 @@ status_of Why output less = if length output == 0 then 0 else 1
 -- the output, the lines of what is left out, and the status
 pub record IsGiven (arguments : JobArgumentsView) (notes : PacketNotesView) (findings : List FindingView) (m : JobInputView) (o : Outcome) : Type 0 where
   pub gives : Gives arguments.subcommand arguments.options findings m o.output
-  pub report_is : o.report ≡ loss_lines notes.slips (told_fields m notes.fields) (other_tables findings) (told_warnings arguments.whole m.warnings)
-  pub status_is : o.status ≡ status_of arguments.subcommand o.output (is_less notes.slips (told_fields m notes.fields) (other_tables findings) (told_warnings arguments.whole m.warnings))
+  pub report_is : o.report ≡ loss_lines notes.slips (told_fields m notes.fields) (told_tables m (other_tables findings)) (told_warnings arguments.whole m.warnings)
+  pub status_is : o.status ≡ status_of arguments.subcommand o.output (is_less notes.slips (told_fields m notes.fields) (told_tables m (other_tables findings)) (told_warnings arguments.whole m.warnings))
 
 -- nothing is written but the line of the refusal, and the status is 1
 pub record IsRefused (arguments : JobArgumentsView) (findings : List FindingView) (m : JobInputView) (o : Outcome) : Type 0 where

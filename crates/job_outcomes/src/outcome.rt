@@ -19,7 +19,7 @@ use crate::reading::StreamReading;
 use crate::reason_output::reason_output;
 use demux::Finding;
 use job_lines::{
-    are_missed, are_needed, is_damaged, told_fields, told_warnings, write_fields,
+    are_missed, are_needed, is_damaged, told_fields, told_tables, told_warnings, write_fields,
     write_other_tables, write_packets, write_refusal, write_slips, write_warnings,
 };
 use other_tables::{OtherTable, other_tables};
@@ -228,7 +228,8 @@ fn job_outcome(
 {
     let told = told_warnings(alloc, arguments.whole, &input.warnings)?;
     let fields = told_fields(alloc, &input, &notes.fields)?;
-    let tables = other_tables(alloc, findings)?;
+    let others = other_tables(alloc, findings)?;
+    let tables = told_tables(alloc, &input, &others)?;
     let report = loss_report(alloc, &notes.slips, &fields, &tables, &told)?;
     let less = is_less(&notes.slips, &fields, &tables, &told);
     let output = output_for(alloc, arguments, findings, input)?;

@@ -9,18 +9,18 @@ use Rattle.unit_timing.specs.declared.allowance.Allowance.{Allowance}
 use Rattle.unit_timing.specs.declared.allowance.Allowance.TheVariants.{Groups, Pace}
 use Rattle.hex.specs.Hex.{encode_lower}
 use Rattle.toml_writer.specs.Text.{key_text}
-use Rattle.toml.specs.Data.{string, integer, boolean, array, Members, no_members, member, is_before, members_depth, members_have_valid_dates, members_are_sorted}
+use Rattle.toml.specs.Data.{string, integer, boolean, Members, no_members, member, is_before, members_depth, members_have_valid_dates, members_are_sorted}
 use Rattle.toml.specs.Text.{IsLinesText, IsDocumentText, expressions, pairs, sections, elements}
 use Rattle.toml.specs.Tables.{Expression}
 use Rattle.toml.proofs.Lines.{IsLinesText-append, after}
 use Rattle.toml.proofs.ReadBack.{parse_document-printed}
-use Rattle.job_text.specs.DescriptionParts.{EventPartView, HeadingView, NetworkPartView, ProgramPartView, StreamPartView}
-use Rattle.job_text.specs.KeyLines.{with_numbers, with_hex, with_list, items_of, hex_line, list_line, key_line, number_lines}
+use Rattle.job_text.specs.DescriptionParts.{EventPartView, HeadingView, NetworkPartView, ProgramPartView, StreamPartView, TablePartView}
+use Rattle.job_text.specs.KeyLines.{with_numbers, with_hex, with_list, hex_line, list_line, key_line, number_lines}
 use Rattle.job_text.specs.Fields.{program_numbers, burst_numbers, group_numbers, time_numbers, pace_numbers, place_numbers, last_numbers}
-use Rattle.job_text.specs.Documents.{document, elements_of, with_table, with_tables, event_table, network_table, program_table, stream_end, stream_place, stream_rest, stream_members, stream_table}
-use Rattle.job_text.specs.Texts.{event_text, heading_text, network_text, network_if_any, program_text, stream_text}
-use Rattle.job_text.specs.Laws.{Fits, FitsEvent, FitsHeading, FitsNetwork, FitsProgram, FitsAllowance, FitsStream, TextsAreRead}
-use Rattle.job_text.proofs.NumberLists.{list_none, list_some, numbers_are, numbers_sorted}
+use Rattle.job_text.specs.Documents.{document, elements_of, with_table, with_tables, event_table, network_table, program_table, stream_end, stream_place, stream_rest, stream_members, stream_table, table_table}
+use Rattle.job_text.specs.Texts.{event_text, heading_text, network_text, network_if_any, program_text, stream_text, table_text}
+use Rattle.job_text.specs.Laws.{Fits, FitsEvent, FitsHeading, FitsNetwork, FitsProgram, FitsAllowance, FitsStream, FitsTable, TextsAreRead}
+use Rattle.job_text.proofs.FlatArrays.{list_none, list_some, numbers_are, numbers_sorted, digits_are, digits_sorted}
 use Rattle.job_text.proofs.Scalars.{AreScalars, IsScalar, scalar_lines, lines_are_text}
 use Rattle.job_text.proofs.TableArrays.{AreTables, element_lines, elements_are_text, pairs_past, sections_with, shallow, dated_past, sorted_past, before_tables}
 use Rattle.job_text.proofs.SingleTables.{IsTable, lines_if_any, expressions_if_any, table_is_text, pairs_past_table, sections_with_table, shallow_table, dated_past_table, sorted_past_table, before_table}
@@ -202,6 +202,18 @@ lines_with (Pace burst pace) s =
 stream_lines : (s : StreamPartView) → element_lines (codes "stream") (stream_table s) ≡ stream_text s
 stream_lines s = rw (lines_with s.allowance s) (simp append_assoc)
 
+-- a private table
+table_scalars : (t : TablePartView) → FitsTable t → AreScalars (table_table t)
+unfolding key_text
+table_scalars t h =
+    (refl, tt, (refl, small t.limit h.limit, (refl, small t.pid h.pid, (refl, small t.program h.program, (refl, digits_are t.sections, (refl, small t.stream_type h.stream_type, tt))))))
+
+table_sorted : (t : TablePartView) → members_are_sorted (table_table t) ≡ true
+table_sorted t = rw (digits_sorted t.sections) refl
+
+private_lines : (t : TablePartView) → element_lines (codes "table") (table_table t) ≡ table_text t
+private_lines t = simp (append_assoc, append-nil)
+
 -- lists of them
 each : {X : Type 0} (P : X → Type 0) (x : X) (xs : List X) → All P (x ∷ xs) → P x × All P xs
 each P x xs h = (h 0 x (omega arith), λ k d less. h (suc k) d (omega (arith, less)))
@@ -230,157 +242,192 @@ streams_lines : (ss : List StreamPartView) → flat_map (element_lines (codes "s
 streams_lines [] = refl
 streams_lines (s ∷ ss) = ap₂ (λ (a b : List ℕ). a ++ b) (stream_lines s) (streams_lines ss)
 
+private_tables : (ts : List TablePartView) → All FitsTable ts → AreTables (map table_table ts)
+private_tables [] h = tt
+private_tables (t ∷ ts) h = let e = each FitsTable t ts h in (table_scalars t e.0, table_sorted t, private_tables ts e.1)
+
+privates_lines : (ts : List TablePartView) → flat_map (element_lines (codes "table")) (map table_table ts) ≡ flat_map table_text ts
+privates_lines [] = refl
+privates_lines (t ∷ ts) = ap₂ (λ (a b : List ℕ). a ++ b) (private_lines t) (privates_lines ts)
+
 -- the heading
-heading_scalars : (h : HeadingView) → FitsHeading h → AreScalars (document h [] None [] [])
+heading_scalars : (h : HeadingView) → FitsHeading h → AreScalars (document h [] None [] [] [])
 unfolding key_text
 heading_scalars h f =
     (refl, small h.base0 f.base0, (refl, small h.original_network_id f.original_network_id, (refl, small h.rate f.rate, (refl, tt, (refl, tt, (refl, tt, (refl, small h.transport_stream_id f.transport_stream_id, tt)))))))
 
-heading_lines : (h : HeadingView) → scalar_lines (document h [] None [] []) ≡ heading_text h
+heading_lines : (h : HeadingView) → scalar_lines (document h [] None [] [] []) ≡ heading_text h
 heading_lines h = simp (append_assoc, append-nil)
 
--- the document after its network, after its programs, and after its streams
-abbrev after_streams : HeadingView → Members
-after_streams h = member (codes "tdt") (boolean h.tdt) (member (codes "ts_id") (integer (pos h.transport_stream_id)) no_members)
+-- the document after its streams, after its programs, after its network and after its events
+abbrev after_tables : HeadingView → Members
+after_tables h = member (codes "tdt") (boolean h.tdt) (member (codes "ts_id") (integer (pos h.transport_stream_id)) no_members)
 
-abbrev after_programs : HeadingView → List Members → Members
-after_programs h us =
+abbrev after_streams : HeadingView → List Members → Members
+after_streams h ws = with_tables (codes "table") ws (after_tables h)
+
+abbrev after_programs : HeadingView → List Members → List Members → Members
+after_programs h us ws =
     member (codes "rate") (integer (pos h.rate))
     (member (codes "sdt") (boolean h.sdt)
     (member (codes "start") (string h.start)
-    (with_tables (codes "stream") us (after_streams h))))
+    (with_tables (codes "stream") us (after_streams h ws))))
 
-abbrev after_network : HeadingView → List Members → List Members → Members
-after_network h ts us = member (codes "original_network_id") (integer (pos h.original_network_id)) (with_tables (codes "program") ts (after_programs h us))
+abbrev after_network : HeadingView → List Members → List Members → List Members → Members
+after_network h ts us ws =
+    member (codes "original_network_id") (integer (pos h.original_network_id)) (with_tables (codes "program") ts (after_programs h us ws))
 
-abbrev after_events : HeadingView → Option Members → List Members → List Members → Members
-after_events h n ts us = with_table (codes "network") n (after_network h ts us)
+abbrev after_events : HeadingView → Option Members → List Members → List Members → List Members → Members
+after_events h n ts us ws = with_table (codes "network") n (after_network h ts us ws)
 
-whole_pairs : (h : HeadingView) (es : List Members) (n : Option Members) (ts us : List Members) → pairs (document h es n ts us) ≡ pairs (document h [] None [] [])
-whole_pairs h es n ts us =
+whole_pairs : (h : HeadingView) (es : List Members) (n : Option Members) (ts us ws : List Members) → pairs (document h es n ts us ws) ≡ pairs (document h [] None [] [] [])
+whole_pairs h es n ts us ws =
     rw (
-      pairs_past (codes "event") es (after_events h n ts us),
-      pairs_past_table (codes "network") n (after_network h ts us),
-      pairs_past (codes "program") ts (after_programs h us),
-      pairs_past (codes "stream") us (after_streams h),
+      pairs_past (codes "event") es (after_events h n ts us ws),
+      pairs_past_table (codes "network") n (after_network h ts us ws),
+      pairs_past (codes "program") ts (after_programs h us ws),
+      pairs_past (codes "stream") us (after_streams h ws),
+      pairs_past (codes "table") ws (after_tables h),
     )
 
 -- its tables
-abbrev tables : Option Members → List Members → List Members → List Expression
-tables n ts us = expressions_if_any (codes "network") n ++ (elements ([], codes "program") (elements_of ts) ++ (elements ([], codes "stream") (elements_of us) ++ []))
+abbrev arrays : List Members → List Members → List Members → List Expression
+arrays ts us ws = elements ([], codes "program") (elements_of ts) ++ (elements ([], codes "stream") (elements_of us) ++ (elements ([], codes "table") (elements_of ws) ++ []))
 
-abbrev table_lines : Option Members → List Members → List Members → List ℕ
-table_lines n ts us = lines_if_any (codes "network") n ++ (flat_map (element_lines (codes "program")) ts ++ flat_map (element_lines (codes "stream")) us)
+abbrev array_lines : List Members → List Members → List Members → List ℕ
+array_lines ts us ws = flat_map (element_lines (codes "program")) ts ++ (flat_map (element_lines (codes "stream")) us ++ flat_map (element_lines (codes "table")) ws)
 
-abbrev all_tables_of : List Members → Option Members → List Members → List Members → List Expression
-all_tables_of es n ts us = elements ([], codes "event") (elements_of es) ++ tables n ts us
+abbrev tables : Option Members → List Members → List Members → List Members → List Expression
+tables n ts us ws = expressions_if_any (codes "network") n ++ arrays ts us ws
 
-abbrev all_lines : List Members → Option Members → List Members → List Members → List ℕ
-all_lines es n ts us = flat_map (element_lines (codes "event")) es ++ table_lines n ts us
+abbrev table_lines : Option Members → List Members → List Members → List Members → List ℕ
+table_lines n ts us ws = lines_if_any (codes "network") n ++ array_lines ts us ws
 
-whole_sections : (h : HeadingView) (es : List Members) (n : Option Members) (ts us : List Members) → sections [] (document h es n ts us) ≡ all_tables_of es n ts us
-whole_sections h es n ts us =
+abbrev all_tables_of : List Members → Option Members → List Members → List Members → List Members → List Expression
+all_tables_of es n ts us ws = elements ([], codes "event") (elements_of es) ++ tables n ts us ws
+
+abbrev all_lines : List Members → Option Members → List Members → List Members → List Members → List ℕ
+all_lines es n ts us ws = flat_map (element_lines (codes "event")) es ++ table_lines n ts us ws
+
+whole_sections : (h : HeadingView) (es : List Members) (n : Option Members) (ts us ws : List Members) → sections [] (document h es n ts us ws) ≡ all_tables_of es n ts us ws
+whole_sections h es n ts us ws =
     rw (
-      sections_with (codes "event") es (after_events h n ts us),
-      sections_with_table (codes "network") n (after_network h ts us),
-      sections_with (codes "program") ts (after_programs h us),
-      sections_with (codes "stream") us (after_streams h),
+      sections_with (codes "event") es (after_events h n ts us ws),
+      sections_with_table (codes "network") n (after_network h ts us ws),
+      sections_with (codes "program") ts (after_programs h us ws),
+      sections_with (codes "stream") us (after_streams h ws),
+      sections_with (codes "table") ws (after_tables h),
     )
 
 begun : (es : List Expression) → 1 ≤ length es → after false es ≡ true
 begun es some = grind (arith, nat_tests)
 
-arrays_are_text : (ts us : List Members) → AreTables ts → AreTables us
-    → IsLinesText false true (elements ([], codes "program") (elements_of ts) ++ (elements ([], codes "stream") (elements_of us) ++ []))
-    (flat_map (element_lines (codes "program")) ts ++ flat_map (element_lines (codes "stream")) us)
+last_is_text : (ws : List Members) → AreTables ws
+    → IsLinesText false true (elements ([], codes "table") (elements_of ws) ++ []) (flat_map (element_lines (codes "table")) ws)
 unfolding key_text
-arrays_are_text ts us a b =
+last_is_text ws w =
+    subst (λ (es : List Expression). IsLinesText false true es (flat_map (element_lines (codes "table")) ws)) (sym (append-nil (elements ([], codes "table") (elements_of ws))))
+    (elements_are_text (codes "table") ws refl w)
+
+arrays_are_text : (ts us ws : List Members) → AreTables ts → AreTables us → AreTables ws → IsLinesText false true (arrays ts us ws) (array_lines ts us ws)
+unfolding key_text
+arrays_are_text ts us ws a b w =
     let programs = elements_are_text (codes "program") ts refl a in
     let streams = elements_are_text (codes "stream") us refl b in
-    let last : IsLinesText false true (elements ([], codes "stream") (elements_of us) ++ []) (flat_map (element_lines (codes "stream")) us) =
-    subst (λ (es : List Expression). IsLinesText false true es (flat_map (element_lines (codes "stream")) us)) (sym (append-nil (elements ([], codes "stream") (elements_of us)))) streams in
-    IsLinesText-append false true (elements ([], codes "program") (elements_of ts)) (elements ([], codes "stream") (elements_of us) ++ [])
-    (flat_map (element_lines (codes "program")) ts) (flat_map (element_lines (codes "stream")) us) programs last
+    let two = IsLinesText-append false true (elements ([], codes "stream") (elements_of us)) (elements ([], codes "table") (elements_of ws) ++ [])
+    (flat_map (element_lines (codes "stream")) us) (flat_map (element_lines (codes "table")) ws) streams (last_is_text ws w) in
+    IsLinesText-append false true (elements ([], codes "program") (elements_of ts)) (elements ([], codes "stream") (elements_of us) ++ (elements ([], codes "table") (elements_of ws) ++ []))
+    (flat_map (element_lines (codes "program")) ts) (flat_map (element_lines (codes "stream")) us ++ flat_map (element_lines (codes "table")) ws) programs two
 
-tables_are_text : (n : Option Members) (ts us : List Members) → IsTable n → AreTables ts → AreTables us → IsLinesText false true (tables n ts us) (table_lines n ts us)
+tables_are_text : (n : Option Members) (ts us ws : List Members) → IsTable n → AreTables ts → AreTables us → AreTables ws → IsLinesText false true (tables n ts us ws) (table_lines n ts us ws)
 unfolding key_text
-tables_are_text n ts us t a b =
-    IsLinesText-append false true (expressions_if_any (codes "network") n) (elements ([], codes "program") (elements_of ts) ++ (elements ([], codes "stream") (elements_of us) ++ []))
-    (lines_if_any (codes "network") n) (flat_map (element_lines (codes "program")) ts ++ flat_map (element_lines (codes "stream")) us)
-    (table_is_text (codes "network") n refl t) (arrays_are_text ts us a b)
+tables_are_text n ts us ws t a b w =
+    IsLinesText-append false true (expressions_if_any (codes "network") n) (arrays ts us ws)
+    (lines_if_any (codes "network") n) (array_lines ts us ws)
+    (table_is_text (codes "network") n refl t) (arrays_are_text ts us ws a b w)
 
-all_are_text : (es : List Members) (n : Option Members) (ts us : List Members) → AreTables es → IsTable n → AreTables ts → AreTables us
-    → IsLinesText false true (all_tables_of es n ts us) (all_lines es n ts us)
+all_are_text : (es : List Members) (n : Option Members) (ts us ws : List Members) → AreTables es → IsTable n → AreTables ts → AreTables us → AreTables ws
+    → IsLinesText false true (all_tables_of es n ts us ws) (all_lines es n ts us ws)
 unfolding key_text
-all_are_text es n ts us e t a b =
-    IsLinesText-append false true (elements ([], codes "event") (elements_of es)) (tables n ts us)
-    (flat_map (element_lines (codes "event")) es) (table_lines n ts us)
-    (elements_are_text (codes "event") es refl e) (tables_are_text n ts us t a b)
+all_are_text es n ts us ws e t a b w =
+    IsLinesText-append false true (elements ([], codes "event") (elements_of es)) (tables n ts us ws)
+    (flat_map (element_lines (codes "event")) es) (table_lines n ts us ws)
+    (elements_are_text (codes "event") es refl e) (tables_are_text n ts us ws t a b w)
 
-document_is_text : (h : HeadingView) (es : List Members) (n : Option Members) (ts us : List Members) → FitsHeading h → AreTables es → IsTable n → AreTables ts → AreTables us
-    → IsDocumentText false (document h es n ts us) (heading_text h ++ all_lines es n ts us)
-document_is_text h es n ts us f e t a b =
-    let head = pairs (document h [] None [] []) in
-    let rest = all_tables_of es n ts us in
-    let text = all_lines es n ts us in
+document_is_text : (h : HeadingView) (es : List Members) (n : Option Members) (ts us ws : List Members) → FitsHeading h → AreTables es → IsTable n → AreTables ts → AreTables us → AreTables ws
+    → IsDocumentText false (document h es n ts us ws) (heading_text h ++ all_lines es n ts us ws)
+document_is_text h es n ts us ws f e t a b w =
+    let head = pairs (document h [] None [] [] []) in
+    let rest = all_tables_of es n ts us ws in
+    let text = all_lines es n ts us ws in
     let first : IsLinesText false false head (heading_text h) =
-    subst (λ (t : List ℕ). IsLinesText false false head t) (heading_lines h) (lines_are_text false (document h [] None [] []) (heading_scalars h f)) in
+    subst (λ (t : List ℕ). IsLinesText false false head t) (heading_lines h) (lines_are_text false (document h [] None [] [] []) (heading_scalars h f)) in
     let second : IsLinesText false (after false head) rest text =
-    subst (λ (s : Bool). IsLinesText false s rest text) (sym (begun head (omega arith))) (all_are_text es n ts us e t a b) in
+    subst (λ (s : Bool). IsLinesText false s rest text) (sym (begun head (omega arith))) (all_are_text es n ts us ws e t a b w) in
     let whole = IsLinesText-append false false head rest (heading_text h) text first second in
-    let same : expressions (document h es n ts us) ≡ head ++ rest = ap₂ (λ (xs ys : List Expression). xs ++ ys) (whole_pairs h es n ts us) (whole_sections h es n ts us) in
+    let same : expressions (document h es n ts us ws) ≡ head ++ rest = ap₂ (λ (xs ys : List Expression). xs ++ ys) (whole_pairs h es n ts us ws) (whole_sections h es n ts us ws) in
     subst (λ (es : List Expression). IsLinesText false false es (heading_text h ++ text)) (sym same) whole
 
-document_shallow : (h : HeadingView) (es : List Members) (n : Option Members) (ts us : List Members) → AreTables es → IsTable n → AreTables ts → AreTables us → members_depth (document h es n ts us) ≤ 80
-document_shallow h es n ts us e t a b =
-    let last : members_depth (after_streams h) ≤ 3 = grind (arith, nat_tests) in
-    let inner = shallow (codes "stream") us (after_streams h) b last in
-    let middle : members_depth (after_programs h us) ≤ 3 = grind (arith, nat_tests) in
-    let outer = shallow (codes "program") ts (after_programs h us) a middle in
-    let named : members_depth (after_network h ts us) ≤ 3 = grind (arith, nat_tests) in
-    let within : members_depth (after_events h n ts us) ≤ 3 = shallow_table (codes "network") n (after_network h ts us) t named in
-    let all = shallow (codes "event") es (after_events h n ts us) e within in
+document_shallow : (h : HeadingView) (es : List Members) (n : Option Members) (ts us ws : List Members) → AreTables es → IsTable n → AreTables ts → AreTables us → AreTables ws →
+    members_depth (document h es n ts us ws) ≤ 80
+document_shallow h es n ts us ws e t a b w =
+    let last : members_depth (after_tables h) ≤ 3 = grind (arith, nat_tests) in
+    let private = shallow (codes "table") ws (after_tables h) w last in
+    let inner = shallow (codes "stream") us (after_streams h ws) b private in
+    let middle : members_depth (after_programs h us ws) ≤ 3 = grind (arith, nat_tests) in
+    let outer = shallow (codes "program") ts (after_programs h us ws) a middle in
+    let named : members_depth (after_network h ts us ws) ≤ 3 = grind (arith, nat_tests) in
+    let within : members_depth (after_events h n ts us ws) ≤ 3 = shallow_table (codes "network") n (after_network h ts us ws) t named in
+    let all = shallow (codes "event") es (after_events h n ts us ws) e within in
     grind (arith, nat_tests)
 
-document_dated : (h : HeadingView) (es : List Members) (n : Option Members) (ts us : List Members) → AreTables es → IsTable n → AreTables ts → AreTables us → members_have_valid_dates (document h es n ts us) ≡ true
-document_dated h es n ts us e t a b =
+document_dated : (h : HeadingView) (es : List Members) (n : Option Members) (ts us ws : List Members) → AreTables es → IsTable n → AreTables ts → AreTables us → AreTables ws →
+    members_have_valid_dates (document h es n ts us ws) ≡ true
+document_dated h es n ts us ws e t a b w =
     rw (
-      dated_past (codes "event") es (after_events h n ts us) e,
-      dated_past_table (codes "network") n (after_network h ts us) t,
-      dated_past (codes "program") ts (after_programs h us) a,
-      dated_past (codes "stream") us (after_streams h) b,
+      dated_past (codes "event") es (after_events h n ts us ws) e,
+      dated_past_table (codes "network") n (after_network h ts us ws) t,
+      dated_past (codes "program") ts (after_programs h us ws) a,
+      dated_past (codes "stream") us (after_streams h ws) b,
+      dated_past (codes "table") ws (after_tables h) w,
     )
 
-before_events : (other : List ℕ) (h : HeadingView) (n : Option Members) (ts us : List Members) → is_lt (slice_cmp nat_cmp other (codes "network")) ≡ true
-    → is_lt (slice_cmp nat_cmp other (codes "original_network_id")) ≡ true → is_before other (after_events h n ts us) ≡ true
-before_events other h n ts us first last = before_table other (codes "network") n (after_network h ts us) first last
+before_events : (other : List ℕ) (h : HeadingView) (n : Option Members) (ts us ws : List Members) → is_lt (slice_cmp nat_cmp other (codes "network")) ≡ true
+    → is_lt (slice_cmp nat_cmp other (codes "original_network_id")) ≡ true → is_before other (after_events h n ts us ws) ≡ true
+before_events other h n ts us ws first last = before_table other (codes "network") n (after_network h ts us ws) first last
 
-document_sorted : (h : HeadingView) (es : List Members) (n : Option Members) (ts us : List Members) → AreTables es → IsTable n → AreTables ts → AreTables us → members_are_sorted (document h es n ts us) ≡ true
-document_sorted h es n ts us e t a b =
+document_sorted : (h : HeadingView) (es : List Members) (n : Option Members) (ts us ws : List Members) → AreTables es → IsTable n → AreTables ts → AreTables us → AreTables ws →
+    members_are_sorted (document h es n ts us ws) ≡ true
+document_sorted h es n ts us ws e t a b w =
     rw (
-      before_tables (codes "base0") (codes "event") es (after_events h n ts us) refl (before_events (codes "base0") h n ts us refl refl),
-      sorted_past (codes "event") es (after_events h n ts us) (before_events (codes "event") h n ts us refl refl) e,
-      sorted_past_table (codes "network") n (after_network h ts us) refl t,
-      before_tables (codes "original_network_id") (codes "program") ts (after_programs h us) refl refl,
-      sorted_past (codes "program") ts (after_programs h us) refl a,
-      before_tables (codes "start") (codes "stream") us (after_streams h) refl refl,
-      sorted_past (codes "stream") us (after_streams h) refl b,
+      before_tables (codes "base0") (codes "event") es (after_events h n ts us ws) refl (before_events (codes "base0") h n ts us ws refl refl),
+      sorted_past (codes "event") es (after_events h n ts us ws) (before_events (codes "event") h n ts us ws refl refl) e,
+      sorted_past_table (codes "network") n (after_network h ts us ws) refl t,
+      before_tables (codes "original_network_id") (codes "program") ts (after_programs h us ws) refl refl,
+      sorted_past (codes "program") ts (after_programs h us ws) refl a,
+      before_tables (codes "start") (codes "stream") us (after_streams h ws) refl (before_tables (codes "start") (codes "table") ws (after_tables h) refl refl),
+      sorted_past (codes "stream") us (after_streams h ws) (before_tables (codes "stream") (codes "table") ws (after_tables h) refl refl) b,
+      sorted_past (codes "table") ws (after_tables h) refl w,
     )
 
 pub texts_are_read : TextsAreRead
-texts_are_read h es n ps ss f e m p s =
+texts_are_read h es n ps ss qs f e m p s q =
     let vs = map event_table es in
     let t = option_map network_table n in
     let ts = map program_table ps in
     let us = map stream_table ss in
+    let ws = map table_table qs in
     let ev = event_tables es e in
     let fits = network_table_fits n m in
     let a = program_tables ps p in
     let b = stream_tables ss s in
-    let rest : table_lines t ts us ≡ network_if_any n ++ (flat_map program_text ps ++ flat_map stream_text ss) =
-    ap₂ (λ (xs ys : List ℕ). xs ++ ys) (network_lines_if_any n) (ap₂ (λ (xs ys : List ℕ). xs ++ ys) (programs_lines ps) (streams_lines ss)) in
-    let lines : all_lines vs t ts us ≡ flat_map event_text es ++ (network_if_any n ++ (flat_map program_text ps ++ flat_map stream_text ss)) =
+    let w = private_tables qs q in
+    let arrays : array_lines ts us ws ≡ flat_map program_text ps ++ (flat_map stream_text ss ++ flat_map table_text qs) =
+    ap₂ (λ (xs ys : List ℕ). xs ++ ys) (programs_lines ps) (ap₂ (λ (xs ys : List ℕ). xs ++ ys) (streams_lines ss) (privates_lines qs)) in
+    let rest : table_lines t ts us ws ≡ network_if_any n ++ (flat_map program_text ps ++ (flat_map stream_text ss ++ flat_map table_text qs)) =
+    ap₂ (λ (xs ys : List ℕ). xs ++ ys) (network_lines_if_any n) arrays in
+    let lines : all_lines vs t ts us ws ≡ flat_map event_text es ++ (network_if_any n ++ (flat_map program_text ps ++ (flat_map stream_text ss ++ flat_map table_text qs))) =
     ap₂ (λ (xs ys : List ℕ). xs ++ ys) (events_lines es) rest in
-    let text : IsDocumentText false (document h vs t ts us) (heading_text h ++ (flat_map event_text es ++ (network_if_any n ++ (flat_map program_text ps ++ flat_map stream_text ss)))) =
-    subst (λ (l : List ℕ). IsDocumentText false (document h vs t ts us) (heading_text h ++ l)) lines (document_is_text h vs t ts us f ev fits a b) in
-    parse_document-printed false (document h vs t ts us) _ text (document_shallow h vs t ts us ev fits a b) (document_dated h vs t ts us ev fits a b) (document_sorted h vs t ts us ev fits a b)
+    let text : IsDocumentText false (document h vs t ts us ws) (heading_text h ++ (flat_map event_text es ++ (network_if_any n ++ (flat_map program_text ps ++ (flat_map stream_text ss ++ flat_map table_text qs))))) =
+    subst (λ (l : List ℕ). IsDocumentText false (document h vs t ts us ws) (heading_text h ++ l)) lines (document_is_text h vs t ts us ws f ev fits a b w) in
+    parse_document-printed false (document h vs t ts us ws) _ text (document_shallow h vs t ts us ws ev fits a b w) (document_dated h vs t ts us ws ev fits a b w) (document_sorted h vs t ts us ws ev fits a b w)

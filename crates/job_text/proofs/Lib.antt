@@ -1,4 +1,4 @@
-pub mod NumberLists
+pub mod FlatArrays
 pub mod Scalars
 pub mod TableArrays
 pub mod SingleTables

@@ -1,4 +1,4 @@
--- Tables of strings, numbers, truth values and arrays of numbers, as lines.
+-- Tables of strings, numbers, truth values and flat arrays, as lines.
 use Rattle.std.proofs.Common.{◌≡◌, ℕ, ◌≤◌, max, Bool, true, false, List, [], ◌++◌, refl, arith}
 use Rattle.std.proofs.lemmas.Bool.Decides.{nat_tests}
 use Rattle.std.specs.Int.{w64}
@@ -8,14 +8,14 @@ use Rattle.toml.specs.Data.{Data, string, integer, float, boolean, datetime, arr
 use Rattle.toml.specs.Tables.{key_value}
 use Rattle.toml.specs.Text.{IsLineText, IsLinesText, IsValueText, pairs, sections, is_section}
 use Rattle.job_text.specs.KeyLines.{value_text, key_line}
-use Rattle.job_text.proofs.NumberLists.{AreNumbers, array_is_text, array_is_no_section, no_array_section, array_low, array_dated}
+use Rattle.job_text.proofs.FlatArrays.{AreFlat, array_is_text, array_is_no_section, no_array_section, array_low, array_dated}
 
 -- a value that stands on one line
 abbrev pub IsScalar : Data → Type 0
 IsScalar (string s) = Unit {0}
 IsScalar (integer z) = FitsSigned w64 z
 IsScalar (boolean b) = Unit {0}
-IsScalar (array ds) = AreNumbers ds
+IsScalar (array ds) = AreFlat ds
 IsScalar _ = ⊥
 
 -- each value of a table is one, at a key that needs no quotes

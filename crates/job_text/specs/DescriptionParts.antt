@@ -1,11 +1,12 @@
 -- The parts of a service description: numbers, and texts and descriptors as lists.
-use Rattle.std.specs.Prelude.{ℕ, Bool, List}
+use Rattle.std.specs.Prelude.{ℕ, Bool, List, map}
 use Rattle.unit_timing.specs.declared.allowance.Allowance.{Allowance}
 use Rattle.job_text.specs.declared.event_part.EventPart.{EventPart}
 use Rattle.job_text.specs.declared.heading.Heading.{Heading}
 use Rattle.job_text.specs.declared.network_part.NetworkPart.{NetworkPart}
 use Rattle.job_text.specs.declared.program_part.ProgramPart.{ProgramPart}
 use Rattle.job_text.specs.declared.stream_part.StreamPart.{StreamPart}
+use Rattle.job_text.specs.declared.table_part.TablePart.{TablePart}
 
 pub record HeadingView : Type 0 where
   pub rate : ℕ
@@ -53,6 +54,14 @@ pub record StreamPartView : Type 0 where
   pub descriptors : List ℕ
   pub allowance : Allowance
   pub shared_with : List ℕ
+
+pub record TablePartView : Type 0 where
+  pub pid : ℕ
+  pub limit : ℕ
+  pub sections : List (List ℕ)
+  pub program : ℕ
+  pub stream_type : ℕ
+  pub descriptors : List ℕ
 
 -- the parts of the code as lists and numbers
 abbrev pub heading_view : Heading → HeadingView
@@ -106,4 +115,14 @@ stream_view s = record {
   descriptors = s.descriptors.now;
   allowance = s.allowance;
   shared_with = s.shared_with.now;
+}
+
+abbrev pub table_view : TablePart → TablePartView
+table_view t = record {
+  pid = t.pid;
+  limit = t.limit;
+  sections = map (λ s. s.items) t.sections.now;
+  program = t.program;
+  stream_type = t.stream_type;
+  descriptors = t.descriptors.now;
 }

@@ -1,10 +1,11 @@
 -- What the texts say, as tables of TOML.
 use Rattle.std.specs.Prelude.{ℕ, pos, List, [], ◌∷◌, codes, Option, Some, None}
+use Rattle.hex.specs.Hex.{encode_lower}
 use Rattle.toml.specs.Data.{string, integer, boolean, array, table, Items, no_items, item, Members, no_members, member}
 use Rattle.unit_timing.specs.declared.allowance.Allowance.{Allowance}
-use Rattle.job_text.specs.DescriptionParts.{EventPartView, HeadingView, NetworkPartView, ProgramPartView, StreamPartView}
-use Rattle.job_text.specs.KeyLines.{with_numbers, with_hex, with_list}
-use Rattle.job_text.specs.Fields.{program_numbers, burst_numbers, group_numbers, time_numbers, pace_numbers, place_numbers, last_numbers}
+use Rattle.job_text.specs.DescriptionParts.{EventPartView, HeadingView, NetworkPartView, ProgramPartView, StreamPartView, TablePartView}
+use Rattle.job_text.specs.KeyLines.{with_numbers, with_hex, with_list, digits_of}
+use Rattle.job_text.specs.Fields.{program_numbers, burst_numbers, group_numbers, time_numbers, pace_numbers, place_numbers, last_numbers, table_numbers}
 
 -- tables as the elements of an array
 abbrev pub elements_of : List Members → Items
@@ -58,9 +59,16 @@ stream_members a s = with_numbers (burst_numbers a) (with_hex (codes "descriptor
 abbrev pub stream_table : StreamPartView → Members
 stream_table s = stream_members s.allowance s
 
--- a description of this heading, with the tables of its events, its network, its programs and its streams
-abbrev pub document : HeadingView → List Members → Option Members → List Members → List Members → Members
-document h events network programs streams =
+abbrev pub table_table : TablePartView → Members
+table_table t =
+    member (codes "descriptors") (string (encode_lower t.descriptors))
+    (with_numbers (table_numbers t)
+    (member (codes "sections") (array (digits_of t.sections))
+    (member (codes "stream_type") (integer (pos t.stream_type)) no_members)))
+
+-- a description of this heading, with the tables of its events, its network, its programs, its streams and its private tables
+abbrev pub document : HeadingView → List Members → Option Members → List Members → List Members → List Members → Members
+document h events network programs streams tables =
     member (codes "base0") (integer (pos h.base0))
     (with_tables (codes "event") events
     (with_table (codes "network") network
@@ -70,5 +78,6 @@ document h events network programs streams =
     (member (codes "sdt") (boolean h.sdt)
     (member (codes "start") (string h.start)
     (with_tables (codes "stream") streams
+    (with_tables (codes "table") tables
     (member (codes "tdt") (boolean h.tdt)
-    (member (codes "ts_id") (integer (pos h.transport_stream_id)) no_members))))))))))
+    (member (codes "ts_id") (integer (pos h.transport_stream_id)) no_members)))))))))))

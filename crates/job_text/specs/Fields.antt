@@ -2,7 +2,7 @@
 use Rattle.std.specs.Prelude.{ℕ, List, [], ◌∷◌, codes}
 use Rattle.unit_timing.specs.declared.allowance.Allowance.{Allowance}
 use Rattle.unit_timing.specs.declared.allowance.Allowance.TheVariants.{Groups, Pace}
-use Rattle.job_text.specs.DescriptionParts.{HeadingView, ProgramPartView, StreamPartView}
+use Rattle.job_text.specs.DescriptionParts.{HeadingView, ProgramPartView, StreamPartView, TablePartView}
 
 -- of a heading, up to the array `program`
 abbrev pub first_numbers : HeadingView → List (List ℕ × ℕ)
@@ -45,3 +45,7 @@ place_numbers s = (codes "pid", s.pid) ∷ (codes "program", s.program) ∷ (cod
 -- and the last
 abbrev pub last_numbers : StreamPartView → List (List ℕ × ℕ)
 last_numbers s = (codes "size", s.size) ∷ (codes "type", s.stream_type) ∷ []
+
+-- of a table, between its descriptors and its sections
+abbrev pub table_numbers : TablePartView → List (List ℕ × ℕ)
+table_numbers t = (codes "limit", t.limit) ∷ (codes "pid", t.pid) ∷ (codes "program", t.program) ∷ []

@@ -72,6 +72,19 @@ abbrev pub with_list : List ℕ → List ℕ → Members → Members
 with_list key [] more = more
 with_list key (n ∷ ns) more = member key (array (items_of (n ∷ ns))) more
 
+-- bytes as strings of hexadecimal digits, the elements of an array
+abbrev pub digits_of : List (List ℕ) → Items
+digits_of [] = no_items
+digits_of (b ∷ bs) = item (string (encode_lower b)) (digits_of bs)
+
+-- such a string after another one
+abbrev pub next_digits : List ℕ → List ℕ
+next_digits b = codes ", " ++ string_text (encode_lower b)
+
+-- the array of one and others after it
+abbrev pub digits_line : List ℕ → List ℕ → List (List ℕ) → List ℕ
+digits_line key b bs = (key ++ (codes " = [" ++ string_text (encode_lower b))) ++ (flat_map next_digits bs ++ codes "]\n")
+
 -- an empty line, and the header of a table
 unfoldable pub table_header : List ℕ → List ℕ
 table_header key = codes "\n[" ++ (key ++ codes "]\n")

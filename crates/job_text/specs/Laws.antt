@@ -4,9 +4,9 @@ use Rattle.std.specs.List.{flat_map}
 use Rattle.toml.specs.Parse.{parse_document}
 use Rattle.unit_timing.specs.declared.allowance.Allowance.{Allowance}
 use Rattle.unit_timing.specs.declared.allowance.Allowance.TheVariants.{Groups, Pace}
-use Rattle.job_text.specs.DescriptionParts.{EventPartView, HeadingView, NetworkPartView, ProgramPartView, StreamPartView}
-use Rattle.job_text.specs.Documents.{document, event_table, network_table, program_table, stream_table}
-use Rattle.job_text.specs.Texts.{event_text, heading_text, network_if_any, program_text, stream_text}
+use Rattle.job_text.specs.DescriptionParts.{EventPartView, HeadingView, NetworkPartView, ProgramPartView, StreamPartView, TablePartView}
+use Rattle.job_text.specs.Documents.{document, event_table, network_table, program_table, stream_table, table_table}
+use Rattle.job_text.specs.Texts.{event_text, heading_text, network_if_any, program_text, stream_text, table_text}
 
 -- TOML's numbers have 64 bits with a sign
 abbrev pub Fits : ℕ → Type 0
@@ -55,10 +55,17 @@ pub record FitsStream (s : StreamPartView) : Type 0 where
   pub size : Fits s.size
   pub stream_type : Fits s.stream_type
 
--- a heading's text, the events', the network's, the programs' and the streams' are one document
+-- those of a table
+pub record FitsTable (t : TablePartView) : Type 0 where
+  pub limit : Fits t.limit
+  pub pid : Fits t.pid
+  pub program : Fits t.program
+  pub stream_type : Fits t.stream_type
+
+-- the texts of a heading, of events, of a network, of programs, of streams and of tables are one document
 abbrev pub TextsAreRead : Type 0
 TextsAreRead =
-    (h : HeadingView) (es : List EventPartView) (n : Option NetworkPartView) (ps : List ProgramPartView) (ss : List StreamPartView)
-    → FitsHeading h → All FitsEvent es → FitsNetwork n → All FitsProgram ps → All FitsStream ss
-    → parse_document (heading_text h ++ (flat_map event_text es ++ (network_if_any n ++ (flat_map program_text ps ++ flat_map stream_text ss))))
-    ≡ Some (document h (map event_table es) (option_map network_table n) (map program_table ps) (map stream_table ss))
+    (h : HeadingView) (es : List EventPartView) (n : Option NetworkPartView) (ps : List ProgramPartView) (ss : List StreamPartView) (ts : List TablePartView)
+    → FitsHeading h → All FitsEvent es → FitsNetwork n → All FitsProgram ps → All FitsStream ss → All FitsTable ts
+    → parse_document (heading_text h ++ (flat_map event_text es ++ (network_if_any n ++ (flat_map program_text ps ++ (flat_map stream_text ss ++ flat_map table_text ts)))))
+    ≡ Some (document h (map event_table es) (option_map network_table n) (map program_table ps) (map stream_table ss) (map table_table ts))

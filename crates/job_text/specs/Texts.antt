@@ -1,9 +1,10 @@
 -- The texts of a service description's parts: every key on its line, in ascending order.
 use Rattle.std.specs.Prelude.{ℕ, List, [], ◌∷◌, ◌++◌, codes, Option, Some, None}
-use Rattle.toml.specs.Data.{string, boolean}
-use Rattle.job_text.specs.DescriptionParts.{EventPartView, HeadingView, NetworkPartView, ProgramPartView, StreamPartView}
-use Rattle.job_text.specs.KeyLines.{key_line, number_line, number_lines, hex_line, list_line, table_header, header}
-use Rattle.job_text.specs.Fields.{first_numbers, program_numbers, burst_numbers, group_numbers, time_numbers, pace_numbers, place_numbers, last_numbers}
+use Rattle.hex.specs.Hex.{encode_lower}
+use Rattle.toml.specs.Data.{string, boolean, array}
+use Rattle.job_text.specs.DescriptionParts.{EventPartView, HeadingView, NetworkPartView, ProgramPartView, StreamPartView, TablePartView}
+use Rattle.job_text.specs.KeyLines.{key_line, number_line, number_lines, hex_line, list_line, digits_of, table_header, header}
+use Rattle.job_text.specs.Fields.{first_numbers, program_numbers, burst_numbers, group_numbers, time_numbers, pace_numbers, place_numbers, last_numbers, table_numbers}
 
 -- the keys of the document itself
 abbrev pub heading_text : HeadingView → List ℕ
@@ -65,3 +66,14 @@ stream_back s = number_lines (place_numbers s) ++ (list_line (codes "shared_with
 -- an element of the array `stream`
 abbrev pub stream_text : StreamPartView → List ℕ
 stream_text s = stream_front s ++ (stream_times s ++ stream_back s)
+
+-- of a table: the lines up to its program, and the last two
+abbrev pub table_front : TablePartView → List ℕ
+table_front t = header (codes "table") ++ (key_line (codes "descriptors") (string (encode_lower t.descriptors)) ++ number_lines (table_numbers t))
+
+abbrev pub table_back : TablePartView → List ℕ
+table_back t = key_line (codes "sections") (array (digits_of t.sections)) ++ number_line (codes "stream_type", t.stream_type)
+
+-- an element of the array `table`
+abbrev pub table_text : TablePartView → List ℕ
+table_text t = table_front t ++ table_back t

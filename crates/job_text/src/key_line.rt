@@ -1,12 +1,14 @@
 //! A key with its value, on a line.
 
-ghost use Rattle.std.specs.Prelude.{◌≡◌, ◌++◌, OnOk, string_bytes};
+ghost use Rattle.std.specs.Prelude.{◌≡◌, ◌++◌, OnOk, codes, map, string_bytes};
+ghost use Rattle.hex.specs.Hex.{encode_lower};
+ghost use Rattle.toml_writer.specs.Text.{string_text};
 ghost use Rattle.std.specs.List.{flat_map};
-ghost use Rattle.toml.specs.Data.{string, boolean};
+ghost use Rattle.toml.specs.Data.{string, boolean, array};
 ghost use Rattle.job_text.specs.KeyLines.{key_line, number_line, field_line, table_header, header, hex_line, list_line};
-ghost use Rattle.job_text.specs.KeyLines.{next_number, array_line};
+ghost use Rattle.job_text.specs.KeyLines.{next_number, array_line, digits_of, next_digits};
 
-use std::alloc::{AllocError, Allocator};
+use std::alloc::{AllocError, Allocator, Global};
 use std::fmt;
 use std::fmt::Write;
 
@@ -123,7 +125,7 @@ fn write_array<A: Allocator>(
 }
 
 /// Numbers as an array, and no line if there are none.
-#[tactic(auto, using(crate::proofs::NumberLists::list_written), unfolding(crate::specs::KeyLines::list_line))]
+#[tactic(auto, using(crate::proofs::FlatArrays::list_written), unfolding(crate::specs::KeyLines::list_line))]
 pub(crate) fn write_list<A: Allocator>(
     text: &mut String<A>,
     key: &str,
@@ -134,6 +136,88 @@ pub(crate) fn write_list<A: Allocator>(
     match numbers.split_first() {
         None => Ok(()),
         Some((first, others)) => write_array(text, key, *first, others),
+    }
+}
+
+/// Bytes as pairs of lower-case hexadecimal digits, also if there are none.
+pub(crate) fn write_digits(
+    alloc: Global,
+    text: &mut String,
+    key: &str,
+    bytes: &[u8],
+) -> Result<(), AllocError>
+    ensures { OnOk result (string_bytes text.new
+        ≡ string_bytes text.old ++ key_line key.now (string (encode_lower bytes.now))) }
+{
+    let digits = hex::encode(alloc, bytes)?;
+    write_string(text, key, digits.as_str())
+}
+
+// Bytes as a string of digits after another one.
+fn write_next(alloc: Global, text: &mut String, bytes: &[u8]) -> Result<(), AllocError>
+    ensures { OnOk result (string_bytes text.new ≡ string_bytes text.old ++ next_digits bytes.now) }
+{
+    let digits = hex::encode(alloc, bytes)?;
+    let value = Quoted {
+        text: digits.as_str(),
+    };
+    write!(text, ", {value}")
+}
+
+// The strings of an array after its first.
+fn write_next_digits(alloc: Global, text: &mut String, parts: &[Vec<u8>]) -> Result<(), AllocError>
+    ensures { OnOk result (string_bytes text.new
+        ≡ string_bytes text.old ++ flat_map (λ b. next_digits b.items) parts.now) }
+{
+    for part in parts {
+        write_next(alloc, text, part)?;
+    }
+    Ok(())
+}
+
+// A key with the first string of an array.
+fn write_first(alloc: Global, text: &mut String, key: &str, bytes: &[u8]) -> Result<(), AllocError>
+    ensures { OnOk result (string_bytes text.new
+        ≡ string_bytes text.old ++ (key.now ++ (codes " = [" ++ string_text (encode_lower bytes.now)))) }
+{
+    let digits = hex::encode(alloc, bytes)?;
+    let value = Quoted {
+        text: digits.as_str(),
+    };
+    write!(text, "{key} = [{value}")
+}
+
+// A key with an array of strings of digits.
+fn write_digits_array(
+    alloc: Global,
+    text: &mut String,
+    key: &str,
+    first: &[u8],
+    others: &[Vec<u8>],
+) -> Result<(), AllocError>
+    ensures { OnOk result (string_bytes text.new ≡ string_bytes text.old
+        ++ ((key.now ++ (codes " = [" ++ string_text (encode_lower first.now)))
+        ++ (flat_map (λ b. next_digits b.items) others.now ++ codes "]\n"))) }
+{
+    write_first(alloc, text, key, first)?;
+    write_next_digits(alloc, text, others)?;
+    write!(text, "]\n")
+}
+
+/// Bytes as strings of digits, in an array.
+#[tactic(auto, using(crate::proofs::FlatArrays::digits_all), unfolding(crate::specs::KeyLines::key_line))]
+pub(crate) fn write_digits_list(
+    alloc: Global,
+    text: &mut String,
+    key: &str,
+    parts: &[Vec<u8>],
+) -> Result<(), AllocError>
+    ensures { OnOk result (string_bytes text.new
+        ≡ string_bytes text.old ++ key_line key.now (array (digits_of (map (λ b. b.items) parts.now)))) }
+{
+    match parts.split_first() {
+        None => write!(text, "{key} = []\n"),
+        Some((first, others)) => write_digits_array(alloc, text, key, first, others),
     }
 }
 

@@ -1,7 +1,7 @@
 //! A service description written in TOML, part by part.
 //!
-//! `Heading`, `EventPart`, `NetworkPart`, `ProgramPart` and `StreamPart` are the parts of a description; each appends its
-//! lines. The heading comes first, then the events, the network if there is one, the programs and the streams.
+//! `Heading`, `EventPart`, `NetworkPart`, `ProgramPart`, `StreamPart` and `TablePart` are the parts of a description; each appends its
+//! lines. The heading comes first, then the events, the network if there is one, the programs, the streams and the private tables.
 //! `specs/Documents` says which keys with which values a part has, `specs/Texts` how they are written, and the law
 //! `texts_are_read` that TOML's grammar reads the whole as that document.
 #![tactic(auto)]
@@ -13,6 +13,7 @@ mod laws;
 mod network_part;
 mod program_part;
 mod stream_part;
+mod table_part;
 
 pub use event_part::EventPart;
 pub use heading::Heading;
@@ -20,3 +21,4 @@ pub use laws::texts_are_read;
 pub use network_part::NetworkPart;
 pub use program_part::ProgramPart;
 pub use stream_part::StreamPart;
+pub use table_part::TablePart;

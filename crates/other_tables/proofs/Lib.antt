@@ -1,2 +1,3 @@
 pub mod PidCounts
+pub mod SectionSteps
 pub mod TableSteps

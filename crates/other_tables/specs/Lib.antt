@@ -1,3 +1,4 @@
 pub mod OtherTables
 pub mod PidCounts
 pub mod TableKinds
+pub mod SteadySections

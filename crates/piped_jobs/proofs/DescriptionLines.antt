@@ -8,10 +8,10 @@ use Rattle.toml.specs.Data.{Data, string, integer, boolean, array}
 use Rattle.unit_timing.specs.declared.allowance.Allowance.{Allowance}
 use Rattle.unit_timing.specs.declared.allowance.Allowance.TheVariants.{Groups, Pace}
 use Rattle.demux.specs.Views.{FindingView}
-use Rattle.job_text.specs.DescriptionParts.{EventPartView, HeadingView, NetworkPartView, ProgramPartView, StreamPartView}
-use Rattle.job_text.specs.Fields.{burst_numbers, first_numbers, group_numbers, last_numbers, pace_numbers, place_numbers, program_numbers, time_numbers}
-use Rattle.job_text.specs.KeyLines.{header, hex_line, items_of, items_text, key_line, list_line, number_line, number_lines, table_header, value_text}
-use Rattle.job_text.specs.Texts.{event_back, event_names, event_numbers, event_text, heading_text, network_if_any, program_front, program_service, program_text, stream_back, stream_front, stream_text, stream_times}
+use Rattle.job_text.specs.DescriptionParts.{EventPartView, HeadingView, NetworkPartView, ProgramPartView, StreamPartView, TablePartView}
+use Rattle.job_text.specs.Fields.{burst_numbers, first_numbers, group_numbers, last_numbers, pace_numbers, place_numbers, program_numbers, table_numbers, time_numbers}
+use Rattle.job_text.specs.KeyLines.{digits_of, header, hex_line, items_of, items_text, key_line, list_line, number_line, number_lines, table_header, value_text}
+use Rattle.job_text.specs.Texts.{event_back, event_names, event_numbers, event_text, heading_text, network_if_any, program_front, program_service, program_text, stream_back, stream_front, stream_text, stream_times, table_back, table_front, table_text}
 use Rattle.stream_programs.specs.NetworkInformation.{stream_network}
 use Rattle.stream_programs.specs.Services.{service}
 use Rattle.service_information.specs.Events.{FoundEventView}
@@ -19,6 +19,7 @@ use Rattle.stream_jobs.specs.Events.{event_lines, event_part, events_text, job_e
 use Rattle.stream_jobs.specs.JobInput.{JobInputView}
 use Rattle.stream_jobs.specs.JobOptions.{JobOptionsView}
 use Rattle.stream_jobs.specs.JobPrograms.{JobProgramView}
+use Rattle.stream_jobs.specs.JobTables.{table_lines, table_part, tables_text}
 use Rattle.stream_jobs.specs.Texts.{description_text, heading_of, network_part, program_lines, program_part, program_with, programs_text, stream_lines, stream_part, streams_text}
 use Rattle.checked_jobs.specs.Jobs.{first_plan_line}
 use Rattle.piped_jobs.proofs.PlainLines.{Passes, both_pass, flat_both, is_flat, line_passes, none_passes}
@@ -80,6 +81,17 @@ unfolding list_line
 list_passes ns =
     cond_both (length ns == 0) [] (key_line (codes "shared_with") (array (items_of ns))) Passes (λ _. none_passes)
     (λ _. key_passes (codes "shared_with") (array (items_of ns)) (λ rest. refl) refl (flat_both (codes "[") (items_text true (items_of ns)) refl (items_flat true ns)))
+
+-- of an array of strings of digits
+digits_flat : (is_first : Bool) (bs : List (List ℕ)) → is_flat (items_text is_first (digits_of bs)) ≡ true
+digits_flat is_first [] = refl
+digits_flat is_first (b ∷ bs) =
+    flat_both (if is_first then [] else codes ", ") (value_text (string (encode_lower b)) ++ items_text false (digits_of bs)) (comma_flat is_first)
+    (flat_both (value_text (string (encode_lower b))) (items_text false (digits_of bs)) (string_flat (encode_lower b) (hex_flat b)) (digits_flat false bs))
+
+sections_pass : (bs : List (List ℕ)) → Passes (key_line (codes "sections") (array (digits_of bs)))
+sections_pass bs =
+    key_passes (codes "sections") (array (digits_of bs)) (λ rest. refl) refl (flat_both (codes "[") (items_text true (digits_of bs)) refl (digits_flat true bs))
 
 truth_flat : (b : Bool) → is_flat (value_text (boolean b)) ≡ true
 truth_flat true = refl
@@ -178,6 +190,20 @@ stream_passes s =
     let back = both_pass (number_lines (place_numbers s)) _ place shared in
     both_pass (stream_front s) (stream_times s ++ stream_back s) front (both_pass (stream_times s) (stream_back s) middle back)
 
+private_header : Passes (header (codes "table"))
+unfolding header
+private_header = both_pass (codes "\n") (codes "[[table]]\n") empty_line (line_passes (codes "[[table]]") refl (λ rest. refl))
+
+private_passes : (t : TablePartView) → Passes (table_text t)
+private_passes t =
+    let descriptors = text_passes (codes "descriptors") (encode_lower t.descriptors) (λ rest. refl) refl (hex_flat t.descriptors) in
+    let numbers = numbers_pass (table_numbers t) ((λ rest. refl), (refl, ((λ rest. refl), (refl, ((λ rest. refl), (refl, tt)))))) in
+    let keys = both_pass (key_line (codes "descriptors") (string (encode_lower t.descriptors))) (number_lines (table_numbers t)) descriptors numbers in
+    let front = both_pass (header (codes "table")) _ private_header keys in
+    let back = both_pass (key_line (codes "sections") (array (digits_of t.sections))) (number_line (codes "stream_type", t.stream_type))
+    (sections_pass t.sections) (number_passes (codes "stream_type") t.stream_type (λ rest. refl) refl) in
+    both_pass (table_front t) (table_back t) front back
+
 -- 3. The whole
 
 all_pass : {X : Type 0} (f : X → List ℕ) (xs : List X) → ((x : X) → Passes (f x)) → Passes (flat_map f xs)
@@ -211,7 +237,9 @@ description_passes w findings m rate plain =
     let network = network_passes (network_part w m.transport_stream_id findings) (part_plain w.network (stream_network m.transport_stream_id findings) plain.network) in
     let programs = all_pass (program_lines w findings) m.programs (one_program w findings plain) in
     let streams = all_pass stream_lines (zip m.streams (zip m.unit_counts m.choices)) (λ s. stream_passes (stream_part s)) in
-    let parts = both_pass (programs_text w findings m.programs) (streams_text m.streams m.unit_counts m.choices) programs streams in
+    let tables = all_pass (table_lines m.streams) m.tables (λ t. private_passes (table_part m.streams t)) in
+    let last = both_pass (streams_text m.streams m.unit_counts m.choices) (tables_text m.streams m.tables) streams tables in
+    let parts = both_pass (programs_text w findings m.programs) _ programs last in
     let begins = begin_flat w.start (job_events findings m.programs) findings plain.start in
     both_pass (heading_text (heading_of w findings m (start_of w.start (job_events findings m.programs) findings) rate)) _
     (heading_passes (heading_of w findings m (start_of w.start (job_events findings m.programs) findings) rate)

@@ -14,6 +14,7 @@ use Rattle.stream_units.proofs.StampMoments.{constant_least}
 use Rattle.stream_jobs.specs.declared.program_clock.ProgramClock.{ProgramClock}
 use Rattle.stream_jobs.specs.declared.program_clock.ProgramClock.TheVariants.{References, Own}
 use Rattle.stream_jobs.specs.JobPrograms.{JobProgramView, clock_in}
+use Rattle.stream_jobs.specs.JobTables.{JobTableView}
 use Rattle.stream_jobs.specs.JobStreams.{TimedStreamView, WireStreamView}
 use Rattle.stream_jobs.specs.Moments.{is_long_map, earliest, first_dts, first_dts_of, firsts, is_on_clock, stamps_of, base_for, base_of, wire_of, stamps_refusal, with_moments, moved_stream, moved_by, moved_streams}
 use Rattle.stream_jobs.specs.ProgramClocks.{is_same_clock}
@@ -76,9 +77,9 @@ min_of programs from least (suc i) s (x ∷ streams) is =
 
 -- ---- the first DTS as a moment
 
-due_from : (programs : List JobProgramView) (streams : List WireStreamView) → (180000 ≤ earliest programs streams) × (earliest programs streams ≤ 225000)
+due_from : (programs : List JobProgramView) (tables : List JobTableView) (streams : List WireStreamView) → (180000 ≤ earliest programs tables streams) × (earliest programs tables streams ≤ 225000)
 unfolding earliest
-due_from programs streams = elim (cases_Bool (list_any (is_long_map streams) programs)) [
+due_from programs tables streams = elim (cases_Bool (list_any (is_long_map tables streams) programs)) [
   | inl y ↦ rw y (omega arith, omega arith)
   | inr n ↦ rw n (omega arith, omega arith)
 ]
@@ -165,10 +166,10 @@ all_here programs streams (s ∷ rest) from same near =
     All-cons (IsHere programs streams) s rest ((from + 0, same 0), All-head (BeginsNear programs streams) s rest near)
     (all_here programs streams rest (suc from) next (All-tail (BeginsNear programs streams) s rest near))
 
-pub all_late : (findings : List FindingView) (programs : List JobProgramView) (streams : List WireStreamView) (timed : List TimedStreamView) →
-    moved_streams findings (earliest programs streams) programs streams ≡ Ok timed → All (BeginsNear programs streams) streams → All (λ t. DueLate t.units) timed
+pub all_late : (findings : List FindingView) (programs : List JobProgramView) (tables : List JobTableView) (streams : List WireStreamView) (timed : List TimedStreamView) →
+    moved_streams findings (earliest programs tables streams) programs streams ≡ Ok timed → All (BeginsNear programs streams) streams → All (λ t. DueLate t.units) timed
 unfolding moved_streams
-all_late findings programs streams timed is near =
-    each_all (moved_by findings (earliest programs streams) programs (firsts programs streams)) (IsHere programs streams) (λ t. DueLate t.units)
-    (λ s t here one. stream_late findings (earliest programs streams) programs streams s t (due_from programs streams) here one) streams timed
+all_late findings programs tables streams timed is near =
+    each_all (moved_by findings (earliest programs tables streams) programs (firsts programs streams)) (IsHere programs streams) (λ t. DueLate t.units)
+    (λ s t here one. stream_late findings (earliest programs tables streams) programs streams s t (due_from programs tables streams) here one) streams timed
     (all_here programs streams streams 0 (λ i. let z : 0 + i ≡ i = omega arith in ap (slice_get streams) z) near) is

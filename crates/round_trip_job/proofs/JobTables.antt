@@ -37,7 +37,7 @@ job_late k streams units merged all = elim (slice_get_cases streams k).1 [
 pub first_units : TablesFirstLaw → FirstUnitsLaw
 first_units law options count findings input is =
     let wire = moved_of options count findings input is in
-    let late = all_late findings input.programs wire.streams input.streams wire.moved in
+    let late = all_late findings input.programs input.tables wire.streams input.streams wire.moved in
     record {
       streams = wire.streams;
       moved = wire.moved;

@@ -59,7 +59,7 @@ TablesComeFirst options findings input =
 -- before them
 pub record MadeOf (options : JobOptionsView) (findings : List FindingView) (input : JobInputView) : Type 0 where
   pub streams : List WireStreamView
-  pub moved : moved_streams findings (earliest input.programs streams) input.programs streams ≡ Ok input.streams
+  pub moved : moved_streams findings (earliest input.programs input.tables streams) input.programs streams ≡ Ok input.streams
   pub late : All (BeginsNear input.programs streams) streams → All (λ t. DueLate t.units) input.streams
   pub tables_first : All (BeginsNear input.programs streams) streams → TablesComeFirst options findings input
 

@@ -1,18 +1,17 @@
 -- Streams that agree one after another.
-use Rattle.std.proofs.Common.{◌≡◌, ℕ, zero, suc, true, rules, Some, List, [], ◌∷◌, length, slice_get, sym}
+use Rattle.std.proofs.Common.{◌≡◌, ℕ, zero, suc, true, rules, Some, List, [], ◌∷◌, slice_get, sym}
 use Rattle.description.specs.Described.{Described, DescribedProgram, DescribedStream}
 use Rattle.std.specs.Str.{bytes_eq}
 use Rattle.std.proofs.lemmas.Bool.{and_parts, eqb-true}
 use Rattle.std.proofs.lemmas.Slice.Eq.{bytes_eq-Decides}
-use Rattle.stream_jobs.specs.Jobs.{AgreeInTurn, Agrees, AllAgree, AreInTurn, IsEntry, IsProgram, is_entry, is_program}
-use Rattle.stream_jobs.specs.JobInput.{JobInputView}
+use Rattle.stream_jobs.specs.Jobs.{AgreeInTurn, Agrees, AreInTurn, IsEntry, IsProgram, is_entry, is_program}
 use Rattle.stream_jobs.specs.JobPrograms.{JobProgramView}
 use Rattle.stream_jobs.specs.JobStreams.{TimedStreamView}
 
-some_same : {X : Type 0} (x y : X) → Some x ≡ Some y → x ≡ y
+pub some_same : {X : Type 0} (x y : X) → Some x ≡ Some y → x ≡ y
 some_same x y e = cc
 
-at_each : (d : Described) (ss : List DescribedStream) (ts : List TimedStreamView) → AgreeInTurn d ss ts →
+pub at_each : (d : Described) (ss : List DescribedStream) (ts : List TimedStreamView) → AgreeInTurn d ss ts →
     (k : ℕ) (s : DescribedStream) (t : TimedStreamView) → slice_get ss k ≡ Some s → slice_get ts k ≡ Some t → Agrees d s t
 unfolding AgreeInTurn
 at_each d [] ts agree k s t here there = absurd cc
@@ -20,7 +19,7 @@ at_each d (x ∷ ss) [] agree k s t here there = absurd cc
 at_each d (x ∷ ss) (y ∷ ts) agree zero s t here there = rw (sym (some_same x s here), sym (some_same y t there)) agree.0
 at_each d (x ∷ ss) (y ∷ ts) agree (suc k) s t here there = at_each d ss ts agree.1 k s t here there
 
-at_program : (ps : List DescribedProgram) (qs : List JobProgramView) → AreInTurn ps qs →
+pub at_program : (ps : List DescribedProgram) (qs : List JobProgramView) → AreInTurn ps qs →
     (k : ℕ) (p : DescribedProgram) (q : JobProgramView) → slice_get ps k ≡ Some p → slice_get qs k ≡ Some q → IsProgram p q
 unfolding AreInTurn
 at_program [] qs are k p q here there = absurd cc
@@ -28,18 +27,8 @@ at_program (x ∷ ps) [] are k p q here there = absurd cc
 at_program (x ∷ ps) (y ∷ qs) are zero p q here there = rw (sym (some_same x p here), sym (some_same y q there)) are.0
 at_program (x ∷ ps) (y ∷ qs) are (suc k) p q here there = at_program ps qs are.1 k p q here there
 
-pub in_turn : (d : Described) (input : JobInputView) → d.base0 ≡ input.base0 → length input.programs ≡ length d.programs → AreInTurn d.programs input.programs →
-    length input.streams ≡ length d.streams → AgreeInTurn d d.streams input.streams → AllAgree d input
-in_turn d input clock programs are same agree = record {
-  base_is = clock;
-  programs_same = programs;
-  programs = at_program d.programs input.programs are;
-  same = same;
-  each = at_each d d.streams input.streams agree;
-}
-
 -- a stream that passes the test is the declared one
-same_bytes : (xs ys : List ℕ) → bytes_eq xs ys ≡ true → xs ≡ ys
+pub same_bytes : (xs ys : List ℕ) → bytes_eq xs ys ≡ true → xs ≡ ys
 same_bytes xs ys e = let d = bytes_eq-Decides xs ys in search (rules)
 
 pub entry_is : (s : DescribedStream) (t : TimedStreamView) → is_entry s t ≡ true → IsEntry s t

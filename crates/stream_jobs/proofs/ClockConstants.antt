@@ -85,7 +85,7 @@ pub constants_of : (options : JobOptionsView) (count : ℕ) (findings : List Fin
 unfolding moved_streams
 constants_of options count findings input is =
     let wire = moved_of options count findings input is in
-    let due = earliest input.programs wire.streams in
+    let due = earliest input.programs input.tables wire.streams in
     let all = firsts input.programs wire.streams in
     record {
       constant = base_of due all;

@@ -10,10 +10,11 @@ use Rattle.stream_jobs.specs.declared.refusal.JobError.{JobError}
 use Rattle.stream_jobs.specs.declared.warning.Warning.{Warning}
 use Rattle.stream_jobs.specs.Answers.{Answers, and_then}
 use Rattle.stream_jobs.specs.JobPrograms.{JobProgramView, job_programs, all_program_warnings}
-use Rattle.stream_jobs.specs.JobInput.{JobInputView, service_warnings, table_warnings, stream_warnings, job_warnings, with_pids, with_streams}
+use Rattle.stream_jobs.specs.JobInput.{JobInputView, service_warnings, table_warnings, stream_warnings, job_warnings, tables_of, with_pids, with_streams}
 use Rattle.stream_jobs.specs.Warnings.{pid_warnings}
 use Rattle.stream_jobs.specs.WireStreams.{wire_streams, all_empty_stream_warnings}
 use Rattle.stream_jobs.specs.JobOptions.{JobOptionsView}
+use Rattle.stream_jobs.specs.JobTables.{JobTableView, job_tables, told}
 use Rattle.stream_jobs.specs.JobStreams.{WireStreamView}
 
 -- the warnings, one after the other
@@ -28,11 +29,13 @@ pub all_warnings : (options : JobOptionsView) (count : ℕ) (findings : List Fin
 unfolding stream_warnings job_warnings
 all_warnings options count findings a named found assigned streams tables empties programs units all one two three four five = rw (five, four, three, two, one) refl
 
--- the streams have units, and these are the programs and the warnings
+-- the streams have units, and these are the programs, the tables and the warnings
 pub in_pids : (options : JobOptionsView) (count : ℕ) (findings : List FindingView) (a : AssociationView) (named : List Program) (found : FoundProgramsView) (assigned : List ProgramPids) (streams : List WireStreamView)
-    (programs : List JobProgramView) (warnings : List Warning) (result : Result JobInputView JobError) →
+    (programs : List JobProgramView) (tables : List JobTableView) (warnings left : List Warning) (result : Result JobInputView JobError) →
     wire_streams options.make_dts options.without findings found.streams ≡ Ok streams → programs ≡ job_programs streams found.programs assigned →
-    warnings ≡ job_warnings options count findings a named found assigned streams →
-    Answers (with_streams options findings a.transport_stream_id programs warnings streams) result → Answers (with_pids options count findings a named found assigned) result
-unfolding with_pids and_then
-in_pids options count findings a named found assigned streams programs warnings result are made all is = rw (are, sym made, sym all) is
+    tables ≡ job_tables options.without count findings programs streams found.tables →
+    warnings ≡ job_warnings options count findings a named found assigned streams → left ≡ told tables warnings →
+    Answers (with_streams options findings a.transport_stream_id programs tables left streams) result → Answers (with_pids options count findings a named found assigned) result
+unfolding with_pids and_then tables_of
+in_pids options count findings a named found assigned streams programs tables warnings left result are made tabled all kept is =
+    rw (are, sym made, sym tabled, sym all, sym kept) is

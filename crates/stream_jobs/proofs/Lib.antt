@@ -1,4 +1,6 @@
 mod Agreement
+mod TableAgreement
+mod WholeAgreement
 mod Elements
 pub mod JobUnits
 mod AndThen

@@ -1,5 +1,5 @@
 -- The streams on the wire of which those of a job are made.
-use Rattle.std.proofs.Common.{◌≡◌, ◌∙◌, ◌==◌, ℕ, List, length, Some, None, Ok, All, sym, ap, subst, if◌then◌else◌}
+use Rattle.std.proofs.Common.{◌≡◌, ◌∙◌, ◌==◌, ℕ, List, length, Some, None, Ok, All, sym, ap, ap₂, subst, if◌then◌else◌}
 use Rattle.std.specs.Prelude.{ok_or}
 use Rattle.demux.specs.Views.{FindingView}
 use Rattle.stream_programs.specs.Association.{association}
@@ -11,10 +11,11 @@ use Rattle.stream_jobs.specs.declared.refusal.JobRefusal.TheVariants as refusals
 use Rattle.stream_jobs.specs.Answers.{and_then, unless}
 use Rattle.stream_jobs.specs.ClockBases.{base0_of}
 use Rattle.stream_jobs.specs.Declarations.{UnitCountsView, too_many, too_long, all_unit_counts, choices}
-use Rattle.stream_jobs.specs.JobInput.{JobInputView, job_input, with_association, with_programs, with_pids, with_streams, with_moved, with_unit_counts, job_warnings, named_of, nothing_carried}
+use Rattle.stream_jobs.specs.JobInput.{JobInputView, job_input, with_association, with_programs, with_pids, with_streams, with_moved, with_unit_counts, job_warnings, named_of, nothing_carried, tables_of}
 use Rattle.stream_jobs.specs.JobOptions.{JobOptionsView}
 use Rattle.stream_jobs.specs.JobPrograms.{JobProgramView, job_programs}
 use Rattle.stream_jobs.specs.Jobs.{IsCarried}
+use Rattle.stream_jobs.specs.JobTables.{JobTableView, told}
 use Rattle.stream_jobs.specs.JobStreams.{TimedStreamView, WireStreamView}
 use Rattle.stream_jobs.specs.Moments.{earliest, first_base, moved_streams}
 use Rattle.stream_jobs.specs.Packets.{no_packets}
@@ -23,15 +24,16 @@ use Rattle.stream_jobs.proofs.CarriedStreams.{all_carried}
 use Rattle.stream_jobs.proofs.Steps.{granted, comes, same_value}
 
 -- what is counted of streams changes neither them, nor the programs, nor the clock
-record Made (base : ℕ) (programs : List JobProgramView) (streams : List TimedStreamView) (input : JobInputView) : Type 0 where
+record Made (base : ℕ) (programs : List JobProgramView) (tables : List JobTableView) (streams : List TimedStreamView) (input : JobInputView) : Type 0 where
   base0_is : input.base0 ≡ base
   programs_are : input.programs ≡ programs
+  tables_are : input.tables ≡ tables
   streams_are : input.streams ≡ streams
 
-made : (options : JobOptionsView) (id base : ℕ) (programs : List JobProgramView) (warnings : List Warning) (streams : List TimedStreamView) (input : JobInputView) →
-    with_moved options id base programs warnings streams ≡ Ok input → Made base programs streams input
+made : (options : JobOptionsView) (id base : ℕ) (programs : List JobProgramView) (tables : List JobTableView) (warnings : List Warning) (streams : List TimedStreamView) (input : JobInputView) →
+    with_moved options id base programs tables warnings streams ≡ Ok input → Made base programs tables streams input
 unfolding with_moved with_unit_counts
-made options id base programs warnings streams input is =
+made options id base programs tables warnings streams input is =
     let finish = λ (all : List UnitCountsView) (chosen : List Choice). (let i : JobInputView = record {
       transport_stream_id = id;
       base0 = base;
@@ -39,6 +41,7 @@ made options id base programs warnings streams input is =
       streams = streams;
       unit_counts = all;
       choices = chosen;
+      tables = tables;
       warnings = warnings;
     } in i) in
     let counted = granted (too_long streams) (with_unit_counts options finish streams) input
@@ -49,6 +52,7 @@ made options id base programs warnings streams input is =
     record {
       base0_is = sym (ap (λ (i : JobInputView). i.base0) same);
       programs_are = sym (ap (λ (i : JobInputView). i.programs) same);
+      tables_are = sym (ap (λ (i : JobInputView). i.tables) same);
       streams_are = sym (ap (λ (i : JobInputView). i.streams) same);
     }
 
@@ -56,8 +60,8 @@ made options id base programs warnings streams input is =
 pub record Moved (options : JobOptionsView) (findings : List FindingView) (input : JobInputView) : Type 0 where
   pub streams : List WireStreamView
   pub carried : All (IsCarried options.make_dts findings) streams
-  pub moved : moved_streams findings (earliest input.programs streams) input.programs streams ≡ Ok input.streams
-  pub base0_is : input.base0 ≡ base0_of options.base (first_base (earliest input.programs streams) input.programs streams)
+  pub moved : moved_streams findings (earliest input.programs input.tables streams) input.programs streams ≡ Ok input.streams
+  pub base0_is : input.base0 ≡ base0_of options.base (first_base (earliest input.programs input.tables streams) input.programs streams)
 
 pub moved_of : (options : JobOptionsView) (count : ℕ) (findings : List FindingView) (input : JobInputView) → job_input options count findings ≡ Ok input → Moved options findings input
 unfolding job_input with_association with_programs with_pids with_streams
@@ -70,20 +74,24 @@ moved_of options count findings input is =
     (granted (if length found.programs == 0 then Some refusals.NoProgram else None)
     (and_then (with_pids options count findings a (named_of options a) found) (ok_or (assigned_pids found) refusals.Pids)) input associated.last_is) in
     let on_wire = comes (λ streams. with_streams options findings a.transport_stream_id (job_programs streams found.programs assigned.value)
-    (job_warnings options count findings a (named_of options a) found assigned.value streams) streams)
+    (tables_of options count findings found assigned.value streams)
+    (told (tables_of options count findings found assigned.value streams) (job_warnings options count findings a (named_of options a) found assigned.value streams)) streams)
     (wire_streams options.make_dts options.without findings found.streams) input assigned.last_is in
     let streams = on_wire.value in
     let programs = job_programs streams found.programs assigned.value in
-    let warnings = job_warnings options count findings a (named_of options a) found assigned.value streams in
-    let base = base0_of options.base (first_base (earliest programs streams) programs streams) in
-    let timed = comes (with_moved options a.transport_stream_id base programs warnings) (moved_streams findings (earliest programs streams) programs streams) input
-    (granted (nothing_carried warnings streams) (and_then (with_moved options a.transport_stream_id base programs warnings) (moved_streams findings (earliest programs streams) programs streams))
+    let tables = tables_of options count findings found assigned.value streams in
+    let warnings = told tables (job_warnings options count findings a (named_of options a) found assigned.value streams) in
+    let due = earliest programs tables streams in
+    let base = base0_of options.base (first_base due programs streams) in
+    let timed = comes (with_moved options a.transport_stream_id base programs tables warnings) (moved_streams findings due programs streams) input
+    (granted (nothing_carried warnings streams) (and_then (with_moved options a.transport_stream_id base programs tables warnings) (moved_streams findings due programs streams))
     input on_wire.last_is) in
-    let done = made options a.transport_stream_id base programs warnings timed.value input timed.last_is in
+    let done = made options a.transport_stream_id base programs tables warnings timed.value input timed.last_is in
     record {
       streams = streams;
       carried = all_carried options.make_dts findings (selected options.without found.streams) streams on_wire.first_is;
-      moved = ap (λ (ps : List JobProgramView). moved_streams findings (earliest ps streams) ps streams) done.programs_are
-          ∙ subst (λ (ts : List TimedStreamView). moved_streams findings (earliest programs streams) programs streams ≡ Ok ts) (sym done.streams_are) timed.first_is;
-      base0_is = done.base0_is ∙ ap (λ (ps : List JobProgramView). base0_of options.base (first_base (earliest ps streams) ps streams)) (sym done.programs_are);
+      moved = ap₂ (λ (ps : List JobProgramView) (ts : List JobTableView). moved_streams findings (earliest ps ts streams) ps streams) done.programs_are done.tables_are
+          ∙ subst (λ (ts : List TimedStreamView). moved_streams findings due programs streams ≡ Ok ts) (sym done.streams_are) timed.first_is;
+      base0_is = done.base0_is
+          ∙ ap₂ (λ (ps : List JobProgramView) (ts : List JobTableView). base0_of options.base (first_base (earliest ps ts streams) ps streams)) (sym done.programs_are) (sym done.tables_are);
     }

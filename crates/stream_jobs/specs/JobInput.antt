@@ -26,10 +26,11 @@ use Rattle.stream_jobs.specs.Packets.{no_packets}
 use Rattle.stream_jobs.specs.Warnings.{packet_warnings, association_warnings, all_map_warnings, stray_warnings, option_warnings, network_warnings, pid_warnings}
 use Rattle.stream_jobs.specs.WireStreams.{wire_streams, all_empty_stream_warnings}
 use Rattle.stream_jobs.specs.JobOptions.{JobOptionsView, is_selected_program}
+use Rattle.stream_jobs.specs.JobTables.{JobTableView, job_tables, told}
 use Rattle.stream_jobs.specs.JobStreams.{TimedStreamView, WireStreamView}
 
 -- base0 is what the system clock shows as the run begins; each stream has what is counted of it and what it
--- declares; the warnings say what is not taken as it stands
+-- declares; tables are private sections that do not change; the warnings say what is not taken as it stands
 pub record JobInputView : Type 0 where
   pub transport_stream_id : ℕ
   pub base0 : ℕ
@@ -37,11 +38,16 @@ pub record JobInputView : Type 0 where
   pub streams : List TimedStreamView
   pub unit_counts : List UnitCountsView
   pub choices : List Choice
+  pub tables : List JobTableView
   pub warnings : List Warning
 
 -- a stream of this PID is carried
 abbrev pub has_stream : JobInputView → ℕ → Bool
 has_stream m pid = list_any (λ s. s.pid == pid) m.streams
+
+-- sections of this PID are carried
+abbrev pub carries_table : JobInputView → ℕ → Bool
+carries_table m pid = list_any (λ t. t.pid == pid) m.tables
 
 -- 1. Warnings
 
@@ -81,8 +87,8 @@ unfoldable pub with_unit_counts : JobOptionsView → (List UnitCountsView → Li
 with_unit_counts options finish streams =
     and_then (λ all. and_then (λ chosen. Ok (finish all chosen)) (choices options.declare_by options.lead streams all)) (all_unit_counts options.buffers streams)
 
-unfoldable pub with_moved : JobOptionsView → ℕ → ℕ → List JobProgramView → List Warning → List TimedStreamView → Result JobInputView JobRefusal
-with_moved options id base programs all_warnings streams =
+unfoldable pub with_moved : JobOptionsView → ℕ → ℕ → List JobProgramView → List JobTableView → List Warning → List TimedStreamView → Result JobInputView JobRefusal
+with_moved options id base programs tables all_warnings streams =
     unless (too_many (length programs) (length streams))
     (unless (too_long streams)
     (with_unit_counts options (λ all chosen. record {
@@ -92,6 +98,7 @@ with_moved options id base programs all_warnings streams =
       streams = streams;
       unit_counts = all;
       choices = chosen;
+      tables = tables;
       warnings = all_warnings;
     }) streams))
 
@@ -109,17 +116,23 @@ unfoldable pub nothing_carried : List Warning → List WireStreamView → Option
 nothing_carried all_warnings streams = if length streams == 0 then first_why all_warnings else None
 
 -- streams with their units as on the wire
-unfoldable pub with_streams : JobOptionsView → List FindingView → ℕ → List JobProgramView → List Warning → List WireStreamView → Result JobInputView JobRefusal
-with_streams options findings id programs all_warnings streams =
+unfoldable pub with_streams : JobOptionsView → List FindingView → ℕ → List JobProgramView → List JobTableView → List Warning → List WireStreamView → Result JobInputView JobRefusal
+with_streams options findings id programs tables all_warnings streams =
     unless (nothing_carried all_warnings streams)
-    (and_then (with_moved options id (base0_of options.base (first_base (earliest programs streams) programs streams)) programs all_warnings)
-    (moved_streams findings (earliest programs streams) programs streams))
+    (and_then (with_moved options id (base0_of options.base (first_base (earliest programs tables streams) programs streams)) programs tables all_warnings)
+    (moved_streams findings (earliest programs tables streams) programs streams))
+
+-- the tables of programs that are given PIDs
+unfoldable pub tables_of : JobOptionsView → ℕ → List FindingView → FoundProgramsView → List ProgramPids → List WireStreamView → List JobTableView
+tables_of options count findings found assigned streams =
+    job_tables options.without count findings (job_programs streams found.programs assigned) streams found.tables
 
 -- programs, and the PIDs that they are given
 unfoldable pub with_pids : JobOptionsView → ℕ → List FindingView → AssociationView → List Program → FoundProgramsView → List ProgramPids → Result JobInputView JobRefusal
 with_pids options count findings a named found assigned =
     and_then (λ streams. with_streams options findings a.transport_stream_id (job_programs streams found.programs assigned)
-    (job_warnings options count findings a named found assigned streams) streams)
+    (tables_of options count findings found assigned streams)
+    (told (tables_of options count findings found assigned streams) (job_warnings options count findings a named found assigned streams)) streams)
     (wire_streams options.make_dts options.without findings found.streams)
 
 unfoldable pub with_programs : JobOptionsView → ℕ → List FindingView → AssociationView → List Program → FoundProgramsView → Result JobInputView JobRefusal

@@ -43,5 +43,5 @@ abbrev pub TimedStreamView : Type 0
 TimedStreamView = JobStreamView AccessUnit
 
 -- a program has a stream, as its own or a shared one
-unfoldable pub is_stream_of : ℕ → WireStreamView → Bool
+unfoldable pub is_stream_of : {U : Type 0} → ℕ → JobStreamView U → Bool
 is_stream_of number s = s.program == number || is_among number s.shared_with

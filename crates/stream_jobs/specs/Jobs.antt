@@ -1,11 +1,11 @@
 -- What a job is of what a demultiplexer finds.
-use Rattle.std.specs.Prelude.{◌≡◌, ◌≤◌, ◌<◌, ⊤, ℕ, nat_le, ◌==◌, ◌&&◌, Bool, true, if◌then◌else◌, List, [], ◌∷◌, length, map, slice_get, Option, Some, None, All}
+use Rattle.std.specs.Prelude.{◌≡◌, ◌≤◌, ◌<◌, ⊤, ℕ, nat_le, ◌==◌, ◌&&◌, Bool, true, false, if◌then◌else◌, List, [], ◌∷◌, length, map, slice_get, Option, Some, None, All}
 use Rattle.std.specs.Option.{option_or}
 use Rattle.std.specs.Str.{bytes_eq}
 use Rattle.pes_packet.specs.AccessUnits.{AccessUnit}
 use Rattle.pes_packet.specs.Units.{units_of}
 use Rattle.demux.specs.Views.{FindingView}
-use Rattle.description.specs.Described.{Described, DescribedProgram, DescribedStream}
+use Rattle.description.specs.Described.{Described, DescribedEntry, DescribedProgram, DescribedStream, DescribedTable}
 use Rattle.unit_timing.specs.declared.allowance.Allowance.{Allowance}
 use Rattle.unit_timing.specs.declared.allowance.Allowance.TheVariants.{Groups, Pace}
 use Rattle.stream_units.specs.Declaration.{min_interval, max_unit_size, group_packets, burst_packets}
@@ -15,6 +15,7 @@ use Rattle.stream_jobs.specs.JobInput.{JobInputView}
 use Rattle.stream_jobs.specs.FoundUnits.{AreFound, Declares, source_of}
 use Rattle.stream_jobs.specs.Rates.{IsAskedOrFirst, IsRate, IsServed}
 pub use Rattle.stream_jobs.specs.Rates.{IsText}
+use Rattle.stream_jobs.specs.JobTables.{JobTableView}
 use Rattle.stream_jobs.specs.Texts.{description_text}
 use Rattle.stream_jobs.specs.JobOptions.{JobOptionsView}
 use Rattle.stream_jobs.specs.JobStreams.{TimedStreamView, WireStreamView}
@@ -64,6 +65,19 @@ pub record Agrees (d : Described) (s : DescribedStream) (t : TimedStreamView) : 
   pub entry : IsEntry s t
   pub declares : Declares d s t.units
 
+-- the entry of a private table in the map of its program
+abbrev pub entry_of : JobTableView → DescribedEntry
+entry_of t = record { program = t.program; stream_type = t.stream_type; descriptors = t.descriptors }
+
+unfoldable pub has_entry : Option DescribedEntry → JobTableView → Bool
+has_entry None t = false
+has_entry (Some e) t = e.program == t.program && (e.stream_type == t.stream_type && bytes_eq e.descriptors t.descriptors)
+
+unfoldable pub are_sections : List (List ℕ) → List (List ℕ) → Bool
+are_sections [] [] = true
+are_sections (a ∷ ones) (b ∷ others) = bytes_eq a b && are_sections ones others
+are_sections _ _ = false
+
 -- streams and units, one after another
 unfoldable pub AgreeInTurn : Described → List DescribedStream → List TimedStreamView → Type 0
 AgreeInTurn d (s ∷ ss) (t ∷ ts) = Agrees d s t × AgreeInTurn d ss ts
@@ -84,13 +98,30 @@ unfoldable pub AreInTurn : List DescribedProgram → List JobProgramView → Typ
 AreInTurn (p ∷ ps) (q ∷ qs) = IsProgram p q × AreInTurn ps qs
 AreInTurn _ _ = ⊤
 
--- a description has the programs and the streams of an input, and at moment 0 its clock shows what that of the input does
+-- a private table of a description is this one: its PID, its sections, and its entry in the map of its program
+pub record IsTable (s : DescribedTable) (t : JobTableView) : Type 0 where
+  pub pid : s.pid ≡ t.pid
+  pub sections : s.sections ≡ t.sections
+  pub entry : s.entry ≡ Some (entry_of t)
+
+-- the same as a test
+unfoldable pub is_table : DescribedTable → JobTableView → Bool
+is_table s t = s.pid == t.pid && (are_sections s.sections t.sections && has_entry s.entry t)
+
+-- tables, one after another
+unfoldable pub TablesInTurn : List DescribedTable → List JobTableView → Type 0
+TablesInTurn (s ∷ ss) (t ∷ ts) = IsTable s t × TablesInTurn ss ts
+TablesInTurn _ _ = ⊤
+
+-- a description has the programs, the streams and the private tables of an input, and at moment 0 its clock shows what that of the input does
 pub record AllAgree (d : Described) (input : JobInputView) : Type 0 where
   pub base_is : d.base0 ≡ input.base0
   pub programs_same : length input.programs ≡ length d.programs
   pub programs : (k : ℕ) (p : DescribedProgram) (q : JobProgramView) → slice_get d.programs k ≡ Some p → slice_get input.programs k ≡ Some q → IsProgram p q
   pub same : length input.streams ≡ length d.streams
   pub each : (k : ℕ) (s : DescribedStream) (t : TimedStreamView) → slice_get d.streams k ≡ Some s → slice_get input.streams k ≡ Some t → Agrees d s t
+  pub tables_same : length input.tables ≡ length d.tables
+  pub tables : (k : ℕ) (s : DescribedTable) (t : JobTableView) → slice_get d.tables k ≡ Some s → slice_get input.tables k ≡ Some t → IsTable s t
 
 -- the first unit is due no earlier than a moment
 unfoldable pub first_due : ℕ → List AccessUnit → Bool
@@ -119,11 +150,24 @@ unfoldable pub first_disagreeing : Described → List DescribedStream → List T
 first_disagreeing d (s ∷ ss) (t ∷ ts) = if is_entry s t && keeps d s t.units then first_disagreeing d ss ts else Some t.pid
 first_disagreeing d _ _ = None
 
--- 0 if there are not as many programs or streams, or the clock is another
+-- that of the first private table that is not the declared one in its place
+unfoldable pub first_other_table : List DescribedTable → List JobTableView → Option ℕ
+first_other_table (s ∷ ss) (t ∷ ts) = if is_table s t then first_other_table ss ts else Some t.pid
+first_other_table _ _ = None
+
+-- as many programs, streams and tables, and the same clock
+unfoldable pub are_counted : Described → JobInputView → Bool
+are_counted d input =
+    d.base0 == input.base0
+    && (length d.programs == length input.programs
+    && (length d.streams == length input.streams
+    && length d.tables == length input.tables))
+
 unfoldable pub disagreeing : Described → JobInputView → Option ℕ
 disagreeing d input =
-    if d.base0 == input.base0 && (length d.programs == length input.programs && length d.streams == length input.streams)
-    then option_or (first_other_program d.programs input.programs) (first_disagreeing d d.streams input.streams) else Some 0
+    if are_counted d input
+    then option_or (first_other_program d.programs input.programs) (option_or (first_other_table d.tables input.tables) (first_disagreeing d d.streams input.streams))
+    else Some 0
 
 -- 3. Units
 

@@ -8,6 +8,7 @@ pub mod JobStreams
 pub mod WireStreams
 pub mod ProgramClocks
 pub mod JobPrograms
+pub mod JobTables
 pub mod Events
 pub mod Moments
 pub mod Declarations

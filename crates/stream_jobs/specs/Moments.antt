@@ -1,5 +1,5 @@
 -- The units of streams at the moments of a run.
-use Rattle.std.specs.Prelude.{ℕ, ◌+◌, ◌%◌, ◌^◌, nat_lt, Bool, is_none, if◌then◌else◌, List, [], ◌∷◌, length, map, filter, sum_by, slice_get, unwrap_or, None, option_map, Result, Ok}
+use Rattle.std.specs.Prelude.{ℕ, ◌+◌, ◌%◌, ◌^◌, nat_lt, ◌==◌, Bool, is_none, if◌then◌else◌, List, [], ◌∷◌, length, map, filter, sum_by, slice_get, unwrap_or, None, option_map, Result, Ok}
 use Rattle.std.specs.List.{list_any}
 use Rattle.pes_packet.specs.AccessUnits.{AccessUnit}
 use Rattle.demux.specs.Views.{FindingView}
@@ -13,6 +13,7 @@ use Rattle.stream_jobs.specs.declared.refusal.JobRefusal.{JobRefusal}
 use Rattle.stream_jobs.specs.declared.refusal.JobRefusal.TheVariants as refusals
 use Rattle.stream_jobs.specs.Answers.{unless, each}
 use Rattle.stream_jobs.specs.JobPrograms.{JobProgramView, clock_in}
+use Rattle.stream_jobs.specs.JobTables.{JobTableView}
 use Rattle.stream_jobs.specs.JobStreams.{TimedStreamView, WireStreamView, is_stream_of}
 use Rattle.stream_jobs.specs.ProgramClocks.{is_same_clock}
 
@@ -22,18 +23,22 @@ use Rattle.stream_jobs.specs.ProgramClocks.{is_same_clock}
 unfoldable pub entry_size : ℕ → WireStreamView → ℕ
 entry_size number s = if is_stream_of number s then 5 + length s.descriptors else 0
 
--- those of the section: 16, the program's descriptors, and its streams
-unfoldable pub map_size : List WireStreamView → JobProgramView → ℕ
-map_size streams p = 16 + length p.descriptors + sum_by (entry_size p.number) streams
+-- the same of sections that are carried
+unfoldable pub table_size : ℕ → JobTableView → ℕ
+table_size number t = if t.program == number then 5 + length t.descriptors else 0
+
+-- those of the section: 16, the program's descriptors, its streams, and its sections
+unfoldable pub map_size : List JobTableView → List WireStreamView → JobProgramView → ℕ
+map_size tables streams p = 16 + length p.descriptors + sum_by (entry_size p.number) streams + sum_by (table_size p.number) tables
 
 -- it has more than one packet
-unfoldable pub is_long_map : List WireStreamView → JobProgramView → Bool
-is_long_map streams p = nat_lt 183 (map_size streams p)
+unfoldable pub is_long_map : List JobTableView → List WireStreamView → JobProgramView → Bool
+is_long_map tables streams p = nat_lt 183 (map_size tables streams p)
 
 -- 2 seconds after the first slot, and half a second more where a map has more than one packet, in units of 90 kHz: a unit may
 -- be sent a second before it is due, and before that each table that it needs has come
-unfoldable pub earliest : List JobProgramView → List WireStreamView → ℕ
-earliest programs streams = if list_any (is_long_map streams) programs then 225_000 else 180_000
+unfoldable pub earliest : List JobProgramView → List JobTableView → List WireStreamView → ℕ
+earliest programs tables streams = if list_any (is_long_map tables streams) programs then 225_000 else 180_000
 
 -- 2. What a clock shows at moment 0
 

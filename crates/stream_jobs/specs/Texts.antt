@@ -17,6 +17,7 @@ use Rattle.stream_jobs.specs.GivenNames.{NetworkNameView, ServiceNameView, name_
 use Rattle.stream_jobs.specs.JobPrograms.{JobProgramView}
 use Rattle.stream_jobs.specs.JobInput.{JobInputView}
 use Rattle.stream_jobs.specs.JobOptions.{JobOptionsView}
+use Rattle.stream_jobs.specs.JobTables.{tables_text}
 use Rattle.stream_jobs.specs.JobStreams.{TimedStreamView}
 
 -- 1. The head
@@ -111,7 +112,7 @@ stream_part s = record {
   shared_with = s.0.shared_with;
 }
 
--- 4. The whole
+-- 4. The whole: the lines of private tables (`specs/JobTables`) come last
 
 abbrev pub program_lines : JobOptionsView → List FindingView → JobProgramView → List ℕ
 program_lines options findings p = program_text (program_part options findings p)
@@ -130,4 +131,5 @@ description_text options findings input rate =
     heading_text (heading_of options findings input (start_of options.start (job_events findings input.programs) findings) rate)
     ++ (events_text (job_events findings input.programs)
     ++ (network_if_any (network_part options input.transport_stream_id findings)
-    ++ (programs_text options findings input.programs ++ streams_text input.streams input.unit_counts input.choices)))
+    ++ (programs_text options findings input.programs
+    ++ (streams_text input.streams input.unit_counts input.choices ++ tables_text input.streams input.tables))))

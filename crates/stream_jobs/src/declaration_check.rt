@@ -10,6 +10,7 @@ ghost use Rattle.stream_jobs.specs.FoundUnits.{Declares};
 use crate::input::JobInput;
 use crate::job_programs::JobProgram;
 use crate::job_stream::TimedStream;
+use crate::table_check::first_other_table;
 use description::{Description, ProgramDescription, StreamDescription};
 use pes_packet::Unit;
 use std::alloc::{AllocError, Global};
@@ -166,9 +167,21 @@ fn first_other_program(declared: &[ProgramDescription], programs: &[JobProgram])
     None
 }
 
-/// The PID of the clock references of the first program that is not the declared one, else that of the first stream that is not, or of
-/// whose units the description does not declare what they need; 0 where there are not as many of either, or the clock begins otherwise.
-#[tactic(auto, using(crate::proofs::Agreement::in_turn), unfolding(crate::specs::Jobs::disagreeing))]
+// Whether there are as many programs, streams and private tables, and the clock begins alike.
+#[tactic(auto, unfolding(crate::specs::Jobs::are_counted))]
+fn are_counted(description: &Description, input: &JobInput) -> bool
+    ensures { result ≡ spec.are_counted description.now input.now }
+{
+    description.base0() == input.base0
+        && description.programs().len() == input.programs.len()
+        && description.streams().len() == input.streams.len()
+        && description.private_tables().len() == input.tables.len()
+}
+
+/// The PID of the clock references of the first program that is not the declared one, else that of the first private table that is
+/// not, else that of the first stream that is not, or of whose units the description does not declare what they need; 0 where there
+/// are not as many of any, or the clock begins otherwise.
+#[tactic(auto, using(crate::proofs::WholeAgreement::in_turn), unfolding(crate::specs::Jobs::disagreeing))]
 pub(crate) fn disagreeing(
     alloc: Global,
     description: &Description,
@@ -177,16 +190,14 @@ pub(crate) fn disagreeing(
     ensures value { IfOk result (λ pid. pid ≡ spec.disagreeing description.now input.now) }
     ensures agree { IfOk result (λ pid. IfNone pid (AllAgree description.now input.now)) }
 {
-    let programs = description.programs();
-    let streams = description.streams();
-    if description.base0() != input.base0
-        || programs.len() != input.programs.len()
-        || streams.len() != input.streams.len()
-    {
+    if !are_counted(description, input) {
         return Ok(Some(0));
     }
-    match first_other_program(programs, &input.programs) {
-        Some(pid) => Ok(Some(pid)),
-        None => first_disagreeing(alloc, description, streams, &input.streams),
+    if let Some(pid) = first_other_program(description.programs(), &input.programs) {
+        return Ok(Some(pid));
     }
+    if let Some(pid) = first_other_table(description.private_tables(), &input.tables) {
+        return Ok(Some(pid));
+    }
+    first_disagreeing(alloc, description, description.streams(), &input.streams)
 }

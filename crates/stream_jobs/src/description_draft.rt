@@ -16,6 +16,7 @@ use crate::job_programs::JobProgram;
 use crate::job_stream::TimedStream;
 use crate::named_service::{NamedService, has_services, service_of};
 use crate::refusal::{JobError, JobRefusal};
+use crate::table_lines::write_tables;
 use demux::Finding;
 use description::{DescError, Description};
 use job_text::{Heading, ProgramPart, StreamPart};
@@ -84,6 +85,7 @@ impl<'a, 'f> DescriptionDraft<'a, 'f> {
             &input.choices,
             &mut text,
         )?;
+        write_tables(alloc, &input.streams, &input.tables, &mut text)?;
         Ok(text)
     }
 }

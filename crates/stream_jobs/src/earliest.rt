@@ -6,6 +6,7 @@ ghost use Rattle.stream_jobs.specs.Moments as spec;
 
 use crate::job_programs::JobProgram;
 use crate::job_stream::{WireStream, is_stream_of};
+use crate::job_tables::JobTable;
 
 /// The first unit is due two seconds after the first slot, in units of 90 kHz: a unit may be sent a second before it is
 /// due, and in the other second each table that it needs has come. Half a second more if a program map section has more
@@ -37,28 +38,59 @@ fn entries_size(number: u16, streams: &[WireStream]) -> usize
     size
 }
 
+// The bytes of sections in the program map section of a program.
+#[tactic(auto, unfolding(crate::specs::Moments::table_size))]
+fn table_size(number: u16, table: &JobTable) -> usize
+    ensures { result ≡ spec.table_size number table.now }
+{
+    if table.program == number {
+        5 + table.descriptors.len()
+    } else {
+        0
+    }
+}
+
+// The bytes of all sections, or the greatest number if they are more.
+fn tables_size(number: u16, tables: &[JobTable]) -> usize
+    ensures { result ≡ min (sum_by (spec.table_size number) tables.now) (2 ^ 64 - 1) }
+{
+    let mut size: usize = 0;
+    for table in tables {
+        size = size.saturating_add(table_size(number, table));
+    }
+    size
+}
+
 // Whether the program map section of a program has more than one packet.
 #[tactic(auto, unfolding(crate::specs::Moments::map_size, crate::specs::Moments::is_long_map))]
-fn is_long_map(program: &JobProgram, streams: &[WireStream]) -> bool
-    ensures { result ≡ spec.is_long_map streams.now program.now }
+fn is_long_map(program: &JobProgram, tables: &[JobTable], streams: &[WireStream]) -> bool
+    ensures { result ≡ spec.is_long_map tables.now streams.now program.now }
 {
     let entries = entries_size(program.number, streams);
-    entries.saturating_add(16 + program.descriptors.len()) > 183
+    let sections = tables_size(program.number, tables);
+    let size = entries.saturating_add(16 + program.descriptors.len());
+    size.saturating_add(sections) > 183
 }
 
 // Whether that of any program has.
-fn has_long_map(programs: &[JobProgram], streams: &[WireStream]) -> bool
-    ensures { result ≡ list_any (spec.is_long_map streams.now) programs.now }
+fn has_long_map(programs: &[JobProgram], tables: &[JobTable], streams: &[WireStream]) -> bool
+    ensures { result ≡ list_any (spec.is_long_map tables.now streams.now) programs.now }
 {
-    programs.iter().any(|program| is_long_map(program, streams))
+    programs
+        .iter()
+        .any(|program| is_long_map(program, tables, streams))
 }
 
 /// When the first unit of each clock is due, in units of 90 kHz.
 #[tactic(auto, unfolding(crate::specs::Moments::earliest))]
-pub(crate) fn earliest_of(programs: &[JobProgram], streams: &[WireStream]) -> u64
-    ensures { result ≡ spec.earliest programs.now streams.now }
+pub(crate) fn earliest_of(
+    programs: &[JobProgram],
+    tables: &[JobTable],
+    streams: &[WireStream],
+) -> u64
+    ensures { result ≡ spec.earliest programs.now tables.now streams.now }
 {
-    if has_long_map(programs, streams) {
+    if has_long_map(programs, tables, streams) {
         LATER
     } else {
         EARLIEST

@@ -18,6 +18,7 @@ use crate::job_network::push_network_warnings;
 use crate::job_options::{JobOptions, is_among};
 use crate::job_programs::{JobProgram, job_programs};
 use crate::job_stream::{TimedStream, WireStream};
+use crate::job_tables::{JobTable, job_tables, told};
 use crate::moved_streams::{first_base, moved_streams};
 use crate::named_service::push_text_warnings;
 use crate::nothing_carried::nothing_carried;
@@ -48,6 +49,7 @@ pub struct JobInput {
     pub(crate) streams: Vec<TimedStream>,
     pub(crate) unit_counts: Vec<UnitCounts>,
     pub(crate) choices: Vec<Choice>,
+    pub(crate) tables: Vec<JobTable>,
     /// The warnings about the stream.
     pub warnings: Vec<Warning>,
 }
@@ -65,6 +67,7 @@ impl Model for JobInput {
       streams = i.streams.items;
       unit_counts = i.unit_counts.items;
       choices = i.choices.items;
+      tables = i.tables.items;
       warnings = i.warnings.items;
     } };
 }
@@ -75,6 +78,13 @@ impl JobInput {
         ensures { result ≡ spec.has_stream self.now pid }
     {
         self.streams.iter().any(|stream| stream.pid == pid)
+    }
+
+    /// Whether sections of this PID are carried.
+    pub fn carries_table(&self, pid: u16) -> bool
+        ensures { result ≡ spec.carries_table self.now pid }
+    {
+        self.tables.iter().any(|table| table.pid == pid)
     }
 }
 
@@ -158,11 +168,12 @@ fn with_moved(
     transport_stream_id: u16,
     base0: u64,
     programs: Vec<JobProgram>,
+    tables: Vec<JobTable>,
     warnings: Vec<Warning>,
     streams: Vec<TimedStream>,
 ) -> Result<JobInput, JobError>
-    ensures value { Answers (spec.with_moved options.now transport_stream_id base0 programs.items warnings.items
-        streams.items) result }
+    ensures value { Answers (spec.with_moved options.now transport_stream_id base0 programs.items tables.items
+        warnings.items streams.items) result }
     ensures same { IfOk result (λ i. i.streams ≡ streams.items) }
     ensures fits { IfOk result (λ i. All FitsQueue i.streams) }
     ensures stream_count { IfOk result (λ i. length i.streams ≤ 32) }
@@ -188,6 +199,7 @@ fn with_moved(
         streams,
         unit_counts,
         choices,
+        tables,
         warnings,
     })
 }
@@ -200,18 +212,19 @@ fn with_streams(
     findings: &[Finding<'_>],
     transport_stream_id: u16,
     programs: Vec<JobProgram>,
+    tables: Vec<JobTable>,
     warnings: Vec<Warning>,
     streams: Vec<WireStream>,
 ) -> Result<JobInput, JobError>
     requires { All (IsCarried options.now.make_dts (map finding_view findings.now)) streams.items }
     ensures value { Answers (spec.with_streams options.now (map finding_view findings.now) transport_stream_id
-        programs.items warnings.items streams.items) result }
+        programs.items tables.items warnings.items streams.items) result }
     ensures streams { IfOk result (AreStreams options.now.make_dts (map finding_view findings.now)) }
 {
     if let Some(refusal) = nothing_carried(&warnings, &streams) {
         return Err(JobError::Refused(refusal));
     }
-    let earliest = earliest_of(&programs, &streams);
+    let earliest = earliest_of(&programs, &tables, &streams);
     let base0 = base0_of(
         options.base,
         first_base(alloc, earliest, &programs, &streams)?,
@@ -230,6 +243,7 @@ fn with_streams(
         transport_stream_id,
         base0,
         programs,
+        tables,
         warnings,
         moved,
     )
@@ -280,8 +294,20 @@ fn with_pids(
     let programs = job_programs(alloc, &streams, found.programs, assigned, &mut warnings)?;
     push_stream_warnings(alloc, count, &streams, findings, &mut warnings)?;
     push_service_warnings(alloc, options.names, &programs, findings, &mut warnings)?;
+    let tables = job_tables(
+        alloc,
+        options.without,
+        count,
+        findings,
+        &programs,
+        &streams,
+        &found.tables,
+    )?;
+    let told = told(&tables, warnings);
     let id = association.transport_stream_id;
-    with_streams(alloc, options, findings, id, programs, warnings, streams)
+    with_streams(
+        alloc, options, findings, id, programs, tables, told, streams,
+    )
 }
 
 // With the PIDs of programs that are found.

@@ -50,7 +50,7 @@ impl<U> Model for JobStream<U> {
 
 /// Whether a program has a stream, as its own or a shared one.
 #[tactic(auto, unfolding(crate::specs::JobStreams::is_stream_of))]
-pub(crate) fn is_stream_of(number: u16, stream: &WireStream) -> bool
+pub(crate) fn is_stream_of<U>(number: u16, stream: &JobStream<U>) -> bool
     ensures { result ≡ spec.is_stream_of number stream.now }
 {
     stream.program == number || is_among(number, &stream.shared_with)

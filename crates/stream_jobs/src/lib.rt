@@ -2,7 +2,7 @@
 //!
 //! `job_input` says what a job takes from what a demultiplexer finds, with which warnings, and what it refuses
 //! (`specs/JobInput`). Step by step: the packets (`specs/Packets`), the programs and streams that the options select
-//! (`specs/JobOptions`, `specs/GivenNames`, `specs/JobPrograms`), their units with the stamps on the wire (`specs/WireStreams`) and at
+//! (`specs/JobOptions`, `specs/GivenNames`, `specs/JobPrograms`, `specs/JobTables`), their units with the stamps on the wire (`specs/WireStreams`) and at
 //! moments of a run (`specs/Moments`, `specs/ProgramClocks`, `specs/ClockBases`), and what is declared of them (`specs/Declarations`). `specs/Warnings` has the
 //! warnings. `describe` and `make_job` write the description (`specs/Texts`), find a rate with a plan (`specs/Rates`),
 //! and give the units in order (`specs/Jobs`), or say why there is no job (`specs/WhyNoJob`).
@@ -22,6 +22,7 @@ mod job_network;
 mod job_options;
 mod job_programs;
 mod job_stream;
+mod job_tables;
 mod moved_streams;
 mod named_service;
 mod nothing_carried;
@@ -30,6 +31,8 @@ mod packets;
 mod program_clock;
 mod rates;
 mod refusal;
+mod table_check;
+mod table_lines;
 mod warning;
 mod warnings;
 mod wire_streams;

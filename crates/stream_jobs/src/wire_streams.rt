@@ -137,7 +137,7 @@ fn stream_if_any(
 
 // Whether a stream is selected: the options do not leave it out.
 #[tactic(auto, unfolding(crate::specs::JobOptions::is_selected_stream))]
-fn is_selected_stream(without: &[u16], stream: &FoundStream) -> bool
+pub(crate) fn is_selected_stream(without: &[u16], stream: &FoundStream) -> bool
     ensures { result ≡ is_selected_stream without.now stream.now }
 {
     !is_among(stream.pid, without)

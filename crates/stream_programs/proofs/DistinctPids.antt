@@ -1,14 +1,16 @@
 -- PIDs of which none stands twice.
 use Rattle.std.proofs.Common.{◌≡◌, ◌≤◌, ◌<◌, ℕ, suc, ◌+◌, ◌==◌, ◌||◌, nat_eq, nat_le, nat_lt, Bool, true, false, if◌then◌else◌, List, [], ◌∷◌, ◌++◌, length, map, append_assoc, append-nil, Option, None, Some, refl, sym, subst, ap, ◌∙◌, inl, inr, arith}
-use Rattle.std.proofs.lemmas.Bool.{cases_Bool, or_parts, leb-false, eqb-false, ne_eqb}
+use Rattle.std.proofs.lemmas.Bool.{and_parts, cases_Bool, not-true, or_parts, leb-false, eqb-false, ne_eqb}
 use Rattle.std.proofs.lemmas.List.{map-append, length-append, length-map}
 use Rattle.std.proofs.lemmas.List.Elements.{All-push, All-nil}
 use Rattle.std.proofs.lemmas.List.Folds.{list_any-append}
-use Rattle.std.proofs.lemmas.List.Sorted.{IsPermutation-append_comm, All-permutation}
+use Rattle.std.proofs.lemmas.List.Sorted.{IsPermutation-append_comm, IsPermutation-append_right, All-permutation}
 use Rattle.std.proofs.lemmas.Map.Keys.{IsDistinct-push, IsDistinct-IsPermutation}
 use Rattle.std.proofs.lemmas.Option.{option_and_then_some}
 use Rattle.std.specs.Cmp.{nat_eq_equiv}
 use Rattle.std.specs.List.{list_any, IsDistinct}
+use Rattle.std.specs.Option.{option_or}
+use Rattle.std.specs.Prelude.{is_none, not}
 use Rattle.psi_tables.specs.ProgramMap.{StreamView, PmtView}
 use Rattle.psi_tables.specs.declared.pat.programs.Program.{Program}
 use Rattle.demux.specs.Views.{FindingView}
@@ -16,7 +18,7 @@ use Rattle.stream_programs.specs.FreePids.{is_taken, least_free}
 use Rattle.stream_programs.specs.Laws.{PidsAreDistinct, EachHasPids}
 use Rattle.stream_programs.specs.PidAssignment.{IsPid, AreDistinctPids, stream_pids, map_pids, assigned_map_pid, assigned_map_pids, with_pcr_pids, assigned_pids, all_pids}
 use Rattle.stream_programs.specs.ProgramMaps.{program_map}
-use Rattle.stream_programs.specs.Programs.{FoundProgramsView, FoundProgramView, nothing, can_share, with_left_out, with_shared, with_stream_if, with_stream, with_streams, is_scrambled_map, with_access, with_program_if, with_map, with_program_by, with_programs, programs_of, kept_stream, kept_program}
+use Rattle.stream_programs.specs.Programs.{FoundProgramsView, FoundProgramView, nothing, can_place, can_share, holder_in, with_left_out, with_table, with_shared, with_stream_if, with_stream, with_streams, is_scrambled_map, with_access, with_program_if, with_map, with_program_by, with_programs, programs_of, kept_stream, kept_program}
 use Rattle.stream_programs.specs.Streams.{FoundStreamView, is_reserved, has_no_pes, holder, is_stream_of, taken, omission_of}
 use Rattle.stream_programs.specs.declared.omission.TableOmission.{TableOmission}
 use Rattle.stream_programs.specs.declared.omission.TableOmission.TheVariants.{NoMap, ConditionalAccess, NoPes, Reserved, Taken, SharedOtherwise, NoStream}
@@ -154,52 +156,99 @@ not_taken : (program pid : ℕ) (o : Option ℕ) → taken program pid o ≡ Non
 not_taken program pid None none = refl
 not_taken program pid (Some other) none = absurd (let no : ⊥ = cc in no)
 
-kept_free : (program type pid : ℕ) (kept : List FoundStreamView) → omission_of program type pid kept ≡ None →
-    (is_taken pid (map (λ (s : FoundStreamView). s.pid) kept) ≡ false) × IsPid pid
+neither_has : (one other : Option ℕ) → option_or one other ≡ None → (one ≡ None) × (other ≡ None)
+neither_has None other none = (refl, none)
+neither_has (Some x) other none = absurd (let no : ⊥ = cc in no)
+
+none_has : (found : FoundProgramsView) (pid : ℕ) → holder_in found pid ≡ None → is_taken pid (stream_pids found) ≡ false
+unfolding holder_in
+none_has found pid none =
+    let parts = neither_has (holder pid found.streams) (holder pid found.tables) none in
+    both pid (map (λ (s : FoundStreamView). s.pid) found.streams) (map (λ (s : FoundStreamView). s.pid) found.tables)
+    (no_holder pid found.streams parts.0) (no_holder pid found.tables parts.1)
+
+kept_free : (found : FoundProgramsView) (program type pid : ℕ) → omission_of program type pid (holder_in found pid) ≡ None →
+    (is_taken pid (stream_pids found) ≡ false) × IsPid pid
 unfolding omission_of
-kept_free program type pid kept none = elim (cases_Bool (has_no_pes type)) [
+kept_free found program type pid none = elim (cases_Bool (has_no_pes type)) [
   | inl sections ↦ absurd (let other = rw sections at none in let no : ⊥ = cc in no)
   | inr pes ↦ elim (cases_Bool (is_reserved pid)) [
     | inl reserved ↦ absurd (let other = rw (pes, reserved) at none in let no : ⊥ = cc in no)
-    | inr usual ↦ (no_holder pid kept (not_taken program pid (holder pid kept) (rw (pes, usual) at none)), is_pid pid usual)
+    | inr usual ↦ (none_has found pid (not_taken program pid (holder_in found pid) (rw (pes, usual) at none)), is_pid pid usual)
   ]
 ]
+
+-- one more stream before the sections
+one_before : (xs ys : List ℕ) (pid : ℕ) → AreDistinctPids ((xs ++ ys) ++ pid ∷ []) → AreDistinctPids ((xs ++ pid ∷ []) ++ ys)
+one_before xs ys pid h =
+    let last : AreDistinctPids (xs ++ (ys ++ pid ∷ [])) = subst (λ (ps : List ℕ). AreDistinctPids ps) (append_assoc xs ys (pid ∷ [])) h in
+    let moved = IsPermutation-append_comm ys (pid ∷ []) in
+    let same = IsPermutation-append_right xs (ys ++ pid ∷ []) (pid ∷ ys) moved in
+    subst (λ (ps : List ℕ). AreDistinctPids ps) (sym (append_assoc xs (pid ∷ []) ys))
+    (record { range = All-permutation IsPid (xs ++ (ys ++ pid ∷ [])) (xs ++ (pid ∷ ys)) same last.range; apart = IsDistinct-IsPermutation nat_eq nat_eq_equiv.symm (xs ++ (ys ++ pid ∷ [])) (xs ++ (pid ∷ ys)) same last.apart })
+
+none_is : (o : Option ℕ) → is_none o ≡ true → o ≡ None
+none_is None h = refl
+none_is (Some x) h = absurd (let no : ⊥ = cc in no)
+
+-- sections that are kept beside the streams, or not
+placed_if : (b : Bool) (found : FoundProgramsView) (s : FoundStreamView) → can_place found s.pid ≡ b → AreDistinctPids (stream_pids found) →
+    AreDistinctPids (map (λ (t : FoundStreamView). t.pid) found.streams ++ map (λ (t : FoundStreamView). t.pid) (if b then found.tables ++ s ∷ [] else found.tables))
+unfolding can_place
+placed_if false found s is h = h
+placed_if true found s is h =
+    let parts = and_parts (not (is_reserved s.pid)) (is_none (holder_in found s.pid)) is in
+    let free = none_has found s.pid (none_is (holder_in found s.pid) parts.1) in
+    let usual = not-true (is_reserved s.pid) parts.0 in
+    subst (λ (ps : List ℕ). AreDistinctPids (map (λ (t : FoundStreamView). t.pid) found.streams ++ ps))
+    (sym (map-append (λ (t : FoundStreamView). t.pid) found.tables (s ∷ [])))
+    (subst (λ (ps : List ℕ). AreDistinctPids ps)
+    (append_assoc (map (λ (t : FoundStreamView). t.pid) found.streams) (map (λ (t : FoundStreamView). t.pid) found.tables) (s.pid ∷ []))
+    (one_more (stream_pids found) s.pid h free (is_pid s.pid usual)))
+
+table_kept : (found : FoundProgramsView) (s : FoundStreamView) → AreDistinctPids (stream_pids found) → AreDistinctPids (stream_pids (with_table found s))
+unfolding with_table
+table_kept found s h = placed_if (can_place found s.pid) found s refl h
 
 -- a stream that is shared, or not
 shared_kept : (found : FoundProgramsView) (holder : ℕ) (s : FoundStreamView) → stream_pids (with_shared found holder s) ≡ stream_pids found
 unfolding with_shared
-shared_kept found holder s = shared_pids s.program s.pid found.streams
+shared_kept found holder s = ap (λ (ps : List ℕ). ps ++ map (λ (t : FoundStreamView). t.pid) found.tables) (shared_pids s.program s.pid found.streams)
 
 taken_kept : (b : Bool) (found : FoundProgramsView) (program pid holder : ℕ) (s : FoundStreamView) →
     stream_pids (if b then with_shared found holder s else with_left_out found (Taken program pid holder)) ≡ stream_pids found
 taken_kept true found program pid holder s = shared_kept found holder s
 taken_kept false found program pid holder s = refl
 
-left_kept : (found : FoundProgramsView) (pcr_pid : ℕ) (s : FoundStreamView) (why : TableOmission) → stream_pids (with_stream_if (Some why) found pcr_pid s) ≡ stream_pids found
+left_kept : (found : FoundProgramsView) (pcr_pid : ℕ) (s : FoundStreamView) (why : TableOmission) → AreDistinctPids (stream_pids found) →
+    AreDistinctPids (stream_pids (with_stream_if (Some why) found pcr_pid s))
 unfolding with_stream_if
-left_kept found pcr_pid s (Taken program pid holder) = taken_kept (can_share found holder pcr_pid s) found program pid holder s
-left_kept found pcr_pid s (NoMap program) = refl
-left_kept found pcr_pid s (ConditionalAccess program) = refl
-left_kept found pcr_pid s (NoPes program pid type) = refl
-left_kept found pcr_pid s (Reserved program pid) = refl
-left_kept found pcr_pid s (SharedOtherwise program pid holder) = refl
-left_kept found pcr_pid s (NoStream program) = refl
+left_kept found pcr_pid s (Taken program pid holder) h = subst AreDistinctPids (sym (taken_kept (can_share found holder pcr_pid s) found program pid holder s)) h
+left_kept found pcr_pid s (NoPes program pid type) h = table_kept found s h
+left_kept found pcr_pid s (NoMap program) h = h
+left_kept found pcr_pid s (ConditionalAccess program) h = h
+left_kept found pcr_pid s (Reserved program pid) h = h
+left_kept found pcr_pid s (SharedOtherwise program pid holder) h = h
+left_kept found pcr_pid s (NoStream program) h = h
 
-one_kept : (found : FoundProgramsView) (program pcr_pid : ℕ) (s : StreamView) (why : Option TableOmission) → omission_of program s.stream_type s.elementary_pid found.streams ≡ why →
+one_kept : (found : FoundProgramsView) (program pcr_pid : ℕ) (s : StreamView) (why : Option TableOmission) →
+    omission_of program s.stream_type s.elementary_pid (holder_in found s.elementary_pid) ≡ why →
     AreDistinctPids (stream_pids found) → AreDistinctPids (stream_pids (with_stream_if why found pcr_pid (kept_stream program s)))
 unfolding with_stream_if
-one_kept found program pcr_pid s (Some why) is h = subst AreDistinctPids (sym (left_kept found pcr_pid (kept_stream program s) why)) h
+one_kept found program pcr_pid s (Some why) is h = left_kept found pcr_pid (kept_stream program s) why h
 one_kept found program pcr_pid s None is h =
-    let free = kept_free program s.stream_type s.elementary_pid found.streams is in
-    subst (λ (ps : List ℕ). AreDistinctPids ps) (sym (map-append (λ (t : FoundStreamView). t.pid) found.streams (kept_stream program s ∷ [])))
-    (one_more (stream_pids found) s.elementary_pid h free.0 free.1)
+    let free = kept_free found program s.stream_type s.elementary_pid is in
+    let streams = map (λ (t : FoundStreamView). t.pid) found.streams in
+    let tables = map (λ (t : FoundStreamView). t.pid) found.tables in
+    subst (λ (ps : List ℕ). AreDistinctPids (ps ++ tables)) (sym (map-append (λ (t : FoundStreamView). t.pid) found.streams (kept_stream program s ∷ [])))
+    (one_before streams tables s.elementary_pid (one_more (stream_pids found) s.elementary_pid h free.0 free.1))
 
 all_kept : (found : FoundProgramsView) (program pcr_pid : ℕ) (ss : List StreamView) → AreDistinctPids (stream_pids found) → AreDistinctPids (stream_pids (with_streams found program pcr_pid ss))
 unfolding with_streams with_stream
 all_kept found program pcr_pid [] h = h
 all_kept found program pcr_pid (s ∷ ss) h =
     all_kept (with_stream found program pcr_pid s) program pcr_pid ss
-    (one_kept found program pcr_pid s (omission_of program s.stream_type s.elementary_pid found.streams) refl h)
+    (one_kept found program pcr_pid s (omission_of program s.stream_type s.elementary_pid (holder_in found s.elementary_pid)) refl h)
 
 access_same : (found : FoundProgramsView) (program : ℕ) (pmt : PmtView) → stream_pids (with_access found program pmt) ≡ stream_pids found
 unfolding with_access

@@ -6,8 +6,9 @@ use Rattle.stream_programs.specs.Programs.{FoundProgramsView}
 use Rattle.stream_programs.specs.Streams.{is_reserved}
 use Rattle.stream_programs.specs.declared.pid_assignment.ProgramPids.{ProgramPids}
 
+-- those of streams, and of sections
 abbrev pub stream_pids : FoundProgramsView → List ℕ
-stream_pids found = map (λ s. s.pid) found.streams
+stream_pids found = map (λ s. s.pid) found.streams ++ map (λ s. s.pid) found.tables
 
 abbrev pub map_pids : FoundProgramsView → List ℕ
 map_pids found = map (λ p. p.map_pid) found.programs

@@ -1,14 +1,15 @@
 -- The programs of a stream and their elementary streams.
-use Rattle.std.specs.Prelude.{ℕ, ◌==◌, ◌||◌, ◌&&◌, not, Bool, if◌then◌else◌, List, [], ◌∷◌, ◌++◌, Option, Some, None}
+use Rattle.std.specs.Prelude.{ℕ, ◌==◌, ◌||◌, ◌&&◌, not, Bool, is_none, is_some, if◌then◌else◌, List, [], ◌∷◌, ◌++◌, Option, Some, None}
 use Rattle.std.specs.List.{list_any}
+use Rattle.std.specs.Option.{option_or}
 use Rattle.psi_tables.specs.ProgramMap.{StreamView, PmtView}
 use Rattle.psi_tables.specs.declared.pat.programs.Program.{Program}
 use Rattle.demux.specs.Views.{FindingView}
 use Rattle.descriptor_loops.specs.Descriptors.{has_ca, kept_descriptors}
 use Rattle.stream_programs.specs.ProgramMaps.{program_map}
-use Rattle.stream_programs.specs.Streams.{FoundStreamView, is_alike, is_shared_with, is_stream_of, omission_of, shared_by}
+use Rattle.stream_programs.specs.Streams.{FoundStreamView, is_alike, is_shared_with, is_stream_of, holder, is_reserved, omission_of, shared_by}
 use Rattle.stream_programs.specs.declared.omission.TableOmission.{TableOmission}
-use Rattle.stream_programs.specs.declared.omission.TableOmission.TheVariants.{NoMap, NoStream, ConditionalAccess, Taken, SharedOtherwise}
+use Rattle.stream_programs.specs.declared.omission.TableOmission.TheVariants.{NoMap, NoPes, NoStream, ConditionalAccess, Taken, SharedOtherwise}
 
 -- a program that has a stream
 pub record FoundProgramView : Type 0 where
@@ -17,14 +18,15 @@ pub record FoundProgramView : Type 0 where
   pub pcr_pid : ℕ
   pub descriptors : List ℕ
 
--- programs, the streams of all of them, and what is left out
+-- programs, the streams of all of them, those of them that are sections, each on a PID of its own, and what is left out: these sections too
 pub record FoundProgramsView : Type 0 where
   pub programs : List FoundProgramView
   pub streams : List FoundStreamView
+  pub tables : List FoundStreamView
   pub left_out : List TableOmission
 
 abbrev pub nothing : FoundProgramsView
-nothing = record { programs = []; streams = []; left_out = [] }
+nothing = record { programs = []; streams = []; tables = []; left_out = [] }
 
 -- 1. A stream of a program's map beside what is kept of the maps before it
 
@@ -38,10 +40,26 @@ kept_stream number s = record {
 }
 
 abbrev pub with_left_out : FoundProgramsView → TableOmission → FoundProgramsView
-with_left_out found why = record { programs = found.programs; streams = found.streams; left_out = found.left_out ++ why ∷ [] }
+with_left_out found why = record { programs = found.programs; streams = found.streams; tables = found.tables; left_out = found.left_out ++ why ∷ [] }
 
 abbrev pub with_kept : FoundProgramsView → FoundStreamView → FoundProgramsView
-with_kept found s = record { programs = found.programs; streams = found.streams ++ s ∷ []; left_out = found.left_out }
+with_kept found s = record { programs = found.programs; streams = found.streams ++ s ∷ []; tables = found.tables; left_out = found.left_out }
+
+-- the program of the stream, or else of the sections, that have a PID
+unfoldable pub holder_in : FoundProgramsView → ℕ → Option ℕ
+holder_in found pid = option_or (holder pid found.streams) (holder pid found.tables)
+
+-- sections, where nothing has their PID
+unfoldable pub can_place : FoundProgramsView → ℕ → Bool
+can_place found pid = not (is_reserved pid) && is_none (holder_in found pid)
+
+unfoldable pub with_table : FoundProgramsView → FoundStreamView → FoundProgramsView
+with_table found s = record {
+  programs = found.programs;
+  streams = found.streams;
+  tables = if can_place found s.pid then found.tables ++ s ∷ [] else found.tables;
+  left_out = found.left_out ++ NoPes s.program s.pid s.stream_type ∷ [];
+}
 
 -- a program of this number has its clock references on this PID (2.4.4.9; 0x1FFF is none), so with another that has them there
 -- one clock
@@ -52,9 +70,10 @@ has_clock programs number pcr_pid = not (pcr_pid == 8191) && list_any (λ p. p.n
 unfoldable pub shares : List FoundStreamView → ℕ → ℕ → Bool
 shares streams number pid = list_any (λ s. s.pid == pid && is_shared_with number s) streams
 
--- a stream of a holder's is shared where both have one clock, once
+-- a stream of a holder's, no sections, is shared where both have one clock, once
 unfoldable pub can_share : FoundProgramsView → ℕ → ℕ → FoundStreamView → Bool
-can_share found holder pcr_pid s = has_clock found.programs holder pcr_pid && not (shares found.streams s.program s.pid)
+can_share found other pcr_pid s =
+    is_some (holder s.pid found.streams) && (has_clock found.programs other pcr_pid && not (shares found.streams s.program s.pid))
 
 -- it is shared; where the map says something else of it, that is left out
 abbrev pub otherwise : FoundStreamView → ℕ → TableOmission
@@ -64,6 +83,7 @@ unfoldable pub with_shared : FoundProgramsView → ℕ → FoundStreamView → F
 with_shared found holder s = record {
   programs = found.programs;
   streams = shared_by s.program s.pid found.streams;
+  tables = found.tables;
   left_out = if list_any (is_alike s) found.streams then found.left_out else found.left_out ++ otherwise s holder ∷ [];
 }
 
@@ -72,10 +92,11 @@ unfoldable pub with_stream_if : Option TableOmission → FoundProgramsView → �
 with_stream_if None found pcr_pid s = with_kept found s
 with_stream_if (Some (Taken program pid holder)) found pcr_pid s =
     if can_share found holder pcr_pid s then with_shared found holder s else with_left_out found (Taken program pid holder)
+with_stream_if (Some (NoPes program pid stream_type)) found pcr_pid s = with_table found s
 with_stream_if (Some why) found pcr_pid s = with_left_out found why
 
 unfoldable pub with_stream : FoundProgramsView → ℕ → ℕ → StreamView → FoundProgramsView
-with_stream found number pcr_pid s = with_stream_if (omission_of number s.stream_type s.elementary_pid found.streams) found pcr_pid (kept_stream number s)
+with_stream found number pcr_pid s = with_stream_if (omission_of number s.stream_type s.elementary_pid (holder_in found s.elementary_pid)) found pcr_pid (kept_stream number s)
 
 unfoldable pub with_streams : FoundProgramsView → ℕ → ℕ → List StreamView → FoundProgramsView
 with_streams found number pcr_pid [] = found
@@ -97,7 +118,7 @@ with_access found number pmt = if is_scrambled_map pmt then with_left_out found 
 -- a program is kept if it has a stream, of its own or shared
 unfoldable pub with_program_if : FoundProgramsView → FoundProgramView → FoundProgramsView
 with_program_if found p =
-    if list_any (is_stream_of p.number) found.streams then record { programs = found.programs ++ p ∷ []; streams = found.streams; left_out = found.left_out }
+    if list_any (is_stream_of p.number) found.streams then record { programs = found.programs ++ p ∷ []; streams = found.streams; tables = found.tables; left_out = found.left_out }
     else with_left_out found (NoStream p.number)
 
 abbrev pub kept_program : Program → PmtView → FoundProgramView

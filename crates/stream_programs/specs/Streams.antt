@@ -33,11 +33,11 @@ abbrev pub taken : ℕ → ℕ → Option ℕ → Option TableOmission
 taken program pid None = None
 taken program pid (Some other) = Some (Taken program pid other)
 
--- why a stream is left out beside those that are kept
-unfoldable pub omission_of : ℕ → ℕ → ℕ → List FoundStreamView → Option TableOmission
-omission_of program stream_type pid kept =
+-- why a stream is left out, where its PID has this holder
+unfoldable pub omission_of : ℕ → ℕ → ℕ → Option ℕ → Option TableOmission
+omission_of program stream_type pid holder =
     if has_no_pes stream_type then Some (NoPes program pid stream_type)
-    else (if is_reserved pid then Some (Reserved program pid) else taken program pid (holder pid kept))
+    else (if is_reserved pid then Some (Reserved program pid) else taken program pid holder)
 
 -- a program shares a stream
 unfoldable pub is_shared_with : ℕ → FoundStreamView → Bool

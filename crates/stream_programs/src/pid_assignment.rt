@@ -20,13 +20,22 @@ pub struct ProgramPids {
     pub pcr_pid: u16,
 }
 
-fn stream_pids<A: Allocator>(
-    alloc: A,
-    streams: &[FoundStream<A>],
-) -> Result<Vec<u16, A>, AllocError>
+fn pids_of<A: Allocator>(alloc: A, streams: &[FoundStream<A>]) -> Result<Vec<u16, A>, AllocError>
     ensures { IfOk result (λ pids. pids.items ≡ map (λ s. s.pid) streams.now) }
 {
     streams.iter().map(|stream| stream.pid).collect(alloc)
+}
+
+// The PIDs of streams, and of sections.
+fn stream_pids<A: Allocator + Copy>(
+    alloc: A,
+    found: &FoundPrograms<A>,
+) -> Result<Vec<u16, A>, AllocError>
+    ensures { IfOk result (λ pids. pids.items ≡ spec.stream_pids found.now) }
+{
+    let streams = pids_of(alloc, &found.streams)?;
+    let tables = pids_of(alloc, &found.tables)?;
+    joined(alloc, &streams, &tables)
 }
 
 fn map_pids<A: Allocator>(alloc: A, programs: &[FoundProgram<A>]) -> Result<Vec<u16, A>, AllocError>
@@ -115,7 +124,7 @@ pub fn assigned_pids<A: Allocator + Copy>(
 ) -> Result<Option<Vec<ProgramPids, A>>, AllocError>
     ensures { IfOk result (λ places. option_map (λ given. given.items) places ≡ spec.assigned_pids found.now) }
 {
-    let streams = stream_pids(alloc, &found.streams)?;
+    let streams = stream_pids(alloc, found)?;
     let maps = map_pids(alloc, &found.programs)?;
     match assigned_map_pids(alloc, &streams, &maps)? {
         None => Ok(None),

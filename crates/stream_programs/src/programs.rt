@@ -1,15 +1,18 @@
 //! The programs of a stream and their elementary streams.
 
-ghost use Rattle.std.specs.Prelude.{◌≡◌, ◌==◌, ◌&&◌, not, IfOk, OnOk, map};
+ghost use Rattle.std.specs.Prelude.{◌≡◌, ◌==◌, ◌&&◌, not, IfOk, OnOk, is_some, map};
 ghost use Rattle.std.specs.List.{list_any};
 ghost use Rattle.psi_tables.specs.ProgramMap.{pmt_view, stream_view, streams_of};
 ghost use Rattle.demux.specs.Shown.{finding_view};
 ghost use Rattle.stream_programs.specs.ProgramMaps.{program_map};
 ghost use Rattle.stream_programs.specs.Programs as spec;
+ghost use Rattle.stream_programs.specs.Streams as held;
 
 use crate::omission::TableOmission;
 use crate::program_map::last_program_map;
-use crate::streams::{FoundStream, has_alike, has_stream_of, omission_of, share};
+use crate::streams::{
+    FoundStream, has_alike, has_stream_of, holder, is_reserved, omission_of, share,
+};
 use demux::Finding;
 use descriptor_loops::{has_ca, kept_descriptors};
 use psi_tables::{Pmt, Program, Stream, Streams};
@@ -53,7 +56,9 @@ pub struct FoundPrograms<A: Allocator = Global> {
     /// By program, then in the order of its program map table. No two have the same PID: one that several programs have is the
     /// first one's.
     pub streams: Vec<FoundStream<A>, A>,
-    /// What is left out, program by program.
+    /// Streams of sections, each on a PID that no stream and none of these has before it.
+    pub tables: Vec<FoundStream<A>, A>,
+    /// What is left out, program by program; all streams of sections are.
     pub left_out: Vec<TableOmission, A>,
 }
 
@@ -66,6 +71,7 @@ impl<A: Allocator> Model for FoundPrograms<A> {
     ghost view = { λ p. record {
       programs = p.programs.items;
       streams = p.streams.items;
+      tables = p.tables.items;
       left_out = p.left_out.items;
     } };
 }
@@ -106,18 +112,20 @@ fn shares<A: Allocator>(streams: &[FoundStream<A>], number: u16, pid: u16) -> bo
     streams.iter().any(|stream| stream.pid == pid && stream.is_shared_with(number))
 }
 
-// Whether a program can share the stream that a holder has: both have one clock, and it does not share it already.
+// Whether a program can share the stream that another has, no sections: both have one clock, and it does not share it already.
 fn can_share<A: Allocator>(
     programs: &[FoundProgram<A>],
     streams: &[FoundStream<A>],
-    holder: u16,
+    other: u16,
     pcr_pid: u16,
     stream: &FoundStream<A>,
 ) -> bool
-    ensures { result ≡ (spec.has_clock programs.now holder pcr_pid
-        && not (spec.shares streams.now stream.now.program stream.now.pid)) }
+    ensures { result ≡ (is_some (held.holder stream.now.pid streams.now) && (spec.has_clock programs.now other pcr_pid
+        && not (spec.shares streams.now stream.now.program stream.now.pid))) }
 {
-    has_clock(programs, holder, pcr_pid) && !shares(streams, stream.program, stream.pid)
+    holder(stream.pid, streams).is_some()
+        && has_clock(programs, other, pcr_pid)
+        && !shares(streams, stream.program, stream.pid)
 }
 
 impl<A: Allocator + Copy> FoundPrograms<A> {
@@ -127,8 +135,45 @@ impl<A: Allocator + Copy> FoundPrograms<A> {
         FoundPrograms {
             programs: Vec::new(alloc),
             streams: Vec::new(alloc),
+            tables: Vec::new(alloc),
             left_out: Vec::new(alloc),
         }
+    }
+
+    // The program of the stream, or else of the sections, that have a PID.
+    #[tactic(auto, unfolding(crate::specs::Programs::holder_in))]
+    fn holder_of(&self, pid: u16) -> Option<u16>
+        ensures { result ≡ spec.holder_in self.now pid }
+    {
+        match holder(pid, &self.streams) {
+            Some(program) => Some(program),
+            None => holder(pid, &self.tables),
+        }
+    }
+
+    // Whether sections can be kept on a PID: it is none of a table's, and nothing has it.
+    #[tactic(auto, unfolding(crate::specs::Programs::can_place))]
+    fn can_place(&self, pid: u16) -> bool
+        ensures { result ≡ spec.can_place self.now pid }
+    {
+        !is_reserved(pid) && self.holder_of(pid).is_none()
+    }
+
+    // Leaves out a stream of sections, and keeps it beside the streams where its PID is free.
+    #[tactic(auto, unfolding(crate::specs::Programs::with_table))]
+    fn note_table(&mut self, stream: FoundStream<A>) -> Result<(), AllocError>
+        ensures { OnOk result (self.new ≡ spec.with_table self.old stream) }
+    {
+        let (program, pid, stream_type) = (stream.program, stream.pid, stream.stream_type);
+        if self.can_place(pid) {
+            self.tables.push(stream)?;
+        }
+        self.left_out.push(TableOmission::NoPes {
+            program,
+            pid,
+            stream_type,
+        })?;
+        Ok(())
     }
 
     // Shares a holder's stream.
@@ -175,6 +220,7 @@ impl<A: Allocator + Copy> FoundPrograms<A> {
                     holder,
                 })?;
             }
+            Some(TableOmission::NoPes { .. }) => return self.note_table(stream),
             Some(why) => self.left_out.push(why)?,
         }
         Ok(())
@@ -192,7 +238,7 @@ impl<A: Allocator + Copy> FoundPrograms<A> {
         ensures { OnOk result (self.new ≡ spec.with_stream self.old program pcr_pid (stream_view stream.entry)) }
     {
         let (stream_type, pid) = (stream.stream_type, stream.elementary_pid);
-        let why = omission_of(program, stream_type, pid, &self.streams);
+        let why = omission_of(program, stream_type, pid, self.holder_of(pid));
         let descriptors = kept_descriptors(alloc, stream.descriptors)?;
         let stream = FoundStream {
             program,

@@ -61,8 +61,8 @@ pub(crate) fn is_reserved(pid: u16) -> bool
     pid < 32 || pid >= 8191
 }
 
-// The program of the stream that has a PID.
-fn holder<A: Allocator>(pid: u16, streams: &[FoundStream<A>]) -> Option<u16>
+/// The program of the stream that has a PID.
+pub(crate) fn holder<A: Allocator>(pid: u16, streams: &[FoundStream<A>]) -> Option<u16>
     ensures { result ≡ spec.holder pid streams.now }
 {
     for stream in streams {
@@ -139,15 +139,15 @@ pub(crate) fn share<A: Allocator>(
     Ok(())
 }
 
-/// Why a stream is left out beside those that are kept.
+/// Why a stream is left out, where its PID has this holder.
 #[tactic(auto, unfolding(crate::specs::Streams::omission_of))]
-pub(crate) fn omission_of<A: Allocator>(
+pub(crate) fn omission_of(
     program: u16,
     stream_type: u8,
     pid: u16,
-    kept: &[FoundStream<A>],
+    holder: Option<u16>,
 ) -> Option<TableOmission>
-    ensures { result ≡ spec.omission_of program stream_type pid kept.now }
+    ensures { result ≡ spec.omission_of program stream_type pid holder }
 {
     if has_no_pes(stream_type) {
         return Some(TableOmission::NoPes {
@@ -159,7 +159,7 @@ pub(crate) fn omission_of<A: Allocator>(
     if is_reserved(pid) {
         return Some(TableOmission::Reserved { program, pid });
     }
-    match holder(pid, kept) {
+    match holder {
         None => None,
         Some(holder) => Some(TableOmission::Taken {
             program,

@@ -1,6 +1,6 @@
 //! A description of two programs, written, and written with little memory.
 
-use job_text::{Heading, ProgramPart, StreamPart, texts_are_read};
+use job_text::{Heading, ProgramPart, StreamPart, TablePart, texts_are_read};
 use linked_list_allocator::LocalHeap;
 use std::alloc::{AllocError, Allocator, Global};
 use unit_records::records_are_read;
@@ -183,4 +183,38 @@ fn text_of_two_programs(rt: HostRuntime) {
     records_are_read();
     let refused = refusals(rt.alloc()).unwrap_or(0);
     assert!(rt; is_written(rt.alloc()) == Ok(true) && 0 < refused && refused < 200);
+}
+
+const TABLE: &str = "
+[[table]]
+descriptors = \"\"
+limit = 30000
+pid = 8190
+program = 65535
+sections = [\"fc3000\", \"90b00a0005c1000101\"]
+stream_type = 134
+";
+
+// Whether a private table of two sections is written so.
+fn is_table_written(alloc: Global) -> Result<bool, AllocError> {
+    let mut sections = Vec::new(alloc);
+    sections.push(Vec::from_slice(alloc, &[0xFC, 0x30, 0x00])?)?;
+    let bytes = [0x90, 0xB0, 0x0A, 0x00, 0x05, 0xC1, 0x00, 0x01, 0x01];
+    sections.push(Vec::from_slice(alloc, &bytes)?)?;
+    let table = TablePart {
+        pid: 8_190,
+        limit: 30_000,
+        sections: &sections,
+        program: 65_535,
+        stream_type: 0x86,
+        descriptors: &[],
+    };
+    let mut text = String::new(alloc);
+    table.write_text(alloc, &mut text)?;
+    Ok(text.as_str() == TABLE)
+}
+
+#[test]
+fn text_of_a_private_table(rt: HostRuntime) {
+    assert!(rt; is_table_written(rt.alloc()) == Ok(true));
 }

@@ -10,6 +10,7 @@ use Rattle.stream_jobs.specs.JobPrograms.{JobProgramView, job_programs, all_prog
 use Rattle.stream_jobs.specs.JobInput.{service_warnings, with_streams}
 use Rattle.stream_jobs.specs.Warnings.{pid_warnings}
 use Rattle.stream_jobs.specs.WireStreams.{wire_streams, all_empty_stream_warnings}
+use Rattle.stream_jobs.specs.JobTables.{job_tables, told}
 use Rattle.stream_jobs.specs.JobStreams.{WireStreamView}
 use Rattle.stream_jobs.proofs.JobInputs.{all_warnings, in_pids}
 use Rattle.stream_jobs.proofs.input.with_pids.Goals as goal
@@ -30,11 +31,14 @@ returns-clause-value c =
     let pushed : c.push_service_warnings.new.warnings.items ≡ c.push_stream_warnings.new.warnings.items ++ service_warnings c.options.inside.names.now findings c.deref-3.result.now = c.in_ok-push_service_warnings.ensures in
     let texts : c.push_service_warnings.new.warnings.items ≡ c.push_stream_warnings.new.warnings.items ++ service_warnings options.names findings (job_programs streams c.args.found.programs c.args.assigned.items) =
     pushed ∙ ap₂ (λ (ns : List ServiceNameView) (ps : List JobProgramView). c.push_stream_warnings.new.warnings.items ++ service_warnings ns findings ps) names (c.deref-3.ensures.value ∙ made) in
+    let tables : c.in_ok-tables.tables.items ≡ job_tables options.without c.args.count findings c.in_ok-programs.programs.items streams c.args.found.tables = search (rules, c.in_ok-tables.ensures) in
+    let left : c.told-told.result.items ≡ told c.in_ok-tables.tables.items c.push_service_warnings.new.warnings.items = search (rules, c.told-told.ensures) in
     let id = ap (λ (a : AssociationView). a.transport_stream_id) c.association.view_is in
-    let value : Answers (with_streams options findings c.args.association.now.transport_stream_id c.in_ok-programs.programs.items c.push_service_warnings.new.warnings.items streams) c.with_streams.result = search (rules, c.with_streams.ensures.value, id) in
+    let value : Answers (with_streams options findings c.args.association.now.transport_stream_id c.in_ok-programs.programs.items c.in_ok-tables.tables.items c.told-told.result.items streams) c.with_streams.result =
+    search (rules, c.with_streams.ensures.value, id) in
     let warnings = all_warnings options c.args.count findings c.args.association.now c.args.named.now c.args.found c.args.assigned.items streams
     c.in_ok-warnings.warnings.items c.wire_streams.new.warnings.items c.job_programs.new.warnings.items c.push_stream_warnings.new.warnings.items c.push_service_warnings.new.warnings.items
     c.in_ok-warnings.ensures empties programs pids texts in
     in_pids options c.args.count findings c.args.association.now c.args.named.now c.args.found c.args.assigned.items streams
-    c.in_ok-programs.programs.items c.push_service_warnings.new.warnings.items c.with_streams.result
-    are made warnings value
+    c.in_ok-programs.programs.items c.in_ok-tables.tables.items c.push_service_warnings.new.warnings.items c.told-told.result.items c.with_streams.result
+    are made tables warnings left value

@@ -49,6 +49,7 @@ fn programs<A: Allocator + Copy>(
     Ok(FoundPrograms {
         programs,
         streams,
+        tables: Vec::new(alloc),
         left_out: Vec::new(alloc),
     })
 }
