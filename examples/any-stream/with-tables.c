@@ -16,7 +16,7 @@
 #include <bitstream/scte/35.h>
 
 enum { SPLICE_PID = 0x1F0, APPLICATION_PID = 0x1F1, NETWORK_PID = 0x10, EVENT_PID = 0x12, TIME_PID = 0x14, PIDS = 8192 };
-enum { SPLICE_TYPE = 0x86, PRIVATE_TYPE = 0x05, NETWORK = 0x3001, ORIGINAL_NETWORK = 0x20FA };
+enum { SPLICE_TYPE = 0x86, PRIVATE_TYPE = 0x05, NETWORK = 0x3001, ORIGINAL_NETWORK = 0xFF01 /* as in the SDT of ffmpeg */ };
 static const time_t BEGIN = 1793048400; /* 2026-10-26T21:00:00 */
 
 static uint8_t counters[PIDS];

@@ -4,3 +4,4 @@ pub mod TableLines
 pub mod InformationLines
 pub mod WarningLines
 pub mod RefusalLine
+pub mod InputLines

@@ -2,17 +2,19 @@
 //!
 //! `slip_lines` has those for packets that do not stand in step or are of another size, `field_lines` those for fields that are not
 //! written again, `table_lines` those for tables that no job is made of, `warning_lines` those for the warnings of a job (`information_lines` of its service information), and
-//! `refusal_line` the one for a stream that is refused. `specs/` has the text of each.
+//! `refusal_line` the one for a stream that is refused; `input_lines` those about one of several inputs. `specs/` has the text of each.
 #![tactic(auto)]
 
 mod field_lines;
 mod information_lines;
+mod input_lines;
 mod refusal_line;
 mod slip_lines;
 mod table_lines;
 mod warning_lines;
 
 pub use field_lines::{are_needed, told_fields, write_fields};
+pub use input_lines::{are_lost, write_input, write_notes};
 pub use refusal_line::write_refusal;
 pub use slip_lines::{write_packets, write_slips};
 pub use table_lines::{are_missed, told_tables, write_other_tables};

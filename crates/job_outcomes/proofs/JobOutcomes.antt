@@ -1,5 +1,6 @@
 -- What is written of an answer, and what the input that was read leads to.
-use Rattle.std.proofs.Common.{◌≡◌, ◌∙◌, ◌++◌, ◌∷◌, ◌/◌, ◌==◌, ◌&&◌, ℕ, suc, Bool, true, false, List, [], length, refl, sym, ap, subst, append-nil, Option, Some, None, Result, Ok, Err, IsUtf8, inl, inr, arith}
+use Rattle.std.proofs.Common.{◌≡◌, ◌∙◌, ◌++◌, ◌∷◌, ◌/◌, ◌==◌, ◌&&◌, ℕ, suc, Bool, true, false, List, [], length, refl, sym, ap, subst, append-nil, Option, Some, None, Result, Ok, Err, IfOk, IsUtf8, All, inl, inr, arith}
+use Rattle.std.specs.List.{AllZip}
 use Rattle.std.proofs.lemmas.Bool.Decides.{nat_tests}
 use Rattle.pes_packet.specs.AccessUnits.{AccessUnit}
 use Rattle.description.specs.Described.{Described}
@@ -7,7 +8,8 @@ use Rattle.slot_plan.specs.Conditions.{IsServing}
 use Rattle.slot_plan.specs.Planned.{Planned, plan_error}
 use Rattle.slot_plan.specs.Text.{plan_text}
 use Rattle.stream_jobs.specs.Answers.{Answers, Refuses}
-use Rattle.stream_jobs.specs.Jobs.{AllAgree, AreUnits, IsJob}
+use Rattle.stream_jobs.specs.Jobs.{AllAgree, AreStreams, AreUnits, FitsQueue, IsDescription, IsJob}
+use Rattle.stream_jobs.specs.JoinedInputs.{AreStreamsIn, AreUnitsIn, IsFoundIn, JoinedInputsView}
 use Rattle.stream_jobs.specs.JobInput.{JobInputView, job_input}
 use Rattle.stream_jobs.specs.WhyNoJob.{IsWhyNoDescription, IsWhyNoReasons}
 use Rattle.stream_jobs.specs.JobOptions.{JobOptionsView}
@@ -29,10 +31,11 @@ use Rattle.packet_sync.specs.OtherPackets.{other_packets}
 use Rattle.packet_sync.specs.Slips.{carried}
 use Rattle.packet_sync.specs.declared.packet_sizes.OtherPackets.{OtherPackets}
 use Rattle.job_lines.specs.SlipLines.{packets_line}
-use Rattle.job_outcomes.specs.Outcomes.{BytesLead, FindingsLead, GivesJob, IsFound, IsTold, IsWritten, Leads, InputLeads, ReportsWhy, Withholds, found_line}
+use Rattle.job_outcomes.specs.Outcomes.{BytesLead, FindingsLead, Gives, GivesJob, GivesReasons, GivesUnits, IsFound, IsTold, IsWritten, Leads, InputLeads, ReportsWhy, Withholds, found_line}
 use Rattle.std.specs.Int.{bytes_high_first}
 use Rattle.unit_records.specs.Records.{record_head}
 use Rattle.unit_output.specs.Records.{records_of, written}
+use Rattle.job_outcomes.specs.SeveralInputs.{GivesJobIn}
 use Rattle.job_outcomes.specs.Streams.{IsOfStream, IsRead, PacketNotesView, ReadingView, findings_of}
 
 -- 1. What a subcommand gives
@@ -62,7 +65,7 @@ nothing_written [] (p ∷ plan) units = rw (cons_is_not p plan) (sym (cons_is_no
 nothing_written (t ∷ text) plan units = rw (cons_is_not t text) (sym (cons_is_not t ((text ++ plan) ++ records_of units)))
 
 pub given_job : (w : JobOptionsView) (findings : List FindingView) (m : JobInputView) (text plan : List ℕ) (d : Described) (p q : Planned) (units : List (ℕ × AccessUnit)) →
-    IsJob w findings m d text units → AreUnits w.make_dts findings d units → AllAgree d m → IsServing d p → IsUtf8 text → plan_error q.slots q.certificate ≡ None → plan ≡ plan_text q → q ≡ p →
+    IsJob w m d text units → AreUnits w.make_dts findings d units → AllAgree d m → IsServing d p → IsUtf8 text → plan_error q.slots q.certificate ≡ None → plan ≡ plan_text q → q ≡ p →
     GivesJob w findings m (written text plan units)
 given_job w findings m text plan d p q units j u a s utf8 within e f = record {
   description = d;
@@ -78,40 +81,81 @@ given_job w findings m text plan d p q units j u a s utf8 within e f = record {
   is = ap (λ (x : List ℕ). written text x units) (e ∙ ap plan_text f);
 }
 
+-- the same of joined inputs
+pub given_job_in : (w : JobOptionsView) (inputs : List (List FindingView)) (j : JoinedInputsView) (m : JobInputView) (text plan : List ℕ) (d : Described) (p q : Planned) (units : List (ℕ × AccessUnit)) →
+    j.input ≡ m → IsJob w m d text units → AreUnitsIn w.make_dts inputs j.origins d units → AllAgree d m → IsServing d p → IsUtf8 text → plan_error q.slots q.certificate ≡ None → plan ≡ plan_text q → q ≡ p →
+    GivesJobIn w inputs j (written text plan units)
+given_job_in w inputs j m text plan d p q units same job u a s utf8 within e f = record {
+  description = d;
+  text = text;
+  plan = p;
+  units = units;
+  job = subst (λ (x : JobInputView). IsJob w x d text units) (sym same) job;
+  found = u;
+  agree = subst (λ (x : JobInputView). AllAgree d x) (sym same) a;
+  serving = s;
+  utf8 = utf8;
+  within = subst (λ (x : Planned). plan_error x.slots x.certificate ≡ None) f within;
+  is = ap (λ (x : List ℕ). written text x units) (e ∙ ap plan_text f);
+}
+
+-- their streams are those of the input
+pub found_in_input : (made : Bool) (inputs : List (List FindingView)) (j : JoinedInputsView) (m : JobInputView) → j.input ≡ m → AreStreamsIn made inputs j →
+    AllZip (IsFoundIn made inputs) j.origins m.streams × All FitsQueue m.streams
+found_in_input made inputs j m same streams =
+    (subst (λ (x : JobInputView). AllZip (IsFoundIn made inputs) j.origins x.streams) same streams.found, subst (λ (x : JobInputView). All FitsQueue x.streams) same streams.fits)
+
+-- what is so of an input is so of the joined inputs that it is
+pub described_in : (w : JobOptionsView) (j : JoinedInputsView) (m : JobInputView) (output : List ℕ) → j.input ≡ m → IsDescription w m output → IsDescription w j.input output
+described_in w j m output same is = subst (λ (x : JobInputView). IsDescription w x output) (sym same) is
+
+pub units_given_in : (j : JoinedInputsView) (m : JobInputView) (output : List ℕ) → j.input ≡ m → GivesUnits m output → GivesUnits j.input output
+units_given_in j m output same is = subst (λ (x : JobInputView). GivesUnits x output) (sym same) is
+
+pub reasons_given_in : (w : JobOptionsView) (j : JoinedInputsView) (m : JobInputView) (output : List ℕ) → j.input ≡ m → GivesReasons w m output → GivesReasons w j.input output
+reasons_given_in w j m output same is = subst (λ (x : JobInputView). GivesReasons w x output) (sym same) is
+
+-- a whole job is given, where it is asked for
+pub whole_given : (subcommand : Subcommand) (w v : JobOptionsView) (findings : List FindingView) (m : JobInputView) (r : Result (List ℕ) JobError) → subcommand ≡ Whole → w ≡ v →
+    ((all : List FindingView) → AreStreams w.make_dts all m → IfOk r (λ p. GivesJob w all m p)) → AreStreams v.make_dts findings m → IfOk r (λ p. Gives subcommand v findings m p)
+whole_given subcommand w v findings m r is same given streams =
+    subst (λ (x : Subcommand). IfOk r (λ p. Gives x v findings m p)) (sym is)
+    (subst (λ (x : JobOptionsView). IfOk r (λ p. GivesJob x findings m p)) same (given findings (subst (λ (x : JobOptionsView). AreStreams x.make_dts findings m) (sym same) streams)))
+
 -- four texts, one after another
 pub four_texts : (a b c d first second third fourth : List ℕ) → a ≡ first → b ≡ a ++ second → c ≡ b ++ third → d ≡ c ++ fourth → d ≡ first ++ second ++ third ++ fourth
 four_texts a b c d first second third fourth e f h k =
     k ∙ ap (λ (x : List ℕ). x ++ fourth) (h ∙ ap (λ (x : List ℕ). x ++ third) (f ∙ ap (λ (x : List ℕ). x ++ second) e))
 
 -- reasons, and what is found by trying rates
-pub told_nothing : (w : JobOptionsView) (findings : List FindingView) (m : JobInputView) (lines output : List ℕ) → (length lines == 0) ≡ true → output ≡ lines →
-    IsTold (length lines == 0) w findings m lines output
-told_nothing w findings m lines output e h = subst (λ (b : Bool). IsTold b w findings m lines output) (sym e) h
+pub told_nothing : (w : JobOptionsView) (m : JobInputView) (lines output : List ℕ) → (length lines == 0) ≡ true → output ≡ lines →
+    IsTold (length lines == 0) w m lines output
+told_nothing w m lines output e h = subst (λ (b : Bool). IsTold b w m lines output) (sym e) h
 
-pub told_found : (w : JobOptionsView) (findings : List FindingView) (m : JobInputView) (lines output : List ℕ) (found : Option ℕ) → (length lines == 0) ≡ false →
-    IsFound w findings m found → output ≡ lines ++ found_line found → IsTold (length lines == 0) w findings m lines output
-told_found w findings m lines output found e f h =
-    subst (λ (b : Bool). IsTold b w findings m lines output) (sym e) (record { found = found; tried = f; is = h })
+pub told_found : (w : JobOptionsView) (m : JobInputView) (lines output : List ℕ) (found : Option ℕ) → (length lines == 0) ≡ false →
+    IsFound w m found → output ≡ lines ++ found_line found → IsTold (length lines == 0) w m lines output
+told_found w m lines output found e f h =
+    subst (λ (b : Bool). IsTold b w m lines output) (sym e) (record { found = found; tried = f; is = h })
 
 -- 2. What a job input leads to
 
-undescribed : (rate : Option ℕ) (w : JobOptionsView) (findings : List FindingView) (m : JobInputView) → IsWhyNoDescription rate w findings m Memory
-undescribed (Some arguments) w findings m = refl
-undescribed None w findings m = tt
+undescribed : (rate : Option ℕ) (w : JobOptionsView) (m : JobInputView) → IsWhyNoDescription rate w m Memory
+undescribed (Some arguments) w m = refl
+undescribed None w m = tt
 
-unreasoned : (rate : Option ℕ) (w : JobOptionsView) (findings : List FindingView) (m : JobInputView) → IsWhyNoReasons rate w findings m Memory
-unreasoned (Some arguments) w findings m = tt
-unreasoned None w findings m = tt
+unreasoned : (rate : Option ℕ) (w : JobOptionsView) (m : JobInputView) → IsWhyNoReasons rate w m Memory
+unreasoned (Some arguments) w m = tt
+unreasoned None w m = tt
 
 -- there is no memory for what a subcommand gives
-pub no_memory : (subcommand : Subcommand) (w : JobOptionsView) (findings : List FindingView) (m : JobInputView) (error : JobError) → error ≡ Memory → Withholds subcommand w findings m error
-no_memory Whole w findings m error e = subst (λ (x : JobError). Withholds Whole w findings m x) (sym e) tt
-no_memory Describe w findings m error e = subst (λ (x : JobError). Withholds Describe w findings m x) (sym e) (undescribed w.rate w findings m)
-no_memory Units w findings m error e = e
-no_memory Why w findings m error e = subst (λ (x : JobError). Withholds Why w findings m x) (sym e) (unreasoned w.rate w findings m)
+pub no_memory : (subcommand : Subcommand) (w : JobOptionsView) (m : JobInputView) (error : JobError) → error ≡ Memory → Withholds subcommand w m error
+no_memory Whole w m error e = subst (λ (x : JobError). Withholds Whole w m x) (sym e) tt
+no_memory Describe w m error e = subst (λ (x : JobError). Withholds Describe w m x) (sym e) (undescribed w.rate w m)
+no_memory Units w m error e = e
+no_memory Why w m error e = subst (λ (x : JobError). Withholds Why w m x) (sym e) (unreasoned w.rate w m)
 
 pub withheld : (arguments : JobArgumentsView) (notes : PacketNotesView) (findings : List FindingView) (m : JobInputView) (error : JobError) (o : Outcome) →
-    Withholds arguments.subcommand arguments.options findings m error → ReportsWhy error o → InputLeads arguments notes findings (Ok m) o
+    Withholds arguments.subcommand arguments.options m error → ReportsWhy error o → InputLeads arguments notes findings (Ok m) o
 withheld arguments notes findings m Memory o h t = absurd t
 withheld arguments notes findings m (Refused refusal) o h t = inr (record { refusal = refusal; holds = h; is = t })
 

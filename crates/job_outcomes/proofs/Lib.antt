@@ -1,3 +1,4 @@
 pub mod Carrying
 pub mod JobOutcomes
 pub mod Fronts
+mod StreamFiles

@@ -54,7 +54,7 @@ pub record GivesJob (w : JobOptionsView) (findings : List FindingView) (m : JobI
   pub text : List ℕ
   pub plan : Planned
   pub units : List (ℕ × AccessUnit)
-  pub job : IsJob w findings m description text units
+  pub job : IsJob w m description text units
   pub found : AreUnits w.make_dts findings description units
   pub agree : AllAgree description m
   pub serving : IsServing description plan
@@ -74,45 +74,45 @@ found_line (Some rate) = codes "rate " ++ decimal rate ++ codes " has a plan, th
 found_line None = codes "no rate that was tried has a plan\n"
 
 -- no plan is found, or rates cannot be tried
-pub record IsNotFound (w : JobOptionsView) (findings : List FindingView) (m : JobInputView) : Type 0 where
+pub record IsNotFound (w : JobOptionsView) (m : JobInputView) : Type 0 where
   pub refusal : JobRefusal
-  pub why : IsWhyNoPlan None w findings m (Refused refusal)
+  pub why : IsWhyNoPlan None w m (Refused refusal)
 
 -- what is found by trying rates, whatever rate is asked for
-abbrev pub IsFound : JobOptionsView → List FindingView → JobInputView → Option ℕ → Type 0
-IsFound w findings m (Some rate) = IsTried w findings m rate × IsServed w findings m rate
-IsFound w findings m None = IsNotFound w findings m
+abbrev pub IsFound : JobOptionsView → JobInputView → Option ℕ → Type 0
+IsFound w m (Some rate) = IsTried w m rate × IsServed w m rate
+IsFound w m None = IsNotFound w m
 
 -- a line for what is found stands after those for reasons
-pub record IsFoundAfter (w : JobOptionsView) (findings : List FindingView) (m : JobInputView) (lines output : List ℕ) : Type 0 where
+pub record IsFoundAfter (w : JobOptionsView) (m : JobInputView) (lines output : List ℕ) : Type 0 where
   pub found : Option ℕ
-  pub tried : IsFound w findings m found
+  pub tried : IsFound w m found
   pub is : output ≡ lines ++ found_line found
 
 -- nothing is tried where there are none
-abbrev pub IsTold : Bool → JobOptionsView → List FindingView → JobInputView → List ℕ → List ℕ → Type 0
-IsTold true w findings m lines output = output ≡ lines
-IsTold false w findings m lines output = IsFoundAfter w findings m lines output
+abbrev pub IsTold : Bool → JobOptionsView → JobInputView → List ℕ → List ℕ → Type 0
+IsTold true w m lines output = output ≡ lines
+IsTold false w m lines output = IsFoundAfter w m lines output
 
 -- a line for each reason why no plan serves the description
-pub record GivesReasons (w : JobOptionsView) (findings : List FindingView) (m : JobInputView) (output : List ℕ) : Type 0 where
+pub record GivesReasons (w : JobOptionsView) (m : JobInputView) (output : List ℕ) : Type 0 where
   pub description : Described
-  pub unplanned : IsUnplanned w findings m description
-  pub told : IsTold (length (reason_lines description) == 0) w findings m (reason_lines description) output
+  pub unplanned : IsUnplanned w m description
+  pub told : IsTold (length (reason_lines description) == 0) w m (reason_lines description) output
 
 -- the output of a subcommand
 abbrev pub Gives : Subcommand → JobOptionsView → List FindingView → JobInputView → List ℕ → Type 0
 Gives Whole w findings m output = GivesJob w findings m output
-Gives Describe w findings m output = IsDescription w findings m output
+Gives Describe w findings m output = IsDescription w m output
 Gives Units w findings m output = GivesUnits m output
-Gives Why w findings m output = GivesReasons w findings m output
+Gives Why w findings m output = GivesReasons w m output
 
 -- why a subcommand has no output; for units, only out of memory
-abbrev pub Withholds : Subcommand → JobOptionsView → List FindingView → JobInputView → JobError → Type 0
-Withholds Whole w findings m error = IsWhyNoJob w findings m error
-Withholds Describe w findings m error = IsWhyNoDescription w.rate w findings m error
-Withholds Units w findings m error = error ≡ Memory
-Withholds Why w findings m error = IsWhyNoReasons w.rate w findings m error
+abbrev pub Withholds : Subcommand → JobOptionsView → JobInputView → JobError → Type 0
+Withholds Whole w m error = IsWhyNoJob w m error
+Withholds Describe w m error = IsWhyNoDescription w.rate w m error
+Withholds Units w m error = error ≡ Memory
+Withholds Why w m error = IsWhyNoReasons w.rate w m error
 
 -- 2. The outcome for a stream
 
@@ -126,6 +126,13 @@ is_less slips fields tables warnings =
 abbrev pub loss_lines : List Slip → List FieldLeftOut → List OtherTable → List Warning → List ℕ
 loss_lines slips fields tables warnings = slip_lines slips ++ field_lines fields ++ other_table_lines tables ++ warning_lines warnings
 
+-- the same of a stream of which a job takes this
+abbrev pub told_lines : Bool → PacketNotesView → List FindingView → JobInputView → List ℕ
+told_lines whole notes findings m = loss_lines notes.slips (told_fields m notes.fields) (told_tables m (other_tables findings)) (told_warnings whole m.warnings)
+
+abbrev pub is_told_less : Bool → PacketNotesView → List FindingView → JobInputView → Bool
+is_told_less whole notes findings m = is_less notes.slips (told_fields m notes.fields) (told_tables m (other_tables findings)) (told_warnings whole m.warnings)
+
 -- the status 1: of reasons where there is one, else where something is lost
 abbrev pub status_of : Subcommand → List ℕ → Bool → ℕ
 status_of Whole output less = if less then 1 else 0
@@ -136,18 +143,18 @@ status_of Why output less = if length output == 0 then 0 else 1
 -- the output, the lines of what is left out, and the status
 pub record IsGiven (arguments : JobArgumentsView) (notes : PacketNotesView) (findings : List FindingView) (m : JobInputView) (o : Outcome) : Type 0 where
   pub gives : Gives arguments.subcommand arguments.options findings m o.output
-  pub report_is : o.report ≡ loss_lines notes.slips (told_fields m notes.fields) (told_tables m (other_tables findings)) (told_warnings arguments.whole m.warnings)
-  pub status_is : o.status ≡ status_of arguments.subcommand o.output (is_less notes.slips (told_fields m notes.fields) (told_tables m (other_tables findings)) (told_warnings arguments.whole m.warnings))
+  pub report_is : o.report ≡ told_lines arguments.whole notes findings m
+  pub status_is : o.status ≡ status_of arguments.subcommand o.output (is_told_less arguments.whole notes findings m)
 
 -- nothing is written but the line of the refusal, and the status is 1
-pub record IsRefused (arguments : JobArgumentsView) (findings : List FindingView) (m : JobInputView) (o : Outcome) : Type 0 where
+pub record IsRefused (arguments : JobArgumentsView) (m : JobInputView) (o : Outcome) : Type 0 where
   pub refusal : JobRefusal
-  pub holds : Withholds arguments.subcommand arguments.options findings m (Refused refusal)
+  pub holds : Withholds arguments.subcommand arguments.options m (Refused refusal)
   pub is : o ≡ reported (refusal_line refusal)
 
 -- for the job input of a stream, or for a stream that is refused
 abbrev pub InputLeads : JobArgumentsView → PacketNotesView → List FindingView → Result JobInputView JobRefusal → Outcome → Type 0
-InputLeads arguments notes findings (Ok m) o = IsGiven arguments notes findings m o ⊎ IsRefused arguments findings m o
+InputLeads arguments notes findings (Ok m) o = IsGiven arguments notes findings m o ⊎ IsRefused arguments m o
 InputLeads arguments notes findings (Err refusal) o = o ≡ reported (refusal_line refusal)
 
 -- for the findings in a stream of `count` whole packets

@@ -2,13 +2,16 @@
 
 ghost use Rattle.std.specs.Prelude.{◌≡◌, ◌==◌, ◌&&◌, ◌≤◌, IfErr, IfOk, List, None, Ok, ℕ, length, map, string_bytes};
 ghost use Rattle.demux.specs.Shown.{finding_view};
+ghost use Rattle.demux.specs.Views.{FindingView};
 ghost use Rattle.packet_sync.specs.OtherPackets.{other_packets};
 ghost use Rattle.slot_plan.specs.Planned.{plan_error};
 ghost use Rattle.slot_plan.specs.Text.{plan_text};
 ghost use Rattle.stream_jobs.specs.Jobs.{AreStreams, IsDescription};
 ghost use Rattle.stream_jobs.specs.WhyNoJob.{IsWhyNoDescription, IsWhyNoJob};
 ghost use Rattle.stream_jobs.specs.declared.refusal.JobError.TheVariants.{Memory};
+ghost use Rattle.stream_jobs.specs.JoinedInputs.{AreStreamsIn, JoinedInputsView};
 ghost use Rattle.job_outcomes.specs.Outcomes as spec;
+ghost use Rattle.job_outcomes.specs.SeveralInputs.{GivesIn, GivesJobIn};
 ghost use Rattle.job_outcomes.specs.Streams.{IsRead};
 ghost use Rattle.devices.specs.Outcomes.{reported};
 ghost use Rattle.job_lines.specs.SlipLines.{packets_line};
@@ -90,17 +93,15 @@ fn plan_text(alloc: Global, plan: &Plan) -> Result<String, AllocError>
 }
 
 // The whole job.
-fn job_output(
-    alloc: Global,
-    options: &JobOptions<'_>,
-    findings: &[Finding<'_>],
-    input: JobInput,
-) -> Result<JobText, JobError>
-    requires { AreStreams options.now.make_dts (map finding_view findings.now) input }
-    ensures given { IfOk result (λ p. spec.GivesJob options.now (map finding_view findings.now) input p) }
-    ensures withheld { IfErr result (IsWhyNoJob options.now (map finding_view findings.now) input) }
+fn job_output(alloc: Global, options: &JobOptions<'_>, input: JobInput) -> Result<JobText, JobError>
+    requires { length input.streams ≤ 32 }
+    ensures given { (findings : List FindingView) → AreStreams options.now.make_dts findings input →
+        IfOk result (λ p. spec.GivesJob options.now findings input p) }
+    ensures given_in { (inputs : List (List FindingView)) (j : JoinedInputsView) → j.input ≡ input →
+        AreStreamsIn options.now.make_dts inputs j → IfOk result (λ p. GivesJobIn options.now inputs j p) }
+    ensures withheld { IfErr result (IsWhyNoJob options.now input) }
 {
-    let Job { text, plan, units } = make_job(alloc, options, findings, input)?;
+    let Job { text, plan, units } = make_job(alloc, options, input)?;
     let plan = plan_text(alloc, plan.plan())?;
     Ok(JobText { text, plan, units })
 }
@@ -109,14 +110,12 @@ fn job_output(
 fn description_output(
     alloc: Global,
     options: &JobOptions<'_>,
-    findings: &[Finding<'_>],
     input: &JobInput,
 ) -> Result<JobText, JobError>
-    ensures given { IfOk result (λ p. IsDescription options.now (map finding_view findings.now) input.now p) }
-    ensures withheld { IfErr result
-        (IsWhyNoDescription options.now.rate options.now (map finding_view findings.now) input.now) }
+    ensures given { IfOk result (λ p. IsDescription options.now input.now p) }
+    ensures withheld { IfErr result (IsWhyNoDescription options.now.rate options.now input.now) }
 {
-    let text = describe(alloc, options, findings, input)?;
+    let text = describe(alloc, options, input)?;
     Ok(only_text(alloc, text))
 }
 
@@ -135,24 +134,25 @@ fn unit_output(alloc: Global, input: JobInput) -> Result<JobText, JobError>
 }
 
 // The output of a subcommand.
-fn output_for(
+pub(crate) fn output_for(
     alloc: Global,
     arguments: &JobArguments<'_>,
-    findings: &[Finding<'_>],
     input: JobInput,
 ) -> Result<JobText, JobError>
-    requires { AreStreams arguments.now.options.make_dts (map finding_view findings.now) input }
-    ensures given { IfOk result (λ p.
-        spec.Gives arguments.now.subcommand arguments.now.options (map finding_view findings.now) input p) }
-    ensures withheld { IfErr result
-        (spec.Withholds arguments.now.subcommand arguments.now.options (map finding_view findings.now) input) }
+    requires { length input.streams ≤ 32 }
+    ensures given { (findings : List FindingView) → AreStreams arguments.now.options.make_dts findings input →
+        IfOk result (λ p. spec.Gives arguments.now.subcommand arguments.now.options findings input p) }
+    ensures given_in { (inputs : List (List FindingView)) (j : JoinedInputsView) → j.input ≡ input →
+        AreStreamsIn arguments.now.options.make_dts inputs j →
+        IfOk result (λ p. GivesIn arguments.now.subcommand arguments.now.options inputs j p) }
+    ensures withheld { IfErr result (spec.Withholds arguments.now.subcommand arguments.now.options input) }
 {
     let options = arguments.options();
     match arguments.subcommand {
-        Subcommand::Whole => job_output(alloc, &options, findings, input),
-        Subcommand::Describe => description_output(alloc, &options, findings, &input),
+        Subcommand::Whole => job_output(alloc, &options, input),
+        Subcommand::Describe => description_output(alloc, &options, &input),
         Subcommand::Units => unit_output(alloc, input),
-        Subcommand::Why => reason_output(alloc, &options, findings, &input),
+        Subcommand::Why => reason_output(alloc, &options, &input),
     }
 }
 
@@ -202,7 +202,7 @@ fn is_empty(output: &JobText) -> bool
 }
 
 // The status of an output, beside which something is lost or not.
-fn status_of(subcommand: Subcommand, output: &JobText, less: bool) -> u8
+pub(crate) fn status_of(subcommand: Subcommand, output: &JobText, less: bool) -> u8
     ensures { result ≡ spec.status_of subcommand output.now less }
 {
     let bad = match subcommand {
@@ -210,6 +210,28 @@ fn status_of(subcommand: Subcommand, output: &JobText, less: bool) -> u8
         Subcommand::Whole | Subcommand::Describe | Subcommand::Units => less,
     };
     if bad { 1 } else { 0 }
+}
+
+// What is told of a stream of which a job takes this, and whether something of it is lost.
+pub(crate) fn told_of(
+    alloc: Global,
+    whole: bool,
+    notes: &PacketNotes,
+    findings: &[Finding<'_>],
+    input: &JobInput,
+) -> Result<(String, bool), AllocError>
+    ensures lines { IfOk result (λ t. string_bytes t.0
+        ≡ spec.told_lines whole notes.now (map finding_view findings.now) input.now) }
+    ensures less { IfOk result (λ t. t.1
+        ≡ spec.is_told_less whole notes.now (map finding_view findings.now) input.now) }
+{
+    let told = told_warnings(alloc, whole, &input.warnings)?;
+    let fields = told_fields(alloc, input, &notes.fields)?;
+    let others = other_tables(alloc, findings)?;
+    let tables = told_tables(alloc, input, &others)?;
+    let lines = loss_report(alloc, &notes.slips, &fields, &tables, &told)?;
+    let less = is_less(&notes.slips, &fields, &tables, &told);
+    Ok((lines, less))
 }
 
 // The outcome for a stream that is not refused.
@@ -223,16 +245,10 @@ fn job_outcome(
 ) -> Result<JobOutcome, JobError>
     requires { AreStreams arguments.now.options.make_dts (map finding_view findings.now) input }
     ensures given { IfOk result (λ a. spec.IsGiven arguments.now notes.now (map finding_view findings.now) input a) }
-    ensures withheld { IfErr result
-        (spec.Withholds arguments.now.subcommand arguments.now.options (map finding_view findings.now) input) }
+    ensures withheld { IfErr result (spec.Withholds arguments.now.subcommand arguments.now.options input) }
 {
-    let told = told_warnings(alloc, arguments.whole, &input.warnings)?;
-    let fields = told_fields(alloc, &input, &notes.fields)?;
-    let others = other_tables(alloc, findings)?;
-    let tables = told_tables(alloc, &input, &others)?;
-    let report = loss_report(alloc, &notes.slips, &fields, &tables, &told)?;
-    let less = is_less(&notes.slips, &fields, &tables, &told);
-    let output = output_for(alloc, arguments, findings, input)?;
+    let (report, less) = told_of(alloc, arguments.whole, notes, findings, &input)?;
+    let output = output_for(alloc, arguments, input)?;
     let status = status_of(arguments.subcommand, &output, less);
     Ok(JobOutcome {
         output,
@@ -253,7 +269,7 @@ fn without_output(alloc: Global, report: String) -> JobOutcome
 }
 
 // The outcome for a stream that is refused.
-fn refused_outcome(alloc: Global, error: JobError) -> Result<JobOutcome, AllocError>
+pub(crate) fn refused_outcome(alloc: Global, error: JobError) -> Result<JobOutcome, AllocError>
     ensures { IfOk result (λ a. spec.ReportsWhy error a) }
 {
     let JobError::Refused(refusal) = error else {
@@ -300,7 +316,10 @@ fn findings_outcome(
 }
 
 // The outcome for a stream of packets of another size.
-fn packets_outcome(alloc: Global, packets: OtherPackets) -> Result<JobOutcome, AllocError>
+pub(crate) fn packets_outcome(
+    alloc: Global,
+    packets: OtherPackets,
+) -> Result<JobOutcome, AllocError>
     ensures { IfOk result (λ a. a ≡ reported (packets_line packets)) }
 {
     let mut report = String::new(alloc);

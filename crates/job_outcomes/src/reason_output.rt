@@ -1,12 +1,10 @@
 //! Why no plan serves the description of a stream.
 
-ghost use Rattle.std.specs.Prelude.{◌≡◌, ◌==◌, ◌++◌, IfErr, IfOk, OnOk, length, map, string_bytes};
-ghost use Rattle.demux.specs.Shown.{finding_view};
+ghost use Rattle.std.specs.Prelude.{◌≡◌, ◌==◌, ◌++◌, IfErr, IfOk, OnOk, length, string_bytes};
 ghost use Rattle.stream_jobs.specs.WhyNoJob.{IsWhyNoReasons};
 ghost use Rattle.job_outcomes.specs.Outcomes as spec;
 
 use crate::outcome::{JobText, only_text};
-use demux::Finding;
 use reason_lines::write_reasons;
 use std::alloc::{AllocError, Global};
 use std::fmt::Write;
@@ -16,12 +14,11 @@ use stream_jobs::{JobError, JobInput, JobOptions, found_rate, unplanned_descript
 fn tried_rate(
     alloc: Global,
     options: &JobOptions<'_>,
-    findings: &[Finding<'_>],
     input: &JobInput,
 ) -> Result<Option<u64>, AllocError>
-    ensures { IfOk result (spec.IsFound options.now (map finding_view findings.now) input.now) }
+    ensures { IfOk result (spec.IsFound options.now input.now) }
 {
-    match found_rate(alloc, options, findings, input) {
+    match found_rate(alloc, options, input) {
         Ok(rate) => Ok(Some(rate)),
         Err(JobError::Refused(_)) => Ok(None),
         Err(JobError::Memory) => Err(AllocError),
@@ -44,17 +41,16 @@ fn write_rate(found: Option<u64>, lines: &mut String) -> Result<(), AllocError>
 fn write_found(
     alloc: Global,
     options: &JobOptions<'_>,
-    findings: &[Finding<'_>],
     input: &JobInput,
     lines: &mut String,
 ) -> Result<(), AllocError>
-    ensures { OnOk result (spec.IsTold (length (string_bytes lines.old) == 0) options.now
-        (map finding_view findings.now) input.now (string_bytes lines.old) (string_bytes lines.new)) }
+    ensures { OnOk result (spec.IsTold (length (string_bytes lines.old) == 0) options.now input.now
+        (string_bytes lines.old) (string_bytes lines.new)) }
 {
     if lines.as_str().is_empty() {
         return Ok(());
     }
-    let found = tried_rate(alloc, options, findings, input)?;
+    let found = tried_rate(alloc, options, input)?;
     write_rate(found, lines)
 }
 
@@ -62,16 +58,14 @@ fn write_found(
 pub(crate) fn reason_output(
     alloc: Global,
     options: &JobOptions<'_>,
-    findings: &[Finding<'_>],
     input: &JobInput,
 ) -> Result<JobText, JobError>
-    ensures given { IfOk result (λ p. spec.GivesReasons options.now (map finding_view findings.now) input.now p) }
-    ensures withheld { IfErr result
-        (IsWhyNoReasons options.now.rate options.now (map finding_view findings.now) input.now) }
+    ensures given { IfOk result (λ p. spec.GivesReasons options.now input.now p) }
+    ensures withheld { IfErr result (IsWhyNoReasons options.now.rate options.now input.now) }
 {
-    let description = unplanned_description(alloc, options, findings, input)?;
+    let description = unplanned_description(alloc, options, input)?;
     let mut lines = String::new(alloc);
     write_reasons(alloc, &description, &mut lines)?;
-    write_found(alloc, options, findings, input, &mut lines)?;
+    write_found(alloc, options, input, &mut lines)?;
     Ok(only_text(alloc, lines))
 }

@@ -1,5 +1,5 @@
 -- The text of a description that `tsjob` writes: no line of it is the first of a plan's text.
-use Rattle.std.proofs.Common.{◌≡◌, ℕ, pos, ◌==◌, Bool, true, false, if◌then◌else◌, decimal, List, [], ◌∷◌, ◌++◌, length, zip, flat_map, refl, ap, ◌∙◌, subst, append_assoc, codes, Option, Some, None}
+use Rattle.std.proofs.Common.{◌≡◌, ℕ, pos, ◌==◌, Bool, true, false, if◌then◌else◌, decimal, List, [], ◌∷◌, ◌++◌, length, map, zip, flat_map, refl, ap, ◌∙◌, subst, append_assoc, codes, Option, Some, None}
 use Rattle.std.specs.Prelude.{nat_eq}
 use Rattle.std.specs.List.{starts_with}
 use Rattle.std.proofs.lemmas.Bool.{cond_both}
@@ -13,17 +13,18 @@ use Rattle.job_text.specs.Fields.{burst_numbers, first_numbers, group_numbers, l
 use Rattle.job_text.specs.KeyLines.{digits_of, header, hex_line, items_of, items_text, key_line, list_line, number_line, number_lines, table_header, value_text}
 use Rattle.job_text.specs.Texts.{event_back, event_names, event_numbers, event_text, heading_text, network_if_any, program_front, program_service, program_text, stream_back, stream_front, stream_text, stream_times, table_back, table_front, table_text}
 use Rattle.stream_programs.specs.NetworkInformation.{stream_network}
-use Rattle.stream_programs.specs.Services.{service}
+use Rattle.stream_programs.specs.Services.{FoundServiceView, service}
 use Rattle.service_information.specs.Events.{FoundEventView}
-use Rattle.stream_jobs.specs.Events.{event_lines, event_part, events_text, job_events, start_of}
+use Rattle.stream_jobs.specs.Events.{event_part, job_events}
+use Rattle.stream_jobs.specs.Information.{JobInformationView, information_of, service_for}
 use Rattle.stream_jobs.specs.JobInput.{JobInputView}
 use Rattle.stream_jobs.specs.JobOptions.{JobOptionsView}
 use Rattle.stream_jobs.specs.JobPrograms.{JobProgramView}
 use Rattle.stream_jobs.specs.JobTables.{table_lines, table_part, tables_text}
-use Rattle.stream_jobs.specs.Texts.{description_text, heading_of, network_part, program_lines, program_part, program_with, programs_text, stream_lines, stream_part, streams_text}
+use Rattle.stream_jobs.specs.Texts.{description_text, events_text, heading_of, program_lines, program_part, program_with, programs_text, stream_lines, stream_part, streams_text}
 use Rattle.checked_jobs.specs.Jobs.{first_plan_line}
 use Rattle.piped_jobs.proofs.PlainLines.{Passes, both_pass, flat_both, is_flat, line_passes, none_passes}
-use Rattle.piped_jobs.proofs.PlainNames.{PlainOptions, PlainPart, begin_flat, decoded_flat, moment_flat, part_plain, service_plain}
+use Rattle.piped_jobs.proofs.PlainNames.{PlainOptions, PlainPart, PlainService, begin_flat, decoded_flat, moment_flat, part_plain, service_plain}
 use Rattle.piped_jobs.proofs.PlainTexts.{decimal_flat, hex_flat, string_flat}
 
 -- 1. The line of a key
@@ -144,11 +145,11 @@ unfolding header
 event_header = both_pass (codes "\n") (codes "[[event]]\n") empty_line (line_passes (codes "[[event]]") refl (λ rest. refl))
 
 -- the texts of an event
-record PlainEvent (e : EventPartView) : Type 0 where
-  start : is_flat e.start ≡ true
-  language : is_flat e.language ≡ true
-  name : is_flat e.name ≡ true
-  text : is_flat e.text ≡ true
+pub record PlainEvent (e : EventPartView) : Type 0 where
+  pub start : is_flat e.start ≡ true
+  pub language : is_flat e.language ≡ true
+  pub name : is_flat e.name ≡ true
+  pub text : is_flat e.text ≡ true
 
 event_passes : (e : EventPartView) → PlainEvent e → Passes (event_text e)
 event_passes e plain =
@@ -210,39 +211,68 @@ all_pass : {X : Type 0} (f : X → List ℕ) (xs : List X) → ((x : X) → Pass
 all_pass f [] each = none_passes
 all_pass f (x ∷ xs) each = both_pass (f x) (flat_map f xs) (each x) (all_pass f xs each)
 
-one_program : (w : JobOptionsView) (findings : List FindingView) → PlainOptions w → (p : JobProgramView) → Passes (program_lines w findings p)
-unfolding program_part program_with
-one_program w findings plain p =
-    let named = service_plain w.names p.number (service p.number findings) plain.names in
-    program_passes (program_part w findings p) named.name named.provider
+-- of a list each
+abbrev pub Each : {X : Type 0} → (X → Type 0) → List X → Type 0
+Each P [] = Unit {0}
+Each P (x ∷ xs) = P x × Each P xs
 
-heading_plain : (w : JobOptionsView) (findings : List FindingView) (m : JobInputView) (start : List ℕ) (rate : ℕ) → is_flat start ≡ true →
-    is_flat (heading_of w findings m start rate).start ≡ true
-unfolding heading_of
-heading_plain w findings m start rate plain = plain
+each_mapped : {X Y : Type 0} (f : X → Y) (P : Y → Type 0) (xs : List X) → ((x : X) → P (f x)) → Each P (map f xs)
+each_mapped f P [] all = tt
+each_mapped f P (x ∷ xs) all = (all x, each_mapped f P xs all)
 
-one_event : (e : FoundEventView) → Passes (event_lines e)
+-- what is said of the transport stream as a whole has no end of a line in its texts
+pub record PlainInformation (i : JobInformationView) : Type 0 where
+  pub start : is_flat i.start ≡ true
+  pub network : PlainPart i.network
+  pub events : Each PlainEvent i.events
+  pub services : Each PlainService i.services
+
+one_event : (e : FoundEventView) → PlainEvent (event_part e)
 unfolding event_part
-one_event e =
-    event_passes (event_part e) (record {
-      start = moment_flat e.start;
-      language = decoded_flat 3 e.language;
-      name = decoded_flat 100 e.name;
-      text = decoded_flat 150 e.text;
-    })
+one_event e = record {
+  start = moment_flat e.start;
+  language = decoded_flat 3 e.language;
+  name = decoded_flat 100 e.name;
+  text = decoded_flat 150 e.text;
+}
 
-pub description_passes : (w : JobOptionsView) (findings : List FindingView) (m : JobInputView) (rate : ℕ) → PlainOptions w → Passes (description_text w findings m rate)
+pub information_plain : (w : JobOptionsView) (id : ℕ) (findings : List FindingView) (programs : List JobProgramView) → PlainOptions w →
+    PlainInformation (information_of w id findings programs)
+unfolding information_of
+information_plain w id findings programs plain = record {
+  start = begin_flat w.start (job_events findings programs) findings plain.start;
+  network = part_plain w.network (stream_network id findings) plain.network;
+  events = each_mapped event_part PlainEvent (job_events findings programs) one_event;
+  services = each_mapped (service_for w.names findings) PlainService programs (λ p. service_plain w.names p.number (service p.number findings) plain.names);
+}
+
+heading_plain : (m : JobInputView) (rate : ℕ) → is_flat m.information.start ≡ true → is_flat (heading_of m rate).start ≡ true
+unfolding heading_of
+heading_plain m rate plain = plain
+
+events_pass : (events : List EventPartView) → Each PlainEvent events → Passes (events_text events)
+events_pass [] plain = none_passes
+events_pass (e ∷ es) plain = both_pass (event_text e) (events_text es) (event_passes e plain.0) (events_pass es plain.1)
+
+one_program : (limit : ℕ) (p : JobProgramView) (s : FoundServiceView) → PlainService s → Passes (program_lines limit (p, s))
+unfolding program_with
+one_program limit p s plain = program_passes (program_part limit (p, s)) plain.name plain.provider
+
+programs_pass : (limit : ℕ) (programs : List JobProgramView) (services : List FoundServiceView) → Each PlainService services → Passes (programs_text limit programs services)
+programs_pass limit [] services plain = none_passes
+programs_pass limit (p ∷ ps) [] plain = none_passes
+programs_pass limit (p ∷ ps) (s ∷ ss) plain =
+    both_pass (program_lines limit (p, s)) (programs_text limit ps ss) (one_program limit p s plain.0) (programs_pass limit ps ss plain.1)
+
+pub description_passes : (w : JobOptionsView) (m : JobInputView) (rate : ℕ) → PlainInformation m.information → Passes (description_text w m rate)
 unfolding description_text
-description_passes w findings m rate plain =
-    let network = network_passes (network_part w m.transport_stream_id findings) (part_plain w.network (stream_network m.transport_stream_id findings) plain.network) in
-    let programs = all_pass (program_lines w findings) m.programs (one_program w findings plain) in
+description_passes w m rate plain =
+    let network = network_passes m.information.network plain.network in
+    let programs = programs_pass w.pcr_limit m.programs m.information.services plain.services in
     let streams = all_pass stream_lines (zip m.streams (zip m.unit_counts m.choices)) (λ s. stream_passes (stream_part s)) in
     let tables = all_pass (table_lines m.streams) m.tables (λ t. private_passes (table_part m.streams t)) in
     let last = both_pass (streams_text m.streams m.unit_counts m.choices) (tables_text m.streams m.tables) streams tables in
-    let parts = both_pass (programs_text w findings m.programs) _ programs last in
-    let begins = begin_flat w.start (job_events findings m.programs) findings plain.start in
-    both_pass (heading_text (heading_of w findings m (start_of w.start (job_events findings m.programs) findings) rate)) _
-    (heading_passes (heading_of w findings m (start_of w.start (job_events findings m.programs) findings) rate)
-    (heading_plain w findings m (start_of w.start (job_events findings m.programs) findings) rate begins))
-    (both_pass (events_text (job_events findings m.programs)) _ (all_pass event_lines (job_events findings m.programs) one_event)
-    (both_pass (network_if_any (network_part w m.transport_stream_id findings)) _ network parts))
+    let parts = both_pass (programs_text w.pcr_limit m.programs m.information.services) _ programs last in
+    both_pass (heading_text (heading_of m rate)) _ (heading_passes (heading_of m rate) (heading_plain m rate plain.start))
+    (both_pass (events_text m.information.events) _ (events_pass m.information.events plain.events)
+    (both_pass (network_if_any m.information.network) _ network parts))

@@ -8,10 +8,12 @@ use Rattle.packet_sync.specs.Slips.{carried}
 use Rattle.packet_sync.specs.declared.packet_sizes.OtherPackets.{OtherPackets}
 use Rattle.stream_units.proofs.KeptDeclarations.{units_kept}
 use Rattle.stream_jobs.specs.JobInput.{JobInputView, job_input}
+use Rattle.stream_jobs.specs.Information.{information_of}
 use Rattle.stream_jobs.specs.JobOptions.{JobOptionsView}
 use Rattle.stream_jobs.specs.JobPrograms.{clock_in}
 use Rattle.stream_jobs.specs.Jobs.{AreUnits}
 use Rattle.stream_jobs.proofs.ClockConstants.{constants_of}
+use Rattle.stream_jobs.proofs.MovedInputs.{moved_of}
 use Rattle.stream_jobs.specs.declared.refusal.JobRefusal.{JobRefusal}
 use Rattle.unit_records.proofs.RecordBytes.{records_are_read}
 use Rattle.round_trip_job.specs.Laws.{AcceptedLaw, FoundAgainLaw, schedule_for}
@@ -29,7 +31,7 @@ use Rattle.tsmux_cli.specs.declared.request.MuxOptions.{MuxOptions}
 use Rattle.tsmux_cli.specs.MuxJobs.{MuxJobView, mux_job_of}
 use Rattle.tsmux_cli.specs.Multiplexing.{IsKept, KeepsPromises, KeptUnlessRefused, cause_of, multiplexed, packets_of, unless_refused, with_job}
 use Rattle.piped_jobs.specs.PipedJobs.{GoesThrough, MuxesAll, ThePipe, WrittenIsRead, as_mux_job}
-use Rattle.piped_jobs.proofs.DescriptionLines.{description_passes}
+use Rattle.piped_jobs.proofs.DescriptionLines.{PlainInformation, description_passes, information_plain}
 use Rattle.piped_jobs.proofs.PlainLines.{Passes}
 use Rattle.piped_jobs.proofs.PlainNames.{PlainOptions, options_plain}
 use Rattle.piped_jobs.proofs.ReadJobs.{job_again, text_in_range}
@@ -39,9 +41,13 @@ use Rattle.piped_jobs.proofs.WrittenRecords.{Fits, records_read, units_fit}
 
 -- 1. What is written is read
 
-passes : (w : JobOptionsView) (findings : List FindingView) (m : JobInputView) (output : List ℕ) → PlainOptions w → (job : GivesJob w findings m output) → Passes job.text
+plain_of : (w : JobOptionsView) (id : ℕ) (findings : List FindingView) (m : JobInputView) → PlainOptions w → m.information ≡ information_of w id findings m.programs →
+    PlainInformation m.information
+plain_of w id findings m plain is = subst PlainInformation (sym is) (information_plain w id findings m.programs plain)
+
+passes : (w : JobOptionsView) (findings : List FindingView) (m : JobInputView) (output : List ℕ) → PlainInformation m.information → (job : GivesJob w findings m output) → Passes job.text
 passes w findings m output plain job =
-    subst Passes (sym job.job.described.text_is) (description_passes w findings m job.job.described.rate plain)
+    subst Passes (sym job.job.described.text_is) (description_passes w m job.job.described.rate plain)
 
 fits : (w : JobOptionsView) (findings : List FindingView) (m : JobInputView) (output : List ℕ) (job : GivesJob w findings m output) → All Fits job.units
 fits w findings m output job =
@@ -49,7 +55,7 @@ fits w findings m output job =
     units_fit (schedule_for job.description job.plan) job.units ranges
     (all_kept units_kept w.make_dts (schedule_for job.description job.plan) findings job.units ranges job.found) job.found.numbered
 
-read_with : (w : JobOptionsView) (findings : List FindingView) (m : JobInputView) (output : List ℕ) → PlainOptions w → (job : GivesJob w findings m output) →
+read_with : (w : JobOptionsView) (findings : List FindingView) (m : JobInputView) (output : List ℕ) → PlainInformation m.information → (job : GivesJob w findings m output) →
     mux_job_of false output ≡ Ok (as_mux_job job)
 read_with w findings m output plain job =
     ap (mux_job_of false) job.is
@@ -57,7 +63,7 @@ read_with w findings m output plain job =
     (records_read records_are_read job.units (fits w findings m output job))
 
 pub written_is_read : WrittenIsRead
-written_is_read words a findings m output asked job = read_with a.options findings m output (options_plain words a asked) job
+written_is_read words a id findings m output asked is job = read_with a.options findings m output (plain_of a.options id findings m (options_plain words a asked) is) job
 
 -- 2. What `tsjob` wrote
 
@@ -138,7 +144,8 @@ through : AcceptedLaw → FoundAgainLaw → (words : List Text) (a : JobArgument
     GoesThrough a o bytes output packets faults status
 through accepted again words a o bytes output job_again packets faults status asked m input input_is job =
     let ranges = text_in_range job.description job.text job.job.read in
-    let read = written_is_read words a (findings_of (carried bytes)) input output asked job in
+    let from = moved_of a.options (length (carried bytes) / 188) (findings_of (carried bytes)) input input_is in
+    let read = written_is_read words a from.id (findings_of (carried bytes)) input output asked from.information_is job in
     let none = none_refused accepted a.options.make_dts (findings_of (carried bytes)) o (as_mux_job job) refl m.all_slots ranges job.found in
     let done = muxed o output (as_mux_job job) job_again packets faults status m read none in
     let constants = constants_of a.options (length (carried bytes) / 188) (findings_of (carried bytes)) input input_is in

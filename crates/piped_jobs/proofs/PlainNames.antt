@@ -21,7 +21,7 @@ use Rattle.service_information.specs.StreamTime.{stream_time}
 use Rattle.stream_jobs.specs.Events.{first_start, start_found, start_of as begin_of}
 use Rattle.stream_jobs.specs.GivenNames.{NetworkNameView, ServiceNameView, name_given}
 use Rattle.stream_jobs.specs.JobOptions.{JobOptionsView}
-use Rattle.stream_jobs.specs.Texts.{named_service, network_found, network_of, network_or, renamed, service_with}
+use Rattle.stream_jobs.specs.Information.{named_service, network_found, network_of, network_or, renamed, service_with}
 use Rattle.devices.specs.Options.{number_if_given, number_option}
 use Rattle.tsjob_cli.specs.CommandLine.{tsjob_app}
 use Rattle.job_outcomes.specs.JobArguments.{JobArgumentsView}

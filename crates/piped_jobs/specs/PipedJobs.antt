@@ -6,6 +6,7 @@ use Rattle.description.specs.Described.{DescribedStream}
 use Rattle.demux.specs.Views.{FindingView}
 use Rattle.packet_sync.specs.Slips.{carried}
 use Rattle.stream_units.specs.CarriedUnits.{wire_units}
+use Rattle.stream_jobs.specs.Information.{information_of}
 use Rattle.stream_jobs.specs.JobInput.{JobInputView, job_input}
 use Rattle.stream_jobs.specs.JobOptions.{JobOptionsView}
 use Rattle.stream_jobs.specs.JobPrograms.{clock_in}
@@ -29,10 +30,10 @@ use Rattle.tsmux_cli.specs.Multiplexing.{IsKept, Muxes, packets_of}
 abbrev pub as_mux_job : {w : JobOptionsView} {findings : List FindingView} {m : JobInputView} {output : List ℕ} → GivesJob w findings m output → MuxJobView
 as_mux_job job = record { description = job.description; plan = job.plan; second = None; units = job.units }
 
--- so a job is read, whatever words ask for it
+-- so a job is read, whatever words ask for it, where it says of the transport stream as a whole what is found of a transport_stream_id
 abbrev pub WrittenIsRead : Type 0
-WrittenIsRead = (words : List Text) (a : JobArgumentsView) (findings : List FindingView) (m : JobInputView) (output : List ℕ) → arguments_in words ≡ Some a →
-    (job : GivesJob a.options findings m output) → mux_job_of false output ≡ Ok (as_mux_job job)
+WrittenIsRead = (words : List Text) (a : JobArgumentsView) (id : ℕ) (findings : List FindingView) (m : JobInputView) (output : List ℕ) → arguments_in words ≡ Some a →
+    m.information ≡ information_of a.options id findings m.programs → (job : GivesJob a.options findings m output) → mux_job_of false output ≡ Ok (as_mux_job job)
 
 -- ---- both programs
 

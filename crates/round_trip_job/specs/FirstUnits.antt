@@ -51,7 +51,7 @@ TablesFirstLaw = (d : Described) (p : Planned) (findings : List FindingView) (un
 abbrev pub TablesComeFirst : JobOptionsView → List FindingView → JobInputView → Type 0
 TablesComeFirst options findings input =
     (d : Described) (p : Planned) (text : List ℕ) (units : List (ℕ × AccessUnit)) (n k j : ℕ) (s : DescribedStream) (e : Entry) →
-    IsJob options findings input d text units → AreUnits false findings d units → IsInRange d → IsServing d p → slice_get d.streams k ≡ Some s →
+    IsJob options input d text units → AreUnits false findings d units → IsInRange d → IsServing d p → slice_get d.streams k ≡ Some s →
     slice_get (pid_list s.pid (output_of false (schedule_for d p) (job_history units n))) j ≡ Some e →
     IsFollowed d (take (188 * e.index) (output_of false (schedule_for d p) (job_history units n)))
 

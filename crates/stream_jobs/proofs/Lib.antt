@@ -5,6 +5,9 @@ mod Elements
 pub mod JobUnits
 mod AndThen
 mod JobInputs
+mod NewPlaces
+pub mod NewNumbersApart
+mod NewNumbersBecome
 mod Each
 mod CarriedStreams
 mod TriedRates
@@ -12,3 +15,7 @@ mod FirstWhy
 pub mod Steps
 pub mod MovedInputs
 pub mod ClockConstants
+mod JoinedSteps
+pub mod JoinedStreams
+mod JoinedApart
+pub mod JoinedUnits

@@ -12,6 +12,7 @@ use Rattle.stream_jobs.specs.Answers.{and_then, unless}
 use Rattle.stream_jobs.specs.ClockBases.{base0_of}
 use Rattle.stream_jobs.specs.Declarations.{UnitCountsView, too_many, too_long, all_unit_counts, choices}
 use Rattle.stream_jobs.specs.JobInput.{JobInputView, job_input, with_association, with_programs, with_pids, with_streams, with_moved, with_unit_counts, job_warnings, named_of, nothing_carried, tables_of}
+use Rattle.stream_jobs.specs.Information.{JobInformationView, information_of}
 use Rattle.stream_jobs.specs.JobOptions.{JobOptionsView}
 use Rattle.stream_jobs.specs.JobPrograms.{JobProgramView, job_programs}
 use Rattle.stream_jobs.specs.Jobs.{IsCarried}
@@ -23,19 +24,20 @@ use Rattle.stream_jobs.specs.WireStreams.{selected, wire_streams}
 use Rattle.stream_jobs.proofs.CarriedStreams.{all_carried}
 use Rattle.stream_jobs.proofs.Steps.{granted, comes, same_value}
 
--- what is counted of streams changes neither them, nor the programs, nor the clock
-record Made (base : ℕ) (programs : List JobProgramView) (tables : List JobTableView) (streams : List TimedStreamView) (input : JobInputView) : Type 0 where
+-- what is counted of streams changes neither them, nor the programs, nor the clock, nor what is said of the whole
+record Made (information : JobInformationView) (base : ℕ) (programs : List JobProgramView) (tables : List JobTableView) (streams : List TimedStreamView) (input : JobInputView) : Type 0 where
+  information_is : input.information ≡ information
   base0_is : input.base0 ≡ base
   programs_are : input.programs ≡ programs
   tables_are : input.tables ≡ tables
   streams_are : input.streams ≡ streams
 
-made : (options : JobOptionsView) (id base : ℕ) (programs : List JobProgramView) (tables : List JobTableView) (warnings : List Warning) (streams : List TimedStreamView) (input : JobInputView) →
-    with_moved options id base programs tables warnings streams ≡ Ok input → Made base programs tables streams input
+made : (options : JobOptionsView) (information : JobInformationView) (base : ℕ) (programs : List JobProgramView) (tables : List JobTableView) (warnings : List Warning) (streams : List TimedStreamView) (input : JobInputView) →
+    with_moved options information base programs tables warnings streams ≡ Ok input → Made information base programs tables streams input
 unfolding with_moved with_unit_counts
-made options id base programs tables warnings streams input is =
+made options information base programs tables warnings streams input is =
     let finish = λ (all : List UnitCountsView) (chosen : List Choice). (let i : JobInputView = record {
-      transport_stream_id = id;
+      information = information;
       base0 = base;
       programs = programs;
       streams = streams;
@@ -50,14 +52,18 @@ made options id base programs tables warnings streams input is =
     let chosen = comes (λ chosen. Ok (finish all.value chosen)) (choices options.declare_by options.lead streams all.value) input all.last_is in
     let same : finish all.value chosen.value ≡ input = same_value (finish all.value chosen.value) input chosen.last_is in
     record {
+      information_is = sym (ap (λ (i : JobInputView). i.information) same);
       base0_is = sym (ap (λ (i : JobInputView). i.base0) same);
       programs_are = sym (ap (λ (i : JobInputView). i.programs) same);
       tables_are = sym (ap (λ (i : JobInputView). i.tables) same);
       streams_are = sym (ap (λ (i : JobInputView). i.streams) same);
     }
 
--- streams on the wire, with the units that are found of their PIDs; they are moved, and the clock is that of the first
+-- streams on the wire, with the units that are found of their PIDs; they are moved, and the clock is that of the first; what is said of the whole
+-- is what is found of a transport_stream_id
 pub record Moved (options : JobOptionsView) (findings : List FindingView) (input : JobInputView) : Type 0 where
+  pub id : ℕ
+  pub information_is : input.information ≡ information_of options id findings input.programs
   pub streams : List WireStreamView
   pub carried : All (IsCarried options.make_dts findings) streams
   pub moved : moved_streams findings (earliest input.programs input.tables streams) input.programs streams ≡ Ok input.streams
@@ -81,13 +87,16 @@ moved_of options count findings input is =
     let programs = job_programs streams found.programs assigned.value in
     let tables = tables_of options count findings found assigned.value streams in
     let warnings = told tables (job_warnings options count findings a (named_of options a) found assigned.value streams) in
+    let information = information_of options a.transport_stream_id findings programs in
     let due = earliest programs tables streams in
     let base = base0_of options.base (first_base due programs streams) in
-    let timed = comes (with_moved options a.transport_stream_id base programs tables warnings) (moved_streams findings due programs streams) input
-    (granted (nothing_carried warnings streams) (and_then (with_moved options a.transport_stream_id base programs tables warnings) (moved_streams findings due programs streams))
+    let timed = comes (with_moved options information base programs tables warnings) (moved_streams findings due programs streams) input
+    (granted (nothing_carried warnings streams) (and_then (with_moved options information base programs tables warnings) (moved_streams findings due programs streams))
     input on_wire.last_is) in
-    let done = made options a.transport_stream_id base programs tables warnings timed.value input timed.last_is in
+    let done = made options information base programs tables warnings timed.value input timed.last_is in
     record {
+      id = a.transport_stream_id;
+      information_is = done.information_is ∙ ap (information_of options a.transport_stream_id findings) (sym done.programs_are);
       streams = streams;
       carried = all_carried options.make_dts findings (selected options.without found.streams) streams on_wire.first_is;
       moved = ap₂ (λ (ps : List JobProgramView) (ts : List JobTableView). moved_streams findings (earliest ps ts streams) ps streams) done.programs_are done.tables_are

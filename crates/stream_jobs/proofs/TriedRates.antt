@@ -4,7 +4,6 @@ use Rattle.std.proofs.lemmas.Bool.Decides.{nat_tests}
 use Rattle.std.proofs.lemmas.List.Elements.{All-nil, All-cons, All-append}
 use Rattle.std.proofs.lemmas.List.FromFn.{map-range_with_len_more}
 use Rattle.std.specs.List.{range_with_len}
-use Rattle.demux.specs.Views.{FindingView}
 use Rattle.stream_jobs.specs.JobInput.{JobInputView}
 use Rattle.stream_jobs.specs.Rates.{IsTriedFrom, IsUnserved, next_rate, rates_from, tried_rates}
 use Rattle.stream_jobs.specs.JobOptions.{JobOptionsView}
@@ -58,9 +57,9 @@ pub all_spent : (P : ℕ → Type 0) (k first rate : ℕ) → ArePassed P first 
 all_spent P k first rate passed h = ended P k first rate (spent k rate h) passed
 
 -- this one is tried
-pub tried_after : (options : JobOptionsView) (findings : List FindingView) (input : JobInputView) (k first rate : ℕ) → ArePassed (IsUnserved options findings input) first k rate → k < 96 → rate ≤ 100_000_000 →
-    IsTriedFrom options findings input first rate
-tried_after options findings input k first rate passed within h = record {
+pub tried_after : (options : JobOptionsView) (input : JobInputView) (k first rate : ℕ) → ArePassed (IsUnserved options input) first k rate → k < 96 → rate ≤ 100_000_000 →
+    IsTriedFrom options input first rate
+tried_after options input k first rate passed within h = record {
   before = passed.before;
   after = rates_from (96 - (k + 1)) (k + 1) (next_rate k rate);
   among = passed.split ∙ ap (λ rs. passed.before ++ rs) (tried_now k rate within h);

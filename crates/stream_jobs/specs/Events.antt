@@ -1,9 +1,8 @@
 -- The events of a job's programs, the moment at which its run begins, and what of service information is left out.
-use Rattle.std.specs.Prelude.{ℕ, List, map, flat_map, slice_get, codes, Option, Some, None, option_map}
+use Rattle.std.specs.Prelude.{ℕ, List, map, slice_get, codes, Option, Some, None, option_map}
 use Rattle.std.specs.Option.{option_or}
 use Rattle.demux.specs.Views.{FindingView}
 use Rattle.job_text.specs.DescriptionParts.{EventPartView}
-use Rattle.job_text.specs.Texts.{event_text}
 use Rattle.service_information.specs.CivilTimes.{civil_text}
 use Rattle.service_information.specs.Events.{FoundEventView, stream_events}
 use Rattle.service_information.specs.StreamTime.{stream_time}
@@ -45,11 +44,8 @@ event_part e = record {
   text = decode_text 150 e.text;
 }
 
-abbrev pub event_lines : FoundEventView → List ℕ
-event_lines e = event_text (event_part e)
-
-abbrev pub events_text : List FoundEventView → List ℕ
-events_text events = flat_map event_lines events
+abbrev pub event_parts : List FoundEventView → List EventPartView
+event_parts events = map event_part events
 
 -- 3. Warnings
 

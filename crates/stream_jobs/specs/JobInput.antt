@@ -21,6 +21,7 @@ use Rattle.stream_jobs.specs.Declarations.{UnitCountsView, too_many, too_long, a
 use Rattle.stream_jobs.specs.JobPrograms.{JobProgramView, job_programs, all_program_warnings, text_warnings}
 use Rattle.stream_jobs.specs.GivenNames.{ServiceNameView}
 use Rattle.stream_jobs.specs.Events.{programs_information}
+use Rattle.stream_jobs.specs.Information.{JobInformationView, information_of}
 use Rattle.stream_jobs.specs.Moments.{earliest, first_base, moved_streams}
 use Rattle.stream_jobs.specs.Packets.{no_packets}
 use Rattle.stream_jobs.specs.Warnings.{packet_warnings, association_warnings, all_map_warnings, stray_warnings, option_warnings, network_warnings, pid_warnings}
@@ -29,10 +30,10 @@ use Rattle.stream_jobs.specs.JobOptions.{JobOptionsView, is_selected_program}
 use Rattle.stream_jobs.specs.JobTables.{JobTableView, job_tables, told}
 use Rattle.stream_jobs.specs.JobStreams.{TimedStreamView, WireStreamView}
 
--- base0 is what the system clock shows as the run begins; each stream has what is counted of it and what it
--- declares; tables are private sections that do not change; the warnings say what is not taken as it stands
+-- the information is what is said of the transport stream as a whole; base0 is what the system clock shows as the run begins; each stream
+-- has what is counted of it and what it declares; tables are private sections that do not change; the warnings say what is not taken as it stands
 pub record JobInputView : Type 0 where
-  pub transport_stream_id : ℕ
+  pub information : JobInformationView
   pub base0 : ℕ
   pub programs : List JobProgramView
   pub streams : List TimedStreamView
@@ -87,12 +88,12 @@ unfoldable pub with_unit_counts : JobOptionsView → (List UnitCountsView → Li
 with_unit_counts options finish streams =
     and_then (λ all. and_then (λ chosen. Ok (finish all chosen)) (choices options.declare_by options.lead streams all)) (all_unit_counts options.buffers streams)
 
-unfoldable pub with_moved : JobOptionsView → ℕ → ℕ → List JobProgramView → List JobTableView → List Warning → List TimedStreamView → Result JobInputView JobRefusal
-with_moved options id base programs tables all_warnings streams =
+unfoldable pub with_moved : JobOptionsView → JobInformationView → ℕ → List JobProgramView → List JobTableView → List Warning → List TimedStreamView → Result JobInputView JobRefusal
+with_moved options information base programs tables all_warnings streams =
     unless (too_many (length programs) (length streams))
     (unless (too_long streams)
     (with_unit_counts options (λ all chosen. record {
-      transport_stream_id = id;
+      information = information;
       base0 = base;
       programs = programs;
       streams = streams;
@@ -119,7 +120,7 @@ nothing_carried all_warnings streams = if length streams == 0 then first_why all
 unfoldable pub with_streams : JobOptionsView → List FindingView → ℕ → List JobProgramView → List JobTableView → List Warning → List WireStreamView → Result JobInputView JobRefusal
 with_streams options findings id programs tables all_warnings streams =
     unless (nothing_carried all_warnings streams)
-    (and_then (with_moved options id (base0_of options.base (first_base (earliest programs tables streams) programs streams)) programs tables all_warnings)
+    (and_then (with_moved options (information_of options id findings programs) (base0_of options.base (first_base (earliest programs tables streams) programs streams)) programs tables all_warnings)
     (moved_streams findings (earliest programs tables streams) programs streams))
 
 -- the tables of programs that are given PIDs

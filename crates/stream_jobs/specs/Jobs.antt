@@ -185,22 +185,22 @@ pub record AreUnits (made : Bool) (findings : List FindingView) (d : Described) 
 -- 4. A job
 
 -- the description of these streams: at the rate that is asked for, else at one of those that are tried, which a plan serves
-pub record IsDescription (options : JobOptionsView) (findings : List FindingView) (input : JobInputView) (text : List ℕ) : Type 0 where
+pub record IsDescription (options : JobOptionsView) (input : JobInputView) (text : List ℕ) : Type 0 where
   pub rate : ℕ
-  pub rate_is : IsRate options.rate options findings input rate
-  pub served : options.rate ≡ None → IsServed options findings input rate
-  pub text_is : text ≡ description_text options findings input rate
+  pub rate_is : IsRate options.rate options input rate
+  pub served : options.rate ≡ None → IsServed options input rate
+  pub text_is : text ≡ description_text options input rate
 
 -- with what it is read as, and the units of all streams by their DTS
-pub record IsJob (options : JobOptionsView) (findings : List FindingView) (input : JobInputView) (d : Described) (text : List ℕ) (units : List (ℕ × AccessUnit)) : Type 0 where
-  pub described : IsDescription options findings input text
+pub record IsJob (options : JobOptionsView) (input : JobInputView) (d : Described) (text : List ℕ) (units : List (ℕ × AccessUnit)) : Type 0 where
+  pub described : IsDescription options input text
   pub read : IsText d text
   pub merged : AreMerged (map (λ s. s.units) input.streams) units
 
 -- 5. The description for which reasons are looked for
 
 -- at the rate that is asked for, else at the least at which all have slots
-pub record IsUnplanned (options : JobOptionsView) (findings : List FindingView) (input : JobInputView) (description : Described) : Type 0 where
+pub record IsUnplanned (options : JobOptionsView) (input : JobInputView) (description : Described) : Type 0 where
   pub rate : ℕ
-  pub rate_is : IsAskedOrFirst options.rate options findings input rate
-  pub read : IsText description (description_text options findings input rate)
+  pub rate_is : IsAskedOrFirst options.rate options input rate
+  pub read : IsText description (description_text options input rate)

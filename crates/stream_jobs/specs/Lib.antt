@@ -1,6 +1,7 @@
 pub mod ClockBases
 pub mod GivenNames
 pub mod JobOptions
+pub mod NewNumbers
 pub mod Answers
 pub mod Packets
 pub mod Warnings
@@ -10,6 +11,7 @@ pub mod ProgramClocks
 pub mod JobPrograms
 pub mod JobTables
 pub mod Events
+pub mod Information
 pub mod Moments
 pub mod Declarations
 pub mod JobInput
@@ -18,4 +20,7 @@ pub mod FoundUnits
 pub mod ClockConstants
 pub mod Rates
 pub mod Jobs
+pub mod RenumberedInputs
+pub mod JoinedInputs
+pub mod NumbersApart
 pub mod WhyNoJob

@@ -1,7 +1,6 @@
 -- The rates at which a plan is looked for.
 use Rattle.std.specs.Prelude.{◌≡◌, ◌⊎◌, ℕ, zero, suc, ◌+◌, ◌/◌, ◌-◌, ◌^◌, min, nat_le, nat_lt, false, if◌then◌else◌, List, [], ◌∷◌, ◌++◌, map, Option, Some, None, Ok, All}
 use Rattle.std.specs.List.{range_with_len}
-use Rattle.demux.specs.Views.{FindingView}
 use Rattle.description.specs.Described.{Described, DescribedProgram}
 use Rattle.description.specs.Reading.{description_of}
 use Rattle.description.specs.Tables.{round_packets, table_count, table_limit}
@@ -40,20 +39,20 @@ greatest_rate = 100_000_000
 abbrev pub shares : JobInputView → List ℕ
 shares input = map (λ c. c.share) input.choices
 
-pub record IsFirstRate (options : JobOptionsView) (findings : List FindingView) (input : JobInputView) (rate : ℕ) : Type 0 where
+pub record IsFirstRate (options : JobOptionsView) (input : JobInputView) (rate : ℕ) : Type 0 where
   pub description : Described
-  pub read : IsText description (description_text options findings input greatest_rate)
+  pub read : IsText description (description_text options input greatest_rate)
   pub least : IsLeastRate (shares input) (recurring_of description) rate
 
 -- the rate that is asked for, else that one
-abbrev pub IsAskedOrFirst : Option ℕ → JobOptionsView → List FindingView → JobInputView → ℕ → Type 0
-IsAskedOrFirst (Some asked) options findings input rate = rate ≡ asked
-IsAskedOrFirst None options findings input rate = IsFirstRate options findings input rate
+abbrev pub IsAskedOrFirst : Option ℕ → JobOptionsView → JobInputView → ℕ → Type 0
+IsAskedOrFirst (Some asked) options input rate = rate ≡ asked
+IsAskedOrFirst None options input rate = IsFirstRate options input rate
 
 -- there is none
-pub record HasNoFirstRate (options : JobOptionsView) (findings : List FindingView) (input : JobInputView) : Type 0 where
+pub record HasNoFirstRate (options : JobOptionsView) (input : JobInputView) : Type 0 where
   pub description : Described
-  pub read : IsText description (description_text options findings input greatest_rate)
+  pub read : IsText description (description_text options input greatest_rate)
   pub too_much : IsTooMuch (shares input) (recurring_of description)
 
 -- 3. The rates from there on, by small steps at first
@@ -72,46 +71,46 @@ tried_rates first = rates_from 96 0 first
 -- 4. A rate with a plan
 
 -- the text at a rate, with what it is read as
-pub record IsPlanned (options : JobOptionsView) (findings : List FindingView) (input : JobInputView) (rate : ℕ) (d : Described) (text : List ℕ) : Type 0 where
-  pub text_is : text ≡ description_text options findings input rate
+pub record IsPlanned (options : JobOptionsView) (input : JobInputView) (rate : ℕ) (d : Described) (text : List ℕ) : Type 0 where
+  pub text_is : text ≡ description_text options input rate
   pub read : IsText d text
 
 -- a plan serves the description at a rate
-pub record IsServed (options : JobOptionsView) (findings : List FindingView) (input : JobInputView) (rate : ℕ) : Type 0 where
+pub record IsServed (options : JobOptionsView) (input : JobInputView) (rate : ℕ) : Type 0 where
   pub description : Described
   pub plan : Planned
-  pub read : IsText description (description_text options findings input rate)
+  pub read : IsText description (description_text options input rate)
   pub serving : IsServing description plan
 
 -- not even the plain plan does
-pub record IsUnserved (options : JobOptionsView) (findings : List FindingView) (input : JobInputView) (rate : ℕ) : Type 0 where
+pub record IsUnserved (options : JobOptionsView) (input : JobInputView) (rate : ℕ) : Type 0 where
   pub description : Described
-  pub read : IsText description (description_text options findings input rate)
+  pub read : IsText description (description_text options input rate)
   pub fails : serves description (plain_plan description) ≡ false
 
 -- one of the rates from a first one on is tried only after those before it, none of which is served
-pub record IsTriedFrom (options : JobOptionsView) (findings : List FindingView) (input : JobInputView) (first rate : ℕ) : Type 0 where
+pub record IsTriedFrom (options : JobOptionsView) (input : JobInputView) (first rate : ℕ) : Type 0 where
   pub before : List ℕ
   pub after : List ℕ
   pub among : tried_rates first ≡ before ++ rate ∷ after
-  pub none_before : All (IsUnserved options findings input) before
+  pub none_before : All (IsUnserved options input) before
 
-pub record IsTried (options : JobOptionsView) (findings : List FindingView) (input : JobInputView) (rate : ℕ) : Type 0 where
+pub record IsTried (options : JobOptionsView) (input : JobInputView) (rate : ℕ) : Type 0 where
   pub first : ℕ
-  pub is_first : IsFirstRate options findings input first
-  pub tried : IsTriedFrom options findings input first rate
+  pub is_first : IsFirstRate options input first
+  pub tried : IsTriedFrom options input first rate
 
 -- the rate that is asked for, else one that is tried
-abbrev pub IsRate : Option ℕ → JobOptionsView → List FindingView → JobInputView → ℕ → Type 0
-IsRate (Some asked) options findings input rate = rate ≡ asked
-IsRate None options findings input rate = IsTried options findings input rate
+abbrev pub IsRate : Option ℕ → JobOptionsView → JobInputView → ℕ → Type 0
+IsRate (Some asked) options input rate = rate ≡ asked
+IsRate None options input rate = IsTried options input rate
 
 -- nor at one of those that are tried, of which this is the first
-pub record AreUnserved (options : JobOptionsView) (findings : List FindingView) (input : JobInputView) (first : ℕ) : Type 0 where
-  pub is_first : IsFirstRate options findings input first
-  pub none : All (IsUnserved options findings input) (tried_rates first)
+pub record AreUnserved (options : JobOptionsView) (input : JobInputView) (first : ℕ) : Type 0 where
+  pub is_first : IsFirstRate options input first
+  pub none : All (IsUnserved options input) (tried_rates first)
 
 -- no plan is found: at the rate that is asked for; else at the first and those after it; or no rate has slots for all
-abbrev pub HasNoPlan : Option ℕ → JobOptionsView → List FindingView → JobInputView → ℕ → Type 0
-HasNoPlan (Some asked) options findings input rate = (rate ≡ asked) × IsUnserved options findings input rate
-HasNoPlan None options findings input rate = AreUnserved options findings input rate ⊎ ((rate ≡ greatest_rate) × HasNoFirstRate options findings input)
+abbrev pub HasNoPlan : Option ℕ → JobOptionsView → JobInputView → ℕ → Type 0
+HasNoPlan (Some asked) options input rate = (rate ≡ asked) × IsUnserved options input rate
+HasNoPlan None options input rate = AreUnserved options input rate ⊎ ((rate ≡ greatest_rate) × HasNoFirstRate options input)

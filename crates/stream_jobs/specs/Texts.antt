@@ -1,83 +1,30 @@
 -- The description of a job as text.
-use Rattle.std.specs.Prelude.{ℕ, ◌-◌, ◌^◌, ◌||◌, min, Bool, List, [], ◌++◌, flat_map, zip, is_some, unwrap_or, Option, Some, None, option_map}
-use Rattle.std.specs.Option.{option_or}
-use Rattle.std.specs.List.{list_any}
-use Rattle.demux.specs.Views.{FindingView}
-use Rattle.job_text.specs.DescriptionParts.{HeadingView, NetworkPartView, ProgramPartView, StreamPartView}
-use Rattle.job_text.specs.Texts.{heading_text, network_if_any, program_text, stream_text}
+use Rattle.std.specs.Prelude.{ℕ, ◌-◌, ◌^◌, min, List, ◌++◌, flat_map, zip}
+use Rattle.job_text.specs.DescriptionParts.{EventPartView, HeadingView, ProgramPartView, StreamPartView}
+use Rattle.job_text.specs.Texts.{event_text, heading_text, network_if_any, program_text, stream_text}
 use Rattle.stream_choice.specs.declared.choice.Choice.{Choice}
-use Rattle.stream_programs.specs.NetworkInformation.{FoundNetworkView, stream_network}
-use Rattle.stream_programs.specs.Networks.{network}
-use Rattle.stream_programs.specs.Services.{FoundServiceView, service}
-use Rattle.stream_programs.specs.Texts.{decode_text}
-use Rattle.service_information.specs.StreamTime.{stream_time}
+use Rattle.stream_programs.specs.Services.{FoundServiceView}
 use Rattle.stream_jobs.specs.Declarations.{UnitCountsView}
-use Rattle.stream_jobs.specs.Events.{job_events, events_text, start_of}
-use Rattle.stream_jobs.specs.GivenNames.{NetworkNameView, ServiceNameView, name_given, original_given}
 use Rattle.stream_jobs.specs.JobPrograms.{JobProgramView}
 use Rattle.stream_jobs.specs.JobInput.{JobInputView}
 use Rattle.stream_jobs.specs.JobOptions.{JobOptionsView}
 use Rattle.stream_jobs.specs.JobTables.{tables_text}
 use Rattle.stream_jobs.specs.JobStreams.{TimedStreamView}
 
--- 1. The head
+-- 1. The head: at a rate in bits a second, a number of 32 bits
 
--- a service of one of these programs is described, or given a name
-unfoldable pub has_service : List ServiceNameView → List FindingView → ℕ → Bool
-has_service names findings number = is_some (service number findings) || is_some (name_given number names)
-
-unfoldable pub has_services : List ServiceNameView → List FindingView → List JobProgramView → Bool
-has_services names findings programs = list_any (λ p. has_service names findings p.number) programs
-
--- original_network_id: the one that is given, that of the services, or that of the network information table
-unfoldable pub original_of : Option NetworkNameView → ℕ → List FindingView → Option ℕ
-original_of given id findings = option_or (option_or (original_given given) (network findings)) (option_map (λ n. n.original) (stream_network id findings))
-
--- from a moment on, at a rate in bits a second, a number of 32 bits; with a time and date table if the stream has one; where nothing says original_network_id it is one for private use (ETSI TS 101 162)
-unfoldable pub heading_of : JobOptionsView → List FindingView → JobInputView → List ℕ → ℕ → HeadingView
-heading_of options findings input start rate = record {
+unfoldable pub heading_of : JobInputView → ℕ → HeadingView
+heading_of input rate = record {
   rate = min rate (2 ^ 32 - 1);
-  start = start;
+  start = input.information.start;
   base0 = input.base0;
-  transport_stream_id = input.transport_stream_id;
-  original_network_id = unwrap_or (original_of options.network input.transport_stream_id findings) 0xFF01;
-  sdt = has_services options.names findings input.programs;
-  tdt = is_some (stream_time findings);
+  transport_stream_id = input.information.transport_stream_id;
+  original_network_id = input.information.original_network_id;
+  sdt = input.information.sdt;
+  tdt = input.information.tdt;
 }
 
--- the network that is given
-unfoldable pub network_of : NetworkNameView → NetworkPartView
-network_of n = record { id = n.id; name = n.name; descriptors = [] }
-
--- that of the stream, its name with at most 200 bytes
-unfoldable pub network_found : FoundNetworkView → NetworkPartView
-network_found n = record { id = n.id; name = decode_text 200 n.name; descriptors = n.descriptors }
-
-unfoldable pub network_or : Option NetworkNameView → Option FoundNetworkView → Option NetworkPartView
-network_or None found = option_map network_found found
-network_or (Some n) found = Some (network_of n)
-
-abbrev pub network_part : JobOptionsView → ℕ → List FindingView → Option NetworkPartView
-network_part options id findings = network_or options.network (stream_network id findings)
-
 -- 2. Programs, each with its service
-
--- the texts with at most 100 bytes each; without a service, a digital television service without a name (EN 300 468,
--- table 87)
-unfoldable pub named_service : Option FoundServiceView → FoundServiceView
-named_service (Some s) = record { service_type = s.service_type; provider = decode_text 100 s.provider; name = decode_text 100 s.name }
-named_service None = record { service_type = 1; provider = []; name = [] }
-
--- with the name that is given to it, and the provider if that is given too
-unfoldable pub renamed : ServiceNameView → FoundServiceView → FoundServiceView
-renamed n s = record { service_type = s.service_type; provider = unwrap_or n.provider s.provider; name = n.name }
-
-unfoldable pub service_with : Option ServiceNameView → FoundServiceView → FoundServiceView
-service_with None s = s
-service_with (Some n) s = renamed n s
-
-abbrev pub service_of : List ServiceNameView → List FindingView → ℕ → FoundServiceView
-service_of names findings number = service_with (name_given number names) (named_service (service number findings))
 
 unfoldable pub program_with : ℕ → JobProgramView → FoundServiceView → ProgramPartView
 program_with pcr_limit p s = record {
@@ -91,8 +38,9 @@ program_with pcr_limit p s = record {
   name = s.name;
 }
 
-unfoldable pub program_part : JobOptionsView → List FindingView → JobProgramView → ProgramPartView
-program_part options findings p = program_with options.pcr_limit p (service_of options.names findings p.number)
+-- beside its service
+abbrev pub program_part : ℕ → JobProgramView × FoundServiceView → ProgramPartView
+program_part pcr_limit p = program_with pcr_limit p.0 p.1
 
 -- 3. Streams
 
@@ -114,11 +62,11 @@ stream_part s = record {
 
 -- 4. The whole: the lines of private tables (`specs/JobTables`) come last
 
-abbrev pub program_lines : JobOptionsView → List FindingView → JobProgramView → List ℕ
-program_lines options findings p = program_text (program_part options findings p)
+abbrev pub program_lines : ℕ → JobProgramView × FoundServiceView → List ℕ
+program_lines pcr_limit p = program_text (program_part pcr_limit p)
 
-abbrev pub programs_text : JobOptionsView → List FindingView → List JobProgramView → List ℕ
-programs_text options findings programs = flat_map (program_lines options findings) programs
+abbrev pub programs_text : ℕ → List JobProgramView → List FoundServiceView → List ℕ
+programs_text pcr_limit programs services = flat_map (program_lines pcr_limit) (zip programs services)
 
 abbrev pub stream_lines : TimedStreamView × (UnitCountsView × Choice) → List ℕ
 stream_lines s = stream_text (stream_part s)
@@ -126,10 +74,13 @@ stream_lines s = stream_text (stream_part s)
 abbrev pub streams_text : List TimedStreamView → List UnitCountsView → List Choice → List ℕ
 streams_text streams unit_counts choices = flat_map stream_lines (zip streams (zip unit_counts choices))
 
-unfoldable pub description_text : JobOptionsView → List FindingView → JobInputView → ℕ → List ℕ
-description_text options findings input rate =
-    heading_text (heading_of options findings input (start_of options.start (job_events findings input.programs) findings) rate)
-    ++ (events_text (job_events findings input.programs)
-    ++ (network_if_any (network_part options input.transport_stream_id findings)
-    ++ (programs_text options findings input.programs
+abbrev pub events_text : List EventPartView → List ℕ
+events_text events = flat_map event_text events
+
+unfoldable pub description_text : JobOptionsView → JobInputView → ℕ → List ℕ
+description_text options input rate =
+    heading_text (heading_of input rate)
+    ++ (events_text input.information.events
+    ++ (network_if_any input.information.network
+    ++ (programs_text options.pcr_limit input.programs input.information.services
     ++ (streams_text input.streams input.unit_counts input.choices ++ tables_text input.streams input.tables))))

@@ -1,6 +1,5 @@
 -- Why there is no job of this input: each definition says whether an error is a cause.
 use Rattle.std.specs.Prelude.{◌≡◌, ◌⊎◌, ⊤, ℕ, List, Option, Some, None, Err}
-use Rattle.demux.specs.Views.{FindingView}
 use Rattle.description.specs.Described.{Described}
 use Rattle.description.specs.Reading.{description_of}
 use Rattle.description.specs.declared.fault.DescFault.{DescFault}
@@ -28,62 +27,62 @@ IsWhyNotRead text (Refused (Description fault)) = IsFault fault text
 IsWhyNotRead text (Refused _) = ⊥
 
 -- the same of the description that is written at a rate
-abbrev pub IsWhyNotReadAt : JobOptionsView → List FindingView → JobInputView → ℕ → JobError → Type 0
-IsWhyNotReadAt options findings input rate error = IsWhyNotRead (description_text options findings input rate) error
+abbrev pub IsWhyNotReadAt : JobOptionsView → JobInputView → ℕ → JobError → Type 0
+IsWhyNotReadAt options input rate error = IsWhyNotRead (description_text options input rate) error
 
 -- 1. At which rate
 
 -- the one that is asked for; else the greatest, by which what recurs is known, or one that is tried
-abbrev pub IsReadFor : Option ℕ → JobOptionsView → List FindingView → JobInputView → ℕ → Type 0
-IsReadFor (Some asked) options findings input rate = rate ≡ asked
-IsReadFor None options findings input rate = (rate ≡ greatest_rate) ⊎ IsTried options findings input rate
+abbrev pub IsReadFor : Option ℕ → JobOptionsView → JobInputView → ℕ → Type 0
+IsReadFor (Some asked) options input rate = rate ≡ asked
+IsReadFor None options input rate = (rate ≡ greatest_rate) ⊎ IsTried options input rate
 
 -- where reasons are looked for: the greatest, or the first
-abbrev pub IsGreatestOrFirst : JobOptionsView → List FindingView → JobInputView → ℕ → Type 0
-IsGreatestOrFirst options findings input rate = (rate ≡ greatest_rate) ⊎ IsFirstRate options findings input rate
+abbrev pub IsGreatestOrFirst : JobOptionsView → JobInputView → ℕ → Type 0
+IsGreatestOrFirst options input rate = (rate ≡ greatest_rate) ⊎ IsFirstRate options input rate
 
 -- the description that is written at one of these rates is not read
-pub record IsWhyNotReadAtOne (IsRead : ℕ → Type 0) (options : JobOptionsView) (findings : List FindingView) (input : JobInputView) (error : JobError) : Type 0 where
+pub record IsWhyNotReadAtOne (IsRead : ℕ → Type 0) (options : JobOptionsView) (input : JobInputView) (error : JobError) : Type 0 where
   pub rate : ℕ
   pub is_read : IsRead rate
-  pub unread : IsWhyNotReadAt options findings input rate error
+  pub unread : IsWhyNotReadAt options input rate error
 
 -- 2. Why there is no ..
 
 -- first rate
-abbrev pub IsWhyNoRate : JobOptionsView → List FindingView → JobInputView → JobError → Type 0
-IsWhyNoRate options findings input (Refused (Plan rate)) = (rate ≡ greatest_rate) × HasNoFirstRate options findings input
-IsWhyNoRate options findings input error = IsWhyNotReadAt options findings input greatest_rate error
+abbrev pub IsWhyNoRate : JobOptionsView → JobInputView → JobError → Type 0
+IsWhyNoRate options input (Refused (Plan rate)) = (rate ≡ greatest_rate) × HasNoFirstRate options input
+IsWhyNoRate options input error = IsWhyNotReadAt options input greatest_rate error
 
 -- reasons: at the rate that is asked for, else at the first one, the description is not read, or there is no first rate
-abbrev pub IsWhyNoReasons : Option ℕ → JobOptionsView → List FindingView → JobInputView → JobError → Type 0
-IsWhyNoReasons (Some asked) options findings input error = IsWhyNotReadAt options findings input asked error
-IsWhyNoReasons None options findings input Memory = ⊤
-IsWhyNoReasons None options findings input (Refused (Plan rate)) = (rate ≡ greatest_rate) × HasNoFirstRate options findings input
-IsWhyNoReasons None options findings input error = IsWhyNotReadAtOne (IsGreatestOrFirst options findings input) options findings input error
+abbrev pub IsWhyNoReasons : Option ℕ → JobOptionsView → JobInputView → JobError → Type 0
+IsWhyNoReasons (Some asked) options input error = IsWhyNotReadAt options input asked error
+IsWhyNoReasons None options input Memory = ⊤
+IsWhyNoReasons None options input (Refused (Plan rate)) = (rate ≡ greatest_rate) × HasNoFirstRate options input
+IsWhyNoReasons None options input error = IsWhyNotReadAtOne (IsGreatestOrFirst options input) options input error
 
 -- plan, with this rate asked for or none
-abbrev pub IsWhyNoPlan : Option ℕ → JobOptionsView → List FindingView → JobInputView → JobError → Type 0
-IsWhyNoPlan asked options findings input Memory = ⊤
-IsWhyNoPlan asked options findings input (Refused (Plan rate)) = HasNoPlan asked options findings input rate
-IsWhyNoPlan asked options findings input error = IsWhyNotReadAtOne (IsReadFor asked options findings input) options findings input error
+abbrev pub IsWhyNoPlan : Option ℕ → JobOptionsView → JobInputView → JobError → Type 0
+IsWhyNoPlan asked options input Memory = ⊤
+IsWhyNoPlan asked options input (Refused (Plan rate)) = HasNoPlan asked options input rate
+IsWhyNoPlan asked options input error = IsWhyNotReadAtOne (IsReadFor asked options input) options input error
 
 -- description: if a rate is asked for, only because memory runs out
-abbrev pub IsWhyNoDescription : Option ℕ → JobOptionsView → List FindingView → JobInputView → JobError → Type 0
-IsWhyNoDescription (Some asked) options findings input error = error ≡ Memory
-IsWhyNoDescription None options findings input error = IsWhyNoPlan None options findings input error
+abbrev pub IsWhyNoDescription : Option ℕ → JobOptionsView → JobInputView → JobError → Type 0
+IsWhyNoDescription (Some asked) options input error = error ≡ Memory
+IsWhyNoDescription None options input error = IsWhyNoPlan None options input error
 
 -- the description that a plan serves at its rate is not that of its programs, or does not declare what the units of a stream need
-pub record Disagrees (options : JobOptionsView) (findings : List FindingView) (input : JobInputView) (pid : ℕ) : Type 0 where
+pub record Disagrees (options : JobOptionsView) (input : JobInputView) (pid : ℕ) : Type 0 where
   pub rate : ℕ
-  pub rate_is : IsRate options.rate options findings input rate
+  pub rate_is : IsRate options.rate options input rate
   pub description : Described
   pub plan : Planned
-  pub read : IsText description (description_text options findings input rate)
+  pub read : IsText description (description_text options input rate)
   pub serving : IsServing description plan
   pub disagree : disagreeing description input ≡ Some pid
 
 -- job
-abbrev pub IsWhyNoJob : JobOptionsView → List FindingView → JobInputView → JobError → Type 0
-IsWhyNoJob options findings input (Refused (Declaration pid)) = Disagrees options findings input pid
-IsWhyNoJob options findings input error = IsWhyNoPlan options.rate options findings input error
+abbrev pub IsWhyNoJob : JobOptionsView → JobInputView → JobError → Type 0
+IsWhyNoJob options input (Refused (Declaration pid)) = Disagrees options input pid
+IsWhyNoJob options input error = IsWhyNoPlan options.rate options input error

@@ -1,7 +1,6 @@
 //! The description of a job.
 
-ghost use Rattle.std.specs.Prelude.{◌≡◌, ◌++◌, IfOk, IfErr, OnOk, Ok, map, option_map, string_bytes};
-ghost use Rattle.demux.specs.Shown.{finding_view};
+ghost use Rattle.std.specs.Prelude.{◌≡◌, ◌++◌, IfOk, IfErr, OnOk, Ok, string_bytes};
 ghost use Rattle.job_text.specs.Texts.{heading_text, program_text, stream_text};
 ghost use Rattle.stream_jobs.specs.Rates.{IsText};
 ghost use Rattle.stream_jobs.specs.Texts as spec;
@@ -9,55 +8,42 @@ ghost use Rattle.stream_jobs.specs.WhyNoJob.{IsWhyNotRead};
 
 use crate::declarations::UnitCounts;
 use crate::input::JobInput;
-use crate::job_events::{job_events, start_of, write_events};
-use crate::job_network::{original_of, write_network};
+use crate::job_events::write_events;
+use crate::job_network::write_network;
 use crate::job_options::JobOptions;
 use crate::job_programs::JobProgram;
 use crate::job_stream::TimedStream;
-use crate::named_service::{NamedService, has_services, service_of};
+use crate::named_service::NamedService;
 use crate::refusal::{JobError, JobRefusal};
 use crate::table_lines::write_tables;
-use demux::Finding;
 use description::{DescError, Description};
 use job_text::{Heading, ProgramPart, StreamPart};
-use service_information::stream_time;
 use std::alloc::{AllocError, Global};
 use stream_choice::Choice;
-use stream_programs::stream_network;
-
-/// original_network_id where nothing says it (ETSI TS 101 162: 0xFF00 to 0xFFFF are for private
-/// use).
-const PRIVATE_NETWORK: u16 = 0xff01;
 
 /// All that the description of a job says but for its rate.
 #[derive(Clone, Copy)]
-pub(crate) struct DescriptionDraft<'a, 'f> {
+pub(crate) struct DescriptionDraft<'a> {
     pub options: &'a JobOptions<'a>,
-    pub findings: &'a [Finding<'f>],
     pub input: &'a JobInput,
 }
 
-impl<'a, 'f> DescriptionDraft<'a, 'f> {
+impl<'a> DescriptionDraft<'a> {
     #[tactic(auto, unfolding(crate::specs::Texts::heading_of))]
-    fn write_heading(&self, start: &str, rate: u64, text: &mut String) -> Result<(), AllocError>
+    fn write_heading(&self, rate: u64, text: &mut String) -> Result<(), AllocError>
         ensures { OnOk result (string_bytes text.new ≡ string_bytes text.old
-            ++ heading_text (spec.heading_of self.now.options.now (map finding_view self.now.findings.now)
-            self.now.input.now start.now rate)) }
+            ++ heading_text (spec.heading_of self.now.input.now rate)) }
     {
-        let options = self.options;
         let input = self.input;
+        let information = &input.information;
         let heading = Heading {
             rate: rate.min(u64::from(u32::MAX)) as u32,
-            start,
+            start: &information.start,
             base0: input.base0,
-            transport_stream_id: input.transport_stream_id,
-            original_network_id: original_of(
-                options.network,
-                input.transport_stream_id,
-                self.findings,
-            ).unwrap_or(PRIVATE_NETWORK),
-            sdt: has_services(options.names, self.findings, &input.programs),
-            tdt: stream_time(self.findings).is_some(),
+            transport_stream_id: information.transport_stream_id,
+            original_network_id: information.original_network_id,
+            sdt: information.sdt,
+            tdt: information.tdt,
         };
         heading.write_text(text)
     }
@@ -66,19 +52,21 @@ impl<'a, 'f> DescriptionDraft<'a, 'f> {
     #[tactic(auto, unfolding(crate::specs::Texts::description_text))]
     pub fn text(&self, alloc: Global, rate: u64) -> Result<String, AllocError>
         ensures { IfOk result (λ text. string_bytes text
-            ≡ spec.description_text self.now.options.now (map finding_view self.now.findings.now) self.now.input.now
-            rate) }
+            ≡ spec.description_text self.now.options.now self.now.input.now rate) }
     {
         let options = self.options;
         let input = self.input;
+        let information = &input.information;
         let mut text = String::new(alloc);
-        let events = job_events(alloc, &input.programs, self.findings)?;
-        let start = start_of(alloc, options.start, &events, self.findings)?;
-        self.write_heading(&start, rate, &mut text)?;
-        write_events(alloc, &events, &mut text)?;
-        let found = stream_network(input.transport_stream_id, self.findings);
-        write_network(alloc, options.network, found, &mut text)?;
-        write_programs(alloc, options, self.findings, &input.programs, &mut text)?;
+        self.write_heading(rate, &mut text)?;
+        write_events(&information.events, &mut text)?;
+        write_network(&information.network, &mut text)?;
+        write_programs(
+            options.pcr_limit,
+            &input.programs,
+            &information.services,
+            &mut text,
+        )?;
         write_streams(
             &input.streams,
             &input.unit_counts,
@@ -114,35 +102,25 @@ fn write_program(
     entry.write_text(text)
 }
 
-// The lines of a program, its service from what is found.
-#[tactic(auto, unfolding(crate::specs::Texts::program_part))]
-fn write_found_program(
-    alloc: Global,
-    options: &JobOptions<'_>,
-    findings: &[Finding<'_>],
-    program: &JobProgram,
-    text: &mut String,
-) -> Result<(), AllocError>
-    ensures { OnOk result (string_bytes text.new ≡ string_bytes text.old
-        ++ spec.program_lines options.now (map finding_view findings.now) program.now) }
-{
-    let service = service_of(alloc, options.names, program.number, findings)?;
-    write_program(options.pcr_limit, program, &service, text)
-}
-
 // The lines of all programs.
 fn write_programs(
-    alloc: Global,
-    options: &JobOptions<'_>,
-    findings: &[Finding<'_>],
+    pcr_limit: u8,
     programs: &[JobProgram],
+    services: &[NamedService],
     text: &mut String,
 ) -> Result<(), AllocError>
     ensures { OnOk result (string_bytes text.new ≡ string_bytes text.old
-        ++ spec.programs_text options.now (map finding_view findings.now) programs.now) }
+        ++ spec.programs_text pcr_limit programs.now services.now) }
 {
-    for program in programs {
-        write_found_program(alloc, options, findings, program, text)?;
+    let mut programs = programs;
+    let mut services = services;
+    'programs: while let Some((program, later_programs)) = programs.split_first() {
+        let Some((service, later_services)) = services.split_first() else {
+            return Ok(());
+        };
+        write_program(pcr_limit, program, service, text)?;
+        programs = later_programs;
+        services = later_services;
     }
     Ok(())
 }

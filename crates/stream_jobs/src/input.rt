@@ -13,6 +13,7 @@ use crate::clock_base::base0_of;
 use crate::declarations::{UnitCounts, count_units, too_long, too_many};
 use crate::earliest::earliest_of;
 use crate::given_names::ServiceName;
+use crate::information::{JobInformation, information_of};
 use crate::job_events::push_information_warnings;
 use crate::job_network::push_network_warnings;
 use crate::job_options::{JobOptions, is_among};
@@ -43,7 +44,7 @@ use stream_programs::{
 /// What a job is made of.
 #[derive(Drop)]
 pub struct JobInput {
-    pub(crate) transport_stream_id: u16,
+    pub(crate) information: JobInformation,
     pub(crate) base0: u64,
     pub(crate) programs: Vec<JobProgram>,
     pub(crate) streams: Vec<TimedStream>,
@@ -61,7 +62,7 @@ impl Model for JobInput {
     ghost Value = { JobInputView };
 
     ghost view = { λ i. record {
-      transport_stream_id = i.transport_stream_id;
+      information = i.information;
       base0 = i.base0;
       programs = i.programs.items;
       streams = i.streams.items;
@@ -165,14 +166,14 @@ fn table_warnings(
 fn with_moved(
     alloc: Global,
     options: &JobOptions<'_>,
-    transport_stream_id: u16,
+    information: JobInformation,
     base0: u64,
     programs: Vec<JobProgram>,
     tables: Vec<JobTable>,
     warnings: Vec<Warning>,
     streams: Vec<TimedStream>,
 ) -> Result<JobInput, JobError>
-    ensures value { Answers (spec.with_moved options.now transport_stream_id base0 programs.items tables.items
+    ensures value { Answers (spec.with_moved options.now information base0 programs.items tables.items
         warnings.items streams.items) result }
     ensures same { IfOk result (λ i. i.streams ≡ streams.items) }
     ensures fits { IfOk result (λ i. All FitsQueue i.streams) }
@@ -193,7 +194,7 @@ fn with_moved(
         &unit_counts,
     )?;
     Ok(JobInput {
-        transport_stream_id,
+        information,
         base0,
         programs,
         streams,
@@ -237,10 +238,11 @@ fn with_streams(
         streams,
         findings,
     )?;
+    let information = information_of(alloc, options, transport_stream_id, findings, &programs)?;
     with_moved(
         alloc,
         options,
-        transport_stream_id,
+        information,
         base0,
         programs,
         tables,

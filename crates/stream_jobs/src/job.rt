@@ -1,10 +1,13 @@
 //! A job: a description, a plan that serves it, and the units of its streams.
 
-ghost use Rattle.std.specs.Prelude.{◌≡◌, ◌≤◌, IfErr, IfOk, None, length, map, string_bytes};
-ghost use Rattle.demux.specs.Shown.{finding_view};
+ghost use Rattle.std.specs.Prelude.{◌≡◌, ◌≤◌, All, Bool, IfErr, IfOk, List, None, length, map, string_bytes};
+ghost use Rattle.std.specs.List.{AllZip};
+ghost use Rattle.demux.specs.Views.{FindingView};
 ghost use Rattle.slot_plan.specs.Conditions.{IsServing};
 ghost use Rattle.unit_order.specs.Merging.{AreMerged};
-ghost use Rattle.stream_jobs.specs.Jobs.{AllAgree, AreStreams, AreUnits, IsDescription, IsJob, IsText, IsUnplanned};
+ghost use Rattle.stream_jobs.specs.Jobs.{AllAgree, AreStreams, AreUnits, FitsQueue, IsDescription, IsJob, IsText, IsUnplanned};
+ghost use Rattle.stream_jobs.specs.JoinedInputs.{AreUnitsIn, IsFoundIn};
+ghost use Rattle.stream_jobs.specs.declared.joined_inputs.Origin.{Origin};
 ghost use Rattle.stream_jobs.specs.Rates.{IsAskedOrFirst, IsPlanned, IsRate, IsServed, IsTried};
 ghost use Rattle.stream_jobs.specs.WhyNoJob.{IsWhyNoDescription, IsWhyNoJob, IsWhyNoPlan, IsWhyNoReasons};
 ghost use Rattle.stream_jobs.specs.declared.refusal.JobError.TheVariants.{Memory};
@@ -16,7 +19,6 @@ use crate::job_options::JobOptions;
 use crate::job_stream::TimedStream;
 use crate::rates::{PlannedDescription, first_plan, first_rate, plan_draft};
 use crate::refusal::{JobError, JobRefusal};
-use demux::Finding;
 use description::Description;
 use pes_packet::Unit;
 use plan_checker::CheckedPlan;
@@ -58,22 +60,17 @@ fn merged_units(alloc: Global, streams: Vec<TimedStream>) -> Result<Vec<(u8, Uni
 fn agreed_plan(
     alloc: Global,
     options: &JobOptions<'_>,
-    findings: &[Finding<'_>],
     input: &JobInput,
 ) -> Result<PlannedDescription, JobError>
-    ensures planned { IfOk result (λ p. IsPlanned options.now (map finding_view findings.now) input.now p.rate
+    ensures planned { IfOk result (λ p. IsPlanned options.now input.now p.rate
         p.plan.description (string_bytes p.text)) }
-    ensures rate { IfOk result (λ p. IsRate options.now.rate options.now (map finding_view findings.now) input.now
+    ensures rate { IfOk result (λ p. IsRate options.now.rate options.now input.now
         p.rate) }
     ensures serving { IfOk result (λ p. IsServing p.plan.description p.plan.plan) }
     ensures agree { IfOk result (λ p. AllAgree p.plan.description input.now) }
-    ensures refused { IfErr result (IsWhyNoJob options.now (map finding_view findings.now) input.now) }
+    ensures refused { IfErr result (IsWhyNoJob options.now input.now) }
 {
-    let draft = DescriptionDraft {
-        options,
-        findings,
-        input,
-    };
+    let draft = DescriptionDraft { options, input };
     let planned = plan_draft(alloc, &draft)?;
     match disagreeing(alloc, planned.plan.description(), input)? {
         Some(pid) => Err(JobError::Refused(JobRefusal::Declaration(pid))),
@@ -81,23 +78,21 @@ fn agreed_plan(
     }
 }
 
-/// The job of this input.
-pub fn make_job(
-    alloc: Global,
-    options: &JobOptions<'_>,
-    findings: &[Finding<'_>],
-    input: JobInput,
-) -> Result<Job, JobError>
-    requires { AreStreams options.now.make_dts (map finding_view findings.now) input }
-    ensures job { IfOk result (λ j. IsJob options.now (map finding_view findings.now) input j.plan.description
+/// The job of this input. Its units are those of the streams, wherever these were found: in one input, or in several that are joined.
+pub fn make_job(alloc: Global, options: &JobOptions<'_>, input: JobInput) -> Result<Job, JobError>
+    requires { length input.streams ≤ 32 }
+    ensures job { IfOk result (λ j. IsJob options.now input j.plan.description
         (string_bytes j.text) j.units.items) }
     ensures text { IfOk result (λ j. IsText j.plan.description (string_bytes j.text)) }
-    ensures units { IfOk result (λ j. AreUnits options.now.make_dts (map finding_view findings.now) j.plan.description
-        j.units.items) }
+    ensures units { (made : Bool) (findings : List FindingView) → AreStreams made findings input →
+        IfOk result (λ j. AreUnits made findings j.plan.description j.units.items) }
+    ensures units_in { (made : Bool) (inputs : List (List FindingView)) (origins : List Origin) →
+        AllZip (IsFoundIn made inputs) origins input.streams → All FitsQueue input.streams →
+        IfOk result (λ j. AreUnitsIn made inputs origins j.plan.description j.units.items) }
     ensures agree { IfOk result (λ j. AllAgree j.plan.description input) }
-    ensures refused { IfErr result (IsWhyNoJob options.now (map finding_view findings.now) input) }
+    ensures refused { IfErr result (IsWhyNoJob options.now input) }
 {
-    let planned = agreed_plan(alloc, options, findings, &input)?;
+    let planned = agreed_plan(alloc, options, &input)?;
     let units = merged_units(alloc, input.streams)?;
     Ok(Job {
         text: planned.text,
@@ -128,19 +123,13 @@ fn served_rate(planned: PlannedDescription) -> u64
 pub fn describe(
     alloc: Global,
     options: &JobOptions<'_>,
-    findings: &[Finding<'_>],
     input: &JobInput,
 ) -> Result<String, JobError>
-    ensures description { IfOk result (λ text. IsDescription options.now (map finding_view findings.now) input.now
+    ensures description { IfOk result (λ text. IsDescription options.now input.now
         (string_bytes text)) }
-    ensures refused { IfErr result (IsWhyNoDescription options.now.rate options.now (map finding_view findings.now)
-        input.now) }
+    ensures refused { IfErr result (IsWhyNoDescription options.now.rate options.now input.now) }
 {
-    let draft = DescriptionDraft {
-        options,
-        findings,
-        input,
-    };
+    let draft = DescriptionDraft { options, input };
     match options.rate {
         Some(rate) => Ok(draft.text(alloc, rate)?),
         None => Ok(served_text(plan_draft(alloc, &draft)?)),
@@ -157,11 +146,9 @@ pub fn units(alloc: Global, input: JobInput) -> Result<Vec<(u8, Unit)>, JobError
 }
 
 // The rate of the options, else the least at which all have slots.
-fn rate_of(alloc: Global, draft: &DescriptionDraft<'_, '_>) -> Result<u64, JobError>
-    ensures rate { IfOk result (IsAskedOrFirst draft.now.options.now.rate draft.now.options.now
-        (map finding_view draft.now.findings.now) draft.now.input.now) }
-    ensures refused { IfErr result (IsWhyNoReasons draft.now.options.now.rate draft.now.options.now
-        (map finding_view draft.now.findings.now) draft.now.input.now) }
+fn rate_of(alloc: Global, draft: &DescriptionDraft<'_>) -> Result<u64, JobError>
+    ensures rate { IfOk result (IsAskedOrFirst draft.now.options.now.rate draft.now.options.now draft.now.input.now) }
+    ensures refused { IfErr result (IsWhyNoReasons draft.now.options.now.rate draft.now.options.now draft.now.input.now) }
 {
     let options = draft.options;
     match options.rate {
@@ -175,18 +162,12 @@ fn rate_of(alloc: Global, draft: &DescriptionDraft<'_, '_>) -> Result<u64, JobEr
 pub fn unplanned_description(
     alloc: Global,
     options: &JobOptions<'_>,
-    findings: &[Finding<'_>],
     input: &JobInput,
 ) -> Result<Description, JobError>
-    ensures described { IfOk result (IsUnplanned options.now (map finding_view findings.now) input.now) }
-    ensures refused { IfErr result (IsWhyNoReasons options.now.rate options.now (map finding_view findings.now)
-        input.now) }
+    ensures described { IfOk result (IsUnplanned options.now input.now) }
+    ensures refused { IfErr result (IsWhyNoReasons options.now.rate options.now input.now) }
 {
-    let draft = DescriptionDraft {
-        options,
-        findings,
-        input,
-    };
+    let draft = DescriptionDraft { options, input };
     let rate = rate_of(alloc, &draft)?;
     let text = draft.text(alloc, rate)?;
     described(alloc, &text)
@@ -196,17 +177,12 @@ pub fn unplanned_description(
 pub fn found_rate(
     alloc: Global,
     options: &JobOptions<'_>,
-    findings: &[Finding<'_>],
     input: &JobInput,
 ) -> Result<u64, JobError>
-    ensures tried { IfOk result (IsTried options.now (map finding_view findings.now) input.now) }
-    ensures served { IfOk result (IsServed options.now (map finding_view findings.now) input.now) }
-    ensures refused { IfErr result (IsWhyNoPlan None options.now (map finding_view findings.now) input.now) }
+    ensures tried { IfOk result (IsTried options.now input.now) }
+    ensures served { IfOk result (IsServed options.now input.now) }
+    ensures refused { IfErr result (IsWhyNoPlan None options.now input.now) }
 {
-    let draft = DescriptionDraft {
-        options,
-        findings,
-        input,
-    };
+    let draft = DescriptionDraft { options, input };
     Ok(served_rate(first_plan(alloc, &draft)?))
 }

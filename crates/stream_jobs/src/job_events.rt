@@ -4,6 +4,7 @@ ghost use Rattle.std.specs.Prelude.{◌≡◌, ◌++◌, IfOk, OnOk, map, option
 ghost use Rattle.demux.specs.Shown.{finding_view};
 ghost use Rattle.job_text.specs.Texts.{event_text};
 ghost use Rattle.stream_jobs.specs.Events as spec;
+ghost use Rattle.stream_jobs.specs.Texts.{events_text};
 ghost use Rattle.stream_jobs.specs.declared.warning.Warning.TheVariants.{Information};
 
 use crate::job_programs::JobProgram;
@@ -15,6 +16,7 @@ use service_information::{
     FoundEvent, InformationWarning, civil_text, information_warnings, stream_events, stream_time,
 };
 use std::alloc::{AllocError, Global};
+use std::marker::Model;
 use stream_programs::decode_text;
 
 /// The moment of the first slot, if nothing says it.
@@ -89,37 +91,100 @@ pub(crate) fn start_of(
     }
 }
 
-// The lines of an event.
+/// An event of a description, its texts as characters.
+#[derive(Drop)]
+pub(crate) struct JobEvent {
+    pub program: u16,
+    pub id: u16,
+    pub start: String,
+    pub duration: u32,
+    pub language: String,
+    pub name: String,
+    pub text: String,
+}
+
+// A contract sees its texts as lists.
+impl Model for JobEvent {
+    ghost use Rattle.std.specs.Prelude.{string_bytes};
+    ghost use Rattle.job_text.specs.DescriptionParts.{EventPartView};
+
+    ghost Value = { EventPartView };
+
+    ghost view = { λ e. record {
+      program = e.program;
+      id = e.id;
+      start = string_bytes e.start;
+      duration = e.duration;
+      language = string_bytes e.language;
+      name = string_bytes e.name;
+      text = string_bytes e.text;
+    } };
+}
+
+// An event that is found.
 #[tactic(auto, unfolding(crate::specs::Events::event_part))]
-fn write_event(alloc: Global, event: &FoundEvent<'_>, text: &mut String) -> Result<(), AllocError>
-    ensures { OnOk result (string_bytes text.new ≡ string_bytes text.old ++ event_text (spec.event_part event.now)) }
+fn event_of(alloc: Global, event: &FoundEvent<'_>) -> Result<JobEvent, AllocError>
+    ensures { IfOk result (λ e. e ≡ spec.event_part event.now) }
 {
-    let start = civil_text(alloc, event.start)?;
-    let language = decode_text(alloc, event.language, LANGUAGE)?;
-    let name = decode_text(alloc, event.name, LONGEST_NAME)?;
-    let said = decode_text(alloc, event.text, LONGEST_TEXT)?;
+    Ok(JobEvent {
+        program: event.program,
+        id: event.id,
+        start: civil_text(alloc, event.start)?,
+        duration: event.duration,
+        language: decode_text(alloc, event.language, LANGUAGE)?,
+        name: decode_text(alloc, event.name, LONGEST_NAME)?,
+        text: decode_text(alloc, event.text, LONGEST_TEXT)?,
+    })
+}
+
+// Appends the events that are found.
+fn push_events(
+    alloc: Global,
+    found: &[FoundEvent<'_>],
+    events: &mut Vec<JobEvent>,
+) -> Result<(), AllocError>
+    ensures { OnOk result (events.new.items ≡ events.old.items ++ spec.event_parts found.now) }
+{
+    for event in found {
+        events.push(event_of(alloc, event)?)?;
+    }
+    Ok(())
+}
+
+/// What a description says of these events.
+pub(crate) fn event_parts(
+    alloc: Global,
+    found: &[FoundEvent<'_>],
+) -> Result<Vec<JobEvent>, AllocError>
+    ensures { IfOk result (λ events. events.items ≡ spec.event_parts found.now) }
+{
+    let mut events = Vec::new(alloc);
+    push_events(alloc, found, &mut events)?;
+    Ok(events)
+}
+
+// The lines of an event.
+fn write_event(event: &JobEvent, text: &mut String) -> Result<(), AllocError>
+    ensures { OnOk result (string_bytes text.new ≡ string_bytes text.old ++ event_text event.now) }
+{
     let entry = EventPart {
         program: event.program,
         id: event.id,
-        start: &start,
+        start: &event.start,
         duration: event.duration,
-        language: &language,
-        name: &name,
-        text: &said,
+        language: &event.language,
+        name: &event.name,
+        text: &event.text,
     };
     entry.write_text(text)
 }
 
 /// The lines of all events.
-pub(crate) fn write_events(
-    alloc: Global,
-    events: &[FoundEvent<'_>],
-    text: &mut String,
-) -> Result<(), AllocError>
-    ensures { OnOk result (string_bytes text.new ≡ string_bytes text.old ++ spec.events_text events.now) }
+pub(crate) fn write_events(events: &[JobEvent], text: &mut String) -> Result<(), AllocError>
+    ensures { OnOk result (string_bytes text.new ≡ string_bytes text.old ++ events_text events.now) }
 {
     for event in events {
-        write_event(alloc, event, text)?;
+        write_event(event, text)?;
     }
     Ok(())
 }

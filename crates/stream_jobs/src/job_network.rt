@@ -1,18 +1,20 @@
 //! The network of a job: the one that is given, or that of the stream.
 
-ghost use Rattle.std.specs.Prelude.{◌≡◌, ◌++◌, OnOk, map, option_map, option_to_list, string_bytes};
+ghost use Rattle.std.specs.Prelude.{◌≡◌, ◌++◌, IfOk, OnOk, Some, map, option_map, option_to_list, string_bytes};
 ghost use Rattle.demux.specs.Shown.{finding_view};
-ghost use Rattle.job_text.specs.Texts.{network_if_any, network_text};
+ghost use Rattle.job_text.specs.Texts.{network_if_any};
 ghost use Rattle.stream_programs.specs.NetworkInformation.{found_network_view, network_surplus};
 ghost use Rattle.stream_jobs.specs.GivenNames.{network_name_view};
-ghost use Rattle.stream_jobs.specs.Texts as spec;
+ghost use Rattle.stream_jobs.specs.Information as spec;
 ghost use Rattle.stream_jobs.specs.Warnings as spec_warnings;
 
 use crate::given_names::{NetworkName, original_given};
+use crate::named_service::copied;
 use crate::warning::{PacketWarning, Warning};
 use demux::Finding;
 use job_text::NetworkPart;
 use std::alloc::{AllocError, Global};
+use std::marker::Model;
 use stream_programs::{
     FoundNetwork, decode_text, has_unread, network_surplus, original_network, stream_network,
 };
@@ -31,7 +33,7 @@ fn original_found(network: Option<FoundNetwork<'_>>) -> Option<u16>
 }
 
 /// original_network_id, if it is given or the stream says it.
-#[tactic(auto, unfolding(crate::specs::Texts::original_of))]
+#[tactic(auto, unfolding(crate::specs::Information::original_of))]
 pub(crate) fn original_of(
     given: Option<NetworkName<'_>>,
     transport_stream_id: u16,
@@ -46,70 +48,96 @@ pub(crate) fn original_of(
         .or(found)
 }
 
-// The lines of the network that is given.
-#[tactic(auto, unfolding(crate::specs::Texts::network_of))]
-fn write_given(network: NetworkName<'_>, text: &mut String) -> Result<(), AllocError>
-    ensures { OnOk result (string_bytes text.new ≡ string_bytes text.old
-        ++ network_text (spec.network_of (network_name_view network.entry))) }
-{
-    let entry = NetworkPart {
-        id: network.id,
-        name: network.name,
-        descriptors: &[],
-    };
-    entry.write_text(text)
+/// The network of a description, its name as characters.
+#[derive(Drop)]
+pub(crate) struct JobNetwork {
+    pub id: u16,
+    pub name: String,
+    pub descriptors: Vec<u8>,
 }
 
-// The lines of the network that is found.
-#[tactic(auto, unfolding(crate::specs::Texts::network_found))]
-fn write_found(
-    alloc: Global,
-    network: FoundNetwork<'_>,
-    text: &mut String,
-) -> Result<(), AllocError>
-    ensures { OnOk result (string_bytes text.new ≡ string_bytes text.old
-        ++ network_text (spec.network_found (found_network_view network.entry))) }
+// A contract sees its name and its descriptors as lists.
+impl Model for JobNetwork {
+    ghost use Rattle.std.specs.Prelude.{string_bytes};
+    ghost use Rattle.job_text.specs.DescriptionParts.{NetworkPartView};
+
+    ghost Value = { NetworkPartView };
+
+    ghost view = { λ n. record { id = n.id; name = string_bytes n.name; descriptors = n.descriptors.items } };
+}
+
+// The network that is given.
+#[tactic(auto, unfolding(crate::specs::Information::network_of))]
+fn network_of(alloc: Global, network: NetworkName<'_>) -> Result<JobNetwork, AllocError>
+    ensures { IfOk result (λ n. n ≡ spec.network_of (network_name_view network.entry)) }
+{
+    Ok(JobNetwork {
+        id: network.id,
+        name: copied(alloc, network.name)?,
+        descriptors: Vec::new(alloc),
+    })
+}
+
+// The network that is found.
+#[tactic(auto, unfolding(crate::specs::Information::network_found))]
+fn network_found(alloc: Global, network: FoundNetwork<'_>) -> Result<JobNetwork, AllocError>
+    ensures { IfOk result (λ n. n ≡ spec.network_found (found_network_view network.entry)) }
 {
     let name = decode_text(alloc, network.name, LONGEST_NAME)?;
-    let entry = NetworkPart {
+    let mut descriptors = Vec::new(alloc);
+    descriptors.extend_from_slice(network.descriptors)?;
+    Ok(JobNetwork {
         id: network.id,
-        name: &name,
-        descriptors: network.descriptors,
-    };
-    entry.write_text(text)
+        name,
+        descriptors,
+    })
 }
 
-// The lines of the network that is found, if there is one.
-fn write_if_found(
+// The network that is found, if there is one.
+fn network_if_found(
     alloc: Global,
     found: Option<FoundNetwork<'_>>,
-    text: &mut String,
-) -> Result<(), AllocError>
-    ensures { OnOk result (string_bytes text.new ≡ string_bytes text.old
-        ++ network_if_any (option_map spec.network_found (option_map found_network_view found.entry))) }
+) -> Result<Option<JobNetwork>, AllocError>
+    ensures { IfOk result (λ n. n ≡ option_map spec.network_found (option_map found_network_view found.entry)) }
 {
     match found {
-        Some(network) => write_found(alloc, network, text),
-        None => Ok(()),
+        Some(network) => Ok(Some(network_found(alloc, network)?)),
+        None => Ok(None),
     }
 }
 
-/// The lines of the network, if one is given or the stream has one.
-#[tactic(auto, unfolding(crate::specs::Texts::network_or))]
-pub(crate) fn write_network(
+/// The network, if one is given or the stream has one.
+#[tactic(auto, unfolding(crate::specs::Information::network_or))]
+pub(crate) fn network_or(
     alloc: Global,
     given: Option<NetworkName<'_>>,
     found: Option<FoundNetwork<'_>>,
-    text: &mut String,
-) -> Result<(), AllocError>
-    ensures { OnOk result (string_bytes text.new ≡ string_bytes text.old
-        ++ network_if_any (spec.network_or (option_map network_name_view given.entry)
-        (option_map found_network_view found.entry))) }
+) -> Result<Option<JobNetwork>, AllocError>
+    ensures { IfOk result (λ n. n ≡ spec.network_or (option_map network_name_view given.entry)
+        (option_map found_network_view found.entry)) }
 {
     match given {
-        Some(network) => write_given(network, text),
-        None => write_if_found(alloc, found, text),
+        Some(network) => Ok(Some(network_of(alloc, network)?)),
+        None => network_if_found(alloc, found),
     }
+}
+
+/// The lines of the network, if there is one.
+pub(crate) fn write_network(
+    network: &Option<JobNetwork>,
+    text: &mut String,
+) -> Result<(), AllocError>
+    ensures { OnOk result (string_bytes text.new ≡ string_bytes text.old ++ network_if_any network.now) }
+{
+    let Some(network) = network else {
+        return Ok(());
+    };
+    let entry = NetworkPart {
+        id: network.id,
+        name: &network.name,
+        descriptors: &network.descriptors,
+    };
+    entry.write_text(text)
 }
 
 // Appends the warning about network information sections that are not carried.

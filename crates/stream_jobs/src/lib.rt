@@ -2,10 +2,12 @@
 //!
 //! `job_input` says what a job takes from what a demultiplexer finds, with which warnings, and what it refuses
 //! (`specs/JobInput`). Step by step: the packets (`specs/Packets`), the programs and streams that the options select
-//! (`specs/JobOptions`, `specs/GivenNames`, `specs/JobPrograms`, `specs/JobTables`), their units with the stamps on the wire (`specs/WireStreams`) and at
+//! (`specs/JobOptions`, `specs/GivenNames`, `specs/JobPrograms`), their private sections (`specs/JobTables`), what is said of the transport stream as a
+//! whole (`specs/Information`), the units of the streams with the stamps on the wire (`specs/WireStreams`) and at
 //! moments of a run (`specs/Moments`, `specs/ProgramClocks`, `specs/ClockBases`), and what is declared of them (`specs/Declarations`). `specs/Warnings` has the
 //! warnings. `describe` and `make_job` write the description (`specs/Texts`), find a rate with a plan (`specs/Rates`),
-//! and give the units in order (`specs/Jobs`), or say why there is no job (`specs/WhyNoJob`).
+//! and give the units in order (`specs/Jobs`), or say why there is no job (`specs/WhyNoJob`). `join_inputs` makes one input of several
+//! (`specs/JoinedInputs`): program numbers and PIDs that the inputs before have become others (`specs/NewNumbers`, `specs/RenumberedInputs`).
 #![tactic(auto)]
 
 mod choices;
@@ -15,6 +17,7 @@ mod declarations;
 mod description_draft;
 mod earliest;
 mod given_names;
+mod information;
 mod input;
 mod job;
 mod job_events;
@@ -23,14 +26,18 @@ mod job_options;
 mod job_programs;
 mod job_stream;
 mod job_tables;
+mod joined_inputs;
+mod laws;
 mod moved_streams;
 mod named_service;
+mod new_numbers;
 mod nothing_carried;
 mod option_warnings;
 mod packets;
 mod program_clock;
 mod rates;
 mod refusal;
+mod renumbered_inputs;
 mod table_check;
 mod table_lines;
 mod warning;
@@ -42,5 +49,8 @@ pub use given_names::{NetworkName, ServiceName};
 pub use input::{JobInput, job_input};
 pub use job::{Job, describe, found_rate, make_job, units, unplanned_description};
 pub use job_options::{DeclareBy, JobOptions};
+pub use joined_inputs::{InputNote, JoinedInputs, NoteCause, Origin, join_inputs};
+pub use laws::{joined_are_apart, places_are_apart};
+pub use new_numbers::NewNumber;
 pub use refusal::{JobError, JobRefusal};
 pub use warning::{PacketWarning, ProgramWarning, Warning};

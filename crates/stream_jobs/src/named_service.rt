@@ -5,7 +5,7 @@ ghost use Rattle.demux.specs.Shown.{finding_view};
 ghost use Rattle.stream_programs.specs.Services.{service, found_service_view};
 ghost use Rattle.stream_jobs.specs.GivenNames.{name_given};
 ghost use Rattle.stream_jobs.specs.JobPrograms as spec_programs;
-ghost use Rattle.stream_jobs.specs.Texts as spec;
+ghost use Rattle.stream_jobs.specs.Information as spec;
 
 use crate::given_names::{ServiceName, name_given};
 use crate::job_programs::JobProgram;
@@ -64,7 +64,7 @@ fn is_named(names: &[ServiceName<'_>], number: u16) -> bool
 }
 
 // Whether it is described, or given a name.
-#[tactic(auto, unfolding(crate::specs::Texts::has_service))]
+#[tactic(auto, unfolding(crate::specs::Information::has_service))]
 fn has_service(names: &[ServiceName<'_>], findings: &[Finding<'_>], number: u16) -> bool
     ensures { result ≡ spec.has_service names.now (map finding_view findings.now) number }
 {
@@ -72,7 +72,7 @@ fn has_service(names: &[ServiceName<'_>], findings: &[Finding<'_>], number: u16)
 }
 
 /// Whether a service of one of these programs is described, or given a name.
-#[tactic(auto, unfolding(crate::specs::Texts::has_services))]
+#[tactic(auto, unfolding(crate::specs::Information::has_services))]
 pub(crate) fn has_services(
     names: &[ServiceName<'_>],
     findings: &[Finding<'_>],
@@ -86,7 +86,7 @@ pub(crate) fn has_services(
 }
 
 // A service, or a television service without a name.
-#[tactic(auto, unfolding(crate::specs::Texts::named_service))]
+#[tactic(auto, unfolding(crate::specs::Information::named_service))]
 fn named_service(
     alloc: Global,
     service: Option<FoundService<'_>>,
@@ -117,7 +117,7 @@ pub(crate) fn copied(alloc: Global, text: &str) -> Result<String, AllocError>
 }
 
 // A service with the name that is given to it, and with the provider if that is given too.
-#[tactic(auto, unfolding(crate::specs::Texts::renamed))]
+#[tactic(auto, unfolding(crate::specs::Information::renamed))]
 fn renamed(
     alloc: Global,
     given: &ServiceName<'_>,
@@ -137,9 +137,9 @@ fn renamed(
     }
 }
 
-/// What is said of the service of a program.
-#[tactic(auto, unfolding(crate::specs::Texts::service_with))]
-pub(crate) fn service_of(
+// What is said of the service of a program.
+#[tactic(auto, unfolding(crate::specs::Information::service_with))]
+fn service_of(
     alloc: Global,
     names: &[ServiceName<'_>],
     number: u16,
@@ -152,6 +152,38 @@ pub(crate) fn service_of(
         Some(given) => renamed(alloc, given, named),
         None => Ok(named),
     }
+}
+
+// Appends what is said of the service of each program.
+fn push_services(
+    alloc: Global,
+    names: &[ServiceName<'_>],
+    programs: &[JobProgram],
+    findings: &[Finding<'_>],
+    services: &mut Vec<NamedService>,
+) -> Result<(), AllocError>
+    ensures { OnOk result (services.new.items ≡ services.old.items
+        ++ spec.services_of names.now (map finding_view findings.now) programs.now) }
+{
+    for program in programs {
+        services.push(service_of(alloc, names, program.number, findings)?)?;
+    }
+    Ok(())
+}
+
+/// What is said of the service of each program.
+pub(crate) fn services_of(
+    alloc: Global,
+    names: &[ServiceName<'_>],
+    programs: &[JobProgram],
+    findings: &[Finding<'_>],
+) -> Result<Vec<NamedService>, AllocError>
+    ensures { IfOk result (λ services. services.items
+        ≡ spec.services_of names.now (map finding_view findings.now) programs.now) }
+{
+    let mut services = Vec::new(alloc);
+    push_services(alloc, names, programs, findings, &mut services)?;
+    Ok(services)
 }
 
 // Whether a text of a service, if no other is given, has characters that can't be read.

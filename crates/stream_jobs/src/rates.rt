@@ -3,7 +3,6 @@
 ghost use Rattle.std.specs.Prelude.{◌≡◌, ◌≤◌, ◌<◌, ◌++◌, IfOk, IfErr, IfSome, IfNone, Some, None, All, OnOk, map};
 ghost use Rattle.std.specs.Prelude.{string_bytes};
 ghost use Rattle.std.specs.List.{range_with_len};
-ghost use Rattle.demux.specs.Shown.{finding_view};
 ghost use Rattle.description.specs.Tables.{table_count};
 ghost use Rattle.stream_jobs.specs.Rates as spec;
 ghost use Rattle.stream_jobs.specs.WhyNoJob.{IsWhyNoPlan, IsWhyNoRate, IsWhyNotReadAtOne, IsWhyNotReadAt};
@@ -95,11 +94,9 @@ fn shares_of(alloc: Global, choices: &[Choice]) -> Result<Vec<u64>, AllocError>
 }
 
 /// The rate at which all shares together are the whole.
-pub(crate) fn first_rate(alloc: Global, draft: &DescriptionDraft<'_, '_>) -> Result<u64, JobError>
-    ensures first { IfOk result (spec.IsFirstRate draft.now.options.now (map finding_view draft.now.findings.now)
-        draft.now.input.now) }
-    ensures refused { IfErr result (IsWhyNoRate draft.now.options.now (map finding_view draft.now.findings.now)
-        draft.now.input.now) }
+pub(crate) fn first_rate(alloc: Global, draft: &DescriptionDraft<'_>) -> Result<u64, JobError>
+    ensures first { IfOk result (spec.IsFirstRate draft.now.options.now draft.now.input.now) }
+    ensures refused { IfErr result (IsWhyNoRate draft.now.options.now draft.now.input.now) }
 {
     let input = draft.input;
     let text = draft.text(alloc, GREATEST_RATE)?;
@@ -115,17 +112,16 @@ pub(crate) fn first_rate(alloc: Global, draft: &DescriptionDraft<'_, '_>) -> Res
 // The plan at a rate, where one is found.
 fn plan_at(
     alloc: Global,
-    draft: &DescriptionDraft<'_, '_>,
+    draft: &DescriptionDraft<'_>,
     rate: u64,
 ) -> Result<Option<PlannedDescription>, JobError>
     ensures planned { IfOk result (λ found. IfSome found
-        (λ p. spec.IsPlanned draft.now.options.now (map finding_view draft.now.findings.now) draft.now.input.now p.rate
+        (λ p. spec.IsPlanned draft.now.options.now draft.now.input.now p.rate
         p.plan.description (string_bytes p.text))) }
     ensures rate { IfOk result (λ found. IfSome found (λ p. p.rate ≡ rate)) }
     ensures none { IfOk result (λ found. IfNone found
-        (spec.IsUnserved draft.now.options.now (map finding_view draft.now.findings.now) draft.now.input.now rate)) }
-    ensures refused { IfErr result (IsWhyNotReadAt draft.now.options.now (map finding_view draft.now.findings.now)
-        draft.now.input.now rate) }
+        (spec.IsUnserved draft.now.options.now draft.now.input.now rate)) }
+    ensures refused { IfErr result (IsWhyNotReadAt draft.now.options.now draft.now.input.now rate) }
 {
     let text = draft.text(alloc, rate)?;
     let description = described(alloc, &text)?;
@@ -152,21 +148,21 @@ fn next_rate(tried: u32, rate: u64) -> u64
 // The first plan that is found of those from a rate on.
 fn plan_from(
     alloc: Global,
-    draft: &DescriptionDraft<'_, '_>,
+    draft: &DescriptionDraft<'_>,
     first: u64,
 ) -> Result<Option<PlannedDescription>, JobError>
     ensures planned { IfOk result (λ found. IfSome found
-        (λ p. spec.IsPlanned draft.now.options.now (map finding_view draft.now.findings.now) draft.now.input.now p.rate
+        (λ p. spec.IsPlanned draft.now.options.now draft.now.input.now p.rate
         p.plan.description (string_bytes p.text))) }
     ensures tried { IfOk result (λ found. IfSome found
-        (λ p. spec.IsTriedFrom draft.now.options.now (map finding_view draft.now.findings.now) draft.now.input.now first
+        (λ p. spec.IsTriedFrom draft.now.options.now draft.now.input.now first
         p.rate)) }
     ensures none { IfOk result (λ found. IfNone found
-        (All (spec.IsUnserved draft.now.options.now (map finding_view draft.now.findings.now) draft.now.input.now)
+        (All (spec.IsUnserved draft.now.options.now draft.now.input.now)
         (spec.tried_rates first))) }
     ensures refused { IfErr result (IsWhyNotReadAtOne
-        (spec.IsTriedFrom draft.now.options.now (map finding_view draft.now.findings.now) draft.now.input.now first)
-        draft.now.options.now (map finding_view draft.now.findings.now) draft.now.input.now) }
+        (spec.IsTriedFrom draft.now.options.now draft.now.input.now first)
+        draft.now.options.now draft.now.input.now) }
 {
     let mut rate = first;
     for tried in 0..TRIES {
@@ -184,14 +180,11 @@ fn plan_from(
 /// The first plan that is found from the least rate on.
 pub(crate) fn first_plan(
     alloc: Global,
-    draft: &DescriptionDraft<'_, '_>,
+    draft: &DescriptionDraft<'_>,
 ) -> Result<PlannedDescription, JobError>
-    ensures planned { IfOk result (λ p. spec.IsPlanned draft.now.options.now (map finding_view draft.now.findings.now)
-        draft.now.input.now p.rate p.plan.description (string_bytes p.text)) }
-    ensures tried { IfOk result (λ p. spec.IsTried draft.now.options.now (map finding_view draft.now.findings.now)
-        draft.now.input.now p.rate) }
-    ensures refused { IfErr result (IsWhyNoPlan None draft.now.options.now (map finding_view draft.now.findings.now)
-        draft.now.input.now) }
+    ensures planned { IfOk result (λ p. spec.IsPlanned draft.now.options.now draft.now.input.now p.rate p.plan.description (string_bytes p.text)) }
+    ensures tried { IfOk result (λ p. spec.IsTried draft.now.options.now draft.now.input.now p.rate) }
+    ensures refused { IfErr result (IsWhyNoPlan None draft.now.options.now draft.now.input.now) }
 {
     let first = first_rate(alloc, draft)?;
     match plan_from(alloc, draft, first)? {
@@ -203,14 +196,12 @@ pub(crate) fn first_plan(
 // The plan at a rate that is asked for.
 fn asked_plan(
     alloc: Global,
-    draft: &DescriptionDraft<'_, '_>,
+    draft: &DescriptionDraft<'_>,
     rate: u64,
 ) -> Result<PlannedDescription, JobError>
-    ensures planned { IfOk result (λ p. spec.IsPlanned draft.now.options.now (map finding_view draft.now.findings.now)
-        draft.now.input.now p.rate p.plan.description (string_bytes p.text)) }
+    ensures planned { IfOk result (λ p. spec.IsPlanned draft.now.options.now draft.now.input.now p.rate p.plan.description (string_bytes p.text)) }
     ensures asked { IfOk result (λ p. p.rate ≡ rate) }
-    ensures refused { IfErr result (IsWhyNoPlan (Some rate) draft.now.options.now
-        (map finding_view draft.now.findings.now) draft.now.input.now) }
+    ensures refused { IfErr result (IsWhyNoPlan (Some rate) draft.now.options.now draft.now.input.now) }
 {
     match plan_at(alloc, draft, rate)? {
         Some(planned) => Ok(planned),
@@ -221,14 +212,11 @@ fn asked_plan(
 /// The description at the rate of the options, else at the least at which a plan is found, with a plan that serves it.
 pub(crate) fn plan_draft(
     alloc: Global,
-    draft: &DescriptionDraft<'_, '_>,
+    draft: &DescriptionDraft<'_>,
 ) -> Result<PlannedDescription, JobError>
-    ensures planned { IfOk result (λ p. spec.IsPlanned draft.now.options.now (map finding_view draft.now.findings.now)
-        draft.now.input.now p.rate p.plan.description (string_bytes p.text)) }
-    ensures rate { IfOk result (λ p. spec.IsRate draft.now.options.now.rate draft.now.options.now
-        (map finding_view draft.now.findings.now) draft.now.input.now p.rate) }
-    ensures refused { IfErr result (IsWhyNoPlan draft.now.options.now.rate draft.now.options.now
-        (map finding_view draft.now.findings.now) draft.now.input.now) }
+    ensures planned { IfOk result (λ p. spec.IsPlanned draft.now.options.now draft.now.input.now p.rate p.plan.description (string_bytes p.text)) }
+    ensures rate { IfOk result (λ p. spec.IsRate draft.now.options.now.rate draft.now.options.now draft.now.input.now p.rate) }
+    ensures refused { IfErr result (IsWhyNoPlan draft.now.options.now.rate draft.now.options.now draft.now.input.now) }
 {
     let options = draft.options;
     match options.rate {

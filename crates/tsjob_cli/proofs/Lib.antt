@@ -1,3 +1,4 @@
 pub mod CommandLines
 pub mod StreamedUnits
 pub mod Explaining
+mod FileWords

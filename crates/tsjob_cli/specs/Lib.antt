@@ -2,6 +2,8 @@ pub mod CommandLine
 pub mod KnownWords
 pub mod NameLists
 pub mod Arguments
+pub mod FileWords
+pub mod NamedInputs
 pub mod UsageText
 pub mod StreamedUnits
 pub mod Explaining

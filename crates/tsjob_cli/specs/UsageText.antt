@@ -6,7 +6,7 @@ use Rattle.tsjob_cli.specs.Arguments.{least_rate, greatest_rate, least_limit, gr
 
 abbrev pub usage_text : List ℕ
 usage_text = concat
-    (codes "usage: tsjob [describe|units|why] [OPTIONS] < PACKETS > JOB\n       tsjob explain < DESCRIPTION [PLAN]\n"
+    (codes "usage: tsjob [describe|units|why] [OPTIONS] < PACKETS > JOB\n       tsjob [describe|units|why] [OPTIONS] -- FILE.. > JOB\n       tsjob explain < DESCRIPTION [PLAN]\n"
     ∷ codes "  --rate " ∷ range_text least_rate greatest_rate ∷ codes "       bits a second; else the least at which a plan is found\n"
     ∷ codes "  --program N,..                 the programs that are taken\n"
     ∷ codes "  --without PID,..               PIDs that are left out\n"

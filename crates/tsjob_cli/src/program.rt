@@ -10,6 +10,8 @@ ghost use Rattle.tsjob_cli.specs.Arguments.{arguments};
 ghost use Rattle.tsjob_cli.specs.Explaining.{ExplainLeads, is_explain};
 ghost use Rattle.tsjob_cli.specs.KnownWords.{known_words};
 ghost use Rattle.job_outcomes.specs.Outcomes as spec;
+ghost use Rattle.tsjob_cli.specs.FileWords.{file_arguments, file_words};
+ghost use Rattle.tsjob_cli.specs.NamedInputs.{ReadsFiles};
 ghost use Rattle.tsjob_cli.specs.StreamedUnits.{StreamsUnits};
 ghost use Rattle.tsjob_cli.specs.UsageText.{usage_text};
 ghost use Rattle.word_faults.specs.CommandLine.{Text};
@@ -17,16 +19,18 @@ ghost use Rattle.word_faults.specs.UsageReport.{Prints, is_version, usage_report
 
 use crate::arguments::read_arguments;
 use crate::explained_input::{explain_input, is_explain};
+use crate::file_words::{file_words, read_file_arguments};
 use crate::known_words::KnownWords;
 use crate::streaming::stream_units;
 use counted_io::{Sink, Source};
 use devices::{Halt, NamedFiles, report_halt, report_text};
-use job_outcomes::{JobArguments, perform};
+use job_outcomes::{JobArguments, perform, perform_files};
 use std::alloc::Global;
 use word_faults::answer_other_words;
 
 /// The usage, written to the second writer on a usage error.
 const USAGE: &str = "usage: tsjob [describe|units|why] [OPTIONS] < PACKETS > JOB
+       tsjob [describe|units|why] [OPTIONS] -- FILE.. > JOB
        tsjob explain < DESCRIPTION [PLAN]
   --rate 100000..100000000       bits a second; else the least at which a plan is found
   --program N,..                 the programs that are taken
@@ -83,6 +87,39 @@ fn answer<F: NamedFiles, R: Source, W: Sink, E: Sink>(
     }
 }
 
+// The program for streams in files, or a usage error.
+fn run_on_files<F: NamedFiles, R: Source, W: Sink, E: Sink>(
+    alloc: Global,
+    words: &[&str],
+    files: &F,
+    input: &mut R,
+    output: &mut W,
+    faults: &mut E,
+) -> u8
+    ensures files { (a : JobArgumentsView) → file_arguments (map (λ s. s.now) words.now) ≡ Some a →
+        ReadsFiles a (F.contents_of files.now) (file_words (map (λ s. s.now) words.now)) (reads R.Source input.old input.new)
+        (writes W.Sink output.old output.new) (writes E.Sink faults.old faults.new) result }
+    ensures version { is_version (map (λ s. s.now) words.now) ≡ true →
+        Prints (version_text (codes "tsjob")) (reads R.Source input.old input.new)
+        (writes W.Sink output.old output.new) (writes E.Sink faults.old faults.new) result }
+    ensures usage { file_arguments (map (λ s. s.now) words.now) ≡ None → is_version (map (λ s. s.now) words.now) ≡ false →
+        TellsUsage (usage_report known_words (map (λ s. s.now) words.now) usage_text)
+        (reads R.Source input.old input.new) (writes W.Sink output.old output.new)
+        (writes E.Sink faults.old faults.new) result
+        ⊎ LacksMemory (reads R.Source input.old input.new) (writes W.Sink output.old output.new)
+        (writes E.Sink faults.old faults.new) result }
+{
+    match read_file_arguments(alloc, words) {
+        Ok(Some(arguments)) => {
+            perform_files(alloc, &arguments, files, file_words(words), output, faults)
+        }
+        Ok(None) => {
+            answer_other_words(alloc, "tsjob", KnownWords, words, usage(), output, faults)
+        }
+        Err(_) => report_halt(faults, Halt::Memory),
+    }
+}
+
 // The program for a transport stream in the input, or a usage error.
 #[tactic(auto, using(crate::proofs::StreamedUnits::no_memory_for_words, crate::proofs::StreamedUnits::no_memory_for_stream))]
 fn run_on_stream<F: NamedFiles, R: Source, W: Sink, E: Sink>(
@@ -101,12 +138,17 @@ fn run_on_stream<F: NamedFiles, R: Source, W: Sink, E: Sink>(
     ensures stream { (a : JobArgumentsView) (name : Text) → arguments words.now ≡ Some a → a.stream ≡ Some name →
         StreamsUnits (F.contents_of files.now name) (reads R.Source input.old input.new)
         (writes W.Sink output.old output.new) (writes E.Sink faults.old faults.new) result }
+    // Streams in files to what the words before their names ask for.
+    ensures files { (a : JobArgumentsView) → arguments words.now ≡ None → file_arguments (map (λ s. s.now) words.now) ≡ Some a →
+        ReadsFiles a (F.contents_of files.now) (file_words (map (λ s. s.now) words.now)) (reads R.Source input.old input.new)
+        (writes W.Sink output.old output.new) (writes E.Sink faults.old faults.new) result }
     // `--version` alone.
     ensures version { arguments words.now ≡ None → is_version (map (λ s. s.now) words.now) ≡ true →
         Prints (version_text (codes "tsjob")) (reads R.Source input.old input.new)
         (writes W.Sink output.old output.new) (writes E.Sink faults.old faults.new) result }
     // Anything else: the first word that cannot be taken and the usage are told.
-    ensures usage { arguments words.now ≡ None → is_version (map (λ s. s.now) words.now) ≡ false →
+    ensures usage { arguments words.now ≡ None → file_arguments (map (λ s. s.now) words.now) ≡ None →
+        is_version (map (λ s. s.now) words.now) ≡ false →
         TellsUsage (usage_report known_words (map (λ s. s.now) words.now) usage_text)
         (reads R.Source input.old input.new) (writes W.Sink output.old output.new)
         (writes E.Sink faults.old faults.new) result
@@ -115,14 +157,12 @@ fn run_on_stream<F: NamedFiles, R: Source, W: Sink, E: Sink>(
 {
     match read_arguments(alloc, words) {
         Ok(Some(arguments)) => answer(alloc, files, &arguments, input, output, faults),
-        Ok(None) => {
-            answer_other_words(alloc, "tsjob", KnownWords, words, usage(), output, faults)
-        }
+        Ok(None) => run_on_files(alloc, words, files, input, output, faults),
         Err(_) => report_halt(faults, Halt::Memory),
     }
 }
 
-/// The whole program: it reads the input, writes the output, writes warnings or the refusal to the second writer, and
+/// The whole program: it reads the input, or files that are named, writes the output, writes warnings or the refusal to the second writer, and
 /// returns the exit status: 0 all is carried, or nothing is wrong; 1 refused, a warning of what is lost, or what is wrong; 2 a
 /// usage error; 3 a device failed or out of memory.
 pub fn run<F: NamedFiles, R: Source, W: Sink, E: Sink>(
@@ -147,6 +187,11 @@ pub fn run<F: NamedFiles, R: Source, W: Sink, E: Sink>(
         arguments words.now ≡ Some a → a.stream ≡ Some name →
         StreamsUnits (F.contents_of files.now name) (reads R.Source input.old input.new)
         (writes W.Sink output.old output.new) (writes E.Sink faults.old faults.new) result }
+    // Streams in files to what the words before their names ask for.
+    ensures files { is_explain (map (λ s. s.now) words.now) ≡ false → (a : JobArgumentsView) → arguments words.now ≡ None →
+        file_arguments (map (λ s. s.now) words.now) ≡ Some a →
+        ReadsFiles a (F.contents_of files.now) (file_words (map (λ s. s.now) words.now)) (reads R.Source input.old input.new)
+        (writes W.Sink output.old output.new) (writes E.Sink faults.old faults.new) result }
     // `--version` alone.
     ensures version { is_explain (map (λ s. s.now) words.now) ≡ false → arguments words.now ≡ None →
         is_version (map (λ s. s.now) words.now) ≡ true →
@@ -154,7 +199,7 @@ pub fn run<F: NamedFiles, R: Source, W: Sink, E: Sink>(
         (writes W.Sink output.old output.new) (writes E.Sink faults.old faults.new) result }
     // Anything else: the first word that cannot be taken and the usage are told.
     ensures usage { is_explain (map (λ s. s.now) words.now) ≡ false → arguments words.now ≡ None →
-        is_version (map (λ s. s.now) words.now) ≡ false →
+        file_arguments (map (λ s. s.now) words.now) ≡ None → is_version (map (λ s. s.now) words.now) ≡ false →
         TellsUsage (usage_report known_words (map (λ s. s.now) words.now) usage_text)
         (reads R.Source input.old input.new) (writes W.Sink output.old output.new)
         (writes E.Sink faults.old faults.new) result

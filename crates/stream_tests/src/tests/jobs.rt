@@ -69,7 +69,7 @@ fn is_job(job: Job) -> bool {
 // The job of a stream.
 fn made(alloc: Global, options: &JobOptions<'_>, found: &[Finding<'_>]) -> Result<Job, JobError> {
     match job_input(alloc, options, found.len() as u64, found) {
-        Ok(input) => make_job(alloc, options, found, input),
+        Ok(input) => make_job(alloc, options, input),
         Err(error) => Err(error),
     }
 }
@@ -79,7 +79,7 @@ fn is_described(alloc: Global, options: &JobOptions<'_>, found: &[Finding<'_>]) 
     let Some(input) = input(alloc, options, found) else {
         return false;
     };
-    let described = describe(alloc, options, found, &input);
+    let described = describe(alloc, options, &input);
     drop(input);
     match described {
         Ok(text) => text.as_str() == TEXT,

@@ -1,9 +1,11 @@
-use Rattle.std.proofs.Common.{◌≡◌, ◌++◌, drop, map, string_bytes}
-use Rattle.demux.specs.Shown.{finding_view}
+use Rattle.std.proofs.Common.{◌≡◌, ◌++◌, length, string_bytes}
 use Rattle.stream_jobs.specs.Texts.{programs_text}
 use Rattle.stream_jobs.proofs.description_draft.write_programs.Given as goal
 
-abbrev pub invariant-loop-program : goal.invariant-loop-program
-invariant-loop-program l =
-    string_bytes l.text ++ programs_text l.options (map finding_view l.findings) (drop l.program-index l.programs)
-    ≡ string_bytes l.fn.text ++ programs_text l.options (map finding_view l.findings) l.programs
+abbrev pub invariant-programs : goal.invariant-programs
+invariant-programs l =
+    string_bytes l.text ++ programs_text l.pcr_limit l.programs l.services
+    ≡ string_bytes l.initial.text ++ programs_text l.initial.pcr_limit l.initial.programs l.initial.services
+
+abbrev pub decreases-programs : goal.decreases-programs
+decreases-programs l = length l.programs

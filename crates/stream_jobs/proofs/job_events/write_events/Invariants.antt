@@ -1,5 +1,5 @@
 use Rattle.std.proofs.Common.{◌≡◌, ◌++◌, drop, string_bytes}
-use Rattle.stream_jobs.specs.Events.{events_text}
+use Rattle.stream_jobs.specs.Texts.{events_text}
 use Rattle.stream_jobs.proofs.job_events.write_events.Given as goal
 
 abbrev pub invariant-loop-event : goal.invariant-loop-event

@@ -1,6 +1,5 @@
 -- The least rate was looked for among the shares and what recurs of this description.
-use Rattle.std.proofs.Common.{◌≡◌, List, map, refl, rules, subst}
-use Rattle.demux.specs.Shown.{finding_view}
+use Rattle.std.proofs.Common.{◌≡◌, List, refl, rules, subst}
 use Rattle.stream_choice.specs.Rates.{IsTooMuch}
 use Rattle.stream_choice.specs.declared.recurring.Recurring.{Recurring}
 use Rattle.stream_jobs.specs.Rates.{IsText, greatest_rate, recurring_of, shares}
@@ -10,10 +9,9 @@ use Rattle.stream_jobs.proofs.rates.first_rate.Goals as goal
 pub returns-clause-refused : goal.returns-clause-refused
 returns-clause-refused c =
     let options = c.args.draft.now.options.now in
-    let findings = map finding_view c.args.draft.now.findings.now in
     let input = c.args.draft.now.input.now in
     let d = c.in_ok-description.description in
-    let read : IsText d (description_text options findings input greatest_rate) = search rules in
+    let read : IsText d (description_text options input greatest_rate) = search rules in
     let shares_are : c.deref-3.result.now ≡ shares input = search rules in
     let recurring_are : c.deref-4.result.now ≡ recurring_of d = search rules in
     let none : IsTooMuch c.deref-3.result.now c.deref-4.result.now = c.in-None.ensures.refused refl in (

@@ -1,0 +1,14 @@
+//! Laws of the definitions. Each function does nothing: its contract is the law.
+
+ghost use Rattle.stream_jobs.specs.NewNumbers.{PlacesAreApart};
+ghost use Rattle.stream_jobs.specs.NumbersApart.{JoinedAreApart};
+
+/// No number that an input is given is one of the inputs before, and no two are equal.
+pub fn places_are_apart()
+    ensures { PlacesAreApart }
+{}
+
+/// Inputs that are joined have programs of numbers and PIDs of their own, where each of them has.
+pub fn joined_are_apart()
+    ensures { JoinedAreApart }
+{}

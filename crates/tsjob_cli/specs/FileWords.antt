@@ -1,0 +1,26 @@
+-- Words after `--`: the names of files, each with a transport stream.
+use Rattle.std.specs.Prelude.{ℕ, ◌==◌, Bool, List, length, Option, Some, None, if◌then◌else◌, codes, is_some}
+use Rattle.std.specs.List.{after_first, before_first}
+use Rattle.std.specs.Str.{bytes_eq}
+use Rattle.clap.specs.Words.{Text}
+use Rattle.job_outcomes.specs.JobArguments.{JobArgumentsView}
+use Rattle.tsjob_cli.specs.Arguments.{arguments_in}
+
+abbrev pub is_mark : Text → Bool
+is_mark word = bytes_eq word (codes "--")
+
+-- the words before it, and the names
+abbrev pub option_words : List Text → List Text
+option_words words = before_first is_mark words
+
+abbrev pub file_words : List Text → List Text
+file_words words = after_first is_mark words
+
+-- no file of a description may be named beside them
+unfoldable pub unless_streamed : Option JobArgumentsView → Option JobArgumentsView
+unless_streamed None = None
+unless_streamed (Some a) = if is_some a.stream then None else Some a
+
+-- what the words before it ask for of the streams in the files; none where these are a usage error, or no file is named
+unfoldable pub file_arguments : List Text → Option JobArgumentsView
+file_arguments words = if length (file_words words) == 0 then None else unless_streamed (arguments_in (option_words words))

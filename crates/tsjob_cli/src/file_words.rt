@@ -1,0 +1,64 @@
+//! Words after `--`: the names of files.
+
+ghost use Rattle.std.specs.Prelude.{◌≡◌, ◌≤◌, IfOk, length, map};
+ghost use Rattle.std.specs.List.{position_or_len};
+ghost use Rattle.tsjob_cli.specs.FileWords as spec;
+
+use crate::arguments::read_arguments;
+use job_outcomes::JobArguments;
+use std::alloc::{AllocError, Global};
+
+// How many words stand before it; all, where it does not stand among them.
+fn mark_place(words: &[&str]) -> usize
+    ensures place { result ≡ position_or_len spec.is_mark (map (λ s. s.now) words.now) }
+    ensures within { result ≤ length words.now }
+{
+    for (place, word) in words.iter().enumerate() {
+        if *word == "--" {
+            return place;
+        }
+    }
+    words.len()
+}
+
+/// The names of files.
+pub(crate) fn file_words<'w, 'a>(words: &'w [&'a str]) -> &'w [&'a str]
+    ensures { map (λ s. s.now) result.now ≡ spec.file_words (map (λ s. s.now) words.now) }
+{
+    let place = mark_place(words);
+    let begin = if place < words.len() {
+        place + 1
+    } else {
+        place
+    };
+    let (_, names) = words.split_at(begin);
+    names
+}
+
+// No file of a description is named.
+#[tactic(auto, unfolding(crate::specs::FileWords::unless_streamed))]
+fn unless_streamed(arguments: Option<JobArguments<'_>>) -> Option<JobArguments<'_>>
+    ensures { result ≡ spec.unless_streamed arguments.entry }
+{
+    let arguments = arguments?;
+    if arguments.stream.is_some() {
+        None
+    } else {
+        Some(arguments)
+    }
+}
+
+/// What the words before it ask for of the streams in the files; none where these are a usage error, or no file is named.
+#[tactic(auto, unfolding(crate::specs::FileWords::file_arguments))]
+pub(crate) fn read_file_arguments<'a>(
+    alloc: Global,
+    words: &'a [&'a str],
+) -> Result<Option<JobArguments<'a>>, AllocError>
+    ensures { IfOk result (λ r. r ≡ spec.file_arguments (map (λ s. s.now) words.entry.now)) }
+{
+    if file_words(words).is_empty() {
+        return Ok(None);
+    }
+    let (options, _) = words.split_at(mark_place(words));
+    Ok(unless_streamed(read_arguments(alloc, options)?))
+}
