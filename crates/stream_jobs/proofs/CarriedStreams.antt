@@ -11,7 +11,7 @@ use Rattle.stream_coding.specs.Codings.{is_ac3}
 use Rattle.stream_jobs.specs.declared.refusal.JobRefusal.{JobRefusal}
 use Rattle.stream_jobs.specs.declared.refusal.JobError.{JobError}
 use Rattle.stream_jobs.specs.declared.refusal.JobError.TheVariants.{Memory, Refused}
-use Rattle.stream_jobs.specs.Answers.{Refuses, and_then, unless, each}
+use Rattle.stream_jobs.specs.Answers.{Refuses, and_then, each}
 use Rattle.stream_jobs.specs.Jobs.{IsCarried}
 use Rattle.stream_jobs.specs.FoundUnits.{source_of}
 use Rattle.stream_jobs.specs.WireStreams.{carried_streams, common_id, dts_refusal, can_carry, stream_if_any, with_stamps, stream_of, wire_stream, with_units}

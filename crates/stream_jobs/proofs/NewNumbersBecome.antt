@@ -1,10 +1,10 @@
 -- What the numbers of an input become are the places that they are given, in their order.
-use Rattle.std.proofs.Common.{◌≡◌, ℕ, ◌+◌, ◌==◌, nat_eq, false, List, [], ◌∷◌, ◌++◌, length, map, zip, Option, Some, None, refl, sym, ap, subst, ◌∙◌, arith, eq-eqb}
+use Rattle.std.proofs.Common.{◌≡◌, ℕ, ◌+◌, ◌==◌, nat_eq, false, List, [], ◌∷◌, ◌++◌, length, map, zip, Some, refl, sym, ap, ◌∙◌, arith, eq-eqb}
 use Rattle.std.specs.List.{AllByRecursion, IsDistinct}
 use Rattle.std.proofs.lemmas.Bool.{eqb-false, ne_eqb}
 use Rattle.std.proofs.lemmas.List.{length-append}
 use Rattle.std.proofs.lemmas.Option.{option_and_then_some}
-use Rattle.stream_jobs.specs.NewNumbers.{becomes, new_number, new_numbers, place_of, places_after, places_of}
+use Rattle.stream_jobs.specs.NewNumbers.{becomes, new_number, place_of, places_after, places_of}
 use Rattle.stream_jobs.specs.declared.new_numbers.NewNumber.{NewNumber}
 
 becomes_head : (n place : ℕ) (rest : List NewNumber) → becomes (new_number (n, place) ∷ rest) n ≡ place

@@ -1,5 +1,5 @@
 -- The private tables of a job: sections of its programs that do not change.
-use Rattle.std.specs.Prelude.{ℕ, ◌-◌, ◌*◌, ◌==◌, ◌&&◌, not, min, max, Bool, true, if◌then◌else◌, List, [], ◌∷◌, length, take, filter, find, flat_map, slice_get, unwrap_or, Option, Some, None, option_map}
+use Rattle.std.specs.Prelude.{ℕ, ◌-◌, ◌*◌, ◌==◌, ◌&&◌, not, min, max, nat_le, Bool, true, if◌then◌else◌, List, [], ◌∷◌, length, take, filter, find, flat_map, slice_get, unwrap_or, Option, Some, None, option_map}
 use Rattle.std.specs.Int.{div_ceil}
 use Rattle.std.specs.List.{list_any}
 use Rattle.pes_packet.specs.AccessUnits.{AccessUnit}
@@ -71,9 +71,13 @@ unfoldable pub table_if : List WireStreamView → FoundStreamView → Option Ste
 table_if streams e None = []
 table_if streams e (Some steady) = table_of streams e steady ∷ []
 
--- it is not left out, and its program is one of these
+-- a description has as many bytes of descriptors of a table at most
+abbrev pub most_descriptors : ℕ
+most_descriptors = 700
+
+-- it is not left out, its program is one of these, and its descriptors have room in a description
 unfoldable pub can_take : List ℕ → List JobProgramView → FoundStreamView → Bool
-can_take without programs e = is_selected_stream without e && list_any (λ p. p.number == e.program) programs
+can_take without programs e = is_selected_stream without e && (list_any (λ p. p.number == e.program) programs && nat_le (length e.descriptors) most_descriptors)
 
 -- sections of a program that is carried, if they do not change
 unfoldable pub tables_on : List ℕ → ℕ → List FindingView → List JobProgramView → List WireStreamView → FoundStreamView → List JobTableView

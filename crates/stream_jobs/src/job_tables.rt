@@ -113,12 +113,17 @@ fn has_program(number: u16, programs: &[JobProgram]) -> bool
     programs.iter().any(|program| program.number == number)
 }
 
-// Whether sections are not left out, and are of one of these programs.
+// A description has as many bytes of descriptors of a table at most.
+const MOST_DESCRIPTORS: usize = 700;
+
+// Whether sections are not left out, are of one of these programs, and have descriptors that a description has room for.
 #[tactic(auto, unfolding(crate::specs::JobTables::can_take))]
 fn can_take(without: &[u16], programs: &[JobProgram], entry: &FoundStream) -> bool
     ensures { result ≡ spec.can_take without.now programs.now entry.now }
 {
-    is_selected_stream(without, entry) && has_program(entry.program, programs)
+    is_selected_stream(without, entry)
+        && has_program(entry.program, programs)
+        && entry.descriptors.len() <= MOST_DESCRIPTORS
 }
 
 // Appends the table of sections that do not change.
