@@ -2,9 +2,10 @@
 use Rattle.std.proofs.Common.{◌≡◌, ◌≤◌, ◌<◌, ℕ, zero, suc, ◌+◌, ◌==◌, ◌&&◌, Bool, true, false, if◌then◌else◌, List, [], ◌∷◌, ◌++◌, length, map, Option, Some, None, slice_get, All, refl, sym, ap, ◌∙◌, subst, arith, append_assoc}
 use Rattle.std.proofs.lemmas.List.{length-append}
 use Rattle.std.proofs.lemmas.List.Elements.{All-nil, All-cons, All-head, All-tail}
+use Rattle.std.proofs.lemmas.Option.{slice_get_within}
 use Rattle.pes_packet.specs.AccessUnits.{AccessUnit}
 use Rattle.pes_packet.specs.Units.{units_of}
-use Rattle.description.specs.Described.{DescribedStream}
+use Rattle.description.specs.Described.{Described, DescribedStream}
 use Rattle.description.specs.Ranges.{IsInRange}
 use Rattle.demux.specs.Views.{FindingView}
 use Rattle.unit_queue.specs.Queues.{Kept}
@@ -20,8 +21,10 @@ use Rattle.mux_core.proofs.UnitCounts.{own_units, units_append}
 use Rattle.stream_units.specs.CarriedUnits.{RoleView, Ignored, Start, Continuation, Interruption, CarriedUnit, role_of, continuation, is_cut, is_split, with_more, whole_unit, units_from, units_in, unit_with, carried_units, wire_units}
 use Rattle.stream_units.specs.MadeDts.{made_dts, pts_of, with_dts}
 use Rattle.stream_units.specs.Laws.{UnitsAreKept, TakenOneByOne, Declares as LaneDeclares}
-use Rattle.stream_jobs.specs.Jobs.{IsStream, AreUnits}
-use Rattle.stream_jobs.specs.FoundUnits.{source_of}
+use Rattle.stream_jobs.specs.Jobs.{AreUnits}
+use Rattle.stream_jobs.specs.FoundUnits.{AreFound, Declares, source_of}
+use Rattle.stream_jobs.specs.JoinedInputs.{AreUnitsIn, IsStreamIn, findings_in}
+use Rattle.stream_jobs.specs.declared.joined_inputs.Origin.{Origin}
 
 -- 1. Units have bytes
 
@@ -71,21 +74,46 @@ sources_have_bytes true pid findings = still_have_bytes (made_dts (pts_of (carri
 
 -- 2. The units of a stream keep what it declares
 
-found_kept : UnitsAreKept → (made : Bool) (line : Scheduled) (findings : List FindingView) (k : ℕ) (s : DescribedStream) (us : List AccessUnit) →
-    IsStream made findings line.description s us → Kept (owned_stream line k s) us
-found_kept law made line findings k s us is =
-    let m = is.found.moved in
-    let n = is.declares in
+found_kept : UnitsAreKept → (made : Bool) (line : Scheduled) (findings : List FindingView) (pid k : ℕ) (s : DescribedStream) (us : List AccessUnit) →
+    AreFound made findings pid us → Declares line.description s us → Kept (owned_stream line k s) us
+found_kept law made line findings pid k s us found n =
+    let m = found.moved in
     let declares : LaneDeclares (owned_stream line k s) us = record { interval = n.interval; size = n.size; lead = n.lead; allowance = n.allowance } in
     subst (λ (x : List AccessUnit). Kept (owned_stream line k s) x) (sym m.are)
-    (law (owned_stream line k s) is.found.base (map (λ w. w.unit) (source_of made s.pid findings)) m.sound (sources_have_bytes made s.pid findings)
+    (law (owned_stream line k s) found.base (map (λ w. w.unit) (source_of made pid findings)) m.sound (sources_have_bytes made pid findings)
     (subst (λ (x : List AccessUnit). LaneDeclares (owned_stream line k s) x) m.are declares))
 
 pub all_kept : UnitsAreKept → (made : Bool) (line : Scheduled) (findings : List FindingView) (units : List (ℕ × AccessUnit)) → IsInRange line.description →
     AreUnits made findings line.description units → UnitsKept line (λ k. units_of k units)
 all_kept law made line findings units ranges are = record {
   parameters = parameters_known line ranges;
-  kept = λ k s is. found_kept law made line findings k s (units_of k units) (are.streams k s is);
+  kept = λ k s is. (let stream = are.streams k s is in found_kept law made line findings s.pid k s (units_of k units) stream.found stream.declares);
+}
+
+-- a number below the length of a list is that of one of it
+pub stream_there : {X : Type 0} (streams : List X) (k : ℕ) → k < length streams → (s : X) × (slice_get streams k ≡ Some s)
+stream_there [] k lt = absurd (omega (arith, lt))
+stream_there (s ∷ streams) zero lt = (s, refl)
+stream_there (s ∷ streams) (suc k) lt = stream_there streams k (omega (arith, lt))
+
+-- so do those of several inputs
+record FoundSomewhere (made : Bool) (inputs : List (List FindingView)) (d : Described) (s : DescribedStream) (us : List AccessUnit) : Type 0 where
+  origin : Origin
+  is : IsStreamIn made inputs origin d s us
+
+somewhere : (made : Bool) (inputs : List (List FindingView)) (origins : List Origin) (d : Described) (units : List (ℕ × AccessUnit)) → AreUnitsIn made inputs origins d units →
+    (k : ℕ) (s : DescribedStream) → slice_get d.streams k ≡ Some s → FoundSomewhere made inputs d s (units_of k units)
+somewhere made inputs origins d units are k s is =
+    let o = stream_there origins k (omega (arith, slice_get_within d.streams k s is, are.same)) in
+    record { origin = o.0; is = are.streams k o.0 s o.1 is }
+
+pub all_kept_in : UnitsAreKept → (made : Bool) (line : Scheduled) (inputs : List (List FindingView)) (origins : List Origin) (units : List (ℕ × AccessUnit)) → IsInRange line.description →
+    AreUnitsIn made inputs origins line.description units → UnitsKept line (λ k. units_of k units)
+all_kept_in law made line inputs origins units ranges are = record {
+  parameters = parameters_known line ranges;
+  kept = λ k s is. (
+      let one = somewhere made inputs origins line.description units are k s is in
+      found_kept law made line (findings_in inputs one.origin.input) one.origin.pid k s (units_of k units) one.is.found one.is.declares);
 }
 
 -- 3. One after another
@@ -111,12 +139,6 @@ none_then : (index : ℕ) (cause : Option FeedError) (next : Option MuxError) �
 unfolding or_cause unit_refused
 none_then index cause next e none = rw (e, none) refl
 
--- a number below the count of streams is that of one
-pub stream_there : (streams : List DescribedStream) (k : ℕ) → k < length streams → (s : DescribedStream) × (slice_get streams k ≡ Some s)
-stream_there [] k lt = absurd (omega (arith, lt))
-stream_there (s ∷ streams) zero lt = (s, refl)
-stream_there (s ∷ streams) (suc k) lt = stream_there streams k (omega (arith, lt))
-
 all_taken : TakenOneByOne → (line : Scheduled) (fed rest : List (ℕ × AccessUnit)) → AllFit line (fed ++ rest) → All (λ e. e.0 < length line.description.streams) rest →
     first_refused line 1048576 fed rest ≡ None
 unfolding first_refused
@@ -131,3 +153,13 @@ pub none_refused : UnitsAreKept → TakenOneByOne → (made : Bool) (line : Sche
     IsInRange line.description → AreUnits made findings line.description units → first_refused line 1048576 [] units ≡ None
 none_refused keeping taking made line findings units ranges are =
     all_taken taking line [] units (record { kept = all_kept keeping made line findings units ranges are; few = λ k s is. (are.streams k s is).fits }) are.numbered
+
+pub none_refused_in : UnitsAreKept → TakenOneByOne → (made : Bool) (line : Scheduled) (inputs : List (List FindingView)) (origins : List Origin) (units : List (ℕ × AccessUnit)) →
+    IsInRange line.description → AreUnitsIn made inputs origins line.description units → first_refused line 1048576 [] units ≡ None
+none_refused_in keeping taking made line inputs origins units ranges are =
+    all_taken taking line [] units
+    (record {
+      kept = all_kept_in keeping made line inputs origins units ranges are;
+      few = λ k s is. (somewhere made inputs origins line.description units are k s is).is.fits;
+    })
+    are.numbered

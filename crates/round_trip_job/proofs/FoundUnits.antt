@@ -5,7 +5,6 @@ use Rattle.own_slots.specs.Slots.{own_slots}
 use Rattle.pes_packet.specs.AccessUnits.{AccessUnit}
 use Rattle.pes_packet.specs.Units.{units_of}
 use Rattle.description.specs.Described.{DescribedStream}
-use Rattle.demux.specs.Views.{FindingView}
 use Rattle.unit_timing.specs.Plans.{KeepsDeclaration}
 use Rattle.plan_timing.specs.Promised.{declaration, Promised}
 use Rattle.unit_queue.specs.OwnedStreams.{timed}
@@ -59,10 +58,10 @@ same_stamps time (u ∷ us) all =
     let pts : (u.pts + (time + 2 ^ 33 - time)) % 2 ^ 33 ≡ u.pts = omega (arith, own.1) in
     rw (dts, pts, same_stamps time us (All-tail IsOnWire u us all)) refl
 
-pub again : (base : ℕ) (line : Scheduled) (findings : List FindingView) (units : List (ℕ × AccessUnit)) (n k : ℕ) (s : DescribedStream) (bytes : List ℕ) →
+pub again : (base : ℕ) (line : Scheduled) (wire : List AccessUnit) (units : List (ℕ × AccessUnit)) (n k : ℕ) (s : DescribedStream) (bytes : List ℕ) →
     Promised line.description line.schedule → slice_get line.description.streams k ≡ Some s → Kept (owned_stream line k s) (units_of k units) →
-    AreMoved (wire_units s.pid findings) base (units_of k units) → AllDue line.description.rate n (units_of k units) → GivenBack line (λ j. units_of j units) n bytes →
-    wire_units s.pid (all_found bytes) ≡ map (later_by (line.description.base0 + 2 ^ 33 - base)) (wire_units s.pid findings)
-again base line findings units n k s bytes promised is kept moved due back =
-    wire_again base line.description.base0 (wire_units s.pid findings) (units_of k units) (wire_units s.pid (all_found bytes)) moved
+    AreMoved wire base (units_of k units) → AllDue line.description.rate n (units_of k units) → GivenBack line (λ j. units_of j units) n bytes →
+    wire_units s.pid (all_found bytes) ≡ map (later_by (line.description.base0 + 2 ^ 33 - base)) wire
+again base line wire units n k s bytes promised is kept moved due back =
+    wire_again base line.description.base0 wire (units_of k units) (wire_units s.pid (all_found bytes)) moved
     (units_again line (λ j. units_of j units) n k s bytes promised is kept due back)

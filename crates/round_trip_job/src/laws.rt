@@ -1,6 +1,7 @@
 //! Jobs made of a stream, multiplexed and demultiplexed. Each function does nothing: its contract is the law.
 ghost use Rattle.round_trip_job.specs.Laws.{AcceptedLaw, CarriedLaw, FoundAgainLaw, SameAgainLaw};
 ghost use Rattle.round_trip_job.specs.FirstUnits.{FirstUnitsLaw, TablesFirstLaw};
+ghost use Rattle.round_trip_job.specs.JoinedLaws.{JoinedAcceptedLaw, JoinedAgainLaw};
 
 /// No unit of such a job is refused, in the job's order and before the first slot: each stream's units
 /// keep what its description declares, and have room.
@@ -32,6 +33,25 @@ pub fn found_again()
     ensures same { SameAgainLaw }
 {
     carried();
+    plan_timing::laws::accepted_plan();
+}
+
+/// No unit of a job of several streams is refused either.
+pub fn joined_accepted()
+    ensures { JoinedAcceptedLaw }
+{
+    mux_core::laws::room_for_all();
+}
+
+/// Of a job of several streams: if the run ends no earlier than the DTS of each unit of a stream, what a demultiplexer
+/// finds on its PID in these bytes, with their end, are all units on the wire of which its units are made, and no other:
+/// in order, their bytes the same and their stamps later by one constant, modulo 2^33. `stream_jobs` says which units
+/// those are: what is found in the input where the stream was found, on the PID that it had there.
+pub fn joined_again()
+    ensures { JoinedAgainLaw }
+{
+    joined_accepted();
+    round_trip_run::laws::jobs();
     plan_timing::laws::accepted_plan();
 }
 

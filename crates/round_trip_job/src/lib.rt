@@ -6,11 +6,12 @@
 //! `mux_core` which units a multiplexer refuses and what it promises, `round_trip_run` what is found in
 //! the bytes; here they are joined.
 //!
-//! Definitions stand in `specs/`: `Laws` says what is accepted, carried and found again, `FirstUnits` when
-//! the first units are due and what comes before them.
+//! Definitions stand in `specs/`: `Laws` says what is accepted, carried and found again, `JoinedLaws` what
+//! of that holds of a job of several streams, `FirstUnits` when the first units are due and what comes
+//! before them.
 //!
-//! - [`laws`]: no unit of such a job is refused, its bytes give the units back, and these are the input's;
-//!   PAT and PMT come before them.
+//! - [`laws`]: no unit of such a job is refused, its bytes give the units back, and these are the input's,
+//!   or those of the inputs; PAT and PMT come before them.
 #![tactic(auto)]
 
 pub mod laws;

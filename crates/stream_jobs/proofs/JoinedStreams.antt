@@ -79,13 +79,13 @@ few programs streams is = elim (cases_Bool (streams == 0)) [
 
 -- 4. One more input
 
-record IsNext (number : ℕ) (j : JoinedInputsView) (m : JobInputView) (more : JoinedInputsView) : Type 0 where
-  numbers : RenumberingView
-  input_is : numbers.input ≡ number
-  is : with_renumbered j m numbers ≡ more
-  stream_count : length more.input.streams ≤ 32
+pub record IsNext (number : ℕ) (j : JoinedInputsView) (m : JobInputView) (more : JoinedInputsView) : Type 0 where
+  pub numbers : RenumberingView
+  pub input_is : numbers.input ≡ number
+  pub is : with_renumbered j m numbers ≡ more
+  pub stream_count : length more.input.streams ≤ 32
 
-next_of : (number : ℕ) (j : JoinedInputsView) (m : JobInputView) (more : JoinedInputsView) → with_input number j m ≡ Ok more → IsNext number j m more
+pub next_of : (number : ℕ) (j : JoinedInputsView) (m : JobInputView) (more : JoinedInputsView) → with_input number j m ≡ Ok more → IsNext number j m more
 unfolding with_input within_limits
 next_of number j m more is =
     let made = comes (λ r. within_limits (with_renumbered j m r)) (ok_or (renumbering_of number j.input m) refusals.Pids) more is in

@@ -16,7 +16,7 @@ use Rattle.stream_jobs.specs.JoinedInputs.{AreUnitsIn, IsFoundIn, IsStreamIn}
 use Rattle.stream_jobs.specs.declared.joined_inputs.Origin.{Origin}
 
 -- of streams and where they were found, one in its place
-at_place : (P : Origin → TimedStreamView → Type 0) (os : List Origin) (ts : List TimedStreamView) (k : ℕ) (o : Origin) (t : TimedStreamView) → AllZip P os ts →
+pub at_place : (P : Origin → TimedStreamView → Type 0) (os : List Origin) (ts : List TimedStreamView) (k : ℕ) (o : Origin) (t : TimedStreamView) → AllZip P os ts →
     slice_get os k ≡ Some o → slice_get ts k ≡ Some t → P o t
 at_place P [] [] k o t all one other = absurd (let no : ⊥ = cc in no)
 at_place P [] (u ∷ ts) k o t all one other = absurd all

@@ -12,12 +12,12 @@ returns-clause-moved c = λ d p findings units n k s base ranges serving are few
     let line = schedule_for d p in
     let kept = (all_kept units_kept false line findings units ranges are).kept k s is in
     let back = (c.carried.ensures d p findings units n ranges serving are few).given_back in
-    again base line findings units n k s (output_of false line (job_history units n)) (c.accepted_plan.ensures d p ranges serving) is kept moved due back
+    again base line (wire_units s.pid findings) units n k s (output_of false line (job_history units n)) (c.accepted_plan.ensures d p ranges serving) is kept moved due back
 
 pub returns-clause-same : goal.returns-clause-same
 returns-clause-same c = λ d p findings units n k s ranges serving are few is moved due stamps.
     let line = schedule_for d p in
     let kept = (all_kept units_kept false line findings units ranges are).kept k s is in
     let back = (c.carried.ensures d p findings units n ranges serving are few).given_back in
-    again d.base0 line findings units n k s (output_of false line (job_history units n)) (c.accepted_plan.ensures d p ranges serving) is kept moved due back
+    again d.base0 line (wire_units s.pid findings) units n k s (output_of false line (job_history units n)) (c.accepted_plan.ensures d p ranges serving) is kept moved due back
     ∙ same_stamps d.base0 (wire_units s.pid findings) stamps
