@@ -7,4 +7,8 @@ pub mod ReadJobs
 pub mod TakenJobs
 pub mod UnitsAgain
 pub mod PipedRuns
+pub mod JoinedInformation
+pub mod JoinedConstants
+pub mod JoinedUnitsAgain
+pub mod JoinedRuns
 pub mod StreamedUnits

@@ -41,7 +41,7 @@ use Rattle.piped_jobs.proofs.WrittenRecords.{Fits, records_read, units_fit}
 
 -- 1. What is written is read
 
-plain_of : (w : JobOptionsView) (id : ℕ) (findings : List FindingView) (m : JobInputView) → PlainOptions w → m.information ≡ information_of w id findings m.programs →
+pub plain_of : (w : JobOptionsView) (id : ℕ) (findings : List FindingView) (m : JobInputView) → PlainOptions w → m.information ≡ information_of w id findings m.programs →
     PlainInformation m.information
 plain_of w id findings m plain is = subst PlainInformation (sym is) (information_plain w id findings m.programs plain)
 
@@ -82,7 +82,7 @@ pub record GivenOf (a : JobArgumentsView) (bytes output : List ℕ) : Type 0 whe
   pub input_is : job_input a.options (length (carried bytes) / 188) (findings_of (carried bytes)) ≡ Ok input
   pub gives : Gives a.subcommand a.options (findings_of (carried bytes)) input output
 
-none_written : (o : Outcome) (line : List ℕ) → o ≡ reported line → 0 < length o.output → ⊥
+pub none_written : (o : Outcome) (line : List ℕ) → o ≡ reported line → 0 < length o.output → ⊥
 none_written o line e some = let none : length o.output ≡ 0 = ap (λ (x : Outcome). length x.output) e in absurd (omega (arith, none, some))
 
 given_by : (a : JobArgumentsView) (bytes : List ℕ) (o : Outcome) (r : Result JobInputView JobRefusal) →
@@ -118,13 +118,13 @@ kept_of o output j one read none kept =
     (subst (KeepsPromises o) (ap (λ (p : Option ℕ). mux_job_of (is_some p) output) one ∙ read) kept)
 
 -- its job, of which it refuses nothing
-record TakenOf (o : MuxOptions) (output : List ℕ) (j : MuxJobView) (packets faults : Device) (status : ℕ) : Type 0 where
-  good : status ≡ 0
-  silent : Reports faults []
-  written : Takes packets (packets_of o j)
-  kept : IsKept o j
+pub record TakenOf (o : MuxOptions) (output : List ℕ) (j : MuxJobView) (packets faults : Device) (status : ℕ) : Type 0 where
+  pub good : status ≡ 0
+  pub silent : Reports faults []
+  pub written : Takes packets (packets_of o j)
+  pub kept : IsKept o j
 
-muxed : (o : MuxOptions) (output : List ℕ) (j : MuxJobView) (job packets faults : Device) (status : ℕ) → MuxesAll o output job packets faults status → mux_job_of false output ≡ Ok j →
+pub muxed : (o : MuxOptions) (output : List ℕ) (j : MuxJobView) (job packets faults : Device) (status : ℕ) → MuxesAll o output job packets faults status → mux_job_of false output ≡ Ok j →
     cause_of o j ≡ None → TakenOf o output j packets faults status
 muxed o output j job packets faults status m read none =
     let leads = m.ends.leads output m.known in

@@ -34,10 +34,15 @@ none_early (Some cause) next e = absurd cc
 one_plan : (o : MuxOptions) (j : MuxJobView) → j.second ≡ None → range_cause o j ≡ slots_cause (slots_of o j)
 one_plan o j e = ap (λ second. range_cause_of (first_of j) second (periods_of o) (slots_of o j)) e
 
-pub none_refused : AcceptedLaw → (made : Bool) (findings : List FindingView) (o : MuxOptions) (j : MuxJobView) → j.second ≡ None → o.slots ≡ None → IsInRange j.description →
-    AreUnits made findings j.description j.units → cause_of o j ≡ None
-none_refused law made findings o j second all ranges are =
+-- it is asked for all packets, and no unit is refused over its plan
+pub no_cause : (o : MuxOptions) (j : MuxJobView) → j.second ≡ None → o.slots ≡ None → first_refused (schedule_for j.description j.plan) (capacity_for j.units) [] j.units ≡ None →
+    cause_of o j ≡ None
+no_cause o j second all accepted =
     let few = one_plan o j second ∙ few_slots (slots_of o j) ((greatest_dts j.units * j.description.rate + 135359999) / 135360000) (all_slots o j all) in
     let same : schedule_of o j ≡ schedule_for j.description j.plan = ap (λ x. schedule_by (first_of j) x (periods_of o)) second in
     none_early (range_cause o j) (first_refused (schedule_of o j) (capacity_for j.units) [] j.units) few
-    ∙ ap (λ x. first_refused x (capacity_for j.units) [] j.units) same ∙ law made (schedule_for j.description j.plan) findings j.units ranges are
+    ∙ ap (λ x. first_refused x (capacity_for j.units) [] j.units) same ∙ accepted
+
+pub none_refused : AcceptedLaw → (made : Bool) (findings : List FindingView) (o : MuxOptions) (j : MuxJobView) → j.second ≡ None → o.slots ≡ None → IsInRange j.description →
+    AreUnits made findings j.description j.units → cause_of o j ≡ None
+none_refused law made findings o j second all ranges are = no_cause o j second all (law made (schedule_for j.description j.plan) findings j.units ranges are)

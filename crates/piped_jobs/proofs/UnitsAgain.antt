@@ -58,7 +58,7 @@ due_within dts greatest rate n e below short slow =
     let slots = whole_slots (greatest * rate) in
     omega (arith, e, last, most, slots)
 
-all_due : (o : MuxOptions) (j : MuxJobView) (k : ℕ) → o.slots ≡ None → IsInRange j.description → greatest_dts j.units ≤ 2 ^ 40 →
+pub all_due : (o : MuxOptions) (j : MuxJobView) (k : ℕ) → o.slots ≡ None → IsInRange j.description → greatest_dts j.units ≤ 2 ^ 40 →
     AllDue j.description.rate (slots_of o j) (units_of k j.units)
 all_due o j k all ranges short =
     All-weaker (λ u. u.dts ≤ greatest_dts j.units) (λ u. u.dts * j.description.rate ≤ slots_of o j * 135360000)
@@ -81,14 +81,20 @@ moved_units options findings d input units constants own agree merged k s is =
     let moved = subst (λ (made : Bool). IsMovedBy made findings (constants.constant (clock_of input.programs stands.stream)) stands.stream) own stands.holds in
     those_moved findings input.programs constants.constant s (units_of k units) stands.stream stands.agrees.entry stands.units_are moved
 
+-- the packets are those of a run over its plan
+pub packets_are : (o : MuxOptions) (j : MuxJobView) → j.second ≡ None → o.hex ≡ false →
+    packets_of o j ≡ output_of false (schedule_for j.description j.plan) (job_history j.units (slots_of o j))
+packets_are o j second bytes =
+    ap (λ (hex : Bool). output_of hex (schedule_of o j) (job_history j.units (slots_of o j))) bytes
+    ∙ ap (λ x. output_of false (schedule_by (first_of j) x (periods_of o)) (job_history j.units (slots_of o j))) second
+
+pub slots_within : (o : MuxOptions) (j : MuxJobView) → o.slots ≡ None → slots_of o j ≤ 2 ^ 40
+slots_within o j all = omega (arith, all_slots o j all)
+
 pub units_again : FoundAgainLaw → (findings : List FindingView) (o : MuxOptions) (j : MuxJobView) (base : ℕ) → j.second ≡ None → o.slots ≡ None → o.hex ≡ false → IsInRange j.description →
     IsServing j.description j.plan → AreUnits false findings j.description j.units → greatest_dts j.units ≤ 2 ^ 40 →
     (k : ℕ) (s : DescribedStream) → slice_get j.description.streams k ≡ Some s → AreMoved (wire_units s.pid findings) base (units_of k j.units) →
     AreLater (j.description.base0 + 2 ^ 33 - base) (wire_units s.pid findings) (wire_units s.pid (findings_of (packets_of o j)))
 units_again law findings o j base second all bytes ranges serving are short k s is moved =
-    let slots : slots_of o j ≤ 2 ^ 40 = omega (arith, all_slots o j all) in
-    let there = law j.description j.plan findings j.units (slots_of o j) k s base ranges serving are slots is moved (all_due o j k all ranges short) in
-    let same : packets_of o j ≡ output_of false (schedule_for j.description j.plan) (job_history j.units (slots_of o j)) =
-    ap (λ (hex : Bool). output_of hex (schedule_of o j) (job_history j.units (slots_of o j))) bytes
-    ∙ ap (λ x. output_of false (schedule_by (first_of j) x (periods_of o)) (job_history j.units (slots_of o j))) second in
-    ap (λ (xs : List ℕ). wire_units s.pid (findings_of xs)) same ∙ there
+    ap (λ (xs : List ℕ). wire_units s.pid (findings_of xs)) (packets_are o j second bytes)
+    ∙ law j.description j.plan findings j.units (slots_of o j) k s base ranges serving are (slots_within o j all) is moved (all_due o j k all ranges short)

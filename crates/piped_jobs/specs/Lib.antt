@@ -1,2 +1,3 @@
 pub mod PipedJobs
+pub mod PipedFiles
 pub mod StreamedUnits

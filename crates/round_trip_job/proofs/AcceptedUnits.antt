@@ -101,14 +101,14 @@ record FoundSomewhere (made : Bool) (inputs : List (List FindingView)) (d : Desc
   origin : Origin
   is : IsStreamIn made inputs origin d s us
 
-somewhere : (made : Bool) (inputs : List (List FindingView)) (origins : List Origin) (d : Described) (units : List (ℕ × AccessUnit)) → AreUnitsIn made inputs origins d units →
-    (k : ℕ) (s : DescribedStream) → slice_get d.streams k ≡ Some s → FoundSomewhere made inputs d s (units_of k units)
+somewhere : (made : Bool) (inputs : List (List FindingView)) (origins : List Origin) (d : Described) (units : List (ℕ × AccessUnit)) →
+    AreUnitsIn made inputs origins d units → (k : ℕ) (s : DescribedStream) → slice_get d.streams k ≡ Some s → FoundSomewhere made inputs d s (units_of k units)
 somewhere made inputs origins d units are k s is =
     let o = stream_there origins k (omega (arith, slice_get_within d.streams k s is, are.same)) in
     record { origin = o.0; is = are.streams k o.0 s o.1 is }
 
-pub all_kept_in : UnitsAreKept → (made : Bool) (line : Scheduled) (inputs : List (List FindingView)) (origins : List Origin) (units : List (ℕ × AccessUnit)) → IsInRange line.description →
-    AreUnitsIn made inputs origins line.description units → UnitsKept line (λ k. units_of k units)
+pub all_kept_in : UnitsAreKept → (made : Bool) (line : Scheduled) (inputs : List (List FindingView)) (origins : List Origin) (units : List (ℕ × AccessUnit)) →
+    IsInRange line.description → AreUnitsIn made inputs origins line.description units → UnitsKept line (λ k. units_of k units)
 all_kept_in law made line inputs origins units ranges are = record {
   parameters = parameters_known line ranges;
   kept = λ k s is. (
@@ -154,8 +154,8 @@ pub none_refused : UnitsAreKept → TakenOneByOne → (made : Bool) (line : Sche
 none_refused keeping taking made line findings units ranges are =
     all_taken taking line [] units (record { kept = all_kept keeping made line findings units ranges are; few = λ k s is. (are.streams k s is).fits }) are.numbered
 
-pub none_refused_in : UnitsAreKept → TakenOneByOne → (made : Bool) (line : Scheduled) (inputs : List (List FindingView)) (origins : List Origin) (units : List (ℕ × AccessUnit)) →
-    IsInRange line.description → AreUnitsIn made inputs origins line.description units → first_refused line 1048576 [] units ≡ None
+pub none_refused_in : UnitsAreKept → TakenOneByOne → (made : Bool) (line : Scheduled) (inputs : List (List FindingView)) (origins : List Origin)
+    (units : List (ℕ × AccessUnit)) → IsInRange line.description → AreUnitsIn made inputs origins line.description units → first_refused line 1048576 [] units ≡ None
 none_refused_in keeping taking made line inputs origins units ranges are =
     all_taken taking line [] units
     (record {

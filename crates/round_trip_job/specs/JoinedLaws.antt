@@ -18,12 +18,16 @@ use Rattle.round_trip_job.specs.Laws.{AllDue, later_by, schedule_for}
 
 -- no unit is refused, over whatever schedule, also where DTS are made from PTS
 abbrev pub JoinedAcceptedLaw : Type 0
-JoinedAcceptedLaw = (made : Bool) (schedule : Scheduled) (inputs : List (List FindingView)) (origins : List Origin) (units : List (ℕ × AccessUnit)) → IsInRange schedule.description →
+JoinedAcceptedLaw = (made : Bool) (schedule : Scheduled) (inputs : List (List FindingView)) (origins : List Origin) (units : List (ℕ × AccessUnit)) →
+    IsInRange schedule.description →
     AreUnitsIn made inputs origins schedule.description units → first_refused schedule (capacity_for units) [] units ≡ None
 
 -- the units of a stream, which are these units of the wire, whose clock shows `base` at moment 0 if that of the description shows base0, are found
 -- again on its PID: all of them and no other
 abbrev pub JoinedAgainLaw : Type 0
-JoinedAgainLaw = (d : Described) (p : Planned) (inputs : List (List FindingView)) (origins : List Origin) (units : List (ℕ × AccessUnit)) (n k : ℕ) (s : DescribedStream) (wire : List AccessUnit) (base : ℕ) →
-    IsInRange d → IsServing d p → AreUnitsIn false inputs origins d units → n ≤ 2 ^ 40 → slice_get d.streams k ≡ Some s → AreMoved wire base (units_of k units) →
-    AllDue d.rate n (units_of k units) → wire_units s.pid (all_found (output_of false (schedule_for d p) (job_history units n))) ≡ map (later_by (d.base0 + 2 ^ 33 - base)) wire
+JoinedAgainLaw = (d : Described) (p : Planned) (inputs : List (List FindingView)) (origins : List Origin) (units : List (ℕ × AccessUnit)) (n k : ℕ)
+    (s : DescribedStream) (wire : List AccessUnit) (base : ℕ) →
+    IsInRange d → IsServing d p → AreUnitsIn false inputs origins d units → n ≤ 2 ^ 40 → slice_get d.streams k ≡ Some s →
+    AreMoved wire base (units_of k units) →
+    AllDue d.rate n (units_of k units) →
+    wire_units s.pid (all_found (output_of false (schedule_for d p) (job_history units n))) ≡ map (later_by (d.base0 + 2 ^ 33 - base)) wire
