@@ -1,0 +1,3 @@
+pub mod TimedPackets
+pub mod Times
+pub mod Leads
