@@ -94,10 +94,10 @@ among-append chosen drain index (p ∷ ps) qs =
     (times_among chosen drain (index + length (p ∷ ps)) qs)))
 
 -- on two lines that meet
-before_is : (lines : ClockLines) (i : ℕ) → i ≤ lines.line.byte → line_at lines i ≡ lines.before
+pub before_is : (lines : ClockLines) (i : ℕ) → i ≤ lines.line.byte → line_at lines i ≡ lines.before
 before_is lines i le = rw (le-leb i lines.line.byte le) refl
 
-after_is : (lines : ClockLines) (i : ℕ) → lines.line.byte < i → line_at lines i ≡ lines.line
+pub after_is : (lines : ClockLines) (i : ℕ) → lines.line.byte < i → line_at lines i ≡ lines.line
 after_is lines i lt = rw (lt-leb i lines.line.byte lt) refl
 
 pub lines_in_order : (lines : ClockLines) (first drain : ℕ) → MeetAt lines.before lines.line first → InOrder (OnLines lines) drain

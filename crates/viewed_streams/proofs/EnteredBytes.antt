@@ -1,9 +1,8 @@
 -- Packets that enter buffers at a constant rate: when their bytes arrive.
-use Rattle.std.proofs.Common.{◌≡◌, ◌∙◌, sym, ℕ, suc, ◌+◌, ◌-◌, ◌*◌, ◌^◌, ◌≤◌, ◌<◌, ◌&&◌, nat_le, nat_lt, Bool, true, false, List, [], ◌∷◌, ◌++◌, length, map, Option, Some, None, if◌then◌else◌, refl, ap, subst, inl, inr, arith}
+use Rattle.std.proofs.Common.{◌≡◌, ◌∙◌, sym, ℕ, suc, ◌+◌, ◌-◌, ◌*◌, ◌^◌, ◌≤◌, ◌<◌, ◌&&◌, nat_le, nat_lt, Bool, true, false, List, [], ◌∷◌, ◌++◌, length, Option, Some, None, if◌then◌else◌, refl, ap, subst, inl, inr, arith}
 use Rattle.std.proofs.lemmas.Bool.Decides.{eqb_tells, nat_tests}
-use Rattle.std.proofs.lemmas.List.{append_assoc, append-nil, length-append}
-use Rattle.clock27.specs.Arrival.{bytes_from, arrivals}
-use Rattle.clock27.specs.Peak.{Climbs}
+use Rattle.std.proofs.lemmas.List.{append_assoc, append-nil}
+use Rattle.clock27.specs.Arrival.{bytes_from}
 use Rattle.decoder_buffers.proofs.ByteRows.{row_split, length-row}
 use Rattle.stream_arrival.specs.declared.arrival.Arrival.{Arrival}
 use Rattle.stream_arrival.specs.declared.arrival.Arrival.TheVariants.{AtRate}
@@ -13,7 +12,7 @@ use Rattle.stream_view.specs.declared.unit_seen.DueTime.{DueTime}
 use Rattle.stream_buffers.specs.declared.arriving.Arriving.{Arriving}
 use Rattle.stream_buffers.specs.Held.{Held, carried, passed}
 use Rattle.stream_buffers.specs.Entering.{after, after_begin, after_bytes, after_header, after_lead, after_payload, after_unit, lead_in, size_of, takes_in, with_packet}
-use Rattle.viewed_streams.specs.StreamPackets.{after_each, most_packets}
+use Rattle.viewed_streams.specs.StreamPackets.{most_packets}
 
 -- what does not change
 pub record Alike (h h' : Held) : Type 0 where
@@ -107,26 +106,6 @@ taken_in h rate p early few =
 unfoldable pub ComeFrom : ℕ → List Arriving → Type 0
 ComeFrom low [] = Unit {0}
 ComeFrom low (p ∷ ps) = (low ≤ p.index) × (p.index < most_packets) × ComeFrom (suc p.index) ps
-
-abbrev pub indices : List Arriving → List ℕ
-indices ps = map (λ p. p.index) ps
-
-pub each_arrives : (h : Held) (rate low : ℕ) (ps : List Arriving) → ComeFrom low ps → length (arrivals_of h.parts) ≤ 188 * low →
-    Arrives h (after_each h (AtRate rate) ps) (arrivals h.rx (indices ps))
-unfolding after_each arrivals ComeFrom
-each_arrives h rate low [] come few = record { alike = record { rate = refl; rx = refl; size = refl }; arrivals = sym (append-nil (arrivals_of h.parts)) }
-each_arrives h rate low (p ∷ ps) come few =
-    let one = packet_arrives h rate p (taken_in h rate p come.1 (omega (arith, few, come.0))) in
-    let h' : Held = after h (AtRate rate) p in
-    let more : length (arrivals_of h'.parts) ≤ 188 * suc p.index =
-    omega (arith, few, come.0, ap (λ (l : List ℕ). length l) one.arrivals, length-append (arrivals_of h.parts) (bytes_from h.rx (188 * p.index) 188), length-row h.rx (188 * p.index) 188) in
-    let rest = each_arrives h' rate (suc p.index) ps come.2 more in
-    arrives_trans h h' (after_each h' (AtRate rate) ps) _ _ one (subst (λ (r : ℕ). Arrives h' (after_each h' (AtRate rate) ps) (arrivals r (indices ps))) one.alike.rx rest)
-
-pub they_climb : (low : ℕ) (ps : List Arriving) → ComeFrom low ps → Climbs low (indices ps)
-unfolding ComeFrom Climbs
-they_climb low [] come = tt
-they_climb low (p ∷ ps) come = (come.0, they_climb (suc p.index) ps come.2)
 
 -- whatever the arrival
 pub payload_alike : (h : Held) (enters : Bool) (n : ℕ) (times : List ℕ) → Alike h (after_payload h enters n times)

@@ -1,5 +1,5 @@
 -- Streams whose buffers have begun, over many packets.
-use Rattle.std.proofs.Common.{◌≡◌, ◌∙◌, sym, ℕ, ◌+◌, ◌^◌, ◌<◌, ◌⊎◌, List, [], ◌∷◌, ◌++◌, length, Option, Some, None, refl, ap, subst, inl, inr, arith}
+use Rattle.std.proofs.Common.{◌≡◌, ◌∙◌, sym, ℕ, ◌+◌, ◌^◌, ◌<◌, List, [], ◌∷◌, ◌++◌, length, Option, Some, None, refl, ap, subst, arith}
 use Rattle.std.specs.Prelude.{slice_get}
 use Rattle.ts_packet.specs.Views.{PacketView}
 use Rattle.ts_packet.specs.Reading.{packet_at}
@@ -11,10 +11,9 @@ use Rattle.stream_report.specs.Entries.{EntryState}
 use Rattle.stream_report.specs.Tallies.{more}
 use Rattle.stream_report.specs.Views.{ViewState, after_all}
 use Rattle.viewed_streams.specs.StreamPackets.{Before, Followed, after_each, entered_each, known_after, seen_among, seen_in, sound_packet}
-use Rattle.viewed_streams.proofs.Lists.{some_is}
 use Rattle.viewed_streams.proofs.Units.{late_more, late_with, units_more, units_with}
-use Rattle.viewed_streams.proofs.Entries.{Agree, BeginsWith}
-use Rattle.viewed_streams.proofs.Steps.{Begins, Steps, after_sound, excesses_more, finished, finished_steps, followed, known, packet_is, sound_agrees, sound_before, sound_steps}
+use Rattle.viewed_streams.proofs.Entries.{Agree}
+use Rattle.viewed_streams.proofs.Steps.{Steps, after_sound, excesses_more, finished, finished_steps, followed, known, packet_is, sound_agrees, sound_steps}
 
 -- packets in two parts
 pub each_append : (h : Held) (arrival : Arrival) (ps qs : List Arriving) → after_each h arrival (ps ++ qs) ≡ after_each (after_each h arrival ps) arrival qs
@@ -106,75 +105,3 @@ grown s (bytes ∷ packets) j e agree few there =
     subst (λ (x : ViewState). (e' : EntryState) × ((slice_get (after_all x packets).table.entries j ≡ Some e') × Grown s.seen.options.arrival (followed s e) (known s e) (bytes ∷ packets) e e'))
     (sym (packet_is s bytes))
     (rest.0, (rest.1.0, grown_more s (next s bytes) bytes packets e step.0 rest.0 (sound_options s o) (finished_steps s (after_sound s o) o bytes e step.0 step.1.1) rest.1.1))
-
--- ---- where a stream begins
-
-pub record Began (s : ViewState) (packets : List (List ℕ)) (e' : EntryState) : Type 0 where
-  pub before : List (List ℕ)
-  pub bytes : List ℕ
-  pub later : List (List ℕ)
-  pub split : packets ≡ before ++ bytes ∷ later
-  pub packet : PacketView
-  pub sound : sound_packet (packet_at bytes) ≡ Some packet
-  pub first : EntryState
-  pub begins : BeginsWith (after_all s before).seen.options (after_all s before).seen.named (after_all s before).table packet first
-  pub grown : Grown (after_all s before).seen.options.arrival (followed (after_all s before) first) (known (after_all s before) first) (bytes ∷ later) first e'
-
-came_after : (s : ViewState) (bytes : List ℕ) (packets : List (List ℕ)) (e' : EntryState) → Began (next s bytes) packets e' → Began s (bytes ∷ packets) e'
-unfolding after_all
-came_after s bytes packets e' b = record {
-  before = bytes ∷ b.before;
-  bytes = b.bytes;
-  later = b.later;
-  split = ap (λ (l : List (List ℕ)). bytes ∷ l) b.split;
-  packet = b.packet;
-  sound = b.sound;
-  first = b.first;
-  begins = subst (λ (x : ViewState). BeginsWith (after_all x b.before).seen.options (after_all x b.before).seen.named (after_all x b.before).table b.packet b.first)
-      (sym (packet_is s bytes)) b.begins;
-  grown = subst (λ (x : ViewState). Grown (after_all x b.before).seen.options.arrival (followed (after_all x b.before) b.first) (known (after_all x b.before) b.first) (b.bytes ∷ b.later) b.first e')
-      (sym (packet_is s bytes)) b.grown;
-}
-
-came_now : (s : ViewState) (bytes : List ℕ) (packets : List (List ℕ)) (j : ℕ) (e1 e' : EntryState) → Agree s.table → s.seen.packets + length (bytes ∷ packets) < 2 ^ 64 →
-    Begins s (sound_packet (packet_at bytes)) j e1 → slice_get (next s bytes).table.entries j ≡ Some e1 → slice_get (after_all (next s bytes) packets).table.entries j ≡ Some e' →
-    Began s (bytes ∷ packets) e'
-unfolding after_all
-came_now s bytes packets j e1 e' agree few b there later =
-    let o = sound_packet (packet_at bytes) in
-    let one : s.seen.packets + 1 < 2 ^ 64 = omega (arith, few) in
-    let count = sound_packets s o one in
-    let rest = grown (next s bytes) packets j e1 (sound_agrees s o agree) (omega (arith, few, count)) there in
-    let same : rest.0 ≡ e' = some_is rest.0 e' (sym rest.1.0 ∙ later) in
-    let step : Steps s o (next s bytes) b.first e1 =
-    finished_steps s (after_sound s o) o bytes b.first e1 (subst (λ (q : Option PacketView). Steps s q (after_sound s o) b.first e1) (sym b.sound) b.steps) in
-    record {
-      before = [];
-      bytes = bytes;
-      later = packets;
-      split = refl;
-      packet = b.packet;
-      sound = b.sound;
-      first = b.first;
-      begins = b.begins;
-      grown = rw (sym same) (grown_more s (next s bytes) bytes packets b.first e1 rest.0 (sound_options s o) step rest.1.1);
-    }
-
-pub came : (s : ViewState) (packets : List (List ℕ)) (j : ℕ) (e' : EntryState) → Agree s.table → s.seen.packets + length packets < 2 ^ 64 →
-    slice_get (after_all s packets).table.entries j ≡ Some e' → ((e : EntryState) × (slice_get s.table.entries j ≡ Some e)) ⊎ Began s packets e'
-unfolding after_all
-came s [] j e' agree few there = inl (e', there)
-came s (bytes ∷ packets) j e' agree few there =
-    let o = sound_packet (packet_at bytes) in
-    let one : s.seen.packets + 1 < 2 ^ 64 = omega (arith, few) in
-    let count = sound_packets s o one in
-    let agree' = sound_agrees s o agree in
-    let there' : slice_get (after_all (next s bytes) packets).table.entries j ≡ Some e' =
-    subst (λ (x : ViewState). slice_get (after_all x packets).table.entries j ≡ Some e') (packet_is s bytes) there in
-    elim (came (next s bytes) packets j e' agree' (omega (arith, few, count)) there') [
-      | inl e1 ↦ elim (sound_before s o j e1.0 agree one e1.1) [
-        | inl old ↦ inl old
-        | inr begins ↦ inr (came_now s bytes packets j e1.0 e' agree few begins e1.1 there')
-      ]
-      | inr began ↦ inr (came_after s bytes packets e' began)
-    ]

@@ -34,3 +34,10 @@ pub mod WindowLows
 pub mod HeldWindows
 pub mod AsMeasured
 pub mod ClockComes
+pub mod TimedBytes
+pub mod TimedExcesses
+pub mod TimedGrown
+pub mod TimedOrder
+pub mod TimedWhole
+pub mod ClockedStreams
+pub mod RateStreams

@@ -31,7 +31,7 @@ use Rattle.viewed_streams.specs.StreamPackets.{most_packets}
 use Rattle.viewed_streams.specs.WholeStreams.{IsWhole, indices_of}
 use Rattle.viewed_streams.specs.MuxedStreams.{JobNoExcessLaw, MuxedStreamLaw, NoExcess}
 use Rattle.viewed_streams.proofs.MeasuredStreams.{no_fuller}
-use Rattle.viewed_streams.proofs.WholeStreams.{whole_stream_law}
+use Rattle.viewed_streams.proofs.RateStreams.{whole_stream_law}
 
 -- bytes that find room begin no excess
 room_after : (step size prev : ℕ) (ts : List ℕ) → AreOver false step size prev ts → excess_after step size prev None ts ≡ None

@@ -1,49 +1,16 @@
--- The packets of a stream are those of its PID.
-use Rattle.std.proofs.Common.{◌≡◌, sym, ℕ, suc, ◌+◌, ◌≤◌, ◌<◌, Bool, true, false, List, [], ◌∷◌, ◌++◌, length, Option, Some, None, Result, Ok, Err, refl, ap, subst, inl, inr, nat_eq, arith}
-use Rattle.std.proofs.lemmas.Bool.Decides.{eqb_tells}
-use Rattle.ts_packet.specs.declared.packet.PacketError.{PacketError}
+-- The packets of a stream come in order.
+use Rattle.std.proofs.Common.{◌≡◌, ℕ, suc, ◌+◌, ◌≤◌, ◌<◌, Bool, true, false, List, [], ◌∷◌, ◌++◌, length, Option, Some, None, refl, subst, nat_eq, arith}
 use Rattle.ts_packet.specs.Views.{PacketView}
 use Rattle.ts_packet.specs.Reading.{packet_at}
-use Rattle.unit_timing.specs.Schedule.{Packet}
-use Rattle.unit_timing.specs.Transport.{slots_of}
-use Rattle.decoder_buffers.specs.PidPackets.{listed, packets_from, size_in}
 use Rattle.stream_buffers.specs.declared.arriving.Arriving.{Arriving}
 use Rattle.viewed_streams.specs.StreamPackets.{Before, Followed, known_after, most_packets, seen_among, seen_in, sound_packet}
-use Rattle.viewed_streams.proofs.Lists.{apart, itself}
-use Rattle.viewed_streams.proofs.EnteredBytes.{ComeFrom, indices}
+use Rattle.viewed_streams.proofs.EnteredBytes.{ComeFrom}
 
 -- each packet has the next index
 pub index_more : (f : Followed) (b : Before) (o : Option PacketView) → (known_after f b o).index ≡ b.index + 1
 unfolding known_after
 index_more f b None = refl
 index_more f b (Some packet) = refl
-
--- a packet is of the stream exactly where it is one of the PID
-listed_index : (f : Followed) (b : Before) (r : Result PacketView PacketError) (ps : List Arriving) (packets : List Packet) → indices ps ≡ slots_of packets →
-    indices (seen_in f b (sound_packet r) ++ ps) ≡ slots_of (listed b.index (size_in f.pid r) packets)
-unfolding seen_in sound_packet size_in
-listed_index f b (Err error) ps packets e = e
-listed_index f b (Ok packet) ps packets e = by packet.header.transport_error_indicator refl
-  where
-    by : (w : Bool) → packet.header.transport_error_indicator ≡ w →
-        indices (seen_in f b (sound_packet (Ok packet)) ++ ps) ≡ slots_of (listed b.index (size_in f.pid (Ok packet)) packets)
-    by true h = elim (eqb_tells packet.header.pid f.pid) [
-      | inl same ↦ rw (h, same.0) e
-      | inr other ↦ rw (h, other.0) e
-    ]
-    by false h = elim (eqb_tells packet.header.pid f.pid) [
-      | inl same ↦ let other : nat_eq f.pid packet.header.pid ≡ true = rw same.1 (itself f.pid) in rw (h, same.0, other) (ap (λ (l : List ℕ). b.index ∷ l) e)
-      | inr other ↦ let no : nat_eq f.pid packet.header.pid ≡ false = apart f.pid packet.header.pid (λ p. other.1 (sym p)) in rw (h, other.0, no) e
-    ]
-
-pub same_indices : (f : Followed) (b : Before) (packets : List (List ℕ)) → indices (seen_among f b packets) ≡ slots_of (packets_from f.pid b.index packets)
-unfolding seen_among packets_from
-same_indices f b [] = refl
-same_indices f b (bytes ∷ packets) =
-    let b' : Before = known_after f b (sound_packet (packet_at bytes)) in
-    let rest : indices (seen_among f b' packets) ≡ slots_of (packets_from f.pid (b.index + 1) packets) =
-    subst (λ (i : ℕ). indices (seen_among f b' packets) ≡ slots_of (packets_from f.pid i packets)) (index_more f b (sound_packet (packet_at bytes))) (same_indices f b' packets) in
-    listed_index f b (packet_at bytes) (seen_among f b' packets) (packets_from f.pid (b.index + 1) packets) rest
 
 -- they come in order
 come_low : (low from : ℕ) (ps : List Arriving) → low ≤ from → ComeFrom from ps → ComeFrom low ps

@@ -1,9 +1,9 @@
 -- The units that end with each packet, all together.
-use Rattle.std.proofs.Common.{◌≡◌, ◌∙◌, sym, ℕ, suc, ◌+◌, ◌-◌, ◌*◌, ◌^◌, ◌≤◌, ◌<◌, cond, Bool, true, false, List, [], ◌∷◌, ◌++◌, length, Option, Some, None, if◌then◌else◌, refl, ap, inl, inr, arith}
+use Rattle.std.proofs.Common.{◌≡◌, ◌∙◌, sym, ℕ, ◌+◌, ◌-◌, ◌*◌, ◌^◌, ◌≤◌, ◌<◌, cond, Bool, true, false, List, [], ◌∷◌, ◌++◌, length, Option, Some, None, if◌then◌else◌, refl, ap, inl, inr, arith}
 use Rattle.std.specs.Prelude.{count_by, flat_map}
 use Rattle.std.specs.Option.{option_to_list}
 use Rattle.std.proofs.lemmas.Bool.Decides.{eqb_tells}
-use Rattle.std.proofs.lemmas.List.{append_assoc, append-nil, length-append}
+use Rattle.std.proofs.lemmas.List.{append-nil, length-append}
 use Rattle.std.proofs.lemmas.List.Sums.{sum_by-cons}
 use Rattle.stream_arrival.specs.declared.arrival.Arrival.{Arrival}
 use Rattle.stream_arrival.specs.Arrivals.{times_at}
@@ -14,9 +14,8 @@ use Rattle.stream_buffers.specs.declared.arriving.Arriving.{Arriving}
 use Rattle.stream_buffers.specs.Held.{Held, carried, passed}
 use Rattle.stream_buffers.specs.Entering.{EnteredView, after, after_begin, after_header, after_lead, after_payload, after_unit, ended_with, entered, lead_in, nothing, size_of, takes_in, unit_ended, with_packet}
 use Rattle.stream_report.specs.Tallies.{is_late, more}
-use Rattle.viewed_streams.specs.StreamPackets.{after_each, entered_each, most_packets}
 use Rattle.viewed_streams.specs.StreamUnits.{units_ended}
-use Rattle.viewed_streams.proofs.EnteredBytes.{Alike, ComeFrom, after_alike, payload_alike}
+use Rattle.viewed_streams.proofs.EnteredBytes.{Alike, payload_alike}
 
 -- bytes end no unit
 goes_units : (step : ℕ) (h : Held) (enters : Bool) (times : List ℕ) → units_ended step (if enters then carried h times else passed h times).parts ≡ units_ended step h.parts
@@ -63,23 +62,6 @@ packet_units step h arrival p e = by (takes_in h arrival p)
     by true = parts_units step h arrival p (size_of p) (lead_in arrival p) e
     by false = sym (append-nil (units_ended step h.parts))
 
--- those of all packets
-pub each_units : (step : ℕ) (h : Held) (arrival : Arrival) (ps : List Arriving) → h.rate ≡ step →
-    units_ended step (after_each h arrival ps).parts ≡ units_ended step h.parts ++ flat_map (λ v. option_to_list v.unit) (entered_each h arrival ps)
-unfolding after_each entered_each
-each_units step h arrival [] e = sym (append-nil (units_ended step h.parts))
-each_units step h arrival (p ∷ ps) e =
-    let h' : Held = after h arrival p in
-    let rest = each_units step h' arrival ps ((after_alike h arrival p).rate ∙ e) in
-    let one : List UnitSeen = option_to_list (entered h arrival p).unit in
-    let others : List UnitSeen = flat_map (λ v. option_to_list v.unit) (entered_each h' arrival ps) in
-    rest ∙ ap (λ (l : List UnitSeen). l ++ others) (packet_units step h arrival p e) ∙ append_assoc (units_ended step h.parts) one others
-
-pub rate_each : (h : Held) (arrival : Arrival) (ps : List Arriving) → (after_each h arrival ps).rate ≡ h.rate
-unfolding after_each
-rate_each h arrival [] = refl
-rate_each h arrival (p ∷ ps) = rate_each (after h arrival p) arrival ps ∙ (after_alike h arrival p).rate
-
 -- ---- their number
 
 unfoldable pub units_with : ℕ → Option UnitSeen → ℕ
@@ -107,16 +89,6 @@ units_exact n (v ∷ vs) few =
     one_unit : (o : Option UnitSeen) → length (option_to_list o) ≤ 1
     one_unit None = omega arith
     one_unit (Some u) = omega arith
-
-pub many_entered : (h : Held) (arrival : Arrival) (ps : List Arriving) → length (entered_each h arrival ps) ≡ length ps
-unfolding entered_each
-many_entered h arrival [] = refl
-many_entered h arrival (p ∷ ps) = ap (λ (n : ℕ). suc n) (many_entered (after h arrival p) arrival ps)
-
-pub few_packets : (low : ℕ) (ps : List Arriving) → ComeFrom low ps → length ps ≤ most_packets - low
-unfolding ComeFrom
-few_packets low [] come = omega arith
-few_packets low (p ∷ ps) come = omega (arith, come.0, come.1, few_packets (suc p.index) ps come.2)
 
 pub last_unit : (n : ℕ) (us : List UnitSeen) (o : Option UnitSeen) → n ≡ length us → n < 2 ^ 64 - 1 → units_with n o ≡ length (us ++ option_to_list o)
 last_unit n us o e few = omega (arith, e, unit_counted n o few, length-append us (option_to_list o))

@@ -2,6 +2,7 @@ pub mod StreamPackets
 pub mod StreamUnits
 pub mod CarriedStreams
 pub mod WholeStreams
+pub mod TimedStreams
 pub mod MeasuredStreams
 pub mod MuxedStreams
 pub mod MainExcesses

@@ -4,6 +4,7 @@ ghost use Rattle.viewed_streams.specs.HeldWindows.{HeldWindowLaw};
 ghost use Rattle.viewed_streams.specs.MainExcesses.{NoMainExcessLaw};
 ghost use Rattle.viewed_streams.specs.MeasuredStreams.{MeasuredStreamLaw};
 ghost use Rattle.viewed_streams.specs.MuxedStreams.{JobNoExcessLaw, MuxedStreamLaw};
+ghost use Rattle.viewed_streams.specs.TimedStreams.{ClockedStreamLaw, RateOrderLaw, TimedStreamLaw};
 ghost use Rattle.viewed_streams.specs.ViewedRuns.{JobFirstLaw, JobLateLaw, JobLateUnitsLaw, JobMainLaw, RunFirstLaw, RunLateLaw, RunLateUnitsLaw, RunMainLaw};
 ghost use Rattle.viewed_streams.specs.WholeStreams.{LastLinesLaw, WholeStreamLaw};
 ghost use Rattle.viewed_streams.specs.WindowLows.{WholeWindowLaw, WindowLeastLaw, WindowLowLaw, WindowWithoutLaw};
@@ -14,6 +15,14 @@ ghost use Rattle.viewed_streams.specs.WindowLows.{WholeWindowLaw, WindowLeastLaw
 pub fn whole_streams()
     ensures whole { WholeStreamLaw }
     ensures lines { LastLinesLaw }
+{}
+
+/// The same of a stream whose packets arrive in any way in which no byte arrives before an earlier one: at a constant rate, and by the
+/// clock references of a stream, as a report that is given no rate takes them, at its end.
+pub fn timed_streams()
+    ensures timed { TimedStreamLaw }
+    ensures rate { RateOrderLaw }
+    ensures clocked { ClockedStreamLaw }
 {}
 
 /// No excess of a main buffer is told where its line says no more than its size.

@@ -1,4 +1,5 @@
-use Rattle.viewed_streams.proofs.WholeStreams.{last_lines_law, whole_stream_law}
+use Rattle.viewed_streams.proofs.RateStreams.{whole_stream_law}
+use Rattle.viewed_streams.proofs.WholeStreams.{last_lines_law}
 use Rattle.viewed_streams.proofs.laws.whole_streams.Goals as goal
 
 pub returns-clause-whole : goal.returns-clause-whole
