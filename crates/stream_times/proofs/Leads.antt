@@ -165,7 +165,7 @@ unfolding clock_by begun_by AllHead
 alone_head q None bytes here at small = tt
 alone_head q (Some r) bytes here at small = (reference_head here r.1 bytes at.byte small, tt)
 
-at_here : (q : QueueState) (o : Option (ℕ × PcrSample)) (first here : ℕ) → Waits q first here → IfSome o (λ r. IsAt q.packets r.1) → IfSome o (λ r. IsAt here r.1)
+pub at_here : (q : QueueState) (o : Option (ℕ × PcrSample)) (first here : ℕ) → Waits q first here → IfSome o (λ r. IsAt q.packets r.1) → IfSome o (λ r. IsAt here r.1)
 at_here q None first here w at = tt
 at_here q (Some r) first here w at = exact q.packets here r.1 w.count at
 

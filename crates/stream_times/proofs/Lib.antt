@@ -5,3 +5,4 @@ pub mod Headers
 pub mod Waits
 pub mod TimedPackets
 pub mod Leads
+pub mod Between

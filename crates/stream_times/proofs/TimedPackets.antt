@@ -34,7 +34,7 @@ unfolding arrived waiting
 all_of None held packets bytes rest e = e ∙ append_assoc held (bytes ∷ []) packets
 all_of (Some arrival) held packets bytes rest e = map-append (λ p. p.bytes) (arriving_so arrival held) rest ∙ rw (bytes_of arrival held, e) refl
 
-once_from : (q : QueueState) (packets : List (List ℕ)) → map (λ p. p.bytes) (timed_from q packets) ≡ q.held ++ packets
+pub once_from : (q : QueueState) (packets : List (List ℕ)) → map (λ p. p.bytes) (timed_from q packets) ≡ q.held ++ packets
 unfolding timed_from
 once_from q [] = bytes_of (last_arrival q) q.held ∙ sym (append-nil q.held)
 once_from q (bytes ∷ packets) = all_of (released q bytes) q.held packets bytes (timed_from (with_one q bytes) packets) (once_from (with_one q bytes) packets)

@@ -1,3 +1,4 @@
 pub mod TimedPackets
 pub mod Times
 pub mod Leads
+pub mod Between

@@ -1,5 +1,6 @@
 //! Laws of the times at which bytes arrive. Each is a function that does nothing: its contract is the law, over the definitions of
 //! `specs/` alone, and a caller may cite it.
+ghost use Rattle.stream_times.specs.Between.{BetweenLaw};
 ghost use Rattle.stream_times.specs.Leads.{LeadLaw};
 ghost use Rattle.stream_times.specs.TimedPackets.{EachOnceLaw};
 ghost use Rattle.stream_times.specs.Times.{RisesLaw};
@@ -10,4 +11,9 @@ pub fn arrivals_rise()
     ensures once { EachOnceLaw }
     ensures rises { RisesLaw }
     ensures leads { LeadLaw }
+{}
+
+/// Between two clock references on which the clock goes on all bytes lie on the line through both.
+pub fn references()
+    ensures { BetweenLaw }
 {}

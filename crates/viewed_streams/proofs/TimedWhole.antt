@@ -95,6 +95,7 @@ followed_is o o' p p' c c' r r' e f g h = rw (e, f, g, h) refl
 -- buffers that hold nothing, and all packets of the stream
 pub record FiguresBy (step : ℕ) (h : Held) (f : Followed) (xs : List Entering) (times : List ℕ) : Type 0 where
   pub rate : (after_entering h xs).rate ≡ step
+  pub arrived : arrivals_of (after_entering h xs).parts ≡ times
   pub transport : IsPeak (λ x. fullness x times (departures step 0 times)) (transport_most (after_entering h xs))
   pub main : IsPeak (main_fullness step (after_entering h xs).parts) (main_most (after_entering h xs))
   pub ended : told_of (entered_by h xs) ≡ excesses_ended step TRANSPORT_BYTES 0 None times
@@ -120,6 +121,7 @@ figures_by step rx size f b packets times some leads few same rises =
     let number = excesses_exact 0 (entered_by h xs) (omega (arith, many, short, few)) in
     record {
       rate = rate;
+      arrived = arrive;
       transport = subst (λ (r : ℕ). IsPeak (λ x. fullness x times (departures step 0 times)) (transport_of r h'.parts).most) (sym rate)
           (subst (λ (l : List ℕ). IsPeak (λ x. fullness x l (departures step 0 l)) (transport_of step h'.parts).most) arrive both.0);
       main = subst (λ (r : ℕ). IsPeak (main_fullness step h'.parts) (main_most (record { rate = r; rx = h'.rx; parts = h'.parts; main = h'.main }))) (sym rate) both.1;
@@ -214,6 +216,7 @@ assemble_by request step packets e some order few b =
     let leads : AllLead (0 + length b.before) rest = later_leads 0 b.before rest (subst (λ (l : List Timed). AllLead 0 l) b.split order.leads) in
     let there : AllLead k.index rest = subst (λ (i : ℕ). AllLead i rest) (let place : 0 + length b.before ≡ k.index = omega (arith, index) in place) leads in
     let fig : FiguresBy step h f xs times = figures_by step e.held.rx e.held.main.size f k rest times some there (omega (arith, few, lengths, index)) times_are rises in
+    let arrived : arrivals_of e.held.parts ≡ times = ap (λ (g : Held). arrivals_of g.parts) held ∙ fig.arrived in
     let ended : List Excess = excesses_ended step TRANSPORT_BYTES 0 None times in
     let under : transport_under_way e.held ≡ excess_after step TRANSPORT_BYTES 0 None times = ap (λ (g : Held). transport_under_way g) held ∙ fig.under_way in
     let zero_told : first.tally.excesses ≡ 0 = ap (λ (x : EntryState). x.tally.excesses) new in
@@ -244,6 +247,8 @@ assemble_by request step packets e some order few b =
       rx = rx_is;
       size = size_is;
       held = held;
+      arrived = arrived;
+      rises = subst (λ (ts : List ℕ). Rises 0 ts) (sym arrived) rises;
       transport = subst (λ (g : Held). IsPeak (λ x. fullness x times (departures step 0 times)) (transport_most g)) (sym held) fig.transport;
       told = ap (λ (l : List Excess). l ++ option_to_list (transport_under_way e.held)) fig.ended ∙ all_of;
       excesses = λ window. one_counted (closed window e).excesses ended (transport_under_way e.held) (unit_excesses e.tally window (unit_before e.held) ∙ number) ∙ ap (λ (l : List Excess). length l) all_of;

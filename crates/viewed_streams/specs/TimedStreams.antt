@@ -18,7 +18,7 @@ use Rattle.stream_times.specs.TimedPackets.{Timed, arriving_so, timed_packets}
 use Rattle.stream_times.specs.Times.{times_among}
 use Rattle.stream_programs.specs.Streams.{FoundStreamView}
 use Rattle.named_streams.specs.NamedStreams.{clock_of as program_clock}
-use Rattle.stream_view.specs.History.{main_fullness}
+use Rattle.stream_view.specs.History.{arrivals_of, main_fullness}
 use Rattle.stream_buffers.specs.declared.arriving.Arriving.{Arriving}
 use Rattle.stream_buffers.specs.declared.entering.TheConstants.{TRANSPORT_BYTES}
 use Rattle.stream_buffers.specs.Entering.{EnteredView, after, entered}
@@ -120,6 +120,9 @@ pub record IsWholeBy (request : RequestView) (step : ℕ) (packets : List Timed)
   pub size : e.held.main.size ≡ (stream_buffers (view_by (start request) before).table stream packet).main
   -- what they hold is what all packets of its PID from then on leave in empty ones
   pub held : e.held ≡ after_entering (empty step e.held.rx e.held.main.size) (stream_entering request e before (first ∷ later))
+  -- the bytes that have entered the transport buffer are all bytes of these packets that have times, and none arrived before an earlier one
+  pub arrived : arrivals_of e.held.parts ≡ pid_times e.pid e.held.rx (length before) (first ∷ later)
+  pub rises : Rises 0 (arrivals_of e.held.parts)
   -- the line `transport` has the greatest number of bytes of these packets in the transport buffer over all moments
   pub transport : IsPeak
       (λ x. fullness x (pid_times e.pid e.held.rx (length before) (first ∷ later)) (departures step 0 (pid_times e.pid e.held.rx (length before) (first ∷ later))))
