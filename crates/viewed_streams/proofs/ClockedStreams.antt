@@ -59,15 +59,15 @@ like_sound s s' (Some packet) bytes l = record {
   table = rw (l.options, l.packets, l.clocks, l.named, l.table) refl;
 }
 
-like_packet : (s s' : ViewState) (bytes : List ℕ) → Like s s' → Like (views.after_packet s bytes) (views.after_packet s' bytes)
+pub like_packet : (s s' : ViewState) (bytes : List ℕ) → Like s s' → Like (views.after_packet s bytes) (views.after_packet s' bytes)
 like_packet s s' bytes l =
     subst (λ (x : ViewState). Like x (views.after_packet s' bytes)) (sym (packet_is s bytes))
     (subst (λ (x : ViewState). Like (next s bytes) x) (sym (packet_is s' bytes)) (like_sound s s' (sound_packet (packet_at bytes)) bytes l))
 
-packet_options : (s : ViewState) (bytes : List ℕ) → (views.after_packet s bytes).seen.options ≡ s.seen.options
+pub packet_options : (s : ViewState) (bytes : List ℕ) → (views.after_packet s bytes).seen.options ≡ s.seen.options
 packet_options s bytes = ap (λ (x : ViewState). x.seen.options) (packet_is s bytes) ∙ sound_options s (sound_packet (packet_at bytes))
 
-all_options : (s : ViewState) (packets : List (List ℕ)) → (views.after_all s packets).seen.options ≡ s.seen.options
+pub all_options : (s : ViewState) (packets : List (List ℕ)) → (views.after_all s packets).seen.options ≡ s.seen.options
 unfolding views.after_all
 all_options s [] = refl
 all_options s (bytes ∷ packets) = all_options (views.after_packet s bytes) packets ∙ packet_options s bytes
@@ -75,7 +75,7 @@ all_options s (bytes ∷ packets) = all_options (views.after_packet s bytes) pac
 -- ---- packets that arrive so, all at once and one by one
 
 -- what is said twice of an arrival is said
-again : (o : ViewOptions) (arrival : Arrival) → (arrival ≡ Unknown → o.arrival ≡ Unknown) → with_arrival (with_arrival o arrival) arrival ≡ with_arrival o arrival
+pub again : (o : ViewOptions) (arrival : Arrival) → (arrival ≡ Unknown → o.arrival ≡ Unknown) → with_arrival (with_arrival o arrival) arrival ≡ with_arrival o arrival
 unfolding origin_after origin_on
 again o Unknown unknown = rw (unknown refl) refl
 again o (AtRate rate) unknown = refl
@@ -96,7 +96,7 @@ each_more s s' arrival (bytes ∷ packets) l set =
     let stays = ap (λ (o : ViewOptions). with_arrival o arrival) (packet_options s bytes) ∙ set ∙ sym (packet_options s bytes) in
     each_more (views.after_packet s bytes) (views.after_packet (views.arriving s' arrival 1) bytes) arrival packets (like_packet s (views.arriving s' arrival 1) bytes ready) stays
 
-each_so : (v v' : ViewState) (arrival : Arrival) (n : ℕ) (held : List (List ℕ)) → (held ≡ [] → ⊥) → Like v v' → (arrival ≡ Unknown → v.seen.options.arrival ≡ Unknown) →
+pub each_so : (v v' : ViewState) (arrival : Arrival) (n : ℕ) (held : List (List ℕ)) → (held ≡ [] → ⊥) → Like v v' → (arrival ≡ Unknown → v.seen.options.arrival ≡ Unknown) →
     Like (views.after_all (views.arriving v arrival n) held) (view_by v' (timed.arriving_so arrival held))
 unfolding views.after_all view_by
 each_so v v' arrival n [] some l unknown = absurd (some refl)
@@ -113,7 +113,7 @@ each_so v v' arrival n (bytes ∷ packets) some l unknown =
     let stays = ap (λ (o : ViewOptions). with_arrival o arrival) (packet_options s bytes) ∙ again v.seen.options arrival unknown ∙ sym (packet_options s bytes) in
     each_more (views.after_packet s bytes) (views.after_packet s' bytes) arrival packets (like_packet s s' bytes ready) stays
 
-view_two : (s : ViewState) (ps qs : List Timed) → view_by s (ps ++ qs) ≡ view_by (view_by s ps) qs
+pub view_two : (s : ViewState) (ps qs : List Timed) → view_by s (ps ++ qs) ≡ view_by (view_by s ps) qs
 unfolding view_by
 view_two s [] qs = refl
 view_two s (p ∷ ps) qs = view_two (views.after_packet (views.arriving s p.arrival 1) p.bytes) ps qs
@@ -125,25 +125,25 @@ unfolding held_after waiting
 held_is q None = refl
 held_is q (Some arrival) = refl
 
-queue_is : (q : QueueState) (bytes : List ℕ) → queue_after q bytes ≡ with_one q bytes
+pub queue_is : (q : QueueState) (bytes : List ℕ) → queue_after q bytes ≡ with_one q bytes
 queue_is q bytes = rw (held_is (stepped q bytes) (released q bytes)) refl
 
-unknown_line : (before line : Option Line) → arrival_by before line ≡ Unknown → line ≡ None
+pub unknown_line : (before line : Option Line) → arrival_by before line ≡ Unknown → line ≡ None
 unfolding arrival_by
 unknown_line before None e = refl
 unknown_line None (Some line) e = absurd (let no : ⊥ = cc in no)
 unknown_line (Some before) (Some line) e = absurd (let no : ⊥ = cc in no)
 
-no_line : (before line : Option Line) → line ≡ None → arrival_by before line ≡ Unknown
+pub no_line : (before line : Option Line) → line ≡ None → arrival_by before line ≡ Unknown
 unfolding arrival_by
 no_line before line e = rw e refl
 
-not_empty : (held : List (List ℕ)) (bytes : List ℕ) → held ++ bytes ∷ [] ≡ [] → ⊥
+pub not_empty : (held : List (List ℕ)) (bytes : List ℕ) → held ++ bytes ∷ [] ≡ [] → ⊥
 not_empty [] bytes e = cc
 not_empty (b ∷ held) bytes e = cc
 
 -- how the view was told that packets arrive, where no line is known
-abbrev Untold : QueueState → ViewState → Type 0
+abbrev pub Untold : QueueState → ViewState → Type 0
 Untold q v = q.before ≡ None → v.seen.options.arrival ≡ Unknown
 
 -- what is so at the end
@@ -203,7 +203,7 @@ end_of (bytes ∷ packets) q v v' first here w untold some l =
 
 -- ---- from the first packet on
 
-first_waits : (pid : ClockPid) (o : Option (ℕ × PcrSample)) → still_wait (no_packet pid) o ≡ true
+pub first_waits : (pid : ClockPid) (o : Option (ℕ × PcrSample)) → still_wait (no_packet pid) o ≡ true
 unfolding line_by line_from step_after
 first_waits pid None = refl
 first_waits pid (Some r) = refl
@@ -238,7 +238,7 @@ line_step before None = refl
 line_step None (Some line) = refl
 line_step (Some before) (Some line) = refl
 
-abbrev Steps216 : Timed → Type 0
+abbrev pub Steps216 : Timed → Type 0
 Steps216 p = step_of p.arrival ≡ 216000000
 
 so_step : (arrival : Arrival) (packets : List (List ℕ)) → step_of arrival ≡ 216000000 → All Steps216 (timed.arriving_so arrival packets)
@@ -252,7 +252,7 @@ arrived_step q bytes false h =
     let line : Option Line = (clock_by q (reference_in q bytes)).line in
     rw h (so_step (arrival_by q.before line) q.held (line_step q.before line))
 
-all_step : (q : QueueState) (packets : List (List ℕ)) → All Steps216 (timed_from q packets)
+pub all_step : (q : QueueState) (packets : List (List ℕ)) → All Steps216 (timed_from q packets)
 unfolding timed_from
 all_step q [] = so_step (last_arrival q) q.held (line_step q.before q.clock.line)
 all_step q (bytes ∷ packets) =
@@ -261,7 +261,7 @@ all_step q (bytes ∷ packets) =
 
 -- ---- each stream of the report
 
-once : (pid : ClockPid) (packets : List (List ℕ)) → length (timed_packets pid packets) ≡ length packets
+pub once : (pid : ClockPid) (packets : List (List ℕ)) → length (timed_packets pid packets) ≡ length packets
 once pid packets = sym (length-map (timed_packets pid packets) (λ p. p.bytes)) ∙ ap (λ (l : List (List ℕ)). length l) (each_once pid packets)
 
 pub clocked_stream_law : ClockedStreamLaw

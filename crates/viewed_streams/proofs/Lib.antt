@@ -41,3 +41,7 @@ pub mod TimedOrder
 pub mod TimedWhole
 pub mod ClockedStreams
 pub mod RateStreams
+pub mod RateWindows
+pub mod ClockedTables
+pub mod ClockedWindows
+pub mod FirstWindows

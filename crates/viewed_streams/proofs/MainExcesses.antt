@@ -1,5 +1,5 @@
 -- A main buffer that never holds more than its size has no excess.
-use Rattle.std.proofs.Common.{◌≡◌, ◌∙◌, ℕ, ◌+◌, ◌-◌, ◌*◌, ◌≤◌, nat_lt, Bool, true, false, List, [], ◌∷◌, ◌++◌, Option, Some, None, if◌then◌else◌, refl, ap, subst, inl, inr, arith}
+use Rattle.std.proofs.Common.{◌≡◌, ◌∙◌, sym, ℕ, ◌+◌, ◌-◌, ◌*◌, ◌≤◌, nat_lt, Bool, true, false, List, [], ◌∷◌, ◌++◌, Option, Some, None, if◌then◌else◌, refl, ap, subst, inl, inr, arith}
 use Rattle.std.specs.Prelude.{flat_map}
 use Rattle.std.proofs.lemmas.Bool.{le-ltb}
 use Rattle.std.proofs.lemmas.Bool.Decides.{eqb_tells}
@@ -15,10 +15,13 @@ use Rattle.stream_view.specs.declared.main_watch.MainWatch.{MainWatch}
 use Rattle.stream_view.specs.declared.unit_seen.DueTime.{DueTime}
 use Rattle.stream_buffers.specs.declared.arriving.Arriving.{Arriving}
 use Rattle.stream_buffers.specs.Held.{Held, begun, carried, empty, main_ended, main_most, passed, row_of}
-use Rattle.stream_buffers.specs.Entering.{after, after_begin, after_header, after_lead, after_payload, after_unit, ended_with, entered, lead_in, nothing, payload_main, size_of, takes_in, with_packet}
-use Rattle.viewed_streams.specs.StreamPackets.{after_each, entered_each}
-use Rattle.viewed_streams.specs.MainExcesses.{NoMainExcessLaw}
+use Rattle.stream_buffers.specs.Entering.{EnteredView, after, after_begin, after_header, after_lead, after_payload, after_unit, ended_with, entered, lead_in, nothing, payload_main, size_of, takes_in, with_packet}
+use Rattle.stream_report.specs.Entries.{EntryState}
+use Rattle.viewed_streams.specs.MainExcesses.{NoMainExcessLaw, TimedNoExcessLaw}
+use Rattle.viewed_streams.specs.TimedStreams.{Entering, after_entering, entered_by, entering, stream_entering}
+use Rattle.viewed_streams.specs.WholeStreams.{stream_packets}
 use Rattle.viewed_streams.proofs.EnteredBytes.{after_alike}
+use Rattle.viewed_streams.proofs.RateStreams.{after_is, entered_is}
 
 -- more bytes, and more moments
 greatest_more : (f g : ℕ → ℕ) (ds es : List ℕ) → ((x : ℕ) → f x ≤ g x) → greatest_at f ds ≤ greatest_at g (ds ++ es)
@@ -131,22 +134,35 @@ packet_quiet h arrival p = by (takes_in h arrival p)
     by true = parts_quiet h arrival p (size_of p) (lead_in arrival p)
     by false = record { most = omega arith; quiet = λ none few. (refl, none) }
 
-most_each : (h : Held) (arrival : Arrival) (ps : List Arriving) → main_most h ≤ main_most (after_each h arrival ps)
-unfolding after_each
-most_each h arrival [] = omega arith
-most_each h arrival (p ∷ ps) = omega (arith, (packet_quiet h arrival p).most, most_each (after h arrival p) arrival ps)
+most_each : (h : Held) (xs : List Entering) → main_most h ≤ main_most (after_entering h xs)
+unfolding after_entering
+most_each h [] = omega arith
+most_each h (x ∷ xs) = omega (arith, (packet_quiet h x.arrival x.packet).most, most_each (after h x.arrival x.packet) xs)
 
-each_quiet : (h : Held) (arrival : Arrival) (ps : List Arriving) → h.main.under_way ≡ None → main_most (after_each h arrival ps) ≤ h.main.size →
-    (flat_map (λ v. v.main) (entered_each h arrival ps) ≡ []) × ((after_each h arrival ps).main.under_way ≡ None)
-unfolding after_each entered_each
-each_quiet h arrival [] none few = (refl, none)
-each_quiet h arrival (p ∷ ps) none few =
-    let h' : Held = after h arrival p in
-    let one = (packet_quiet h arrival p).quiet none (omega (arith, few, most_each h' arrival ps)) in
-    let rest = each_quiet h' arrival ps one.1 (omega (arith, few, (after_alike h arrival p).size)) in
+each_quiet : (h : Held) (xs : List Entering) → h.main.under_way ≡ None → main_most (after_entering h xs) ≤ h.main.size →
+    (flat_map (λ v. v.main) (entered_by h xs) ≡ []) × ((after_entering h xs).main.under_way ≡ None)
+unfolding after_entering entered_by
+each_quiet h [] none few = (refl, none)
+each_quiet h (x ∷ xs) none few =
+    let h' : Held = after h x.arrival x.packet in
+    let one = (packet_quiet h x.arrival x.packet).quiet none (omega (arith, few, most_each h' xs)) in
+    let rest = each_quiet h' xs one.1 (omega (arith, few, (after_alike h x.arrival x.packet).size)) in
     (rw (one.0, rest.0) refl, rest.1)
+
+-- all packets of a stream
+stream_quiet : (step : ℕ) (e : EntryState) (xs : List Entering) → e.held ≡ after_entering (empty step e.held.rx e.held.main.size) xs → main_most e.held ≤ e.held.main.size →
+    (flat_map (λ v. v.main) (entered_by (empty step e.held.rx e.held.main.size) xs) ≡ []) × (e.held.main.under_way ≡ None)
+stream_quiet step e xs held few =
+    let quiet = each_quiet (empty step e.held.rx e.held.main.size) xs refl (subst (λ (n : ℕ). n ≤ e.held.main.size) (ap (λ (h : Held). main_most h) held) few) in
+    (quiet.0, ap (λ (h : Held). h.main.under_way) held ∙ quiet.1)
+
+pub timed_no_excess_law : TimedNoExcessLaw
+timed_no_excess_law request step packets e w few = stream_quiet step e (stream_entering request e w.before (w.first ∷ w.later)) w.held few
 
 pub no_main_excess_law : NoMainExcessLaw
 no_main_excess_law request rate packets e w few =
-    let quiet = each_quiet (empty rate e.held.rx e.held.main.size) (AtRate rate) _ refl (subst (λ (n : ℕ). n ≤ e.held.main.size) (ap (λ (h : Held). main_most h) w.held) few) in
-    (quiet.0, ap (λ (h : Held). h.main.under_way) w.held ∙ quiet.1)
+    let a : Arrival = AtRate rate in
+    let h : Held = empty rate e.held.rx e.held.main.size in
+    let ps : List Arriving = stream_packets request e w.before (w.first ∷ w.later) in
+    let quiet = stream_quiet rate e (entering a ps) (w.held ∙ sym (after_is h a ps)) few in
+    (ap (λ (vs : List EnteredView). flat_map (λ v. v.main) vs) (sym (entered_is h a ps)) ∙ quiet.0, quiet.1)

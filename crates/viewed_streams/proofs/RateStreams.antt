@@ -16,7 +16,7 @@ use Rattle.unit_timing.specs.Schedule.{Packet}
 use Rattle.unit_timing.specs.Transport.{slots_of}
 use Rattle.decoder_buffers.specs.PidPackets.{listed, packets_from, size_in}
 use Rattle.stream_arrival.specs.declared.arrival.Arrival.{Arrival}
-use Rattle.stream_arrival.specs.declared.arrival.Arrival.TheVariants.{AtRate}
+use Rattle.stream_arrival.specs.declared.arrival.Arrival.TheVariants.{Unknown, AtRate, OnLines}
 use Rattle.stream_arrival.specs.Arrivals.{has_times}
 use Rattle.stream_times.specs.TimedPackets.{Timed, arriving_so}
 use Rattle.stream_times.specs.Times.{packet_times, times_among}
@@ -78,20 +78,27 @@ two_parts a (b ∷ packets) (x ∷ xs) y ys e =
 
 -- ---- a stream is followed as before
 
-same_options : (o : ViewOptions) (rate : ℕ) → o.arrival ≡ AtRate rate → with_arrival o (AtRate rate) ≡ o
+pub same_options : (o : ViewOptions) (a : Arrival) → (a ≡ Unknown → ⊥) → o.arrival ≡ a → with_arrival o a ≡ o
 unfolding origin_after
-same_options o rate e =
+same_options o Unknown known e = absurd (known refl)
+same_options o (AtRate rate) known e =
     let origin : origin_after o.arrival o.origin (AtRate rate) ≡ o.origin = rw e refl in
     ap (λ (n : ℕ). record o { arrival = AtRate rate; origin = n }) origin ∙ subst (λ (a : Arrival). record o { arrival = a; origin = o.origin } ≡ o) e refl
+same_options o (OnLines lines) known e =
+    let origin : origin_after o.arrival o.origin (OnLines lines) ≡ o.origin = rw e refl in
+    ap (λ (n : ℕ). record o { arrival = OnLines lines; origin = n }) origin ∙ subst (λ (a : Arrival). record o { arrival = a; origin = o.origin } ≡ o) e refl
+
+rate_options : (o : ViewOptions) (rate : ℕ) → o.arrival ≡ AtRate rate → with_arrival o (AtRate rate) ≡ o
+rate_options o rate e = same_options o (AtRate rate) (λ h. let no : ⊥ = cc in no) e
 
 -- what is followed so
-abbrev Same : Arrival → Followed → Type 0
+abbrev pub Same : Arrival → Followed → Type 0
 Same a f = with_arrival f.options a ≡ f.options
 
 so_is : (a : Arrival) (f : Followed) → Same a f → followed_so f a ≡ f
 so_is a f same = ap (λ (o : ViewOptions). record f { options = o }) same
 
-followed_is : (a : Arrival) (f : Followed) (packets : List (List ℕ)) → Same a f → followed_by f (arriving_so a packets) ≡ f
+pub followed_is : (a : Arrival) (f : Followed) (packets : List (List ℕ)) → Same a f → followed_by f (arriving_so a packets) ≡ f
 unfolding followed_by
 followed_is a f [] same = refl
 followed_is a f (bytes ∷ packets) same = ap (λ (g : Followed). followed_by g (arriving_so a packets)) (so_is a f same) ∙ followed_is a f packets same
@@ -103,7 +110,7 @@ known_is a f b (bytes ∷ packets) same =
     ap (λ (g : Followed). known_by g (known_after g b (sound_packet (packet_at bytes))) (arriving_so a packets)) (so_is a f same)
     ∙ known_is a f (known_after f b (sound_packet (packet_at bytes))) packets same
 
-entering_is : (a : Arrival) (f : Followed) (b : Before) (packets : List (List ℕ)) → Same a f → entering_among f b (arriving_so a packets) ≡ entering a (seen_among f b packets)
+pub entering_is : (a : Arrival) (f : Followed) (b : Before) (packets : List (List ℕ)) → Same a f → entering_among f b (arriving_so a packets) ≡ entering a (seen_among f b packets)
 unfolding entering_among seen_among
 entering_is a f b [] same = refl
 entering_is a f b (bytes ∷ packets) same =
@@ -116,12 +123,12 @@ entering_is a f b (bytes ∷ packets) same =
     entering_two a [] qs = refl
     entering_two a (p ∷ ps) qs = ap (λ (l : List Entering). record { arrival = a; packet = p } ∷ l) (entering_two a ps qs)
 
-after_is : (h : Held) (a : Arrival) (ps : List Arriving) → after_entering h (entering a ps) ≡ after_each h a ps
+pub after_is : (h : Held) (a : Arrival) (ps : List Arriving) → after_entering h (entering a ps) ≡ after_each h a ps
 unfolding after_entering after_each
 after_is h a [] = refl
 after_is h a (p ∷ ps) = after_is (after h a p) a ps
 
-entered_is : (h : Held) (a : Arrival) (ps : List Arriving) → entered_by h (entering a ps) ≡ entered_each h a ps
+pub entered_is : (h : Held) (a : Arrival) (ps : List Arriving) → entered_by h (entering a ps) ≡ entered_each h a ps
 unfolding entered_by entered_each
 entered_is h a [] = refl
 entered_is h a (p ∷ ps) = ap (λ (l : List EnteredView). entered h a p ∷ l) (entered_is (after h a p) a ps)
@@ -172,7 +179,7 @@ as_whole request rate packets e w t is few =
     let f : Followed = whole.followed request e in
     let pre : List (List ℕ) = t.before in
     let rest : List (List ℕ) = t.first ∷ t.later in
-    let same : Same a f = same_options request.options rate is in
+    let same : Same a f = rate_options request.options rate is in
     let itself : Like (start request) (start request) = record { options = refl; packets = refl; clocks = refl; named = refl; table = refl } in
     let like : Like (after_all (start request) pre) (view_by (start request) (arriving_so a pre)) = each_more (start request) (start request) a pre itself same in
     let named = ap (λ (l : List Timed). (view_by (start request) l).seen.named) t.xs_are ∙ like.named in
@@ -225,7 +232,7 @@ pub whole_stream_law : WholeStreamLaw
 whole_stream_law request rate packets place e is some few there drained =
     let a : Arrival = AtRate rate in
     let timed : List Timed = arriving_so a packets in
-    let same = same_options request.options rate is in
+    let same = rate_options request.options rate is in
     let itself : Like (start request) (start request) = record { options = refl; packets = refl; clocks = refl; named = refl; table = refl } in
     let like : Like (after_all (start request) packets) (view_by (start request) timed) = each_more (start request) (start request) a packets itself same in
     let in_view : slice_get (view_by (start request) timed).table.entries place ≡ Some e = ap (λ (tb : TableState). slice_get tb.entries place) like.table ∙ there in

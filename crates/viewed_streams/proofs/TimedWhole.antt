@@ -86,7 +86,7 @@ unfolding followed_by
 same_by f [] = record { pid = refl; clock_pid = refl; rx = refl }
 same_by f (p ∷ packets) = let rest = same_by (followed_so f p.arrival) packets in record { pid = rest.pid; clock_pid = rest.clock_pid; rx = rest.rx }
 
-followed_is : (o o' : ViewOptions) (p p' c c' r r' : ℕ) → o ≡ o' → p ≡ p' → c ≡ c' → r ≡ r' →
+pub followed_is : (o o' : ViewOptions) (p p' c c' r r' : ℕ) → o ≡ o' → p ≡ p' → c ≡ c' → r ≡ r' →
     ◌≡◌ {A = Followed} (record { options = o; pid = p; clock_pid = c; rx = r }) (record { options = o'; pid = p'; clock_pid = c'; rx = r' })
 followed_is o o' p p' c c' r r' e f g h = rw (e, f, g, h) refl
 

@@ -22,7 +22,8 @@ use Rattle.stream_view.proofs.Lows.{lows_law}
 use Rattle.stream_report.specs.Entries.{tally_after}
 use Rattle.stream_report.specs.Tallies.{in_window, with_excesses, with_packet as with_tallied, with_unit_if}
 use Rattle.stream_report.specs.declared.tally.Tally.{Tally}
-use Rattle.viewed_streams.specs.StreamPackets.{after_each, entered_each, most_packets}
+use Rattle.viewed_streams.specs.StreamPackets.{most_packets}
+use Rattle.viewed_streams.specs.TimedStreams.{Entering, after_entering, entered_by}
 use Rattle.viewed_streams.specs.WindowLows.{HasPayload, WholeWindowLaw, WindowLeastLaw, WindowLowLaw, WindowWithoutLaw, counted_each, least_after}
 
 -- ---- one of several
@@ -55,11 +56,11 @@ least_of-append step (Begins due ∷ later) recent before = least_of-append step
 -- ---- what comes with a packet
 
 -- parts come, and this is the least that their bytes find
-record Comes (h h' : Held) (least : Option ℕ) : Type 0 where
-  recent : List Part
-  parts : h'.parts ≡ recent ++ h.parts
-  rate : h'.rate ≡ h.rate
-  found : least_of h.rate recent h.parts ≡ least
+pub record Comes (h h' : Held) (least : Option ℕ) : Type 0 where
+  pub recent : List Part
+  pub parts : h'.parts ≡ recent ++ h.parts
+  pub rate : h'.rate ≡ h.rate
+  pub found : least_of h.rate recent h.parts ≡ least
 
 nothing_comes : (h : Held) → Comes h h None
 unfolding least_of
@@ -120,7 +121,7 @@ parts_come h arrival p size lead =
     let last = payload_comes c p.enters size (times_at arrival c.rx (188 * p.index + (188 - size)) size) in
     both_come h c (with_packet h arrival p size lead) None _ (both_come h b c None None (both_come h a b None None first second) third) last
 
-packet_comes : (h : Held) (arrival : Arrival) (p : Arriving) → Comes h (after h arrival p) (entered h arrival p).main_least
+pub packet_comes : (h : Held) (arrival : Arrival) (p : Arriving) → Comes h (after h arrival p) (entered h arrival p).main_least
 unfolding after entered
 packet_comes h arrival p = by (takes_in h arrival p)
   where
@@ -130,17 +131,17 @@ packet_comes h arrival p = by (takes_in h arrival p)
 
 -- ---- packets one after another
 
-each_comes : (h h' : Held) (least : Option ℕ) (arrival : Arrival) (ps : List Arriving) → Comes h h' least →
-    Comes h (after_each h' arrival ps) (least_after least (entered_each h' arrival ps))
-unfolding after_each entered_each least_after
-each_comes h h' least arrival [] come = come
-each_comes h h' least arrival (p ∷ ps) come =
-    each_comes h (after h' arrival p) (least_of_both least (entered h' arrival p).main_least) arrival ps
-    (both_come h h' (after h' arrival p) least (entered h' arrival p).main_least come (packet_comes h' arrival p))
+pub each_comes : (h h' : Held) (least : Option ℕ) (xs : List Entering) → Comes h h' least → Comes h (after_entering h' xs) (least_after least (entered_by h' xs))
+unfolding after_entering entered_by least_after
+each_comes h h' least [] come = come
+each_comes h h' least (x ∷ xs) come =
+    let found : Option ℕ = (entered h' x.arrival x.packet).main_least in
+    each_comes h (after h' x.arrival x.packet) (least_of_both least found) xs
+    (both_come h h' (after h' x.arrival x.packet) least found come (packet_comes h' x.arrival x.packet))
 
 pub window_low_law : WindowLowLaw
-window_low_law h arrival ps n pos is =
-    let come = each_comes h h None arrival ps (nothing_comes h) in
+window_low_law h xs n pos is =
+    let come = each_comes h h None xs (nothing_comes h) in
     record { recent = come.recent; come = come.parts; low = lows_law h.rate come.recent h.parts n pos (come.found ∙ is) }
 
 -- ---- what is counted
@@ -163,12 +164,12 @@ unfolding with_unit_if
 unit_least t window None is = (refl, is)
 unit_least t window (Some u) is = (ap (λ (k : Tally). k.window_least) (same_window t window is), ap (λ (k : Tally). k.window) (same_window t window is) ∙ is)
 
-packet_least : (t : Tally) (window : ℕ) (unread : Bool) (v : EnteredView) →
+pub packet_least : (t : Tally) (window : ℕ) (unread : Bool) (v : EnteredView) →
     ((tally_after t window unread v).window_least ≡ least_of_both (in_window t window).window_least v.main_least) × ((tally_after t window unread v).window ≡ window)
 packet_least t window unread v =
     unit_least (with_excesses (with_tallied t window v) (length v.transport) (length v.main) unread) window v.unit (in_that_window t window)
 
-each_least : (t : Tally) (window : ℕ) (vs : List (Bool × EnteredView)) → t.window ≡ window →
+pub each_least : (t : Tally) (window : ℕ) (vs : List (Bool × EnteredView)) → t.window ≡ window →
     (counted_each t window vs).window_least ≡ least_after t.window_least (map (λ w. w.1) vs)
 unfolding counted_each least_after
 each_least t window [] is = refl
@@ -205,7 +206,7 @@ payload_some h size t ts some = elim (eqb_tells size 0) [
   | inr other ↦ rw other.0 (carried_some h t ts)
 ]
 
-last_of_three : (a b c : Bool) → (a && b && c) ≡ true → c ≡ true
+pub last_of_three : (a b c : Bool) → (a && b && c) ≡ true → c ≡ true
 last_of_three true true c e = e
 last_of_three true false c e = absurd (let no : ⊥ = cc in no)
 last_of_three false b c e = absurd (let no : ⊥ = cc in no)
@@ -247,29 +248,29 @@ unfolding least_after
 after_some least [] e = e
 after_some least (v ∷ vs) e = after_some (least_of_both least v.main_least) vs (both_some least v.main_least e)
 
-least_some : (least : Option ℕ) (h : Held) (arrival : Arrival) (ps : List Arriving) → HasPayload h arrival ps → is_some (least_after least (entered_each h arrival ps)) ≡ true
-unfolding least_after entered_each HasPayload
-least_some least h arrival [] has = absurd has
-least_some least h arrival (p ∷ ps) (inl here) =
-    after_some (least_of_both least (entered h arrival p).main_least) (entered_each (after h arrival p) arrival ps)
-    (second_some least (entered h arrival p).main_least (entered_some h arrival p here.0 here.1 here.2))
-least_some least h arrival (p ∷ ps) (inr later) = least_some (least_of_both least (entered h arrival p).main_least) (after h arrival p) arrival ps later
+least_some : (least : Option ℕ) (h : Held) (xs : List Entering) → HasPayload h xs → is_some (least_after least (entered_by h xs)) ≡ true
+unfolding least_after entered_by HasPayload
+least_some least h [] has = absurd has
+least_some least h (x ∷ xs) (inl here) =
+    after_some (least_of_both least (entered h x.arrival x.packet).main_least) (entered_by (after h x.arrival x.packet) xs)
+    (second_some least (entered h x.arrival x.packet).main_least (entered_some h x.arrival x.packet here.0 here.1 here.2))
+least_some least h (x ∷ xs) (inr later) = least_some (least_of_both least (entered h x.arrival x.packet).main_least) (after h x.arrival x.packet) xs later
 
 is_there : (o : Option ℕ) → is_some o ≡ true → (n : ℕ) × (o ≡ Some n)
 is_there None e = absurd (let no : ⊥ = cc in no)
 is_there (Some n) e = (n, refl)
 
-none_has : (h : Held) (arrival : Arrival) (ps : List Arriving) → [] ≡ entered_each h arrival ps → HasPayload h arrival ps → ⊥
-unfolding entered_each HasPayload
-none_has h arrival [] same has = has
-none_has h arrival (p ∷ ps) same has = let no : ⊥ = cc in no
+none_has : (h : Held) (xs : List Entering) → [] ≡ entered_by h xs → HasPayload h xs → ⊥
+unfolding entered_by HasPayload
+none_has h [] same has = has
+none_has h (x ∷ xs) same has = let no : ⊥ = cc in no
 
 pub whole_window_law : WholeWindowLaw
-whole_window_law t window h arrival ps [] pos none same has = absurd (none_has h arrival ps same has)
-whole_window_law t window h arrival ps (v ∷ vs) pos none same has =
+whole_window_law t window h xs [] pos none same has = absurd (none_has h xs same has)
+whole_window_law t window h xs (v ∷ vs) pos none same has =
     let least = window_least_law t window v vs none ∙ ap (λ (l : List EnteredView). least_after None l) same in
-    let some = is_there (least_after None (entered_each h arrival ps)) (least_some None h arrival ps has) in
-    record { n = some.0; said = ap (λ (o : Option ℕ). unwrap_or o 0) (least ∙ some.1); low = window_low_law h arrival ps some.0 pos some.1 }
+    let some = is_there (least_after None (entered_by h xs)) (least_some None h xs has) in
+    record { n = some.0; said = ap (λ (o : Option ℕ). unwrap_or o 0) (least ∙ some.1); low = window_low_law h xs some.0 pos some.1 }
 
 pub window_without_law : WindowWithoutLaw
 window_without_law t window v vs none without = ap (λ (o : Option ℕ). unwrap_or o 0) (window_least_law t window v vs none ∙ without)

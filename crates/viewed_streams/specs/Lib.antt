@@ -9,4 +9,5 @@ pub mod MainExcesses
 pub mod ViewedRuns
 pub mod WindowLows
 pub mod HeldWindows
+pub mod ClockedWindows
 pub mod AsMeasured

@@ -4,10 +4,20 @@ use Rattle.stream_arrival.specs.declared.arrival.Arrival.TheVariants.{AtRate}
 use Rattle.stream_buffers.specs.Held.{empty, main_most}
 use Rattle.stream_report.specs.Choices.{RequestView}
 use Rattle.stream_report.specs.Entries.{EntryState}
+use Rattle.stream_times.specs.TimedPackets.{Timed}
 use Rattle.viewed_streams.specs.StreamPackets.{entered_each}
+use Rattle.viewed_streams.specs.TimedStreams.{IsWholeBy, entered_by, stream_entering}
 use Rattle.viewed_streams.specs.WholeStreams.{IsWhole, stream_packets}
 
--- with none of the stream's packets has one ended, and none is under way at the end
+-- whichever way packets arrive: with none of the stream's packets has one ended, and none is under way at the end
+abbrev pub TimedNoExcessLaw : Type 0
+TimedNoExcessLaw = (request : RequestView) (step : ℕ) (packets : List Timed) (e : EntryState) (whole : IsWholeBy request step packets e) →
+    main_most e.held ≤ e.held.main.size →
+    (flat_map (λ v. v.main)
+    (entered_by (empty step e.held.rx e.held.main.size) (stream_entering request e whole.before (whole.first ∷ whole.later))) ≡ [])
+    × (e.held.main.under_way ≡ None)
+
+-- at a constant rate
 abbrev pub NoMainExcessLaw : Type 0
 NoMainExcessLaw = (request : RequestView) (rate : ℕ) (packets : List (List ℕ)) (e : EntryState) (whole : IsWhole request rate packets e) → main_most e.held ≤ e.held.main.size →
     (flat_map (λ v. v.main)

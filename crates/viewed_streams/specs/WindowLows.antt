@@ -1,16 +1,14 @@
 -- The least that a line `held` says of a main buffer: over the packets of a window, the least fullness of the buffer while they come. So it is
 -- where one of them carries payload; where none does, it says 0, whatever the buffer holds.
 use Rattle.std.specs.Prelude.{◌≡◌, ◌⊎◌, ℕ, ◌<◌, unwrap_or, Bool, true, map, List, [], ◌∷◌, ◌++◌, Option, Some, None}
-use Rattle.stream_arrival.specs.declared.arrival.Arrival.{Arrival}
 use Rattle.stream_buffers.specs.Held.{Held}
 use Rattle.stream_buffers.specs.Entering.{EnteredView, after, size_of, takes_in}
-use Rattle.stream_buffers.specs.declared.arriving.Arriving.{Arriving}
 use Rattle.stream_view.specs.History.{Part}
 use Rattle.stream_view.specs.Lows.{IsLow, least_of_both}
 use Rattle.stream_report.specs.Entries.{tally_after}
 use Rattle.stream_report.specs.Tallies.{in_window}
 use Rattle.stream_report.specs.declared.tally.Tally.{Tally}
-use Rattle.viewed_streams.specs.StreamPackets.{after_each, entered_each}
+use Rattle.viewed_streams.specs.TimedStreams.{Entering, after_entering, entered_by}
 
 -- the least that a byte of these packets finds in the main buffer, and that so far
 unfoldable pub least_after : Option ℕ → List EnteredView → Option ℕ
@@ -28,30 +26,31 @@ WindowLeastLaw = (t : Tally) (window : ℕ) (v : Bool × EnteredView) (vs : List
     (counted_each t window (v ∷ vs)).window_least ≡ least_after None (map (λ w. w.1) (v ∷ vs))
 
 -- parts come with packets, and n is the least fullness of the main buffer while they do
-pub record IsLowWith (h : Held) (arrival : Arrival) (ps : List Arriving) (n : ℕ) : Type 0 where
+pub record IsLowWith (h : Held) (xs : List Entering) (n : ℕ) : Type 0 where
   pub recent : List Part
-  pub come : (after_each h arrival ps).parts ≡ recent ++ h.parts
+  pub come : (after_entering h xs).parts ≡ recent ++ h.parts
   pub low : IsLow h.rate recent h.parts n
 
+-- whichever way each of them arrives
 abbrev pub WindowLowLaw : Type 0
-WindowLowLaw = (h : Held) (arrival : Arrival) (ps : List Arriving) (n : ℕ) → 0 < h.rate → least_after None (entered_each h arrival ps) ≡ Some n →
-    IsLowWith h arrival ps n
+WindowLowLaw = (h : Held) (xs : List Entering) (n : ℕ) → 0 < h.rate → least_after None (entered_by h xs) ≡ Some n → IsLowWith h xs n
 
 -- one of the packets enters, and its payload has a byte and goes on to the main buffer
-unfoldable pub HasPayload : Held → Arrival → List Arriving → Type 0
-HasPayload h arrival [] = ⊥
-HasPayload h arrival (p ∷ ps) = ((takes_in h arrival p ≡ true) × (p.enters ≡ true) × (0 < size_of p)) ⊎ HasPayload (after h arrival p) arrival ps
+unfoldable pub HasPayload : Held → List Entering → Type 0
+HasPayload h [] = ⊥
+HasPayload h (x ∷ xs) =
+    ((takes_in h x.arrival x.packet ≡ true) × (x.packet.enters ≡ true) × (0 < size_of x.packet)) ⊎ HasPayload (after h x.arrival x.packet) xs
 
 -- what a line says of the packets of a window, with `main_least` n: the least fullness of the buffer while they come
-pub record SaysLow (t : Tally) (h : Held) (arrival : Arrival) (ps : List Arriving) : Type 0 where
+pub record SaysLow (t : Tally) (h : Held) (xs : List Entering) : Type 0 where
   pub n : ℕ
   pub said : unwrap_or t.window_least 0 ≡ n
-  pub low : IsLowWith h arrival ps n
+  pub low : IsLowWith h xs n
 
 -- so of all packets of a window, where nothing of it was counted before them and one carries payload
 abbrev pub WholeWindowLaw : Type 0
-WholeWindowLaw = (t : Tally) (window : ℕ) (h : Held) (arrival : Arrival) (ps : List Arriving) (vs : List (Bool × EnteredView)) → 0 < h.rate → (in_window t window).window_least ≡ None →
-    map (λ w. w.1) vs ≡ entered_each h arrival ps → HasPayload h arrival ps → SaysLow (counted_each t window vs) h arrival ps
+WholeWindowLaw = (t : Tally) (window : ℕ) (h : Held) (xs : List Entering) (vs : List (Bool × EnteredView)) → 0 < h.rate →
+    (in_window t window).window_least ≡ None → map (λ w. w.1) vs ≡ entered_by h xs → HasPayload h xs → SaysLow (counted_each t window vs) h xs
 
 -- and where no byte of them enters the main buffer it says 0
 abbrev pub WindowWithoutLaw : Type 0

@@ -1,7 +1,8 @@
 //! Laws of the report on a stream. Each function does nothing: its contract is the law, over the definitions of `specs/`.
 ghost use Rattle.viewed_streams.specs.AsMeasured.{AsMeasuredLaw, JobAsMeasuredLaw, JobLateAsMeasuredLaw, RunAsMeasuredLaw, RunLateAsMeasuredLaw};
-ghost use Rattle.viewed_streams.specs.HeldWindows.{HeldWindowLaw};
-ghost use Rattle.viewed_streams.specs.MainExcesses.{NoMainExcessLaw};
+ghost use Rattle.viewed_streams.specs.ClockedWindows.{ClockedTablesLaw, ClockedWindowLaw};
+ghost use Rattle.viewed_streams.specs.HeldWindows.{FirstWindowLaw, HeldWindowLaw, TimedWindowLaw};
+ghost use Rattle.viewed_streams.specs.MainExcesses.{NoMainExcessLaw, TimedNoExcessLaw};
 ghost use Rattle.viewed_streams.specs.MeasuredStreams.{MeasuredStreamLaw};
 ghost use Rattle.viewed_streams.specs.MuxedStreams.{JobNoExcessLaw, MuxedStreamLaw};
 ghost use Rattle.viewed_streams.specs.TimedStreams.{ClockedStreamLaw, RateOrderLaw, TimedStreamLaw};
@@ -25,20 +26,31 @@ pub fn timed_streams()
     ensures clocked { ClockedStreamLaw }
 {}
 
-/// No excess of a main buffer is told where its line says no more than its size.
+/// No excess of a main buffer is told where its line says no more than its size, whichever way the stream's packets arrive; so it is at a
+/// constant rate.
 pub fn main_excesses()
-    ensures { NoMainExcessLaw }
+    ensures timed { TimedNoExcessLaw }
+    ensures rate { NoMainExcessLaw }
 {}
 
 /// The least that a line `held` says of a main buffer is that which the bytes of its window's packets find in it, and this is the least
-/// fullness of the buffer while they come. So it is of a whole window in which a packet carries payload, and so a report counts it of a
-/// stream whose buffers began before the window; of one in which none does, the line says 0.
+/// fullness of the buffer while they come, whichever way they arrive. So it is of a whole window in which a packet carries payload, and so a
+/// report counts it of a stream whose buffers began before the window; of one in which none does, or in which they begin, the line says 0.
 pub fn window_lows()
     ensures counted { WindowLeastLaw }
     ensures low { WindowLowLaw }
     ensures whole { WholeWindowLaw }
     ensures without { WindowWithoutLaw }
+    ensures timed { TimedWindowLaw }
+    ensures first { FirstWindowLaw }
     ensures report { HeldWindowLaw }
+{}
+
+/// So it is of each window of a report on packets that arrive by clock references: its streams are, once each packet has been viewed, those of
+/// its packets one by one, each as it arrives.
+pub fn clocked_windows()
+    ensures tables { ClockedTablesLaw }
+    ensures window { ClockedWindowLaw }
 {}
 
 /// The greatest number of bytes in a transport buffer is no more than what `tstd::measure` finds of the same bytes, and the same

@@ -1,4 +1,6 @@
-use Rattle.viewed_streams.proofs.HeldWindows.{held_window_law}
+use Rattle.viewed_streams.proofs.FirstWindows.{first_window_law}
+use Rattle.viewed_streams.proofs.HeldWindows.{timed_window_law}
+use Rattle.viewed_streams.proofs.RateWindows.{held_window_law}
 use Rattle.viewed_streams.proofs.WindowLows.{whole_window_law, window_least_law, window_low_law, window_without_law}
 use Rattle.viewed_streams.proofs.laws.window_lows.Goals as goal
 
@@ -13,6 +15,12 @@ returns-clause-whole c = whole_window_law
 
 pub returns-clause-without : goal.returns-clause-without
 returns-clause-without c = window_without_law
+
+pub returns-clause-timed : goal.returns-clause-timed
+returns-clause-timed c = timed_window_law
+
+pub returns-clause-first : goal.returns-clause-first
+returns-clause-first c = first_window_law
 
 pub returns-clause-report : goal.returns-clause-report
 returns-clause-report c = held_window_law

@@ -1,0 +1,203 @@
+-- In the window in which a stream's buffers begin the least that its line `held` says is 0.
+use Rattle.std.proofs.Common.{◌≡◌, ◌∙◌, sym, ℕ, ◌+◌, ◌-◌, ◌*◌, ◌^◌, ◌<◌, ◌⊎◌, min, Bool, true, false, List, [], ◌∷◌, ◌++◌, length, Option, Some, None, if◌then◌else◌, refl, ap, subst, inl, inr, nat_eq, arith}
+use Rattle.std.specs.Prelude.{◌==◌, slice_get, unwrap_or}
+use Rattle.std.proofs.lemmas.List.{append-nil}
+use Rattle.ts_packet.specs.Views.{PacketView}
+use Rattle.ts_packet.specs.Reading.{packet_at}
+use Rattle.decoder_buffers.specs.BufferedUnits.{one_buffered}
+use Rattle.main_buffer_rows.specs.Least.{least_found, lesser}
+use Rattle.main_buffer_rows.specs.RowEntry.{entered as row_entered}
+use Rattle.named_streams.specs.NamedStreams.{NamedView}
+use Rattle.stream_programs.specs.Streams.{FoundStreamView}
+use Rattle.stream_view.specs.History.{Part, left_after, main_fullness, row_least, until_of}
+use Rattle.stream_view.specs.History.Part.{Passes, Carries, Begins}
+use Rattle.stream_view.specs.Lows.{least_of, least_of_both}
+use Rattle.stream_buffers.specs.Held.{Held}
+use Rattle.stream_buffers.specs.Entering.{EnteredView, after, entered}
+use Rattle.stream_buffers.specs.declared.arriving.Arriving.{Arriving}
+use Rattle.stream_times.specs.TimedPackets.{Timed}
+use Rattle.stream_report.specs.declared.tally.Tally.{Tally}
+use Rattle.stream_report.specs.declared.view_options.ViewOptions.{ViewOptions}
+use Rattle.stream_report.specs.Clocks.{ClockEntries, clock_of}
+use Rattle.stream_report.specs.Entries.{EntryState, arriving, beginning_in, is_unread}
+use Rattle.stream_report.specs.Seen.{next_window}
+use Rattle.stream_report.specs.StreamTables.{TableState}
+use Rattle.stream_report.specs.Tallies.{in_window, none_counted}
+use Rattle.stream_report.specs.Views.{ViewState, clocked, start, with_begun}
+use Rattle.viewed_streams.specs.HeldWindows.{BeginIn, FirstWindowLaw}
+use Rattle.viewed_streams.specs.StreamPackets.{Followed, sound_packet}
+use Rattle.viewed_streams.specs.TimedStreams.{Entering, entered_by, entering_among, followed_by, view_by}
+use Rattle.viewed_streams.specs.WholeStreams.{followed as request_followed, nothing_known}
+use Rattle.viewed_streams.specs.WindowLows.{least_after}
+use Rattle.viewed_streams.proofs.ClockedStreams.{view_two}
+use Rattle.viewed_streams.proofs.Entries.{Agree, begun_agrees, begun_or_before, entry_begun, entry_with, taken_before}
+use Rattle.viewed_streams.proofs.Grown.{sound_options, sound_packets}
+use Rattle.viewed_streams.proofs.HeldWindows.{agree_by, counted_in}
+use Rattle.viewed_streams.proofs.Lists.{itself}
+use Rattle.viewed_streams.proofs.Steps.{after_sound, followed, known, sound_agrees}
+use Rattle.viewed_streams.proofs.TimedGrown.{came_is, next_by, ready}
+use Rattle.viewed_streams.proofs.TimedWhole.{index_by, knows_by}
+use Rattle.viewed_streams.proofs.Whole.{none_agree}
+use Rattle.viewed_streams.proofs.WindowLows.{Comes, each_comes, each_least, packet_comes, packet_least}
+
+-- ---- the first byte finds nothing in the main buffer
+
+no_less : (n : ℕ) → min 0 n ≡ 0
+no_less n = omega arith
+
+nothing_more : (a b : ℕ) → a ≡ 0 → a + 0 * b ≡ 0
+nothing_more a b e = omega (arith, e)
+
+zero_stays : (before : ℕ → ℕ) (until n : ℕ) (ts : List ℕ) → least_found before until n (Some 0) ts ≡ Some 0
+unfolding least_found lesser
+zero_stays before until n [] = refl
+zero_stays before until n (t ∷ ts) = rw (no_less (before t + n * one_buffered until t)) (zero_stays before until (n + 1) ts)
+
+row_zero : (before : ℕ → ℕ) (until : ℕ) (ts : List ℕ) → ((x : ℕ) → before x ≡ 0) → (ts ≡ []) ⊎ (least_found before until 0 None ts ≡ Some 0)
+unfolding least_found lesser
+row_zero before until [] none = inl refl
+row_zero before until (t ∷ ts) none = inr (rw (nothing_more (before t) (one_buffered until t) (none t)) (zero_stays before until (0 + 1) ts))
+
+zero_first : (o : Option ℕ) → least_of_both (Some 0) o ≡ Some 0
+unfolding least_of_both
+zero_first None = refl
+zero_first (Some n) = ap Some (no_less n)
+
+-- none is found, and nothing is in it; or the first one finds nothing
+abbrev Starts : ℕ → List Part → Type 0
+Starts step ps = (least_of step ps [] ≡ Some 0) ⊎ ((least_of step ps [] ≡ None) × ((x : ℕ) → main_fullness step ps x ≡ 0))
+
+carries_start : (step : ℕ) (ts : List ℕ) (ps : List Part) → Starts step ps → Starts step (Carries ts ∷ ps)
+unfolding least_of main_fullness least_of_both least_found
+carries_start step ts ps (inl zero) =
+    inl (ap (λ (o : Option ℕ). least_of_both o (row_least step (ps ++ []) ts)) zero ∙ zero_first (row_least step (ps ++ []) ts))
+carries_start step ts ps (inr none) =
+    let row : least_of step (Carries ts ∷ ps) [] ≡ row_least step ps ts =
+    ap (λ (o : Option ℕ). least_of_both o (row_least step (ps ++ []) ts)) none.0 ∙ ap (λ (qs : List Part). row_least step qs ts) (append-nil ps) in
+    elim (row_zero (main_fullness step ps) (until_of ps) (left_after step ps ts) none.1) [
+      | inl no_byte ↦ inr (
+        row ∙ ap (λ (ds : List ℕ). least_found (main_fullness step ps) (until_of ps) 0 None ds) no_byte,
+        λ x. ap (λ (n : ℕ). n + row_entered (until_of ps) x (left_after step ps ts)) (none.1 x) ∙ ap (λ (ds : List ℕ). 0 + row_entered (until_of ps) x ds) no_byte,
+      )
+      | inr zero ↦ inl (row ∙ zero)
+    ]
+
+parts_start : (step : ℕ) (ps : List Part) → Starts step ps
+unfolding least_of main_fullness
+parts_start step [] = inr (refl, λ x. refl)
+parts_start step (Passes ts ∷ ps) = parts_start step ps
+parts_start step (Carries ts ∷ ps) = carries_start step ts ps (parts_start step ps)
+parts_start step (Begins due ∷ ps) = parts_start step ps
+
+least_zero : (step : ℕ) (ps : List Part) → unwrap_or (least_of step ps []) 0 ≡ 0
+least_zero step ps = elim (parts_start step ps) [
+  | inl zero ↦ ap (λ (o : Option ℕ). unwrap_or o 0) zero
+  | inr none ↦ ap (λ (o : Option ℕ). unwrap_or o 0) none.0
+]
+
+-- ---- the packet with which buffers begin
+
+-- what is counted of a window is the least of all that came since its buffers were empty
+record Counts (window : ℕ) (e : EntryState) : Type 0 where
+  from : Held
+  none : from.parts ≡ []
+  come : Comes from e.held e.tally.window_least
+  in_it : e.tally.window ≡ window
+
+none_before : (window : ℕ) → (in_window none_counted window).window_least ≡ None
+none_before window = by (0 == window)
+  where
+    by : (b : Bool) →
+        (if b then none_counted else record none_counted { window = window; window_transport = 0; window_main = 0; window_least = None; window_units = 0; window_late = 0; slack = 2 ^ 128 - 1 }).window_least
+        ≡ None
+    by true = refl
+    by false = refl
+
+begun_counts : (options : ViewOptions) (index window : ℕ) (clocks : ClockEntries) (named : NamedView) (t : TableState) (packet : PacketView) (stream : FoundStreamView) →
+    Counts window (entry_with options index window clocks (entry_begun options named t packet stream) packet)
+unfolding least_of_both
+begun_counts options index window clocks named t packet stream =
+    let e : EntryState = entry_begun options named t packet stream in
+    let own : nat_eq e.pid packet.header.pid ≡ true = itself packet.header.pid in
+    let p : Arriving = arriving options index e.held.rx e.counter (clock_of clocks e.clock_pid) packet in
+    let v : EnteredView = entered e.held options.arrival p in
+    let one = packet_least e.tally window (is_unread (beginning_in e.counter packet)) v in
+    let least = one.0 ∙ ap (λ (l : Option ℕ). least_of_both l v.main_least) (none_before window) in
+    rw own (record {
+      from = e.held;
+      none = refl;
+      come = subst (λ (l : Option ℕ). Comes e.held (after e.held options.arrival p) l) (sym least) (packet_comes e.held options.arrival p);
+      in_it = one.1;
+    })
+
+first_counts : (r : ViewState) (o : Option PacketView) (window j : ℕ) (e : EntryState) → Agree r.table → ((d : EntryState) → slice_get r.table.entries j ≡ Some d → ⊥) →
+    next_window r.seen ≡ window → slice_get (after_sound r o).table.entries j ≡ Some e → Counts window e
+unfolding after_sound
+first_counts r None window j e agree none in_it there = absurd (none e there)
+first_counts r (Some packet) window j e agree none in_it there =
+    let c : ViewState = clocked r packet in
+    let began = begun_agrees c.seen.options c.seen.named c.table packet agree in
+    let back = taken_before c.seen.options c.seen.packets (next_window c.seen) c.seen.clocks (with_begun c packet) packet j e began there in
+    elim (begun_or_before c.seen.options c.seen.named c.table packet j back.0 back.1.0) [
+      | inl old ↦ absurd (none back.0 old)
+      | inr begins ↦
+          let is = back.1.1 ∙ ap (λ (x : EntryState). entry_with c.seen.options c.seen.packets (next_window c.seen) c.seen.clocks x packet) begins.is in
+          subst (λ (w : ℕ). Counts w e) in_it
+          (subst (λ (x : EntryState). Counts (next_window c.seen) x) (sym is)
+          (begun_counts c.seen.options c.seen.packets (next_window c.seen) c.seen.clocks c.seen.named c.table packet begins.stream))
+    ]
+
+-- ---- and the others of the window
+
+window_zero : (s : ViewState) (packets : List Timed) (window j : ℕ) (e e' : EntryState) → Counts window e → Agree s.table → s.seen.packets + length packets < 2 ^ 64 →
+    slice_get s.table.entries j ≡ Some e → BeginIn s.seen.options window s.seen.packets packets → slice_get (view_by s packets).table.entries j ≡ Some e' →
+    unwrap_or e'.tally.window_least 0 ≡ 0
+window_zero s packets window j e e' k agree few there all later =
+    let c = counted_in s packets window j e e' agree few there all later in
+    let xs : List Entering = entering_among (followed s e) (known s e) packets in
+    let come = each_comes k.from e.held e.tally.window_least xs k.come in
+    let is : e'.tally.window_least ≡ least_after e.tally.window_least (entered_by e.held xs) =
+    ap (λ (t : Tally). t.window_least) c.tally ∙ each_least e.tally window c.vs k.in_it
+    ∙ ap (λ (vs : List EnteredView). least_after e.tally.window_least vs) c.same in
+    let from_none = is ∙ sym come.found ∙ ap (λ (ps : List Part). least_of k.from.rate come.recent ps) k.none in
+    ap (λ (o : Option ℕ). unwrap_or o 0) from_none ∙ least_zero k.from.rate come.recent
+
+is_or_not : (o : Option EntryState) → ((d : EntryState) → o ≡ Some d → ⊥) ⊎ ((d : EntryState) × (o ≡ Some d))
+is_or_not None = inl (λ d e. cc)
+is_or_not (Some d) = inr (d, refl)
+
+first_window : (s : ViewState) (packets : List Timed) (window j : ℕ) (e : EntryState) → Agree s.table → s.seen.packets + length packets < 2 ^ 64 →
+    ((d : EntryState) → slice_get s.table.entries j ≡ Some d → ⊥) → BeginIn s.seen.options window s.seen.packets packets → slice_get (view_by s packets).table.entries j ≡ Some e →
+    unwrap_or e.tally.window_least 0 ≡ 0
+unfolding view_by BeginIn
+first_window s [] window j e agree few none all later = absurd (none e later)
+first_window s (p ∷ packets) window j e agree few none all later =
+    let r : ViewState = ready s p.arrival in
+    let o : Option PacketView = sound_packet (packet_at p.bytes) in
+    let one : r.seen.packets + 1 < 2 ^ 64 = omega (arith, few) in
+    let count = sound_packets r o one in
+    let options = sound_options r o in
+    let s' : ViewState = next_by s p in
+    let others : BeginIn s'.seen.options window s'.seen.packets packets = rw (options, count) all.1 in
+    let later' = subst (λ (x : ViewState). slice_get (view_by x packets).table.entries j ≡ Some e) (came_is s p) later in
+    elim (is_or_not (slice_get s'.table.entries j)) [
+      | inl none' ↦ first_window s' packets window j e (sound_agrees r o agree) (omega (arith, few, count)) none' others later'
+      | inr now ↦
+          window_zero s' packets window j now.0 e (first_counts r o window j now.0 agree none all.0 now.1) (sound_agrees r o agree) (omega (arith, few, count)) now.1 others later'
+    ]
+
+pub first_window_law : FirstWindowLaw
+first_window_law request before packets window place e few none there all =
+    let s : ViewState = view_by (start request) before in
+    let f : Followed = request_followed request e in
+    let knows = knows_by (start request) f nothing_known before (record { options = refl; index = refl; clock = refl }) (omega (arith, few)) in
+    let zero_is : 0 + length before ≡ length before = omega arith in
+    let count : s.seen.packets ≡ length before = sym knows.index ∙ index_by f nothing_known before ∙ zero_is in
+    let in_it : BeginIn s.seen.options window s.seen.packets packets =
+    subst (λ (o : ViewOptions). BeginIn o window s.seen.packets packets) (sym knows.options)
+    (subst (λ (i : ℕ). BeginIn (followed_by f before).options window i packets) (sym count) all) in
+    let later = subst (λ (x : ViewState). slice_get x.table.entries place ≡ Some e) (view_two (start request) before packets) there in
+    first_window s packets window place e (agree_by (start request) before (none_agree request)) (omega (arith, count, few)) (λ d is. not_both d (sym none ∙ is)) in_it later
+  where
+    not_both : (d : EntryState) → None ≡ Some d → ⊥
+    not_both d h = cc

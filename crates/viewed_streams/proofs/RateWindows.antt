@@ -1,0 +1,93 @@
+-- At a constant rate all packets of a window arrive alike: what a line `held` says of one that arrives in any way, it says of it at that rate.
+use Rattle.std.proofs.Common.{◌≡◌, ◌∙◌, sym, ℕ, ◌+◌, ◌-◌, ◌*◌, ◌^◌, ◌≤◌, ◌<◌, nat_le, nat_lt, false, true, List, [], ◌∷◌, ◌++◌, length, Some, refl, ap, subst, inl, inr, arith}
+use Rattle.std.specs.Prelude.{◌==◌, slice_get}
+use Rattle.std.proofs.lemmas.List.{map-append}
+use Rattle.stream_arrival.specs.Arrivals.{has_times}
+use Rattle.stream_arrival.specs.declared.arrival.Arrival.{Arrival}
+use Rattle.stream_arrival.specs.declared.arrival.Arrival.TheVariants.{Unknown, AtRate, OnLines}
+use Rattle.stream_times.specs.TimedPackets.{Timed, arriving_so}
+use Rattle.stream_times.proofs.TimedPackets.{many_arrive}
+use Rattle.stream_view.specs.History.{transport_of}
+use Rattle.stream_buffers.specs.Held.{Held}
+use Rattle.stream_buffers.specs.Entering.{after}
+use Rattle.stream_buffers.specs.declared.arriving.Arriving.{Arriving}
+use Rattle.stream_report.specs.declared.view_options.ViewOptions.{ViewOptions}
+use Rattle.stream_report.specs.Choices.{RequestView}
+use Rattle.stream_report.specs.Entries.{EntryState}
+use Rattle.stream_report.specs.Seen.{with_arrival}
+use Rattle.stream_report.specs.StreamTables.{TableState}
+use Rattle.stream_report.specs.Views.{ViewState, after_all, start}
+use Rattle.stream_report.specs.WindowLines.{window_of}
+use Rattle.viewed_streams.specs.HeldWindows.{BeginIn, HeldWindowLaw, LieIn, known_then, options_then, window_entering, window_packets}
+use Rattle.viewed_streams.specs.StreamPackets.{Before, Followed, most_packets}
+use Rattle.viewed_streams.specs.TimedStreams.{Entering, entering, entering_among, followed_by, view_by}
+use Rattle.viewed_streams.specs.WholeStreams.{followed as request_followed}
+use Rattle.viewed_streams.specs.WindowLows.{HasPayload, SaysLow}
+use Rattle.viewed_streams.proofs.ClockedStreams.{Like, each_more}
+use Rattle.viewed_streams.proofs.HeldWindows.{timed_window_law}
+use Rattle.viewed_streams.proofs.RateStreams.{Same, entering_is, followed_is, same_options}
+use Rattle.viewed_streams.proofs.WindowLows.{last_of_three}
+
+-- before a line is known no byte enters
+no_payload : (h : Held) (ps : List Arriving) → HasPayload h (entering Unknown ps) → ⊥
+unfolding HasPayload has_times
+no_payload h [] has = has
+no_payload h (p ∷ ps) (inl here) =
+    let known : has_times Unknown (188 * p.index) 188 ≡ true =
+    last_of_three (nat_lt p.index most_packets) (nat_le (transport_of h.rate h.parts).bytes (2 ^ 40 - 188)) (has_times Unknown (188 * p.index) 188) here.0 in
+    let no : ⊥ = cc in no
+no_payload h (p ∷ ps) (inr later) = no_payload (after h Unknown p) ps later
+
+begin_in : (o : ViewOptions) (a : Arrival) (window index : ℕ) (packets : List (List ℕ)) → with_arrival o a ≡ o →
+    ((i : ℕ) → index ≤ i → i < index + length packets → window_of o i ≡ window) → BeginIn o window index (arriving_so a packets)
+unfolding BeginIn
+begin_in o a window index [] same all = tt
+begin_in o a window index (bytes ∷ packets) same all =
+    let rest = begin_in o a window (index + 1) packets same (λ i from to. all i (omega (arith, from)) (omega (arith, to))) in (
+      ap (λ (x : ViewOptions). window_of x index) same ∙ all index (omega arith) (omega arith),
+      subst (λ (x : ViewOptions). BeginIn x window (index + 1) (arriving_so a packets)) (sym same) rest,
+    )
+
+knows_then : (s s' : ViewState) (e : EntryState) → Like s s' → known_then s' e ≡ known_then s e
+knows_then s s' e l = rw (l.packets, l.clocks) refl
+
+-- all of them arrive so, with a moment
+alike : (request : RequestView) (a : Arrival) (before packets : List (List ℕ)) (window place : ℕ) (e e' : EntryState) → (a ≡ Unknown → ⊥) → request.options.arrival ≡ a →
+    length before + length packets < 2 ^ 64 → slice_get (after_all (start request) before).table.entries place ≡ Some e →
+    slice_get (after_all (start request) (before ++ packets)).table.entries place ≡ Some e' → (e.tally.window == window) ≡ false →
+    LieIn request window (length before) (length packets) → 0 < e.held.rate → HasPayload e.held (entering a (window_packets request before e packets)) →
+    SaysLow e'.tally e.held (entering a (window_packets request before e packets))
+alike request a before packets window place e e' known is few there later other all pos has =
+    let f : Followed = request_followed request e in
+    let same : Same a f = same_options request.options a known is in
+    let itself : Like (start request) (start request) = record { options = refl; packets = refl; clocks = refl; named = refl; table = refl } in
+    let like : Like (after_all (start request) before) (view_by (start request) (arriving_so a before)) = each_more (start request) (start request) a before itself same in
+    let like_all : Like (after_all (start request) (before ++ packets)) (view_by (start request) (arriving_so a (before ++ packets))) =
+    each_more (start request) (start request) a (before ++ packets) itself same in
+    let both : arriving_so a (before ++ packets) ≡ arriving_so a before ++ arriving_so a packets = map-append (λ bytes. record { arrival = a; bytes = bytes }) before packets in
+    let f_is : followed_by f (arriving_so a before) ≡ f = followed_is a f before same in
+    let xs_are : window_entering request (arriving_so a before) e (arriving_so a packets) ≡ entering a (window_packets request before e packets) =
+    ap (λ (g : Followed). entering_among g (known_then (view_by (start request) (arriving_so a before)) e) (arriving_so a packets)) f_is
+    ∙ ap (λ (b : Before). entering_among f b (arriving_so a packets)) (knows_then (after_all (start request) before) (view_by (start request) (arriving_so a before)) e like)
+    ∙ entering_is a f (known_then (after_all (start request) before) e) packets same in
+    let there' : slice_get (view_by (start request) (arriving_so a before)).table.entries place ≡ Some e = ap (λ (t : TableState). slice_get t.entries place) like.table ∙ there in
+    let later' : slice_get (view_by (start request) (arriving_so a before ++ arriving_so a packets)).table.entries place ≡ Some e' =
+    ap (λ (l : List Timed). slice_get (view_by (start request) l).table.entries place) (sym both)
+    ∙ ap (λ (t : TableState). slice_get t.entries place) like_all.table ∙ later in
+    let many : length (arriving_so a before) ≡ length before = many_arrive a before in
+    let in_it : BeginIn (options_then request e (arriving_so a before)) window (length (arriving_so a before)) (arriving_so a packets) =
+    subst (λ (g : Followed). BeginIn g.options window (length (arriving_so a before)) (arriving_so a packets)) (sym f_is)
+    (subst (λ (i : ℕ). BeginIn request.options window i (arriving_so a packets)) (sym many) (begin_in request.options a window (length before) packets same all)) in
+    let low = timed_window_law request (arriving_so a before) (arriving_so a packets) window place e e' (omega (arith, many, many_arrive a packets, few)) there' later' other in_it pos
+    (subst (λ (xs : List Entering). HasPayload e.held xs) (sym xs_are) has) in
+    subst (λ (xs : List Entering). SaysLow e'.tally e.held xs) xs_are low
+
+pub held_window_law : HeldWindowLaw
+held_window_law request before packets window place e e' few there later other all pos has = by request.options.arrival refl
+  where
+    by : (a : Arrival) → request.options.arrival ≡ a → SaysLow e'.tally e.held (entering request.options.arrival (window_packets request before e packets))
+    by Unknown is =
+        absurd (no_payload e.held (window_packets request before e packets)
+        (subst (λ (x : Arrival). HasPayload e.held (entering x (window_packets request before e packets))) is has))
+    by (AtRate rate) is = alike request request.options.arrival before packets window place e e' (λ h. let no : ⊥ = cc in no) refl few there later other all pos has
+    by (OnLines lines) is = alike request request.options.arrival before packets window place e e' (λ h. let no : ⊥ = cc in no) refl few there later other all pos has
