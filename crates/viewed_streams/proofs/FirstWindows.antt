@@ -1,5 +1,5 @@
 -- In the window in which a stream's buffers begin the least that its line `held` says is 0.
-use Rattle.std.proofs.Common.{◌≡◌, ◌∙◌, sym, ℕ, ◌+◌, ◌-◌, ◌*◌, ◌^◌, ◌<◌, ◌⊎◌, min, Bool, true, false, List, [], ◌∷◌, ◌++◌, length, Option, Some, None, if◌then◌else◌, refl, ap, subst, inl, inr, nat_eq, arith}
+use Rattle.std.proofs.Common.{◌≡◌, ◌∙◌, sym, ℕ, ◌+◌, ◌-◌, ◌*◌, ◌^◌, ◌<◌, ◌⊎◌, min, Bool, true, false, List, [], ◌∷◌, ◌++◌, length, Option, Some, None, if◌then◌else◌, refl, ap, ap₂, subst, inl, inr, nat_eq, arith}
 use Rattle.std.specs.Prelude.{◌==◌, slice_get, unwrap_or}
 use Rattle.std.proofs.lemmas.List.{append-nil}
 use Rattle.ts_packet.specs.Views.{PacketView}
@@ -9,35 +9,39 @@ use Rattle.main_buffer_rows.specs.Least.{least_found, lesser}
 use Rattle.main_buffer_rows.specs.RowEntry.{entered as row_entered}
 use Rattle.named_streams.specs.NamedStreams.{NamedView}
 use Rattle.stream_programs.specs.Streams.{FoundStreamView}
-use Rattle.stream_view.specs.History.{Part, left_after, main_fullness, row_least, until_of}
+use Rattle.stream_view.specs.History.{Part, left_after, main_fullness, main_peak, row_least, until_of}
 use Rattle.stream_view.specs.History.Part.{Passes, Carries, Begins}
 use Rattle.stream_view.specs.Lows.{least_of, least_of_both}
-use Rattle.stream_buffers.specs.Held.{Held}
+use Rattle.stream_buffers.specs.Held.{Held, main_most}
 use Rattle.stream_buffers.specs.Entering.{EnteredView, after, entered}
 use Rattle.stream_buffers.specs.declared.arriving.Arriving.{Arriving}
 use Rattle.stream_times.specs.TimedPackets.{Timed}
 use Rattle.stream_report.specs.declared.tally.Tally.{Tally}
 use Rattle.stream_report.specs.declared.view_options.ViewOptions.{ViewOptions}
+use Rattle.stream_report.specs.Choices.{RequestView}
 use Rattle.stream_report.specs.Clocks.{ClockEntries, clock_of}
-use Rattle.stream_report.specs.Entries.{EntryState, arriving, beginning_in, is_unread}
+use Rattle.stream_report.specs.Entries.{EntryState, arriving, beginning_in, is_unread, tally_after}
 use Rattle.stream_report.specs.Seen.{next_window}
 use Rattle.stream_report.specs.StreamTables.{TableState}
 use Rattle.stream_report.specs.Tallies.{in_window, none_counted}
 use Rattle.stream_report.specs.Views.{ViewState, clocked, start, with_begun}
-use Rattle.viewed_streams.specs.HeldWindows.{BeginIn, FirstWindowLaw}
+use Rattle.viewed_streams.specs.HeldWindows.{BeginIn, FirstWindowLaw, options_then}
 use Rattle.viewed_streams.specs.StreamPackets.{Followed, sound_packet}
-use Rattle.viewed_streams.specs.TimedStreams.{Entering, entered_by, entering_among, followed_by, view_by}
+use Rattle.viewed_streams.specs.TimedStreams.{Entering, after_entering, entered_by, entering_among, followed_by, view_by}
 use Rattle.viewed_streams.specs.WholeStreams.{followed as request_followed, nothing_known}
+use Rattle.viewed_streams.specs.WindowHighs.{FirstHighLaw, most_after}
 use Rattle.viewed_streams.specs.WindowLows.{least_after}
 use Rattle.viewed_streams.proofs.ClockedStreams.{view_two}
 use Rattle.viewed_streams.proofs.Entries.{Agree, begun_agrees, begun_or_before, entry_begun, entry_with, taken_before}
 use Rattle.viewed_streams.proofs.Grown.{sound_options, sound_packets}
 use Rattle.viewed_streams.proofs.HeldWindows.{agree_by, counted_in}
-use Rattle.viewed_streams.proofs.Lists.{itself}
+use Rattle.viewed_streams.proofs.Lists.{itself, some_is}
+use Rattle.viewed_streams.proofs.MainHighs.{first_most, most_of}
 use Rattle.viewed_streams.proofs.Steps.{after_sound, followed, known, sound_agrees}
-use Rattle.viewed_streams.proofs.TimedGrown.{came_is, next_by, ready}
+use Rattle.viewed_streams.proofs.TimedGrown.{came_is, grown_by, next_by, ready}
 use Rattle.viewed_streams.proofs.TimedWhole.{index_by, knows_by}
 use Rattle.viewed_streams.proofs.Whole.{none_agree}
+use Rattle.viewed_streams.proofs.WindowHighs.{each_most, packet_most}
 use Rattle.viewed_streams.proofs.WindowLows.{Comes, each_comes, each_least, packet_comes, packet_least}
 
 -- ---- the first byte finds nothing in the main buffer
@@ -101,7 +105,7 @@ least_zero step ps = elim (parts_start step ps) [
 record Counts (window : ℕ) (e : EntryState) : Type 0 where
   from : Held
   none : from.parts ≡ []
-  come : Comes from e.held e.tally.window_least
+  come : Comes from e.held e.tally.window_least e.tally.window_main
   in_it : e.tally.window ≡ window
 
 none_before : (window : ℕ) → (in_window none_counted window).window_least ≡ None
@@ -110,6 +114,15 @@ none_before window = by (0 == window)
     by : (b : Bool) →
         (if b then none_counted else record none_counted { window = window; window_transport = 0; window_main = 0; window_least = None; window_units = 0; window_late = 0; slack = 2 ^ 128 - 1 }).window_least
         ≡ None
+    by true = refl
+    by false = refl
+
+none_most : (window : ℕ) → (in_window none_counted window).window_main ≡ 0
+none_most window = by (0 == window)
+  where
+    by : (b : Bool) →
+        (if b then none_counted else record none_counted { window = window; window_transport = 0; window_main = 0; window_least = None; window_units = 0; window_late = 0; slack = 2 ^ 128 - 1 }).window_main
+        ≡ 0
     by true = refl
     by false = refl
 
@@ -123,10 +136,13 @@ begun_counts options index window clocks named t packet stream =
     let v : EnteredView = entered e.held options.arrival p in
     let one = packet_least e.tally window (is_unread (beginning_in e.counter packet)) v in
     let least = one.0 ∙ ap (λ (l : Option ℕ). least_of_both l v.main_least) (none_before window) in
+    let more = packet_most e.tally window (is_unread (beginning_in e.counter packet)) v in
+    let most : v.main_most ≡ (tally_after e.tally window (is_unread (beginning_in e.counter packet)) v).window_main = omega (arith, more.0, none_most window) in
     rw own (record {
       from = e.held;
       none = refl;
-      come = subst (λ (l : Option ℕ). Comes e.held (after e.held options.arrival p) l) (sym least) (packet_comes e.held options.arrival p);
+      come = subst (λ (l : Option ℕ). Comes e.held (after e.held options.arrival p) l (tally_after e.tally window (is_unread (beginning_in e.counter packet)) v).window_main) (sym least)
+          (subst (λ (n : ℕ). Comes e.held (after e.held options.arrival p) v.main_least n) most (packet_comes e.held options.arrival p));
       in_it = one.1;
     })
 
@@ -149,26 +165,47 @@ first_counts r (Some packet) window j e agree none in_it there =
 
 -- ---- and the others of the window
 
+-- what its line then says of the main buffer
+record FirstSays (e : EntryState) : Type 0 where
+  least : unwrap_or e.tally.window_least 0 ≡ 0
+  main : 0 < e.held.rate → e.tally.window_main ≡ main_most e.held
+
+grown_held : (s : ViewState) (packets : List Timed) (j : ℕ) (e e' : EntryState) → Agree s.table → s.seen.packets + length packets < 2 ^ 64 →
+    slice_get s.table.entries j ≡ Some e → slice_get (view_by s packets).table.entries j ≡ Some e' →
+    e'.held ≡ after_entering e.held (entering_among (followed s e) (known s e) packets)
+grown_held s packets j e e' agree few there later =
+    let g = grown_by s packets j e agree few there in
+    ap (λ (x : EntryState). x.held) (some_is e' g.0 (sym later ∙ g.1.0)) ∙ g.1.1.held
+
 window_zero : (s : ViewState) (packets : List Timed) (window j : ℕ) (e e' : EntryState) → Counts window e → Agree s.table → s.seen.packets + length packets < 2 ^ 64 →
     slice_get s.table.entries j ≡ Some e → BeginIn s.seen.options window s.seen.packets packets → slice_get (view_by s packets).table.entries j ≡ Some e' →
-    unwrap_or e'.tally.window_least 0 ≡ 0
+    FirstSays e'
 window_zero s packets window j e e' k agree few there all later =
     let c = counted_in s packets window j e e' agree few there all later in
     let xs : List Entering = entering_among (followed s e) (known s e) packets in
-    let come = each_comes k.from e.held e.tally.window_least xs k.come in
+    let come = each_comes k.from e.held e.tally.window_least e.tally.window_main xs k.come in
     let is : e'.tally.window_least ≡ least_after e.tally.window_least (entered_by e.held xs) =
     ap (λ (t : Tally). t.window_least) c.tally ∙ each_least e.tally window c.vs k.in_it
     ∙ ap (λ (vs : List EnteredView). least_after e.tally.window_least vs) c.same in
     let from_none = is ∙ sym come.found ∙ ap (λ (ps : List Part). least_of k.from.rate come.recent ps) k.none in
-    ap (λ (o : Option ℕ). unwrap_or o 0) from_none ∙ least_zero k.from.rate come.recent
+    let held = grown_held s packets j e e' agree few there later in
+    let rate : e'.held.rate ≡ k.from.rate = ap (λ (h : Held). h.rate) held ∙ come.rate in
+    let parts : e'.held.parts ≡ come.recent ++ [] = ap (λ (h : Held). h.parts) held ∙ come.parts ∙ ap (λ (ps : List Part). come.recent ++ ps) k.none in
+    let most : e'.tally.window_main ≡ most_of k.from.rate come.recent [] =
+    ap (λ (t : Tally). t.window_main) c.tally ∙ each_most e.tally window c.vs k.in_it
+    ∙ ap (λ (vs : List EnteredView). most_after e.tally.window_main vs) c.same
+    ∙ sym come.most_found ∙ ap (λ (ps : List Part). most_of k.from.rate come.recent ps) k.none in
+    record {
+      least = ap (λ (o : Option ℕ). unwrap_or o 0) from_none ∙ least_zero k.from.rate come.recent;
+      main = λ pos. most ∙ first_most k.from.rate come.recent (omega (arith, pos, rate)) ∙ ap₂ main_peak (sym rate) (sym parts);
+    }
 
 is_or_not : (o : Option EntryState) → ((d : EntryState) → o ≡ Some d → ⊥) ⊎ ((d : EntryState) × (o ≡ Some d))
 is_or_not None = inl (λ d e. cc)
 is_or_not (Some d) = inr (d, refl)
 
 first_window : (s : ViewState) (packets : List Timed) (window j : ℕ) (e : EntryState) → Agree s.table → s.seen.packets + length packets < 2 ^ 64 →
-    ((d : EntryState) → slice_get s.table.entries j ≡ Some d → ⊥) → BeginIn s.seen.options window s.seen.packets packets → slice_get (view_by s packets).table.entries j ≡ Some e →
-    unwrap_or e.tally.window_least 0 ≡ 0
+    ((d : EntryState) → slice_get s.table.entries j ≡ Some d → ⊥) → BeginIn s.seen.options window s.seen.packets packets → slice_get (view_by s packets).table.entries j ≡ Some e → FirstSays e
 unfolding view_by BeginIn
 first_window s [] window j e agree few none all later = absurd (none e later)
 first_window s (p ∷ packets) window j e agree few none all later =
@@ -186,8 +223,11 @@ first_window s (p ∷ packets) window j e agree few none all later =
           window_zero s' packets window j now.0 e (first_counts r o window j now.0 agree none all.0 now.1) (sound_agrees r o agree) (omega (arith, few, count)) now.1 others later'
     ]
 
-pub first_window_law : FirstWindowLaw
-first_window_law request before packets window place e few none there all =
+in_first_window : (request : RequestView) (before packets : List Timed) (window place : ℕ) (e : EntryState) → length before + length packets < 2 ^ 64 →
+    slice_get (view_by (start request) before).table.entries place ≡ None →
+    slice_get (view_by (start request) (before ++ packets)).table.entries place ≡ Some e →
+    BeginIn (options_then request e before) window (length before) packets → FirstSays e
+in_first_window request before packets window place e few none there all =
     let s : ViewState = view_by (start request) before in
     let f : Followed = request_followed request e in
     let knows = knows_by (start request) f nothing_known before (record { options = refl; index = refl; clock = refl }) (omega (arith, few)) in
@@ -201,3 +241,9 @@ first_window_law request before packets window place e few none there all =
   where
     not_both : (d : EntryState) → None ≡ Some d → ⊥
     not_both d h = cc
+
+pub first_window_law : FirstWindowLaw
+first_window_law request before packets window place e few none there all = (in_first_window request before packets window place e few none there all).least
+
+pub first_high_law : FirstHighLaw
+first_high_law request before packets window place e few none there all = (in_first_window request before packets window place e few none there all).main

@@ -11,16 +11,18 @@ use Rattle.stream_buffers.specs.Entering.{EnteredView, after, entered}
 use Rattle.stream_buffers.specs.declared.arriving.Arriving.{Arriving}
 use Rattle.stream_report.specs.declared.tally.Tally.{Tally}
 use Rattle.stream_report.specs.declared.view_options.ViewOptions.{ViewOptions}
+use Rattle.stream_report.specs.Choices.{RequestView}
 use Rattle.stream_report.specs.Clocks.{clock_of}
 use Rattle.stream_report.specs.Entries.{EntryState, arriving, beginning_in, is_unread, tally_after}
 use Rattle.stream_report.specs.Seen.{next_window}
 use Rattle.stream_report.specs.Tallies.{in_window}
 use Rattle.stream_report.specs.Views.{ViewState, clocked, start, with_begun}
-use Rattle.viewed_streams.specs.HeldWindows.{BeginIn, TimedWindowLaw, window_entering}
+use Rattle.viewed_streams.specs.HeldWindows.{BeginIn, TimedWindowLaw, options_then, window_entering}
 use Rattle.viewed_streams.specs.StreamPackets.{Before, Followed, after_each, clock_with, entered_each, known_after, seen_in, sound_packet}
 use Rattle.viewed_streams.specs.TimedStreams.{Entering, entered_by, entering, entering_among, followed_by, followed_so, view_by}
 use Rattle.viewed_streams.specs.WholeStreams.{followed as request_followed, nothing_known}
-use Rattle.viewed_streams.specs.WindowLows.{counted_each}
+use Rattle.viewed_streams.specs.WindowHighs.{IsHighWith, TimedHighLaw}
+use Rattle.viewed_streams.specs.WindowLows.{HasPayload, SaysLow, counted_each}
 use Rattle.viewed_streams.proofs.ClockedStreams.{view_two}
 use Rattle.viewed_streams.proofs.Entries.{Agree, begun_agrees, begun_keeps, entry_with, taken_entry}
 use Rattle.viewed_streams.proofs.Grown.{sound_options, sound_packets}
@@ -29,6 +31,7 @@ use Rattle.viewed_streams.proofs.Steps.{after_sound, clock_known, finished_steps
 use Rattle.viewed_streams.proofs.TimedGrown.{came_is, next_by, ready}
 use Rattle.viewed_streams.proofs.TimedWhole.{followed_is, index_by, knows_by, same_by}
 use Rattle.viewed_streams.proofs.Whole.{none_agree}
+use Rattle.viewed_streams.proofs.WindowHighs.{whole_high_law}
 use Rattle.viewed_streams.proofs.WindowLows.{whole_window_law}
 
 -- ---- a packet more
@@ -144,11 +147,18 @@ agree_by s (p ∷ packets) agree =
     let o : Option PacketView = sound_packet (packet_at p.bytes) in
     subst (λ (x : ViewState). Agree (view_by x packets).table) (sym (came_is s p)) (agree_by (next_by s p) packets (sound_agrees r o agree))
 
-other_window : (t : Tally) (window : ℕ) → (t.window == window) ≡ false → (in_window t window).window_least ≡ None
-other_window t window other = rw other refl
+-- what is counted of a stream in a window
+pub record CountedOver (t t' : Tally) (window : ℕ) (h : Held) (xs : List Entering) : Type 0 where
+  pub vs : List (Bool × EnteredView)
+  pub tally : t' ≡ counted_each t window vs
+  pub same : map (λ w. w.1) vs ≡ entered_by h xs
 
-pub timed_window_law : TimedWindowLaw
-timed_window_law request before packets window place e e' few there later other all pos has =
+pub window_counted : (request : RequestView) (before packets : List Timed) (window place : ℕ) (e e' : EntryState) → length before + length packets < 2 ^ 64 →
+    slice_get (view_by (start request) before).table.entries place ≡ Some e →
+    slice_get (view_by (start request) (before ++ packets)).table.entries place ≡ Some e' →
+    BeginIn (options_then request e before) window (length before) packets →
+    CountedOver e.tally e'.tally window e.held (window_entering request before e packets)
+window_counted request before packets window place e e' few there later all =
     let s : ViewState = view_by (start request) before in
     let f0 : Followed = request_followed request e in
     let f : Followed = followed_by f0 before in
@@ -164,5 +174,26 @@ timed_window_law request before packets window place e e' few there later other 
     let c = counted_in s packets window place e e' (agree_by (start request) before (none_agree request)) (omega (arith, count, few)) there in_it
     (subst (λ (x : ViewState). slice_get x.table.entries place ≡ Some e') (view_two (start request) before packets) later) in
     let same : map (λ w. w.1) c.vs ≡ entered_by e.held xs = c.same ∙ ap (λ (g : Followed). entered_by e.held (entering_among g (known s e) packets)) f_is in
-    let low = whole_window_law e.tally window e.held xs c.vs pos (other_window e.tally window other) same has in
-    record { n = low.n; said = ap (λ (t : Tally). unwrap_or t.window_least 0) c.tally ∙ low.said; low = low.low }
+    record { vs = c.vs; tally = c.tally; same = same }
+
+-- what a line then says of the main buffer
+pub says_low : (t t' : Tally) (window : ℕ) (h : Held) (xs : List Entering) → CountedOver t t' window h xs → (t.window == window) ≡ false → 0 < h.rate →
+    HasPayload h xs → SaysLow t' h xs
+says_low t t' window h xs c other pos has =
+    let none : (in_window t window).window_least ≡ None = rw other refl in
+    let low = whole_window_law t window h xs c.vs pos none c.same has in
+    record { n = low.n; said = ap (λ (k : Tally). unwrap_or k.window_least 0) c.tally ∙ low.said; low = low.low }
+
+pub says_high : (t t' : Tally) (window : ℕ) (h : Held) (xs : List Entering) → CountedOver t t' window h xs → (t.window == window) ≡ false → 0 < h.rate →
+    HasPayload h xs → IsHighWith h xs t'.window_main
+says_high t t' window h xs c other pos has =
+    let none : (in_window t window).window_main ≡ 0 = rw other refl in
+    subst (λ (k : Tally). IsHighWith h xs k.window_main) (sym c.tally) (whole_high_law t window h xs c.vs pos none c.same has)
+
+pub timed_window_law : TimedWindowLaw
+timed_window_law request before packets window place e e' few there later other all pos has =
+    says_low e.tally e'.tally window e.held (window_entering request before e packets) (window_counted request before packets window place e e' few there later all) other pos has
+
+pub timed_high_law : TimedHighLaw
+timed_high_law request before packets window place e e' few there later other all pos has =
+    says_high e.tally e'.tally window e.held (window_entering request before e packets) (window_counted request before packets window place e e' few there later all) other pos has

@@ -30,7 +30,11 @@ pub mod UnitsInTime
 pub mod MuxedLate
 pub mod FirstTables
 pub mod AfterTables
+pub mod MainHighs
 pub mod WindowLows
+pub mod WindowHighs
+pub mod TransportFull
+pub mod TransportHighs
 pub mod HeldWindows
 pub mod AsMeasured
 pub mod ClockComes

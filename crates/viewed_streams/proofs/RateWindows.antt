@@ -1,6 +1,6 @@
 -- At a constant rate all packets of a window arrive alike: what a line `held` says of one that arrives in any way, it says of it at that rate.
-use Rattle.std.proofs.Common.{◌≡◌, ◌∙◌, sym, ℕ, ◌+◌, ◌-◌, ◌*◌, ◌^◌, ◌≤◌, ◌<◌, nat_le, nat_lt, false, true, List, [], ◌∷◌, ◌++◌, length, Some, refl, ap, subst, inl, inr, arith}
-use Rattle.std.specs.Prelude.{◌==◌, slice_get}
+use Rattle.std.proofs.Common.{◌≡◌, ◌∙◌, sym, ℕ, ◌+◌, ◌-◌, ◌*◌, ◌^◌, ◌≤◌, ◌<◌, nat_le, nat_lt, true, List, [], ◌∷◌, ◌++◌, length, Some, refl, ap, subst, inl, inr, arith}
+use Rattle.std.specs.Prelude.{slice_get}
 use Rattle.std.proofs.lemmas.List.{map-append}
 use Rattle.stream_arrival.specs.Arrivals.{has_times}
 use Rattle.stream_arrival.specs.declared.arrival.Arrival.{Arrival}
@@ -22,9 +22,10 @@ use Rattle.viewed_streams.specs.HeldWindows.{BeginIn, HeldWindowLaw, LieIn, know
 use Rattle.viewed_streams.specs.StreamPackets.{Before, Followed, most_packets}
 use Rattle.viewed_streams.specs.TimedStreams.{Entering, entering, entering_among, followed_by, view_by}
 use Rattle.viewed_streams.specs.WholeStreams.{followed as request_followed}
-use Rattle.viewed_streams.specs.WindowLows.{HasPayload, SaysLow}
+use Rattle.viewed_streams.specs.WindowHighs.{RateHighLaw}
+use Rattle.viewed_streams.specs.WindowLows.{HasPayload}
 use Rattle.viewed_streams.proofs.ClockedStreams.{Like, each_more}
-use Rattle.viewed_streams.proofs.HeldWindows.{timed_window_law}
+use Rattle.viewed_streams.proofs.HeldWindows.{CountedOver, says_high, says_low, window_counted}
 use Rattle.viewed_streams.proofs.RateStreams.{Same, entering_is, followed_is, same_options}
 use Rattle.viewed_streams.proofs.WindowLows.{last_of_three}
 
@@ -54,10 +55,9 @@ knows_then s s' e l = rw (l.packets, l.clocks) refl
 -- all of them arrive so, with a moment
 alike : (request : RequestView) (a : Arrival) (before packets : List (List ℕ)) (window place : ℕ) (e e' : EntryState) → (a ≡ Unknown → ⊥) → request.options.arrival ≡ a →
     length before + length packets < 2 ^ 64 → slice_get (after_all (start request) before).table.entries place ≡ Some e →
-    slice_get (after_all (start request) (before ++ packets)).table.entries place ≡ Some e' → (e.tally.window == window) ≡ false →
-    LieIn request window (length before) (length packets) → 0 < e.held.rate → HasPayload e.held (entering a (window_packets request before e packets)) →
-    SaysLow e'.tally e.held (entering a (window_packets request before e packets))
-alike request a before packets window place e e' known is few there later other all pos has =
+    slice_get (after_all (start request) (before ++ packets)).table.entries place ≡ Some e' →
+    LieIn request window (length before) (length packets) → CountedOver e.tally e'.tally window e.held (entering a (window_packets request before e packets))
+alike request a before packets window place e e' known is few there later all =
     let f : Followed = request_followed request e in
     let same : Same a f = same_options request.options a known is in
     let itself : Like (start request) (start request) = record { options = refl; packets = refl; clocks = refl; named = refl; table = refl } in
@@ -78,16 +78,31 @@ alike request a before packets window place e e' known is few there later other 
     let in_it : BeginIn (options_then request e (arriving_so a before)) window (length (arriving_so a before)) (arriving_so a packets) =
     subst (λ (g : Followed). BeginIn g.options window (length (arriving_so a before)) (arriving_so a packets)) (sym f_is)
     (subst (λ (i : ℕ). BeginIn request.options window i (arriving_so a packets)) (sym many) (begin_in request.options a window (length before) packets same all)) in
-    let low = timed_window_law request (arriving_so a before) (arriving_so a packets) window place e e' (omega (arith, many, many_arrive a packets, few)) there' later' other in_it pos
-    (subst (λ (xs : List Entering). HasPayload e.held xs) (sym xs_are) has) in
-    subst (λ (xs : List Entering). SaysLow e'.tally e.held xs) xs_are low
+    let c = window_counted request (arriving_so a before) (arriving_so a packets) window place e e' (omega (arith, many, many_arrive a packets, few)) there' later' in_it in
+    subst (λ (xs : List Entering). CountedOver e.tally e'.tally window e.held xs) xs_are c
 
-pub held_window_law : HeldWindowLaw
-held_window_law request before packets window place e e' few there later other all pos has = by request.options.arrival refl
+-- where a byte enters they do
+rate_counted : (request : RequestView) (before packets : List (List ℕ)) (window place : ℕ) (e e' : EntryState) → length before + length packets < 2 ^ 64 →
+    slice_get (after_all (start request) before).table.entries place ≡ Some e →
+    slice_get (after_all (start request) (before ++ packets)).table.entries place ≡ Some e' → LieIn request window (length before) (length packets) →
+    HasPayload e.held (entering request.options.arrival (window_packets request before e packets)) →
+    CountedOver e.tally e'.tally window e.held (entering request.options.arrival (window_packets request before e packets))
+rate_counted request before packets window place e e' few there later all has = by request.options.arrival refl
   where
-    by : (a : Arrival) → request.options.arrival ≡ a → SaysLow e'.tally e.held (entering request.options.arrival (window_packets request before e packets))
+    by : (a : Arrival) → request.options.arrival ≡ a →
+        CountedOver e.tally e'.tally window e.held (entering request.options.arrival (window_packets request before e packets))
     by Unknown is =
         absurd (no_payload e.held (window_packets request before e packets)
         (subst (λ (x : Arrival). HasPayload e.held (entering x (window_packets request before e packets))) is has))
-    by (AtRate rate) is = alike request request.options.arrival before packets window place e e' (λ h. let no : ⊥ = cc in no) refl few there later other all pos has
-    by (OnLines lines) is = alike request request.options.arrival before packets window place e e' (λ h. let no : ⊥ = cc in no) refl few there later other all pos has
+    by (AtRate rate) is = alike request request.options.arrival before packets window place e e' (λ h. let no : ⊥ = cc in no) refl few there later all
+    by (OnLines lines) is = alike request request.options.arrival before packets window place e e' (λ h. let no : ⊥ = cc in no) refl few there later all
+
+pub held_window_law : HeldWindowLaw
+held_window_law request before packets window place e e' few there later other all pos has =
+    says_low e.tally e'.tally window e.held (entering request.options.arrival (window_packets request before e packets))
+    (rate_counted request before packets window place e e' few there later all has) other pos has
+
+pub rate_high_law : RateHighLaw
+rate_high_law request before packets window place e e' few there later other all pos has =
+    says_high e.tally e'.tally window e.held (entering request.options.arrival (window_packets request before e packets))
+    (rate_counted request before packets window place e e' few there later all has) other pos has

@@ -1,5 +1,5 @@
 -- The least that a line `held` says of a main buffer is its least fullness while the packets of the window come.
-use Rattle.std.proofs.Common.{◌≡◌, ◌∙◌, sym, ℕ, zero, suc, ◌+◌, ◌-◌, ◌*◌, ◌^◌, ◌<◌, ◌&&◌, is_some, nat_le, nat_lt, max, min, Bool, true, false, List, [], ◌∷◌, ◌++◌, length, map, Option, Some, None, if◌then◌else◌, refl, ap, inl, inr, arith, append_assoc}
+use Rattle.std.proofs.Common.{◌≡◌, ◌∙◌, sym, ℕ, zero, suc, ◌+◌, ◌-◌, ◌*◌, ◌^◌, ◌<◌, ◌&&◌, is_some, nat_le, nat_lt, max, min, Bool, true, false, List, [], ◌∷◌, ◌++◌, length, map, Option, Some, None, if◌then◌else◌, refl, ap, subst, inl, inr, arith, append_assoc}
 use Rattle.std.specs.Prelude.{unwrap_or}
 use Rattle.std.proofs.lemmas.Bool.Decides.{eqb_tells}
 use Rattle.stream_arrival.specs.declared.arrival.Arrival.{Arrival}
@@ -9,8 +9,8 @@ use Rattle.packet_arrival.specs.Lines.{arrivals_on}
 use Rattle.main_buffer_rows.specs.Least.{least_found, lesser}
 use Rattle.stream_arrival.specs.Arrivals.{has_times, times_at}
 use Rattle.stream_arrival.specs.declared.arrival.Arrival.TheVariants.{Unknown, AtRate, OnLines}
-use Rattle.stream_buffers.specs.Held.{Held, carried, main_least_found, passed}
-use Rattle.stream_buffers.specs.Entering.{EnteredView, after, after_begin, after_header, after_lead, after_payload, after_unit, ended_with, entered, lead_in, nothing, payload_main_least, size_of, takes_in, with_packet}
+use Rattle.stream_buffers.specs.Held.{Held, carried, main_found, main_least_found, passed}
+use Rattle.stream_buffers.specs.Entering.{EnteredView, after, after_begin, after_header, after_lead, after_payload, after_unit, ended_with, entered, lead_in, nothing, payload_main_least, payload_main_most, size_of, takes_in, with_packet}
 use Rattle.stream_buffers.specs.declared.arriving.Arriving.{Arriving}
 use Rattle.decoder_buffers.specs.BufferedUnits.{one_buffered}
 use Rattle.stream_view.specs.History.{Part, last_of, main_fullness, row_least, transport_of, until_of}
@@ -24,7 +24,9 @@ use Rattle.stream_report.specs.Tallies.{in_window, with_excesses, with_packet as
 use Rattle.stream_report.specs.declared.tally.Tally.{Tally}
 use Rattle.viewed_streams.specs.StreamPackets.{most_packets}
 use Rattle.viewed_streams.specs.TimedStreams.{Entering, after_entering, entered_by}
+use Rattle.viewed_streams.specs.WindowHighs.{most_after}
 use Rattle.viewed_streams.specs.WindowLows.{HasPayload, WholeWindowLaw, WindowLeastLaw, WindowLowLaw, WindowWithoutLaw, counted_each, least_after}
+use Rattle.viewed_streams.proofs.MainHighs.{most_of, most_of-append}
 
 -- ---- one of several
 
@@ -55,19 +57,20 @@ least_of-append step (Begins due ∷ later) recent before = least_of-append step
 
 -- ---- what comes with a packet
 
--- parts come, and this is the least that their bytes find
-pub record Comes (h h' : Held) (least : Option ℕ) : Type 0 where
+-- parts come, and these are the least that their bytes find and the most when one of them enters
+pub record Comes (h h' : Held) (least : Option ℕ) (most : ℕ) : Type 0 where
   pub recent : List Part
   pub parts : h'.parts ≡ recent ++ h.parts
   pub rate : h'.rate ≡ h.rate
   pub found : least_of h.rate recent h.parts ≡ least
+  pub most_found : most_of h.rate recent h.parts ≡ most
 
-nothing_comes : (h : Held) → Comes h h None
-unfolding least_of
-nothing_comes h = record { recent = []; parts = refl; rate = refl; found = refl }
+pub nothing_comes : (h : Held) → Comes h h None 0
+unfolding least_of most_of
+nothing_comes h = record { recent = []; parts = refl; rate = refl; found = refl; most_found = refl }
 
-both_come : (h h' h'' : Held) (a b : Option ℕ) → Comes h h' a → Comes h' h'' b → Comes h h'' (least_of_both a b)
-both_come h h' h'' a b first second = record {
+both_come : (h h' h'' : Held) (a b : Option ℕ) (m n : ℕ) → Comes h h' a m → Comes h' h'' b n → Comes h h'' (least_of_both a b) (max m n)
+both_come h h' h'' a b m n first second = record {
   recent = second.recent ++ first.recent;
   parts = second.parts ∙ ap (λ (ps : List Part). second.recent ++ ps) first.parts ∙ sym (append_assoc second.recent first.recent h.parts);
   rate = second.rate ∙ first.rate;
@@ -76,40 +79,48 @@ both_come h h' h'' a b first second = record {
       ∙ ap (λ (n : ℕ). least_of_both (least_of h.rate first.recent h.parts) (least_of n second.recent h'.parts)) (sym first.rate)
       ∙ ap (λ (n : Option ℕ). least_of_both n (least_of h'.rate second.recent h'.parts)) first.found
       ∙ ap (λ (n : Option ℕ). least_of_both a n) second.found;
+  most_found = most_of-append h.rate second.recent first.recent h.parts
+      ∙ ap (λ (ps : List Part). max (most_of h.rate first.recent h.parts) (most_of h.rate second.recent ps)) (sym first.parts)
+      ∙ ap (λ (k : ℕ). max (most_of h.rate first.recent h.parts) (most_of k second.recent h'.parts)) (sym first.rate)
+      ∙ ap (λ (k : ℕ). max k (most_of h'.rate second.recent h'.parts)) first.most_found
+      ∙ ap (λ (k : ℕ). max m k) second.most_found;
 }
 
-passed_comes : (h : Held) (times : List ℕ) → Comes h (passed h times) None
-unfolding least_of
-passed_comes h times = record { recent = Passes times ∷ []; parts = refl; rate = refl; found = refl }
+passed_comes : (h : Held) (times : List ℕ) → Comes h (passed h times) None 0
+unfolding least_of most_of
+passed_comes h times = record { recent = Passes times ∷ []; parts = refl; rate = refl; found = refl; most_found = refl }
 
-carried_comes : (h : Held) (times : List ℕ) → Comes h (carried h times) (main_least_found h times)
-unfolding least_of least_of_both
-carried_comes h times = record { recent = Carries times ∷ []; parts = refl; rate = refl; found = refl }
+carried_comes : (h : Held) (times : List ℕ) → Comes h (carried h times) (main_least_found h times) (main_found h times)
+unfolding least_of least_of_both most_of
+carried_comes h times = record { recent = Carries times ∷ []; parts = refl; rate = refl; found = refl; most_found = omega arith }
 
-goes_comes : (h : Held) (enters : Bool) (times : List ℕ) → Comes h (if enters then carried h times else passed h times) (if enters then main_least_found h times else None)
+goes_comes : (h : Held) (enters : Bool) (times : List ℕ) →
+    Comes h (if enters then carried h times else passed h times) (if enters then main_least_found h times else None) (if enters then main_found h times else 0)
 goes_comes h true times = carried_comes h times
 goes_comes h false times = passed_comes h times
 
-payload_comes : (h : Held) (enters : Bool) (n : ℕ) (times : List ℕ) → Comes h (after_payload h enters n times) (payload_main_least h enters n times)
-unfolding after_payload payload_main_least
+payload_comes : (h : Held) (enters : Bool) (n : ℕ) (times : List ℕ) →
+    Comes h (after_payload h enters n times) (payload_main_least h enters n times) (payload_main_most h enters n times)
+unfolding after_payload payload_main_least payload_main_most
 payload_comes h enters n times = elim (eqb_tells n 0) [
   | inl none ↦ rw none.0 (nothing_comes h)
   | inr some ↦ rw some.0 (goes_comes h enters times)
 ]
 
-header_comes : (h : Held) (n : ℕ) (times : List ℕ) → Comes h (after_payload h false n times) None
+header_comes : (h : Held) (n : ℕ) (times : List ℕ) → Comes h (after_payload h false n times) None 0
 unfolding after_payload
 header_comes h n times = elim (eqb_tells n 0) [
   | inl none ↦ rw none.0 (nothing_comes h)
   | inr some ↦ rw some.0 (passed_comes h times)
 ]
 
-begin_comes : (h : Held) (due : Option DueTime) → Comes h (after_begin h due) None
-unfolding after_begin least_of
+begin_comes : (h : Held) (due : Option DueTime) → Comes h (after_begin h due) None 0
+unfolding after_begin least_of most_of
 begin_comes h None = nothing_comes h
-begin_comes h (Some due) = record { recent = Begins due ∷ []; parts = refl; rate = refl; found = refl }
+begin_comes h (Some due) = record { recent = Begins due ∷ []; parts = refl; rate = refl; found = refl; most_found = refl }
 
-parts_come : (h : Held) (arrival : Arrival) (p : Arriving) (size lead : ℕ) → Comes h (with_packet h arrival p size lead) (ended_with h arrival p size lead).main_least
+parts_come : (h : Held) (arrival : Arrival) (p : Arriving) (size lead : ℕ) →
+    Comes h (with_packet h arrival p size lead) (ended_with h arrival p size lead).main_least (ended_with h arrival p size lead).main_most
 unfolding least_of_both
 parts_come h arrival p size lead =
     let a : Held = after_lead h arrival p lead in
@@ -119,40 +130,44 @@ parts_come h arrival p size lead =
     let second = header_comes a (188 - size - lead) (times_at arrival a.rx (188 * p.index + lead) (188 - size - lead)) in
     let third = begin_comes b p.begins in
     let last = payload_comes c p.enters size (times_at arrival c.rx (188 * p.index + (188 - size)) size) in
-    both_come h c (with_packet h arrival p size lead) None _ (both_come h b c None None (both_come h a b None None first second) third) last
+    let none : max (max (max 0 0) 0) (ended_with h arrival p size lead).main_most ≡ (ended_with h arrival p size lead).main_most = omega arith in
+    subst (λ (n : ℕ). Comes h (with_packet h arrival p size lead) (ended_with h arrival p size lead).main_least n) none
+    (both_come h c (with_packet h arrival p size lead) None _ _ _ (both_come h b c None None _ 0 (both_come h a b None None 0 0 first second) third) last)
 
-pub packet_comes : (h : Held) (arrival : Arrival) (p : Arriving) → Comes h (after h arrival p) (entered h arrival p).main_least
+pub packet_comes : (h : Held) (arrival : Arrival) (p : Arriving) → Comes h (after h arrival p) (entered h arrival p).main_least (entered h arrival p).main_most
 unfolding after entered
 packet_comes h arrival p = by (takes_in h arrival p)
   where
-    by : (b : Bool) → Comes h (if b then with_packet h arrival p (size_of p) (lead_in arrival p) else h) (if b then ended_with h arrival p (size_of p) (lead_in arrival p) else nothing).main_least
+    by : (b : Bool) → Comes h (if b then with_packet h arrival p (size_of p) (lead_in arrival p) else h)
+        (if b then ended_with h arrival p (size_of p) (lead_in arrival p) else nothing).main_least (if b then ended_with h arrival p (size_of p) (lead_in arrival p) else nothing).main_most
     by true = parts_come h arrival p (size_of p) (lead_in arrival p)
     by false = nothing_comes h
 
 -- ---- packets one after another
 
-pub each_comes : (h h' : Held) (least : Option ℕ) (xs : List Entering) → Comes h h' least → Comes h (after_entering h' xs) (least_after least (entered_by h' xs))
-unfolding after_entering entered_by least_after
-each_comes h h' least [] come = come
-each_comes h h' least (x ∷ xs) come =
-    let found : Option ℕ = (entered h' x.arrival x.packet).main_least in
-    each_comes h (after h' x.arrival x.packet) (least_of_both least found) xs
-    (both_come h h' (after h' x.arrival x.packet) least found come (packet_comes h' x.arrival x.packet))
+pub each_comes : (h h' : Held) (least : Option ℕ) (most : ℕ) (xs : List Entering) → Comes h h' least most →
+    Comes h (after_entering h' xs) (least_after least (entered_by h' xs)) (most_after most (entered_by h' xs))
+unfolding after_entering entered_by least_after most_after
+each_comes h h' least most [] come = come
+each_comes h h' least most (x ∷ xs) come =
+    let v : EnteredView = entered h' x.arrival x.packet in
+    each_comes h (after h' x.arrival x.packet) (least_of_both least v.main_least) (max most v.main_most) xs
+    (both_come h h' (after h' x.arrival x.packet) least v.main_least most v.main_most come (packet_comes h' x.arrival x.packet))
 
 pub window_low_law : WindowLowLaw
 window_low_law h xs n pos is =
-    let come = each_comes h h None xs (nothing_comes h) in
+    let come = each_comes h h None 0 xs (nothing_comes h) in
     record { recent = come.recent; come = come.parts; low = lows_law h.rate come.recent h.parts n pos (come.found ∙ is) }
 
 -- ---- what is counted
 
-same_window : (t : Tally) (window : ℕ) → t.window ≡ window → in_window t window ≡ t
+pub same_window : (t : Tally) (window : ℕ) → t.window ≡ window → in_window t window ≡ t
 same_window t window is = elim (eqb_tells t.window window) [
   | inl same ↦ rw same.0 refl
   | inr other ↦ absurd (other.1 is)
 ]
 
-in_that_window : (t : Tally) (window : ℕ) → (in_window t window).window ≡ window
+pub in_that_window : (t : Tally) (window : ℕ) → (in_window t window).window ≡ window
 in_that_window t window = elim (eqb_tells t.window window) [
   | inl same ↦ rw same.0 same.1
   | inr other ↦ rw other.0 refl
@@ -248,7 +263,7 @@ unfolding least_after
 after_some least [] e = e
 after_some least (v ∷ vs) e = after_some (least_of_both least v.main_least) vs (both_some least v.main_least e)
 
-least_some : (least : Option ℕ) (h : Held) (xs : List Entering) → HasPayload h xs → is_some (least_after least (entered_by h xs)) ≡ true
+pub least_some : (least : Option ℕ) (h : Held) (xs : List Entering) → HasPayload h xs → is_some (least_after least (entered_by h xs)) ≡ true
 unfolding least_after entered_by HasPayload
 least_some least h [] has = absurd has
 least_some least h (x ∷ xs) (inl here) =
@@ -260,7 +275,7 @@ is_there : (o : Option ℕ) → is_some o ≡ true → (n : ℕ) × (o ≡ Some 
 is_there None e = absurd (let no : ⊥ = cc in no)
 is_there (Some n) e = (n, refl)
 
-none_has : (h : Held) (xs : List Entering) → [] ≡ entered_by h xs → HasPayload h xs → ⊥
+pub none_has : (h : Held) (xs : List Entering) → [] ≡ entered_by h xs → HasPayload h xs → ⊥
 unfolding entered_by HasPayload
 none_has h [] same has = has
 none_has h (x ∷ xs) same has = let no : ⊥ = cc in no

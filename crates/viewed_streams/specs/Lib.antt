@@ -10,4 +10,6 @@ pub mod ViewedRuns
 pub mod WindowLows
 pub mod HeldWindows
 pub mod ClockedWindows
+pub mod WindowHighs
+pub mod TransportHighs
 pub mod AsMeasured

@@ -6,8 +6,10 @@ ghost use Rattle.viewed_streams.specs.MainExcesses.{NoMainExcessLaw, TimedNoExce
 ghost use Rattle.viewed_streams.specs.MeasuredStreams.{MeasuredStreamLaw};
 ghost use Rattle.viewed_streams.specs.MuxedStreams.{JobNoExcessLaw, MuxedStreamLaw};
 ghost use Rattle.viewed_streams.specs.TimedStreams.{ClockedStreamLaw, RateOrderLaw, TimedStreamLaw};
+ghost use Rattle.viewed_streams.specs.TransportHighs.{TimedTransportLaw, TransportHighLaw, WindowTransportLaw};
 ghost use Rattle.viewed_streams.specs.ViewedRuns.{JobFirstLaw, JobLateLaw, JobLateUnitsLaw, JobMainLaw, RunFirstLaw, RunLateLaw, RunLateUnitsLaw, RunMainLaw};
 ghost use Rattle.viewed_streams.specs.WholeStreams.{LastLinesLaw, WholeStreamLaw};
+ghost use Rattle.viewed_streams.specs.WindowHighs.{ClockedHighLaw, FirstHighLaw, HighWithoutLaw, RateHighLaw, TimedHighLaw, WholeHighLaw, WindowHighLaw, WindowMostLaw};
 ghost use Rattle.viewed_streams.specs.WindowLows.{WholeWindowLaw, WindowLeastLaw, WindowLowLaw, WindowWithoutLaw};
 
 /// At a constant rate the last lines of a stream are about all packets of its PID, from the one with which its buffers begin: the line
@@ -51,6 +53,25 @@ pub fn window_lows()
 pub fn clocked_windows()
     ensures tables { ClockedTablesLaw }
     ensures window { ClockedWindowLaw }
+{}
+
+/// The greatest that a line `held` says of a main buffer is the most that the bytes of its window's packets find in it, themselves counted, and
+/// this is the greatest fullness of the buffer from their first payload byte that enters it on: what is in it before may be more. So a report
+/// counts it of a stream whose buffers began before the window, whichever way packets arrive; where no byte enters, the line says 0, and where
+/// they begin in the window, what the line `main` says so far. The greatest of a transport buffer is its greatest fullness from the first byte
+/// of the window's packets on, where no byte arrives before an earlier one.
+pub fn window_highs()
+    ensures counted { WindowMostLaw }
+    ensures main { WindowHighLaw }
+    ensures whole { WholeHighLaw }
+    ensures without { HighWithoutLaw }
+    ensures timed { TimedHighLaw }
+    ensures report { RateHighLaw }
+    ensures clocked { ClockedHighLaw }
+    ensures first { FirstHighLaw }
+    ensures counted_transport { WindowTransportLaw }
+    ensures transport { TransportHighLaw }
+    ensures timed_transport { TimedTransportLaw }
 {}
 
 /// The greatest number of bytes in a transport buffer is no more than what `tstd::measure` finds of the same bytes, and the same

@@ -1,0 +1,40 @@
+use Rattle.viewed_streams.proofs.FirstWindows.{first_high_law}
+use Rattle.viewed_streams.proofs.ClockedWindows.{clocked_high_law}
+use Rattle.viewed_streams.proofs.HeldWindows.{timed_high_law}
+use Rattle.viewed_streams.proofs.RateWindows.{rate_high_law}
+use Rattle.viewed_streams.proofs.TransportHighs.{timed_transport_law, transport_high_law, window_transport_law}
+use Rattle.viewed_streams.proofs.WindowHighs.{high_without_law, whole_high_law, window_high_law, window_most_law}
+use Rattle.viewed_streams.proofs.laws.window_highs.Goals as goal
+
+pub returns-clause-counted : goal.returns-clause-counted
+returns-clause-counted c = window_most_law
+
+pub returns-clause-main : goal.returns-clause-main
+returns-clause-main c = window_high_law
+
+pub returns-clause-whole : goal.returns-clause-whole
+returns-clause-whole c = whole_high_law
+
+pub returns-clause-without : goal.returns-clause-without
+returns-clause-without c = high_without_law
+
+pub returns-clause-timed : goal.returns-clause-timed
+returns-clause-timed c = timed_high_law
+
+pub returns-clause-report : goal.returns-clause-report
+returns-clause-report c = rate_high_law
+
+pub returns-clause-clocked : goal.returns-clause-clocked
+returns-clause-clocked c = clocked_high_law
+
+pub returns-clause-first : goal.returns-clause-first
+returns-clause-first c = first_high_law
+
+pub returns-clause-counted_transport : goal.returns-clause-counted_transport
+returns-clause-counted_transport c = window_transport_law
+
+pub returns-clause-transport : goal.returns-clause-transport
+returns-clause-transport c = transport_high_law
+
+pub returns-clause-timed_transport : goal.returns-clause-timed_transport
+returns-clause-timed_transport c = timed_transport_law

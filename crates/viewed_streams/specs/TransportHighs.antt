@@ -1,0 +1,63 @@
+-- The greatest that a line `held` says of a transport buffer: over the packets of a window, the greatest fullness of the buffer from their first
+-- byte that arrives on. What the buffer holds before that byte arrives may be more, and is not counted.
+use Rattle.std.specs.Prelude.{◌≡◌, ℕ, ◌+◌, ◌^◌, ◌<◌, ◌≤◌, ◌==◌, max, Bool, true, false, map, List, [], ◌∷◌, ◌++◌, length, slice_get, Some, All}
+use Rattle.clock27.specs.Departure.{departures}
+use Rattle.clock27.specs.Fullness.{fullness}
+use Rattle.transport_buffer.specs.Laws.{Rises}
+use Rattle.stream_buffers.specs.Held.{Held}
+use Rattle.stream_buffers.specs.Entering.{EnteredView}
+use Rattle.stream_view.specs.History.{arrivals_of}
+use Rattle.stream_times.specs.TimedPackets.{Timed}
+use Rattle.stream_report.specs.Choices.{RequestView}
+use Rattle.stream_report.specs.Entries.{EntryState}
+use Rattle.stream_report.specs.Tallies.{in_window}
+use Rattle.stream_report.specs.Views.{start}
+use Rattle.stream_report.specs.declared.tally.Tally.{Tally}
+use Rattle.viewed_streams.specs.HeldWindows.{BeginIn, options_then, window_entering}
+use Rattle.viewed_streams.specs.TimedStreams.{Entering, after_entering, entered_by, view_by}
+use Rattle.viewed_streams.specs.WindowLows.{counted_each}
+
+-- 1. Packets of a window
+
+-- the most that was in the transport buffer when a byte of these packets arrived, and that so far
+unfoldable pub transport_after : ℕ → List EnteredView → ℕ
+transport_after most [] = most
+transport_after most (v ∷ vs) = transport_after (max most v.transport_most) vs
+
+-- the most of a window is that of its packets, from the first on
+abbrev pub WindowTransportLaw : Type 0
+WindowTransportLaw = (t : Tally) (window : ℕ) (v : Bool × EnteredView) (vs : List (Bool × EnteredView)) → (in_window t window).window_transport ≡ 0 →
+    (counted_each t window (v ∷ vs)).window_transport ≡ transport_after 0 (map (λ w. w.1) (v ∷ vs))
+
+-- bytes have arrived at the times `all`, the first of them at those `before`, and n is the greatest in the buffer from when the first of the
+-- others has: from then on no more of all of them is in it, and so much is when one of the others arrives
+pub record IsFull (step : ℕ) (before all : List ℕ) (n : ℕ) : Type 0 where
+  pub arrived : List ℕ
+  pub follow : all ≡ before ++ arrived
+  pub never_more : (x : ℕ) → (All (λ t. x < t) arrived → ⊥) → fullness x all (departures step 0 all) ≤ n
+  pub first : List ℕ
+  pub moment : ℕ
+  pub others : List ℕ
+  pub arrives : arrived ≡ first ++ moment ∷ others
+  pub reached : fullness moment all (departures step 0 all) ≡ n
+
+-- those of packets, after all before them
+abbrev pub IsFullWith : Held → List Entering → ℕ → Type 0
+IsFullWith h xs n = IsFull h.rate (arrivals_of h.parts) (arrivals_of (after_entering h xs).parts) n
+
+-- whichever way each of them arrives, where no byte does before an earlier one
+abbrev pub TransportHighLaw : Type 0
+TransportHighLaw = (h : Held) (xs : List Entering) → 0 < h.rate → Rises 0 (arrivals_of (after_entering h xs).parts) →
+    0 < transport_after 0 (entered_by h xs) → IsFullWith h xs (transport_after 0 (entered_by h xs))
+
+-- 2. In a report, at the end of a window before which the stream's buffers have begun, where a line `held` is told: of a packet of the window, with
+-- more than 0
+
+abbrev pub TimedTransportLaw : Type 0
+TimedTransportLaw = (request : RequestView) (before packets : List Timed) (window place : ℕ) (e e' : EntryState) → length before + length packets < 2 ^ 64 →
+    slice_get (view_by (start request) before).table.entries place ≡ Some e →
+    slice_get (view_by (start request) (before ++ packets)).table.entries place ≡ Some e' →
+    (e.tally.window == window) ≡ false → (e'.tally.window == window) ≡ true →
+    BeginIn (options_then request e before) window (length before) packets → 0 < e.held.rate →
+    Rises 0 (arrivals_of (after_entering e.held (window_entering request before e packets)).parts) → 0 < e'.tally.window_transport →
+    IsFullWith e.held (window_entering request before e packets) e'.tally.window_transport

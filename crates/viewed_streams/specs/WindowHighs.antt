@@ -1,0 +1,102 @@
+-- The greatest that a line `held` says of a main buffer: over the packets of a window, the greatest fullness of the buffer from their first
+-- payload byte that enters it on. What the buffer holds before that byte enters may be more, and is not counted.
+use Rattle.std.specs.Prelude.{◌≡◌, ℕ, ◌+◌, ◌^◌, ◌<◌, ◌≤◌, ◌==◌, max, Bool, false, map, List, [], ◌∷◌, ◌++◌, length, slice_get, Some, None, All}
+use Rattle.stream_arrival.specs.declared.arrival.Arrival.TheVariants.{Unknown}
+use Rattle.stream_buffers.specs.Held.{Held, main_most}
+use Rattle.stream_buffers.specs.Entering.{EnteredView}
+use Rattle.stream_view.specs.History.{Part, main_fullness, payload_left}
+use Rattle.stream_times.specs.TimedPackets.{Timed}
+use Rattle.stream_report.specs.Choices.{RequestView}
+use Rattle.stream_report.specs.Entries.{EntryState}
+use Rattle.stream_report.specs.StreamTables.{TableState}
+use Rattle.stream_report.specs.Views.{after_all, start}
+use Rattle.stream_report.specs.Tallies.{in_window}
+use Rattle.stream_report.specs.declared.tally.Tally.{Tally}
+use Rattle.viewed_streams.specs.ClockedWindows.{report_tables, timed_in}
+use Rattle.viewed_streams.specs.HeldWindows.{BeginIn, LieIn, options_then, window_entering, window_packets}
+use Rattle.viewed_streams.specs.TimedStreams.{Entering, after_entering, entered_by, entering, view_by}
+use Rattle.viewed_streams.specs.WindowLows.{HasPayload, counted_each}
+
+-- 1. Packets of a window
+
+-- the most that was in the main buffer when a byte of these packets entered it, and that so far
+unfoldable pub most_after : ℕ → List EnteredView → ℕ
+most_after most [] = most
+most_after most (v ∷ vs) = most_after (max most v.main_most) vs
+
+-- the most of a window is that of its packets, from the first on: before that one has entered none has been found in it
+abbrev pub WindowMostLaw : Type 0
+WindowMostLaw = (t : Tally) (window : ℕ) (v : Bool × EnteredView) (vs : List (Bool × EnteredView)) → (in_window t window).window_main ≡ 0 →
+    (counted_each t window (v ∷ vs)).window_main ≡ most_after 0 (map (λ w. w.1) (v ∷ vs))
+
+-- n is the greatest in the buffer from when the first payload byte of the parts `recent` has entered, that come after those `before`: from
+-- then on no more of all of them is in it, and so much is when one of their own enters
+pub record IsHigh (step : ℕ) (recent before : List Part) (n : ℕ) : Type 0 where
+  -- when their own enter: all others have before
+  pub entries : List ℕ
+  pub follow : payload_left step (recent ++ before) ≡ payload_left step before ++ entries
+  pub later : All (λ e. All (λ d. d < e) (payload_left step before)) entries
+  pub never_more : (x : ℕ) → (All (λ d. x < d) entries → ⊥) → main_fullness step (recent ++ before) x ≤ n
+  pub first : List ℕ
+  pub moment : ℕ
+  pub others : List ℕ
+  pub enters : entries ≡ first ++ moment ∷ others
+  pub reached : main_fullness step (recent ++ before) moment ≡ n
+
+-- parts come with packets, and n is the greatest fullness of the main buffer from their first payload byte on
+pub record IsHighWith (h : Held) (xs : List Entering) (n : ℕ) : Type 0 where
+  pub recent : List Part
+  pub come : (after_entering h xs).parts ≡ recent ++ h.parts
+  pub high : IsHigh h.rate recent h.parts n
+
+-- whichever way each of them arrives, where one has a payload byte that goes on to the main buffer
+abbrev pub WindowHighLaw : Type 0
+WindowHighLaw = (h : Held) (xs : List Entering) → 0 < h.rate → HasPayload h xs → IsHighWith h xs (most_after 0 (entered_by h xs))
+
+-- so a line says of all packets of a window, where nothing of it was counted before them and one carries payload
+abbrev pub WholeHighLaw : Type 0
+WholeHighLaw = (t : Tally) (window : ℕ) (h : Held) (xs : List Entering) (vs : List (Bool × EnteredView)) → 0 < h.rate →
+    (in_window t window).window_main ≡ 0 → map (λ w. w.1) vs ≡ entered_by h xs → HasPayload h xs →
+    IsHighWith h xs (counted_each t window vs).window_main
+
+-- and where no byte of them enters the main buffer it says 0, whatever the buffer holds
+abbrev pub HighWithoutLaw : Type 0
+HighWithoutLaw = (t : Tally) (window : ℕ) (h : Held) (xs : List Entering) (v : Bool × EnteredView) (vs : List (Bool × EnteredView)) →
+    (in_window t window).window_main ≡ 0 → map (λ w. w.1) (v ∷ vs) ≡ entered_by h xs → (HasPayload h xs → ⊥) →
+    (counted_each t window (v ∷ vs)).window_main ≡ 0
+
+-- 2. In a report, at the end of a window before which the stream's buffers have begun
+
+-- of packets that arrive in any way
+abbrev pub TimedHighLaw : Type 0
+TimedHighLaw = (request : RequestView) (before packets : List Timed) (window place : ℕ) (e e' : EntryState) → length before + length packets < 2 ^ 64 →
+    slice_get (view_by (start request) before).table.entries place ≡ Some e →
+    slice_get (view_by (start request) (before ++ packets)).table.entries place ≡ Some e' →
+    (e.tally.window == window) ≡ false → BeginIn (options_then request e before) window (length before) packets → 0 < e.held.rate →
+    HasPayload e.held (window_entering request before e packets) → IsHighWith e.held (window_entering request before e packets) e'.tally.window_main
+
+-- where all arrive alike, as at a constant rate
+abbrev pub RateHighLaw : Type 0
+RateHighLaw = (request : RequestView) (before packets : List (List ℕ)) (window place : ℕ) (e e' : EntryState) → length before + length packets < 2 ^ 64 →
+    slice_get (after_all (start request) before).table.entries place ≡ Some e →
+    slice_get (after_all (start request) (before ++ packets)).table.entries place ≡ Some e' →
+    (e.tally.window == window) ≡ false → LieIn request window (length before) (length packets) → 0 < e.held.rate →
+    HasPayload e.held (entering request.options.arrival (window_packets request before e packets)) →
+    IsHighWith e.held (entering request.options.arrival (window_packets request before e packets)) e'.tally.window_main
+
+-- and by clock references
+abbrev pub ClockedHighLaw : Type 0
+ClockedHighLaw = (request : RequestView) (packets : List (List ℕ)) (before now later : List Timed) (window place : ℕ) (t t' : TableState)
+    (e e' : EntryState) → request.options.arrival ≡ Unknown → length packets < 2 ^ 64 → timed_in request packets ≡ before ++ (now ++ later) →
+    slice_get (report_tables request packets) (length before) ≡ Some t → slice_get t.entries place ≡ Some e →
+    slice_get (report_tables request packets) (length (before ++ now)) ≡ Some t' → slice_get t'.entries place ≡ Some e' →
+    (e.tally.window == window) ≡ false → BeginIn (options_then request e before) window (length before) now →
+    HasPayload e.held (window_entering request before e now) → IsHighWith e.held (window_entering request before e now) e'.tally.window_main
+
+-- 3. In the window in which they begin: the most of all packets so far, as the line `main` says it
+
+abbrev pub FirstHighLaw : Type 0
+FirstHighLaw = (request : RequestView) (before packets : List Timed) (window place : ℕ) (e : EntryState) → length before + length packets < 2 ^ 64 →
+    slice_get (view_by (start request) before).table.entries place ≡ None →
+    slice_get (view_by (start request) (before ++ packets)).table.entries place ≡ Some e →
+    BeginIn (options_then request e before) window (length before) packets → 0 < e.held.rate → e.tally.window_main ≡ main_most e.held
