@@ -80,7 +80,19 @@ pub(crate) fn note_decided_here<'p, 'a: 'p, A: Allocator + Clone>(
     note_here(place, begun, what, found)
 }
 
-/// A PES packet that begins.
+// The most room that is taken at once, however long a PES packet says that it is.
+const MOST_ROOM: usize = 4_096;
+
+// The bytes, with room for as many as their PES packet has in all, or for the first of these.
+fn with_room<A: Allocator>(alloc: A, bytes: &[u8], all: usize) -> Result<Vec<u8, A>, AllocError>
+    ensures { IfOk result (λ held. held.items ≡ bytes.now) }
+{
+    let mut held = Vec::with_capacity(alloc, all.min(MOST_ROOM))?;
+    held.extend_from_slice(bytes)?;
+    Ok(held)
+}
+
+/// A PES packet that begins. Its bytes are given the room that they take in all, or some of it.
 #[tactic(auto, unfolding(crate::specs::Findings::undecided, crate::specs::Findings::unless_decided, crate::specs::Findings::found_within))]
 pub(crate) fn begin_pes<'p, 'a: 'p, A: Allocator + Clone>(
     alloc: &A,
@@ -102,7 +114,7 @@ pub(crate) fn begin_pes<'p, 'a: 'p, A: Allocator + Clone>(
     match decide(UnitKind::Pes, bytes) {
         None => {
             let least = least_size(bytes);
-            let bytes = Vec::from_slice(alloc.clone()?, bytes)?;
+            let bytes = with_room(alloc.clone()?, bytes, least)?;
             Ok(Some(OpenUnit {
                 packet: place.packet,
                 kind: UnitKind::Pes,
