@@ -1,8 +1,8 @@
 -- The units of a PID from its findings one by one: which unit a finding makes whole, and which one is under way after it.
-use Rattle.std.specs.Prelude.{◌≡◌, ℕ, ◌==◌, ◌||◌, Bool, false, if◌then◌else◌, Option, Some, None, List, [], ◌∷◌, ◌++◌, length}
+use Rattle.std.specs.Prelude.{◌≡◌, ℕ, ◌==◌, ◌||◌, Bool, false, if◌then◌else◌, Option, Some, None, unwrap_or, List, [], ◌∷◌, ◌++◌, length}
 use Rattle.std.specs.Option.{option_to_list}
 use Rattle.demux.specs.Views.{FindingView}
-use Rattle.stream_units.specs.CarriedUnits.{RoleView, Ignored, Start, Continuation, Interruption, CarriedUnit, role_of, is_cut, is_split, with_more, carried_units}
+use Rattle.stream_units.specs.CarriedUnits.{RoleView, Ignored, Start, Continuation, Interruption, CarriedUnit, role_of, end_of, is_cut, is_split, with_more, carried_units}
 
 -- what is kept of a PID: its number, whether a part may be lost of a unit after which something is lost, and the unit under way,
 -- with the bytes that it has so far
@@ -43,6 +43,11 @@ made_whole split u Ignored = None
 made_whole split u (Start next) = ended_unit false u
 made_whole split u (Continuation id body) = if has_id id u then None else ended_unit split u
 made_whole split u (Interruption unstamped) = ended_unit split u
+
+-- a role cuts the unit under way, of this stream_id: it ends it by something else than the start of the next one
+unfoldable pub cuts : Option ℕ → RoleView → Bool
+cuts None role = false
+cuts (Some id) role = unwrap_or (end_of id role) false
 
 -- the unit under way after a role
 unfoldable pub goes_on_as : Option CarriedUnit → RoleView → Option CarriedUnit

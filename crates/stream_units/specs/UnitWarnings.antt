@@ -1,5 +1,5 @@
 -- Warnings: what is found on a PID and is in no unit that is carried, and a PES packet whose end is not known.
-use Rattle.std.specs.Prelude.{ℕ, ◌==◌, ◌&&◌, Bool, nat_le, if◌then◌else◌, Option, Some, None, List, [], ◌∷◌, ◌++◌, length}
+use Rattle.std.specs.Prelude.{ℕ, ◌==◌, ◌&&◌, Bool, false, nat_le, if◌then◌else◌, Option, Some, None, List, [], ◌∷◌, ◌++◌, length}
 use Rattle.pes_packet.specs.declared.time_stamps.Stamps.{Stamps}
 use Rattle.pes_packet.specs.declared.time_stamps.Stamps.TheVariants.{Absent, Pts, PtsDts}
 use Rattle.demux.specs.Views.{WhatView, IsDuplicate, BreaksCounter, IsScrambled, IsTruncated, IsSection, IsBadSection, IsPes, IsBadPes, IsBadPacket, IsErrored, FindingView}
@@ -58,6 +58,11 @@ cause_of_what count packet current lost alone IsErrored = None
 unfoldable pub id_of : WhatView → ℕ
 id_of (IsPes header unended body) = header.id
 id_of _ = 0
+
+-- a PES packet without bytes
+unfoldable pub is_empty : WhatView → Bool
+is_empty (IsPes header unended body) = length body == 0
+is_empty _ = false
 
 unfoldable pub cause_of : Bool → ℕ → ℕ → Option ℕ → FindingView → List FindingView → Option UnitWarningCause
 cause_of split pid count current finding later =

@@ -1,6 +1,7 @@
 //! The role of a finding among the units of a PID.
 
 ghost use Rattle.std.specs.Prelude.{◌≡◌, ◌↔◌, false, IsTrue, Some};
+ghost use Rattle.demux.specs.Laws.{has_pid};
 ghost use Rattle.demux.specs.Shown.{finding_view};
 ghost use Rattle.stream_units.specs.CarriedUnits as spec;
 ghost use Rattle.stream_units.specs.Shown.{role_view};
@@ -85,6 +86,7 @@ fn is_unstamped(begun: Option<(u64, Kind)>) -> bool
 #[tactic(auto, unfolding(crate::specs::CarriedUnits::role_of))]
 pub(crate) fn is_on<A: Allocator>(pid: u16, finding: &Finding<'_, A>) -> bool
     ensures on { IsTrue result ↔ (finding.now.pid ≡ Some pid) }
+    ensures same { result ≡ has_pid pid finding.now.pid }
     ensures other { result ≡ false → spec.role_of pid (finding_view finding.now) ≡ spec.Ignored }
 {
     finding.pid == Some(pid)

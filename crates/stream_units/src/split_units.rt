@@ -1,8 +1,9 @@
 //! Units of several PES packets.
 
-ghost use Rattle.std.specs.Prelude.{◌≡◌, ◌&&◌, map, option_map};
+ghost use Rattle.std.specs.Prelude.{◌≡◌, ◌&&◌, ◌||◌, map, option_map};
 ghost use Rattle.demux.specs.Shown.{finding_view};
 ghost use Rattle.stream_units.specs.CarriedUnits as spec;
+ghost use Rattle.stream_units.specs.UnitSteps as steps;
 ghost use Rattle.stream_units.specs.Shown.{role_view};
 
 use crate::pes_role::{PesRole, is_on, role_of};
@@ -76,25 +77,17 @@ fn is_part(first: Option<u8>, role: PesRole<'_>) -> bool
     }
 }
 
-// Whether a finding is a PES packet of a PID that goes on with a unit.
-#[tactic(auto, unfolding(crate::specs::CarriedUnits::is_part))]
-fn is_part_on<A: Allocator>(first: Option<u8>, pid: u16, finding: &Finding<'_, A>) -> bool
-    ensures { result ≡ spec.is_part first (spec.role_of pid (finding_view finding.now)) }
-{
-    if !is_on(pid, finding) {
-        return false;
-    }
-    is_part(first, role_of(pid, finding))
-}
-
 /// Whether units of a PID have several PES packets: then something that is lost after one may be a part of its unit.
-#[tactic(auto, unfolding(crate::specs::CarriedUnits::is_split))]
+#[tactic(auto, unfolding(crate::specs::CarriedUnits::is_split, crate::specs::CarriedUnits::is_part))]
 pub(crate) fn is_split<A: Allocator>(pid: u16, findings: &[Finding<'_, A>]) -> bool
     ensures { result ≡ spec.is_split pid (map finding_view findings.now) }
 {
     let first = first_id(pid, findings);
     for finding in findings {
-        if is_part_on(first, pid, finding) {
+        if !is_on(pid, finding) {
+            continue;
+        }
+        if is_part(first, role_of(pid, finding)) {
             return true;
         }
     }
@@ -112,6 +105,27 @@ fn end_of(id: u8, role: PesRole<'_>) -> Option<bool>
         PesRole::Continuation(other, _) => { if other == id { None } else { Some(true) } }
         PesRole::Interruption(_) => Some(true),
     }
+}
+
+// Whether a role cuts the unit of this stream_id that is under way, if there is one.
+#[tactic(auto, unfolding(crate::specs::UnitSteps::cuts))]
+fn cuts(current: Option<u8>, role: PesRole<'_>) -> bool
+    ensures { result ≡ steps.cuts current (role_view role.entry) }
+{
+    let Some(id) = current else {
+        return false;
+    };
+    match end_of(id, role) {
+        Some(cut) => cut,
+        None => false,
+    }
+}
+
+/// The same, or a unit was cut before.
+pub(crate) fn cuts_any(cut: bool, current: Option<u8>, role: PesRole<'_>) -> bool
+    ensures { result ≡ (cut || steps.cuts current (role_view role.entry)) }
+{
+    cut || cuts(current, role)
 }
 
 // Whether what follows ends a unit of this stream_id by something else than the start of the next one, or the end of

@@ -1,6 +1,6 @@
 //! The units of a PID, given as they become whole.
 
-ghost use Rattle.std.specs.Prelude.{◌≡◌, IfOk, OnOk, OnErr, None, true, false};
+ghost use Rattle.std.specs.Prelude.{◌≡◌, IfOk, OnOk, OnErr, None, true, false, option_map};
 ghost use Rattle.demux.specs.Shown.{finding_view};
 ghost use Rattle.stream_units.specs.CarriedUnits as units;
 ghost use Rattle.stream_units.specs.UnitSteps as spec;
@@ -145,6 +145,16 @@ impl<A: Allocator + Clone> UnitTaker<A> {
         match &self.unit {
             None => None,
             Some(unit) => Some((unit.packet, dts_of(&unit.unit))),
+        }
+    }
+
+    /// The stream_id of the unit under way.
+    pub(crate) fn stream_id(&self) -> Option<u8>
+        ensures { result ≡ option_map (λ u. u.stream_id) self.now.unit }
+    {
+        match &self.unit {
+            None => None,
+            Some(unit) => Some(unit.stream_id),
         }
     }
 

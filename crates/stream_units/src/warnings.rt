@@ -1,13 +1,14 @@
 //! What is found on a PID and is in no unit.
 
-ghost use Rattle.std.specs.Prelude.{◌≡◌, ◌==◌, ◌++◌, IfOk, OnOk, length, map};
+ghost use Rattle.std.specs.Prelude.{◌≡◌, ◌==◌, ◌&&◌, ◌++◌, IfOk, OnOk, None, length, map};
 ghost use Rattle.demux.specs.Shown.{finding_view, what_view};
-ghost use Rattle.stream_units.specs.CarriedUnits.{continuation, role_of};
+ghost use Rattle.stream_units.specs.CarriedUnits.{continuation};
+ghost use Rattle.stream_units.specs.UnitSteps.{has_cut};
 ghost use Rattle.stream_units.specs.UnitWarnings as spec;
 ghost use Rattle.stream_units.specs.Shown.{role_view};
 
 use crate::pes_role::{PADDING_STREAM, PesRole, first_packet, is_on, role_of};
-use crate::split_units::{is_lost, is_split, more_bytes_on};
+use crate::split_units::{cuts_any, is_lost, is_split, more_bytes_on};
 use crate::unit_warning::{UnitWarning, UnitWarningCause};
 use demux::{Finding, What};
 use pes_packet::Stamps;
@@ -24,17 +25,6 @@ fn current_after(current: Option<u8>, role: PesRole<'_>) -> Option<u8>
         PesRole::Continuation(id, _) => { if current == Some(id) { current } else { None } }
         PesRole::Interruption(_) => None,
     }
-}
-
-// The same after a finding that may be of another PID.
-#[tactic(auto, unfolding(crate::specs::UnitWarnings::current_after))]
-fn current_with<A: Allocator>(current: Option<u8>, pid: u16, finding: &Finding<'_, A>) -> Option<u8>
-    ensures { result ≡ spec.current_after current (role_of pid (finding_view finding.now)) }
-{
-    if !is_on(pid, finding) {
-        return current;
-    }
-    current_after(current, role_of(pid, finding))
 }
 
 // Whether no later finding has more bytes of a unit of this stream_id.
@@ -188,8 +178,27 @@ fn id_of<A: Allocator>(what: &What<'_, A>) -> u8
     }
 }
 
+// Whether it is a PES packet without bytes.
+#[tactic(auto, unfolding(crate::specs::UnitWarnings::is_empty))]
+fn is_empty<A: Allocator>(what: &What<'_, A>) -> bool
+    ensures { result ≡ spec.is_empty (what_view what.now) }
+{
+    match what {
+        What::Pes { body, .. } => body.bytes().is_empty(),
+        _ => false,
+    }
+}
+
+// Whether it is one, and no later finding has bytes of its unit: these are looked at only where it has none.
+fn is_alone<A: Allocator>(id: u8, pid: u16, what: &What<'_, A>, later: &[Finding<'_, A>]) -> bool
+    ensures { result ≡ (spec.is_empty (what_view what.now)
+        && (length (continuation id pid (map finding_view later.now)) == 0)) }
+{
+    is_empty(what) && has_no_continuation(id, pid, later)
+}
+
 // The warning about a finding of any PID, with the findings after it.
-#[tactic(auto, unfolding(crate::specs::UnitWarnings::cause_of))]
+#[tactic(auto, unfolding(crate::specs::UnitWarnings::cause_of), using(crate::proofs::UnitWarnings::alone_if_empty))]
 fn cause_of<A: Allocator>(
     split: bool,
     pid: u16,
@@ -205,7 +214,7 @@ fn cause_of<A: Allocator>(
     }
     let id = id_of(&finding.what);
     let lost = is_lost(split, id, pid, later);
-    let alone = has_no_continuation(id, pid, later);
+    let alone = is_alone(id, pid, &finding.what, later);
     cause_of_what(count, finding.packet, current, lost, alone, &finding.what)
 }
 
@@ -225,8 +234,42 @@ fn push_warning<A: Allocator>(
     Ok(())
 }
 
+// The warnings about a PID, where its units may have several PES packets if `split`, and whether one of them is cut.
+fn warnings_by<A: Allocator>(
+    alloc: A,
+    split: bool,
+    pid: u16,
+    count: u64,
+    findings: &[Finding<'_, A>],
+) -> Result<(Vec<UnitWarning, A>, bool), AllocError>
+    ensures warnings { IfOk result (λ found. found.0.items
+        ≡ spec.warnings_from split pid count None (map finding_view findings.now)) }
+    ensures cut { IfOk result (λ found. found.1 ≡ has_cut pid (map finding_view findings.now)) }
+{
+    let mut out = Vec::new(alloc);
+    let mut current = None;
+    let mut cut = false;
+    for (at, finding) in findings.iter().enumerate() {
+        if !is_on(pid, finding) {
+            continue;
+        }
+        let (_, later) = findings.split_at(at + 1);
+        let packet = first_packet(finding.packet, finding.begun);
+        push_warning(
+            &mut out,
+            packet,
+            cause_of(split, pid, count, current, finding, later),
+        )?;
+        let role = role_of(pid, finding);
+        cut = cuts_any(cut, current, role);
+        current = current_after(current, role);
+    }
+    Ok((out, cut))
+}
+
 /// What of the findings of a PID is in no unit that is carried, with the packet of its first byte and the cause, and
 /// which PES packet is taken without a known end; `count` is the number of whole packets of the stream.
+#[tactic(auto, using(crate::proofs::UnitWarnings::uncut_warnings))]
 pub fn unit_warnings<A: Allocator + Clone>(
     alloc: A,
     pid: u16,
@@ -235,18 +278,12 @@ pub fn unit_warnings<A: Allocator + Clone>(
 ) -> Result<Vec<UnitWarning, A>, AllocError>
     ensures { IfOk result (λ out. out.items ≡ spec.unit_warnings pid count (map finding_view findings.now)) }
 {
-    let split = is_split(pid, findings);
-    let mut out = Vec::new(alloc);
-    let mut current = None;
-    for (at, finding) in findings.iter().enumerate() {
-        let (_, later) = findings.split_at(at + 1);
-        let packet = first_packet(finding.packet, finding.begun);
-        push_warning(
-            &mut out,
-            packet,
-            cause_of(split, pid, count, current, finding, later),
-        )?;
-        current = current_with(current, pid, finding);
+    // Where no unit is cut, it is all the same whether units have several PES packets, and this is not asked.
+    let (out, cut) = warnings_by(alloc.clone()?, false, pid, count, findings)?;
+    if !cut || !is_split(pid, findings) {
+        return Ok(out);
     }
+    drop(out);
+    let (out, _) = warnings_by(alloc, true, pid, count, findings)?;
     Ok(out)
 }

@@ -1,0 +1,66 @@
+use Rattle.std.proofs.Common.{◌++◌, ◌∙◌, ◌||◌, sym, ap, ap₂, ℕ, Bool, Option, map}
+use Rattle.demux.specs.Shown.{finding_view}
+use Rattle.stream_units.specs.CarriedUnits.{RoleView, role_of, units_in}
+use Rattle.stream_units.specs.UnitSteps.{UnitsSoFar, cuts, has_cut}
+use Rattle.stream_units.specs.UnitWarnings.{current_after}
+use Rattle.stream_units.proofs.UnitSteps.{units_with, units_start, units_step, units_skip, units_finish, cut_start, cut_step, cut_skip, cut_finish, id_under_way, same_id}
+use Rattle.stream_units.proofs.carried.units_by.Goals as goal
+
+pub loop-finding-init : goal.loop-finding-init
+loop-finding-init g c =
+    let view = finding_view {A = g.row.A.Denot} in
+    let fs = c.args.findings.now in
+    record {
+      pid = ap (λ (s : UnitsSoFar). s.pid) c.new-taker.ensures;
+      units = units_start view c.args.split c.args.pid fs c.new-units.result.items c.new-units.ensures.items
+          ∙ ap (λ (s : UnitsSoFar). c.new-units.result.items ++ units_with s.split s.pid s.unit (map view fs)) (sym c.new-taker.ensures);
+      cut = cut_start view c.args.pid fs c.new-taker.result.unit (ap (λ (s : UnitsSoFar). s.unit) c.new-taker.ensures);
+    }
+
+pub loop-finding-preserved-then-not-is_on : goal.loop-finding-preserved-then-not-is_on
+loop-finding-preserved-then-not-is_on g c =
+    let view = finding_view {A = g.row.A.Denot} in
+    let inv = c.loop-finding.invariant in
+    let fs = c.args.findings.now in
+    let f = view c.finding-item.result in
+    let other = c.is_on.ensures.other c.if-not-is_on.true in
+    record {
+      pid = inv.pid;
+      units = units_skip view c.loop-finding.taker c.loop-finding.finding-index fs c.finding-item.result
+          (units_in c.args.split c.args.pid (map view fs)) c.loop-finding.units.items c.loop-finding-test.true c.finding-item.is
+          (ap (λ (p : ℕ). role_of p f) inv.pid ∙ other) inv.units;
+      cut = cut_skip view c.args.pid c.loop-finding.finding-index fs c.finding-item.result (id_under_way c.loop-finding.taker.unit) c.loop-finding.cut
+          (has_cut c.args.pid (map view fs)) c.loop-finding-test.true c.finding-item.is other inv.cut;
+    }
+
+pub loop-finding-preserved : goal.loop-finding-preserved
+loop-finding-preserved g c =
+    let view = finding_view {A = g.row.A.Denot} in
+    let inv = c.loop-finding.invariant in
+    let fs = c.args.findings.now in
+    let f = view c.finding-item.result in
+    let taker = c.loop-finding.taker in
+    let cut_as = c.cuts_any-cut.ensures ∙ ap₂ (λ (o : Option ℕ) (r : RoleView). c.loop-finding.cut || cuts o r) c.stream_id.ensures c.role_of.ensures in
+    let goes = ap (λ (s : UnitsSoFar). id_under_way s.unit) c.in_ok-unit.ensures.kept ∙ same_id taker.unit (role_of taker.pid f)
+    ∙ ap (λ (p : ℕ). current_after (id_under_way taker.unit) (role_of p f)) inv.pid in
+    record {
+      pid = ap (λ (s : UnitsSoFar). s.pid) c.in_ok-unit.ensures.kept ∙ inv.pid;
+      units = units_step view taker c.take.new.self c.loop-finding.finding-index fs c.finding-item.result c.in_ok-unit.unit
+          (units_in c.args.split c.args.pid (map view fs)) c.loop-finding.units.items c.push_unit.new.units.items
+          c.loop-finding-test.true c.finding-item.is inv.units c.in_ok-unit.ensures.given c.in_ok-unit.ensures.kept c.in_ok-push_unit.ensures;
+      cut = cut_step view c.args.pid c.loop-finding.finding-index fs c.finding-item.result (id_under_way taker.unit) (id_under_way c.take.new.self.unit)
+          c.loop-finding.cut c.cuts_any-cut.result (has_cut c.args.pid (map view fs)) c.loop-finding-test.true c.finding-item.is cut_as goes inv.cut;
+    }
+
+pub returns-clause-units : goal.returns-clause-units
+returns-clause-units g c =
+    let view = finding_view {A = g.row.A.Denot} in
+    units_finish view c.loop-finding.taker c.loop-finding.finding-index c.args.findings.now c.finish.result
+    (units_in c.args.split c.args.pid (map view c.args.findings.now)) c.loop-finding.units.items c.push_unit-2.new.units.items
+    c.loop-finding-test.false c.loop-finding.invariant.units c.finish.ensures c.in_ok-push_unit-2.ensures
+
+pub returns-clause-cut : goal.returns-clause-cut
+returns-clause-cut g c =
+    let view = finding_view {A = g.row.A.Denot} in
+    cut_finish view c.args.pid c.loop-finding.finding-index c.args.findings.now (id_under_way c.loop-finding.taker.unit) c.loop-finding.cut
+    (has_cut c.args.pid (map view c.args.findings.now)) c.loop-finding-test.false c.loop-finding.invariant.cut

@@ -1,7 +1,0 @@
-use Rattle.std.proofs.Common.{◌≡◌, ◌++◌, None, drop, map}
-use Rattle.demux.specs.Shown.{finding_view}
-use Rattle.stream_units.specs.UnitWarnings.{warnings_from}
-use Rattle.stream_units.proofs.warnings.unit_warnings.Given as goal
-
-abbrev pub invariant-loop-at : goal.invariant-loop-at
-invariant-loop-at g l = warnings_from l.split l.pid l.count None (map finding_view l.findings) ≡ l.out.items ++ warnings_from l.split l.pid l.count l.current (map finding_view (drop l.at l.findings))
