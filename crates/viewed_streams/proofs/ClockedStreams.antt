@@ -264,18 +264,20 @@ all_step q (bytes ∷ packets) =
 pub once : (pid : ClockPid) (packets : List (List ℕ)) → length (timed_packets pid packets) ≡ length packets
 once pid packets = sym (length-map (timed_packets pid packets) (λ p. p.bytes)) ∙ ap (λ (l : List (List ℕ)). length l) (each_once pid packets)
 
+pub clocked_order : (pid : ClockPid) (packets : List (List ℕ)) → All (λ bytes. length bytes ≡ 188) packets → InOrder 216000000 (timed_packets pid packets)
+clocked_order pid packets whole = record {
+  rises = λ chosen drain. rises_law pid packets chosen drain;
+  leads = lead_law pid packets whole;
+  same = all_step (no_packet pid) packets;
+}
+
 pub clocked_stream_law : ClockedStreamLaw
 unfolding queue_of clocked.after_all last_view views.after_all timed_from view_by
 clocked_stream_law request packets place e unknown whole few there =
     let pid : ClockPid = clock_for request.choice.programs in
     let start_is : clocked.start request ≡ record { view = views.start request; queue = Some (no_packet pid) } = rw unknown refl in
-    let order : InOrder 216000000 (timed_packets pid packets) = record {
-      rises = λ chosen drain. rises_law pid packets chosen drain;
-      leads = lead_law pid packets whole;
-      same = all_step (no_packet pid) packets;
-    } in
     let at_end = subst (λ (s : ClockedState). slice_get (last_view (clocked.after_all s packets).view (clocked.after_all s packets).queue).table.entries place ≡ Some e) start_is there in
-    timed_stream_law request 216000000 (timed_packets pid packets) place e (omega arith) order (omega (arith, few, once pid packets)) (in_view pid packets at_end)
+    timed_stream_law request 216000000 (timed_packets pid packets) place e (omega arith) (clocked_order pid packets whole) (omega (arith, few, once pid packets)) (in_view pid packets at_end)
   where
     in_view : (pid : ClockPid) (packets : List (List ℕ)) →
         slice_get (last_view (clocked.after_all (record { view = views.start request; queue = Some (no_packet pid) }) packets).view

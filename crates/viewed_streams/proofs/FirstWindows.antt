@@ -1,4 +1,4 @@
--- In the window in which a stream's buffers begin the least that its line `held` says is 0.
+-- In the window in which a stream's buffers begin the least that its line `held` says is 0, and the greatest that of all its packets so far.
 use Rattle.std.proofs.Common.{◌≡◌, ◌∙◌, sym, ℕ, ◌+◌, ◌-◌, ◌*◌, ◌^◌, ◌<◌, ◌⊎◌, min, Bool, true, false, List, [], ◌∷◌, ◌++◌, length, Option, Some, None, if◌then◌else◌, refl, ap, ap₂, subst, inl, inr, nat_eq, arith}
 use Rattle.std.specs.Prelude.{◌==◌, slice_get, unwrap_or}
 use Rattle.std.proofs.lemmas.List.{append-nil}
@@ -12,7 +12,7 @@ use Rattle.stream_programs.specs.Streams.{FoundStreamView}
 use Rattle.stream_view.specs.History.{Part, left_after, main_fullness, main_peak, row_least, until_of}
 use Rattle.stream_view.specs.History.Part.{Passes, Carries, Begins}
 use Rattle.stream_view.specs.Lows.{least_of, least_of_both}
-use Rattle.stream_buffers.specs.Held.{Held, main_most}
+use Rattle.stream_buffers.specs.Held.{Held, main_most, transport_most}
 use Rattle.stream_buffers.specs.Entering.{EnteredView, after, entered}
 use Rattle.stream_buffers.specs.declared.arriving.Arriving.{Arriving}
 use Rattle.stream_times.specs.TimedPackets.{Timed}
@@ -25,21 +25,22 @@ use Rattle.stream_report.specs.Seen.{next_window}
 use Rattle.stream_report.specs.StreamTables.{TableState}
 use Rattle.stream_report.specs.Tallies.{in_window, none_counted}
 use Rattle.stream_report.specs.Views.{ViewState, clocked, start, with_begun}
+use Rattle.viewed_streams.specs.FirstHighs.{FirstHighLaw}
 use Rattle.viewed_streams.specs.HeldWindows.{BeginIn, FirstWindowLaw, options_then}
-use Rattle.viewed_streams.specs.StreamPackets.{Followed, sound_packet}
-use Rattle.viewed_streams.specs.TimedStreams.{Entering, after_entering, entered_by, entering_among, followed_by, view_by}
-use Rattle.viewed_streams.specs.WholeStreams.{followed as request_followed, nothing_known}
-use Rattle.viewed_streams.specs.WindowHighs.{FirstHighLaw, most_after}
+use Rattle.viewed_streams.specs.StreamPackets.{sound_packet}
+use Rattle.viewed_streams.specs.TimedStreams.{Entering, after_entering, entered_by, entering_among, view_by}
+use Rattle.viewed_streams.specs.TransportHighs.{transport_after}
+use Rattle.viewed_streams.specs.WindowHighs.{most_after}
 use Rattle.viewed_streams.specs.WindowLows.{least_after}
 use Rattle.viewed_streams.proofs.ClockedStreams.{view_two}
 use Rattle.viewed_streams.proofs.Entries.{Agree, begun_agrees, begun_or_before, entry_begun, entry_with, taken_before}
 use Rattle.viewed_streams.proofs.Grown.{sound_options, sound_packets}
-use Rattle.viewed_streams.proofs.HeldWindows.{agree_by, counted_in}
-use Rattle.viewed_streams.proofs.Lists.{itself, some_is}
+use Rattle.viewed_streams.proofs.HeldWindows.{agree_by, begin_then, counted_in, grown_held, viewed_then}
+use Rattle.viewed_streams.proofs.Lists.{itself}
 use Rattle.viewed_streams.proofs.MainHighs.{first_most, most_of}
 use Rattle.viewed_streams.proofs.Steps.{after_sound, followed, known, sound_agrees}
-use Rattle.viewed_streams.proofs.TimedGrown.{came_is, grown_by, next_by, ready}
-use Rattle.viewed_streams.proofs.TimedWhole.{index_by, knows_by}
+use Rattle.viewed_streams.proofs.TimedGrown.{came_is, next_by, ready}
+use Rattle.viewed_streams.proofs.TransportHighs.{Arrives, each_arrives, each_transport, first_full, packet_arrives, packet_transport}
 use Rattle.viewed_streams.proofs.Whole.{none_agree}
 use Rattle.viewed_streams.proofs.WindowHighs.{each_most, packet_most}
 use Rattle.viewed_streams.proofs.WindowLows.{Comes, each_comes, each_least, packet_comes, packet_least}
@@ -101,30 +102,27 @@ least_zero step ps = elim (parts_start step ps) [
 
 -- ---- the packet with which buffers begin
 
--- what is counted of a window is the least of all that came since its buffers were empty
+-- what is counted of a window is of all that came since its buffers were empty
 record Counts (window : ℕ) (e : EntryState) : Type 0 where
   from : Held
   none : from.parts ≡ []
   come : Comes from e.held e.tally.window_least e.tally.window_main
+  arrive : Arrives from e.held e.tally.window_transport
   in_it : e.tally.window ≡ window
 
-none_before : (window : ℕ) → (in_window none_counted window).window_least ≡ None
+-- before that nothing is
+record CountsNone (t : Tally) : Type 0 where
+  least : t.window_least ≡ None
+  main : t.window_main ≡ 0
+  transport : t.window_transport ≡ 0
+
+none_before : (window : ℕ) → CountsNone (in_window none_counted window)
 none_before window = by (0 == window)
   where
     by : (b : Bool) →
-        (if b then none_counted else record none_counted { window = window; window_transport = 0; window_main = 0; window_least = None; window_units = 0; window_late = 0; slack = 2 ^ 128 - 1 }).window_least
-        ≡ None
-    by true = refl
-    by false = refl
-
-none_most : (window : ℕ) → (in_window none_counted window).window_main ≡ 0
-none_most window = by (0 == window)
-  where
-    by : (b : Bool) →
-        (if b then none_counted else record none_counted { window = window; window_transport = 0; window_main = 0; window_least = None; window_units = 0; window_late = 0; slack = 2 ^ 128 - 1 }).window_main
-        ≡ 0
-    by true = refl
-    by false = refl
+        CountsNone (if b then none_counted else record none_counted { window = window; window_transport = 0; window_main = 0; window_least = None; window_units = 0; window_late = 0; slack = 2 ^ 128 - 1 })
+    by true = record { least = refl; main = refl; transport = refl }
+    by false = record { least = refl; main = refl; transport = refl }
 
 begun_counts : (options : ViewOptions) (index window : ℕ) (clocks : ClockEntries) (named : NamedView) (t : TableState) (packet : PacketView) (stream : FoundStreamView) →
     Counts window (entry_with options index window clocks (entry_begun options named t packet stream) packet)
@@ -134,15 +132,22 @@ begun_counts options index window clocks named t packet stream =
     let own : nat_eq e.pid packet.header.pid ≡ true = itself packet.header.pid in
     let p : Arriving = arriving options index e.held.rx e.counter (clock_of clocks e.clock_pid) packet in
     let v : EnteredView = entered e.held options.arrival p in
-    let one = packet_least e.tally window (is_unread (beginning_in e.counter packet)) v in
-    let least = one.0 ∙ ap (λ (l : Option ℕ). least_of_both l v.main_least) (none_before window) in
-    let more = packet_most e.tally window (is_unread (beginning_in e.counter packet)) v in
-    let most : v.main_most ≡ (tally_after e.tally window (is_unread (beginning_in e.counter packet)) v).window_main = omega (arith, more.0, none_most window) in
+    let h : Held = after e.held options.arrival p in
+    let unread : Bool = is_unread (beginning_in e.counter packet) in
+    let then_counted : Tally = tally_after e.tally window unread v in
+    let before = none_before window in
+    let one = packet_least e.tally window unread v in
+    let least = one.0 ∙ ap (λ (l : Option ℕ). least_of_both l v.main_least) before.least in
+    let more = packet_most e.tally window unread v in
+    let most : v.main_most ≡ then_counted.window_main = omega (arith, more.0, before.main) in
+    let full = packet_transport e.tally window unread v in
+    let fullest : v.transport_most ≡ then_counted.window_transport = omega (arith, full.0, before.transport) in
     rw own (record {
       from = e.held;
       none = refl;
-      come = subst (λ (l : Option ℕ). Comes e.held (after e.held options.arrival p) l (tally_after e.tally window (is_unread (beginning_in e.counter packet)) v).window_main) (sym least)
-          (subst (λ (n : ℕ). Comes e.held (after e.held options.arrival p) v.main_least n) most (packet_comes e.held options.arrival p));
+      come = subst (λ (l : Option ℕ). Comes e.held h l then_counted.window_main) (sym least)
+          (subst (λ (n : ℕ). Comes e.held h v.main_least n) most (packet_comes e.held options.arrival p));
+      arrive = subst (λ (n : ℕ). Arrives e.held h n) fullest (packet_arrives e.held options.arrival p);
       in_it = one.1;
     })
 
@@ -165,17 +170,11 @@ first_counts r (Some packet) window j e agree none in_it there =
 
 -- ---- and the others of the window
 
--- what its line then says of the main buffer
+-- what its line then says
 record FirstSays (e : EntryState) : Type 0 where
   least : unwrap_or e.tally.window_least 0 ≡ 0
+  transport : e.tally.window_transport ≡ transport_most e.held
   main : 0 < e.held.rate → e.tally.window_main ≡ main_most e.held
-
-grown_held : (s : ViewState) (packets : List Timed) (j : ℕ) (e e' : EntryState) → Agree s.table → s.seen.packets + length packets < 2 ^ 64 →
-    slice_get s.table.entries j ≡ Some e → slice_get (view_by s packets).table.entries j ≡ Some e' →
-    e'.held ≡ after_entering e.held (entering_among (followed s e) (known s e) packets)
-grown_held s packets j e e' agree few there later =
-    let g = grown_by s packets j e agree few there in
-    ap (λ (x : EntryState). x.held) (some_is e' g.0 (sym later ∙ g.1.0)) ∙ g.1.1.held
 
 window_zero : (s : ViewState) (packets : List Timed) (window j : ℕ) (e e' : EntryState) → Counts window e → Agree s.table → s.seen.packets + length packets < 2 ^ 64 →
     slice_get s.table.entries j ≡ Some e → BeginIn s.seen.options window s.seen.packets packets → slice_get (view_by s packets).table.entries j ≡ Some e' →
@@ -195,8 +194,14 @@ window_zero s packets window j e e' k agree few there all later =
     ap (λ (t : Tally). t.window_main) c.tally ∙ each_most e.tally window c.vs k.in_it
     ∙ ap (λ (vs : List EnteredView). most_after e.tally.window_main vs) c.same
     ∙ sym come.most_found ∙ ap (λ (ps : List Part). most_of k.from.rate come.recent ps) k.none in
+    let arrive = each_arrives k.from e.held e.tally.window_transport xs k.arrive in
+    let full : e'.tally.window_transport ≡ transport_after e.tally.window_transport (entered_by e.held xs) =
+    ap (λ (t : Tally). t.window_transport) c.tally ∙ each_transport e.tally window c.vs k.in_it
+    ∙ ap (λ (vs : List EnteredView). transport_after e.tally.window_transport vs) c.same in
     record {
       least = ap (λ (o : Option ℕ). unwrap_or o 0) from_none ∙ least_zero k.from.rate come.recent;
+      transport = full ∙ sym (first_full k.from (after_entering e.held xs) (transport_after e.tally.window_transport (entered_by e.held xs)) k.none arrive)
+          ∙ ap (λ (h : Held). transport_most h) (sym held);
       main = λ pos. most ∙ first_most k.from.rate come.recent (omega (arith, pos, rate)) ∙ ap₂ main_peak (sym rate) (sym parts);
     }
 
@@ -229,15 +234,10 @@ in_first_window : (request : RequestView) (before packets : List Timed) (window 
     BeginIn (options_then request e before) window (length before) packets → FirstSays e
 in_first_window request before packets window place e few none there all =
     let s : ViewState = view_by (start request) before in
-    let f : Followed = request_followed request e in
-    let knows = knows_by (start request) f nothing_known before (record { options = refl; index = refl; clock = refl }) (omega (arith, few)) in
-    let zero_is : 0 + length before ≡ length before = omega arith in
-    let count : s.seen.packets ≡ length before = sym knows.index ∙ index_by f nothing_known before ∙ zero_is in
-    let in_it : BeginIn s.seen.options window s.seen.packets packets =
-    subst (λ (o : ViewOptions). BeginIn o window s.seen.packets packets) (sym knows.options)
-    (subst (λ (i : ℕ). BeginIn (followed_by f before).options window i packets) (sym count) all) in
+    let v = viewed_then request before e (omega (arith, few)) in
     let later = subst (λ (x : ViewState). slice_get x.table.entries place ≡ Some e) (view_two (start request) before packets) there in
-    first_window s packets window place e (agree_by (start request) before (none_agree request)) (omega (arith, count, few)) (λ d is. not_both d (sym none ∙ is)) in_it later
+    first_window s packets window place e (agree_by (start request) before (none_agree request)) (omega (arith, v.count, few)) (λ d is. not_both d (sym none ∙ is))
+    (begin_then request before window packets e v all) later
   where
     not_both : (d : EntryState) → None ≡ Some d → ⊥
     not_both d h = cc
@@ -246,4 +246,6 @@ pub first_window_law : FirstWindowLaw
 first_window_law request before packets window place e few none there all = (in_first_window request before packets window place e few none there all).least
 
 pub first_high_law : FirstHighLaw
-first_high_law request before packets window place e few none there all = (in_first_window request before packets window place e few none there all).main
+first_high_law request before packets window place e few none there all pos =
+    let says = in_first_window request before packets window place e few none there all in
+    record { transport = says.transport; main = says.main pos }

@@ -19,7 +19,7 @@ use Rattle.stream_report.specs.Tallies.{in_window}
 use Rattle.stream_report.specs.Views.{ViewState, clocked, start, with_begun}
 use Rattle.viewed_streams.specs.HeldWindows.{BeginIn, TimedWindowLaw, options_then, window_entering}
 use Rattle.viewed_streams.specs.StreamPackets.{Before, Followed, after_each, clock_with, entered_each, known_after, seen_in, sound_packet}
-use Rattle.viewed_streams.specs.TimedStreams.{Entering, entered_by, entering, entering_among, followed_by, followed_so, view_by}
+use Rattle.viewed_streams.specs.TimedStreams.{Entering, after_entering, entered_by, entering, entering_among, followed_by, followed_so, view_by}
 use Rattle.viewed_streams.specs.WholeStreams.{followed as request_followed, nothing_known}
 use Rattle.viewed_streams.specs.WindowHighs.{IsHighWith, TimedHighLaw}
 use Rattle.viewed_streams.specs.WindowLows.{HasPayload, SaysLow, counted_each}
@@ -28,7 +28,7 @@ use Rattle.viewed_streams.proofs.Entries.{Agree, begun_agrees, begun_keeps, entr
 use Rattle.viewed_streams.proofs.Grown.{sound_options, sound_packets}
 use Rattle.viewed_streams.proofs.Lists.{some_is}
 use Rattle.viewed_streams.proofs.Steps.{after_sound, clock_known, finished_steps, followed, known, sound_agrees, sound_steps}
-use Rattle.viewed_streams.proofs.TimedGrown.{came_is, next_by, ready}
+use Rattle.viewed_streams.proofs.TimedGrown.{came_is, grown_by, next_by, ready}
 use Rattle.viewed_streams.proofs.TimedWhole.{followed_is, index_by, knows_by, same_by}
 use Rattle.viewed_streams.proofs.Whole.{none_agree}
 use Rattle.viewed_streams.proofs.WindowHighs.{whole_high_law}
@@ -147,6 +147,52 @@ agree_by s (p ∷ packets) agree =
     let o : Option PacketView = sound_packet (packet_at p.bytes) in
     subst (λ (x : ViewState). Agree (view_by x packets).table) (sym (came_is s p)) (agree_by (next_by s p) packets (sound_agrees r o agree))
 
+-- how a stream is viewed once these packets have come
+pub record ViewedThen (request : RequestView) (before : List Timed) (e : EntryState) : Type 0 where
+  pub count : (view_by (start request) before).seen.packets ≡ length before
+  pub options : (view_by (start request) before).seen.options ≡ options_then request e before
+  pub same : followed (view_by (start request) before) e ≡ followed_by (request_followed request e) before
+
+pub viewed_then : (request : RequestView) (before : List Timed) (e : EntryState) → length before < 2 ^ 64 → ViewedThen request before e
+viewed_then request before e few =
+    let s : ViewState = view_by (start request) before in
+    let f0 : Followed = request_followed request e in
+    let f : Followed = followed_by f0 before in
+    let knows = knows_by (start request) f0 nothing_known before (record { options = refl; index = refl; clock = refl }) (omega (arith, few)) in
+    let stay = same_by f0 before in
+    let zero_is : 0 + length before ≡ length before = omega arith in
+    record {
+      count = sym knows.index ∙ index_by f0 nothing_known before ∙ zero_is;
+      options = knows.options;
+      same = followed_is s.seen.options f.options e.pid f.pid e.clock_pid f.clock_pid e.held.rx f.rx knows.options (sym stay.pid) (sym stay.clock_pid) (sym stay.rx);
+    }
+
+pub begin_then : (request : RequestView) (before : List Timed) (window : ℕ) (packets : List Timed) (e : EntryState) → ViewedThen request before e →
+    BeginIn (options_then request e before) window (length before) packets →
+    BeginIn (view_by (start request) before).seen.options window (view_by (start request) before).seen.packets packets
+begin_then request before window packets e v all =
+    subst (λ (o : ViewOptions). BeginIn o window (view_by (start request) before).seen.packets packets) (sym v.options)
+    (subst (λ (i : ℕ). BeginIn (options_then request e before) window i packets) (sym v.count) all)
+
+pub grown_held : (s : ViewState) (packets : List Timed) (j : ℕ) (e e' : EntryState) → Agree s.table → s.seen.packets + length packets < 2 ^ 64 →
+    slice_get s.table.entries j ≡ Some e → slice_get (view_by s packets).table.entries j ≡ Some e' →
+    e'.held ≡ after_entering e.held (entering_among (followed s e) (known s e) packets)
+grown_held s packets j e e' agree few there later =
+    let g = grown_by s packets j e agree few there in
+    ap (λ (x : EntryState). x.held) (some_is e' g.0 (sym later ∙ g.1.0)) ∙ g.1.1.held
+
+-- what its buffers hold once the packets of a window have come
+pub window_held : (request : RequestView) (before packets : List Timed) (place : ℕ) (e e' : EntryState) → length before + length packets < 2 ^ 64 →
+    slice_get (view_by (start request) before).table.entries place ≡ Some e →
+    slice_get (view_by (start request) (before ++ packets)).table.entries place ≡ Some e' →
+    e'.held ≡ after_entering e.held (window_entering request before e packets)
+window_held request before packets place e e' few there later =
+    let s : ViewState = view_by (start request) before in
+    let v = viewed_then request before e (omega (arith, few)) in
+    grown_held s packets place e e' (agree_by (start request) before (none_agree request)) (omega (arith, v.count, few)) there
+    (subst (λ (x : ViewState). slice_get x.table.entries place ≡ Some e') (view_two (start request) before packets) later)
+    ∙ ap (λ (g : Followed). after_entering e.held (entering_among g (known s e) packets)) v.same
+
 -- what is counted of a stream in a window
 pub record CountedOver (t t' : Tally) (window : ℕ) (h : Held) (xs : List Entering) : Type 0 where
   pub vs : List (Bool × EnteredView)
@@ -160,21 +206,10 @@ pub window_counted : (request : RequestView) (before packets : List Timed) (wind
     CountedOver e.tally e'.tally window e.held (window_entering request before e packets)
 window_counted request before packets window place e e' few there later all =
     let s : ViewState = view_by (start request) before in
-    let f0 : Followed = request_followed request e in
-    let f : Followed = followed_by f0 before in
-    let xs : List Entering = window_entering request before e packets in
-    let knows = knows_by (start request) f0 nothing_known before (record { options = refl; index = refl; clock = refl }) (omega (arith, few)) in
-    let stay = same_by f0 before in
-    let zero_is : 0 + length before ≡ length before = omega arith in
-    let count : s.seen.packets ≡ length before = sym knows.index ∙ index_by f0 nothing_known before ∙ zero_is in
-    let f_is : followed s e ≡ f =
-    followed_is s.seen.options f.options e.pid f.pid e.clock_pid f.clock_pid e.held.rx f.rx knows.options (sym stay.pid) (sym stay.clock_pid) (sym stay.rx) in
-    let in_it : BeginIn s.seen.options window s.seen.packets packets =
-    subst (λ (o : ViewOptions). BeginIn o window s.seen.packets packets) (sym knows.options) (subst (λ (i : ℕ). BeginIn f.options window i packets) (sym count) all) in
-    let c = counted_in s packets window place e e' (agree_by (start request) before (none_agree request)) (omega (arith, count, few)) there in_it
+    let v = viewed_then request before e (omega (arith, few)) in
+    let c = counted_in s packets window place e e' (agree_by (start request) before (none_agree request)) (omega (arith, v.count, few)) there (begin_then request before window packets e v all)
     (subst (λ (x : ViewState). slice_get x.table.entries place ≡ Some e') (view_two (start request) before packets) later) in
-    let same : map (λ w. w.1) c.vs ≡ entered_by e.held xs = c.same ∙ ap (λ (g : Followed). entered_by e.held (entering_among g (known s e) packets)) f_is in
-    record { vs = c.vs; tally = c.tally; same = same }
+    record { vs = c.vs; tally = c.tally; same = c.same ∙ ap (λ (g : Followed). entered_by e.held (entering_among g (known s e) packets)) v.same }
 
 -- what a line then says of the main buffer
 pub says_low : (t t' : Tally) (window : ℕ) (h : Held) (xs : List Entering) → CountedOver t t' window h xs → (t.window == window) ≡ false → 0 < h.rate →

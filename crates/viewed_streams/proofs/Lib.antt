@@ -45,7 +45,8 @@ pub mod TimedOrder
 pub mod TimedWhole
 pub mod ClockedStreams
 pub mod RateStreams
+pub mod OrderedWindows
 pub mod RateWindows
 pub mod ClockedTables
-pub mod ClockedWindows
 pub mod FirstWindows
+pub mod ClockedWindows

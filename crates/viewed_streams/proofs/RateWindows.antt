@@ -1,10 +1,11 @@
--- At a constant rate all packets of a window arrive alike: what a line `held` says of one that arrives in any way, it says of it at that rate.
+-- At a constant rate all packets of a window arrive alike: what a line `held` says of packets that arrive in any way, it says of them at that rate.
 use Rattle.std.proofs.Common.{◌≡◌, ◌∙◌, sym, ℕ, ◌+◌, ◌-◌, ◌*◌, ◌^◌, ◌≤◌, ◌<◌, nat_le, nat_lt, true, List, [], ◌∷◌, ◌++◌, length, Some, refl, ap, subst, inl, inr, arith}
 use Rattle.std.specs.Prelude.{slice_get}
 use Rattle.std.proofs.lemmas.List.{map-append}
 use Rattle.stream_arrival.specs.Arrivals.{has_times}
 use Rattle.stream_arrival.specs.declared.arrival.Arrival.{Arrival}
 use Rattle.stream_arrival.specs.declared.arrival.Arrival.TheVariants.{Unknown, AtRate, OnLines}
+use Rattle.stream_arrival.specs.declared.arrival.ClockLines.{ClockLines}
 use Rattle.stream_times.specs.TimedPackets.{Timed, arriving_so}
 use Rattle.stream_times.proofs.TimedPackets.{many_arrive}
 use Rattle.stream_view.specs.History.{transport_of}
@@ -20,13 +21,16 @@ use Rattle.stream_report.specs.Views.{ViewState, after_all, start}
 use Rattle.stream_report.specs.WindowLines.{window_of}
 use Rattle.viewed_streams.specs.HeldWindows.{BeginIn, HeldWindowLaw, LieIn, known_then, options_then, window_entering, window_packets}
 use Rattle.viewed_streams.specs.StreamPackets.{Before, Followed, most_packets}
-use Rattle.viewed_streams.specs.TimedStreams.{Entering, entering, entering_among, followed_by, view_by}
+use Rattle.viewed_streams.specs.TimedStreams.{Entering, InOrder, entering, entering_among, followed_by, view_by}
+use Rattle.viewed_streams.specs.TransportHighs.{IsFullWith, RateTransportLaw}
 use Rattle.viewed_streams.specs.WholeStreams.{followed as request_followed}
 use Rattle.viewed_streams.specs.WindowHighs.{RateHighLaw}
 use Rattle.viewed_streams.specs.WindowLows.{HasPayload}
 use Rattle.viewed_streams.proofs.ClockedStreams.{Like, each_more}
 use Rattle.viewed_streams.proofs.HeldWindows.{CountedOver, says_high, says_low, window_counted}
+use Rattle.viewed_streams.proofs.OrderedWindows.{ordered_transport}
 use Rattle.viewed_streams.proofs.RateStreams.{Same, entering_is, followed_is, same_options}
+use Rattle.viewed_streams.proofs.TimedOrder.{rate_order_law}
 use Rattle.viewed_streams.proofs.WindowLows.{last_of_three}
 
 -- before a line is known no byte enters
@@ -52,34 +56,47 @@ begin_in o a window index (bytes ∷ packets) same all =
 knows_then : (s s' : ViewState) (e : EntryState) → Like s s' → known_then s' e ≡ known_then s e
 knows_then s s' e l = rw (l.packets, l.clocks) refl
 
--- all of them arrive so, with a moment
+-- all of them arrive so, with a moment: what is so of a view of them one by one
+record Alike (request : RequestView) (a : Arrival) (before packets : List (List ℕ)) (window place : ℕ) (e e' : EntryState) : Type 0 where
+  there : slice_get (view_by (start request) (arriving_so a before)).table.entries place ≡ Some e
+  later : slice_get (view_by (start request) (arriving_so a before ++ arriving_so a packets)).table.entries place ≡ Some e'
+  many : length (arriving_so a before) + length (arriving_so a packets) ≡ length before + length packets
+  in_it : BeginIn (options_then request e (arriving_so a before)) window (length (arriving_so a before)) (arriving_so a packets)
+  xs_are : window_entering request (arriving_so a before) e (arriving_so a packets) ≡ entering a (window_packets request before e packets)
+
+so_both : (a : Arrival) (before packets : List (List ℕ)) → arriving_so a (before ++ packets) ≡ arriving_so a before ++ arriving_so a packets
+so_both a before packets = map-append (λ bytes. record { arrival = a; bytes = bytes }) before packets
+
 alike : (request : RequestView) (a : Arrival) (before packets : List (List ℕ)) (window place : ℕ) (e e' : EntryState) → (a ≡ Unknown → ⊥) → request.options.arrival ≡ a →
-    length before + length packets < 2 ^ 64 → slice_get (after_all (start request) before).table.entries place ≡ Some e →
+    slice_get (after_all (start request) before).table.entries place ≡ Some e →
     slice_get (after_all (start request) (before ++ packets)).table.entries place ≡ Some e' →
-    LieIn request window (length before) (length packets) → CountedOver e.tally e'.tally window e.held (entering a (window_packets request before e packets))
-alike request a before packets window place e e' known is few there later all =
+    LieIn request window (length before) (length packets) → Alike request a before packets window place e e'
+alike request a before packets window place e e' known is there later all =
     let f : Followed = request_followed request e in
     let same : Same a f = same_options request.options a known is in
     let itself : Like (start request) (start request) = record { options = refl; packets = refl; clocks = refl; named = refl; table = refl } in
     let like : Like (after_all (start request) before) (view_by (start request) (arriving_so a before)) = each_more (start request) (start request) a before itself same in
     let like_all : Like (after_all (start request) (before ++ packets)) (view_by (start request) (arriving_so a (before ++ packets))) =
     each_more (start request) (start request) a (before ++ packets) itself same in
-    let both : arriving_so a (before ++ packets) ≡ arriving_so a before ++ arriving_so a packets = map-append (λ bytes. record { arrival = a; bytes = bytes }) before packets in
     let f_is : followed_by f (arriving_so a before) ≡ f = followed_is a f before same in
-    let xs_are : window_entering request (arriving_so a before) e (arriving_so a packets) ≡ entering a (window_packets request before e packets) =
-    ap (λ (g : Followed). entering_among g (known_then (view_by (start request) (arriving_so a before)) e) (arriving_so a packets)) f_is
-    ∙ ap (λ (b : Before). entering_among f b (arriving_so a packets)) (knows_then (after_all (start request) before) (view_by (start request) (arriving_so a before)) e like)
-    ∙ entering_is a f (known_then (after_all (start request) before) e) packets same in
-    let there' : slice_get (view_by (start request) (arriving_so a before)).table.entries place ≡ Some e = ap (λ (t : TableState). slice_get t.entries place) like.table ∙ there in
-    let later' : slice_get (view_by (start request) (arriving_so a before ++ arriving_so a packets)).table.entries place ≡ Some e' =
-    ap (λ (l : List Timed). slice_get (view_by (start request) l).table.entries place) (sym both)
-    ∙ ap (λ (t : TableState). slice_get t.entries place) like_all.table ∙ later in
     let many : length (arriving_so a before) ≡ length before = many_arrive a before in
-    let in_it : BeginIn (options_then request e (arriving_so a before)) window (length (arriving_so a before)) (arriving_so a packets) =
-    subst (λ (g : Followed). BeginIn g.options window (length (arriving_so a before)) (arriving_so a packets)) (sym f_is)
-    (subst (λ (i : ℕ). BeginIn request.options window i (arriving_so a packets)) (sym many) (begin_in request.options a window (length before) packets same all)) in
-    let c = window_counted request (arriving_so a before) (arriving_so a packets) window place e e' (omega (arith, many, many_arrive a packets, few)) there' later' in_it in
-    subst (λ (xs : List Entering). CountedOver e.tally e'.tally window e.held xs) xs_are c
+    record {
+      there = ap (λ (t : TableState). slice_get t.entries place) like.table ∙ there;
+      later = ap (λ (l : List Timed). slice_get (view_by (start request) l).table.entries place) (sym (so_both a before packets))
+          ∙ ap (λ (t : TableState). slice_get t.entries place) like_all.table ∙ later;
+      many = omega (arith, many, many_arrive a packets);
+      in_it = subst (λ (g : Followed). BeginIn g.options window (length (arriving_so a before)) (arriving_so a packets)) (sym f_is)
+          (subst (λ (i : ℕ). BeginIn request.options window i (arriving_so a packets)) (sym many) (begin_in request.options a window (length before) packets same all));
+      xs_are = ap (λ (g : Followed). entering_among g (known_then (view_by (start request) (arriving_so a before)) e) (arriving_so a packets)) f_is
+          ∙ ap (λ (b : Before). entering_among f b (arriving_so a packets)) (knows_then (after_all (start request) before) (view_by (start request) (arriving_so a before)) e like)
+          ∙ entering_is a f (known_then (after_all (start request) before) e) packets same;
+    }
+
+rate_known : (rate : ℕ) → AtRate rate ≡ Unknown → ⊥
+rate_known rate h = cc
+
+lines_known : (lines : ClockLines) → OnLines lines ≡ Unknown → ⊥
+lines_known lines h = cc
 
 -- where a byte enters they do
 rate_counted : (request : RequestView) (before packets : List (List ℕ)) (window place : ℕ) (e e' : EntryState) → length before + length packets < 2 ^ 64 →
@@ -89,13 +106,20 @@ rate_counted : (request : RequestView) (before packets : List (List ℕ)) (windo
     CountedOver e.tally e'.tally window e.held (entering request.options.arrival (window_packets request before e packets))
 rate_counted request before packets window place e e' few there later all has = by request.options.arrival refl
   where
+    those : (request.options.arrival ≡ Unknown → ⊥) → CountedOver e.tally e'.tally window e.held (entering request.options.arrival (window_packets request before e packets))
+    those known =
+        let a : Arrival = request.options.arrival in
+        let l = alike request a before packets window place e e' known refl there later all in
+        subst (λ (xs : List Entering). CountedOver e.tally e'.tally window e.held xs) l.xs_are
+        (window_counted request (arriving_so a before) (arriving_so a packets) window place e e' (omega (arith, l.many, few)) l.there l.later l.in_it)
+
     by : (a : Arrival) → request.options.arrival ≡ a →
         CountedOver e.tally e'.tally window e.held (entering request.options.arrival (window_packets request before e packets))
     by Unknown is =
         absurd (no_payload e.held (window_packets request before e packets)
         (subst (λ (x : Arrival). HasPayload e.held (entering x (window_packets request before e packets))) is has))
-    by (AtRate rate) is = alike request request.options.arrival before packets window place e e' (λ h. let no : ⊥ = cc in no) refl few there later all
-    by (OnLines lines) is = alike request request.options.arrival before packets window place e e' (λ h. let no : ⊥ = cc in no) refl few there later all
+    by (AtRate rate) is = those (λ h. rate_known rate (sym is ∙ h))
+    by (OnLines lines) is = those (λ h. lines_known lines (sym is ∙ h))
 
 pub held_window_law : HeldWindowLaw
 held_window_law request before packets window place e e' few there later other all pos has =
@@ -106,3 +130,11 @@ pub rate_high_law : RateHighLaw
 rate_high_law request before packets window place e e' few there later other all pos has =
     says_high e.tally e'.tally window e.held (entering request.options.arrival (window_packets request before e packets))
     (rate_counted request before packets window place e e' few there later all has) other pos has
+
+pub rate_transport_law : RateTransportLaw
+rate_transport_law request rate before packets window place e e' is pos few there later other told all some =
+    let a : Arrival = AtRate rate in
+    let l = alike request a before packets window place e e' (rate_known rate) is there later all in
+    let order : InOrder rate (arriving_so a before ++ arriving_so a packets) = subst (λ (ps : List Timed). InOrder rate ps) (so_both a before packets) (rate_order_law rate (before ++ packets)) in
+    subst (λ (xs : List Entering). IsFullWith e.held xs e'.tally.window_transport) l.xs_are
+    (ordered_transport request rate (arriving_so a before) (arriving_so a packets) window place e e' pos order (omega (arith, l.many, few)) l.there l.later other told l.in_it some)

@@ -1,5 +1,5 @@
 -- The greatest that a line `held` says of a transport buffer is its greatest fullness from the first byte of the window's packets on.
-use Rattle.std.proofs.Common.{◌≡◌, ◌∙◌, sym, ℕ, ◌+◌, ◌-◌, ◌*◌, ◌<◌, max, Bool, true, false, List, [], ◌∷◌, ◌++◌, length, map, Option, Some, None, if◌then◌else◌, refl, ap, subst, inl, inr, arith, append_assoc}
+use Rattle.std.proofs.Common.{◌≡◌, ◌∙◌, sym, ℕ, ◌+◌, ◌-◌, ◌*◌, ◌<◌, max, Bool, true, false, List, [], ◌∷◌, ◌++◌, length, map, Option, Some, None, if◌then◌else◌, refl, ap, ap₂, subst, inl, inr, arith, append_assoc}
 use Rattle.std.specs.Prelude.{◌==◌}
 use Rattle.std.proofs.lemmas.Bool.Decides.{eqb_tells}
 use Rattle.std.proofs.lemmas.List.{append-nil}
@@ -9,10 +9,10 @@ use Rattle.clock27.proofs.Departures.{last_left-append}
 use Rattle.transport_buffer.specs.Laws.{Rises}
 use Rattle.stream_arrival.specs.Arrivals.{times_at}
 use Rattle.stream_arrival.specs.declared.arrival.Arrival.{Arrival}
-use Rattle.stream_view.specs.History.{arrivals_of, last_of}
+use Rattle.stream_view.specs.History.{Part, arrivals_of, last_of}
 use Rattle.stream_view.specs.declared.unit_seen.DueTime.{DueTime}
 use Rattle.stream_view.specs.declared.unit_seen.UnitSeen.{UnitSeen}
-use Rattle.stream_buffers.specs.Held.{Held, carried, passed, transport_found}
+use Rattle.stream_buffers.specs.Held.{Held, carried, passed, transport_found, transport_most}
 use Rattle.stream_buffers.specs.Entering.{EnteredView, after, after_begin, after_header, after_lead, after_payload, after_unit, ended_with, entered, lead_in, nothing, payload_transport_most, size_of, takes_in, with_packet}
 use Rattle.stream_buffers.specs.declared.arriving.Arriving.{Arriving}
 use Rattle.stream_report.specs.Entries.{tally_after}
@@ -29,11 +29,11 @@ use Rattle.viewed_streams.proofs.WindowLows.{in_that_window, same_window}
 -- ---- what arrives with a packet
 
 -- bytes arrive, and this is the most that one of them finds
-record Arrives (h h' : Held) (most : ℕ) : Type 0 where
-  own : List ℕ
-  arrivals : arrivals_of h'.parts ≡ arrivals_of h.parts ++ own
-  rate : h'.rate ≡ h.rate
-  most_found : most_found h.rate (last_of h.rate h.parts) own ≡ most
+pub record Arrives (h h' : Held) (most : ℕ) : Type 0 where
+  pub own : List ℕ
+  pub arrivals : arrivals_of h'.parts ≡ arrivals_of h.parts ++ own
+  pub rate : h'.rate ≡ h.rate
+  pub most_found : most_found h.rate (last_of h.rate h.parts) own ≡ most
 
 nothing_arrives : (h : Held) → Arrives h h 0
 unfolding most_found
@@ -89,7 +89,7 @@ parts_arrive h arrival p size lead =
     same : (m n : ℕ) → max (max m 0) n ≡ max m n
     same m n = omega arith
 
-packet_arrives : (h : Held) (arrival : Arrival) (p : Arriving) → Arrives h (after h arrival p) (entered h arrival p).transport_most
+pub packet_arrives : (h : Held) (arrival : Arrival) (p : Arriving) → Arrives h (after h arrival p) (entered h arrival p).transport_most
 unfolding after entered
 packet_arrives h arrival p = by (takes_in h arrival p)
   where
@@ -98,13 +98,22 @@ packet_arrives h arrival p = by (takes_in h arrival p)
     by true = parts_arrive h arrival p (size_of p) (lead_in arrival p)
     by false = nothing_arrives h
 
-each_arrives : (h h' : Held) (most : ℕ) (xs : List Entering) → Arrives h h' most → Arrives h (after_entering h' xs) (transport_after most (entered_by h' xs))
+pub each_arrives : (h h' : Held) (most : ℕ) (xs : List Entering) → Arrives h h' most → Arrives h (after_entering h' xs) (transport_after most (entered_by h' xs))
 unfolding after_entering entered_by transport_after
 each_arrives h h' most [] come = come
 each_arrives h h' most (x ∷ xs) come =
     let n : ℕ = (entered h' x.arrival x.packet).transport_most in
     each_arrives h (after h' x.arrival x.packet) (max most n) xs
     (both_arrive h h' (after h' x.arrival x.packet) most n come (packet_arrives h' x.arrival x.packet))
+
+-- after nothing it is the most of all that have arrived
+pub first_full : (h h' : Held) (most : ℕ) → h.parts ≡ [] → Arrives h h' most → transport_most h' ≡ most
+unfolding arrivals_of last_left
+first_full h h' most none come =
+    let all : arrivals_of h'.parts ≡ come.own = come.arrivals ∙ ap (λ (ps : List Part). arrivals_of ps ++ come.own) none in
+    let found : most_found h.rate 0 come.own ≡ most = ap (λ (ps : List Part). most_found h.rate (last_of h.rate ps) come.own) (sym none) ∙ come.most_found in
+    let same : most_found h'.rate 0 (arrivals_of h'.parts) ≡ most = ap₂ (λ (r : ℕ) (ts : List ℕ). most_found r 0 ts) come.rate all ∙ found in
+    omega (arith, same)
 
 full_of : (step : ℕ) (before own : List ℕ) → 0 < step → Rises 0 (before ++ own) → 0 < most_found step (last_left step 0 before) own →
     IsFull step before (before ++ own) (most_found step (last_left step 0 before) own)
@@ -129,13 +138,13 @@ unit_transport t window None is = (refl, is)
 unit_transport t window (Some u) is =
     (ap (λ (k : Tally). k.window_transport) (same_window t window is), ap (λ (k : Tally). k.window) (same_window t window is) ∙ is)
 
-packet_transport : (t : Tally) (window : ℕ) (unread : Bool) (v : EnteredView) →
+pub packet_transport : (t : Tally) (window : ℕ) (unread : Bool) (v : EnteredView) →
     ((tally_after t window unread v).window_transport ≡ max (in_window t window).window_transport v.transport_most)
     × ((tally_after t window unread v).window ≡ window)
 packet_transport t window unread v =
     unit_transport (with_excesses (with_tallied t window v) (length v.transport) (length v.main) unread) window v.unit (in_that_window t window)
 
-each_transport : (t : Tally) (window : ℕ) (vs : List (Bool × EnteredView)) → t.window ≡ window →
+pub each_transport : (t : Tally) (window : ℕ) (vs : List (Bool × EnteredView)) → t.window ≡ window →
     (counted_each t window vs).window_transport ≡ transport_after t.window_transport (map (λ w. w.1) vs)
 unfolding counted_each transport_after
 each_transport t window [] is = refl

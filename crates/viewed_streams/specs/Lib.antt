@@ -12,4 +12,5 @@ pub mod HeldWindows
 pub mod ClockedWindows
 pub mod WindowHighs
 pub mod TransportHighs
+pub mod FirstHighs
 pub mod AsMeasured

@@ -4,17 +4,21 @@ use Rattle.std.specs.Prelude.{◌≡◌, ℕ, ◌+◌, ◌^◌, ◌<◌, ◌≤�
 use Rattle.clock27.specs.Departure.{departures}
 use Rattle.clock27.specs.Fullness.{fullness}
 use Rattle.transport_buffer.specs.Laws.{Rises}
+use Rattle.stream_arrival.specs.declared.arrival.Arrival.TheVariants.{Unknown, AtRate}
 use Rattle.stream_buffers.specs.Held.{Held}
 use Rattle.stream_buffers.specs.Entering.{EnteredView}
 use Rattle.stream_view.specs.History.{arrivals_of}
 use Rattle.stream_times.specs.TimedPackets.{Timed}
 use Rattle.stream_report.specs.Choices.{RequestView}
 use Rattle.stream_report.specs.Entries.{EntryState}
+use Rattle.stream_report.specs.StreamTables.{TableState}
 use Rattle.stream_report.specs.Tallies.{in_window}
-use Rattle.stream_report.specs.Views.{start}
+use Rattle.stream_report.specs.Views.{after_all, start}
 use Rattle.stream_report.specs.declared.tally.Tally.{Tally}
-use Rattle.viewed_streams.specs.HeldWindows.{BeginIn, options_then, window_entering}
-use Rattle.viewed_streams.specs.TimedStreams.{Entering, after_entering, entered_by, view_by}
+use Rattle.viewed_streams.specs.ClockedWindows.{report_tables, timed_in}
+use Rattle.viewed_streams.specs.HeldWindows.{BeginIn, LieIn, options_then, window_entering, window_packets}
+use Rattle.viewed_streams.specs.StreamPackets.{most_packets}
+use Rattle.viewed_streams.specs.TimedStreams.{Entering, after_entering, entered_by, entering, view_by}
 use Rattle.viewed_streams.specs.WindowLows.{counted_each}
 
 -- 1. Packets of a window
@@ -45,14 +49,16 @@ pub record IsFull (step : ℕ) (before all : List ℕ) (n : ℕ) : Type 0 where
 abbrev pub IsFullWith : Held → List Entering → ℕ → Type 0
 IsFullWith h xs n = IsFull h.rate (arrivals_of h.parts) (arrivals_of (after_entering h xs).parts) n
 
--- whichever way each of them arrives, where no byte does before an earlier one
+-- whichever way each of them arrives, where no byte does before an earlier one: of two that arrive at 10 and then at 0, and take 5 to leave, the
+-- second finds 4 in the buffer, itself counted, in which there are never more than 2
 abbrev pub TransportHighLaw : Type 0
 TransportHighLaw = (h : Held) (xs : List Entering) → 0 < h.rate → Rises 0 (arrivals_of (after_entering h xs).parts) →
     0 < transport_after 0 (entered_by h xs) → IsFullWith h xs (transport_after 0 (entered_by h xs))
 
--- 2. In a report, at the end of a window before which the stream's buffers have begun, where a line `held` is told: of a packet of the window, with
--- more than 0
+-- 2. In a report, at the end of a window before which the stream's buffers have begun, once a packet of the stream has come in it: before that the
+-- number is an earlier window's, and no line `held` is told of this one. Where the line says 0, no byte of these packets has a moment.
 
+-- of packets that arrive in any way in which no byte does before an earlier one
 abbrev pub TimedTransportLaw : Type 0
 TimedTransportLaw = (request : RequestView) (before packets : List Timed) (window place : ℕ) (e e' : EntryState) → length before + length packets < 2 ^ 64 →
     slice_get (view_by (start request) before).table.entries place ≡ Some e →
@@ -61,3 +67,25 @@ TimedTransportLaw = (request : RequestView) (before packets : List Timed) (windo
     BeginIn (options_then request e before) window (length before) packets → 0 < e.held.rate →
     Rises 0 (arrivals_of (after_entering e.held (window_entering request before e packets)).parts) → 0 < e'.tally.window_transport →
     IsFullWith e.held (window_entering request before e packets) e'.tally.window_transport
+
+-- so they arrive at a constant rate, in the first 2^40 bytes, after which none enters a buffer
+abbrev pub RateTransportLaw : Type 0
+RateTransportLaw = (request : RequestView) (rate : ℕ) (before packets : List (List ℕ)) (window place : ℕ) (e e' : EntryState) → request.options.arrival ≡ AtRate rate →
+    0 < rate → length before + length packets ≤ most_packets →
+    slice_get (after_all (start request) before).table.entries place ≡ Some e →
+    slice_get (after_all (start request) (before ++ packets)).table.entries place ≡ Some e' →
+    (e.tally.window == window) ≡ false → (e'.tally.window == window) ≡ true →
+    LieIn request window (length before) (length packets) → 0 < e'.tally.window_transport →
+    IsFullWith e.held (entering (AtRate rate) (window_packets request before e packets)) e'.tally.window_transport
+
+-- and by clock references, of packets of 188 bytes: the payload of a longer one could begin before the byte from which on it lies on another
+-- line, and all of it would arrive as on the line before, after packets that come later
+abbrev pub ClockedTransportLaw : Type 0
+ClockedTransportLaw = (request : RequestView) (packets : List (List ℕ)) (before now later : List Timed) (window place : ℕ) (t t' : TableState)
+    (e e' : EntryState) → request.options.arrival ≡ Unknown → All (λ bytes. length bytes ≡ 188) packets → length before + length now ≤ most_packets →
+    timed_in request packets ≡ before ++ (now ++ later) →
+    slice_get (report_tables request packets) (length before) ≡ Some t → slice_get t.entries place ≡ Some e →
+    slice_get (report_tables request packets) (length (before ++ now)) ≡ Some t' → slice_get t'.entries place ≡ Some e' →
+    (e.tally.window == window) ≡ false → (e'.tally.window == window) ≡ true →
+    BeginIn (options_then request e before) window (length before) now → 0 < e'.tally.window_transport →
+    IsFullWith e.held (window_entering request before e now) e'.tally.window_transport

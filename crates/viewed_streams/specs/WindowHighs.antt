@@ -1,8 +1,8 @@
 -- The greatest that a line `held` says of a main buffer: over the packets of a window, the greatest fullness of the buffer from their first
 -- payload byte that enters it on. What the buffer holds before that byte enters may be more, and is not counted.
-use Rattle.std.specs.Prelude.{◌≡◌, ℕ, ◌+◌, ◌^◌, ◌<◌, ◌≤◌, ◌==◌, max, Bool, false, map, List, [], ◌∷◌, ◌++◌, length, slice_get, Some, None, All}
+use Rattle.std.specs.Prelude.{◌≡◌, ℕ, ◌+◌, ◌^◌, ◌<◌, ◌≤◌, ◌==◌, max, Bool, false, map, List, [], ◌∷◌, ◌++◌, length, slice_get, Some, All}
 use Rattle.stream_arrival.specs.declared.arrival.Arrival.TheVariants.{Unknown}
-use Rattle.stream_buffers.specs.Held.{Held, main_most}
+use Rattle.stream_buffers.specs.Held.{Held}
 use Rattle.stream_buffers.specs.Entering.{EnteredView}
 use Rattle.stream_view.specs.History.{Part, main_fullness, payload_left}
 use Rattle.stream_times.specs.TimedPackets.{Timed}
@@ -92,11 +92,3 @@ ClockedHighLaw = (request : RequestView) (packets : List (List ℕ)) (before now
     slice_get (report_tables request packets) (length (before ++ now)) ≡ Some t' → slice_get t'.entries place ≡ Some e' →
     (e.tally.window == window) ≡ false → BeginIn (options_then request e before) window (length before) now →
     HasPayload e.held (window_entering request before e now) → IsHighWith e.held (window_entering request before e now) e'.tally.window_main
-
--- 3. In the window in which they begin: the most of all packets so far, as the line `main` says it
-
-abbrev pub FirstHighLaw : Type 0
-FirstHighLaw = (request : RequestView) (before packets : List Timed) (window place : ℕ) (e : EntryState) → length before + length packets < 2 ^ 64 →
-    slice_get (view_by (start request) before).table.entries place ≡ None →
-    slice_get (view_by (start request) (before ++ packets)).table.entries place ≡ Some e →
-    BeginIn (options_then request e before) window (length before) packets → 0 < e.held.rate → e.tally.window_main ≡ main_most e.held

@@ -1,15 +1,16 @@
 //! Laws of the report on a stream. Each function does nothing: its contract is the law, over the definitions of `specs/`.
 ghost use Rattle.viewed_streams.specs.AsMeasured.{AsMeasuredLaw, JobAsMeasuredLaw, JobLateAsMeasuredLaw, RunAsMeasuredLaw, RunLateAsMeasuredLaw};
 ghost use Rattle.viewed_streams.specs.ClockedWindows.{ClockedTablesLaw, ClockedWindowLaw};
+ghost use Rattle.viewed_streams.specs.FirstHighs.{ClockedFirstLaw, FirstHighLaw};
 ghost use Rattle.viewed_streams.specs.HeldWindows.{FirstWindowLaw, HeldWindowLaw, TimedWindowLaw};
 ghost use Rattle.viewed_streams.specs.MainExcesses.{NoMainExcessLaw, TimedNoExcessLaw};
 ghost use Rattle.viewed_streams.specs.MeasuredStreams.{MeasuredStreamLaw};
 ghost use Rattle.viewed_streams.specs.MuxedStreams.{JobNoExcessLaw, MuxedStreamLaw};
 ghost use Rattle.viewed_streams.specs.TimedStreams.{ClockedStreamLaw, RateOrderLaw, TimedStreamLaw};
-ghost use Rattle.viewed_streams.specs.TransportHighs.{TimedTransportLaw, TransportHighLaw, WindowTransportLaw};
+ghost use Rattle.viewed_streams.specs.TransportHighs.{ClockedTransportLaw, RateTransportLaw, TimedTransportLaw, TransportHighLaw, WindowTransportLaw};
 ghost use Rattle.viewed_streams.specs.ViewedRuns.{JobFirstLaw, JobLateLaw, JobLateUnitsLaw, JobMainLaw, RunFirstLaw, RunLateLaw, RunLateUnitsLaw, RunMainLaw};
 ghost use Rattle.viewed_streams.specs.WholeStreams.{LastLinesLaw, WholeStreamLaw};
-ghost use Rattle.viewed_streams.specs.WindowHighs.{ClockedHighLaw, FirstHighLaw, HighWithoutLaw, RateHighLaw, TimedHighLaw, WholeHighLaw, WindowHighLaw, WindowMostLaw};
+ghost use Rattle.viewed_streams.specs.WindowHighs.{ClockedHighLaw, HighWithoutLaw, RateHighLaw, TimedHighLaw, WholeHighLaw, WindowHighLaw, WindowMostLaw};
 ghost use Rattle.viewed_streams.specs.WindowLows.{WholeWindowLaw, WindowLeastLaw, WindowLowLaw, WindowWithoutLaw};
 
 /// At a constant rate the last lines of a stream are about all packets of its PID, from the one with which its buffers begin: the line
@@ -57,9 +58,10 @@ pub fn clocked_windows()
 
 /// The greatest that a line `held` says of a main buffer is the most that the bytes of its window's packets find in it, themselves counted, and
 /// this is the greatest fullness of the buffer from their first payload byte that enters it on: what is in it before may be more. So a report
-/// counts it of a stream whose buffers began before the window, whichever way packets arrive; where no byte enters, the line says 0, and where
-/// they begin in the window, what the line `main` says so far. The greatest of a transport buffer is its greatest fullness from the first byte
-/// of the window's packets on, where no byte arrives before an earlier one.
+/// counts it of a stream whose buffers began before the window, whichever way packets arrive; where no byte enters, the line says 0. The greatest
+/// of a transport buffer is its greatest fullness from the first byte of the window's packets on, where no byte arrives before an earlier one: so
+/// they arrive at a constant rate and by clock references. Where the buffers begin in the window, the line says what the lines `transport` and
+/// `main` say so far.
 pub fn window_highs()
     ensures counted { WindowMostLaw }
     ensures main { WindowHighLaw }
@@ -69,9 +71,12 @@ pub fn window_highs()
     ensures report { RateHighLaw }
     ensures clocked { ClockedHighLaw }
     ensures first { FirstHighLaw }
+    ensures clocked_first { ClockedFirstLaw }
     ensures counted_transport { WindowTransportLaw }
     ensures transport { TransportHighLaw }
     ensures timed_transport { TimedTransportLaw }
+    ensures rate_transport { RateTransportLaw }
+    ensures clocked_transport { ClockedTransportLaw }
 {}
 
 /// The greatest number of bytes in a transport buffer is no more than what `tstd::measure` finds of the same bytes, and the same

@@ -1,7 +1,7 @@
 use Rattle.viewed_streams.proofs.FirstWindows.{first_high_law}
-use Rattle.viewed_streams.proofs.ClockedWindows.{clocked_high_law}
+use Rattle.viewed_streams.proofs.ClockedWindows.{clocked_first_law, clocked_high_law, clocked_transport_law}
 use Rattle.viewed_streams.proofs.HeldWindows.{timed_high_law}
-use Rattle.viewed_streams.proofs.RateWindows.{rate_high_law}
+use Rattle.viewed_streams.proofs.RateWindows.{rate_high_law, rate_transport_law}
 use Rattle.viewed_streams.proofs.TransportHighs.{timed_transport_law, transport_high_law, window_transport_law}
 use Rattle.viewed_streams.proofs.WindowHighs.{high_without_law, whole_high_law, window_high_law, window_most_law}
 use Rattle.viewed_streams.proofs.laws.window_highs.Goals as goal
@@ -30,6 +30,9 @@ returns-clause-clocked c = clocked_high_law
 pub returns-clause-first : goal.returns-clause-first
 returns-clause-first c = first_high_law
 
+pub returns-clause-clocked_first : goal.returns-clause-clocked_first
+returns-clause-clocked_first c = clocked_first_law
+
 pub returns-clause-counted_transport : goal.returns-clause-counted_transport
 returns-clause-counted_transport c = window_transport_law
 
@@ -38,3 +41,9 @@ returns-clause-transport c = transport_high_law
 
 pub returns-clause-timed_transport : goal.returns-clause-timed_transport
 returns-clause-timed_transport c = timed_transport_law
+
+pub returns-clause-rate_transport : goal.returns-clause-rate_transport
+returns-clause-rate_transport c = rate_transport_law
+
+pub returns-clause-clocked_transport : goal.returns-clause-clocked_transport
+returns-clause-clocked_transport c = clocked_transport_law
