@@ -49,14 +49,13 @@ use Rattle.viewed_streams.specs.ViewedRuns.{FromTheFirst, IsViewedAs, JobFirstLa
 use Rattle.viewed_streams.proofs.ClockAhead.{entries_from, listed}
 use Rattle.viewed_streams.proofs.Entries.{Agree, new_place}
 use Rattle.viewed_streams.proofs.FirstTables.{streams_known}
-use Rattle.viewed_streams.proofs.Grown.{grown, next, sound_packets}
 use Rattle.viewed_streams.proofs.Lists.{lookup_same}
 use Rattle.viewed_streams.proofs.RunUnits.{cuts_of}
 use Rattle.viewed_streams.proofs.MuxedMain.{job_main_law, run_main_law, run_viewed}
 use Rattle.viewed_streams.proofs.PidEntries.{packets_entries, pid_entries}
 use Rattle.viewed_streams.proofs.SentUnits.{AllSent, entry_packet}
-use Rattle.viewed_streams.proofs.Steps.{after_sound, packet_is, sound_agrees}
-use Rattle.viewed_streams.proofs.Whole.{index_all, knows_all, none_agree}
+use Rattle.viewed_streams.proofs.Steps.{after_sound, next, packet_is, sound_agrees, sound_packets}
+use Rattle.viewed_streams.proofs.Whole.{entry_stays, index_all, knows_all, none_agree}
 
 -- ---- what packets leave as it is: the streams once they are known, which are viewed, and the places of those whose buffers have begun
 
@@ -126,9 +125,9 @@ place_stays : (s : ViewState) (packets : List (List ℕ)) (pid j : ℕ) → Agre
     lookup (nat_eq pid) (after_all s packets).table.places ≡ Some j
 place_stays s packets pid j agree few there =
     let entry = agree.at pid j there in
-    let later = grown s packets j entry.0 agree few entry.1.0 in
+    let later = entry_stays s packets j entry.0 agree few entry.1.0 in
     let of = (agree_stays s packets agree).of j later.0 later.1.0 in
-    ap (λ (q : ℕ). lookup (nat_eq q) (after_all s packets).table.places) (sym (later.1.1.pid ∙ entry.1.1)) ∙ of
+    ap (λ (q : ℕ). lookup (nat_eq q) (after_all s packets).table.places) (sym (later.1.1 ∙ entry.1.1)) ∙ of
 
 -- ---- a stream begins as soon as it can
 

@@ -150,8 +150,8 @@ as_measured_law request rate base0 bytes e s cuts f at_rate few same drained who
     ∙ main_is rate e.held.rx e.held.main.size b.index x s.stream_id base0 cuts ps qs begin.come begin.follows begun begin.packets (sizes_below base0 carries.first None fs us sent) carries.cut sizes
     ∙ ap (λ (r : ℕ). mb_fullness rate r x (timed_pes_packets s.stream_id base0 (cut_units cuts)) (pes_left rate r 0 qs)) drained
     ∙ ap (λ (xs : List Packet). mb_fullness rate s.rx x (timed_pes_packets s.stream_id base0 (cut_units cuts)) (pes_left rate s.rx 0 xs)) (sym on) in
-    let one = peak_le (main_fullness rate e.held.parts) (model_of rate base0 s (cut_units cuts) bytes) (main_most e.held) f.main (λ x. omega (arith, alike x)) whole.main full.main in
-    let other = peak_le (model_of rate base0 s (cut_units cuts) bytes) (main_fullness rate e.held.parts) f.main (main_most e.held) (λ x. omega (arith, alike x)) full.main whole.main in
+    let one = peak_le (main_fullness rate e.held.parts) (model_of rate base0 s (cut_units cuts) bytes) (main_most e.held) f.main (λ x. omega (arith, alike x)) whole.lines.main full.main in
+    let other = peak_le (model_of rate base0 s (cut_units cuts) bytes) (main_fullness rate e.held.parts) f.main (main_most e.held) (λ x. omega (arith, alike x)) full.main whole.lines.main in
     let none : packets_from s.pid 0 whole.before ≡ [] = ap (λ (q : ℕ). packets_from q 0 whole.before) (sym same) ∙ first in
     record {
       transport = (measured_stream_law request rate base0 bytes e s (cut_units cuts) f whole same drained full).1 none;

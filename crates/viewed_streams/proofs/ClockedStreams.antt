@@ -3,6 +3,7 @@ use Rattle.std.proofs.Common.{◌≡◌, ◌∙◌, sym, ℕ, ◌+◌, Bool, tru
 use Rattle.std.specs.Prelude.{slice_get}
 use Rattle.std.proofs.lemmas.List.{length-map}
 use Rattle.std.proofs.lemmas.List.Elements.{All-nil, All-cons, All-append}
+use Rattle.clock27.specs.Units.{byte_ticks_at_1bps}
 use Rattle.ts_packet.specs.Views.{PacketView}
 use Rattle.ts_packet.specs.Reading.{packet_at}
 use Rattle.packet_arrival.specs.declared.line.Line.{Line}
@@ -29,8 +30,7 @@ use Rattle.stream_report.specs.Views.{ViewState}
 use Rattle.stream_report.specs.Views as views
 use Rattle.viewed_streams.specs.StreamPackets.{sound_packet}
 use Rattle.viewed_streams.specs.TimedStreams.{ClockedStreamLaw, InOrder, view_by}
-use Rattle.viewed_streams.proofs.Grown.{next, sound_options}
-use Rattle.viewed_streams.proofs.Steps.{after_sound, finished, packet_is}
+use Rattle.viewed_streams.proofs.Steps.{after_sound, finished, next, packet_is, sound_options}
 use Rattle.viewed_streams.proofs.TimedWhole.{timed_stream_law}
 
 -- ---- two views that know the same of their streams
@@ -232,31 +232,31 @@ first_view pid v bytes packets unknown =
 
 -- ---- each byte takes the same step
 
-line_step : (before line : Option Line) → step_of (arrival_by before line) ≡ 216000000
+line_step : (before line : Option Line) → step_of (arrival_by before line) ≡ byte_ticks_at_1bps
 unfolding arrival_by step_of
 line_step before None = refl
 line_step None (Some line) = refl
 line_step (Some before) (Some line) = refl
 
-abbrev pub Steps216 : Timed → Type 0
-Steps216 p = step_of p.arrival ≡ 216000000
+abbrev pub StepsTick : Timed → Type 0
+StepsTick p = step_of p.arrival ≡ byte_ticks_at_1bps
 
-so_step : (arrival : Arrival) (packets : List (List ℕ)) → step_of arrival ≡ 216000000 → All Steps216 (timed.arriving_so arrival packets)
-so_step arrival [] e = All-nil Steps216
-so_step arrival (bytes ∷ packets) e = All-cons Steps216 (record { arrival = arrival; bytes = bytes }) (timed.arriving_so arrival packets) e (so_step arrival packets e)
+so_step : (arrival : Arrival) (packets : List (List ℕ)) → step_of arrival ≡ byte_ticks_at_1bps → All StepsTick (timed.arriving_so arrival packets)
+so_step arrival [] e = All-nil StepsTick
+so_step arrival (bytes ∷ packets) e = All-cons StepsTick (record { arrival = arrival; bytes = bytes }) (timed.arriving_so arrival packets) e (so_step arrival packets e)
 
-arrived_step : (q : QueueState) (bytes : List ℕ) (b : Bool) → still_wait q (reference_in q bytes) ≡ b → All Steps216 (arrived (released q bytes) q.held)
+arrived_step : (q : QueueState) (bytes : List ℕ) (b : Bool) → still_wait q (reference_in q bytes) ≡ b → All StepsTick (arrived (released q bytes) q.held)
 unfolding arrived
-arrived_step q bytes true h = rw h (All-nil Steps216)
+arrived_step q bytes true h = rw h (All-nil StepsTick)
 arrived_step q bytes false h =
     let line : Option Line = (clock_by q (reference_in q bytes)).line in
     rw h (so_step (arrival_by q.before line) q.held (line_step q.before line))
 
-pub all_step : (q : QueueState) (packets : List (List ℕ)) → All Steps216 (timed_from q packets)
+pub all_step : (q : QueueState) (packets : List (List ℕ)) → All StepsTick (timed_from q packets)
 unfolding timed_from
 all_step q [] = so_step (last_arrival q) q.held (line_step q.before q.clock.line)
 all_step q (bytes ∷ packets) =
-    All-append Steps216 (arrived (released q bytes) q.held) (timed_from (with_one q bytes) packets) (arrived_step q bytes (still_wait q (reference_in q bytes)) refl)
+    All-append StepsTick (arrived (released q bytes) q.held) (timed_from (with_one q bytes) packets) (arrived_step q bytes (still_wait q (reference_in q bytes)) refl)
     (all_step (with_one q bytes) packets)
 
 -- ---- each stream of the report
@@ -264,7 +264,7 @@ all_step q (bytes ∷ packets) =
 pub once : (pid : ClockPid) (packets : List (List ℕ)) → length (timed_packets pid packets) ≡ length packets
 once pid packets = sym (length-map (timed_packets pid packets) (λ p. p.bytes)) ∙ ap (λ (l : List (List ℕ)). length l) (each_once pid packets)
 
-pub clocked_order : (pid : ClockPid) (packets : List (List ℕ)) → All (λ bytes. length bytes ≡ 188) packets → InOrder 216000000 (timed_packets pid packets)
+pub clocked_order : (pid : ClockPid) (packets : List (List ℕ)) → All (λ bytes. length bytes ≡ 188) packets → InOrder byte_ticks_at_1bps (timed_packets pid packets)
 clocked_order pid packets whole = record {
   rises = λ chosen drain. rises_law pid packets chosen drain;
   leads = lead_law pid packets whole;
@@ -277,7 +277,7 @@ clocked_stream_law request packets place e unknown whole few there =
     let pid : ClockPid = clock_for request.choice.programs in
     let start_is : clocked.start request ≡ record { view = views.start request; queue = Some (no_packet pid) } = rw unknown refl in
     let at_end = subst (λ (s : ClockedState). slice_get (last_view (clocked.after_all s packets).view (clocked.after_all s packets).queue).table.entries place ≡ Some e) start_is there in
-    timed_stream_law request 216000000 (timed_packets pid packets) place e (omega arith) (clocked_order pid packets whole) (omega (arith, few, once pid packets)) (in_view pid packets at_end)
+    timed_stream_law request byte_ticks_at_1bps (timed_packets pid packets) place e (omega arith) (clocked_order pid packets whole) (omega (arith, few, once pid packets)) (in_view pid packets at_end)
   where
     in_view : (pid : ClockPid) (packets : List (List ℕ)) →
         slice_get (last_view (clocked.after_all (record { view = views.start request; queue = Some (no_packet pid) }) packets).view

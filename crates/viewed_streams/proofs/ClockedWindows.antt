@@ -2,6 +2,7 @@
 use Rattle.std.proofs.Common.{◌≡◌, ◌∙◌, sym, ℕ, ◌+◌, ◌^◌, ◌<◌, List, ◌++◌, length, Option, Some, None, ap, subst, arith, All, append_assoc}
 use Rattle.std.specs.Prelude.{slice_get}
 use Rattle.std.proofs.lemmas.List.{length-append}
+use Rattle.clock27.specs.Units.{byte_ticks_at_1bps}
 use Rattle.stream_arrival.specs.declared.arrival.Arrival.TheVariants.{Unknown}
 use Rattle.clocked_packets.specs.Waiting.{no_packet}
 use Rattle.stream_times.specs.TimedPackets.{Timed}
@@ -16,7 +17,7 @@ use Rattle.viewed_streams.specs.HeldWindows.{BeginIn, options_then, window_enter
 use Rattle.viewed_streams.specs.TimedStreams.{InOrder, view_by}
 use Rattle.viewed_streams.specs.TransportHighs.{ClockedTransportLaw}
 use Rattle.viewed_streams.specs.WindowHighs.{ClockedHighLaw}
-use Rattle.viewed_streams.proofs.ClockedStreams.{Steps216, all_step, clocked_order, once}
+use Rattle.viewed_streams.proofs.ClockedStreams.{StepsTick, all_step, clocked_order, once}
 use Rattle.viewed_streams.proofs.ClockedTables.{clocked_tables_law}
 use Rattle.viewed_streams.proofs.FirstWindows.{first_high_law}
 use Rattle.viewed_streams.proofs.HeldWindows.{CountedOver, says_high, says_low, window_counted}
@@ -29,7 +30,7 @@ record InView (request : RequestView) (packets : List (List ℕ)) (before now la
   there : slice_get (view_by (start request) before).table.entries place ≡ o
   then_there : slice_get (view_by (start request) (before ++ now)).table.entries place ≡ o'
   many : length packets ≡ length before + (length now + length later)
-  steps : All Steps216 (before ++ now)
+  steps : All StepsTick (before ++ now)
 
 table_is : (request : RequestView) (packets : List (List ℕ)) (before later : List Timed) (t : TableState) → request.options.arrival ≡ Unknown →
     timed_in request packets ≡ before ++ later → slice_get (report_tables request packets) (length before) ≡ Some t → (view_by (start request) before).table ≡ t
@@ -47,7 +48,7 @@ in_view request packets before now later place t t' o o' unknown is at_t there a
       there = ap (λ (x : TableState). slice_get x.entries place) (table_is request packets before (now ++ later) t unknown is at_t) ∙ there;
       then_there = ap (λ (x : TableState). slice_get x.entries place) (table_is request packets (before ++ now) later t' unknown whole at_t') ∙ later_there;
       many = omega (arith, once pid packets, ap (λ (l : List Timed). length l) is, length-append before (now ++ later), length-append now later);
-      steps = first_all Steps216 (before ++ now) later (subst (λ (l : List Timed). All Steps216 l) whole (all_step (no_packet pid) packets));
+      steps = first_all StepsTick (before ++ now) later (subst (λ (l : List Timed). All StepsTick l) whole (all_step (no_packet pid) packets));
     }
 
 record ClockedCount (request : RequestView) (before now : List Timed) (window : ℕ) (e e' : EntryState) : Type 0 where
@@ -58,7 +59,7 @@ clocked_counted : (request : RequestView) (packets : List (List ℕ)) (before no
     length packets < 2 ^ 64 → InView request packets before now later place (Some e) (Some e') →
     BeginIn (options_then request e before) window (length before) now → ClockedCount request before now window e e'
 clocked_counted request packets before now later window place e e' few v all =
-    let step : e.held.rate ≡ 216000000 = step_is request 216000000 before place e (first_all Steps216 before now v.steps) (omega (arith, v.many, few)) v.there in
+    let step : e.held.rate ≡ byte_ticks_at_1bps = step_is request byte_ticks_at_1bps before place e (first_all StepsTick before now v.steps) (omega (arith, v.many, few)) v.there in
     record {
       counted = window_counted request before now window place e e' (omega (arith, v.many, few)) v.there v.then_there all;
       step = omega (arith, step);
@@ -79,13 +80,13 @@ clocked_high_law request packets before now later window place t t' e e' unknown
 pub clocked_first_law : ClockedFirstLaw
 clocked_first_law request packets before now later window place t t' e unknown few is at_t there at_t' later_there all =
     let v = in_view request packets before now later place t t' None (Some e) unknown is at_t there at_t' later_there in
-    let step : e.held.rate ≡ 216000000 = step_is request 216000000 (before ++ now) place e v.steps (omega (arith, v.many, few, length-append before now)) v.then_there in
+    let step : e.held.rate ≡ byte_ticks_at_1bps = step_is request byte_ticks_at_1bps (before ++ now) place e v.steps (omega (arith, v.many, few, length-append before now)) v.then_there in
     first_high_law request before now window place e (omega (arith, v.many, few)) v.there v.then_there all (omega (arith, step))
 
 pub clocked_transport_law : ClockedTransportLaw
 clocked_transport_law request packets before now later window place t t' e e' unknown whole few is at_t there at_t' later_there other told all some =
     let v = in_view request packets before now later place t t' (Some e) (Some e') unknown is at_t there at_t' later_there in
     let split : timed_in request packets ≡ (before ++ now) ++ later = is ∙ sym (append_assoc before now later) in
-    let order : InOrder 216000000 ((before ++ now) ++ later) =
-    subst (λ (l : List Timed). InOrder 216000000 l) split (clocked_order (clock_for request.choice.programs) packets whole) in
-    ordered_transport request 216000000 before now window place e e' (omega arith) (first_in_order 216000000 (before ++ now) later order) few v.there v.then_there other told all some
+    let order : InOrder byte_ticks_at_1bps ((before ++ now) ++ later) =
+    subst (λ (l : List Timed). InOrder byte_ticks_at_1bps l) split (clocked_order (clock_for request.choice.programs) packets whole) in
+    ordered_transport request byte_ticks_at_1bps before now window place e e' (omega arith) (first_in_order byte_ticks_at_1bps (before ++ now) later order) few v.there v.then_there other told all some

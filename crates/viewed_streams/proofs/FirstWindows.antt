@@ -34,11 +34,10 @@ use Rattle.viewed_streams.specs.WindowHighs.{most_after}
 use Rattle.viewed_streams.specs.WindowLows.{least_after}
 use Rattle.viewed_streams.proofs.ClockedStreams.{view_two}
 use Rattle.viewed_streams.proofs.Entries.{Agree, begun_agrees, begun_or_before, entry_begun, entry_with, taken_before}
-use Rattle.viewed_streams.proofs.Grown.{sound_options, sound_packets}
 use Rattle.viewed_streams.proofs.HeldWindows.{agree_by, begin_then, counted_in, grown_held, viewed_then}
 use Rattle.viewed_streams.proofs.Lists.{itself}
 use Rattle.viewed_streams.proofs.MainHighs.{first_most, most_of}
-use Rattle.viewed_streams.proofs.Steps.{after_sound, followed, known, sound_agrees}
+use Rattle.viewed_streams.proofs.Steps.{after_sound, followed, known, sound_agrees, sound_options, sound_packets}
 use Rattle.viewed_streams.proofs.TimedGrown.{came_is, next_by, ready}
 use Rattle.viewed_streams.proofs.TransportHighs.{Arrives, each_arrives, each_transport, first_full, packet_arrives, packet_transport}
 use Rattle.viewed_streams.proofs.Whole.{none_agree}

@@ -25,9 +25,8 @@ use Rattle.viewed_streams.specs.WindowHighs.{IsHighWith, TimedHighLaw}
 use Rattle.viewed_streams.specs.WindowLows.{HasPayload, SaysLow, counted_each}
 use Rattle.viewed_streams.proofs.ClockedStreams.{view_two}
 use Rattle.viewed_streams.proofs.Entries.{Agree, begun_agrees, begun_keeps, entry_with, taken_entry}
-use Rattle.viewed_streams.proofs.Grown.{sound_options, sound_packets}
 use Rattle.viewed_streams.proofs.Lists.{some_is}
-use Rattle.viewed_streams.proofs.Steps.{after_sound, clock_known, finished_steps, followed, known, sound_agrees, sound_steps}
+use Rattle.viewed_streams.proofs.Steps.{after_sound, clock_known, finished_steps, followed, known, sound_agrees, sound_options, sound_packets, sound_steps}
 use Rattle.viewed_streams.proofs.TimedGrown.{came_is, grown_by, next_by, ready}
 use Rattle.viewed_streams.proofs.TimedWhole.{followed_is, index_by, knows_by, same_by}
 use Rattle.viewed_streams.proofs.Whole.{none_agree}

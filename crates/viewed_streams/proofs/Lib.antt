@@ -3,7 +3,6 @@ pub mod Lists
 pub mod Units
 pub mod Entries
 pub mod Steps
-pub mod Grown
 pub mod Excesses
 pub mod StreamIndices
 pub mod Whole

@@ -247,12 +247,14 @@ is_high step d ds recent before pos some =
       entries = es;
       follow = entries_follow step recent before;
       later = All-weaker (λ e. last_of step before < e) (λ e. All (λ d. d < e) (payload_left step before)) (λ e lt. all_sooner e lt) es (entries_later step recent before pos);
-      never_more = λ x late. omega (arith, most, never_more step x recent before pos late);
-      first = r.first;
-      moment = r.moment;
-      others = r.others;
-      enters = r.is;
-      reached = r.reached ∙ sym most;
+      greatest = record {
+        never_more = λ x late. omega (arith, most, never_more step x recent before pos late);
+        first = r.first;
+        moment = r.moment;
+        others = r.others;
+        among = r.is;
+        reached = r.reached ∙ sym most;
+      };
     }
   where
     all_sooner : (e : ℕ) → last_of step before < e → All (λ d. d < e) (payload_left step before)

@@ -36,13 +36,13 @@ no_fuller request rate x bytes e pid rx w same drained =
 
 pub measured_stream_law : MeasuredStreamLaw
 measured_stream_law request rate base0 bytes e s units f w same drained full = (
-  peak_le _ _ (transport_most e.held) f.transport (λ x. no_fuller request rate x bytes e s.pid s.rx w same drained) w.transport full.transport,
+  peak_le _ _ (transport_most e.held) f.transport (λ x. no_fuller request rate x bytes e s.pid s.rx w same drained) w.lines.transport full.transport,
   λ none.
       let last : List ℕ = indices_of e.pid (length w.before) (w.first ∷ w.later) in
       let slots : slots_of (packets_on s.pid bytes) ≡ last = all_slots request rate bytes e s.pid w same ∙ ap (λ (ps : List Packet). slots_of ps ++ last) none in
       let alike : (x : ℕ) → tb_fullness rate s.rx x (slots_of (packets_on s.pid bytes)) ≡ tb_fullness rate e.held.rx x last =
       λ x. ap (λ (l : List ℕ). tb_fullness rate s.rx x l) slots ∙ ap (λ (r : ℕ). tb_fullness rate r x last) (sym drained) in
-      let one = peak_le _ _ (transport_most e.held) f.transport (λ x. no_fuller request rate x bytes e s.pid s.rx w same drained) w.transport full.transport in
-      let other = peak_le _ _ f.transport (transport_most e.held) (λ x. omega (arith, alike x)) full.transport w.transport in
+      let one = peak_le _ _ (transport_most e.held) f.transport (λ x. no_fuller request rate x bytes e s.pid s.rx w same drained) w.lines.transport full.transport in
+      let other = peak_le _ _ f.transport (transport_most e.held) (λ x. omega (arith, alike x)) full.transport w.lines.transport in
       omega (arith, one, other),
 )

@@ -173,7 +173,7 @@ run_late_law d units slots request e k ranges promised kept few viewed whole =
     let none = view_fine rate e.held.rx e.held.main.size (known_at_begin (followed request e) whole.before).index (stream_packets request e whole.before rest) (drop (length es) us)
     v.begin.come v.begin.follows in_time in
     let no_late : count_by is_late (all_units rate e.held.parts) ≡ 0 = ap (λ (h : Held). count_by is_late (all_units rate h.parts)) whole.held ∙ none in
-    record { none = no_late; number = λ window. whole.late window ∙ no_late }
+    record { none = no_late; number = λ window. whole.lines.late window ∙ no_late }
 
 pub job_late_law : JobLateLaw
 job_late_law d units slots request e k ranges promised none few viewed =

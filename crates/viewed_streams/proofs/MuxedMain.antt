@@ -200,11 +200,11 @@ run_main_law d units slots request e k ranges promised kept few viewed whole =
     let us : List AccessUnit = units k in
     let es : List Entry = entries_from s.pid 0 whole.before in
     let v = run_later d units slots request e k ranges promised kept few viewed whole in
-    let x : ℕ = whole.main.moment in
+    let x : ℕ = whole.lines.main.moment in
     let fits : mb_fullness rate s.rx x (timed_pes_packets s.stream_id d.description.base0 us) (pes_left rate s.rx 0 (map entry_packet es) ++ pes_left rate s.rx 0 v.back) ≤ s.main =
     main_kept d k s us (content_at d units) slots viewed.there (stream_alone d units k s ranges (contents_fit d units ranges kept) viewed.there) (kept.kept k s viewed.there) promised x
     (pes_left rate s.rx 0 (map entry_packet es) ++ pes_left rate s.rx 0 v.back) v.late in
-    let within : main_most e.held ≤ e.held.main.size = omega (arith, v.fuller x, fits, whole.main.reached, viewed.size) in
+    let within : main_most e.held ≤ e.held.main.size = omega (arith, v.fuller x, fits, whole.lines.main.reached, viewed.size) in
     let quiet = no_main_excess_law request rate (cut_packets bytes) e whole within in
     let model : FromTheFirst e.pid whole.before → (y : ℕ) →
     mb_fullness rate s.rx y (timed_pes_packets s.stream_id d.description.base0 us) (pes_left rate s.rx 0 (map entry_packet es) ++ pes_left rate s.rx 0 v.back) ≡ model_of rate d.description.base0 s us bytes y =
@@ -219,7 +219,7 @@ run_main_law d units slots request e k ranges promised kept few viewed whole =
       none_ended = quiet.0;
       none_under_way = quiet.1;
       measured = λ first f full.
-          peak_le (main_fullness rate e.held.parts) (model_of rate d.description.base0 s us bytes) (main_most e.held) f.main (λ y. omega (arith, v.fuller y, model first y)) whole.main full.main;
+          peak_le (main_fullness rate e.held.parts) (model_of rate d.description.base0 s us bytes) (main_most e.held) f.main (λ y. omega (arith, v.fuller y, model first y)) whole.lines.main full.main;
     }
 
 pub job_main_law : JobMainLaw

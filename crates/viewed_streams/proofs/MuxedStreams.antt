@@ -67,15 +67,15 @@ fits request rate packets e some drained w few =
     let ts : List ℕ = arrivals e.held.rx slots in
     let climbs = climbs_low 0 (length w.before) slots (omega arith) (packets_climb e.pid (length w.before) (w.first ∷ w.later)) in
     let peak = most_law rate ts some (climbs_rises 0 ts (arrivals_climb e.held.rx slots drained climbs)) in
-    let most : most_found rate 0 ts ≤ TRANSPORT_BYTES = omega (arith, peak.reached, w.transport.never_more peak.moment, few) in
+    let most : most_found rate 0 ts ≤ TRANSPORT_BYTES = omega (arith, peak.reached, w.lines.transport.never_more peak.moment, few) in
     let none : excesses rate TRANSPORT_BYTES ts ≡ [] = no_excesses rate TRANSPORT_BYTES ts most in
-    let told = w.told ∙ none in
+    let told = w.lines.told ∙ none in
     record {
       whole = w;
       most = few;
       none_ended = none_first _ (option_to_list (transport_under_way e.held)) told;
       none_under_way = none_last _ (transport_under_way e.held) told;
-      number = λ window. w.excesses window ∙ ap (λ (l : List Excess). length l) none;
+      number = λ window. w.lines.excesses window ∙ ap (λ (l : List Excess). length l) none;
     }
 
 -- ---- what a multiplexer wrote
@@ -90,8 +90,8 @@ muxed_stream_law d units slots bytes request place e k s ranges h few at_rate th
     let fewer : length (cut_packets bytes) ≤ most_packets = omega (arith, many, h.size, few) in
     let w = whole_stream_law request rate (cut_packets bytes) place e at_rate some fewer there out in
     let kept = h.streams k s is in
-    let x : ℕ = w.transport.moment in
-    let most : transport_most e.held ≤ 512 = omega (arith, w.transport.reached, no_fuller request rate x bytes e s.pid s.rx w same drained, kept.transport x) in
+    let x : ℕ = w.lines.transport.moment in
+    let most : transport_most e.held ≤ 512 = omega (arith, w.lines.transport.reached, no_fuller request rate x bytes e s.pid s.rx w same drained, kept.transport x) in
     fits request rate (cut_packets bytes) e some out w most
 
 pub job_no_excess_law : JobNoExcessLaw

@@ -1,14 +1,10 @@
 -- At a constant rate all packets arrive alike: what is so of a stream however it arrives, is what its last lines say at that rate.
 use Rattle.std.proofs.Common.{◌≡◌, ◌∙◌, sym, ℕ, ◌+◌, ◌*◌, ◌^◌, ◌≤◌, ◌<◌, Bool, true, false, nat_le, List, [], ◌∷◌, ◌++◌, length, Option, Some, None, Result, Ok, Err, if◌then◌else◌, refl, ap, subst, inl, inr, nat_eq, arith}
-use Rattle.std.specs.Prelude.{flat_map, slice_get}
-use Rattle.std.specs.Option.{option_to_list}
+use Rattle.std.specs.Prelude.{slice_get}
 use Rattle.std.proofs.lemmas.Bool.{le-leb}
 use Rattle.std.proofs.lemmas.Bool.Decides.{eqb_tells}
 use Rattle.std.proofs.lemmas.List.{length-append}
 use Rattle.clock27.specs.Arrival.{arrivals, bytes_from}
-use Rattle.clock27.specs.Departure.{departures}
-use Rattle.clock27.specs.Fullness.{fullness}
-use Rattle.clock27.specs.Peak.{IsPeak}
 use Rattle.ts_packet.specs.declared.packet.PacketError.{PacketError}
 use Rattle.ts_packet.specs.Views.{PacketView}
 use Rattle.ts_packet.specs.Reading.{packet_at}
@@ -23,10 +19,7 @@ use Rattle.stream_times.specs.Times.{packet_times, times_among}
 use Rattle.stream_times.proofs.TimedPackets.{many_arrive}
 use Rattle.stream_buffers.specs.declared.arriving.Arriving.{Arriving}
 use Rattle.stream_buffers.specs.Entering.{EnteredView, after, entered}
-use Rattle.stream_buffers.specs.declared.entering.TheConstants.{TRANSPORT_BYTES}
-use Rattle.stream_buffers.specs.Held.{Held, empty, transport_most, transport_under_way}
-use Rattle.transport_buffer.specs.declared.excess.Excess.{Excess}
-use Rattle.transport_buffer.specs.Laws.{excesses}
+use Rattle.stream_buffers.specs.Held.{Held, empty}
 use Rattle.named_streams.specs.NamedStreams.{NamedView, clock_of as program_clock}
 use Rattle.stream_report.specs.declared.view_options.ViewOptions.{ViewOptions}
 use Rattle.stream_report.specs.Choices.{RequestView}
@@ -36,7 +29,7 @@ use Rattle.stream_report.specs.StreamTables.{TableState, beginning, stream_buffe
 use Rattle.stream_report.specs.Views.{after_all, start}
 use Rattle.viewed_streams.specs.StreamPackets.{Before, Followed, after_each, entered_each, known_after, known_after_all, most_packets, seen_among, seen_in, sound_packet}
 use Rattle.viewed_streams.specs.TimedStreams.{Entering, IsWholeBy, after_entering, entered_by, entering, entering_among, followed_by, followed_so, is_on, known_at_first, known_by, on_pid, pid_times, stream_entering, view_by}
-use Rattle.viewed_streams.specs.WholeStreams.{IsWhole, WholeStreamLaw, indices_of, known_at_begin, nothing_known, stream_packets}
+use Rattle.viewed_streams.specs.WholeStreams.{IsWhole, SaysAll, WholeStreamLaw, indices_of, known_at_begin, nothing_known, stream_packets}
 use Rattle.viewed_streams.specs.WholeStreams as whole
 use Rattle.viewed_streams.proofs.ClockedStreams.{Like, each_more}
 use Rattle.viewed_streams.proofs.Lists.{apart, itself}
@@ -203,7 +196,6 @@ as_whole request rate packets e w t is few =
     ap (λ (i : ℕ). pid_times e.pid e.held.rx i (w.first ∷ w.later)) many
     ∙ ap (λ (l : List Timed). pid_times e.pid e.held.rx (length pre) l) rest_is
     ∙ rate_times rate e.pid e.held.rx (length pre) rest (omega (arith, few, lengths)) in
-    let all_are = ap (λ (ts : List ℕ). excesses rate TRANSPORT_BYTES ts) times_are in
     record {
       before = pre;
       first = t.first;
@@ -219,13 +211,8 @@ as_whole request rate packets e w t is few =
       rx = w.rx ∙ ap (λ (tb : TableState). (stream_buffers tb w.stream w.packet).rx) table;
       size = w.size ∙ ap (λ (tb : TableState). (stream_buffers tb w.stream w.packet).main) table;
       held = w.held ∙ ap (λ (l : List Entering). after_entering h l) xs_are ∙ after_is h a ps;
-      transport = subst (λ (ts : List ℕ). IsPeak (λ x. fullness x ts (departures rate 0 ts)) (transport_most e.held)) times_are w.transport;
-      told = ap (λ (vs : List EnteredView). flat_map (λ v. v.transport) vs ++ option_to_list (transport_under_way e.held)) (sym vs_are) ∙ w.told ∙ all_are;
-      excesses = λ window. w.excesses window ∙ ap (λ (es : List Excess). length es) all_are;
-      main = w.main;
-      told_units = ap (λ (vs : List EnteredView). flat_map (λ v. option_to_list v.unit) vs) (sym vs_are) ∙ w.told_units;
-      units = w.units;
-      late = w.late;
+      lines = subst (λ (ts : List ℕ). SaysAll rate ts (entered_each h a ps) e) times_are
+          (subst (λ (vs : List EnteredView). SaysAll rate (pid_times e.pid e.held.rx (length w.before) (w.first ∷ w.later)) vs e) vs_are w.lines);
     }
 
 pub whole_stream_law : WholeStreamLaw

@@ -251,3 +251,19 @@ sound_before s (Some packet) j e' agree few there =
             (packet_steps s (with_packet s packet) packet (next_window c.seen) back.0 refl (one_more_is s.seen.packets few) refl);
       })
     ]
+
+-- ---- one state after another
+
+-- what a packet leaves of a view's options and of its number of packets
+pub sound_options : (s : ViewState) (o : Option PacketView) → (after_sound s o).seen.options ≡ s.seen.options
+unfolding after_sound
+sound_options s None = refl
+sound_options s (Some packet) = refl
+
+pub sound_packets : (s : ViewState) (o : Option PacketView) → s.seen.packets + 1 < 2 ^ 64 → (after_sound s o).seen.packets ≡ s.seen.packets + 1
+unfolding after_sound
+sound_packets s None few = omega (arith, few)
+sound_packets s (Some packet) few = omega (arith, few)
+
+abbrev pub next : ViewState → List ℕ → ViewState
+next s bytes = finished (after_sound s (sound_packet (packet_at bytes))) bytes

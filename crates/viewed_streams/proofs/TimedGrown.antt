@@ -17,8 +17,7 @@ use Rattle.viewed_streams.specs.TimedStreams.{Entering, after_entering, followed
 use Rattle.viewed_streams.proofs.Lists.{some_is}
 use Rattle.viewed_streams.proofs.Units.{late_more, late_with, units_more, units_with}
 use Rattle.viewed_streams.proofs.Entries.{Agree, BeginsWith}
-use Rattle.viewed_streams.proofs.Grown.{next, sound_packets}
-use Rattle.viewed_streams.proofs.Steps.{Begins, Steps, after_sound, excesses_more, finished_steps, followed, known, packet_is, sound_agrees, sound_before, sound_steps}
+use Rattle.viewed_streams.proofs.Steps.{Begins, Steps, after_sound, excesses_more, finished_steps, followed, known, next, packet_is, sound_agrees, sound_before, sound_packets, sound_steps}
 
 -- ---- packets that arrive so, and then others
 

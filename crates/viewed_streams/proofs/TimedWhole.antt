@@ -38,9 +38,8 @@ use Rattle.viewed_streams.specs.WholeStreams as whole
 use Rattle.viewed_streams.proofs.EnteredBytes.{Arrives}
 use Rattle.viewed_streams.proofs.Entries.{entry_begun}
 use Rattle.viewed_streams.proofs.Excesses.{few_told}
-use Rattle.viewed_streams.proofs.Grown.{sound_options, sound_packets}
 use Rattle.viewed_streams.proofs.StreamIndices.{index_more}
-use Rattle.viewed_streams.proofs.Steps.{excesses_more, followed, known, unit_excesses, unit_units}
+use Rattle.viewed_streams.proofs.Steps.{excesses_more, followed, known, sound_options, sound_packets, unit_excesses, unit_units}
 use Rattle.viewed_streams.proofs.TimedBytes.{among_short, each_arrives_by}
 use Rattle.viewed_streams.proofs.TimedExcesses.{each_told_by, each_units_by, few_entering, many_entered_by, rate_by, told_of}
 use Rattle.viewed_streams.proofs.TimedGrown.{BeganBy, came_by, came_is, next_by, ready}
@@ -249,13 +248,15 @@ assemble_by request step packets e some order few b =
       held = held;
       arrived = arrived;
       rises = subst (λ (ts : List ℕ). Rises 0 ts) (sym arrived) rises;
-      transport = subst (λ (g : Held). IsPeak (λ x. fullness x times (departures step 0 times)) (transport_most g)) (sym held) fig.transport;
-      told = ap (λ (l : List Excess). l ++ option_to_list (transport_under_way e.held)) fig.ended ∙ all_of;
-      excesses = λ window. one_counted (closed window e).excesses ended (transport_under_way e.held) (unit_excesses e.tally window (unit_before e.held) ∙ number) ∙ ap (λ (l : List Excess). length l) all_of;
-      main = subst (λ (g : Held). IsPeak (main_fullness step g.parts) (main_most g)) (sym held) fig.main;
-      told_units = units.told;
-      units = units.units;
-      late = units.late;
+      lines = record {
+        transport = subst (λ (g : Held). IsPeak (λ x. fullness x times (departures step 0 times)) (transport_most g)) (sym held) fig.transport;
+        told = ap (λ (l : List Excess). l ++ option_to_list (transport_under_way e.held)) fig.ended ∙ all_of;
+        excesses = λ window. one_counted (closed window e).excesses ended (transport_under_way e.held) (unit_excesses e.tally window (unit_before e.held) ∙ number) ∙ ap (λ (l : List Excess). length l) all_of;
+        main = subst (λ (g : Held). IsPeak (main_fullness step g.parts) (main_most g)) (sym held) fig.main;
+        told_units = units.told;
+        units = units.units;
+        late = units.late;
+      };
     }
 
 pub timed_stream_law : TimedStreamLaw

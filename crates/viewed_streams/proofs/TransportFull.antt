@@ -128,12 +128,14 @@ is_full step t before ts pos rises =
     record {
       arrived = t ∷ ts;
       follow = refl;
-      never_more = λ x some. never x own some;
-      first = at.first;
-      moment = at.at;
-      others = at.others;
-      arrives = at.is;
-      reached = all_there step at.at t before ts pos rises at.after ∙ at.there;
+      greatest = record {
+        never_more = λ x some. never x own some;
+        first = at.first;
+        moment = at.at;
+        others = at.others;
+        among = at.is;
+        reached = all_there step at.at t before ts pos rises at.after ∙ at.there;
+      };
     }
   where
     never : (x : ℕ) → Rises t ts → (All (λ s. x < s) (t ∷ ts) → ⊥) →

@@ -1,5 +1,5 @@
--- What is known before a packet of a stream, and the number of excesses that are counted.
-use Rattle.std.proofs.Common.{◌≡◌, ◌∙◌, sym, ℕ, ◌+◌, ◌^◌, ◌<◌, List, [], ◌∷◌, ◌++◌, length, Option, Some, None, ap, arith}
+-- What is known before a packet of a stream, what stays of its entry, and the number of excesses that are counted.
+use Rattle.std.proofs.Common.{◌≡◌, ◌∙◌, sym, ℕ, ◌+◌, ◌^◌, ◌<◌, List, [], ◌∷◌, ◌++◌, length, Option, Some, None, refl, ap, arith}
 use Rattle.std.specs.Prelude.{flat_map, slice_get}
 use Rattle.std.specs.Option.{option_to_list}
 use Rattle.std.proofs.lemmas.List.{length-append}
@@ -15,8 +15,7 @@ use Rattle.stream_report.specs.Tallies.{more}
 use Rattle.stream_report.specs.Views.{ViewState, after_all, start}
 use Rattle.viewed_streams.specs.StreamPackets.{Before, Followed, known_after, known_after_all, sound_packet}
 use Rattle.viewed_streams.proofs.Entries.{Agree}
-use Rattle.viewed_streams.proofs.Grown.{next, sound_options, sound_packets}
-use Rattle.viewed_streams.proofs.Steps.{after_sound, clock_known, excesses_more, packet_is}
+use Rattle.viewed_streams.proofs.Steps.{after_sound, clock_known, excesses_more, next, packet_is, sound_agrees, sound_options, sound_packets, sound_steps}
 use Rattle.viewed_streams.proofs.StreamIndices.{index_more}
 
 -- ---- what is known before a packet
@@ -57,6 +56,20 @@ none_agree request = record { at = λ pid j h. absurd (let no : ⊥ = cc in no);
   where
     none : (j : ℕ) (e : EntryState) → slice_get [] j ≡ Some e → ⊥
     none j e h = cc
+
+-- an entry stays where it is, with its PID
+pub entry_stays : (s : ViewState) (packets : List (List ℕ)) (j : ℕ) (e : EntryState) → Agree s.table → s.seen.packets + length packets < 2 ^ 64 → slice_get s.table.entries j ≡ Some e →
+    (e' : EntryState) × ((slice_get (after_all s packets).table.entries j ≡ Some e') × (e'.pid ≡ e.pid))
+unfolding after_all
+entry_stays s [] j e agree few there = (e, (there, refl))
+entry_stays s (bytes ∷ packets) j e agree few there =
+    let o : Option PacketView = sound_packet (packet_at bytes) in
+    let one : s.seen.packets + 1 < 2 ^ 64 = omega (arith, few) in
+    let step = sound_steps s o j e agree one there in
+    let count = sound_packets s o one in
+    let rest = entry_stays (next s bytes) packets j step.0 (sound_agrees s o agree) (omega (arith, few, count)) step.1.0 in
+    let same : rest.0.pid ≡ e.pid = rest.1.1 ∙ ap (λ (x : Followed). x.pid) step.1.1.same_stream in
+    (rest.0, (ap (λ (x : ViewState). slice_get (after_all x packets).table.entries j) (packet_is s bytes) ∙ rest.1.0, same))
 
 -- ---- excesses that are counted
 

@@ -2,14 +2,11 @@
 -- with its own arrival, at a constant rate or on a line between clock references.
 --
 -- A byte takes `step` units of time to leave the transport buffer.
-use Rattle.std.specs.Prelude.{◌≡◌, ℕ, nat_eq, ◌<◌, ◌≤◌, Bool, false, List, [], ◌∷◌, ◌++◌, length, map, slice_get, count_by, flat_map, All, Option, Some, None}
-use Rattle.std.specs.Option.{option_to_list}
-use Rattle.clock27.specs.Departure.{departures}
-use Rattle.clock27.specs.Fullness.{fullness}
-use Rattle.clock27.specs.Peak.{IsPeak}
+use Rattle.std.specs.Prelude.{◌≡◌, ℕ, nat_eq, ◌<◌, ◌≤◌, Bool, false, List, [], ◌∷◌, ◌++◌, length, map, slice_get, All, Option, Some, None}
+use Rattle.clock27.specs.Units.{byte_ticks_at_1bps}
 use Rattle.ts_packet.specs.Views.{PacketView}
 use Rattle.ts_packet.specs.Reading.{packet_at}
-use Rattle.transport_buffer.specs.Laws.{Rises, excesses}
+use Rattle.transport_buffer.specs.Laws.{Rises}
 use Rattle.stream_arrival.specs.declared.arrival.Arrival.{Arrival}
 use Rattle.stream_arrival.specs.declared.arrival.Arrival.TheVariants.{Unknown, AtRate}
 use Rattle.stream_arrival.specs.Arrivals.{step_of}
@@ -18,23 +15,19 @@ use Rattle.stream_times.specs.TimedPackets.{Timed, arriving_so, timed_packets}
 use Rattle.stream_times.specs.Times.{times_among}
 use Rattle.stream_programs.specs.Streams.{FoundStreamView}
 use Rattle.named_streams.specs.NamedStreams.{clock_of as program_clock}
-use Rattle.stream_view.specs.History.{arrivals_of, main_fullness}
+use Rattle.stream_view.specs.History.{arrivals_of}
 use Rattle.stream_buffers.specs.declared.arriving.Arriving.{Arriving}
-use Rattle.stream_buffers.specs.declared.entering.TheConstants.{TRANSPORT_BYTES}
 use Rattle.stream_buffers.specs.Entering.{EnteredView, after, entered}
-use Rattle.stream_buffers.specs.Held.{Held, empty, main_most, transport_most, transport_under_way}
+use Rattle.stream_buffers.specs.Held.{Held, empty}
 use Rattle.stream_report.specs.Choices.{RequestView}
-use Rattle.stream_report.specs.ClockedViews.{ClockedState, clock_for, last_view}
+use Rattle.stream_report.specs.ClockedViews.{clock_for, last_view}
 use Rattle.stream_report.specs.ClockedViews as clocked
-use Rattle.stream_report.specs.EntryLines.{with_one}
-use Rattle.stream_report.specs.Entries.{EntryState, closed}
+use Rattle.stream_report.specs.Entries.{EntryState}
 use Rattle.stream_report.specs.Seen.{with_arrival}
 use Rattle.stream_report.specs.StreamTables.{beginning, stream_buffers}
-use Rattle.stream_report.specs.Tallies.{is_late}
 use Rattle.stream_report.specs.Views.{ViewState, after_packet, arriving, start}
 use Rattle.viewed_streams.specs.StreamPackets.{Before, Followed, known_after, most_packets, seen_in, sound_packet}
-use Rattle.viewed_streams.specs.StreamUnits.{all_units, units_ended}
-use Rattle.viewed_streams.specs.WholeStreams.{followed, nothing_known}
+use Rattle.viewed_streams.specs.WholeStreams.{SaysAll, followed, nothing_known}
 
 -- 1. Packets of a stream, one by one
 
@@ -123,24 +116,9 @@ pub record IsWholeBy (request : RequestView) (step : ℕ) (packets : List Timed)
   -- the bytes that have entered the transport buffer are all bytes of these packets that have times, and none arrived before an earlier one
   pub arrived : arrivals_of e.held.parts ≡ pid_times e.pid e.held.rx (length before) (first ∷ later)
   pub rises : Rises 0 (arrivals_of e.held.parts)
-  -- the line `transport` has the greatest number of bytes of these packets in the transport buffer over all moments
-  pub transport : IsPeak
-      (λ x. fullness x (pid_times e.pid e.held.rx (length before) (first ∷ later)) (departures step 0 (pid_times e.pid e.held.rx (length before) (first ∷ later))))
-      (transport_most e.held)
-  -- and the number of all excesses: those of the lines `excess`, one after another, with the one under way at the end
-  pub told : flat_map (λ v. v.transport) (entered_by (empty step e.held.rx e.held.main.size) (stream_entering request e before (first ∷ later)))
-      ++ option_to_list (transport_under_way e.held)
-      ≡ excesses step TRANSPORT_BYTES (pid_times e.pid e.held.rx (length before) (first ∷ later))
-  pub excesses : (window : ℕ) → with_one (closed window e).excesses (transport_under_way e.held)
-      ≡ length (excesses step TRANSPORT_BYTES (pid_times e.pid e.held.rx (length before) (first ∷ later)))
-  -- the line `main` has the greatest number of bytes in the main buffer over all moments: of the payload bytes that have left the transport
-  -- buffer by then, and whose unit is not gone
-  pub main : IsPeak (main_fullness step e.held.parts) (main_most e.held)
-  -- and the number of all units, and of those of them that are late: those that end with one of these packets, and the last one
-  pub told_units : flat_map (λ v. option_to_list v.unit) (entered_by (empty step e.held.rx e.held.main.size) (stream_entering request e before (first ∷ later)))
-      ≡ units_ended step e.held.parts
-  pub units : (window : ℕ) → (closed window e).units ≡ length (all_units step e.held.parts)
-  pub late : (window : ℕ) → (closed window e).late ≡ count_by is_late (all_units step e.held.parts)
+  -- its last lines are about them
+  pub lines : SaysAll step (pid_times e.pid e.held.rx (length before) (first ∷ later))
+      (entered_by (empty step e.held.rx e.held.main.size) (stream_entering request e before (first ∷ later))) e
 
 -- no byte of these packets arrives before an earlier one, a line begins within a packet before its payload, and a byte takes the same step on
 -- each line
@@ -158,9 +136,10 @@ abbrev pub TimedStreamLaw : Type 0
 TimedStreamLaw = (request : RequestView) (step : ℕ) (packets : List Timed) (place : ℕ) (e : EntryState) → 0 < step → InOrder step packets → length packets ≤ most_packets →
     slice_get (view_by (start request) packets).table.entries place ≡ Some e → IsWholeBy request step packets e
 
--- and of each stream of a report on packets of 188 bytes that arrive by clock references, at its end
+-- and of each stream of a report on packets of 188 bytes that arrive by clock references, at its end: in units of 1 / (27,000,000 * rx) seconds
+-- a byte takes byte_ticks_at_1bps to leave a transport buffer that is drained at rx bits a second
 abbrev pub ClockedStreamLaw : Type 0
 ClockedStreamLaw = (request : RequestView) (packets : List (List ℕ)) (place : ℕ) (e : EntryState) → request.options.arrival ≡ Unknown →
     All (λ bytes. length bytes ≡ 188) packets → length packets ≤ most_packets →
     slice_get (last_view (clocked.after_all (clocked.start request) packets).view (clocked.after_all (clocked.start request) packets).queue).table.entries place ≡ Some e →
-    IsWholeBy request 216000000 (timed_packets (clock_for request.choice.programs) packets) e
+    IsWholeBy request byte_ticks_at_1bps (timed_packets (clock_for request.choice.programs) packets) e

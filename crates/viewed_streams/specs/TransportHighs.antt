@@ -19,6 +19,7 @@ use Rattle.viewed_streams.specs.ClockedWindows.{report_tables, timed_in}
 use Rattle.viewed_streams.specs.HeldWindows.{BeginIn, LieIn, options_then, window_entering, window_packets}
 use Rattle.viewed_streams.specs.StreamPackets.{most_packets}
 use Rattle.viewed_streams.specs.TimedStreams.{Entering, after_entering, entered_by, entering, view_by}
+use Rattle.viewed_streams.specs.WindowHighs.{IsGreatestFrom}
 use Rattle.viewed_streams.specs.WindowLows.{counted_each}
 
 -- 1. Packets of a window
@@ -33,17 +34,12 @@ abbrev pub WindowTransportLaw : Type 0
 WindowTransportLaw = (t : Tally) (window : ℕ) (v : Bool × EnteredView) (vs : List (Bool × EnteredView)) → (in_window t window).window_transport ≡ 0 →
     (counted_each t window (v ∷ vs)).window_transport ≡ transport_after 0 (map (λ w. w.1) (v ∷ vs))
 
--- bytes have arrived at the times `all`, the first of them at those `before`, and n is the greatest in the buffer from when the first of the
--- others has: from then on no more of all of them is in it, and so much is when one of the others arrives
+-- bytes arrive at the times `all`, the first of them at those `before`, and n is the greatest in the buffer, of all of them, from when the first
+-- of the others arrives
 pub record IsFull (step : ℕ) (before all : List ℕ) (n : ℕ) : Type 0 where
   pub arrived : List ℕ
   pub follow : all ≡ before ++ arrived
-  pub never_more : (x : ℕ) → (All (λ t. x < t) arrived → ⊥) → fullness x all (departures step 0 all) ≤ n
-  pub first : List ℕ
-  pub moment : ℕ
-  pub others : List ℕ
-  pub arrives : arrived ≡ first ++ moment ∷ others
-  pub reached : fullness moment all (departures step 0 all) ≡ n
+  pub greatest : IsGreatestFrom (λ x. fullness x all (departures step 0 all)) arrived n
 
 -- those of packets, after all before them
 abbrev pub IsFullWith : Held → List Entering → ℕ → Type 0

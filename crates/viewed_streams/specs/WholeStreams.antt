@@ -5,10 +5,12 @@
 use Rattle.std.specs.Prelude.{◌≡◌, ℕ, ◌<◌, ◌≤◌, List, ◌∷◌, ◌++◌, length, slice_get, count_by, flat_map, Some, None}
 use Rattle.std.specs.Option.{option_to_list}
 use Rattle.clock27.specs.Arrival.{arrivals}
+use Rattle.clock27.specs.Departure.{departures}
+use Rattle.clock27.specs.Fullness.{fullness}
 use Rattle.clock27.specs.Peak.{IsPeak}
 use Rattle.ts_packet.specs.Views.{PacketView}
 use Rattle.ts_packet.specs.Reading.{packet_at}
-use Rattle.unit_timing.specs.Transport.{slots_of, tb_fullness}
+use Rattle.unit_timing.specs.Transport.{slots_of}
 use Rattle.decoder_buffers.specs.PidPackets.{packets_from}
 use Rattle.stream_arrival.specs.declared.arrival.Arrival.TheVariants.{AtRate}
 use Rattle.stream_programs.specs.Streams.{FoundStreamView}
@@ -17,6 +19,7 @@ use Rattle.transport_buffer.specs.Laws.{excesses}
 use Rattle.stream_view.specs.History.{main_fullness}
 use Rattle.stream_buffers.specs.declared.arriving.Arriving.{Arriving}
 use Rattle.stream_buffers.specs.declared.entering.TheConstants.{TRANSPORT_BYTES}
+use Rattle.stream_buffers.specs.Entering.{EnteredView}
 use Rattle.stream_buffers.specs.Held.{empty, main_most, transport_most, transport_under_way}
 use Rattle.stream_report.specs.declared.view_options.ViewOptions.{ViewOptions}
 use Rattle.stream_report.specs.Choices.{RequestView}
@@ -47,6 +50,21 @@ stream_packets request e before packets = seen_among (followed request e) (known
 abbrev pub indices_of : ℕ → ℕ → List (List ℕ) → List ℕ
 indices_of pid first packets = slots_of (packets_from pid first packets)
 
+-- the last lines of a stream are about all its packets: their bytes arrive at these times, and this has ended with each of them
+pub record SaysAll (step : ℕ) (times : List ℕ) (vs : List EnteredView) (e : EntryState) : Type 0 where
+  -- the line `transport` has the greatest number of bytes in the transport buffer over all moments
+  pub transport : IsPeak (λ x. fullness x times (departures step 0 times)) (transport_most e.held)
+  -- and the number of all excesses: those of the lines `excess`, one after another, with the one under way at the end
+  pub told : flat_map (λ v. v.transport) vs ++ option_to_list (transport_under_way e.held) ≡ excesses step TRANSPORT_BYTES times
+  pub excesses : (window : ℕ) → with_one (closed window e).excesses (transport_under_way e.held) ≡ length (excesses step TRANSPORT_BYTES times)
+  -- the line `main` has the greatest number of bytes in the main buffer over all moments: of the payload bytes that have left the transport
+  -- buffer by then, and whose unit is not gone
+  pub main : IsPeak (main_fullness step e.held.parts) (main_most e.held)
+  -- and the number of all units, and of those of them that are late: those that end with one of these packets, and the last one
+  pub told_units : flat_map (λ v. option_to_list v.unit) vs ≡ units_ended step e.held.parts
+  pub units : (window : ℕ) → (closed window e).units ≡ length (all_units step e.held.parts)
+  pub late : (window : ℕ) → (closed window e).late ≡ count_by is_late (all_units step e.held.parts)
+
 -- of a stream with a line at the end
 pub record IsWhole (request : RequestView) (rate : ℕ) (packets : List (List ℕ)) (e : EntryState) : Type 0 where
   -- its buffers begin with the packet `first`, the first that begins a PES packet of it once the tables name it
@@ -64,22 +82,9 @@ pub record IsWhole (request : RequestView) (rate : ℕ) (packets : List (List �
   pub size : e.held.main.size ≡ (stream_buffers (after_all (start request) before).table stream packet).main
   -- what they hold is what all packets of its PID from then on leave in empty ones
   pub held : e.held ≡ after_each (empty rate e.held.rx e.held.main.size) (AtRate rate) (stream_packets request e before (first ∷ later))
-  -- the line `transport` has the greatest number of bytes of these packets in the transport buffer over all moments
-  pub transport : IsPeak (λ x. tb_fullness rate e.held.rx x (indices_of e.pid (length before) (first ∷ later))) (transport_most e.held)
-  -- and the number of all excesses: those of the lines `excess`, one after another, with the one under way at the end
-  pub told : flat_map (λ v. v.transport) (entered_each (empty rate e.held.rx e.held.main.size) (AtRate rate) (stream_packets request e before (first ∷ later)))
-      ++ option_to_list (transport_under_way e.held)
-      ≡ excesses rate TRANSPORT_BYTES (arrivals e.held.rx (indices_of e.pid (length before) (first ∷ later)))
-  pub excesses : (window : ℕ) → with_one (closed window e).excesses (transport_under_way e.held)
-      ≡ length (excesses rate TRANSPORT_BYTES (arrivals e.held.rx (indices_of e.pid (length before) (first ∷ later))))
-  -- the line `main` has the greatest number of bytes in the main buffer over all moments: of the payload bytes that have left the transport
-  -- buffer by then, and whose unit is not gone
-  pub main : IsPeak (main_fullness rate e.held.parts) (main_most e.held)
-  -- and the number of all units, and of those of them that are late: those that end with one of these packets, and the last one
-  pub told_units : flat_map (λ v. option_to_list v.unit) (entered_each (empty rate e.held.rx e.held.main.size) (AtRate rate) (stream_packets request e before (first ∷ later)))
-      ≡ units_ended rate e.held.parts
-  pub units : (window : ℕ) → (closed window e).units ≡ length (all_units rate e.held.parts)
-  pub late : (window : ℕ) → (closed window e).late ≡ count_by is_late (all_units rate e.held.parts)
+  -- its last lines are about them: `tb_fullness` of the indices of the packets of its PID is what the transport buffer holds
+  pub lines : SaysAll rate (arrivals e.held.rx (indices_of e.pid (length before) (first ∷ later)))
+      (entered_each (empty rate e.held.rx e.held.main.size) (AtRate rate) (stream_packets request e before (first ∷ later))) e
 
 -- so of each stream of a report at a constant rate, as long as packets enter buffers: in the first 2^40 bytes
 abbrev pub WholeStreamLaw : Type 0

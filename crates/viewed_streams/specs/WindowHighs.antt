@@ -29,19 +29,22 @@ abbrev pub WindowMostLaw : Type 0
 WindowMostLaw = (t : Tally) (window : ℕ) (v : Bool × EnteredView) (vs : List (Bool × EnteredView)) → (in_window t window).window_main ≡ 0 →
     (counted_each t window (v ∷ vs)).window_main ≡ most_after 0 (map (λ w. w.1) (v ∷ vs))
 
--- n is the greatest in the buffer from when the first payload byte of the parts `recent` has entered, that come after those `before`: from
--- then on no more of all of them is in it, and so much is when one of their own enters
+-- n is the greatest f from the first of these moments on: from then on none is greater, and it is reached at one of them
+pub record IsGreatestFrom (f : ℕ → ℕ) (moments : List ℕ) (n : ℕ) : Type 0 where
+  pub never_more : (x : ℕ) → (All (λ t. x < t) moments → ⊥) → f x ≤ n
+  pub first : List ℕ
+  pub moment : ℕ
+  pub others : List ℕ
+  pub among : moments ≡ first ++ moment ∷ others
+  pub reached : f moment ≡ n
+
+-- n is the greatest in the buffer, of all bytes, from when the first payload byte of the parts `recent` enters, that come after those `before`
 pub record IsHigh (step : ℕ) (recent before : List Part) (n : ℕ) : Type 0 where
   -- when their own enter: all others have before
   pub entries : List ℕ
   pub follow : payload_left step (recent ++ before) ≡ payload_left step before ++ entries
   pub later : All (λ e. All (λ d. d < e) (payload_left step before)) entries
-  pub never_more : (x : ℕ) → (All (λ d. x < d) entries → ⊥) → main_fullness step (recent ++ before) x ≤ n
-  pub first : List ℕ
-  pub moment : ℕ
-  pub others : List ℕ
-  pub enters : entries ≡ first ++ moment ∷ others
-  pub reached : main_fullness step (recent ++ before) moment ≡ n
+  pub greatest : IsGreatestFrom (main_fullness step (recent ++ before)) entries n
 
 -- parts come with packets, and n is the greatest fullness of the main buffer from their first payload byte on
 pub record IsHighWith (h : Held) (xs : List Entering) (n : ℕ) : Type 0 where
