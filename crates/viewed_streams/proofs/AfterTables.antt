@@ -313,8 +313,8 @@ all_two s (x ∷ xs) ys = all_next s x (xs ++ ys) ∙ all_two (next s x) xs ys �
 
 from_the_first : (d : Scheduled) (units : ℕ → List AccessUnit) (slots : ℕ) (request : RequestView) (e : EntryState) (k : ℕ) → IsInRange d.description → Promised d.description d.schedule →
     UnitsKept d units → slots ≤ most_packets → IsViewedAs d request k e → (whole : IsWhole request d.description.rate (cut_packets (run_bytes (content_at d units) 0 slots)) e) →
-    DueLate (units k) → FromTheFirst e.pid whole.before
-from_the_first d units slots request e k ranges promised kept few viewed whole late = by (entries_from pid 0 whole.before) refl
+    DueLate (units k) → FromTheFirst e.pid whole.begun.before
+from_the_first d units slots request e k ranges promised kept few viewed whole late = by (entries_from pid 0 whole.begun.before) refl
   where
     pid : ℕ
     pid = viewed.stream.pid
@@ -323,27 +323,27 @@ from_the_first d units slots request e k ranges promised kept few viewed whole l
     bytes = run_bytes (content_at d units) 0 slots
 
     rest : List (List ℕ)
-    rest = whole.first ∷ whole.later
+    rest = whole.begun.first ∷ whole.begun.later
 
-    none : entries_from pid 0 whole.before ≡ [] → FromTheFirst e.pid whole.before
-    none is = ap (λ (q : ℕ). packets_from q 0 whole.before) viewed.pid ∙ sym (packets_entries pid 0 whole.before) ∙ ap (λ (es : List Entry). map entry_packet es) is
+    none : entries_from pid 0 whole.begun.before ≡ [] → FromTheFirst e.pid whole.begun.before
+    none is = ap (λ (q : ℕ). packets_from q 0 whole.begun.before) viewed.pid ∙ sym (packets_entries pid 0 whole.begun.before) ∙ ap (λ (es : List Entry). map entry_packet es) is
 
-    no_first : (first : Entry) (es : List Entry) → entries_from pid 0 whole.before ≡ first ∷ es → ⊥
+    no_first : (first : Entry) (es : List Entry) → entries_from pid 0 whole.begun.before ≡ first ∷ es → ⊥
     no_first first es is =
         let v = run_viewed d units slots request e k ranges promised kept few viewed whole in
-        let all : entries_from pid 0 (cut_packets bytes) ≡ first ∷ (es ++ entries_from pid (length whole.before) rest) =
-        v.entries ∙ ap (λ (l : List Entry). l ++ entries_from pid (length whole.before) rest) is in
+        let all : entries_from pid 0 (cut_packets bytes) ≡ first ∷ (es ++ entries_from pid (length whole.begun.before) rest) =
+        v.entries ∙ ap (λ (l : List Entry). l ++ entries_from pid (length whole.begun.before) rest) is in
         let us : List AccessUnit = cut_senders (cuts_of (owned_stream d k viewed.stream) (units k)) in
-        let starts = first_starts d.description.base0 v.sent.first first (es ++ entries_from pid (length whole.before) rest) us
+        let starts = first_starts d.description.base0 v.sent.first first (es ++ entries_from pid (length whole.begun.before) rest) us
         (subst (λ (l : List Entry). AllSent d.description.base0 v.sent.first None l us) all v.sent.sent) in
         let there : slice_get (pid_list pid bytes) 0 ≡ Some first = ap (λ (l : List Entry). slice_get l 0) (pid_entries pid bytes ∙ all) in
-        let f = first_entry pid 0 whole.before first es is in
+        let f = first_entry pid 0 whole.begun.before first es is in
         let n : ℕ = length f.pre in
         let place : first.index ≡ n = omega (arith, f.index) in
         let cut : cut_packets bytes ≡ f.pre ++ ((f.bytes ∷ f.post) ++ rest) =
-        whole.split ∙ ap (λ (l : List (List ℕ)). l ++ rest) f.split ∙ append_assoc f.pre (f.bytes ∷ f.post) rest in
+        whole.begun.split ∙ ap (λ (l : List (List ℕ)). l ++ rest) f.split ∙ append_assoc f.pre (f.bytes ∷ f.post) rest in
         let front : concat f.pre ≡ run_bytes (content_at d units) 0 n = run_front (content_at d units) 0 slots f.pre ((f.bytes ∷ f.post) ++ rest) (contents_fit d units ranges kept) cut in
-        let many : length whole.before ≡ n + suc (length f.post) = ap (λ (l : List (List ℕ)). length l) f.split ∙ length-append f.pre (f.bytes ∷ f.post) in
+        let many : length whole.begun.before ≡ n + suc (length f.post) = ap (λ (l : List (List ℕ)). length l) f.split ∙ length-append f.pre (f.bytes ∷ f.post) in
         let low : n < slots = omega (arith, many, v.lengths) in
         let h : Headline d units n (run_bytes (content_at d units) 0 n) = headline d units n ranges promised kept in
         let s : ViewState = after_all (start request) f.pre in
@@ -360,13 +360,13 @@ from_the_first d units slots request e k ranges promised kept few viewed whole l
         let streams : s.seen.named.streams ≡ Some found.0 = ap (λ (x : NamedView). x.streams) named ∙ first_law (onto f.pre []) ∙ found.1 in
         let knows = knows_all (start request) (followed request e) nothing_known f.pre (record { options = refl; index = refl; clock = refl }) (omega (arith, low, few)) in
         let count : s.seen.packets ≡ n = sym knows.index ∙ index_all (followed request e) nothing_known f.pre ∙ (let zero_is : 0 + n ≡ n = omega arith in zero_is) in
-        let is_later : after_all (start request) whole.before ≡ after_all s (f.bytes ∷ f.post) =
+        let is_later : after_all (start request) whole.begun.before ≡ after_all s (f.bytes ∷ f.post) =
         ap (λ (l : List (List ℕ)). after_all (start request) l) f.split ∙ all_two (start request) f.pre (f.bytes ∷ f.post) in
-        not_later s f.bytes f.post first.packet whole.packet found.0 whole.stream (agree_stays (start request) f.pre (none_agree request)) (omega (arith, count, many, v.lengths, few)) streams f.sound starts
-        (f.on ∙ sym viewed.pid ∙ whole.pid)
-        (subst (λ (x : ViewState). beginning x.seen.named x.table whole.packet ≡ Some whole.stream) is_later whole.begins)
+        not_later s f.bytes f.post first.packet whole.begun.packet found.0 whole.begun.stream (agree_stays (start request) f.pre (none_agree request)) (omega (arith, count, many, v.lengths, few)) streams f.sound starts
+        (f.on ∙ sym viewed.pid ∙ whole.begun.pid)
+        (subst (λ (x : ViewState). beginning x.seen.named x.table whole.begun.packet ≡ Some whole.begun.stream) is_later whole.begun.begins)
 
-    by : (es : List Entry) → entries_from pid 0 whole.before ≡ es → FromTheFirst e.pid whole.before
+    by : (es : List Entry) → entries_from pid 0 whole.begun.before ≡ es → FromTheFirst e.pid whole.begun.before
     by [] is = none is
     by (first ∷ es) is = absurd (no_first first es is)
 
@@ -381,7 +381,7 @@ pub job_first_law : JobFirstLaw
 job_first_law d units slots request e k ranges promised none few viewed =
     let each : ℕ → List AccessUnit = λ j. units_of j units in
     let same : run_bytes (content_at d each) 0 slots ≡ output_of false d (job_history units slots) = sym (output_bytes (content_at d each) 0 slots) in
-    subst (λ (bytes : List ℕ). (whole : IsWhole request d.description.rate (cut_packets bytes) e) → DueLate (units_of k units) → FromTheFirst e.pid whole.before) same
+    subst (λ (bytes : List ℕ). (whole : IsWhole request d.description.rate (cut_packets bytes) e) → DueLate (units_of k units) → FromTheFirst e.pid whole.begun.before) same
     (from_the_first d each slots request e k ranges promised (job_kept d units ranges none) few viewed)
 
 pub job_late_units_law : JobLateUnitsLaw

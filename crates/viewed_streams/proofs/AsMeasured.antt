@@ -118,32 +118,32 @@ clock_here f before first packet sound =
 pub as_measured_law : AsMeasuredLaw
 as_measured_law request rate base0 bytes e s cuts f at_rate few same drained whole first clocked carries keeps full =
     let chunks : List (List ℕ) = cut_packets bytes in
-    let rest : List (List ℕ) = whole.first ∷ whole.later in
-    let ps : List Arriving = stream_packets request e whole.before rest in
-    let b : Before = known_at_begin (followed request e) whole.before in
+    let rest : List (List ℕ) = whole.begun.first ∷ whole.begun.later in
+    let ps : List Arriving = stream_packets request e whole.begun.before rest in
+    let b : Before = known_at_begin (followed request e) whole.begun.before in
     let us : List AccessUnit = cut_senders cuts in
-    let fs : List Entry = entries_from s.pid (length whole.before) rest in
+    let fs : List Entry = entries_from s.pid (length whole.begun.before) rest in
     let qs : List Packet = map entry_packet fs in
-    let place : 0 + length whole.before ≡ length whole.before = omega arith in
-    let entries : entries_from s.pid 0 chunks ≡ entries_from s.pid 0 whole.before ++ fs =
-    ap (λ (xs : List (List ℕ)). entries_from s.pid 0 xs) whole.split ∙ entries_two s.pid 0 whole.before rest
-    ∙ ap (λ (i : ℕ). entries_from s.pid 0 whole.before ++ entries_from s.pid i rest) place in
-    let list : pid_list s.pid bytes ≡ fs = pid_entries s.pid bytes ∙ none_entries s.pid e.pid whole.before rest chunks same first entries in
+    let place : 0 + length whole.begun.before ≡ length whole.begun.before = omega arith in
+    let entries : entries_from s.pid 0 chunks ≡ entries_from s.pid 0 whole.begun.before ++ fs =
+    ap (λ (xs : List (List ℕ)). entries_from s.pid 0 xs) whole.begun.split ∙ entries_two s.pid 0 whole.begun.before rest
+    ∙ ap (λ (i : ℕ). entries_from s.pid 0 whole.begun.before ++ entries_from s.pid i rest) place in
+    let list : pid_list s.pid bytes ≡ fs = pid_entries s.pid bytes ∙ none_entries s.pid e.pid whole.begun.before rest chunks same first entries in
     let sent : AllSent base0 carries.first None fs us = subst (λ (es : List Entry). AllSent base0 carries.first None es us) list (carried_sent s.stream_id base0 s.pid cuts bytes carries) in
     let clocks : Clocked rate base0 fs us (clocks_seen (followed request e) b rest) =
     subst (λ (es : List Entry). Clocked rate base0 es us (clocks_seen (followed request e) b rest)) list
     (clocked_by_number rate base0 (pid_list s.pid bytes) us (clocks_seen (followed request e) b rest) keeps) in
-    let lengths : length whole.before + length rest ≡ length chunks = sym (length-append whole.before rest) ∙ ap (λ (xs : List (List ℕ)). length xs) (sym whole.split) in
-    let begin = from_begin rate base0 us request e s.pid carries.first None whole.before rest at_rate (omega (arith, lengths, few)) same sent clocks in
+    let lengths : length whole.begun.before + length rest ≡ length chunks = sym (length-append whole.begun.before rest) ∙ ap (λ (xs : List (List ℕ)). length xs) (sym whole.begun.split) in
+    let begin = from_begin rate base0 us request e s.pid carries.first None whole.begun.before rest at_rate (omega (arith, lengths, few)) same sent clocks in
     let sizes : packet_sizes qs ≡ take (length qs) (sizes_of (cut_pieces cuts)) =
     subst (λ (es : List Entry). packet_sizes (map entry_packet es) ≡ take (length (map entry_packet es)) (sizes_of (cut_pieces cuts))) list
     (carried_sizes s.stream_id base0 s.pid cuts bytes carries) in
-    let own : nat_eq s.pid whole.packet.header.pid ≡ true = ap (λ (q : ℕ). nat_eq s.pid q) (sym whole.pid ∙ same) ∙ itself s.pid in
-    let own_too : nat_eq e.pid whole.packet.header.pid ≡ true = ap (λ (q : ℕ). nat_eq q whole.packet.header.pid) same ∙ own in
-    let begins = first_begins base0 carries.first s.pid (length whole.before) whole.packet whole.first whole.later us whole.sound own sent in
-    let clock : is_some (clock_with request.options e.clock_pid b.index whole.packet b.clock) ≡ true =
-    ap (λ (o : Option PcrSample). is_some o) (sym (clock_here (followed request e) whole.before whole.first whole.packet whole.sound)) ∙ clocked in
-    let begun : UnderWay None ps = under_way (followed request e) b whole.packet whole.first whole.later begins.0 whole.sound own_too refl clock begins.1 in
+    let own : nat_eq s.pid whole.begun.packet.header.pid ≡ true = ap (λ (q : ℕ). nat_eq s.pid q) (sym whole.begun.pid ∙ same) ∙ itself s.pid in
+    let own_too : nat_eq e.pid whole.begun.packet.header.pid ≡ true = ap (λ (q : ℕ). nat_eq q whole.begun.packet.header.pid) same ∙ own in
+    let begins = first_begins base0 carries.first s.pid (length whole.begun.before) whole.begun.packet whole.begun.first whole.begun.later us whole.begun.sound own sent in
+    let clock : is_some (clock_with request.options e.clock_pid b.index whole.begun.packet b.clock) ≡ true =
+    ap (λ (o : Option PcrSample). is_some o) (sym (clock_here (followed request e) whole.begun.before whole.begun.first whole.begun.packet whole.begun.sound)) ∙ clocked in
+    let begun : UnderWay None ps = under_way (followed request e) b whole.begun.packet whole.begun.first whole.begun.later begins.0 whole.begun.sound own_too refl clock begins.1 in
     let on : packets_on s.pid bytes ≡ qs = ap (λ (es : List Entry). map entry_packet es) list in
     let alike : (x : ℕ) → main_fullness rate e.held.parts x ≡ model_of rate base0 s (cut_units cuts) bytes x =
     λ x. ap (λ (h : Held). main_fullness rate h.parts x) whole.held
@@ -152,7 +152,7 @@ as_measured_law request rate base0 bytes e s cuts f at_rate few same drained who
     ∙ ap (λ (xs : List Packet). mb_fullness rate s.rx x (timed_pes_packets s.stream_id base0 (cut_units cuts)) (pes_left rate s.rx 0 xs)) (sym on) in
     let one = peak_le (main_fullness rate e.held.parts) (model_of rate base0 s (cut_units cuts) bytes) (main_most e.held) f.main (λ x. omega (arith, alike x)) whole.lines.main full.main in
     let other = peak_le (model_of rate base0 s (cut_units cuts) bytes) (main_fullness rate e.held.parts) f.main (main_most e.held) (λ x. omega (arith, alike x)) full.main whole.lines.main in
-    let none : packets_from s.pid 0 whole.before ≡ [] = ap (λ (q : ℕ). packets_from q 0 whole.before) (sym same) ∙ first in
+    let none : packets_from s.pid 0 whole.begun.before ≡ [] = ap (λ (q : ℕ). packets_from q 0 whole.begun.before) (sym same) ∙ first in
     record {
       transport = (measured_stream_law request rate base0 bytes e s (cut_units cuts) f whole same drained full).1 none;
       main = omega (arith, one, other);
@@ -168,15 +168,15 @@ run_as_measured_law d units slots request e k ranges promised kept few viewed wh
     let s : DescribedStream = viewed.stream in
     let cuts : List CutUnit = cuts_of (owned_stream d k s) (units k) in
     let us : List AccessUnit = cut_senders cuts in
-    let rest : List (List ℕ) = whole.first ∷ whole.later in
-    let clocks : List (Option PcrSample) = clocks_seen (followed request e) (known_at_begin (followed request e) whole.before) rest in
+    let rest : List (List ℕ) = whole.begun.first ∷ whole.begun.later in
+    let clocks : List (Option PcrSample) = clocks_seen (followed request e) (known_at_begin (followed request e) whole.begun.before) rest in
     let v = run_viewed d units slots request e k ranges promised kept few viewed whole in
-    let all : entries_from s.pid 0 (cut_packets bytes) ≡ entries_from s.pid (length whole.before) rest = none_entries s.pid e.pid whole.before rest (cut_packets bytes) viewed.pid first v.entries in
-    let list : pid_list s.pid bytes ≡ entries_from s.pid (length whole.before) rest = pid_entries s.pid bytes ∙ all in
+    let all : entries_from s.pid 0 (cut_packets bytes) ≡ entries_from s.pid (length whole.begun.before) rest = none_entries s.pid e.pid whole.begun.before rest (cut_packets bytes) viewed.pid first v.entries in
+    let list : pid_list s.pid bytes ≡ entries_from s.pid (length whole.begun.before) rest = pid_entries s.pid bytes ∙ all in
     let carries = run_carries d s k (units k) slots bytes (kept.parameters k s viewed.there) (kept.kept k s viewed.there) ((headline d units slots ranges promised kept).streams k s viewed.there) in
     let goes = v.clocks us (subst (λ (es : List Entry). Timed rate es us) all v.sent.timed) in
     let keeps = number_clocked rate base0 (pid_list s.pid bytes) us clocks (subst (λ (es : List Entry). Clocked rate base0 es us clocks) (sym list) goes) in
-    let lengths : length whole.before + length rest ≡ length (cut_packets bytes) = sym (length-append whole.before rest) ∙ ap (λ (xs : List (List ℕ)). length xs) (sym whole.split) in
+    let lengths : length whole.begun.before + length rest ≡ length (cut_packets bytes) = sym (length-append whole.begun.before rest) ∙ ap (λ (xs : List (List ℕ)). length xs) (sym whole.begun.split) in
     as_measured_law request rate base0 bytes e s cuts f viewed.arrival (omega (arith, lengths, v.lengths, few)) viewed.pid viewed.rx whole first clocked carries keeps
     (subst (λ (vs : List AccessUnit). IsStreamFullness rate base0 s vs (packets_on s.pid bytes) f) (sym (same_units (owned_stream d k s) (units k))) full)
 
@@ -184,6 +184,6 @@ pub job_as_measured_law : JobAsMeasuredLaw
 job_as_measured_law d units slots request e k ranges promised none few viewed =
     let each : ℕ → List AccessUnit = λ j. units_of j units in
     let same : run_bytes (content_at d each) 0 slots ≡ output_of false d (job_history units slots) = sym (output_bytes (content_at d each) 0 slots) in
-    subst (λ (bytes : List ℕ). (whole : IsWhole request d.description.rate (cut_packets bytes) e) → FromTheFirst e.pid whole.before → HasClock request e (whole.before ++ whole.first ∷ []) → (f : StreamFullness) →
+    subst (λ (bytes : List ℕ). (whole : IsWhole request d.description.rate (cut_packets bytes) e) → FromTheFirst e.pid whole.begun.before → HasClock request e (whole.begun.before ++ whole.begun.first ∷ []) → (f : StreamFullness) →
     IsStreamFullness d.description.rate d.description.base0 viewed.stream (units_of k units) (packets_on viewed.stream.pid bytes) f → AsMeasured e f) same
     (run_as_measured_law d each slots request e k ranges promised (job_kept d units ranges none) few viewed)

@@ -123,23 +123,23 @@ entry_first pid index packet first later sound own = rw (sound, own) refl
 
 after_second : (d : Scheduled) (units : ℕ → List AccessUnit) (slots : ℕ) (request : RequestView) (e : EntryState) (k : ℕ) → IsInRange d.description → Promised d.description d.schedule →
     UnitsKept d units → slots ≤ most_packets → (viewed : IsViewedAs d request k e) →
-    (whole : IsWhole request d.description.rate (cut_packets (run_bytes (content_at d units) 0 slots)) e) → FromTheFirst e.pid whole.before → DueLate (units k) →
-    1000 * d.description.rate ≤ length whole.before * 1504000
+    (whole : IsWhole request d.description.rate (cut_packets (run_bytes (content_at d units) 0 slots)) e) → FromTheFirst e.pid whole.begun.before → DueLate (units k) →
+    1000 * d.description.rate ≤ length whole.begun.before * 1504000
 after_second d units slots request e k ranges promised kept few viewed whole first late =
     let bytes : List ℕ = run_bytes (content_at d units) 0 slots in
     let s : DescribedStream = viewed.stream in
-    let rest : List (List ℕ) = whole.first ∷ whole.later in
+    let rest : List (List ℕ) = whole.begun.first ∷ whole.begun.later in
     let v = run_viewed d units slots request e k ranges promised kept few viewed whole in
-    let all : entries_from s.pid 0 (cut_packets bytes) ≡ entries_from s.pid (length whole.before) rest = none_entries s.pid e.pid whole.before rest (cut_packets bytes) viewed.pid first v.entries in
-    let own : nat_eq s.pid whole.packet.header.pid ≡ true = ap (λ (q : ℕ). nat_eq s.pid q) (sym whole.pid ∙ viewed.pid) ∙ itself s.pid in
-    let one : Entry = record { index = length whole.before; bytes = whole.first; packet = whole.packet } in
-    let here : slice_get (entries_from s.pid (length whole.before) rest) 0 ≡ Some one = entry_first s.pid (length whole.before) whole.packet whole.first whole.later whole.sound own in
+    let all : entries_from s.pid 0 (cut_packets bytes) ≡ entries_from s.pid (length whole.begun.before) rest = none_entries s.pid e.pid whole.begun.before rest (cut_packets bytes) viewed.pid first v.entries in
+    let own : nat_eq s.pid whole.begun.packet.header.pid ≡ true = ap (λ (q : ℕ). nat_eq s.pid q) (sym whole.begun.pid ∙ viewed.pid) ∙ itself s.pid in
+    let one : Entry = record { index = length whole.begun.before; bytes = whole.begun.first; packet = whole.begun.packet } in
+    let here : slice_get (entries_from s.pid (length whole.begun.before) rest) 0 ≡ Some one = entry_first s.pid (length whole.begun.before) whole.begun.packet whole.begun.first whole.begun.later whole.begun.sound own in
     let there : slice_get (pid_list s.pid bytes) 0 ≡ Some one = ap (λ (es : List Entry). slice_get es 0) (pid_entries s.pid bytes ∙ all) ∙ here in
     late_slot d k s (units k) slots 0 bytes one ranges viewed.there ((headline d units slots ranges promised kept).streams k s viewed.there) late there
 
 pub has_clock : (d : Scheduled) (units : ℕ → List AccessUnit) (slots : ℕ) (request : RequestView) (e : EntryState) (k : ℕ) → IsInRange d.description → Promised d.description d.schedule →
     UnitsKept d units → slots ≤ most_packets → (viewed : IsViewedAs d request k e) → IsClockOf d e →
-    (whole : IsWhole request d.description.rate (cut_packets (run_bytes (content_at d units) 0 slots)) e) → FromTheFirst e.pid whole.before → DueLate (units k) → HasClock request e whole.before
+    (whole : IsWhole request d.description.rate (cut_packets (run_bytes (content_at d units) 0 slots)) e) → FromTheFirst e.pid whole.begun.before → DueLate (units k) → HasClock request e whole.begun.before
 has_clock d units slots request e k ranges promised kept few viewed clock whole first late =
     let rate : ℕ = d.description.rate in
     let base0 : ℕ = d.description.base0 in
@@ -147,26 +147,26 @@ has_clock d units slots request e k ranges promised kept few viewed clock whole 
     let p : DescribedProgram = clock.1 in
     let same : e.clock_pid ≡ p.pcr_pid = clock.3 in
     let f : Followed = followed request e in
-    let rest : List (List ℕ) = whole.first ∷ whole.later in
+    let rest : List (List ℕ) = whole.begun.first ∷ whole.begun.later in
     let h : Headline d units slots bytes = headline d units slots ranges promised kept in
     let v = run_viewed d units slots request e k ranges promised kept few viewed whole in
     let both = clocks_kept d p slots bytes (h.programs clock.0 p clock.2) in
-    let place : 0 + length whole.before ≡ length whole.before = omega arith in
-    let split : entries_from f.clock_pid 0 (cut_packets bytes) ≡ entries_from f.clock_pid 0 whole.before ++ entries_from f.clock_pid (length whole.before) rest =
-    ap (λ (l : List (List ℕ)). entries_from f.clock_pid 0 l) whole.split ∙ entries_two f.clock_pid 0 whole.before rest
-    ∙ ap (λ (j : ℕ). entries_from f.clock_pid 0 whole.before ++ entries_from f.clock_pid j rest) place in
-    let clocks : AreClocks rate base0 f.clock_pid (entries_from f.clock_pid 0 whole.before ++ entries_from f.clock_pid (length whole.before) rest) =
+    let place : 0 + length whole.begun.before ≡ length whole.begun.before = omega arith in
+    let split : entries_from f.clock_pid 0 (cut_packets bytes) ≡ entries_from f.clock_pid 0 whole.begun.before ++ entries_from f.clock_pid (length whole.begun.before) rest =
+    ap (λ (l : List (List ℕ)). entries_from f.clock_pid 0 l) whole.begun.split ∙ entries_two f.clock_pid 0 whole.begun.before rest
+    ∙ ap (λ (j : ℕ). entries_from f.clock_pid 0 whole.begun.before ++ entries_from f.clock_pid j rest) place in
+    let clocks : AreClocks rate base0 f.clock_pid (entries_from f.clock_pid 0 whole.begun.before ++ entries_from f.clock_pid (length whole.begun.before) rest) =
     subst (λ (es : List Entry). AreClocks rate base0 f.clock_pid es) split (subst (λ (q : ℕ). AreClocks rate base0 q (entries_from q 0 (cut_packets bytes))) (sym same) both.0) in
-    let recur : Recur rate p.pcr_limit 0 (places (entries_from f.clock_pid 0 whole.before ++ entries_from f.clock_pid (length whole.before) rest)) (188 * slots) =
+    let recur : Recur rate p.pcr_limit 0 (places (entries_from f.clock_pid 0 whole.begun.before ++ entries_from f.clock_pid (length whole.begun.before) rest)) (188 * slots) =
     subst (λ (es : List Entry). Recur rate p.pcr_limit 0 (places es) (188 * slots)) split
     (subst (λ (q : ℕ). Recur rate p.pcr_limit 0 (places (entries_from q 0 (cut_packets bytes))) (188 * slots)) (sym same) both.1) in
-    elim (seen_or_none rate base0 f nothing_known whole.before viewed.arrival (omega (arith, v.lengths, few))
-    (clocks_front rate base0 f.clock_pid (entries_from f.clock_pid 0 whole.before) (entries_from f.clock_pid (length whole.before) rest) clocks)) [
+    elim (seen_or_none rate base0 f nothing_known whole.begun.before viewed.arrival (omega (arith, v.lengths, few))
+    (clocks_front rate base0 f.clock_pid (entries_from f.clock_pid 0 whole.begun.before) (entries_from f.clock_pid (length whole.begun.before) rest) clocks)) [
       | inl seen ↦ seen
       | inr none ↦
-          let later : Recur rate p.pcr_limit 0 (places (entries_from f.clock_pid (length whole.before) rest)) (188 * slots) =
-          subst (λ (es : List Entry). Recur rate p.pcr_limit 0 (places (es ++ entries_from f.clock_pid (length whole.before) rest)) (188 * slots)) none recur in
-          absurd (none_within rate p.pcr_limit slots (length whole.before) (entries_from f.clock_pid (length whole.before) rest) (none_before f.clock_pid (length whole.before) rest) (omega (arith, v.lengths))
+          let later : Recur rate p.pcr_limit 0 (places (entries_from f.clock_pid (length whole.begun.before) rest)) (188 * slots) =
+          subst (λ (es : List Entry). Recur rate p.pcr_limit 0 (places (es ++ entries_from f.clock_pid (length whole.begun.before) rest)) (188 * slots)) none recur in
+          absurd (none_within rate p.pcr_limit slots (length whole.begun.before) (entries_from f.clock_pid (length whole.begun.before) rest) (none_before f.clock_pid (length whole.begun.before) rest) (omega (arith, v.lengths))
           (program_range d.description clock.0 p ranges clock.2).most_limit ranges.least_rate (after_second d units slots request e k ranges promised kept few viewed whole first late) later)
     ]
 
@@ -175,8 +175,8 @@ run_late_as_measured_law d units slots request e k ranges promised kept few view
     let first = run_first_law d units slots request e k ranges promised kept few viewed whole late in
     let before = has_clock d units slots request e k ranges promised kept few viewed clock whole first late in
     let f : Followed = followed request e in
-    let with_first : HasClock request e (whole.before ++ whole.first ∷ []) =
-    ap (λ (b : Before). is_some b.clock) (known_two f nothing_known whole.before (whole.first ∷ [])) ∙ stays_some f (known_after_all f nothing_known whole.before) (whole.first ∷ []) before in
+    let with_first : HasClock request e (whole.begun.before ++ whole.begun.first ∷ []) =
+    ap (λ (b : Before). is_some b.clock) (known_two f nothing_known whole.begun.before (whole.begun.first ∷ [])) ∙ stays_some f (known_after_all f nothing_known whole.begun.before) (whole.begun.first ∷ []) before in
     run_as_measured_law d units slots request e k ranges promised kept few viewed whole first with_first
 
 pub job_late_as_measured_law : JobLateAsMeasuredLaw

@@ -157,12 +157,12 @@ stream_quiet step e xs held few =
     (quiet.0, ap (λ (h : Held). h.main.under_way) held ∙ quiet.1)
 
 pub timed_no_excess_law : TimedNoExcessLaw
-timed_no_excess_law request step packets e w few = stream_quiet step e (stream_entering request e w.before (w.first ∷ w.later)) w.held few
+timed_no_excess_law request step packets e w few = stream_quiet step e (stream_entering request e w.begun.before (w.begun.first ∷ w.begun.later)) w.held few
 
 pub no_main_excess_law : NoMainExcessLaw
 no_main_excess_law request rate packets e w few =
     let a : Arrival = AtRate rate in
     let h : Held = empty rate e.held.rx e.held.main.size in
-    let ps : List Arriving = stream_packets request e w.before (w.first ∷ w.later) in
+    let ps : List Arriving = stream_packets request e w.begun.before (w.begun.first ∷ w.begun.later) in
     let quiet = stream_quiet rate e (entering a ps) (w.held ∙ sym (after_is h a ps)) few in
     (ap (λ (vs : List EnteredView). flat_map (λ v. v.main) vs) (sym (entered_is h a ps)) ∙ quiet.0, quiet.1)

@@ -158,19 +158,19 @@ run_late_law d units slots request e k ranges promised kept few viewed whole =
     let chunks : List (List ℕ) = cut_packets (run_bytes (content_at d units) 0 slots) in
     let s : DescribedStream = viewed.stream in
     let us : List AccessUnit = cut_senders (cuts_of (owned_stream d k s) (units k)) in
-    let rest : List (List ℕ) = whole.first ∷ whole.later in
+    let rest : List (List ℕ) = whole.begun.first ∷ whole.begun.later in
     let v = run_viewed d units slots request e k ranges promised kept few viewed whole in
-    let es : List Entry = entries_from s.pid 0 whole.before in
-    let fs : List Entry = entries_from s.pid (length whole.before) rest in
+    let es : List Entry = entries_from s.pid 0 whole.begun.before in
+    let fs : List Entry = entries_from s.pid (length whole.begun.before) rest in
     let all = stream_in_time d units slots k s ranges promised kept viewed.there (entries_from s.pid 0 chunks) refl (sizes_below base0 v.sent.first None (entries_from s.pid 0 chunks) us v.sent.sent) v.sent.cut v.sent.sizes in
     let two : map entry_packet (entries_from s.pid 0 chunks) ≡ map entry_packet es ++ map entry_packet fs = ap (λ (xs : List Entry). map entry_packet xs) v.entries ∙ map-append entry_packet es fs in
     let last : LeaveInTime rate s.rx 0 (drop (length es) us) (map entry_packet fs) =
     subst (λ (n : ℕ). LeaveInTime rate s.rx 0 (drop n us) (map entry_packet fs)) (many_packets es)
     (leave_last rate s.rx 0 us (map entry_packet es) (map entry_packet fs) (subst (λ (ps : List Packet). LeaveInTime rate s.rx 0 us ps) two all)) in
-    let in_time : LeaveInTime rate e.held.rx 0 (drop (length es) us) (map timed_packet (stream_packets request e whole.before rest)) =
-    subst (λ (r : ℕ). LeaveInTime rate r 0 (drop (length es) us) (map timed_packet (stream_packets request e whole.before rest))) (sym viewed.rx)
+    let in_time : LeaveInTime rate e.held.rx 0 (drop (length es) us) (map timed_packet (stream_packets request e whole.begun.before rest)) =
+    subst (λ (r : ℕ). LeaveInTime rate r 0 (drop (length es) us) (map timed_packet (stream_packets request e whole.begun.before rest))) (sym viewed.rx)
     (subst (λ (ps : List Packet). LeaveInTime rate s.rx 0 (drop (length es) us) ps) (sym v.begin.packets) last) in
-    let none = view_fine rate e.held.rx e.held.main.size (known_at_begin (followed request e) whole.before).index (stream_packets request e whole.before rest) (drop (length es) us)
+    let none = view_fine rate e.held.rx e.held.main.size (known_at_begin (followed request e) whole.begun.before).index (stream_packets request e whole.begun.before rest) (drop (length es) us)
     v.begin.come v.begin.follows in_time in
     let no_late : count_by is_late (all_units rate e.held.parts) ≡ 0 = ap (λ (h : Held). count_by is_late (all_units rate h.parts)) whole.held ∙ none in
     record { none = no_late; number = λ window. whole.lines.late window ∙ no_late }

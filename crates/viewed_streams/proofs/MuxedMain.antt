@@ -89,7 +89,7 @@ pub record RunViewed (d : Scheduled) (units : List AccessUnit) (slots : ℕ) (by
 
 pub run_viewed : (d : Scheduled) (units : ℕ → List AccessUnit) (slots : ℕ) (request : RequestView) (e : EntryState) (k : ℕ) → IsInRange d.description → Promised d.description d.schedule →
     UnitsKept d units → slots ≤ most_packets → (viewed : IsViewedAs d request k e) → (whole : IsWhole request d.description.rate (cut_packets (run_bytes (content_at d units) 0 slots)) e) →
-    RunViewed d (units k) slots (run_bytes (content_at d units) 0 slots) k viewed.stream request e whole.before (whole.first ∷ whole.later)
+    RunViewed d (units k) slots (run_bytes (content_at d units) 0 slots) k viewed.stream request e whole.begun.before (whole.begun.first ∷ whole.begun.later)
 run_viewed d units slots request e k ranges promised kept few viewed whole =
     let rate : ℕ = d.description.rate in
     let base0 : ℕ = d.description.base0 in
@@ -99,25 +99,25 @@ run_viewed d units slots request e k ranges promised kept few viewed whole =
     let s : DescribedStream = viewed.stream in
     let us : List AccessUnit = cut_senders (cuts_of (owned_stream d k s) (units k)) in
     let many : length chunks ≡ slots = omega (arith, packet_count (length bytes / 188) bytes, h.size) in
-    let before : List (List ℕ) = whole.before in
-    let rest : List (List ℕ) = whole.first ∷ whole.later in
-    let split : chunks ≡ whole.before ++ rest = whole.split in
-    let lengths : length whole.before + length rest ≡ slots = sym (length-append whole.before rest) ∙ ap (λ (xs : List (List ℕ)). length xs) (sym split) ∙ many in
+    let before : List (List ℕ) = whole.begun.before in
+    let rest : List (List ℕ) = whole.begun.first ∷ whole.begun.later in
+    let split : chunks ≡ whole.begun.before ++ rest = whole.begun.split in
+    let lengths : length whole.begun.before + length rest ≡ slots = sym (length-append whole.begun.before rest) ∙ ap (λ (xs : List (List ℕ)). length xs) (sym split) ∙ many in
     let sent = stream_sent d s k (units k) slots bytes viewed.there ranges (kept.parameters k s viewed.there) (kept.kept k s viewed.there) (h.streams k s viewed.there) (omega (arith, many)) in
-    let es : List Entry = entries_from s.pid 0 whole.before in
-    let fs : List Entry = entries_from s.pid (length whole.before) rest in
+    let es : List Entry = entries_from s.pid 0 whole.begun.before in
+    let fs : List Entry = entries_from s.pid (length whole.begun.before) rest in
     let entries : entries_from s.pid 0 chunks ≡ es ++ fs =
-    ap (λ (xs : List (List ℕ)). entries_from s.pid 0 xs) split ∙ entries_two s.pid 0 whole.before rest
-    ∙ (let place : 0 + length whole.before ≡ length whole.before = omega arith in ap (λ (i : ℕ). entries_from s.pid 0 whole.before ++ entries_from s.pid i rest) place) in
+    ap (λ (xs : List (List ℕ)). entries_from s.pid 0 xs) split ∙ entries_two s.pid 0 whole.begun.before rest
+    ∙ (let place : 0 + length whole.begun.before ≡ length whole.begun.before = omega arith in ap (λ (i : ℕ). entries_from s.pid 0 whole.begun.before ++ entries_from s.pid i rest) place) in
     let later = later_sent base0 sent.first None es fs us (subst (λ (xs : List Entry). AllSent base0 sent.first None xs us) entries sent.sent) in
     let timed = later_timed rate es fs us (subst (λ (xs : List Entry). Timed rate xs us) entries sent.timed) in
-    let clocks = run_clocks d units slots request e s.pid ranges promised kept few whole.before rest viewed.arrival viewed.pid lengths split in
+    let clocks = run_clocks d units slots request e s.pid ranges promised kept few whole.begun.before rest viewed.arrival viewed.pid lengths split in
     record {
       sent = sent;
       lengths = lengths;
       entries = entries;
       clocks = clocks;
-      begin = from_begin rate base0 (drop (length es) us) request e s.pid later.number later.last whole.before rest viewed.arrival (omega (arith, lengths, few)) viewed.pid later.sent
+      begin = from_begin rate base0 (drop (length es) us) request e s.pid later.number later.last whole.begun.before rest viewed.arrival (omega (arith, lengths, few)) viewed.pid later.sent
           (clocks (drop (length es) us) timed);
     }
 
@@ -140,7 +140,7 @@ record RunLater (d : Scheduled) (s : DescribedStream) (k : ℕ) (us : List Acces
 
 run_later : (d : Scheduled) (units : ℕ → List AccessUnit) (slots : ℕ) (request : RequestView) (e : EntryState) (k : ℕ) → IsInRange d.description → Promised d.description d.schedule →
     UnitsKept d units → slots ≤ most_packets → (viewed : IsViewedAs d request k e) → (whole : IsWhole request d.description.rate (cut_packets (run_bytes (content_at d units) 0 slots)) e) →
-    RunLater d viewed.stream k (units k) (run_bytes (content_at d units) 0 slots) e (map entry_packet (entries_from viewed.stream.pid 0 whole.before))
+    RunLater d viewed.stream k (units k) (run_bytes (content_at d units) 0 slots) e (map entry_packet (entries_from viewed.stream.pid 0 whole.begun.before))
 run_later d units slots request e k ranges promised kept few viewed whole =
     let rate : ℕ = d.description.rate in
     let base0 : ℕ = d.description.base0 in
@@ -148,11 +148,11 @@ run_later d units slots request e k ranges promised kept few viewed whole =
     let s : DescribedStream = viewed.stream in
     let l : OwnedStream = owned_stream d k s in
     let us : List AccessUnit = units k in
-    let rest : List (List ℕ) = whole.first ∷ whole.later in
+    let rest : List (List ℕ) = whole.begun.first ∷ whole.begun.later in
     let v = run_viewed d units slots request e k ranges promised kept few viewed whole in
     let cuts : List CutUnit = cuts_of l us in
-    let es : List Entry = entries_from s.pid 0 whole.before in
-    let fs : List Entry = entries_from s.pid (length whole.before) rest in
+    let es : List Entry = entries_from s.pid 0 whole.begun.before in
+    let fs : List Entry = entries_from s.pid (length whole.begun.before) rest in
     let front : List Packet = map entry_packet es in
     let back : List Packet = map entry_packet fs in
     let two : map entry_packet (entries_from s.pid 0 (cut_packets bytes)) ≡ front ++ back = ap (λ (xs : List Entry). map entry_packet xs) v.entries ∙ map-append entry_packet es fs in
@@ -161,8 +161,8 @@ run_later d units slots request e k ranges promised kept few viewed whole =
     subst (λ (ps : List Packet). packet_sizes ps ≡ take (length ps) (sizes_of (cut_pieces cuts))) two v.sent.sizes in
     let whole_small = sizes_below base0 v.sent.first None (entries_from s.pid 0 (cut_packets bytes)) (cut_senders cuts) v.sent.sent in
     let both = small_parts front back (subst (λ (ps : List Packet). All (λ p. p.size ≤ 188) ps) two whole_small) in
-    let follows : Follows rate e.held.rx None (stream_packets request e whole.before rest) (drop (length front) (cut_senders cuts)) =
-    subst (λ (n : ℕ). Follows rate e.held.rx None (stream_packets request e whole.before rest) (drop n (cut_senders cuts))) (sym (many_packets es)) v.begin.follows in
+    let follows : Follows rate e.held.rx None (stream_packets request e whole.begun.before rest) (drop (length front) (cut_senders cuts)) =
+    subst (λ (n : ℕ). Follows rate e.held.rx None (stream_packets request e whole.begun.before rest) (drop n (cut_senders cuts))) (sym (many_packets es)) v.begin.follows in
     record {
       back = back;
       on = on;
@@ -170,9 +170,9 @@ run_later d units slots request e k ranges promised kept few viewed whole =
           (none_leaves_early_law.joined s.rx front back (pes_left rate s.rx 0 front) (pes_left rate s.rx 0 back) (none_leaves_early_law.model rate s.rx 0 front both.0)
           (none_leaves_early_law.model rate s.rx 0 back both.1));
       fuller = λ x.
-          let in_view : main_fullness rate e.held.parts x ≡ main_fullness rate (after_each (empty rate e.held.rx e.held.main.size) (AtRate rate) (stream_packets request e whole.before rest)).parts x =
+          let in_view : main_fullness rate e.held.parts x ≡ main_fullness rate (after_each (empty rate e.held.rx e.held.main.size) (AtRate rate) (stream_packets request e whole.begun.before rest)).parts x =
           ap (λ (h : Held). main_fullness rate h.parts x) whole.held in
-          let within = later_within rate e.held.rx e.held.main.size (known_at_begin (followed request e) whole.before).index x s.stream_id base0 cuts (stream_packets request e whole.before rest)
+          let within = later_within rate e.held.rx e.held.main.size (known_at_begin (followed request e) whole.begun.before).index x s.stream_id base0 cuts (stream_packets request e whole.begun.before rest)
           front back v.begin.come follows v.begin.packets both.0 both.1 v.sent.cut sizes in
           let same : mb_fullness rate e.held.rx x (timed_pes_packets s.stream_id base0 (cut_units cuts)) (pes_left rate e.held.rx 0 front ++ pes_left rate e.held.rx 0 back)
           ≡ mb_fullness rate s.rx x (timed_pes_packets s.stream_id base0 us) (pes_left rate s.rx 0 front ++ pes_left rate s.rx 0 back) =
@@ -198,7 +198,7 @@ run_main_law d units slots request e k ranges promised kept few viewed whole =
     let s : DescribedStream = viewed.stream in
     let bytes : List ℕ = run_bytes (content_at d units) 0 slots in
     let us : List AccessUnit = units k in
-    let es : List Entry = entries_from s.pid 0 whole.before in
+    let es : List Entry = entries_from s.pid 0 whole.begun.before in
     let v = run_later d units slots request e k ranges promised kept few viewed whole in
     let x : ℕ = whole.lines.main.moment in
     let fits : mb_fullness rate s.rx x (timed_pes_packets s.stream_id d.description.base0 us) (pes_left rate s.rx 0 (map entry_packet es) ++ pes_left rate s.rx 0 v.back) ≤ s.main =
@@ -206,10 +206,10 @@ run_main_law d units slots request e k ranges promised kept few viewed whole =
     (pes_left rate s.rx 0 (map entry_packet es) ++ pes_left rate s.rx 0 v.back) v.late in
     let within : main_most e.held ≤ e.held.main.size = omega (arith, v.fuller x, fits, whole.lines.main.reached, viewed.size) in
     let quiet = no_main_excess_law request rate (cut_packets bytes) e whole within in
-    let model : FromTheFirst e.pid whole.before → (y : ℕ) →
+    let model : FromTheFirst e.pid whole.begun.before → (y : ℕ) →
     mb_fullness rate s.rx y (timed_pes_packets s.stream_id d.description.base0 us) (pes_left rate s.rx 0 (map entry_packet es) ++ pes_left rate s.rx 0 v.back) ≡ model_of rate d.description.base0 s us bytes y =
     λ first y.
-    let none : map entry_packet es ≡ [] = packets_entries s.pid 0 whole.before ∙ ap (λ (q : ℕ). packets_from q 0 whole.before) (sym viewed.pid) ∙ first in
+    let none : map entry_packet es ≡ [] = packets_entries s.pid 0 whole.begun.before ∙ ap (λ (q : ℕ). packets_from q 0 whole.begun.before) (sym viewed.pid) ∙ first in
     let back : packets_on s.pid bytes ≡ v.back = v.on ∙ ap (λ (ps : List Packet). ps ++ v.back) none in
     ap (λ (ps : List Packet). mb_fullness rate s.rx y (timed_pes_packets s.stream_id d.description.base0 us) (pes_left rate s.rx 0 ps ++ pes_left rate s.rx 0 v.back)) none
     ∙ ap (λ (ds : List ℕ). mb_fullness rate s.rx y (timed_pes_packets s.stream_id d.description.base0 us) (ds ++ pes_left rate s.rx 0 v.back)) (nothing_left rate s.rx)

@@ -63,9 +63,9 @@ none_last (x ∷ xs) (Some y) e = absurd (let no : ⊥ = cc in no)
 pub fits : (request : RequestView) (rate : ℕ) (packets : List (List ℕ)) (e : EntryState) → 0 < rate → 0 < e.held.rx → IsWhole request rate packets e →
     transport_most e.held ≤ TRANSPORT_BYTES → NoExcess request rate packets e
 fits request rate packets e some drained w few =
-    let slots : List ℕ = indices_of e.pid (length w.before) (w.first ∷ w.later) in
+    let slots : List ℕ = indices_of e.pid (length w.begun.before) (w.begun.first ∷ w.begun.later) in
     let ts : List ℕ = arrivals e.held.rx slots in
-    let climbs = climbs_low 0 (length w.before) slots (omega arith) (packets_climb e.pid (length w.before) (w.first ∷ w.later)) in
+    let climbs = climbs_low 0 (length w.begun.before) slots (omega arith) (packets_climb e.pid (length w.begun.before) (w.begun.first ∷ w.begun.later)) in
     let peak = most_law rate ts some (climbs_rises 0 ts (arrivals_climb e.held.rx slots drained climbs)) in
     let most : most_found rate 0 ts ≤ TRANSPORT_BYTES = omega (arith, peak.reached, w.lines.transport.never_more peak.moment, few) in
     let none : excesses rate TRANSPORT_BYTES ts ≡ [] = no_excesses rate TRANSPORT_BYTES ts most in

@@ -166,7 +166,7 @@ rate_times rate pid drain index (bytes ∷ packets) few =
 -- ---- and so all of it
 
 as_whole : (request : RequestView) (rate : ℕ) (packets : List (List ℕ)) (e : EntryState) (w : IsWholeBy request rate (arriving_so (AtRate rate) packets) e) →
-    TwoParts (AtRate rate) packets w.before w.first w.later → request.options.arrival ≡ AtRate rate → length packets ≤ most_packets → IsWhole request rate packets e
+    TwoParts (AtRate rate) packets w.begun.before w.begun.first w.begun.later → request.options.arrival ≡ AtRate rate → length packets ≤ most_packets → IsWhole request rate packets e
 as_whole request rate packets e w t is few =
     let a : Arrival = AtRate rate in
     let f : Followed = whole.followed request e in
@@ -176,43 +176,45 @@ as_whole request rate packets e w t is few =
     let itself : Like (start request) (start request) = record { options = refl; packets = refl; clocks = refl; named = refl; table = refl } in
     let like : Like (after_all (start request) pre) (view_by (start request) (arriving_so a pre)) = each_more (start request) (start request) a pre itself same in
     let named = ap (λ (l : List Timed). (view_by (start request) l).seen.named) t.xs_are ∙ like.named in
-    let table : (view_by (start request) w.before).table ≡ (after_all (start request) pre).table =
+    let table : (view_by (start request) w.begun.before).table ≡ (after_all (start request) pre).table =
     ap (λ (l : List Timed). (view_by (start request) l).table) t.xs_are ∙ like.table in
-    let rest_is : w.first ∷ w.later ≡ arriving_so a rest =
-    ap (λ (y : Timed). y ∷ w.later) t.y_is ∙ ap (λ (l : List Timed). record { arrival = a; bytes = t.first } ∷ l) t.ys_are in
+    let rest_is : w.begun.first ∷ w.begun.later ≡ arriving_so a rest =
+    ap (λ (y : Timed). y ∷ w.begun.later) t.y_is ∙ ap (λ (l : List Timed). record { arrival = a; bytes = t.first } ∷ l) t.ys_are in
     let ps : List Arriving = stream_packets request e pre rest in
-    let xs_are : stream_entering request e w.before (w.first ∷ w.later) ≡ entering a ps =
-    ap (λ (l : List Timed). stream_entering request e l (w.first ∷ w.later)) t.xs_are
+    let xs_are : stream_entering request e w.begun.before (w.begun.first ∷ w.begun.later) ≡ entering a ps =
+    ap (λ (l : List Timed). stream_entering request e l (w.begun.first ∷ w.begun.later)) t.xs_are
     ∙ ap (λ (l : List Timed). stream_entering request e (arriving_so a pre) l) rest_is
     ∙ ap (λ (g : Followed). entering_among g (known_at_first f (arriving_so a pre)) (arriving_so a rest)) (followed_is a f pre same)
     ∙ ap (λ (k : Before). entering_among f (record k { counter = None }) (arriving_so a rest)) (known_is a f nothing_known pre same)
     ∙ entering_is a f (known_at_begin f pre) rest same in
     let h : Held = empty rate e.held.rx e.held.main.size in
-    let vs_are : entered_by h (stream_entering request e w.before (w.first ∷ w.later)) ≡ entered_each h a ps =
+    let vs_are : entered_by h (stream_entering request e w.begun.before (w.begun.first ∷ w.begun.later)) ≡ entered_each h a ps =
     ap (λ (l : List Entering). entered_by h l) xs_are ∙ entered_is h a ps in
-    let many : length w.before ≡ length pre = ap (λ (l : List Timed). length l) t.xs_are ∙ many_arrive a pre in
+    let many : length w.begun.before ≡ length pre = ap (λ (l : List Timed). length l) t.xs_are ∙ many_arrive a pre in
     let lengths : length packets ≡ length pre + length rest = ap (λ (l : List (List ℕ)). length l) t.split ∙ length-append pre rest in
-    let times_are : pid_times e.pid e.held.rx (length w.before) (w.first ∷ w.later) ≡ arrivals e.held.rx (indices_of e.pid (length pre) rest) =
-    ap (λ (i : ℕ). pid_times e.pid e.held.rx i (w.first ∷ w.later)) many
+    let times_are : pid_times e.pid e.held.rx (length w.begun.before) (w.begun.first ∷ w.begun.later) ≡ arrivals e.held.rx (indices_of e.pid (length pre) rest) =
+    ap (λ (i : ℕ). pid_times e.pid e.held.rx i (w.begun.first ∷ w.begun.later)) many
     ∙ ap (λ (l : List Timed). pid_times e.pid e.held.rx (length pre) l) rest_is
     ∙ rate_times rate e.pid e.held.rx (length pre) rest (omega (arith, few, lengths)) in
     record {
-      before = pre;
-      first = t.first;
-      later = t.later;
-      split = t.split;
-      packet = w.packet;
-      sound = ap (λ (y : Timed). sound_packet (packet_at y.bytes)) (sym t.y_is) ∙ w.sound;
-      stream = w.stream;
-      begins = sym (ap (λ (n : NamedView). beginning n (view_by (start request) w.before).table w.packet) named
-          ∙ ap (λ (tb : TableState). beginning (after_all (start request) pre).seen.named tb w.packet) table) ∙ w.begins;
-      pid = w.pid;
-      clock_pid = w.clock_pid ∙ ap (λ (n : NamedView). program_clock n w.stream.program) named;
-      rx = w.rx ∙ ap (λ (tb : TableState). (stream_buffers tb w.stream w.packet).rx) table;
-      size = w.size ∙ ap (λ (tb : TableState). (stream_buffers tb w.stream w.packet).main) table;
+      begun = record {
+        before = pre;
+        first = t.first;
+        later = t.later;
+        split = t.split;
+        packet = w.begun.packet;
+        sound = ap (λ (y : Timed). sound_packet (packet_at y.bytes)) (sym t.y_is) ∙ w.begun.sound;
+        stream = w.begun.stream;
+        begins = sym (ap (λ (n : NamedView). beginning n (view_by (start request) w.begun.before).table w.begun.packet) named
+            ∙ ap (λ (tb : TableState). beginning (after_all (start request) pre).seen.named tb w.begun.packet) table) ∙ w.begun.begins;
+        pid = w.begun.pid;
+        clock_pid = w.begun.clock_pid ∙ ap (λ (n : NamedView). program_clock n w.begun.stream.program) named;
+        rx = w.begun.rx ∙ ap (λ (tb : TableState). (stream_buffers tb w.begun.stream w.begun.packet).rx) table;
+        size = w.begun.size ∙ ap (λ (tb : TableState). (stream_buffers tb w.begun.stream w.begun.packet).main) table;
+      };
       held = w.held ∙ ap (λ (l : List Entering). after_entering h l) xs_are ∙ after_is h a ps;
       lines = subst (λ (ts : List ℕ). SaysAll rate ts (entered_each h a ps) e) times_are
-          (subst (λ (vs : List EnteredView). SaysAll rate (pid_times e.pid e.held.rx (length w.before) (w.first ∷ w.later)) vs e) vs_are w.lines);
+          (subst (λ (vs : List EnteredView). SaysAll rate (pid_times e.pid e.held.rx (length w.begun.before) (w.begun.first ∷ w.begun.later)) vs e) vs_are w.lines);
     }
 
 pub whole_stream_law : WholeStreamLaw
@@ -224,4 +226,4 @@ whole_stream_law request rate packets place e is some few there drained =
     let like : Like (after_all (start request) packets) (view_by (start request) timed) = each_more (start request) (start request) a packets itself same in
     let in_view : slice_get (view_by (start request) timed).table.entries place ≡ Some e = ap (λ (tb : TableState). slice_get tb.entries place) like.table ∙ there in
     let w = timed_stream_law request rate timed place e some (rate_order_law rate packets) (omega (arith, few, many_arrive a packets)) in_view in
-    as_whole request rate packets e w (two_parts a packets w.before w.first w.later w.split) is few
+    as_whole request rate packets e w (two_parts a packets w.begun.before w.begun.first w.begun.later w.begun.split) is few

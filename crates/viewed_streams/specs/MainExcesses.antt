@@ -14,12 +14,12 @@ abbrev pub TimedNoExcessLaw : Type 0
 TimedNoExcessLaw = (request : RequestView) (step : ℕ) (packets : List Timed) (e : EntryState) (whole : IsWholeBy request step packets e) →
     main_most e.held ≤ e.held.main.size →
     (flat_map (λ v. v.main)
-    (entered_by (empty step e.held.rx e.held.main.size) (stream_entering request e whole.before (whole.first ∷ whole.later))) ≡ [])
+    (entered_by (empty step e.held.rx e.held.main.size) (stream_entering request e whole.begun.before (whole.begun.first ∷ whole.begun.later))) ≡ [])
     × (e.held.main.under_way ≡ None)
 
 -- at a constant rate
 abbrev pub NoMainExcessLaw : Type 0
 NoMainExcessLaw = (request : RequestView) (rate : ℕ) (packets : List (List ℕ)) (e : EntryState) (whole : IsWhole request rate packets e) → main_most e.held ≤ e.held.main.size →
     (flat_map (λ v. v.main)
-    (entered_each (empty rate e.held.rx e.held.main.size) (AtRate rate) (stream_packets request e whole.before (whole.first ∷ whole.later))) ≡ [])
+    (entered_each (empty rate e.held.rx e.held.main.size) (AtRate rate) (stream_packets request e whole.begun.before (whole.begun.first ∷ whole.begun.later))) ≡ [])
     × (e.held.main.under_way ≡ None)

@@ -17,4 +17,4 @@ use Rattle.viewed_streams.specs.WholeStreams.{IsWhole}
 abbrev pub MeasuredStreamLaw : Type 0
 MeasuredStreamLaw = (request : RequestView) (rate base0 : ℕ) (bytes : List ℕ) (e : EntryState) (s : DescribedStream) (units : List AccessUnit) (f : StreamFullness) →
     (whole : IsWhole request rate (cut_packets bytes) e) → e.pid ≡ s.pid → e.held.rx ≡ s.rx → IsStreamFullness rate base0 s units (packets_on s.pid bytes) f →
-    (transport_most e.held ≤ f.transport) × (packets_from s.pid 0 whole.before ≡ [] → transport_most e.held ≡ f.transport)
+    (transport_most e.held ≤ f.transport) × (packets_from s.pid 0 whole.begun.before ≡ [] → transport_most e.held ≡ f.transport)

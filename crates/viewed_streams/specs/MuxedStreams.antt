@@ -24,7 +24,7 @@ pub record NoExcess (request : RequestView) (rate : ℕ) (packets : List (List �
   pub whole : IsWhole request rate packets e
   pub most : transport_most e.held ≤ TRANSPORT_BYTES
   pub none_ended : flat_map (λ v. v.transport)
-      (entered_each (empty rate e.held.rx e.held.main.size) (AtRate rate) (stream_packets request e whole.before (whole.first ∷ whole.later))) ≡ []
+      (entered_each (empty rate e.held.rx e.held.main.size) (AtRate rate) (stream_packets request e whole.begun.before (whole.begun.first ∷ whole.begun.later))) ≡ []
   pub none_under_way : transport_under_way e.held ≡ None
   pub number : (window : ℕ) → with_one (closed window e).excesses (transport_under_way e.held) ≡ 0
 

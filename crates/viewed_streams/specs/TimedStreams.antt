@@ -13,8 +13,6 @@ use Rattle.stream_arrival.specs.Arrivals.{step_of}
 use Rattle.stream_times.specs.Leads.{AllLead}
 use Rattle.stream_times.specs.TimedPackets.{Timed, arriving_so, timed_packets}
 use Rattle.stream_times.specs.Times.{times_among}
-use Rattle.stream_programs.specs.Streams.{FoundStreamView}
-use Rattle.named_streams.specs.NamedStreams.{clock_of as program_clock}
 use Rattle.stream_view.specs.History.{arrivals_of}
 use Rattle.stream_buffers.specs.declared.arriving.Arriving.{Arriving}
 use Rattle.stream_buffers.specs.Entering.{EnteredView, after, entered}
@@ -24,10 +22,9 @@ use Rattle.stream_report.specs.ClockedViews.{clock_for, last_view}
 use Rattle.stream_report.specs.ClockedViews as clocked
 use Rattle.stream_report.specs.Entries.{EntryState}
 use Rattle.stream_report.specs.Seen.{with_arrival}
-use Rattle.stream_report.specs.StreamTables.{beginning, stream_buffers}
 use Rattle.stream_report.specs.Views.{ViewState, after_packet, arriving, start}
 use Rattle.viewed_streams.specs.StreamPackets.{Before, Followed, known_after, most_packets, seen_in, sound_packet}
-use Rattle.viewed_streams.specs.WholeStreams.{SaysAll, followed, nothing_known}
+use Rattle.viewed_streams.specs.WholeStreams.{Begun, SaysAll, followed, nothing_known}
 
 -- 1. Packets of a stream, one by one
 
@@ -98,27 +95,15 @@ pid_times pid drain index packets = times_among (on_pid pid) drain index packets
 -- 3. A stream with a line at the end
 
 pub record IsWholeBy (request : RequestView) (step : ℕ) (packets : List Timed) (e : EntryState) : Type 0 where
-  -- its buffers begin with the packet `first`, the first that begins a PES packet of it once the tables name it
-  pub before : List Timed
-  pub first : Timed
-  pub later : List Timed
-  pub split : packets ≡ before ++ first ∷ later
-  pub packet : PacketView
-  pub sound : sound_packet (packet_at first.bytes) ≡ Some packet
-  pub stream : FoundStreamView
-  pub begins : beginning (view_by (start request) before).seen.named (view_by (start request) before).table packet ≡ Some stream
-  pub pid : e.pid ≡ packet.header.pid
-  pub clock_pid : e.clock_pid ≡ program_clock (view_by (start request) before).seen.named stream.program
-  pub rx : e.held.rx ≡ (stream_buffers (view_by (start request) before).table stream packet).rx
-  pub size : e.held.main.size ≡ (stream_buffers (view_by (start request) before).table stream packet).main
-  -- what they hold is what all packets of its PID from then on leave in empty ones
-  pub held : e.held ≡ after_entering (empty step e.held.rx e.held.main.size) (stream_entering request e before (first ∷ later))
+  pub begun : Begun (view_by (start request)) (λ p. p.bytes) packets e
+  -- what its buffers hold is what all packets of its PID from then on leave in empty ones
+  pub held : e.held ≡ after_entering (empty step e.held.rx e.held.main.size) (stream_entering request e begun.before (begun.first ∷ begun.later))
   -- the bytes that have entered the transport buffer are all bytes of these packets that have times, and none arrived before an earlier one
-  pub arrived : arrivals_of e.held.parts ≡ pid_times e.pid e.held.rx (length before) (first ∷ later)
+  pub arrived : arrivals_of e.held.parts ≡ pid_times e.pid e.held.rx (length begun.before) (begun.first ∷ begun.later)
   pub rises : Rises 0 (arrivals_of e.held.parts)
   -- its last lines are about them
-  pub lines : SaysAll step (pid_times e.pid e.held.rx (length before) (first ∷ later))
-      (entered_by (empty step e.held.rx e.held.main.size) (stream_entering request e before (first ∷ later))) e
+  pub lines : SaysAll step (pid_times e.pid e.held.rx (length begun.before) (begun.first ∷ begun.later))
+      (entered_by (empty step e.held.rx e.held.main.size) (stream_entering request e begun.before (begun.first ∷ begun.later))) e
 
 -- no byte of these packets arrives before an earlier one, a line begins within a packet before its payload, and a byte takes the same step on
 -- each line

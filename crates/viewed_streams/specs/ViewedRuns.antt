@@ -50,9 +50,9 @@ pub record NoMainExcess (d : Scheduled) (request : RequestView) (units : List Ac
     (whole : IsWhole request d.description.rate (cut_packets bytes) e) : Type 0 where
   pub most : main_most e.held ≤ e.held.main.size
   pub none_ended : flat_map (λ v. v.main)
-      (entered_each (empty d.description.rate e.held.rx e.held.main.size) (AtRate d.description.rate) (stream_packets request e whole.before (whole.first ∷ whole.later))) ≡ []
+      (entered_each (empty d.description.rate e.held.rx e.held.main.size) (AtRate d.description.rate) (stream_packets request e whole.begun.before (whole.begun.first ∷ whole.begun.later))) ≡ []
   pub none_under_way : e.held.main.under_way ≡ None
-  pub measured : FromTheFirst e.pid whole.before → NoMoreThanMeasured d units bytes s e
+  pub measured : FromTheFirst e.pid whole.begun.before → NoMoreThanMeasured d units bytes s e
 
 -- so of each such stream, wherever its buffers begin
 abbrev pub RunMainLaw : Type 0
@@ -71,12 +71,12 @@ JobMainLaw = (d : Scheduled) (units : List (ℕ × AccessUnit)) (slots : ℕ) (r
 abbrev pub RunFirstLaw : Type 0
 RunFirstLaw = (d : Scheduled) (units : ℕ → List AccessUnit) (slots : ℕ) (request : RequestView) (e : EntryState) (k : ℕ) → IsInRange d.description → Promised d.description d.schedule →
     UnitsKept d units → slots ≤ most_packets → IsViewedAs d request k e → (whole : IsWhole request d.description.rate (cut_packets (run_bytes (content_at d units) 0 slots)) e) →
-    DueLate (units k) → FromTheFirst e.pid whole.before
+    DueLate (units k) → FromTheFirst e.pid whole.begun.before
 
 abbrev pub JobFirstLaw : Type 0
 JobFirstLaw = (d : Scheduled) (units : List (ℕ × AccessUnit)) (slots : ℕ) (request : RequestView) (e : EntryState) (k : ℕ) → IsInRange d.description → Promised d.description d.schedule →
     first_refused d (capacity_for units) [] units ≡ None → slots ≤ most_packets → IsViewedAs d request k e →
-    (whole : IsWhole request d.description.rate (cut_packets (output_of false d (job_history units slots))) e) → DueLate (units_of k units) → FromTheFirst e.pid whole.before
+    (whole : IsWhole request d.description.rate (cut_packets (output_of false d (job_history units slots))) e) → DueLate (units_of k units) → FromTheFirst e.pid whole.begun.before
 
 -- so of these streams the line `main` says no more than what is measured
 abbrev pub RunLateUnitsLaw : Type 0

@@ -27,7 +27,7 @@ use Rattle.stream_report.specs.EntryLines.{main_figures, main_line, transport_li
 use Rattle.stream_report.specs.Entries.{EntryState, closed, end_lines, place_at}
 use Rattle.stream_report.specs.Tallies.{is_late}
 use Rattle.stream_report.specs.StreamTables.{beginning, stream_buffers}
-use Rattle.stream_report.specs.Views.{after_all, start}
+use Rattle.stream_report.specs.Views.{ViewState, after_all, start}
 use Rattle.viewed_streams.specs.StreamUnits.{all_units, units_ended}
 use Rattle.viewed_streams.specs.StreamPackets.{Before, Followed, after_each, entered_each, known_after_all, most_packets, seen_among, sound_packet}
 
@@ -65,26 +65,30 @@ pub record SaysAll (step : ℕ) (times : List ℕ) (vs : List EnteredView) (e : 
   pub units : (window : ℕ) → (closed window e).units ≡ length (all_units step e.held.parts)
   pub late : (window : ℕ) → (closed window e).late ≡ count_by is_late (all_units step e.held.parts)
 
--- of a stream with a line at the end
-pub record IsWhole (request : RequestView) (rate : ℕ) (packets : List (List ℕ)) (e : EntryState) : Type 0 where
-  -- its buffers begin with the packet `first`, the first that begins a PES packet of it once the tables name it
-  pub before : List (List ℕ)
-  pub first : List ℕ
-  pub later : List (List ℕ)
+-- of packets that are viewed so, each with its bytes: a stream's buffers begin with the packet `first`, the first that begins a PES packet of it
+-- once the tables name it
+pub record Begun {P : Type 0} (view : List P → ViewState) (bytes : P → List ℕ) (packets : List P) (e : EntryState) : Type 0 where
+  pub before : List P
+  pub first : P
+  pub later : List P
   pub split : packets ≡ before ++ first ∷ later
   pub packet : PacketView
-  pub sound : sound_packet (packet_at first) ≡ Some packet
+  pub sound : sound_packet (packet_at (bytes first)) ≡ Some packet
   pub stream : FoundStreamView
-  pub begins : beginning (after_all (start request) before).seen.named (after_all (start request) before).table packet ≡ Some stream
+  pub begins : beginning (view before).seen.named (view before).table packet ≡ Some stream
   pub pid : e.pid ≡ packet.header.pid
-  pub clock_pid : e.clock_pid ≡ program_clock (after_all (start request) before).seen.named stream.program
-  pub rx : e.held.rx ≡ (stream_buffers (after_all (start request) before).table stream packet).rx
-  pub size : e.held.main.size ≡ (stream_buffers (after_all (start request) before).table stream packet).main
+  pub clock_pid : e.clock_pid ≡ program_clock (view before).seen.named stream.program
+  pub rx : e.held.rx ≡ (stream_buffers (view before).table stream packet).rx
+  pub size : e.held.main.size ≡ (stream_buffers (view before).table stream packet).main
+
+-- a stream with a line at the end, whose buffers have begun
+pub record IsWhole (request : RequestView) (rate : ℕ) (packets : List (List ℕ)) (e : EntryState) : Type 0 where
+  pub begun : Begun (after_all (start request)) (λ bytes. bytes) packets e
   -- what they hold is what all packets of its PID from then on leave in empty ones
-  pub held : e.held ≡ after_each (empty rate e.held.rx e.held.main.size) (AtRate rate) (stream_packets request e before (first ∷ later))
+  pub held : e.held ≡ after_each (empty rate e.held.rx e.held.main.size) (AtRate rate) (stream_packets request e begun.before (begun.first ∷ begun.later))
   -- its last lines are about them: `tb_fullness` of the indices of the packets of its PID is what the transport buffer holds
-  pub lines : SaysAll rate (arrivals e.held.rx (indices_of e.pid (length before) (first ∷ later)))
-      (entered_each (empty rate e.held.rx e.held.main.size) (AtRate rate) (stream_packets request e before (first ∷ later))) e
+  pub lines : SaysAll rate (arrivals e.held.rx (indices_of e.pid (length begun.before) (begun.first ∷ begun.later)))
+      (entered_each (empty rate e.held.rx e.held.main.size) (AtRate rate) (stream_packets request e begun.before (begun.first ∷ begun.later))) e
 
 -- so of each stream of a report at a constant rate, as long as packets enter buffers: in the first 2^40 bytes
 abbrev pub WholeStreamLaw : Type 0
