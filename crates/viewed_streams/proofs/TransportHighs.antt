@@ -20,7 +20,7 @@ use Rattle.stream_report.specs.Tallies.{in_window, with_excesses, with_packet as
 use Rattle.stream_report.specs.declared.tally.Tally.{Tally}
 use Rattle.viewed_streams.specs.HeldWindows.{window_entering}
 use Rattle.viewed_streams.specs.TimedStreams.{Entering, after_entering, entered_by}
-use Rattle.viewed_streams.specs.TransportHighs.{IsFull, IsFullWith, TimedTransportLaw, TransportHighLaw, WindowTransportLaw, transport_after}
+use Rattle.viewed_streams.specs.TransportHighs.{IsFull, IsFullWith, TimedTransportLaw, TransportHighLaw, TransportWithoutLaw, WindowTransportLaw, transport_after}
 use Rattle.viewed_streams.specs.WindowLows.{counted_each}
 use Rattle.viewed_streams.proofs.HeldWindows.{CountedOver, window_counted}
 use Rattle.viewed_streams.proofs.TransportFull.{is_full, most_found-append}
@@ -128,6 +128,16 @@ transport_high_law h xs pos rises some =
     let full = full_of h.rate (arrivals_of h.parts) come.own pos rises' (omega (arith, some, come.most_found)) in
     subst (λ (ts : List ℕ). IsFull h.rate (arrivals_of h.parts) ts (transport_after 0 (entered_by h xs))) (sym come.arrivals)
     (subst (λ (n : ℕ). IsFull h.rate (arrivals_of h.parts) (arrivals_of h.parts ++ come.own) n) come.most_found full)
+
+pub transport_without_law : TransportWithoutLaw
+unfolding most_found
+transport_without_law h xs none =
+    let come = each_arrives h h 0 xs (nothing_arrives h) in
+    come.arrivals ∙ by come.own (come.most_found ∙ none)
+  where
+    by : (own : List ℕ) → most_found h.rate (last_of h.rate h.parts) own ≡ 0 → arrivals_of h.parts ++ own ≡ arrivals_of h.parts
+    by [] e = append-nil (arrivals_of h.parts)
+    by (t ∷ ts) e = absurd (let no : ⊥ = omega (arith, e) in no)
 
 -- ---- what is counted
 

@@ -17,7 +17,7 @@ pub record HasMost (e : EntryState) : Type 0 where
   pub transport : e.tally.window_transport ≡ transport_most e.held
   pub main : e.tally.window_main ≡ main_most e.held
 
--- of packets that arrive in any way
+-- of packets that arrive in any way, where a byte takes some time to leave the transport buffer
 abbrev pub FirstHighLaw : Type 0
 FirstHighLaw = (request : RequestView) (before packets : List Timed) (window place : ℕ) (e : EntryState) → length before + length packets < 2 ^ 64 →
     slice_get (view_by (start request) before).table.entries place ≡ None →

@@ -51,8 +51,12 @@ abbrev pub TransportHighLaw : Type 0
 TransportHighLaw = (h : Held) (xs : List Entering) → 0 < h.rate → Rises 0 (arrivals_of (after_entering h xs).parts) →
     0 < transport_after 0 (entered_by h xs) → IsFullWith h xs (transport_after 0 (entered_by h xs))
 
+-- and where it is 0 none of their bytes arrives
+abbrev pub TransportWithoutLaw : Type 0
+TransportWithoutLaw = (h : Held) (xs : List Entering) → transport_after 0 (entered_by h xs) ≡ 0 → arrivals_of (after_entering h xs).parts ≡ arrivals_of h.parts
+
 -- 2. In a report, at the end of a window before which the stream's buffers have begun, once a packet of the stream has come in it: before that the
--- number is an earlier window's, and no line `held` is told of this one. Where the line says 0, no byte of these packets has a moment.
+-- number is an earlier window's, and no line `held` is told of this one
 
 -- of packets that arrive in any way in which no byte does before an earlier one
 abbrev pub TimedTransportLaw : Type 0

@@ -7,7 +7,7 @@ ghost use Rattle.viewed_streams.specs.MainExcesses.{NoMainExcessLaw, TimedNoExce
 ghost use Rattle.viewed_streams.specs.MeasuredStreams.{MeasuredStreamLaw};
 ghost use Rattle.viewed_streams.specs.MuxedStreams.{JobNoExcessLaw, MuxedStreamLaw};
 ghost use Rattle.viewed_streams.specs.TimedStreams.{ClockedStreamLaw, RateOrderLaw, TimedStreamLaw};
-ghost use Rattle.viewed_streams.specs.TransportHighs.{ClockedTransportLaw, RateTransportLaw, TimedTransportLaw, TransportHighLaw, WindowTransportLaw};
+ghost use Rattle.viewed_streams.specs.TransportHighs.{ClockedTransportLaw, RateTransportLaw, TimedTransportLaw, TransportHighLaw, TransportWithoutLaw, WindowTransportLaw};
 ghost use Rattle.viewed_streams.specs.ViewedRuns.{JobFirstLaw, JobLateLaw, JobLateUnitsLaw, JobMainLaw, RunFirstLaw, RunLateLaw, RunLateUnitsLaw, RunMainLaw};
 ghost use Rattle.viewed_streams.specs.WholeStreams.{LastLinesLaw, WholeStreamLaw};
 ghost use Rattle.viewed_streams.specs.WindowHighs.{ClockedHighLaw, HighWithoutLaw, RateHighLaw, TimedHighLaw, WholeHighLaw, WindowHighLaw, WindowMostLaw};
@@ -74,6 +74,7 @@ pub fn window_highs()
     ensures clocked_first { ClockedFirstLaw }
     ensures counted_transport { WindowTransportLaw }
     ensures transport { TransportHighLaw }
+    ensures without_transport { TransportWithoutLaw }
     ensures timed_transport { TimedTransportLaw }
     ensures rate_transport { RateTransportLaw }
     ensures clocked_transport { ClockedTransportLaw }

@@ -2,7 +2,7 @@ use Rattle.viewed_streams.proofs.FirstWindows.{first_high_law}
 use Rattle.viewed_streams.proofs.ClockedWindows.{clocked_first_law, clocked_high_law, clocked_transport_law}
 use Rattle.viewed_streams.proofs.HeldWindows.{timed_high_law}
 use Rattle.viewed_streams.proofs.RateWindows.{rate_high_law, rate_transport_law}
-use Rattle.viewed_streams.proofs.TransportHighs.{timed_transport_law, transport_high_law, window_transport_law}
+use Rattle.viewed_streams.proofs.TransportHighs.{timed_transport_law, transport_high_law, transport_without_law, window_transport_law}
 use Rattle.viewed_streams.proofs.WindowHighs.{high_without_law, whole_high_law, window_high_law, window_most_law}
 use Rattle.viewed_streams.proofs.laws.window_highs.Goals as goal
 
@@ -38,6 +38,9 @@ returns-clause-counted_transport c = window_transport_law
 
 pub returns-clause-transport : goal.returns-clause-transport
 returns-clause-transport c = transport_high_law
+
+pub returns-clause-without_transport : goal.returns-clause-without_transport
+returns-clause-without_transport c = transport_without_law
 
 pub returns-clause-timed_transport : goal.returns-clause-timed_transport
 returns-clause-timed_transport c = timed_transport_law
