@@ -1,5 +1,5 @@
 -- What a line `held` of a report on packets that arrive by clock references says of the buffers.
-use Rattle.std.proofs.Common.{◌≡◌, ◌∙◌, sym, ℕ, ◌+◌, ◌^◌, ◌<◌, List, ◌++◌, length, Option, Some, None, ap, subst, arith, All, append_assoc}
+use Rattle.std.proofs.Common.{◌≡◌, ◌∙◌, sym, ℕ, ◌+◌, ◌<◌, List, ◌++◌, length, Option, Some, None, ap, subst, arith, All, append_assoc}
 use Rattle.std.specs.Prelude.{slice_get}
 use Rattle.std.proofs.lemmas.List.{length-append}
 use Rattle.clock27.specs.Units.{byte_ticks_at_1bps}
@@ -11,16 +11,16 @@ use Rattle.stream_report.specs.ClockedViews.{clock_for}
 use Rattle.stream_report.specs.Entries.{EntryState}
 use Rattle.stream_report.specs.StreamTables.{TableState}
 use Rattle.stream_report.specs.Views.{start}
-use Rattle.viewed_streams.specs.ClockedWindows.{ClockedWindowLaw, report_tables, timed_in}
+use Rattle.viewed_streams.specs.ClockedWindows.{ClockedWindowLaw, OfClockedWindow, report_tables, timed_in}
 use Rattle.viewed_streams.specs.FirstHighs.{ClockedFirstLaw}
-use Rattle.viewed_streams.specs.HeldWindows.{BeginIn, options_then, window_entering}
+use Rattle.viewed_streams.specs.HeldWindows.{OfWindow}
 use Rattle.viewed_streams.specs.TimedStreams.{InOrder, view_by}
 use Rattle.viewed_streams.specs.TransportHighs.{ClockedTransportLaw}
 use Rattle.viewed_streams.specs.WindowHighs.{ClockedHighLaw}
 use Rattle.viewed_streams.proofs.ClockedStreams.{StepsTick, all_step, clocked_order, once}
 use Rattle.viewed_streams.proofs.ClockedTables.{clocked_tables_law}
 use Rattle.viewed_streams.proofs.FirstWindows.{first_high_law}
-use Rattle.viewed_streams.proofs.HeldWindows.{CountedOver, says_high, says_low, window_counted}
+use Rattle.viewed_streams.proofs.HeldWindows.{timed_high_law, timed_window_law}
 use Rattle.viewed_streams.proofs.Lists.{some_is}
 use Rattle.viewed_streams.proofs.OrderedWindows.{first_all, first_in_order, ordered_transport, step_is}
 
@@ -51,31 +51,24 @@ in_view request packets before now later place t t' o o' unknown is at_t there a
       steps = first_all StepsTick (before ++ now) later (subst (λ (l : List Timed). All StepsTick l) whole (all_step (no_packet pid) packets));
     }
 
-record ClockedCount (request : RequestView) (before now : List Timed) (window : ℕ) (e e' : EntryState) : Type 0 where
-  counted : CountedOver e.tally e'.tally window e.held (window_entering request before e now)
-  step : 0 < e.held.rate
-
-clocked_counted : (request : RequestView) (packets : List (List ℕ)) (before now later : List Timed) (window place : ℕ) (e e' : EntryState) →
-    length packets < 2 ^ 64 → InView request packets before now later place (Some e) (Some e') →
-    BeginIn (options_then request e before) window (length before) now → ClockedCount request before now window e e'
-clocked_counted request packets before now later window place e e' few v all =
-    let step : e.held.rate ≡ byte_ticks_at_1bps = step_is request byte_ticks_at_1bps before place e (first_all StepsTick before now v.steps) (omega (arith, v.many, few)) v.there in
-    record {
-      counted = window_counted request before now window place e e' (omega (arith, v.many, few)) v.there v.then_there all;
-      step = omega (arith, step);
-    }
+of_window : (request : RequestView) (packets : List (List ℕ)) (before now later : List Timed) (window place : ℕ) (e e' : EntryState) →
+    OfClockedWindow request packets before now later window place e e' → OfWindow request before now window place e e' × (0 < e.held.rate)
+of_window request packets before now later window place e e' w =
+    let v = in_view request packets before now later place w.t w.t' (Some e) (Some e') w.unknown w.split w.before_it w.begun w.after_it w.come in
+    let step : e.held.rate ≡ byte_ticks_at_1bps = step_is request byte_ticks_at_1bps before place e (first_all StepsTick before now v.steps) (omega (arith, v.many, w.few)) v.there in (
+      record { few = omega (arith, v.many, w.few); begun = v.there; come = v.then_there; other = w.other; all = w.all },
+      omega (arith, step),
+    )
 
 pub clocked_window_law : ClockedWindowLaw
-clocked_window_law request packets before now later window place t t' e e' unknown few is at_t there at_t' later_there other all has =
-    let v = in_view request packets before now later place t t' (Some e) (Some e') unknown is at_t there at_t' later_there in
-    let c = clocked_counted request packets before now later window place e e' few v all in
-    says_low e.tally e'.tally window e.held (window_entering request before e now) c.counted other c.step has
+clocked_window_law request packets before now later window place e e' w has =
+    let o = of_window request packets before now later window place e e' w in
+    timed_window_law request before now window place e e' o.0 o.1 has
 
 pub clocked_high_law : ClockedHighLaw
-clocked_high_law request packets before now later window place t t' e e' unknown few is at_t there at_t' later_there other all has =
-    let v = in_view request packets before now later place t t' (Some e) (Some e') unknown is at_t there at_t' later_there in
-    let c = clocked_counted request packets before now later window place e e' few v all in
-    says_high e.tally e'.tally window e.held (window_entering request before e now) c.counted other c.step has
+clocked_high_law request packets before now later window place e e' w has =
+    let o = of_window request packets before now later window place e e' w in
+    timed_high_law request before now window place e e' o.0 o.1 has
 
 pub clocked_first_law : ClockedFirstLaw
 clocked_first_law request packets before now later window place t t' e unknown few is at_t there at_t' later_there all =
@@ -84,9 +77,9 @@ clocked_first_law request packets before now later window place t t' e unknown f
     first_high_law request before now window place e (omega (arith, v.many, few)) v.there v.then_there all (omega (arith, step))
 
 pub clocked_transport_law : ClockedTransportLaw
-clocked_transport_law request packets before now later window place t t' e e' unknown whole few is at_t there at_t' later_there other told all some =
-    let v = in_view request packets before now later place t t' (Some e) (Some e') unknown is at_t there at_t' later_there in
-    let split : timed_in request packets ≡ (before ++ now) ++ later = is ∙ sym (append_assoc before now later) in
+clocked_transport_law request packets before now later window place e e' w told whole few some =
+    let split : timed_in request packets ≡ (before ++ now) ++ later = w.split ∙ sym (append_assoc before now later) in
     let order : InOrder byte_ticks_at_1bps ((before ++ now) ++ later) =
     subst (λ (l : List Timed). InOrder byte_ticks_at_1bps l) split (clocked_order (clock_for request.choice.programs) packets whole) in
-    ordered_transport request byte_ticks_at_1bps before now window place e e' (omega arith) (first_in_order byte_ticks_at_1bps (before ++ now) later order) few v.there v.then_there other told all some
+    ordered_transport request byte_ticks_at_1bps before now window place e e' (of_window request packets before now later window place e e' w).0 told (omega arith)
+    (first_in_order byte_ticks_at_1bps (before ++ now) later order) few some

@@ -17,7 +17,7 @@ use Rattle.stream_report.specs.Entries.{EntryState, arriving, beginning_in, is_u
 use Rattle.stream_report.specs.Seen.{next_window}
 use Rattle.stream_report.specs.Tallies.{in_window}
 use Rattle.stream_report.specs.Views.{ViewState, clocked, start, with_begun}
-use Rattle.viewed_streams.specs.HeldWindows.{BeginIn, TimedWindowLaw, options_then, window_entering}
+use Rattle.viewed_streams.specs.HeldWindows.{BeginIn, OfWindow, TimedWindowLaw, options_then, window_entering}
 use Rattle.viewed_streams.specs.StreamPackets.{Before, Followed, after_each, clock_with, entered_each, known_after, seen_in, sound_packet}
 use Rattle.viewed_streams.specs.TimedStreams.{Entering, after_entering, entered_by, entering, entering_among, followed_by, followed_so, view_by}
 use Rattle.viewed_streams.specs.WholeStreams.{followed as request_followed, nothing_known}
@@ -181,15 +181,13 @@ grown_held s packets j e e' agree few there later =
     ap (λ (x : EntryState). x.held) (some_is e' g.0 (sym later ∙ g.1.0)) ∙ g.1.1.held
 
 -- what its buffers hold once the packets of a window have come
-pub window_held : (request : RequestView) (before packets : List Timed) (place : ℕ) (e e' : EntryState) → length before + length packets < 2 ^ 64 →
-    slice_get (view_by (start request) before).table.entries place ≡ Some e →
-    slice_get (view_by (start request) (before ++ packets)).table.entries place ≡ Some e' →
+pub window_held : (request : RequestView) (before packets : List Timed) (window place : ℕ) (e e' : EntryState) → OfWindow request before packets window place e e' →
     e'.held ≡ after_entering e.held (window_entering request before e packets)
-window_held request before packets place e e' few there later =
+window_held request before packets window place e e' w =
     let s : ViewState = view_by (start request) before in
-    let v = viewed_then request before e (omega (arith, few)) in
-    grown_held s packets place e e' (agree_by (start request) before (none_agree request)) (omega (arith, v.count, few)) there
-    (subst (λ (x : ViewState). slice_get x.table.entries place ≡ Some e') (view_two (start request) before packets) later)
+    let v = viewed_then request before e (omega (arith, w.few)) in
+    grown_held s packets place e e' (agree_by (start request) before (none_agree request)) (omega (arith, v.count, w.few)) w.begun
+    (subst (λ (x : ViewState). slice_get x.table.entries place ≡ Some e') (view_two (start request) before packets) w.come)
     ∙ ap (λ (g : Followed). after_entering e.held (entering_among g (known s e) packets)) v.same
 
 -- what is counted of a stream in a window
@@ -198,16 +196,13 @@ pub record CountedOver (t t' : Tally) (window : ℕ) (h : Held) (xs : List Enter
   pub tally : t' ≡ counted_each t window vs
   pub same : map (λ w. w.1) vs ≡ entered_by h xs
 
-pub window_counted : (request : RequestView) (before packets : List Timed) (window place : ℕ) (e e' : EntryState) → length before + length packets < 2 ^ 64 →
-    slice_get (view_by (start request) before).table.entries place ≡ Some e →
-    slice_get (view_by (start request) (before ++ packets)).table.entries place ≡ Some e' →
-    BeginIn (options_then request e before) window (length before) packets →
+pub window_counted : (request : RequestView) (before packets : List Timed) (window place : ℕ) (e e' : EntryState) → OfWindow request before packets window place e e' →
     CountedOver e.tally e'.tally window e.held (window_entering request before e packets)
-window_counted request before packets window place e e' few there later all =
+window_counted request before packets window place e e' w =
     let s : ViewState = view_by (start request) before in
-    let v = viewed_then request before e (omega (arith, few)) in
-    let c = counted_in s packets window place e e' (agree_by (start request) before (none_agree request)) (omega (arith, v.count, few)) there (begin_then request before window packets e v all)
-    (subst (λ (x : ViewState). slice_get x.table.entries place ≡ Some e') (view_two (start request) before packets) later) in
+    let v = viewed_then request before e (omega (arith, w.few)) in
+    let c = counted_in s packets window place e e' (agree_by (start request) before (none_agree request)) (omega (arith, v.count, w.few)) w.begun (begin_then request before window packets e v w.all)
+    (subst (λ (x : ViewState). slice_get x.table.entries place ≡ Some e') (view_two (start request) before packets) w.come) in
     record { vs = c.vs; tally = c.tally; same = c.same ∙ ap (λ (g : Followed). entered_by e.held (entering_among g (known s e) packets)) v.same }
 
 -- what a line then says of the main buffer
@@ -225,9 +220,9 @@ says_high t t' window h xs c other pos has =
     subst (λ (k : Tally). IsHighWith h xs k.window_main) (sym c.tally) (whole_high_law t window h xs c.vs pos none c.same has)
 
 pub timed_window_law : TimedWindowLaw
-timed_window_law request before packets window place e e' few there later other all pos has =
-    says_low e.tally e'.tally window e.held (window_entering request before e packets) (window_counted request before packets window place e e' few there later all) other pos has
+timed_window_law request before packets window place e e' w pos has =
+    says_low e.tally e'.tally window e.held (window_entering request before e packets) (window_counted request before packets window place e e' w) w.other pos has
 
 pub timed_high_law : TimedHighLaw
-timed_high_law request before packets window place e e' few there later other all pos has =
-    says_high e.tally e'.tally window e.held (window_entering request before e packets) (window_counted request before packets window place e e' few there later all) other pos has
+timed_high_law request before packets window place e e' w pos has =
+    says_high e.tally e'.tally window e.held (window_entering request before e packets) (window_counted request before packets window place e e' w) w.other pos has

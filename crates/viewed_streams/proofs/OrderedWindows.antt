@@ -1,5 +1,5 @@
 -- Where packets arrive in order, so do the bytes of a stream's up to the end of a window: what its line `held` then says of the transport buffer.
-use Rattle.std.proofs.Common.{◌≡◌, ◌∙◌, ℕ, ◌+◌, ◌^◌, ◌≤◌, ◌<◌, true, false, List, [], ◌∷◌, ◌++◌, length, Some, ap, subst, inl, inr, arith, All}
+use Rattle.std.proofs.Common.{◌≡◌, ◌∙◌, ℕ, ◌+◌, ◌^◌, ◌≤◌, ◌<◌, true, List, [], ◌∷◌, ◌++◌, length, Some, ap, subst, inl, inr, arith, All}
 use Rattle.std.specs.Prelude.{◌==◌, slice_get}
 use Rattle.std.proofs.lemmas.List.{length-append}
 use Rattle.std.proofs.lemmas.List.Elements.{All-nil, All-cons, All-head, All-tail}
@@ -14,7 +14,7 @@ use Rattle.stream_buffers.specs.Held.{Held}
 use Rattle.stream_report.specs.Choices.{RequestView}
 use Rattle.stream_report.specs.Entries.{EntryState}
 use Rattle.stream_report.specs.Views.{start}
-use Rattle.viewed_streams.specs.HeldWindows.{BeginIn, options_then, window_entering}
+use Rattle.viewed_streams.specs.HeldWindows.{OfWindow, window_entering}
 use Rattle.viewed_streams.specs.StreamPackets.{most_packets}
 use Rattle.viewed_streams.specs.TimedStreams.{InOrder, after_entering, entering_among, view_by}
 use Rattle.viewed_streams.specs.TransportHighs.{IsFullWith}
@@ -74,23 +74,17 @@ step_is request step packets place e all few there =
         ∙ ap (λ (x : EntryState). x.held.rate) b.begins.is ∙ first
 
 -- the bytes that have entered its transport buffer
-window_rises : (request : RequestView) (step : ℕ) (before packets : List Timed) (place : ℕ) (e e' : EntryState) → 0 < step → InOrder step (before ++ packets) →
-    length before + length packets ≤ most_packets →
-    slice_get (view_by (start request) before).table.entries place ≡ Some e →
-    slice_get (view_by (start request) (before ++ packets)).table.entries place ≡ Some e' →
+window_rises : (request : RequestView) (step : ℕ) (before packets : List Timed) (window place : ℕ) (e e' : EntryState) →
+    OfWindow request before packets window place e e' → 0 < step → InOrder step (before ++ packets) → length before + length packets ≤ most_packets →
     Rises 0 (arrivals_of (after_entering e.held (window_entering request before e packets)).parts)
-window_rises request step before packets place e e' pos order few there later =
-    let whole = timed_stream_law request step (before ++ packets) place e' pos order (omega (arith, few, length-append before packets)) later in
-    subst (λ (h : Held). Rises 0 (arrivals_of h.parts)) (window_held request before packets place e e' (omega (arith, few)) there later) whole.rises
+window_rises request step before packets window place e e' w pos order few =
+    let whole = timed_stream_law request step (before ++ packets) place e' pos order (omega (arith, few, length-append before packets)) w.come in
+    subst (λ (h : Held). Rises 0 (arrivals_of h.parts)) (window_held request before packets window place e e' w) whole.rises
 
-pub ordered_transport : (request : RequestView) (step : ℕ) (before packets : List Timed) (window place : ℕ) (e e' : EntryState) → 0 < step →
-    InOrder step (before ++ packets) → length before + length packets ≤ most_packets →
-    slice_get (view_by (start request) before).table.entries place ≡ Some e →
-    slice_get (view_by (start request) (before ++ packets)).table.entries place ≡ Some e' →
-    (e.tally.window == window) ≡ false → (e'.tally.window == window) ≡ true →
-    BeginIn (options_then request e before) window (length before) packets → 0 < e'.tally.window_transport →
+pub ordered_transport : (request : RequestView) (step : ℕ) (before packets : List Timed) (window place : ℕ) (e e' : EntryState) →
+    OfWindow request before packets window place e e' → (e'.tally.window == window) ≡ true → 0 < step → InOrder step (before ++ packets) →
+    length before + length packets ≤ most_packets → 0 < e'.tally.window_transport →
     IsFullWith e.held (window_entering request before e packets) e'.tally.window_transport
-ordered_transport request step before packets window place e e' pos order few there later other told all some =
-    let same = step_is request step before place e (first_in_order step before packets order).same (omega (arith, few)) there in
-    timed_transport_law request before packets window place e e' (omega (arith, few)) there later other told all (omega (arith, pos, same))
-    (window_rises request step before packets place e e' pos order few there later) some
+ordered_transport request step before packets window place e e' w told pos order few some =
+    let same = step_is request step before place e (first_in_order step before packets order).same (omega (arith, few)) w.begun in
+    timed_transport_law request before packets window place e e' w told (omega (arith, pos, same)) (window_rises request step before packets window place e e' w pos order few) some

@@ -1,5 +1,5 @@
 -- At a constant rate all packets of a window arrive alike: what a line `held` says of packets that arrive in any way, it says of them at that rate.
-use Rattle.std.proofs.Common.{◌≡◌, ◌∙◌, sym, ℕ, ◌+◌, ◌-◌, ◌*◌, ◌^◌, ◌≤◌, ◌<◌, nat_le, nat_lt, true, List, [], ◌∷◌, ◌++◌, length, Some, refl, ap, subst, inl, inr, arith}
+use Rattle.std.proofs.Common.{◌≡◌, ◌∙◌, sym, ℕ, ◌+◌, ◌-◌, ◌*◌, ◌^◌, ◌≤◌, ◌<◌, nat_le, nat_lt, true, List, [], ◌∷◌, ◌++◌, length, refl, ap, subst, inl, inr, arith}
 use Rattle.std.specs.Prelude.{slice_get}
 use Rattle.std.proofs.lemmas.List.{map-append}
 use Rattle.stream_arrival.specs.Arrivals.{has_times}
@@ -19,7 +19,7 @@ use Rattle.stream_report.specs.Seen.{with_arrival}
 use Rattle.stream_report.specs.StreamTables.{TableState}
 use Rattle.stream_report.specs.Views.{ViewState, after_all, start}
 use Rattle.stream_report.specs.WindowLines.{window_of}
-use Rattle.viewed_streams.specs.HeldWindows.{BeginIn, HeldWindowLaw, LieIn, known_then, options_then, window_entering, window_packets}
+use Rattle.viewed_streams.specs.HeldWindows.{BeginIn, HeldWindowLaw, OfRateWindow, OfWindow, known_then, window_entering, window_packets}
 use Rattle.viewed_streams.specs.StreamPackets.{Before, Followed, most_packets}
 use Rattle.viewed_streams.specs.TimedStreams.{Entering, InOrder, entering, entering_among, followed_by, view_by}
 use Rattle.viewed_streams.specs.TransportHighs.{IsFullWith, RateTransportLaw}
@@ -58,20 +58,15 @@ knows_then s s' e l = rw (l.packets, l.clocks) refl
 
 -- all of them arrive so, with a moment: what is so of a view of them one by one
 record Alike (request : RequestView) (a : Arrival) (before packets : List (List ℕ)) (window place : ℕ) (e e' : EntryState) : Type 0 where
-  there : slice_get (view_by (start request) (arriving_so a before)).table.entries place ≡ Some e
-  later : slice_get (view_by (start request) (arriving_so a before ++ arriving_so a packets)).table.entries place ≡ Some e'
-  many : length (arriving_so a before) + length (arriving_so a packets) ≡ length before + length packets
-  in_it : BeginIn (options_then request e (arriving_so a before)) window (length (arriving_so a before)) (arriving_so a packets)
+  window_is : OfWindow request (arriving_so a before) (arriving_so a packets) window place e e'
   xs_are : window_entering request (arriving_so a before) e (arriving_so a packets) ≡ entering a (window_packets request before e packets)
 
 so_both : (a : Arrival) (before packets : List (List ℕ)) → arriving_so a (before ++ packets) ≡ arriving_so a before ++ arriving_so a packets
 so_both a before packets = map-append (λ bytes. record { arrival = a; bytes = bytes }) before packets
 
 alike : (request : RequestView) (a : Arrival) (before packets : List (List ℕ)) (window place : ℕ) (e e' : EntryState) → (a ≡ Unknown → ⊥) → request.options.arrival ≡ a →
-    slice_get (after_all (start request) before).table.entries place ≡ Some e →
-    slice_get (after_all (start request) (before ++ packets)).table.entries place ≡ Some e' →
-    LieIn request window (length before) (length packets) → Alike request a before packets window place e e'
-alike request a before packets window place e e' known is there later all =
+    OfRateWindow request before packets window place e e' → Alike request a before packets window place e e'
+alike request a before packets window place e e' known is w =
     let f : Followed = request_followed request e in
     let same : Same a f = same_options request.options a known is in
     let itself : Like (start request) (start request) = record { options = refl; packets = refl; clocks = refl; named = refl; table = refl } in
@@ -81,12 +76,15 @@ alike request a before packets window place e e' known is there later all =
     let f_is : followed_by f (arriving_so a before) ≡ f = followed_is a f before same in
     let many : length (arriving_so a before) ≡ length before = many_arrive a before in
     record {
-      there = ap (λ (t : TableState). slice_get t.entries place) like.table ∙ there;
-      later = ap (λ (l : List Timed). slice_get (view_by (start request) l).table.entries place) (sym (so_both a before packets))
-          ∙ ap (λ (t : TableState). slice_get t.entries place) like_all.table ∙ later;
-      many = omega (arith, many, many_arrive a packets);
-      in_it = subst (λ (g : Followed). BeginIn g.options window (length (arriving_so a before)) (arriving_so a packets)) (sym f_is)
-          (subst (λ (i : ℕ). BeginIn request.options window i (arriving_so a packets)) (sym many) (begin_in request.options a window (length before) packets same all));
+      window_is = record {
+        few = omega (arith, many, many_arrive a packets, w.few);
+        begun = ap (λ (t : TableState). slice_get t.entries place) like.table ∙ w.begun;
+        come = ap (λ (l : List Timed). slice_get (view_by (start request) l).table.entries place) (sym (so_both a before packets))
+            ∙ ap (λ (t : TableState). slice_get t.entries place) like_all.table ∙ w.come;
+        other = w.other;
+        all = subst (λ (g : Followed). BeginIn g.options window (length (arriving_so a before)) (arriving_so a packets)) (sym f_is)
+            (subst (λ (i : ℕ). BeginIn request.options window i (arriving_so a packets)) (sym many) (begin_in request.options a window (length before) packets same w.all));
+      };
       xs_are = ap (λ (g : Followed). entering_among g (known_then (view_by (start request) (arriving_so a before)) e) (arriving_so a packets)) f_is
           ∙ ap (λ (b : Before). entering_among f b (arriving_so a packets)) (knows_then (after_all (start request) before) (view_by (start request) (arriving_so a before)) e like)
           ∙ entering_is a f (known_then (after_all (start request) before) e) packets same;
@@ -99,19 +97,17 @@ lines_known : (lines : ClockLines) → OnLines lines ≡ Unknown → ⊥
 lines_known lines h = cc
 
 -- where a byte enters they do
-rate_counted : (request : RequestView) (before packets : List (List ℕ)) (window place : ℕ) (e e' : EntryState) → length before + length packets < 2 ^ 64 →
-    slice_get (after_all (start request) before).table.entries place ≡ Some e →
-    slice_get (after_all (start request) (before ++ packets)).table.entries place ≡ Some e' → LieIn request window (length before) (length packets) →
+rate_counted : (request : RequestView) (before packets : List (List ℕ)) (window place : ℕ) (e e' : EntryState) → OfRateWindow request before packets window place e e' →
     HasPayload e.held (entering request.options.arrival (window_packets request before e packets)) →
     CountedOver e.tally e'.tally window e.held (entering request.options.arrival (window_packets request before e packets))
-rate_counted request before packets window place e e' few there later all has = by request.options.arrival refl
+rate_counted request before packets window place e e' w has = by request.options.arrival refl
   where
     those : (request.options.arrival ≡ Unknown → ⊥) → CountedOver e.tally e'.tally window e.held (entering request.options.arrival (window_packets request before e packets))
     those known =
         let a : Arrival = request.options.arrival in
-        let l = alike request a before packets window place e e' known refl there later all in
+        let l = alike request a before packets window place e e' known refl w in
         subst (λ (xs : List Entering). CountedOver e.tally e'.tally window e.held xs) l.xs_are
-        (window_counted request (arriving_so a before) (arriving_so a packets) window place e e' (omega (arith, l.many, few)) l.there l.later l.in_it)
+        (window_counted request (arriving_so a before) (arriving_so a packets) window place e e' l.window_is)
 
     by : (a : Arrival) → request.options.arrival ≡ a →
         CountedOver e.tally e'.tally window e.held (entering request.options.arrival (window_packets request before e packets))
@@ -122,19 +118,20 @@ rate_counted request before packets window place e e' few there later all has = 
     by (OnLines lines) is = those (λ h. lines_known lines (sym is ∙ h))
 
 pub held_window_law : HeldWindowLaw
-held_window_law request before packets window place e e' few there later other all pos has =
+held_window_law request before packets window place e e' w pos has =
     says_low e.tally e'.tally window e.held (entering request.options.arrival (window_packets request before e packets))
-    (rate_counted request before packets window place e e' few there later all has) other pos has
+    (rate_counted request before packets window place e e' w has) w.other pos has
 
 pub rate_high_law : RateHighLaw
-rate_high_law request before packets window place e e' few there later other all pos has =
+rate_high_law request before packets window place e e' w pos has =
     says_high e.tally e'.tally window e.held (entering request.options.arrival (window_packets request before e packets))
-    (rate_counted request before packets window place e e' few there later all has) other pos has
+    (rate_counted request before packets window place e e' w has) w.other pos has
 
 pub rate_transport_law : RateTransportLaw
-rate_transport_law request rate before packets window place e e' is pos few there later other told all some =
+rate_transport_law request rate before packets window place e e' w told is pos few some =
     let a : Arrival = AtRate rate in
-    let l = alike request a before packets window place e e' (rate_known rate) is there later all in
+    let l = alike request a before packets window place e e' (rate_known rate) is w in
     let order : InOrder rate (arriving_so a before ++ arriving_so a packets) = subst (λ (ps : List Timed). InOrder rate ps) (so_both a before packets) (rate_order_law rate (before ++ packets)) in
     subst (λ (xs : List Entering). IsFullWith e.held xs e'.tally.window_transport) l.xs_are
-    (ordered_transport request rate (arriving_so a before) (arriving_so a packets) window place e e' pos order (omega (arith, l.many, few)) l.there l.later other told l.in_it some)
+    (ordered_transport request rate (arriving_so a before) (arriving_so a packets) window place e e' l.window_is told pos order
+    (omega (arith, many_arrive a before, many_arrive a packets, few)) some)

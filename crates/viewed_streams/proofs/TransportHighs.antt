@@ -194,5 +194,5 @@ says_full t t' window h xs c other told pos rises some =
         ap (λ (k : Tally). k.window_transport) is ∙ window_transport_law t window v vs none ∙ ap (λ (l : List EnteredView). transport_after 0 l) same
 
 pub timed_transport_law : TimedTransportLaw
-timed_transport_law request before packets window place e e' few there later other told all pos rises some =
-    says_full e.tally e'.tally window e.held (window_entering request before e packets) (window_counted request before packets window place e e' few there later all) other told pos rises some
+timed_transport_law request before packets window place e e' w told pos rises some =
+    says_full e.tally e'.tally window e.held (window_entering request before e packets) (window_counted request before packets window place e e' w) w.other told pos rises some

@@ -34,14 +34,20 @@ BeginIn options window index (p ∷ packets) =
 abbrev pub options_then : RequestView → EntryState → List Timed → ViewOptions
 options_then request e before = (followed_by (followed request e) before).options
 
--- of a stream whose buffers have begun before a window's first packet, and whose last packet then lies in another window: once the packets of
--- the window have come, of which one of the stream carries payload, its line `held` has the main buffer's least fullness while they come
+-- of a stream whose buffers have begun before a window's first packet, and whose last packet then lies in another window: e once all packets
+-- before the window have come, e' once these of the window have too
+pub record OfWindow (request : RequestView) (before packets : List Timed) (window place : ℕ) (e e' : EntryState) : Type 0 where
+  pub few : length before + length packets < 2 ^ 64
+  pub begun : slice_get (view_by (start request) before).table.entries place ≡ Some e
+  pub come : slice_get (view_by (start request) (before ++ packets)).table.entries place ≡ Some e'
+  pub other : (e.tally.window == window) ≡ false
+  pub all : BeginIn (options_then request e before) window (length before) packets
+
+-- where one of these packets that is of the stream carries payload, its line `held` has the main buffer's least fullness while they come
 abbrev pub TimedWindowLaw : Type 0
-TimedWindowLaw = (request : RequestView) (before packets : List Timed) (window place : ℕ) (e e' : EntryState) → length before + length packets < 2 ^ 64 →
-    slice_get (view_by (start request) before).table.entries place ≡ Some e →
-    slice_get (view_by (start request) (before ++ packets)).table.entries place ≡ Some e' →
-    (e.tally.window == window) ≡ false → BeginIn (options_then request e before) window (length before) packets → 0 < e.held.rate →
-    HasPayload e.held (window_entering request before e packets) → SaysLow e'.tally e.held (window_entering request before e packets)
+TimedWindowLaw = (request : RequestView) (before packets : List Timed) (window place : ℕ) (e e' : EntryState) →
+    OfWindow request before packets window place e e' → 0 < e.held.rate → HasPayload e.held (window_entering request before e packets) →
+    SaysLow e'.tally e.held (window_entering request before e packets)
 
 -- in the window in which a stream's buffers begin its line says 0: nothing is in them before their first byte
 abbrev pub FirstWindowLaw : Type 0
@@ -59,9 +65,16 @@ window_packets request before e packets = seen_among (followed request e) (known
 abbrev pub LieIn : RequestView → ℕ → ℕ → ℕ → Type 0
 LieIn request window first count = (i : ℕ) → first ≤ i → i < first + count → window_of request.options i ≡ window
 
+-- the same of a stream and a window of packets that arrive so
+pub record OfRateWindow (request : RequestView) (before packets : List (List ℕ)) (window place : ℕ) (e e' : EntryState) : Type 0 where
+  pub few : length before + length packets < 2 ^ 64
+  pub begun : slice_get (after_all (start request) before).table.entries place ≡ Some e
+  pub come : slice_get (after_all (start request) (before ++ packets)).table.entries place ≡ Some e'
+  pub other : (e.tally.window == window) ≡ false
+  pub all : LieIn request window (length before) (length packets)
+
 abbrev pub HeldWindowLaw : Type 0
-HeldWindowLaw = (request : RequestView) (before packets : List (List ℕ)) (window place : ℕ) (e e' : EntryState) → length before + length packets < 2 ^ 64 →
-    slice_get (after_all (start request) before).table.entries place ≡ Some e → slice_get (after_all (start request) (before ++ packets)).table.entries place ≡ Some e' →
-    (e.tally.window == window) ≡ false → LieIn request window (length before) (length packets) → 0 < e.held.rate →
+HeldWindowLaw = (request : RequestView) (before packets : List (List ℕ)) (window place : ℕ) (e e' : EntryState) →
+    OfRateWindow request before packets window place e e' → 0 < e.held.rate →
     HasPayload e.held (entering request.options.arrival (window_packets request before e packets)) →
     SaysLow e'.tally e.held (entering request.options.arrival (window_packets request before e packets))

@@ -1,24 +1,22 @@
 -- The greatest that a line `held` says of a transport buffer: over the packets of a window, the greatest fullness of the buffer from their first
 -- byte that arrives on. What the buffer holds before that byte arrives may be more, and is not counted.
-use Rattle.std.specs.Prelude.{◌≡◌, ℕ, ◌+◌, ◌^◌, ◌<◌, ◌≤◌, ◌==◌, max, Bool, true, false, map, List, [], ◌∷◌, ◌++◌, length, slice_get, Some, All}
+use Rattle.std.specs.Prelude.{◌≡◌, ℕ, ◌+◌, ◌<◌, ◌≤◌, ◌==◌, max, Bool, true, map, List, [], ◌∷◌, ◌++◌, length, All}
 use Rattle.clock27.specs.Departure.{departures}
 use Rattle.clock27.specs.Fullness.{fullness}
 use Rattle.transport_buffer.specs.Laws.{Rises}
-use Rattle.stream_arrival.specs.declared.arrival.Arrival.TheVariants.{Unknown, AtRate}
+use Rattle.stream_arrival.specs.declared.arrival.Arrival.TheVariants.{AtRate}
 use Rattle.stream_buffers.specs.Held.{Held}
 use Rattle.stream_buffers.specs.Entering.{EnteredView}
 use Rattle.stream_view.specs.History.{arrivals_of}
 use Rattle.stream_times.specs.TimedPackets.{Timed}
 use Rattle.stream_report.specs.Choices.{RequestView}
 use Rattle.stream_report.specs.Entries.{EntryState}
-use Rattle.stream_report.specs.StreamTables.{TableState}
 use Rattle.stream_report.specs.Tallies.{in_window}
-use Rattle.stream_report.specs.Views.{after_all, start}
 use Rattle.stream_report.specs.declared.tally.Tally.{Tally}
-use Rattle.viewed_streams.specs.ClockedWindows.{report_tables, timed_in}
-use Rattle.viewed_streams.specs.HeldWindows.{BeginIn, LieIn, options_then, window_entering, window_packets}
+use Rattle.viewed_streams.specs.ClockedWindows.{OfClockedWindow}
+use Rattle.viewed_streams.specs.HeldWindows.{OfRateWindow, OfWindow, window_entering, window_packets}
 use Rattle.viewed_streams.specs.StreamPackets.{most_packets}
-use Rattle.viewed_streams.specs.TimedStreams.{Entering, after_entering, entered_by, entering, view_by}
+use Rattle.viewed_streams.specs.TimedStreams.{Entering, after_entering, entered_by, entering}
 use Rattle.viewed_streams.specs.WindowHighs.{IsGreatestFrom}
 use Rattle.viewed_streams.specs.WindowLows.{counted_each}
 
@@ -60,32 +58,22 @@ TransportWithoutLaw = (h : Held) (xs : List Entering) → transport_after 0 (ent
 
 -- of packets that arrive in any way in which no byte does before an earlier one
 abbrev pub TimedTransportLaw : Type 0
-TimedTransportLaw = (request : RequestView) (before packets : List Timed) (window place : ℕ) (e e' : EntryState) → length before + length packets < 2 ^ 64 →
-    slice_get (view_by (start request) before).table.entries place ≡ Some e →
-    slice_get (view_by (start request) (before ++ packets)).table.entries place ≡ Some e' →
-    (e.tally.window == window) ≡ false → (e'.tally.window == window) ≡ true →
-    BeginIn (options_then request e before) window (length before) packets → 0 < e.held.rate →
+TimedTransportLaw = (request : RequestView) (before packets : List Timed) (window place : ℕ) (e e' : EntryState) →
+    OfWindow request before packets window place e e' → (e'.tally.window == window) ≡ true → 0 < e.held.rate →
     Rises 0 (arrivals_of (after_entering e.held (window_entering request before e packets)).parts) → 0 < e'.tally.window_transport →
     IsFullWith e.held (window_entering request before e packets) e'.tally.window_transport
 
 -- so they arrive at a constant rate, in the first 2^40 bytes, after which none enters a buffer
 abbrev pub RateTransportLaw : Type 0
-RateTransportLaw = (request : RequestView) (rate : ℕ) (before packets : List (List ℕ)) (window place : ℕ) (e e' : EntryState) → request.options.arrival ≡ AtRate rate →
-    0 < rate → length before + length packets ≤ most_packets →
-    slice_get (after_all (start request) before).table.entries place ≡ Some e →
-    slice_get (after_all (start request) (before ++ packets)).table.entries place ≡ Some e' →
-    (e.tally.window == window) ≡ false → (e'.tally.window == window) ≡ true →
-    LieIn request window (length before) (length packets) → 0 < e'.tally.window_transport →
+RateTransportLaw = (request : RequestView) (rate : ℕ) (before packets : List (List ℕ)) (window place : ℕ) (e e' : EntryState) →
+    OfRateWindow request before packets window place e e' → (e'.tally.window == window) ≡ true → request.options.arrival ≡ AtRate rate → 0 < rate →
+    length before + length packets ≤ most_packets → 0 < e'.tally.window_transport →
     IsFullWith e.held (entering (AtRate rate) (window_packets request before e packets)) e'.tally.window_transport
 
 -- and by clock references, of packets of 188 bytes: the payload of a longer one could begin before the byte from which on it lies on another
 -- line, and all of it would arrive as on the line before, after packets that come later
 abbrev pub ClockedTransportLaw : Type 0
-ClockedTransportLaw = (request : RequestView) (packets : List (List ℕ)) (before now later : List Timed) (window place : ℕ) (t t' : TableState)
-    (e e' : EntryState) → request.options.arrival ≡ Unknown → All (λ bytes. length bytes ≡ 188) packets → length before + length now ≤ most_packets →
-    timed_in request packets ≡ before ++ (now ++ later) →
-    slice_get (report_tables request packets) (length before) ≡ Some t → slice_get t.entries place ≡ Some e →
-    slice_get (report_tables request packets) (length (before ++ now)) ≡ Some t' → slice_get t'.entries place ≡ Some e' →
-    (e.tally.window == window) ≡ false → (e'.tally.window == window) ≡ true →
-    BeginIn (options_then request e before) window (length before) now → 0 < e'.tally.window_transport →
+ClockedTransportLaw = (request : RequestView) (packets : List (List ℕ)) (before now later : List Timed) (window place : ℕ) (e e' : EntryState) →
+    OfClockedWindow request packets before now later window place e e' → (e'.tally.window == window) ≡ true →
+    All (λ bytes. length bytes ≡ 188) packets → length before + length now ≤ most_packets → 0 < e'.tally.window_transport →
     IsFullWith e.held (window_entering request before e now) e'.tally.window_transport

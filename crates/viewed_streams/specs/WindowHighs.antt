@@ -1,20 +1,17 @@
 -- The greatest that a line `held` says of a main buffer: over the packets of a window, the greatest fullness of the buffer from their first
 -- payload byte that enters it on. What the buffer holds before that byte enters may be more, and is not counted.
-use Rattle.std.specs.Prelude.{◌≡◌, ℕ, ◌+◌, ◌^◌, ◌<◌, ◌≤◌, ◌==◌, max, Bool, false, map, List, [], ◌∷◌, ◌++◌, length, slice_get, Some, All}
-use Rattle.stream_arrival.specs.declared.arrival.Arrival.TheVariants.{Unknown}
+use Rattle.std.specs.Prelude.{◌≡◌, ℕ, ◌<◌, ◌≤◌, max, Bool, map, List, [], ◌∷◌, ◌++◌, All}
 use Rattle.stream_buffers.specs.Held.{Held}
 use Rattle.stream_buffers.specs.Entering.{EnteredView}
 use Rattle.stream_view.specs.History.{Part, main_fullness, payload_left}
 use Rattle.stream_times.specs.TimedPackets.{Timed}
 use Rattle.stream_report.specs.Choices.{RequestView}
 use Rattle.stream_report.specs.Entries.{EntryState}
-use Rattle.stream_report.specs.StreamTables.{TableState}
-use Rattle.stream_report.specs.Views.{after_all, start}
 use Rattle.stream_report.specs.Tallies.{in_window}
 use Rattle.stream_report.specs.declared.tally.Tally.{Tally}
-use Rattle.viewed_streams.specs.ClockedWindows.{report_tables, timed_in}
-use Rattle.viewed_streams.specs.HeldWindows.{BeginIn, LieIn, options_then, window_entering, window_packets}
-use Rattle.viewed_streams.specs.TimedStreams.{Entering, after_entering, entered_by, entering, view_by}
+use Rattle.viewed_streams.specs.ClockedWindows.{OfClockedWindow}
+use Rattle.viewed_streams.specs.HeldWindows.{OfRateWindow, OfWindow, window_entering, window_packets}
+use Rattle.viewed_streams.specs.TimedStreams.{Entering, after_entering, entered_by, entering}
 use Rattle.viewed_streams.specs.WindowLows.{HasPayload, counted_each}
 
 -- 1. Packets of a window
@@ -72,26 +69,19 @@ HighWithoutLaw = (t : Tally) (window : ℕ) (h : Held) (xs : List Entering) (v :
 
 -- of packets that arrive in any way
 abbrev pub TimedHighLaw : Type 0
-TimedHighLaw = (request : RequestView) (before packets : List Timed) (window place : ℕ) (e e' : EntryState) → length before + length packets < 2 ^ 64 →
-    slice_get (view_by (start request) before).table.entries place ≡ Some e →
-    slice_get (view_by (start request) (before ++ packets)).table.entries place ≡ Some e' →
-    (e.tally.window == window) ≡ false → BeginIn (options_then request e before) window (length before) packets → 0 < e.held.rate →
-    HasPayload e.held (window_entering request before e packets) → IsHighWith e.held (window_entering request before e packets) e'.tally.window_main
+TimedHighLaw = (request : RequestView) (before packets : List Timed) (window place : ℕ) (e e' : EntryState) →
+    OfWindow request before packets window place e e' → 0 < e.held.rate → HasPayload e.held (window_entering request before e packets) →
+    IsHighWith e.held (window_entering request before e packets) e'.tally.window_main
 
 -- where all arrive alike, as at a constant rate
 abbrev pub RateHighLaw : Type 0
-RateHighLaw = (request : RequestView) (before packets : List (List ℕ)) (window place : ℕ) (e e' : EntryState) → length before + length packets < 2 ^ 64 →
-    slice_get (after_all (start request) before).table.entries place ≡ Some e →
-    slice_get (after_all (start request) (before ++ packets)).table.entries place ≡ Some e' →
-    (e.tally.window == window) ≡ false → LieIn request window (length before) (length packets) → 0 < e.held.rate →
+RateHighLaw = (request : RequestView) (before packets : List (List ℕ)) (window place : ℕ) (e e' : EntryState) →
+    OfRateWindow request before packets window place e e' → 0 < e.held.rate →
     HasPayload e.held (entering request.options.arrival (window_packets request before e packets)) →
     IsHighWith e.held (entering request.options.arrival (window_packets request before e packets)) e'.tally.window_main
 
 -- and by clock references
 abbrev pub ClockedHighLaw : Type 0
-ClockedHighLaw = (request : RequestView) (packets : List (List ℕ)) (before now later : List Timed) (window place : ℕ) (t t' : TableState)
-    (e e' : EntryState) → request.options.arrival ≡ Unknown → length packets < 2 ^ 64 → timed_in request packets ≡ before ++ (now ++ later) →
-    slice_get (report_tables request packets) (length before) ≡ Some t → slice_get t.entries place ≡ Some e →
-    slice_get (report_tables request packets) (length (before ++ now)) ≡ Some t' → slice_get t'.entries place ≡ Some e' →
-    (e.tally.window == window) ≡ false → BeginIn (options_then request e before) window (length before) now →
-    HasPayload e.held (window_entering request before e now) → IsHighWith e.held (window_entering request before e now) e'.tally.window_main
+ClockedHighLaw = (request : RequestView) (packets : List (List ℕ)) (before now later : List Timed) (window place : ℕ) (e e' : EntryState) →
+    OfClockedWindow request packets before now later window place e e' → HasPayload e.held (window_entering request before e now) →
+    IsHighWith e.held (window_entering request before e now) e'.tally.window_main
