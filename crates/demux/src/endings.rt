@@ -162,7 +162,8 @@ pub(crate) fn end_before_pointer<'a, A: Allocator + Clone>(
 }
 
 // Appends a payload to the bytes of the open unit; where that decides the unit, it is noted, and no bytes are left.
-// Whether it does.
+// Whether it does. It stays a call of its own: few packets decide a unit.
+#[inline(never)]
 #[tactic(auto, unfolding(crate::specs::Findings::found_if))]
 fn append_bytes<'a, A: Allocator + Clone>(
     alloc: &A,

@@ -162,14 +162,14 @@ pub(crate) fn take_copied<A: Allocator + Copy>(
     ensures err { OnErr result (states.new ≡ states.old) }
     ensures none { OnErr result (map finding_view found.new.items ≡ map finding_view found.old.items) }
 {
-    match read_packet(bytes) {
+    match &read_packet(bytes) {
         Err(error) => {
-            note_without_pid(index, What::BadPacket(error), found)?;
+            note_without_pid(index, What::BadPacket(*error), found)?;
             Ok(())
         }
         Ok(packet) => {
             let payload = copied(packet.payload);
-            take_read(states, index, bytes, &packet, false, payload, found)?;
+            take_read(states, index, bytes, packet, false, payload, found)?;
             Ok(())
         }
     }

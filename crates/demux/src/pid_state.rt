@@ -77,7 +77,9 @@ fn start_unit<'p, 'a: 'p, A: Allocator + Clone>(
     }
 }
 
-// A start, a scrambled packet or a wrong pointer_field, with the unit that is open before it.
+// A start, a scrambled packet or a wrong pointer_field, with the unit that is open before it. It stays a call of its own:
+// what it needs on the stack would else be made ready for each packet.
+#[inline(never)]
 fn start_with_open<'p, 'a: 'p, A: Allocator + Clone>(
     alloc: &A,
     place: Place,
@@ -100,7 +102,9 @@ fn start_with_open<'p, 'a: 'p, A: Allocator + Clone>(
     Ok(())
 }
 
-// A packet whose counter does not follow: the open unit is cut short, and the packet is read with none open.
+// A packet whose counter does not follow: the open unit is cut short, and the packet is read with none open. It stays a
+// call of its own, as `start_with_open` does.
+#[inline(never)]
 #[tactic(auto, unfolding(crate::specs::Findings::by_break, crate::specs::Machine::unbroken))]
 fn on_counter_break<'p, 'a: 'p, A: Allocator + Clone>(
     alloc: &A,

@@ -83,7 +83,8 @@ fn step_at<'p, 'a: 'p, A: Allocator + Copy>(
     state.step(&alloc, place, bytes, packet, payload, found)
 }
 
-// The first packet of a PID.
+// The first packet of a PID. It stays a call of its own: the new state would else be made ready for each packet.
+#[inline(never)]
 #[tactic(auto, using(crate::proofs::MapSteps::with_is_insert))]
 fn step_first<'p, 'a: 'p, A: Allocator + Copy>(
     states: &mut StatesByPid<A>,
