@@ -12,3 +12,4 @@ pub mod ShortReads
 pub mod FoundViews
 pub mod FoundSoFar
 pub mod LeastSizes
+pub mod HeadedUnits

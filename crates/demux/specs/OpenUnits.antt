@@ -1,5 +1,5 @@
 -- A section or a PES packet from its first byte on: what its bytes say, once they are enough.
-use Rattle.std.specs.Prelude.{◌≡◌, ◌<◌, ℕ, zero, suc, ◌+◌, ◌-◌, ◌*◌, ◌%◌, ◌==◌, nat_lt, Bool, true, false, if◌then◌else◌, List, [], ◌∷◌, ◌++◌, length, take, drop, slice_index, Option, Some, None, Result, Ok, Err}
+use Rattle.std.specs.Prelude.{◌≡◌, ◌<◌, ◌≤◌, ℕ, zero, suc, ◌+◌, ◌-◌, ◌*◌, ◌%◌, ◌==◌, nat_lt, Bool, true, false, if◌then◌else◌, List, [], ◌∷◌, ◌++◌, length, take, drop, slice_index, Option, Some, None, Result, Ok, Err}
 use Rattle.pes_packet.specs.Reading.{header_at}
 use Rattle.pes_packet.specs.declared.reading.PesHeader.{PesHeader}
 use Rattle.pes_packet.specs.declared.refusal.PesError.{PesError}
@@ -52,6 +52,16 @@ decided unit_kinds.Section bytes = of_section bytes (section_at bytes)
 abbrev pub IsUndecidedBelow : UnitKind → List ℕ → ℕ → Type 0
 IsUndecidedBelow kind bytes least = (more : List ℕ) → length (bytes ++ more) < least → decided kind (bytes ++ more) ≡ None
 
+-- the front of an open unit has the bytes of its header, if it is a PES packet whose header was read, and none otherwise
+abbrev pub IsFront : Option PesHeader → UnitKind → List ℕ → List ℕ → Type 0
+IsFront None kind front bytes = front ≡ []
+IsFront (Some header) kind front bytes = (kind ≡ unit_kinds.Pes) × (header_at bytes ≡ Ok (header, length front))
+
+-- the parts of an open unit: the header and the front, all bytes, and the least size at which they may decide it
+abbrev pub IsOpen : Option PesHeader → UnitKind → List ℕ → List ℕ → ℕ → Type 0
+IsOpen header kind front bytes least = (length bytes ≤ max_unbounded_pes) × ((least ≤ max_unbounded_pes + 1)
+    × (IsUndecidedBelow kind bytes least × IsFront header kind front bytes))
+
 abbrev pub is_stamped : Stamps → Bool
 is_stamped Absent = false
 is_stamped _ = true
@@ -72,6 +82,10 @@ about unit what = record { begun = Some (unit.packet, begun_kind unit.kind unit.
 -- what is found of it in the packet where it begins
 abbrev pub about_within : OpenUnit → WhatView → Found
 about_within unit what = record { begun = Some (unit.packet, begun_kind unit.kind unit.bytes); what = what; within = is_whole what }
+
+-- what is found of a PES packet with this header and body, with what comes after the packet where it began
+abbrev pub whole_pes : ℕ → PesHeader → List ℕ → Found
+whole_pes packet header body = record { begun = Some (packet, Pes (is_stamped header.stamps)); what = IsPes header false body; within = false }
 
 abbrev pub plain : WhatView → Found
 plain what = record { begun = None; what = what; within = false }

@@ -1,5 +1,5 @@
 //! Sections and PES packets that begin in a packet.
-ghost use Rattle.std.specs.Prelude.{◌≡◌, [], ◌∷◌, IfOk, OnOk, OnErr};
+ghost use Rattle.std.specs.Prelude.{◌≡◌, ◌≤◌, [], ◌∷◌, IfOk, OnOk, OnErr, length};
 ghost use Rattle.pes_packet.specs.Reading.{header_at};
 ghost use Rattle.demux.specs.OpenUnits as units;
 ghost use Rattle.demux.specs.Findings as findings;
@@ -9,16 +9,23 @@ use crate::finding::{Finding, Kind};
 use crate::open_unit::{OpenUnit, UnitKind};
 use crate::payload_bytes::{PayloadBytes, after, bytes_of};
 use crate::place::{Place, note, note_here, what_by};
-use crate::verdicts::{Verdict, decide, least_size};
+use crate::verdicts::{Verdict, decide, head_of};
 use pes_packet::{Stamps, read_header};
 use std::alloc::{AllocError, Allocator};
+
+/// Whether there is a PTS.
+pub(crate) fn is_stamped(stamps: Stamps) -> bool
+    ensures { result ≡ units.is_stamped stamps }
+{
+    !matches!(stamps, Stamps::Absent)
+}
 
 // Whether a PES header can be read that has a PTS.
 fn has_pts(bytes: &[u8]) -> bool
     ensures { result ≡ units.has_pts (header_at bytes.now) }
 {
     match read_header(bytes) {
-        Ok((header, _)) => !matches!(header.stamps, Stamps::Absent),
+        Ok((header, _)) => is_stamped(header.stamps),
         Err(_) => false,
     }
 }
@@ -92,7 +99,30 @@ fn with_room<A: Allocator>(alloc: A, bytes: &[u8], all: usize) -> Result<Vec<u8,
     Ok(held)
 }
 
-/// A PES packet that begins. Its bytes are given the room that they take in all, or some of it.
+// A PES packet that its first bytes do not decide. The others are given the room that they take in all, or some of it.
+fn open_pes<A: Allocator + Clone>(
+    alloc: &A,
+    packet: u64,
+    bytes: &[u8],
+) -> Result<OpenUnit<A>, AllocError>
+    requires { length bytes.now ≤ units.max_unbounded_pes }
+    ensures { IfOk result (λ unit. unit ≡ record { packet = packet; kind = UnitKind.Pes; bytes = bytes.now }) }
+{
+    let head = head_of(bytes);
+    let front = Vec::from_slice(alloc.clone()?, head.front)?;
+    let room = head.least.saturating_sub(front.len());
+    let bytes = with_room(alloc.clone()?, head.rest, room)?;
+    Ok(OpenUnit {
+        packet,
+        kind: UnitKind::Pes,
+        header: head.header,
+        front,
+        bytes,
+        least: head.least,
+    })
+}
+
+/// A PES packet that begins.
 #[tactic(auto, unfolding(crate::specs::Findings::undecided, crate::specs::Findings::unless_decided, crate::specs::Findings::found_within))]
 pub(crate) fn begin_pes<'p, 'a: 'p, A: Allocator + Clone>(
     alloc: &A,
@@ -112,16 +142,7 @@ pub(crate) fn begin_pes<'p, 'a: 'p, A: Allocator + Clone>(
 {
     let bytes = bytes_of(payload);
     match decide(UnitKind::Pes, bytes) {
-        None => {
-            let least = least_size(bytes);
-            let bytes = with_room(alloc.clone()?, bytes, least)?;
-            Ok(Some(OpenUnit {
-                packet: place.packet,
-                kind: UnitKind::Pes,
-                bytes,
-                least,
-            }))
-        }
+        None => Ok(Some(open_pes(alloc, place.packet, bytes)?)),
         Some(verdict) => {
             note_decided_here(alloc, place, UnitKind::Pes, payload, verdict, found)?;
             Ok(None)

@@ -1,5 +1,6 @@
 //! How an open unit ends, or goes on.
-ghost use Rattle.std.specs.Prelude.{◌≡◌, ◌≤◌, ◌++◌, IfOk, OnOk, OnErr, length, drop, false, is_some};
+ghost use Rattle.std.specs.Prelude.{◌≡◌, ◌≤◌, ◌+◌, ◌++◌, ◌∷◌, [], IfOk, OnOk, OnErr, length, take, drop, false, is_some};
+ghost use Rattle.std.specs.Prelude.{vec_capacity, vec_len};
 ghost use Rattle.pes_packet.specs.Reading.{header_at};
 ghost use Rattle.demux.specs.OpenUnits as units;
 ghost use Rattle.demux.specs.Roles.{Continuation};
@@ -8,13 +9,14 @@ ghost use Rattle.demux.specs.Machine.{next_open};
 ghost use Rattle.demux.specs.Views.{IsTruncated};
 ghost use Rattle.demux.specs.Shown.{Finds, KeepsFindings, has_span, what_view};
 
-use crate::beginnings::{begun_kind, note_decided};
-use crate::finding::{Finding, Part, What};
+use crate::beginnings::{begun_kind, is_stamped, note_decided};
+use crate::finding::{Finding, Kind, Part, What};
 use crate::open_unit::{OpenUnit, UnitKind};
 use crate::place::{Place, note};
 use crate::verdicts::decide;
-use pes_packet::read_header;
+use pes_packet::{PesHeader, read_header};
 use std::alloc::{AllocError, Allocator};
+use std::mem;
 
 // The bytes after the first `n`.
 fn rest_of(bytes: &[u8], n: usize) -> &[u8]
@@ -76,8 +78,9 @@ pub(crate) fn cut_short<'a, A: Allocator + Clone>(
     let Some(unit) = open_unit else {
         return Ok(());
     };
-    let begun = begun_kind(unit.kind, &unit.bytes);
-    let what = truncated(alloc, &unit.bytes)?;
+    let bytes = unit.joined(alloc, 0)?;
+    let begun = begun_kind(unit.kind, &bytes);
+    let what = What::Truncated(Part::Joined(bytes));
     note(place, Some((unit.packet, begun)), what, found)
 }
 
@@ -90,13 +93,17 @@ pub(crate) fn end_unit<'a, A: Allocator + Clone>(
     open_unit: &Option<OpenUnit<A>>,
     found: &mut Vec<Finding<'a, A>, A>,
 ) -> Result<(), AllocError>
-    ensures { OnOk result (Finds place found.old.items found.new.items (findings.ended unended open_unit.now)) }
+    ensures ok { OnOk result (Finds place found.old.items found.new.items (findings.ended unended open_unit.now)) }
+    ensures err { OnErr result (KeepsFindings found.old.items found.new.items) }
+    ensures one { vec_len found.new ≤ vec_len found.old + 1 }
+    ensures room { vec_capacity found.old ≤ vec_capacity found.new }
 {
     let Some(unit) = open_unit else {
         return Ok(());
     };
-    let begun = begun_kind(unit.kind, &unit.bytes);
-    let what = end_of(alloc, unended, unit.kind, &unit.bytes)?;
+    let bytes = unit.joined(alloc, 0)?;
+    let begun = begun_kind(unit.kind, &bytes);
+    let what = end_of(alloc, unended, unit.kind, &bytes)?;
     note(place, Some((unit.packet, begun)), what, found)
 }
 
@@ -114,7 +121,7 @@ fn end_section<'a, A: Allocator + Clone>(
         (findings.found_or_cut (units.appended unit.now before.now)
         (units.decided UnitKind.Section (unit.now.bytes ++ before.now)))) }
 {
-    let mut joined = Vec::from_slice(alloc.clone()?, &unit.bytes)?;
+    let mut joined = unit.joined(alloc, before.len())?;
     joined.extend_from_slice(before)?;
     let bytes = joined.as_slice();
     match decide(UnitKind::Section, bytes) {
@@ -162,8 +169,7 @@ pub(crate) fn end_before_pointer<'a, A: Allocator + Clone>(
 }
 
 // Appends a payload to the bytes of the open unit; where that decides the unit, it is noted, and no bytes are left.
-// Whether it does. It stays a call of its own: few packets decide a unit.
-#[inline(never)]
+// Whether it does.
 #[tactic(auto, unfolding(crate::specs::Findings::found_if))]
 fn append_bytes<'a, A: Allocator + Clone>(
     alloc: &A,
@@ -200,6 +206,116 @@ fn append_bytes<'a, A: Allocator + Clone>(
     }
 }
 
+// Notes a PES packet whose header was read: its body, of which there are to be `size` bytes, ends with this payload, and is
+// moved to the finding.
+fn note_whole<'a, A: Allocator + Clone>(
+    alloc: &A,
+    place: Place,
+    begun: (u64, PesHeader),
+    size: usize,
+    payload: &[u8],
+    body: &mut Vec<u8, A>,
+    found: &mut Vec<Finding<'a, A>, A>,
+) -> Result<(), AllocError>
+    ensures ok { OnOk result (Finds place found.old.items found.new.items
+        (units.whole_pes begun.0 begun.1 (take size (body.old.items ++ payload.now)) ∷ [])) }
+    ensures moved { OnOk result (body.new.items ≡ []) }
+    ensures err { OnErr result (body.new.items ≡ body.old.items) }
+    ensures none { OnErr result (KeepsFindings found.old.items found.new.items) }
+    ensures one { vec_len found.new ≤ vec_len found.old + 1 }
+    ensures room { vec_capacity found.old ≤ vec_capacity found.new }
+{
+    found.reserve(1)?;
+    let empty = Vec::new(alloc.clone()?);
+    body.extend_from_slice(payload)?;
+    let mut whole = mem::replace(body, empty);
+    whole.truncate(size);
+    let (packet, header) = begun;
+    found.push_reserved(Finding {
+        packet: place.packet,
+        pid: Some(place.pid),
+        begun: Some((packet, Kind::Pes(is_stamped(header.stamps)))),
+        what: What::Pes {
+            header,
+            unended: false,
+            body: Part::Joined(whole),
+        },
+    });
+    Ok(())
+}
+
+/// The open unit ends where a PES packet begins. One without a length is moved to the finding, and no bytes are left.
+#[tactic(auto, unfolding(crate::specs::Findings::ended))]
+pub(crate) fn end_moved<'a, A: Allocator + Clone>(
+    alloc: &A,
+    place: Place,
+    open_unit: &mut Option<OpenUnit<A>>,
+    found: &mut Vec<Finding<'a, A>, A>,
+) -> Result<(), AllocError>
+    ensures ok { OnOk result (Finds place found.old.items found.new.items (findings.ended false open_unit.old)) }
+    ensures err { OnErr result (open_unit.new ≡ open_unit.old) }
+    ensures none { OnErr result (KeepsFindings found.old.items found.new.items) }
+    ensures one { vec_len found.new ≤ vec_len found.old + 1 }
+    ensures room { vec_capacity found.old ≤ vec_capacity found.new }
+{
+    let Some(unit) = open_unit else {
+        return Ok(());
+    };
+    let Some(header) = unit.header else {
+        return end_unit(alloc, place, false, open_unit, found);
+    };
+    if header.len != 0 {
+        return end_unit(alloc, place, false, open_unit, found);
+    }
+    let begun = (unit.packet, header);
+    let size = unit.bytes.len();
+    note_whole(alloc, place, begun, size, &[], &mut unit.bytes, found)?;
+    unit.least = 0;
+    unit.header = None;
+    unit.front.clear();
+    Ok(())
+}
+
+// A payload that may decide the open unit; where it does, no bytes are left. Whether it does. It stays a call of its own:
+// few packets decide a unit.
+#[inline(never)]
+#[tactic(auto, unfolding(crate::specs::Findings::found_if), using(crate::proofs::HeadedUnits::whole_found, crate::proofs::HeadedUnits::whole_decided))]
+fn append_last<'a, A: Allocator + Clone>(
+    alloc: &A,
+    place: Place,
+    payload: &[u8],
+    unit: &mut OpenUnit<A>,
+    found: &mut Vec<Finding<'a, A>, A>,
+) -> Result<bool, AllocError>
+    ensures joined { IfOk result (λ decided. decided ≡ false → unit.new ≡ units.appended unit.old payload.now) }
+    ensures found { OnOk result (Finds place found.old.items found.new.items
+        (findings.decided_by (units.appended unit.old payload.now))) }
+    ensures decided { IfOk result (λ decided.
+        decided ≡ is_some (units.decided unit.old.kind (unit.old.bytes ++ payload.now))) }
+    ensures err { OnErr result (unit.new ≡ unit.old) }
+    ensures none { OnErr result (KeepsFindings found.old.items found.new.items) }
+{
+    if let Some(header) = unit.header {
+        let end = 6 + header.len as usize;
+        if header.len != 0 && end <= unit.front.len() + unit.bytes.len() + payload.len() {
+            let begun = (unit.packet, header);
+            let size = end.saturating_sub(unit.front.len());
+            note_whole(alloc, place, begun, size, payload, &mut unit.bytes, found)?;
+            unit.least = 0;
+            unit.header = None;
+            unit.front.clear();
+            return Ok(true);
+        }
+        unit.bytes = unit.joined(alloc, payload.len())?;
+        unit.header = None;
+        unit.front.clear();
+    }
+    unit.least = 0;
+    let packet = unit.packet;
+    let kind = unit.kind;
+    append_bytes(alloc, place, packet, kind, payload, &mut unit.bytes, found)
+}
+
 /// A payload that goes on with the open unit, where it stands; where that decides the unit, it is open no more.
 #[tactic(auto, unfolding(crate::specs::Findings::found_appended, crate::specs::Findings::found_if, crate::specs::Findings::undecided, crate::specs::Findings::unless_decided, crate::specs::Machine::next_open), using(crate::proofs::LeastSizes::still_open))]
 pub(crate) fn append_payload<'a, A: Allocator + Clone>(
@@ -218,19 +334,10 @@ pub(crate) fn append_payload<'a, A: Allocator + Clone>(
     let Some(unit) = open_unit else {
         return Ok(());
     };
-    if unit.bytes.len() + payload.len() < unit.least {
+    if unit.front.len() + unit.bytes.len() + payload.len() < unit.least {
         return unit.bytes.extend_from_slice(payload);
     }
-    unit.least = 0;
-    let decided = append_bytes(
-        alloc,
-        place,
-        unit.packet,
-        unit.kind,
-        payload,
-        &mut unit.bytes,
-        found,
-    )?;
+    let decided = append_last(alloc, place, payload, unit, found)?;
     if decided {
         *open_unit = None;
     }

@@ -162,7 +162,8 @@ pub(crate) fn take_copied<A: Allocator + Copy>(
     ensures err { OnErr result (states.new ≡ states.old) }
     ensures none { OnErr result (map finding_view found.new.items ≡ map finding_view found.old.items) }
 {
-    match &read_packet(bytes) {
+    let read = read_packet(bytes);
+    match &read {
         Err(error) => {
             note_without_pid(index, What::BadPacket(*error), found)?;
             Ok(())

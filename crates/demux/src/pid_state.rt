@@ -4,11 +4,11 @@ ghost use Rattle.demux.specs.Roles as roles;
 ghost use Rattle.demux.specs.Findings as findings;
 ghost use Rattle.demux.specs.Machine as machine;
 ghost use Rattle.demux.specs.Shown.{Finds, IsPayloadOf, KeepsJoined, AddsFindingsAt, KeepsFindings, entry_with};
-ghost use Rattle.demux.specs.Shown.{kept_by};
+ghost use Rattle.demux.specs.Shown.{is_borrowed, kept_by, payload_list};
 ghost use Rattle.demux.specs.Shown.{mark_broken, marked_findings, marked_role, role_borrowed, role_view};
 
 use crate::beginnings::begin_pes;
-use crate::endings::{append_payload, cut_short, end_before_pointer, end_unit};
+use crate::endings::{append_payload, cut_short, end_before_pointer, end_moved, end_unit};
 use crate::finding::{Finding, What};
 use crate::last::Last;
 use crate::marks::{Mark, keep, mark_of};
@@ -102,6 +102,35 @@ fn start_with_open<'p, 'a: 'p, A: Allocator + Clone>(
     Ok(())
 }
 
+// The start of a PES packet, with the unit that is open before it. It stays a call of its own, as `start_with_open` does.
+#[inline(never)]
+#[tactic(auto, unfolding(crate::specs::Findings::by_role, crate::specs::Machine::next_open))]
+fn start_pes<'p, 'a: 'p, A: Allocator + Clone>(
+    alloc: &A,
+    place: Place,
+    payload: PayloadBytes<'p, 'a>,
+    open_unit: &mut Option<OpenUnit<A>>,
+    found: &mut Vec<Finding<'a, A>, A>,
+) -> Result<(), AllocError>
+    requires { is_borrowed payload ≡ place.borrowed }
+    ensures found { OnOk result (Finds place found.old.items found.new.items
+        (findings.by_role place.packet (roles.PesStart (payload_list payload.entry)) open_unit.old)) }
+    ensures next { OnOk result (open_unit.new ≡ machine.next_open place.packet
+        (roles.PesStart (payload_list payload.entry)) open_unit.old) }
+    ensures err { OnErr result (open_unit.new ≡ open_unit.old) }
+    ensures none { OnErr result (KeepsFindings found.old.items found.new.items) }
+{
+    let mut begun = Vec::new(alloc.clone()?);
+    let next = begin_pes(alloc, place, payload, &mut begun)?;
+    found.reserve(begun.len() + 1)?;
+    end_moved(alloc, place, open_unit, found)?;
+    let Ok(()) = found.append(&mut begun) else {
+        unreachable!()
+    };
+    *open_unit = next;
+    Ok(())
+}
+
 // A packet whose counter does not follow: the open unit is cut short, and the packet is read with none open. It stays a
 // call of its own, as `start_with_open` does.
 #[inline(never)]
@@ -160,6 +189,7 @@ fn on_next_counter<'p, 'a: 'p, A: Allocator + Clone>(
             alloc, place, payload, open_unit, found,
         ),
         PayloadRole::NoPayload => Ok(()),
+        PayloadRole::PesStart(payload) => start_pes(alloc, place, payload, open_unit, found),
         _ => start_with_open(alloc, place, role, open_unit, found),
     }
 }

@@ -1,5 +1,5 @@
 //! Findings noted one by one.
-ghost use Rattle.std.specs.Prelude.{◌≡◌, ◌&&◌, false, [], ◌∷◌, IfOk, OnOk, OnErr};
+ghost use Rattle.std.specs.Prelude.{◌≡◌, ◌≤◌, ◌+◌, ◌&&◌, false, [], ◌∷◌, IfOk, OnOk, OnErr, vec_capacity, vec_len};
 ghost use Rattle.demux.specs.Shown.{Finds, KeepsFindings, has_span, is_borrowed, payload_list, what_of, what_view};
 ghost use Rattle.demux.specs.Views.{is_whole};
 
@@ -27,6 +27,8 @@ pub(crate) fn note<'a, A: Allocator>(
     ensures ok { OnOk result (Finds place found.old.items found.new.items
         (record { begun = begun; what = what_view what.entry; within = false } ∷ [])) }
     ensures err { OnErr result (KeepsFindings found.old.items found.new.items) }
+    ensures one { vec_len found.new ≤ vec_len found.old + 1 }
+    ensures room { vec_capacity found.old ≤ vec_capacity found.new }
 {
     found.push(Finding {
         packet: place.packet,

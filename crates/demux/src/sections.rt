@@ -81,6 +81,8 @@ pub(crate) fn sections<'p, 'a: 'p, A: Allocator + Clone>(
                 return Ok(Some(OpenUnit {
                     packet: place.packet,
                     kind: UnitKind::Section,
+                    header: None,
+                    front: Vec::new(alloc.clone()?),
                     bytes,
                     least: 0,
                 }));

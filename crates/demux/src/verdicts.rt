@@ -1,6 +1,6 @@
 //! What the bytes of a section or a PES packet decide.
-ghost use Rattle.std.specs.Prelude.{◌≡◌, ◌≤◌, ◌+◌, None, option_map, length};
-ghost use Rattle.demux.specs.OpenUnits.{IsUndecidedBelow, decided, max_unbounded_pes, of_header};
+ghost use Rattle.std.specs.Prelude.{◌≡◌, ◌≤◌, ◌+◌, ◌++◌, ◌==◌, if◌then◌else◌, None, option_map, length};
+ghost use Rattle.demux.specs.OpenUnits.{IsFront, IsUndecidedBelow, decided, max_unbounded_pes, of_header};
 ghost use Rattle.demux.specs.Shown.{what_of};
 
 use crate::open_unit::UnitKind;
@@ -78,20 +78,49 @@ fn by_header(header: PesHeader, size: usize, bytes: &[u8]) -> Option<Verdict>
     Some(Verdict::Pes(header, size, end))
 }
 
-/// The least size at which the bytes of a PES packet, with those that come after them, may decide it, if its header can be
-/// read.
-#[tactic(auto, using(crate::proofs::LeastSizes::least_unbounded, crate::proofs::LeastSizes::least_bounded))]
-pub(crate) fn least_size(bytes: &[u8]) -> usize
-    ensures waits { IsUndecidedBelow UnitKind.Pes bytes.now result }
+/// The first bytes of a PES packet: those of its header, if it can be read, and those after it.
+#[derive(Clone, Copy)]
+pub(crate) struct Head<'a> {
+    pub header: Option<PesHeader>,
+    pub front: &'a [u8],
+    pub rest: &'a [u8],
+    // the least size at which they may decide the packet, with those that come after them
+    pub least: usize,
+}
+
+// The size at which the bytes of a PES packet with this header decide it.
+fn least_size(header: PesHeader) -> usize
+    ensures size { result ≡ (if header.len == 0 then max_unbounded_pes + 1 else 6 + header.len) }
     ensures bound { result ≤ max_unbounded_pes + 1 }
 {
-    match read_header(bytes) {
-        Ok((header, _)) => {
-            if header.len == 0 {
-                return LONGEST + 1;
-            }
-            6 + header.len as usize
+    if header.len == 0 {
+        return LONGEST + 1;
+    }
+    6 + header.len as usize
+}
+
+/// The header at the front, apart from the other bytes.
+#[tactic(auto, using(crate::proofs::HeadedUnits::waits_for))]
+pub(crate) fn head_of(bytes: &[u8]) -> Head<'_>
+    ensures joined { result.front.now ++ result.rest.now ≡ bytes.now }
+    ensures front { IsFront result.header UnitKind.Pes result.front.now bytes.now }
+    ensures waits { IsUndecidedBelow UnitKind.Pes bytes.now result.least }
+    ensures bound { result.least ≤ max_unbounded_pes + 1 }
+{
+    if let Ok((header, size)) = read_header(bytes) {
+        if let Some((front, rest)) = bytes.split_at_checked(size) {
+            return Head {
+                header: Some(header),
+                front,
+                rest,
+                least: least_size(header),
+            };
         }
-        Err(_) => 0,
+    }
+    Head {
+        header: None,
+        front: &[],
+        rest: bytes,
+        least: 0,
     }
 }

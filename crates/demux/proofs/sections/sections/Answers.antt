@@ -1,4 +1,4 @@
-use Rattle.std.proofs.Common.{◌≡◌, ℕ, ◌∙◌, sym, ap, subst, rules, List, ◌∷◌, drop, Option, Some, None, true, false, option_map}
+use Rattle.std.proofs.Common.{◌≡◌, ℕ, ◌∙◌, sym, ap, subst, rules, List, ◌∷◌, ◌++◌, drop, Option, Some, None, true, false, option_map}
 use Rattle.demux.specs.OpenUnits as units
 use Rattle.demux.specs.declared.open_unit.UnitKind.TheVariants as unit_kinds
 use Rattle.demux.specs.Shown.{given, payload_list, what_of}
@@ -27,7 +27,8 @@ returns-in-None-clause-last g c =
     let fill : units.is_stuffing (payload_list c.loop-rest.rest) ≡ false = sym (ap units.is_stuffing c.bytes_of-bytes.ensures) ∙ sym c.is_stuffing.ensures ∙ c.if-is_stuffing.false in
     let none : units.decided unit_kinds.Section c.bytes_of-bytes.result.now ≡ None = search rules in
     let cut : units.decided unit_kinds.Section (payload_list c.loop-rest.rest) ≡ None = sym (ap (units.decided unit_kinds.Section) c.bytes_of-bytes.ensures) ∙ none in
-    let bytes : c.in_ok-bytes-in-None.bytes.items ≡ payload_list c.loop-rest.rest = c.in_ok-bytes-in-None.ensures.items ∙ c.bytes_of-bytes.ensures in
+    let bytes : c.new.result.items ++ c.in_ok-bytes-in-None.bytes.items ≡ payload_list c.loop-rest.rest =
+    ap (λ (front : List ℕ). front ++ c.in_ok-bytes-in-None.bytes.items) c.new.ensures.items ∙ c.in_ok-bytes-in-None.ensures.items ∙ c.bytes_of-bytes.ensures in
     ap (λ (x : List ℕ). Some (units.section c.args.place.packet x)) bytes
     ∙ ap (λ (o : Option (List ℕ)). option_map (units.section c.args.place.packet) o) (sym (cut_last (payload_list c.loop-rest.rest) fill cut) ∙ c.loop-rest.invariant.last)
 
