@@ -21,12 +21,15 @@ use ts_packet::Packet;
 
 type StatesByPid<A> = IndexMap<u16, PidState<A>, BuildHasherDefault<FoldHasher>, A>;
 
-/// The states of the PIDs. Most packets follow one of their own PID, so its index is kept.
+// For how many PIDs it is kept where their states stand.
+const PLACES: usize = 64;
+
+/// The states of the PIDs. Where those of the last ones stand is kept, so that few packets have to look for theirs.
 #[derive(Drop)]
 pub(crate) struct States<A: Allocator> {
     by_pid: StatesByPid<A>,
-    // where the state of the last packet's PID stands, if it stands there
-    last: usize,
+    // by the rest of a PID: where the state of the last one with that rest stands, if it stands there
+    places: [usize; PLACES],
 }
 
 // A contract sees the states, with their PIDs.
@@ -38,7 +41,7 @@ impl<A: Allocator> Model for States<A> {
     ghost view = { λ s. s.by_pid.entries };
 }
 
-// The index of a PID, looked for first where the last packet's is.
+// The index of a PID, looked for first where it may be.
 #[tactic(auto, using(crate::proofs::MapSteps::index_at, crate::proofs::MapSteps::value_at, crate::proofs::MapSteps::found_at))]
 fn index_of<A: Allocator>(states: &StatesByPid<A>, last: usize, pid: u16) -> Option<usize>
     ensures index { result ≡ position (nat_eq pid) (keys_of states.now.entries) }
@@ -161,7 +164,7 @@ impl<A: Allocator + Copy> States<A> {
     {
         States {
             by_pid: IndexMap::new(alloc),
-            last: 0,
+            places: [0; PLACES],
         }
     }
 
@@ -190,9 +193,10 @@ impl<A: Allocator + Copy> States<A> {
         ensures err { OnErr result (self.new ≡ self.old) }
         ensures none { OnErr result (KeepsFindings found.old.items found.new.items) }
     {
-        match index_of(&self.by_pid, self.last, place.pid) {
+        let rest = place.pid as usize % PLACES;
+        match index_of(&self.by_pid, self.places[rest], place.pid) {
             Some(index) => {
-                self.last = index;
+                self.places[rest] = index;
                 step_at(
                     &mut self.by_pid,
                     index,
