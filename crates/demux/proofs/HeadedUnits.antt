@@ -1,14 +1,14 @@
 -- Open PES packets whose header was read: their bytes after it.
 use Rattle.std.proofs.Common.{◌≡◌, ◌≢◌, ℕ, ◌+◌, ◌-◌, ◌≤◌, ◌<◌, ◌==◌, Bool, true, false, cond, List, [], ◌∷◌, ◌++◌, length, take, drop, Option, Some, None, Ok, refl, arith, ◌∙◌, ap, sym, subst, length-append, append_assoc}
-use Rattle.std.specs.Prelude.{nat_lt, is_some}
+use Rattle.std.specs.Prelude.{nat_lt}
 use Rattle.std.proofs.lemmas.Bool.Decides.{nat_tests}
 use Rattle.std.proofs.lemmas.List.{append-nil}
 use Rattle.pes_packet.specs.Reading.{header_at}
 use Rattle.pes_packet.specs.declared.reading.PesHeader.{PesHeader}
 use Rattle.pes_packet.proofs.LongerRead.{longer_is_read}
-use Rattle.demux.specs.OpenUnits.{UnitKind, OpenUnit, IsFront, IsOpen, IsUndecidedBelow, decided, of_header, of_pes, begun_kind, whole_pes, appended, max_unbounded_pes}
+use Rattle.demux.specs.OpenUnits.{UnitKind, OpenUnit, IsFront, IsOpen, IsUndecidedBelow, decided, of_header, of_pes, begun_kind, whole_pes, max_unbounded_pes}
 use Rattle.demux.specs.declared.open_unit.UnitKind.TheVariants as unit_kinds
-use Rattle.demux.specs.Views.{Found, WhatView, IsPes}
+use Rattle.demux.specs.Views.{IsPes}
 use Rattle.demux.specs.Findings.{ended, decided_by, found_if}
 use Rattle.demux.proofs.LeastSizes.{least_by, not_zero}
 

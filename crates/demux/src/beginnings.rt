@@ -1,5 +1,5 @@
 //! Sections and PES packets that begin in a packet.
-ghost use Rattle.std.specs.Prelude.{◌≡◌, ◌≤◌, [], ◌∷◌, IfOk, OnOk, OnErr, length};
+ghost use Rattle.std.specs.Prelude.{◌≡◌, ◌++◌, [], ◌∷◌, IfOk, OnOk, OnErr};
 ghost use Rattle.pes_packet.specs.Reading.{header_at};
 ghost use Rattle.demux.specs.OpenUnits as units;
 ghost use Rattle.demux.specs.Findings as findings;
@@ -9,7 +9,7 @@ use crate::finding::{Finding, Kind};
 use crate::open_unit::{OpenUnit, UnitKind};
 use crate::payload_bytes::{PayloadBytes, after, bytes_of};
 use crate::place::{Place, note, note_here, what_by};
-use crate::verdicts::{Verdict, decide, head_of};
+use crate::verdicts::{Head, Verdict, decide_first, head_of};
 use pes_packet::{Stamps, read_header};
 use std::alloc::{AllocError, Allocator};
 
@@ -99,16 +99,20 @@ fn with_room<A: Allocator>(alloc: A, bytes: &[u8], all: usize) -> Result<Vec<u8,
     Ok(held)
 }
 
-// A PES packet that its first bytes do not decide. The others are given the room that they take in all, or some of it.
+// A PES packet that its first bytes do not decide. Those after the header are given the room that they take in all, or some
+// of it.
 fn open_pes<A: Allocator + Clone>(
     alloc: &A,
     packet: u64,
-    bytes: &[u8],
+    head: Head<'_>,
 ) -> Result<OpenUnit<A>, AllocError>
-    requires { length bytes.now ≤ units.max_unbounded_pes }
-    ensures { IfOk result (λ unit. unit ≡ record { packet = packet; kind = UnitKind.Pes; bytes = bytes.now }) }
+    requires { units.IsOpen head.header UnitKind.Pes head.front.now (head.front.now ++ head.rest.now) head.least }
+    ensures { IfOk result (λ unit. unit ≡ record {
+      packet = packet;
+      kind = UnitKind.Pes;
+      bytes = head.entry.front.now ++ head.entry.rest.now;
+    }) }
 {
-    let head = head_of(bytes);
     let front = Vec::from_slice(alloc.clone()?, head.front)?;
     let room = head.least.saturating_sub(front.len());
     let bytes = with_room(alloc.clone()?, head.rest, room)?;
@@ -141,8 +145,9 @@ pub(crate) fn begin_pes<'p, 'a: 'p, A: Allocator + Clone>(
         (record { packet = place.packet; kind = UnitKind.Pes; bytes = payload_list payload.entry })) }
 {
     let bytes = bytes_of(payload);
-    match decide(UnitKind::Pes, bytes) {
-        None => Ok(Some(open_pes(alloc, place.packet, bytes)?)),
+    let head = head_of(bytes);
+    match decide_first(head, bytes) {
+        None => Ok(Some(open_pes(alloc, place.packet, head)?)),
         Some(verdict) => {
             note_decided_here(alloc, place, UnitKind::Pes, payload, verdict, found)?;
             Ok(None)

@@ -124,3 +124,16 @@ pub(crate) fn head_of(bytes: &[u8]) -> Head<'_>
         least: 0,
     }
 }
+
+/// What the first bytes of a PES packet decide, whose header stands apart.
+#[tactic(auto, unfolding(crate::specs::OpenUnits::decided, crate::specs::OpenUnits::of_pes))]
+pub(crate) fn decide_first(head: Head<'_>, bytes: &[u8]) -> Option<Verdict>
+    requires { IsFront head.header UnitKind.Pes head.front.now bytes.now }
+    ensures decides { option_map (what_of bytes.now) result ≡ decided UnitKind.Pes bytes.now }
+    ensures bounded { result ≡ None → length bytes.now ≤ max_unbounded_pes }
+{
+    match head.header {
+        Some(header) => by_header(header, head.front.len(), bytes),
+        None => decide_pes(bytes),
+    }
+}
