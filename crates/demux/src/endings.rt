@@ -230,6 +230,7 @@ fn note_whole<'a, A: Allocator + Clone>(
     body.extend_from_slice(payload)?;
     let mut whole = mem::replace(body, empty);
     whole.truncate(size);
+    whole.shrink_to_fit();
     let (packet, header) = begun;
     found.push_reserved(Finding {
         packet: place.packet,
