@@ -1,9 +1,12 @@
--- Counts of a PID that was seen before.
-use Rattle.std.proofs.Common.{◌≡◌, ℕ, Bool, List, nat_eq, is_some, true≢false, Option, Some, None, refl, sym, ap, ◌∙◌}
+-- Counts of a PID that was seen before, and where they stand.
+use Rattle.std.proofs.Common.{◌≡◌, ℕ, Bool, List, nat_eq, is_some, true, true≢false, Option, Some, None, refl, sym, ap, ◌∙◌}
 use Rattle.std.specs.Prelude.{position, slice_get}
 use Rattle.std.specs.Map.{keys_of, lookup, values_of}
 use Rattle.indexmap.specs.IndexMap.{set_value_at}
-use Rattle.indexmap.proofs.MapLemmas.{Found-position, some_index, insert_entry-first}
+use Rattle.indexmap.proofs.MapLemmas.{Found-position, index-first, some_index, insert_entry-first}
+use Rattle.indexmap.proofs.RemoveLemmas.{own_first}
+use Rattle.std.specs.Cmp.{nat_eq_equiv}
+use Rattle.std.specs.List.{IsDistinct}
 use Rattle.monitor.specs.declared.counts.PacketCounts.{PacketCounts}
 use Rattle.monitor.specs.Counts.{one_more_packet, packet_counted, packet_counts_of, packet_counts_or_zero}
 
@@ -22,3 +25,11 @@ counts_there pid i entries p = sym (Found-position (nat_eq pid) entries i p).val
     by : (o : Option PacketCounts) → lookup (nat_eq pid) entries ≡ o → lookup (nat_eq pid) entries ≡ Some (packet_counts_of pid entries)
     by (Some counts) e = e ∙ ap (λ (o : Option PacketCounts). Some (packet_counts_or_zero o)) (sym e)
     by None e = absurd (true≢false (sym (ap is_some p) ∙ some_index (nat_eq pid) entries ∙ ap is_some e))
+
+-- a PID has its index where it stands
+pub index_at : (pid i : ℕ) (entries : List (ℕ × PacketCounts)) (counts : PacketCounts) → IsDistinct nat_eq (keys_of entries) → slice_get entries i ≡ Some (pid, counts) →
+    position (nat_eq pid) (keys_of entries) ≡ Some i
+index_at pid i entries counts unique at = index-first (nat_eq pid) entries i (own_first nat_eq nat_eq_equiv entries i pid counts unique at)
+
+pub found_at : (pid i : ℕ) (entries : List (ℕ × PacketCounts)) → position (nat_eq pid) (keys_of entries) ≡ Some i → is_some (lookup (nat_eq pid) entries) ≡ true
+found_at pid i entries p = sym (some_index (nat_eq pid) entries) ∙ ap is_some p

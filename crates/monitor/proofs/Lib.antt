@@ -4,6 +4,7 @@ pub mod SortedFaults
 pub mod SameOrder
 pub mod Ties
 pub mod FaultOrder
+pub mod ReportParts
 pub mod RisingLists
 pub mod PacketSteps
 pub mod FindingSteps

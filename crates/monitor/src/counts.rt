@@ -1,5 +1,6 @@
 //! What is counted for each PID.
-ghost use Rattle.std.specs.Prelude.{◌≡◌, ◌<◌, OnOk, Some, slice_get};
+ghost use Rattle.std.specs.Prelude.{◌≡◌, ◌<◌, IfSome, OnOk, Some, is_some, nat_eq, position, slice_get};
+ghost use Rattle.std.specs.Map.{keys_of, lookup};
 ghost use Rattle.indexmap.specs.IndexMap.{index_map_len, set_value_at, values};
 ghost use Rattle.monitor.specs.Counts.{duplicate_counted, finding_counts_of, one_more_packet, scrambled_counted, packet_counted};
 
@@ -49,17 +50,41 @@ fn count_at<A: Allocator>(packet_counts: &mut PacketCountsByPid<A>, index: usize
     }
 }
 
-/// Counts a packet of a PID. The counts stop at 2^64 - 1.
+// The index of a PID, looked for first where it may be.
+#[tactic(auto, using(crate::proofs::CountedPids::index_at, crate::proofs::CountedPids::found_at))]
+fn index_of<A: Allocator>(
+    packet_counts: &PacketCountsByPid<A>,
+    place: usize,
+    pid: u16,
+) -> Option<usize>
+    ensures index { result ≡ position (nat_eq pid) (keys_of packet_counts.now.entries) }
+    ensures within { IfSome result (λ i. i < index_map_len packet_counts.now) }
+    ensures found { is_some result ≡ is_some (lookup (nat_eq pid) packet_counts.now.entries) }
+{
+    if place < packet_counts.len() {
+        if let Some((at, _)) = packet_counts.get_index(place) {
+            if *at == pid {
+                return Some(place);
+            }
+        }
+    }
+    packet_counts.get_index_of(&pid)
+}
+
+/// Counts a packet of a PID. The counts stop at 2^64 - 1. Those of the PID are looked for first at `place`, where they then
+/// stand.
 #[tactic(auto, unfolding(crate::specs::Counts::packet_counts_or_zero, crate::specs::Counts::one_more, crate::specs::Counts::one_more_packet), using(crate::proofs::CountedPids::counted_there, crate::proofs::CountedPids::counts_there))]
 pub(crate) fn count_packet<A: Allocator + Clone>(
     packet_counts: &mut PacketCountsByPid<A>,
+    place: &mut usize,
     pid: u16,
     start: bool,
 ) -> Result<(), AllocError>
     ensures { OnOk result (packet_counts.new.entries ≡ packet_counted packet_counts.old.entries pid start) }
 {
-    match packet_counts.get_index_of(&pid) {
+    match index_of(packet_counts, *place, pid) {
         Some(index) => {
+            *place = index;
             count_at(packet_counts, index, start);
             Ok(())
         }

@@ -22,7 +22,7 @@ use std::marker::Model;
 #[derive(Drop)]
 pub(crate) struct FindingWatch<A: Allocator> {
     pub faults: Vec<StreamFault, A>,
-    pub finding_counts: FindingCountsByPid<A>,
+    finding_counts: FindingCountsByPid<A>,
     pub pat: TableWatch<A>,
     pub pmt: ProgramMapWatch<A>,
     pub nit: TableWatch<A>,
@@ -69,6 +69,13 @@ impl<A: Allocator + Copy> FindingWatch<A> {
             tdt: TableWatch::new(alloc, 0x14, 0x70, 30_000 * rate),
             pts: RecurrenceWatch::new(alloc, 700 * rate),
         })
+    }
+
+    /// The counts of each PID.
+    pub fn counts(&self) -> &FindingCountsByPid<A>
+        ensures { result.now.entries ≡ self.now.finding_counts }
+    {
+        &self.finding_counts
     }
 
     // A section that was found at a packet began on a PID.

@@ -13,7 +13,7 @@ use crate::finding_watch::FindingWatch;
 use crate::packet_watch::PacketWatch;
 use crate::reports::{PidCounts, Report, ReportError, append_late, in_order};
 use clock27::Rate;
-use demux::Demux;
+use demux::{Demux, Finding};
 use std::alloc::{AllocError, Allocator, Global};
 use std::marker::Model;
 use ts_packet::read_packet;
@@ -126,13 +126,17 @@ impl<A: Allocator + Copy> Monitor<A> {
         })
     }
 
-    // The next packet.
-    fn take_next(&mut self, bytes: &[u8; 188]) -> Result<(), AllocError>
+    // The next packet. What is found in it goes to the room of what was found in others.
+    fn take_next<'a>(
+        &mut self,
+        bytes: &'a [u8; 188],
+        found: &mut Vec<Finding<'a, A>, A>,
+    ) -> Result<(), AllocError>
         ensures { OnOk result (self.new ≡ packet_taken self.old bytes.now) }
     {
         let read = read_packet(bytes);
-        let mut found = Vec::new(self.alloc);
-        let Ok(()) = self.demux.take_read(bytes, &read, &mut found) else {
+        found.clear();
+        let Ok(()) = self.demux.take_read(bytes, &read, found) else {
             return Err(AllocError);
         };
         self.found.note_all(found.as_slice())?;
@@ -145,7 +149,8 @@ impl<A: Allocator + Copy> Monitor<A> {
     pub fn take(&mut self, bytes: &[u8; 188]) -> Result<(), AllocError>
         ensures { OnOk result (Takes (bytes.now ∷ []) self.old self.new) }
     {
-        self.take_next(bytes)
+        let mut found = Vec::new(self.alloc);
+        self.take_next(bytes, &mut found)
     }
 
     /// The next packets.
@@ -153,8 +158,9 @@ impl<A: Allocator + Copy> Monitor<A> {
     pub fn take_all(&mut self, packets: &[[u8; 188]]) -> Result<(), AllocError>
         ensures { OnOk result (Takes packets.now self.old self.new) }
     {
+        let mut found = Vec::new(self.alloc);
         for packet in packets {
-            self.take_next(packet)?;
+            self.take_next(packet, &mut found)?;
         }
         Ok(())
     }
@@ -177,11 +183,7 @@ impl<A: Allocator + Copy> Monitor<A> {
     fn report(&self) -> Result<Report<A>, AllocError>
         ensures { IfOk result (λ report. report ≡ report_of self.now) }
     {
-        let pids = counts_of(
-            self.alloc,
-            &self.seen.packet_counts,
-            &self.found.finding_counts,
-        )?;
+        let pids = counts_of(self.alloc, self.seen.counts(), self.found.counts())?;
         let faults = ordered_faults(self.alloc, self.packets, &self.seen, &self.found)?;
         Ok(Report::new(self.packets, pids, faults))
     }

@@ -12,11 +12,16 @@ use std::alloc::{AllocError, Allocator};
 use std::marker::Model;
 use ts_packet::{Packet, PacketError, has_pcr};
 
+// For how many PIDs it is kept where their counts stand.
+const PLACES: usize = 64;
+
 /// The faults of packets that are refused or in error, the counts of each PID, and the program clock references.
 #[derive(Drop)]
 pub(crate) struct PacketWatch<A: Allocator> {
     pub faults: Vec<StreamFault, A>,
-    pub packet_counts: PacketCountsByPid<A>,
+    packet_counts: PacketCountsByPid<A>,
+    // by the rest of a PID: where the counts of the last one with that rest stand, if they stand there
+    places: [usize; PLACES],
     pub pcr: RecurrenceWatch<A>,
 }
 
@@ -48,8 +53,16 @@ impl<A: Allocator + Copy> PacketWatch<A> {
         PacketWatch {
             faults: Vec::new(alloc),
             packet_counts: IndexMap::new(alloc),
+            places: [0; PLACES],
             pcr: RecurrenceWatch::new(alloc, limit_times_rate),
         }
+    }
+
+    /// The counts of each PID.
+    pub fn counts(&self) -> &PacketCountsByPid<A>
+        ensures { result.now.entries ≡ self.now.packet_counts }
+    {
+        &self.packet_counts
     }
 
     /// A rule fails at a packet.
@@ -78,6 +91,7 @@ impl<A: Allocator + Copy> PacketWatch<A> {
         let pid = packet.header.pid;
         count_packet(
             &mut self.packet_counts,
+            &mut self.places[pid as usize % PLACES],
             pid,
             packet.header.payload_unit_start_indicator,
         )?;
