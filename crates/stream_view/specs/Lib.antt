@@ -6,4 +6,5 @@ pub mod ConstantRate
 pub mod Laws
 pub mod Refusal
 pub mod WatchedQueues
+pub mod EvenBytes
 pub mod SystemViewed

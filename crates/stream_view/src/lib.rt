@@ -16,6 +16,7 @@
 
 mod arrival;
 mod buffers;
+mod even_bytes;
 pub mod laws;
 mod main_watch;
 mod row_seen;

@@ -1,18 +1,22 @@
 //! The two buffers of a program's tables.
-ghost use Rattle.std.specs.Prelude.{◌≡◌, ℕ, List, [], ◌++◌, ◌+◌, ◌*◌, ◌<◌, ◌≤◌, ◌^◌, OnOk};
+ghost use Rattle.std.specs.Prelude.{◌≡◌, ℕ, List, [], ◌++◌, ◌+◌, ◌*◌, ◌<◌, ◌≤◌, ◌^◌, max, IfSome, OnOk};
+ghost use Rattle.std.specs.Option.{option_to_list};
 ghost use Rattle.packet_arrival.specs.Rows.{IsTimed, times_of};
 ghost use Rattle.decoder_buffers.specs.Queues.{bytes_within};
+ghost use Rattle.stream_view.specs.EvenBytes.{AreEven, PassEvenly};
 ghost use Rattle.stream_view.specs.SystemViewed.{IsSystemViewOf};
 ghost use Rattle.stream_view.specs.WatchedQueues.{all_entered, empty_queue, ended_by, left_at};
 
+use crate::even_bytes::{EvenBytes, even_bytes};
 use crate::system_buffers::{EndedExcesses, SYSTEM_BYTES, SystemView, TABLE_TRANSPORT_BYTES};
 use crate::watched_queue::WatchedQueue;
 use packet_arrival::Row;
 use std::alloc::AllocError;
+use transport_buffer::Excess;
 
-// The bytes of a row arrive and go from one buffer into the other; `before` have arrived before them. The excesses that have
+// The bytes of a row arrive one by one and go from one buffer into the other; `before` have arrived before them. The excesses that have
 // ended are appended.
-fn pass_row(
+fn pass_bytes(
     transport: &mut WatchedQueue,
     system: &mut WatchedQueue,
     before: u64,
@@ -47,6 +51,86 @@ fn pass_row(
         system.arrive(left, &mut ended.system)?;
     }
     Ok(())
+}
+
+// The bytes of a row as they come, as they go from one buffer into the other, and as they leave, if they do so at an even pace and each finds
+// room in both.
+fn ways_of(
+    transport: &WatchedQueue,
+    system: &WatchedQueue,
+    row: &Row,
+) -> Option<(EvenBytes, EvenBytes, EvenBytes)>
+    requires step { transport.now.queue.step ≤ 2 ^ 33 }
+    requires system_step { system.now.queue.step ≤ 2 ^ 33 }
+    requires timed { IsTimed row.now }
+    requires count { row.now.bytes ≤ 2 ^ 40 }
+    requires last { transport.now.queue.last < 2 ^ 99 }
+    requires left { system.now.queue.last < 2 ^ 99 }
+    ensures even { IfSome result (λ ways. AreEven ways.0 (times_of row.now)) }
+    ensures first { IfSome result (λ ways. PassEvenly transport.now ways.0 ways.1) }
+    ensures second { IfSome result (λ ways. PassEvenly system.now ways.1 ways.2) }
+    ensures soon { IfSome result (λ ways.
+        ways.1.last ≤ max (2 ^ 87) transport.now.queue.last + row.now.bytes * transport.now.queue.step) }
+    ensures system_soon { IfSome result (λ ways.
+        ways.2.last ≤ max ways.1.last system.now.queue.last + row.now.bytes * system.now.queue.step) }
+    ensures later { IfSome result (λ ways. transport.now.queue.last ≤ ways.1.last) }
+    ensures system_later { IfSome result (λ ways. system.now.queue.last ≤ ways.2.last) }
+{
+    let come = even_bytes(row)?;
+    let between = transport.leaving(&come)?;
+    let left = system.leaving(&between)?;
+    Some((come, between, left))
+}
+
+// Appends an excess, if one has ended.
+fn append(ended: &mut Vec<Excess>, excess: Option<Excess>) -> Result<(), AllocError>
+    ensures { OnOk result (ended.new.items ≡ ended.old.items ++ option_to_list excess) }
+{
+    if let Some(excess) = excess {
+        ended.push(excess)?;
+    }
+    Ok(())
+}
+
+// The bytes of a row arrive and go from one buffer into the other; `before` have arrived before them. The excesses that have
+// ended are appended.
+fn pass_row(
+    transport: &mut WatchedQueue,
+    system: &mut WatchedQueue,
+    before: u64,
+    row: &Row,
+    ended: &mut EndedExcesses,
+) -> Result<(), AllocError>
+    requires some { 0 < transport.old.queue.step }
+    requires system_some { 0 < system.old.queue.step }
+    requires step { transport.old.queue.step ≤ 2 ^ 33 }
+    requires system_step { system.old.queue.step ≤ 2 ^ 33 }
+    requires timed { IsTimed row.now }
+    requires count { before + row.now.bytes ≤ 2 ^ 40 }
+    requires last { transport.old.queue.last ≤ 2 ^ 87 + before * 2 ^ 33 }
+    requires left { system.old.queue.last ≤ 2 ^ 87 + before * 2 ^ 34 }
+    requires longest_residence { transport.old.queue.longest_residence ≤ transport.old.queue.last }
+    requires inner { system.old.queue.longest_residence ≤ system.old.queue.last }
+    ensures transport { OnOk result (transport.new ≡ all_entered transport.old (times_of row.now)) }
+    ensures system { OnOk result (system.new ≡ all_entered system.old (left_at transport.old (times_of row.now))) }
+    ensures transport_ended { OnOk result (ended.new.transport.items
+        ≡ ended.old.transport.items ++ ended_by transport.old (times_of row.now)) }
+    ensures system_ended { OnOk result (ended.new.system.items
+        ≡ ended.old.system.items ++ ended_by system.old (left_at transport.old (times_of row.now))) }
+    ensures last { transport.new.queue.last ≤ 2 ^ 87 + (before + row.now.bytes) * 2 ^ 33 }
+    ensures left { system.new.queue.last ≤ 2 ^ 87 + (before + row.now.bytes) * 2 ^ 34 }
+    ensures longest_residence { transport.new.queue.longest_residence ≤ transport.new.queue.last }
+    ensures inner { system.new.queue.longest_residence ≤ system.new.queue.last }
+    ensures step { transport.new.queue.step ≡ transport.old.queue.step }
+    ensures system_step { system.new.queue.step ≡ system.old.queue.step }
+{
+    let Some((come, between, left)) = ways_of(transport, system, row) else {
+        return pass_bytes(transport, system, before, row, ended);
+    };
+    let first = transport.pass(&come, &between);
+    let second = system.pass(&between, &left);
+    append(&mut ended.transport, first)?;
+    append(&mut ended.system, second)
 }
 
 impl SystemView {

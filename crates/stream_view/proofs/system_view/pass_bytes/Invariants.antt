@@ -1,7 +1,7 @@
 use Rattle.std.proofs.Common.{◌≡◌, ◌+◌, ◌-◌, ◌*◌, ◌^◌, ◌≤◌, ◌++◌}
 use Rattle.packet_arrival.specs.Rows.{times_of, times_in_row}
 use Rattle.stream_view.specs.WatchedQueues.{all_entered, ended_by, left_at}
-use Rattle.stream_view.proofs.system_view.pass_row.Given as goal
+use Rattle.stream_view.proofs.system_view.pass_bytes.Given as goal
 
 abbrev pub invariant-loop-j : goal.invariant-loop-j
 invariant-loop-j l = record {
