@@ -19,14 +19,14 @@ pub struct PidCounts {
 /// Counts by PID, in the order in which the PIDs were first seen.
 pub type PidEntries<A> = IndexMap<u16, PidCounts, BuildHasherDefault<FoldHasher>, A>;
 
-/// The window of the last packet, and its counts. There is room for each PID once, whatever the number of windows. Most
-/// packets follow one of their own PID, so its index is kept.
+/// The window of the last packet, and its counts. There is room for each PID once, whatever the number of windows. PIDs come again and again,
+/// so the index of the last one is kept, of each 64 PIDs.
 #[derive(Drop)]
 pub struct PidWindow<A: Allocator> {
     number: u64,
     counts: PidEntries<A>,
-    // where the counts of the last packet's PID stand, if they stand there
-    last: usize,
+    // where the counts stand of the last packet's PID, of those that end in the same six bits, if they stand there
+    last: [usize; 64],
 }
 
 impl<A: Allocator> Model for PidWindow<A> {
@@ -37,7 +37,7 @@ impl<A: Allocator> Model for PidWindow<A> {
     ghost view = { λ w. record { number = w.number; counts = w.counts.entries } };
 }
 
-// The index of a PID, looked for first where the last packet's is.
+// The index of a PID, looked for first where that of another packet is.
 #[tactic(auto, using(crate::proofs::CountedPids::index_there, crate::proofs::CountedPids::found_there))]
 fn index_of<A: Allocator>(counts: &PidEntries<A>, last: usize, pid: u16) -> Option<usize>
     ensures index { result ≡ position (nat_eq pid) (keys_of counts.now.entries) }
@@ -114,7 +114,7 @@ impl<A: Allocator + Copy> PidWindow<A> {
         PidWindow {
             number: 0,
             counts: IndexMap::new(alloc),
-            last: 0,
+            last: [0; 64],
         }
     }
 
@@ -144,7 +144,8 @@ impl<A: Allocator + Copy> PidWindow<A> {
             self.number = window;
             self.counts.clear();
         }
-        self.last = count(&mut self.counts, self.last, pid, pcr)?;
+        let ending = usize::from(pid % 64);
+        self.last[ending] = count(&mut self.counts, self.last[ending], pid, pcr)?;
         Ok(())
     }
 }
