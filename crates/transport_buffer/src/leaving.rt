@@ -17,6 +17,7 @@ pub struct Leaving {
 }
 
 // The bytes of a row, of which the first `count` wait for one that leaves at `prev`.
+#[inline(always)]
 fn leaving_rows(step: u64, prev: u128, row: &Row, count: u64, last: u128) -> Leaving
     requires step { step ≤ 2 ^ 28 }
     requires prev { prev ≤ 2 ^ 86 + 2 ^ 69 }
@@ -48,6 +49,7 @@ fn leaving_rows(step: u64, prev: u128, row: &Row, count: u64, last: u128) -> Lea
 }
 
 // Bytes that come no slower than they leave: all wait for the first.
+#[inline(always)]
 fn leave_fast(step: u64, prev: u128, row: &Row) -> Leaving
     requires some { 0 < step }
     requires step { step ≤ 2 ^ 28 }
@@ -67,6 +69,7 @@ fn leave_fast(step: u64, prev: u128, row: &Row) -> Leaving
 }
 
 // Bytes that come no faster than they leave: those that wait do so for the ones before them.
+#[inline(always)]
 fn leave_slow(step: u64, prev: u128, row: &Row) -> Leaving
     requires some { 0 < step }
     requires step { step ≤ 2 ^ 28 }
@@ -93,6 +96,7 @@ fn leave_slow(step: u64, prev: u128, row: &Row) -> Leaving
 
 /// The bytes of a row leave, each `step` after it arrived or after the byte before it left, whichever is later; that before
 /// the first leaves at `prev`.
+#[inline(always)]
 pub(crate) fn leave(step: u64, prev: u128, row: &Row) -> Leaving
     requires some { 0 < step }
     requires step { step ≤ 2 ^ 28 }

@@ -6,7 +6,8 @@
 //! - [`ExcessWatch`]: when it holds more than its size, from when to when and by how much; row by row, or byte by byte.
 //! - [`laws`]: what that state says of the fullness over all moments.
 //!
-//! All bytes of a PID's packets enter it as they arrive, and each takes one `step` to leave it, on any scale of times.
+//! All bytes of a PID's packets enter it as they arrive, and each takes one `step` to leave it, on any scale of times. What is said of a
+//! row is large: calls that hand it on are part of their callers, so that it is not moved.
 #![tactic(auto)]
 
 mod byte_excess;

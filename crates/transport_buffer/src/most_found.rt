@@ -11,10 +11,14 @@ pub(crate) fn found(step: u64, prev: u128, time: u128) -> u128
     requires prev { prev < 2 ^ 100 }
     ensures { result ≡ found step prev time }
 {
-    (prev.saturating_sub(time) + (u128::from(step) - 1)) / u128::from(step) + 1
+    if prev <= time {
+        return 1;
+    }
+    (prev - time + (u128::from(step) - 1)) / u128::from(step) + 1
 }
 
 /// The most that one of them finds: the last where they come no slower than they leave, else the first.
+#[inline(always)]
 pub(crate) fn most_found(step: u64, prev: u128, row: &Row) -> u128
     requires some { 0 < step }
     requires step { step ≤ 2 ^ 28 }

@@ -46,6 +46,7 @@ impl TransportBuffer {
     }
 
     /// The bytes of a row arrive: when they leave.
+    #[inline(always)]
     pub fn enter(&mut self, row: &Row) -> Leaving
         requires paced { IsPaced self.old }
         requires timed { IsTimed row.now }
