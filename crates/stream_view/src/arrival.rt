@@ -20,6 +20,7 @@ pub(crate) struct Arrived {
 
 // The excess that has ended, where `most` is the most that one of the bytes finds: where no byte finds too many, none has to be looked
 // for that does.
+#[inline(always)]
 fn see(watch: &mut ExcessWatch, buffer: &TransportBuffer, row: &Row, most: u128) -> Option<Excess>
     requires paced { IsPaced buffer.now }
     requires timed { IsTimed row.now }
@@ -42,6 +43,7 @@ fn see(watch: &mut ExcessWatch, buffer: &TransportBuffer, row: &Row, most: u128)
 }
 
 /// The bytes of a row arrive.
+#[inline(always)]
 pub(crate) fn arrive(transport: &mut TransportBuffer, watch: &mut ExcessWatch, row: &Row) -> Arrived
     requires paced { IsPaced transport.old }
     requires timed { IsTimed row.now }

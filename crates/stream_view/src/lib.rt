@@ -11,7 +11,7 @@
 //!
 //! It knows no packets and no clock: the rows of `packet_arrival` say when bytes arrive, at a constant rate or by clock
 //! references. All bytes of a stream's packets enter the transport buffer, and the bytes of their payloads the main buffer
-//! after it, PES headers too.
+//! after it, PES headers too. What is said of a row is large: calls that hand it on are part of their callers, so that it is not moved.
 #![tactic(auto)]
 
 mod arrival;

@@ -73,6 +73,7 @@ impl<A: Allocator> StreamView<A> {
     }
 
     /// Bytes arrive that go no further than the transport buffer: headers of packets, adaptation fields, and payload of no unit.
+    #[inline(always)]
     pub fn pass(&mut self, row: &Row) -> RowSeen
         requires timed { IsTimed row.now }
         requires early { IsEarly row.now }
@@ -102,6 +103,7 @@ impl<A: Allocator> StreamView<A> {
 
     /// Payload bytes of the unit under way arrive, its PES header's too. They enter the main buffer as they leave the transport
     /// buffer, and stay there until the unit is due; before the first unit none enters.
+    #[inline(always)]
     pub fn carry(&mut self, row: &Row) -> RowSeen
         requires timed { IsTimed row.now }
         requires early { IsEarly row.now }
