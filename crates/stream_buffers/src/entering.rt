@@ -80,6 +80,7 @@ impl StreamBuffers {
     }
 
     // Bytes of the stream that go no further than the transport buffer, from byte `byte` on: what they found.
+    #[inline(always)]
     fn pass(&mut self, arrival: &Arrival, byte: u64, count: u64) -> RowSeen
         requires some { 0 < count }
         requires few { count ≤ 188 }
@@ -99,6 +100,7 @@ impl StreamBuffers {
     }
 
     // Bytes of the unit under way: what they found, and the excess of the main buffer that has ended.
+    #[inline(always)]
     fn carry(&mut self, arrival: &Arrival, byte: u64, count: u64) -> (RowSeen, Option<Excess>)
         requires some { 0 < count }
         requires few { count ≤ 188 }
@@ -140,6 +142,7 @@ impl StreamBuffers {
 
     // Bytes of the stream from byte `byte` on, none where there are none: what they found, and the excess of the main buffer that has
     // ended.
+    #[inline(always)]
     #[tactic(auto, unfolding(crate::specs::Entering::after_payload, crate::specs::Entering::payload_transport, crate::specs::Entering::payload_main, crate::specs::Entering::payload_transport_most, crate::specs::Entering::payload_main_most, crate::specs::Entering::payload_main_least))]
     fn take(
         &mut self,

@@ -6,7 +6,8 @@
 //!
 //! All bytes of the packets enter the transport buffer, and those of payloads the main buffer after it, up to the moment at
 //! which their unit is decoded. What is held is said by the history of the stream (`specs/Held`); the laws of `stream_view` say
-//! that its figures are the greatest over all moments.
+//! that its figures are the greatest over all moments. What is said of a row is large: calls that hand it on are part of their callers,
+//! so that it is not moved.
 #![tactic(auto)]
 
 mod arriving;
