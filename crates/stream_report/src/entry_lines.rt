@@ -122,6 +122,7 @@ fn write_excess(
 }
 
 // The excess, if there is one.
+#[inline(always)]
 fn write_excess_if(
     text: &mut String,
     options: &ViewOptions,
@@ -159,6 +160,7 @@ fn write_late(
 }
 
 // A unit that ended, if it was late.
+#[inline(always)]
 #[tactic(auto, unfolding(crate::specs::EntryLines::late_lines))]
 fn write_late_if(
     text: &mut String,

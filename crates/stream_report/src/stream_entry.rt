@@ -111,22 +111,24 @@ fn is_unread(beginning: Beginning) -> bool
     }
 }
 
-// A packet as its buffers see it.
+// A packet as its buffers see it, with which this begins.
 fn arriving(
     options: &ViewOptions,
     index: u64,
     rx: u32,
     counter: Option<u8>,
     clock: &Option<PcrSample>,
+    beginning: Beginning,
     packet: &Packet<'_>,
 ) -> Arriving
+    requires { beginning ≡ spec.beginning_in counter (packet_view packet.now) }
     ensures { result ≡ spec.arriving options.now index rx counter clock.now (packet_view packet.now) }
 {
     let payload = packet.payload.unwrap_or(&[]);
     Arriving {
         index,
         size: payload.len() as u64,
-        begins: due_by(options, rx, clock, beginning_in(counter, packet)),
+        begins: due_by(options, rx, clock, beginning),
         enters: !is_repeated(counter, packet),
     }
 }
@@ -141,6 +143,7 @@ fn excess_counts(entered: &Entered) -> (u64, u64)
     (transport, u64::from(entered.main.is_some()))
 }
 
+#[inline(always)]
 fn tally_after(tally: Tally, window: u64, unread: bool, entered: &Entered) -> Tally
     ensures { result ≡ spec.tally_after tally window unread (entered_view entered.now) }
 {
@@ -181,7 +184,15 @@ impl StreamEntry {
     {
         let place = self.place(index);
         let beginning = beginning_in(self.counter, packet);
-        let arriving = arriving(options, index, self.buffers.rx, self.counter, clock, packet);
+        let arriving = arriving(
+            options,
+            index,
+            self.buffers.rx,
+            self.counter,
+            clock,
+            beginning,
+            packet,
+        );
         let entered = self.buffers.enter(&options.arrival, &arriving)?;
         write_ahead_if(text, options, &place, ahead_by(clock, beginning))?;
         write_ended(text, options, &place, &entered)?;

@@ -26,22 +26,23 @@ use ts_packet::Packet;
 
 type PlacesByPid = IndexMap<u16, usize, BuildHasherDefault<FoldHasher>, Global>;
 
-/// Which streams are viewed; those whose buffers have begun, and the place of each PID among them. Most packets follow one of
-/// their own PID, so its index is kept.
+/// Which streams are viewed; those whose buffers have begun, and the place of each PID among them. PIDs come again and again, so the
+/// index of the last one is kept, of each 64 PIDs.
 #[derive(Drop)]
 pub struct StreamTable {
     alloc: Global,
     choice: ViewChoice,
     places: PlacesByPid,
-    // where the place of the last packet's PID stands, if it stands there
-    last: usize,
+    // where the place stands of the last packet's PID, of those that end in the same six bits, if it stands there
+    last: [usize; 64],
     entries: Vec<StreamEntry>,
 }
 
-// The place of a PID and its index, looked for first where the last packet's is.
-fn place_of(places: &PlacesByPid, last: usize, pid: u16) -> Option<(usize, usize)>
+// The place of a PID and its index, looked for first where that of another packet is.
+fn place_of(places: &PlacesByPid, last: &[usize; 64], pid: u16) -> Option<(usize, usize)>
     ensures { option_map (λ found. found.1) result ≡ lookup (nat_eq pid) places.now.entries }
 {
+    let last = last[usize::from(pid % 64)];
     if let Some((at, place)) = places.get_index(last) {
         if *at == pid {
             return Some((last, *place));
@@ -157,7 +158,7 @@ impl StreamTable {
             alloc,
             choice,
             places: IndexMap::new(alloc),
-            last: 0,
+            last: [0; 64],
             entries: Vec::new(alloc),
         }
     }
@@ -236,11 +237,11 @@ impl StreamTable {
         ensures lines { (t : TableState) → IsTable self.old t → OnOk result (string_bytes text.new
             ≡ string_bytes text.old ++ spec.lines_of options.now index clocks.now t (packet_view packet.now)) }
     {
-        let Some((index_of_pid, place)) = place_of(&self.places, self.last, packet.header.pid)
+        let Some((index_of_pid, place)) = place_of(&self.places, &self.last, packet.header.pid)
         else {
             return Ok(());
         };
-        self.last = index_of_pid;
+        self.last[usize::from(packet.header.pid % 64)] = index_of_pid;
         let Some(entry) = self.entries.get_mut(place) else {
             return Ok(());
         };
@@ -252,7 +253,7 @@ impl StreamTable {
     pub fn has_stream(&self, pid: u16) -> bool
         ensures { (t : TableState) → IsTable self.now t → result ≡ spec.has_stream t pid }
     {
-        place_of(&self.places, self.last, pid).is_some()
+        place_of(&self.places, &self.last, pid).is_some()
     }
 
     /// Appends a line for each stream of which a unit ended in a window.

@@ -7,7 +7,7 @@ ghost use Rattle.stream_report.specs.Tallies as spec;
 use stream_buffers::Entered;
 use stream_view::UnitSeen;
 
-/// What is counted of a stream. Numbers stop at 2^64 - 1.
+/// What is counted of a stream. Numbers stop at 2^64 - 1. The steps from one to the next are part of their callers, so that it is not moved.
 #[derive(Clone, Copy)]
 pub struct Tally {
     /// Excesses that have ended, of the transport buffer and of the main buffer.
@@ -63,6 +63,7 @@ impl Tally {
     }
 
     // With nothing in the window, if it is another one than the last packet's.
+    #[inline(always)]
     fn in_window(self, window: u64) -> Tally
         ensures { result ≡ spec.in_window self window }
     {
@@ -82,6 +83,7 @@ impl Tally {
     }
 
     /// A packet of a window has entered the buffers.
+    #[inline(always)]
     pub fn with_packet(self, window: u64, entered: &Entered) -> Tally
         ensures { result ≡ spec.with_packet self window (entered_view entered.now) }
     {
@@ -111,6 +113,7 @@ impl Tally {
     }
 
     /// A unit has ended, if one has.
+    #[inline(always)]
     #[tactic(auto, unfolding(crate::specs::Tallies::with_unit_if))]
     pub fn with_unit_if(self, window: u64, unit: &Option<UnitSeen>) -> Tally
         ensures { result ≡ spec.with_unit_if self window unit.now }
@@ -122,6 +125,7 @@ impl Tally {
     }
 
     /// So many excesses have ended, and a header was not read or none.
+    #[inline(always)]
     pub fn with_excesses(self, transport: u64, main: u64, unread: bool) -> Tally
         ensures { result ≡ spec.with_excesses self transport main unread }
     {
