@@ -16,6 +16,7 @@ use Rattle.stream_coding.specs.Buffers.{buffers_of, given_buffers}
 use Rattle.stream_coding.specs.Codings.{coding_of}
 use Rattle.stream_coding.specs.declared.buffers.Buffers.{Buffers}
 use Rattle.stream_coding.specs.declared.buffers.PidBuffers.{PidBuffers}
+use Rattle.stream_units.specs.UnitRuns.{UnitRunsView, runs_burst}
 use Rattle.stream_units.specs.Declaration.{min_interval, max_unit_size, group_packets, burst_packets}
 use Rattle.stream_jobs.specs.declared.refusal.JobRefusal.{JobRefusal}
 use Rattle.stream_jobs.specs.declared.refusal.JobRefusal.TheVariants as refusals
@@ -106,6 +107,10 @@ groups_of lead sum c =
 -- the burst of units at a pace, as a number of 64 bits
 abbrev pub burst_of : List AccessUnit → ℕ → ℕ
 burst_of units pace = min (burst_packets 0 0 pace units) (2 ^ 64 - 1)
+
+-- the same of units of which those that come alike are counted together
+abbrev pub burst_of_runs : UnitRunsView → ℕ → ℕ
+burst_of_runs runs pace = min (runs_burst pace runs) (2 ^ 64 - 1)
 
 unfoldable pub pace_of : ℕ → ℕ → List AccessUnit → UnitCountsView → Option Choice
 pace_of lead sum units c = if is_needs c.needs then pace_choice c.needs (burst_of units) (transport_delay c.needs.rx sum) (min lead 90_000) else None

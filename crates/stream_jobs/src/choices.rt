@@ -11,12 +11,12 @@ use crate::job_stream::TimedStream;
 use crate::refusal::{JobError, JobRefusal};
 use clock27::{LEAST_RATE, SLOT_UNITS_AT_1BPS};
 use pes_packet::Unit;
-use std::alloc::Global;
+use std::alloc::{AllocError, Global};
 use stream_choice::{
     Choice, PacedUnits, are_max_packets, choose_groups, choose_pace, least_share, preferred,
     transport_delay,
 };
-use stream_units::burst_packets;
+use stream_units::UnitRuns;
 use unit_timing::shares::PARTS;
 
 /// The share of an output of the least rate.
@@ -66,16 +66,16 @@ pub(crate) fn shares_of(all: &[UnitCounts]) -> u64
 }
 
 // The units of a stream, whose bursts are known at any pace.
-#[derive(Clone, Copy)]
-struct StreamBursts<'a> {
-    units: &'a [Unit],
+#[derive(Drop)]
+struct StreamBursts {
+    runs: UnitRuns,
 }
 
-impl PacedUnits for StreamBursts<'_> {
-    ghost burst = { λ s. spec.burst_of s.units.now };
+impl PacedUnits for StreamBursts {
+    ghost burst = { λ s. spec.burst_of_runs s.runs };
 
     fn burst_at(&self, pace: u32) -> u64 {
-        burst_packets(0, self.units, pace)
+        self.runs.burst_packets(pace)
     }
 }
 
@@ -101,44 +101,52 @@ fn groups_of(greatest_lead: u32, sum: u64, unit_counts: &UnitCounts) -> Option<C
 
 // What it declares by pace.
 #[tactic(auto, unfolding(crate::specs::Declarations::pace_of))]
-fn pace_of(greatest_lead: u32, sum: u64, units: &[Unit], unit_counts: &UnitCounts) -> Option<Choice>
+fn pace_of(
+    alloc: Global,
+    greatest_lead: u32,
+    sum: u64,
+    units: &[Unit],
+    unit_counts: &UnitCounts,
+) -> Result<Option<Choice>, AllocError>
     requires { 2 ^ 17 ≤ sum }
-    ensures { result ≡ spec.pace_of greatest_lead sum units.now unit_counts.now }
+    ensures { IfOk result (λ choice. choice ≡ spec.pace_of greatest_lead sum units.now unit_counts.now) }
 {
     let needs = unit_counts.needs;
-    if needs.is_in_range() {
-        let lead = greatest_lead.min(90_000);
-        let delay = transport_delay(needs.rx, sum);
-        choose_pace(needs, &StreamBursts { units }, delay, lead)
-    } else {
-        None
+    if !needs.is_in_range() {
+        return Ok(None);
     }
+    let lead = greatest_lead.min(90_000);
+    let delay = transport_delay(needs.rx, sum);
+    let runs = UnitRuns::of_units(alloc, 0, units)?;
+    Ok(choose_pace(needs, &StreamBursts { runs }, delay, lead))
 }
 
 // What it declares.
 fn choice_of(
+    alloc: Global,
     declare_by: DeclareBy,
     greatest_lead: u32,
     sum: u64,
     units: &[Unit],
     unit_counts: &UnitCounts,
-) -> Option<Choice>
+) -> Result<Option<Choice>, AllocError>
     requires { 2 ^ 17 ≤ sum }
-    ensures { result ≡ spec.choice_of declare_by greatest_lead sum units.now unit_counts.now }
+    ensures { IfOk result (λ choice. choice ≡ spec.choice_of declare_by greatest_lead sum units.now unit_counts.now) }
 {
     match declare_by {
-        DeclareBy::Groups => groups_of(greatest_lead, sum, unit_counts),
-        DeclareBy::Pace => pace_of(greatest_lead, sum, units, unit_counts),
-        DeclareBy::Either => preferred(
-            groups_of(greatest_lead, sum, unit_counts),
-            pace_of(greatest_lead, sum, units, unit_counts),
-        ),
+        DeclareBy::Groups => Ok(groups_of(greatest_lead, sum, unit_counts)),
+        DeclareBy::Pace => pace_of(alloc, greatest_lead, sum, units, unit_counts),
+        DeclareBy::Either => {
+            let by_pace = pace_of(alloc, greatest_lead, sum, units, unit_counts)?;
+            Ok(preferred(groups_of(greatest_lead, sum, unit_counts), by_pace))
+        }
     }
 }
 
 // What a stream declares; refused if nothing fits its buffers.
 #[tactic(auto, unfolding(crate::specs::Declarations::chosen, crate::specs::Answers::Answers, crate::specs::Answers::Refuses))]
 fn chosen(
+    alloc: Global,
     declare_by: DeclareBy,
     greatest_lead: u32,
     sum: u64,
@@ -148,7 +156,8 @@ fn chosen(
     requires { 2 ^ 17 ≤ sum }
     ensures { Answers (spec.chosen declare_by greatest_lead sum (stream.now, unit_counts.now)) result }
 {
-    match choice_of(declare_by, greatest_lead, sum, &stream.units, unit_counts) {
+    let units = stream.units.as_slice();
+    match choice_of(alloc, declare_by, greatest_lead, sum, units, unit_counts)? {
         Some(choice) => Ok(choice),
         None => Err(JobError::Refused(JobRefusal::Buffers {
             pid: stream.pid,
@@ -181,7 +190,7 @@ fn each_choice(
         let Some((unit_counts, more)) = others.split_first() else {
             return Ok(choices);
         };
-        let next = chosen(declare_by, greatest_lead, sum, stream, unit_counts)?;
+        let next = chosen(alloc, declare_by, greatest_lead, sum, stream, unit_counts)?;
         choices.push(next)?;
         left = later;
         others = more;

@@ -14,7 +14,7 @@ use crate::table_check::first_other_table;
 use description::{Description, ProgramDescription, StreamDescription};
 use pes_packet::Unit;
 use std::alloc::{AllocError, Global};
-use stream_units::{CountedPackets, burst_packets, max_unit_size, min_interval};
+use stream_units::{CountedPackets, UnitRuns, max_unit_size, min_interval};
 use unit_timing::allowance::Allowance;
 
 // Whether the first unit is due no earlier than a moment.
@@ -53,7 +53,8 @@ fn packets_fit(
             Ok(counted.of_group(group) <= u64::from(packets))
         }
         Allowance::Pace { burst, pace } => {
-            Ok(burst_packets(base0, units, pace) <= u64::from(burst))
+            let runs = UnitRuns::of_units(alloc, base0, units)?;
+            Ok(runs.burst_packets(pace) <= u64::from(burst))
         }
     }
 }

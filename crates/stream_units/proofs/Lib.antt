@@ -4,6 +4,7 @@ pub mod StampMoments
 pub mod MovedUnits
 pub mod UnitCounts
 pub mod PacketRows
+pub mod RunLevels
 pub mod KeptDeclarations
 pub mod QueueAcceptance
 pub mod UnitWarnings

@@ -1,11 +1,12 @@
 -- Rows of packets that go along the units of a stream.
-use Rattle.std.proofs.Common.{◌≡◌, ◌≤◌, ◌<◌, ℕ, ◌+◌, ◌*◌, ◌-◌, ◌^◌, ◌∙◌, ap, min, max, List, [], ◌∷◌, ◌++◌, length, take, drop, get_or, map, sum, All, refl, sym, arith, add-one}
+use Rattle.std.proofs.Common.{◌≡◌, ◌≤◌, ◌<◌, ℕ, zero, suc, ◌+◌, ◌*◌, ◌-◌, ◌^◌, ◌∙◌, ap, subst, min, max, List, [], ◌∷◌, ◌++◌, length, take, drop, get_or, map, sum, All, refl, sym, arith, add-one}
 use Rattle.std.proofs.lemmas.List.{drop-map, take-map, take_more, map-append, drop_more, get_or-drop, length-map, length-drop, length-take, take_all}
-use Rattle.std.proofs.lemmas.List.Elements.{All-take, All-drop}
+use Rattle.std.proofs.Math.Nat.{mul-le-mul_left, mul-le-mul_right}
+use Rattle.std.proofs.lemmas.List.Elements.{All-nil, All-cons, All-head, All-tail, All-take, All-drop}
 use Rattle.std.proofs.lemmas.List.Sums.{sum-map, sum_by-cons, sum_by_more, sum_by-le}
 use Rattle.pes_packet.specs.AccessUnits.{AccessUnit}
 use Rattle.unit_timing.specs.PesPacket.{PesPacket, packets_of_unit, packets_of_units}
-use Rattle.stream_units.specs.Declaration.{CountedPacketsView, counted_packets, group_packets, max_group, max_unit_packets, max_unit_size, timed_unit, timed_units}
+use Rattle.stream_units.specs.Declaration.{AreAtMost, CountedPacketsView, counted_packets, group_packets, max_group, max_unit_packets, max_unit_size, timed_unit, timed_units}
 
 -- the number of one unit more
 pub number_more : (id base0 i n : ℕ) (units : List AccessUnit) (u : AccessUnit) (before after : List ℕ) → i < length units → u ≡ get_or units i u →
@@ -91,10 +92,46 @@ row_end group at row units numbers is over counted =
     all_of_few group (drop at units) few ∙ ap packets_of_units (sym (take_all group (drop at units) few)) ∙ sym (row_is group at units numbers is) ∙ sym counted
 
 -- a row of few units has few packets
-pub row_most : (group at : ℕ) (numbers : List ℕ) → All (λ (n : ℕ). n ≤ 2 ^ 56) numbers → sum (take group (drop at numbers)) ≤ group * 2 ^ 56
-row_most group at numbers all =
-    let part : All (λ (n : ℕ). n ≤ 2 ^ 56) (take group (drop at numbers)) = All-take (λ (n : ℕ). n ≤ 2 ^ 56) group (drop at numbers) (All-drop (λ (n : ℕ). n ≤ 2 ^ 56) at numbers all) in
-    omega (arith, sum_by-le (λ (n : ℕ). n) (2 ^ 56) (take group (drop at numbers)) part, length-take group (drop at numbers))
+pub most_of_row : (group greatest at : ℕ) (numbers : List ℕ) → All (λ (n : ℕ). n ≤ greatest) numbers → sum (take group (drop at numbers)) ≤ group * greatest
+most_of_row group greatest at numbers all =
+    let part : All (λ (n : ℕ). n ≤ greatest) (take group (drop at numbers)) = All-take (λ (n : ℕ). n ≤ greatest) group (drop at numbers) (All-drop (λ (n : ℕ). n ≤ greatest) at numbers all) in
+    let few : length (take group (drop at numbers)) ≤ group = omega (arith, length-take group (drop at numbers)) in
+    omega (arith, sum_by-le (λ (n : ℕ). n) greatest (take group (drop at numbers)) part, mul-le-mul_right greatest few)
+
+pub row_most : (group greatest at : ℕ) (numbers : List ℕ) → AreAtMost greatest numbers → sum (take group (drop at numbers)) ≤ group * 2 ^ 56
+row_most group greatest at numbers all = omega (arith, most_of_row group greatest at numbers all.each, mul-le-mul_left group all.bound)
+
+pub all_most : (group greatest : ℕ) → group ≤ 64 → greatest ≤ 2 ^ 56 → group * greatest ≤ 2 ^ 62
+all_most group greatest few bound = omega (arith, mul-le-mul_right greatest few, bound)
+
+-- no row has more than as many times the greatest number, and where the first one has as many, it is the greatest
+rows_most : (group greatest : ℕ) (units : List PesPacket) → All (λ (u : PesPacket). packets_of_unit u ≤ greatest) units → max_group group units ≤ group * greatest
+unfolding max_group
+rows_most group greatest [] all = omega arith
+rows_most group greatest (u ∷ us) all =
+    let part = All-take (λ (v : PesPacket). packets_of_unit v ≤ greatest) group (u ∷ us) all in
+    let few : length (take group (u ∷ us)) ≤ group = omega (arith, length-take group (u ∷ us)) in
+    let later = rows_most group greatest us (All-tail (λ (v : PesPacket). packets_of_unit v ≤ greatest) u us all) in
+    omega (arith, sum_by-le packets_of_unit greatest (take group (u ∷ us)) part, mul-le-mul_right greatest few, later)
+
+numbers_most : (greatest : ℕ) (units : List PesPacket) → All (λ (n : ℕ). n ≤ greatest) (map packets_of_unit units) → All (λ (u : PesPacket). packets_of_unit u ≤ greatest) units
+numbers_most greatest [] all = All-nil (λ (u : PesPacket). packets_of_unit u ≤ greatest)
+numbers_most greatest (u ∷ us) all =
+    All-cons (λ (v : PesPacket). packets_of_unit v ≤ greatest) u us (All-head (λ (n : ℕ). n ≤ greatest) (packets_of_unit u) (map packets_of_unit us) all)
+    (numbers_most greatest us (All-tail (λ (n : ℕ). n ≤ greatest) (packets_of_unit u) (map packets_of_unit us) all))
+
+first_row_least : (group : ℕ) (units : List PesPacket) → packets_of_units (take group units) ≤ max_group group units
+unfolding max_group
+first_row_least zero [] = omega arith
+first_row_least (suc group) [] = omega arith
+first_row_least group (u ∷ us) = omega arith
+
+pub all_greatest : (group greatest row : ℕ) (units : List PesPacket) (numbers : List ℕ) → numbers ≡ map packets_of_unit units → All (λ (n : ℕ). n ≤ greatest) numbers →
+    row ≡ sum (take group numbers) → row ≡ group * greatest → row ≡ max_group group units
+all_greatest group greatest row units numbers is all counted full =
+    let each : All (λ (n : ℕ). n ≤ greatest) (map packets_of_unit units) = subst (All (λ (n : ℕ). n ≤ greatest)) is all in
+    let most = rows_most group greatest units (numbers_most greatest units each) in
+    omega (arith, most, full, counted, row_is group 0 units numbers is, first_row_least group units)
 
 -- what is counted of units
 pub counted_is : (id base0 largest : ℕ) (units : List AccessUnit) (numbers : List ℕ) → numbers ≡ map packets_of_unit (timed_units id base0 units) →

@@ -10,8 +10,7 @@ use Rattle.pes_packet.specs.Encoding.{pes_packet_bytes, pes_header_bytes, on_wir
 use Rattle.pes_packet.proofs.Written.{header_sizes}
 use Rattle.stream_units.specs.Stamps.{distance, min_distance}
 use Rattle.clock27.specs.Units.{slot_units_at_1bps}
-use Rattle.unit_timing.specs.Levels.{next_level, greatest_level, greatest_after}
-use Rattle.stream_units.specs.Declaration.{interval_after, min_interval, max_unit_size, timed_unit, timed_units}
+use Rattle.stream_units.specs.Declaration.{interval_after, min_interval, max_unit_size}
 
 pub size_more : (i : ℕ) (us : List AccessUnit) (u : AccessUnit) → i < length us → u ≡ get_or us i u →
     max_unit_size (drop i us) ≡ max (length u.bytes) (max_unit_size (drop (i + 1) us))
@@ -65,24 +64,6 @@ bytes_most id base0 size u le =
     omega (arith, le, length-append head u.bytes, header_sizes id (length u.bytes) (u.pts + base0) (u.dts + base0), header_most (u.pts + base0) (u.dts + base0))
 
 -- ---- levels
-
-pub level_more : (id base0 pace i level last : ℕ) (us : List AccessUnit) (u : AccessUnit) → i < length us → u ≡ get_or us i u →
-    greatest_after pace level last (timed_units id base0 (drop i us))
-    ≡ max (next_level pace level last (timed_unit id base0 u)) (greatest_after pace (next_level pace level last (timed_unit id base0 u)) u.dts (timed_units id base0 (drop (i + 1) us)))
-unfolding greatest_after
-level_more id base0 pace i level last us u below at = rw (drop-cons us i u below, add-one i, sym at) refl
-
-pub level_end : (id base0 pace i level last : ℕ) (us : List AccessUnit) → length us ≤ i → greatest_after pace level last (timed_units id base0 (drop i us)) ≡ 0
-unfolding greatest_after
-level_end id base0 pace i level last us over = rw (drop_all i us over) refl
-
--- the same with what a step gives
-pub level_step : (id base0 pace i level last greatest level' last' greatest' : ℕ) (all us : List AccessUnit) (u : AccessUnit) → i < length us → u ≡ get_or us i u →
-    level' ≡ next_level pace level last (timed_unit id base0 u) → last' ≡ u.dts → greatest' ≡ max greatest level' →
-    greatest_level pace (timed_units id base0 all) ≡ max greatest (greatest_after pace level last (timed_units id base0 (drop i us))) →
-    greatest_level pace (timed_units id base0 all) ≡ max greatest' (greatest_after pace level' last' (timed_units id base0 (drop (i + 1) us)))
-level_step id base0 pace i level last greatest level' last' greatest' all us u below at l d g before =
-    rw (g, l, d) (omega (arith, before, level_more id base0 pace i level last us u below at))
 
 -- a level of more than so many packets has more
 pub over_most : (level most : ℕ) → most * slot_units_at_1bps < level → most < div_ceil level slot_units_at_1bps

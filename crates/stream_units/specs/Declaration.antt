@@ -1,5 +1,5 @@
 -- The least that a stream declares so that its units keep it.
-use Rattle.std.specs.Prelude.{ℕ, ◌+◌, ◌-◌, ◌/◌, ◌≤◌, min, max, List, [], ◌∷◌, length, map, take}
+use Rattle.std.specs.Prelude.{ℕ, ◌+◌, ◌-◌, ◌/◌, ◌^◌, ◌≤◌, min, max, All, List, [], ◌∷◌, length, map, take}
 use Rattle.std.specs.Int.{div_ceil}
 use Rattle.clock27.specs.Units.{slot_units_at_1bps}
 use Rattle.pes_packet.specs.AccessUnits.{AccessUnit}
@@ -48,6 +48,11 @@ group_packets id base0 group us = max (max_unit_packets (max_unit_size us)) (max
 pub record CountedPacketsView : Type 0 where
   pub numbers : List ℕ
   pub largest : ℕ
+
+-- no number is greater than one that is that of a unit in memory
+pub record AreAtMost (greatest : ℕ) (numbers : List ℕ) : Type 0 where
+  pub each : All (λ n. n ≤ greatest) numbers
+  pub bound : greatest ≤ 2 ^ 56
 
 unfoldable pub counted_packets : ℕ → ℕ → List AccessUnit → CountedPacketsView
 counted_packets id base0 us = record { numbers = map packets_of_unit (timed_units id base0 us); largest = max_unit_packets (max_unit_size us) }

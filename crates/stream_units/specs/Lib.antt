@@ -8,5 +8,6 @@ pub mod StampErrors
 pub mod MadeDts
 pub mod DtsErrors
 pub mod Declaration
+pub mod UnitRuns
 pub mod Laws
 pub mod UnitSteps

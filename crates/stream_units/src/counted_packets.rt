@@ -14,20 +14,21 @@ use std::marker::Model;
 #[derive(Drop)]
 pub struct CountedPackets<A: Allocator = Global> {
     numbers: Vec<u64, A>,
+    // the greatest of these numbers
+    greatest: u64,
     // of a unit of the largest size, with the longest header
     largest: u64,
 }
 
 // A contract sees the numbers as a list. Each is that of a unit in memory.
 impl<A: Allocator> Model for CountedPackets<A> {
-    ghost use Rattle.std.specs.Prelude.{◌≤◌, ◌^◌, All};
-    ghost use Rattle.stream_units.specs.Declaration.{CountedPacketsView};
+    ghost use Rattle.stream_units.specs.Declaration.{AreAtMost, CountedPacketsView};
 
     ghost Value = { CountedPacketsView };
 
     ghost view = { λ c. record { numbers = c.numbers.items; largest = c.largest } };
 
-    ghost invariant = { λ c. All (λ n. n ≤ 2 ^ 56) c.numbers.items };
+    ghost invariant = { λ c. AreAtMost c.greatest c.numbers.items };
 }
 
 // The packets of each unit.
@@ -55,16 +56,32 @@ fn row_packets(numbers: &[u64]) -> u64
     numbers.iter().sum()
 }
 
-// The most packets of `group` units in a row, or of all if they are fewer.
-fn greatest_row(numbers: &[u64], group: usize) -> u64
+// The greatest of some numbers.
+fn greatest_of(numbers: &[u64]) -> u64
+    requires { All (λ n. n ≤ 2 ^ 56) numbers.now }
+    ensures { spec.AreAtMost result numbers.now }
+{
+    let mut greatest = 0;
+    for number in numbers {
+        greatest = greatest.max(*number);
+    }
+    greatest
+}
+
+// The most packets of `group` units in a row, or of all if they are fewer; `greatest` is the greatest number of one.
+fn greatest_row(numbers: &[u64], greatest: u64, group: usize) -> u64
     requires few { group ≤ 64 }
-    requires bound { All (λ n. n ≤ 2 ^ 56) numbers.now }
+    requires bound { spec.AreAtMost greatest numbers.now }
     ensures { (units : List PesPacket) → numbers.now ≡ map packets_of_unit units →
         result ≡ spec.max_group group units }
 {
     let (first, later) = numbers.split_at(group.min(numbers.len()));
-    let mut most = 0;
     let mut row = row_packets(first);
+    // No row has more, and none has to be looked at, where each unit has as many packets as the greatest.
+    if row == group as u64 * greatest {
+        return row;
+    }
+    let mut most = 0;
     for (at, entering) in later.iter().enumerate() {
         most = most.max(row);
         row = row + *entering - numbers[at];
@@ -78,8 +95,13 @@ impl<A: Allocator> CountedPackets<A> {
         ensures { IfOk result (λ packets. (id : ℕ) → packets ≡ spec.counted_packets id base0 units.now) }
     {
         let numbers = packet_numbers(alloc, base0, units)?;
+        let greatest = greatest_of(&numbers);
         let largest = max_unit_packets(max_unit_size(units));
-        Ok(CountedPackets { numbers, largest })
+        Ok(CountedPackets {
+            numbers,
+            greatest,
+            largest,
+        })
     }
 
     /// The most packets of `group` units in a row, or of all if they are fewer; at least as many as a unit of the largest
@@ -90,6 +112,6 @@ impl<A: Allocator> CountedPackets<A> {
             result ≡ spec.group_packets id base0 group us }
     {
         self.largest
-            .max(greatest_row(&self.numbers, group as usize))
+            .max(greatest_row(&self.numbers, self.greatest, group as usize))
     }
 }

@@ -19,6 +19,7 @@ mod stamps;
 mod stream_ids;
 mod unit;
 mod unit_moments;
+mod unit_runs;
 mod unit_taker;
 mod unit_warning;
 mod warnings;
@@ -26,7 +27,7 @@ mod wire_unit;
 
 pub use carried::carried_units;
 pub use counted_packets::CountedPackets;
-pub use declaration::{burst_packets, max_unit_size, min_interval};
+pub use declaration::{max_unit_size, min_interval};
 pub use dts_from_pts::{DtsError, DtsFault, made_dts};
 pub use laws::{
     constant_is_least, findings_of_the_pid, given_as_carried, moved_by_one_constant, moved_in_turn,
@@ -36,6 +37,7 @@ pub use made_units::units_with_made_dts;
 pub use stamps::{StampFault, constant, distance, dts_at};
 pub use stream_ids::{first_other, written_id};
 pub use unit_moments::{StampError, moved_unit, moved_units};
+pub use unit_runs::UnitRuns;
 pub use unit_taker::UnitTaker;
 pub use unit_warning::{UnitWarning, UnitWarningCause};
 pub use warnings::unit_warnings;

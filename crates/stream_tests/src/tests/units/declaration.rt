@@ -6,7 +6,7 @@ use super::moments::moved;
 use clock27::Rate;
 use pes_packet::Unit;
 use std::alloc::Global;
-use stream_units::{CountedPackets, burst_packets, max_unit_size, min_interval};
+use stream_units::{CountedPackets, UnitRuns, max_unit_size, min_interval};
 use unit_queue::{FeedError, StreamParameters, UnitQueue};
 use unit_timing::allowance::Allowance;
 
@@ -26,6 +26,12 @@ fn group_packets(alloc: Global, units: &[Unit], group: u8) -> Option<u64>
     Some(packets.of_group(group))
 }
 
+// The packets of their least burst at a pace.
+fn burst_packets(alloc: Global, units: &[Unit], pace: u32) -> Option<u64> {
+    let runs = UnitRuns::of_units(alloc, 0, units).ok()?;
+    Some(runs.burst_packets(pace))
+}
+
 // Whether that is what a stream declares of them. A packet takes 3,600 units of 90 kHz at 37,600 bits a second, and a little
 // less than 3,599 at 37,611.
 fn is_declared(alloc: Global, units: &[Unit]) -> bool {
@@ -33,8 +39,8 @@ fn is_declared(alloc: Global, units: &[Unit]) -> bool {
         && max_unit_size(units) == 340
         && group_packets(alloc, units, 1) == Some(2)
         && group_packets(alloc, units, 3) == Some(4)
-        && burst_packets(0, units, 37_600) == 3
-        && burst_packets(0, units, 37_611) == 2
+        && burst_packets(alloc, units, 37_600) == Some(3)
+        && burst_packets(alloc, units, 37_611) == Some(2)
 }
 
 // What is declared, and why a queue refuses one of the units: the third is due 3,599 after the second.
