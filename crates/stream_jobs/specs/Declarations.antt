@@ -104,6 +104,12 @@ unfoldable pub groups_of : ℕ → ℕ → UnitCountsView → Option Choice
 groups_of lead sum c =
     if is_countable c then groups_choice c.needs c.max_group_packets (transport_delay c.needs.rx sum) (min lead 90_000) else None
 
+-- by groups, where that is asked for
+unfoldable pub asked_groups : DeclareBy → ℕ → ℕ → UnitCountsView → Option Choice
+asked_groups by.Pace lead sum c = None
+asked_groups by.Groups lead sum c = groups_of lead sum c
+asked_groups by.Either lead sum c = groups_of lead sum c
+
 -- the burst of units at a pace, as a number of 64 bits
 abbrev pub burst_of : List AccessUnit → ℕ → ℕ
 burst_of units pace = min (burst_packets 0 0 pace units) (2 ^ 64 - 1)

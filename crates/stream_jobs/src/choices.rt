@@ -1,6 +1,6 @@
 //! What a description declares of the packets of a stream's units: by groups or by pace.
 
-ghost use Rattle.std.specs.Prelude.{◌≡◌, ◌≤◌, ◌-◌, ◌^◌, min, sum_by, zip, IfErr, IfOk, IsTrue, Ok};
+ghost use Rattle.std.specs.Prelude.{◌≡◌, ◌≤◌, ◌-◌, ◌^◌, min, sum_by, zip, IfErr, IfOk, IfSome, IsTrue, Ok};
 ghost use Rattle.stream_choice.specs.Ranges.{IsNeeds, AreMaxPackets};
 ghost use Rattle.stream_jobs.specs.Answers.{Answers, Refuses, each};
 ghost use Rattle.stream_jobs.specs.Declarations as spec;
@@ -121,24 +121,71 @@ fn pace_of(
     Ok(choose_pace(needs, &StreamBursts { runs }, delay, lead))
 }
 
-// What it declares.
+// What a stream that is counted so declares by groups, where that is asked for.
+#[derive(Clone, Copy)]
+struct KnownGroups<'a> {
+    unit_counts: &'a UnitCounts,
+    choice: Option<Choice>,
+}
+
+// Whether two streams are counted alike.
+fn is_alike(one: &UnitCounts, other: &UnitCounts) -> bool
+    ensures { IsTrue result → one.now ≡ other.now }
+{
+    let (needs, others) = (one.needs, other.needs);
+    let same_units = needs.interval == others.interval && needs.size == others.size;
+    let same_buffers = needs.rx == others.rx && needs.main == others.main;
+    same_units
+        && same_buffers
+        && one.max_group_packets.as_slice() == other.max_group_packets.as_slice()
+}
+
+// What a stream declares by groups, where that is asked for: the same as another one that is counted alike.
+#[tactic(auto, unfolding(crate::specs::Declarations::asked_groups))]
+fn asked_groups(
+    known: Option<KnownGroups<'_>>,
+    declare_by: DeclareBy,
+    greatest_lead: u32,
+    sum: u64,
+    unit_counts: &UnitCounts,
+) -> Option<Choice>
+    requires sum { 2 ^ 17 ≤ sum }
+    requires known { IfSome known (λ k.
+        k.choice ≡ spec.asked_groups declare_by greatest_lead sum k.unit_counts.now) }
+    ensures { result ≡ spec.asked_groups declare_by greatest_lead sum unit_counts.now }
+{
+    if let Some(known) = known {
+        if is_alike(known.unit_counts, unit_counts) {
+            return known.choice;
+        }
+    }
+    match declare_by {
+        DeclareBy::Pace => None,
+        DeclareBy::Groups | DeclareBy::Either => groups_of(greatest_lead, sum, unit_counts),
+    }
+}
+
+// What it declares, where by groups it declares this.
+#[tactic(auto, unfolding(crate::specs::Declarations::asked_groups))]
 fn choice_of(
     alloc: Global,
     declare_by: DeclareBy,
+    by_groups: Option<Choice>,
     greatest_lead: u32,
     sum: u64,
     units: &[Unit],
     unit_counts: &UnitCounts,
 ) -> Result<Option<Choice>, AllocError>
-    requires { 2 ^ 17 ≤ sum }
+    requires sum { 2 ^ 17 ≤ sum }
+    requires groups { by_groups ≡ spec.asked_groups declare_by greatest_lead sum unit_counts.now }
     ensures { IfOk result (λ choice. choice ≡ spec.choice_of declare_by greatest_lead sum units.now unit_counts.now) }
 {
     match declare_by {
-        DeclareBy::Groups => Ok(groups_of(greatest_lead, sum, unit_counts)),
+        DeclareBy::Groups => Ok(by_groups),
         DeclareBy::Pace => pace_of(alloc, greatest_lead, sum, units, unit_counts),
         DeclareBy::Either => {
             let by_pace = pace_of(alloc, greatest_lead, sum, units, unit_counts)?;
-            Ok(preferred(groups_of(greatest_lead, sum, unit_counts), by_pace))
+            Ok(preferred(by_groups, by_pace))
         }
     }
 }
@@ -148,16 +195,26 @@ fn choice_of(
 fn chosen(
     alloc: Global,
     declare_by: DeclareBy,
+    by_groups: Option<Choice>,
     greatest_lead: u32,
     sum: u64,
     stream: &TimedStream,
     unit_counts: &UnitCounts,
 ) -> Result<Choice, JobError>
-    requires { 2 ^ 17 ≤ sum }
+    requires sum { 2 ^ 17 ≤ sum }
+    requires groups { by_groups ≡ spec.asked_groups declare_by greatest_lead sum unit_counts.now }
     ensures { Answers (spec.chosen declare_by greatest_lead sum (stream.now, unit_counts.now)) result }
 {
     let units = stream.units.as_slice();
-    match choice_of(alloc, declare_by, greatest_lead, sum, units, unit_counts)? {
+    match choice_of(
+        alloc,
+        declare_by,
+        by_groups,
+        greatest_lead,
+        sum,
+        units,
+        unit_counts,
+    )? {
         Some(choice) => Ok(choice),
         None => Err(JobError::Refused(JobRefusal::Buffers {
             pid: stream.pid,
@@ -186,11 +243,25 @@ fn each_choice(
     let mut choices = Vec::new(alloc);
     let mut left = streams;
     let mut others = all;
+    let mut known = None;
     while let Some((stream, later)) = left.split_first() {
         let Some((unit_counts, more)) = others.split_first() else {
             return Ok(choices);
         };
-        let next = chosen(alloc, declare_by, greatest_lead, sum, stream, unit_counts)?;
+        let by_groups = asked_groups(known, declare_by, greatest_lead, sum, unit_counts);
+        known = Some(KnownGroups {
+            unit_counts,
+            choice: by_groups,
+        });
+        let next = chosen(
+            alloc,
+            declare_by,
+            by_groups,
+            greatest_lead,
+            sum,
+            stream,
+            unit_counts,
+        )?;
         choices.push(next)?;
         left = later;
         others = more;
