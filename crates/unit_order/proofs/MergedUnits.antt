@@ -6,11 +6,12 @@ use Rattle.std.specs.Prelude.{IfSome, IfNone, option_map}
 use Rattle.std.proofs.lemmas.Option.{slice_get_within, slice_get-map, slice_get-get_or, get_or_from_slice_get}
 use Rattle.std.proofs.lemmas.List.Sums.{sum_by-set}
 use Rattle.std.proofs.lemmas.Bool.{cases_Bool, cases_eq, eqb-true, eqb-false}
-use Rattle.std.proofs.lemmas.List.{append_assoc, append-nil, length-set, map-append, map-set}
+use Rattle.std.proofs.lemmas.List.{append_assoc, append-nil, length-map, length-set, map-append, map-set}
+use Rattle.std.proofs.lemmas.Simd.{map-map}
 use Rattle.std.proofs.lemmas.List.Elements.{All-nil, All-cons, All-append, filter-append}
 use Rattle.pes_packet.specs.AccessUnits.{AccessUnit}
 use Rattle.pes_packet.specs.Units.{units_of}
-use Rattle.unit_order.specs.Merging.{AreLeft, AreMerged, AreTaken, TakesNext, due}
+use Rattle.unit_order.specs.Merging.{AreLeft, AreMerged, AreTaken, TakesNext, due, head_dts}
 
 units_more : (j : ℕ) (units : List (ℕ × AccessUnit)) (e : ℕ × AccessUnit) → units_of j (units ++ e ∷ []) ≡ units_of j units ++ units_of j (e ∷ [])
 units_more j units e = ap (map (λ u. u.1)) (filter-append (λ u. u.0 == j) units (e ∷ [])) ∙ map-append (λ u. u.1) (filter (λ u. u.0 == j) units) (filter (λ u. u.0 == j) (e ∷ []))
@@ -117,6 +118,20 @@ none_if f qs k q q' (Some u) lt is empty = tt
 
 pub some_or_none : (u : AccessUnit) (rest : List AccessUnit) → ◌≡◌ {A = Option (List AccessUnit)} (Some []) (Some (u ∷ rest)) → ⊥
 some_or_none u rest e = absurd cc
+
+-- when each stream is due next, after a unit is taken from stream k
+pub heads_more : {X : Type 0} (f : X → List AccessUnit) (qs after : List X) (heads : List (Option ℕ)) (k : ℕ) (q : X) (u : AccessUnit) (rest : List AccessUnit) (dts : Option ℕ) →
+    heads ≡ map (λ s. head_dts (f s)) qs → slice_get (map f qs) k ≡ Some (u ∷ rest) → map f after ≡ slice_set (map f qs) k rest →
+    slice_index_or after k q ≡ q → dts ≡ head_dts (f q) → slice_set heads k dts ≡ map (λ s. head_dts (f s)) after
+heads_more f qs after heads k q u rest dts are at left read is =
+    let found : slice_get (map f after) k ≡ Some rest = ap (λ (us : List (List AccessUnit)). slice_get us k) left ∙ get_set (map f qs) k (u ∷ rest) rest at in
+    let within : k < length after = omega (arith, slice_get_within (map f after) k rest found, length-map after f) in
+    let here : slice_get after k ≡ Some q = slice_get-get_or after k q within ∙ ap Some read in
+    let own : f q ≡ rest = some_same (f q) rest (sym (slice_get-map f after k ∙ ap (option_map f) here) ∙ found) in
+    let each : map (λ s. head_dts (f s)) after ≡ slice_set (map (λ s. head_dts (f s)) qs) k (head_dts rest) =
+    sym (map-map head_dts f after) ∙ ap (map head_dts) left ∙ map-set head_dts (map f qs) k rest
+    ∙ ap (λ (hs : List (Option ℕ)). slice_set hs k (head_dts rest)) (map-map head_dts f qs) in
+    ap (λ (o : Option ℕ). slice_set heads k o) (is ∙ ap head_dts own) ∙ ap (λ (hs : List (Option ℕ)). slice_set hs k (head_dts rest)) are ∙ sym each
 
 -- ---- the beginning and the end
 

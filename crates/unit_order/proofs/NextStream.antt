@@ -1,11 +1,11 @@
 -- The stream that is due next.
-use Rattle.std.proofs.Common.{◌≡◌, ℕ, ◌+◌, suc, Option, Some, None, List, [], ◌∷◌, All, slice_get, slice_index_or, length, drop, map, ◌<◌, ◌≤◌, ap, ◌⊎◌, inl, inr, nat_lt, arith}
+use Rattle.std.proofs.Common.{◌≡◌, ℕ, ◌+◌, suc, Option, Some, None, List, [], ◌∷◌, All, slice_get, slice_index_or, length, drop, map, ◌<◌, ◌≤◌, refl, sym, ◌∙◌, ap, ◌⊎◌, inl, inr, nat_lt, arith}
 use Rattle.std.proofs.lemmas.Bool.{cases_Bool}
 use Rattle.std.proofs.lemmas.Option.{none-some}
 use Rattle.std.proofs.lemmas.List.{at_drop_more, at_drop_all}
 use Rattle.std.proofs.lemmas.List.Elements.{All-nil, All-cons}
 use Rattle.pes_packet.specs.AccessUnits.{AccessUnit}
-use Rattle.unit_order.specs.Merging.{head_dts, earlier, next_of}
+use Rattle.unit_order.specs.Merging.{head_dts, earlier, next_of, next_head}
 
 -- once a stream is found one is
 pub some_kept : (k : ℕ) (b : ℕ × ℕ) (o : Option ℕ) → (b' : ℕ × ℕ) × (earlier (Some b) k o ≡ Some b')
@@ -71,12 +71,22 @@ first_next streams b is = elim (some_next 0 None streams b is) [
   | inr has ↦ (has.1, has.2, rw (at_first b.0 has.0 has.3) has.4)
 ]
 
--- one stream on, and at the end
-pub next_step : {X : Type 0} (f : X → List AccessUnit) (qs : List X) (k : ℕ) (q : X) (best : Option (ℕ × ℕ)) → k < length qs →
-    next_of k best (map f (drop k qs)) ≡ next_of (k + 1) (earlier best k (head_dts (f (slice_index_or qs k q)))) (map f (drop (k + 1) qs))
-unfolding next_of
-next_step f qs k q best lt = at_drop_more (λ l. next_of k best (map f l)) qs k q lt
+-- the same by the times when streams are due next
+same_next : {X : Type 0} (f : X → List AccessUnit) (k : ℕ) (best : Option (ℕ × ℕ)) (qs : List X) → next_head k best (map (λ q. head_dts (f q)) qs) ≡ next_of k best (map f qs)
+unfolding next_head next_of
+same_next f k best [] = refl
+same_next f k best (q ∷ qs) = same_next f (k + 1) (earlier best k (head_dts (f q))) qs
 
-pub next_end : {X : Type 0} (f : X → List AccessUnit) (qs : List X) (k : ℕ) (best : Option (ℕ × ℕ)) → length qs ≤ k → next_of k best (map f (drop k qs)) ≡ best
-unfolding next_of
-next_end f qs k best le = at_drop_all (λ l. next_of k best (map f l)) qs k le
+pub found_by : {X : Type 0} (f : X → List AccessUnit) (qs : List X) (heads read : List (Option ℕ)) (found wanted : Option (ℕ × ℕ)) → heads ≡ map (λ q. head_dts (f q)) qs →
+    read ≡ heads → found ≡ next_head 0 None read → found ≡ wanted → next_of 0 None (map f qs) ≡ wanted
+found_by f qs heads read found wanted are same is wants = sym (same_next f 0 None qs) ∙ ap (next_head 0 None) (sym (same ∙ are)) ∙ sym is ∙ wants
+
+-- one stream on, and at the end
+pub next_step : (heads : List (Option ℕ)) (k : ℕ) (dts : Option ℕ) (best : Option (ℕ × ℕ)) → k < length heads →
+    next_head k best (drop k heads) ≡ next_head (k + 1) (earlier best k (slice_index_or heads k dts)) (drop (k + 1) heads)
+unfolding next_head
+next_step heads k dts best lt = at_drop_more (next_head k best) heads k dts lt
+
+pub next_end : (heads : List (Option ℕ)) (k : ℕ) (best : Option (ℕ × ℕ)) → length heads ≤ k → next_head k best (drop k heads) ≡ best
+unfolding next_head
+next_end heads k best le = at_drop_all (next_head k best) heads k le

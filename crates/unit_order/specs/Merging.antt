@@ -19,6 +19,11 @@ unfoldable pub next_of : ℕ → Option (ℕ × ℕ) → List (List AccessUnit) 
 next_of k best [] = best
 next_of k best (us ∷ rest) = next_of (k + 1) (earlier best k (head_dts us)) rest
 
+-- the same by the times when the streams are due next
+unfoldable pub next_head : ℕ → Option (ℕ × ℕ) → List (Option ℕ) → Option (ℕ × ℕ)
+next_head k best [] = best
+next_head k best (dts ∷ rest) = next_head (k + 1) (earlier best k dts) rest
+
 -- the number of the stream that is due next, none if no stream has a unit left
 abbrev pub due : List (List AccessUnit) → Option ℕ
 due streams = option_map (λ b. b.0) (next_of 0 None streams)

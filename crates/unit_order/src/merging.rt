@@ -38,13 +38,23 @@ fn earlier(best: Option<(usize, u64)>, k: usize, dts: Option<u64>) -> Option<(us
     }
 }
 
+// When the next unit of each stream is due.
+fn heads_of<A: Allocator>(
+    alloc: A,
+    queues: &[VecDeque<Unit<A>, A>],
+) -> Result<Vec<Option<u64>, A>, AllocError>
+    ensures { IfOk result (λ heads. heads.items ≡ map (λ q. spec.head_dts q.items) queues.now) }
+{
+    queues.iter().map(|queue| next_dts(queue)).collect(alloc)
+}
+
 // The stream whose next unit is due first, the first of those; none if no stream has a unit left.
-fn next_stream<A: Allocator>(queues: &[VecDeque<Unit<A>, A>]) -> Option<(usize, u64)>
-    ensures { result ≡ spec.next_of 0 None (map (λ q. q.items) queues.now) }
+fn next_stream(heads: &[Option<u64>]) -> Option<(usize, u64)>
+    ensures { result ≡ spec.next_head 0 None heads.now }
 {
     let mut best = None;
-    for (k, queue) in queues.iter().enumerate() {
-        best = earlier(best, k, next_dts(queue));
+    for (k, dts) in heads.iter().enumerate() {
+        best = earlier(best, k, *dts);
     }
     best
 }
@@ -69,9 +79,11 @@ pub fn merged<A: Allocator + Clone>(
     ensures { IfOk result (λ units. spec.AreMerged (map (λ s. s.items) streams.items) units.items) }
 {
     let mut queues = streams;
+    let mut heads = heads_of(alloc.clone()?, &queues)?;
     let mut units = Vec::new(alloc);
-    'units: while let Some((k, _)) = next_stream(&queues) {
+    'units: while let Some((k, _)) = next_stream(&heads) {
         if let Some(unit) = take_next(&mut queues, k) {
+            heads[k] = next_dts(&queues[k]);
             units.push((k as u8, unit))?;
         }
     }

@@ -1,9 +1,12 @@
-use Rattle.std.proofs.Common.{length, map, sum_by}
+use Rattle.std.proofs.Common.{◌≡◌, length, map, sum_by}
 use Rattle.unit_order.specs.Merging as spec
 use Rattle.unit_order.proofs.merging.merged.Given as goal
 
 abbrev pub invariant-units : goal.invariant-units
-invariant-units g l = spec.AreLeft (map (λ s. s.items) l.initial.queues.items) (map (λ s. s.items) l.queues.items) l.units.items
+invariant-units g l = record {
+  left : spec.AreLeft (map (λ s. s.items) l.initial.queues.items) (map (λ s. s.items) l.queues.items) l.units.items;
+  heads : l.heads.items ≡ map (λ s. spec.head_dts s.items) l.queues.items;
+}
 
 abbrev pub decreases-units : goal.decreases-units
 decreases-units g l = sum_by length (map (λ s. s.items) l.queues.items)

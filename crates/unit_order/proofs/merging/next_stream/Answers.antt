@@ -1,16 +1,12 @@
-use Rattle.std.proofs.Common.{rules, ◌∙◌, sym, arith, ◌≡◌, slice_index_or}
+use Rattle.std.proofs.Common.{sym, ap, ◌∙◌, ◌+◌, Option, ℕ, drop, arith}
 use Rattle.unit_order.specs.Merging as spec
 use Rattle.unit_order.proofs.NextStream.{next_step, next_end}
 use Rattle.unit_order.proofs.merging.next_stream.Goals as goal
 
--- src/merging.rt:46:5
 pub loop-k-preserved : goal.loop-k-preserved
-loop-k-preserved g c =
-    let step = next_step (λ q. q.items) c.args.queues.now c.loop-k.k c.index-queues-k.result c.loop-k.best c.loop-k-test.true in
-    let here : slice_index_or c.args.queues.now c.loop-k.k c.index-queues-k.result ≡ c.index-queues-k.result = search rules in
-    let best : c.earlier-best.result ≡ spec.earlier c.loop-k.best c.loop-k.k (spec.head_dts c.index-queues-k.result.items) = search rules in
-    rw best (rw here at (c.loop-k.invariant ∙ step))
+loop-k-preserved c =
+    c.loop-k.invariant ∙ next_step c.args.heads.now c.loop-k.k _ c.loop-k.best c.loop-k-test.true
+    ∙ ap (λ (best : Option (ℕ × ℕ)). spec.next_head (c.loop-k.k + 1) best (drop (c.loop-k.k + 1) c.args.heads.now)) (sym c.earlier-best.ensures)
 
--- src/merging.rt:42:1
 pub returns : goal.returns
-returns g c = sym (c.loop-k.invariant ∙ next_end (λ q. q.items) c.args.queues.now c.loop-k.k c.loop-k.best (omega (arith, c.loop-k-test.false)))
+returns c = sym (c.loop-k.invariant ∙ next_end c.args.heads.now c.loop-k.k c.loop-k.best (omega (arith, c.loop-k-test.false)))
