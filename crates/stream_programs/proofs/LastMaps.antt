@@ -4,6 +4,7 @@ use Rattle.std.specs.Option.{option_or}
 use Rattle.psi_tables.specs.ProgramMap.{PmtView}
 use Rattle.psi_tables.specs.declared.pat.programs.Program.{Program}
 use Rattle.demux.specs.Views.{FindingView}
+use Rattle.stream_programs.specs.Sections.{section_on}
 use Rattle.stream_programs.specs.ProgramMaps.{pmt_found, program_map, differs, first_differing}
 use Rattle.stream_programs.specs.declared.program_map.MapPart.{MapPart}
 use Rattle.stream_programs.proofs.Slices.{more, done}
@@ -32,7 +33,16 @@ pub or_none : {Z : Type 0} (o : Option Z) → o ≡ option_or o None
 or_none None = refl
 or_none (Some z) = refl
 
+-- a finding that has no section of the program's PID has no table of it
+pub not_found : (p : Program) (f : FindingView) → section_on p.pid f ≡ None → pmt_found p f ≡ None
+unfolding pmt_found
+not_found p f none = rw none refl
+
 -- 2. A table that is other
+
+pub none_other : (part : MapPart) (p : Program) (last : PmtView) (f : FindingView) → section_on p.pid f ≡ None → differs part last (pmt_found p f) ≡ false
+unfolding differs
+none_other part p last f none = rw (not_found p f none) refl
 
 pub other_later : {X : Type 0} (view : X → FindingView) (part : MapPart) (p : Program) (last : PmtView) (i : ℕ) (fs : List X) (f : X) → i < length fs → f ≡ get_or fs i f →
     differs part last (pmt_found p (view f)) ≡ false →

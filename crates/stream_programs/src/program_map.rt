@@ -7,7 +7,7 @@ ghost use Rattle.demux.specs.Shown.{finding_view};
 ghost use Rattle.stream_programs.specs.ProgramMaps as spec;
 
 use crate::map_descriptors::keeps_descriptors;
-use crate::sections::section_on;
+use crate::sections::{is_on, section_on};
 use demux::Finding;
 use psi_tables::{Pmt, Program, Section, Stream, Streams};
 use std::alloc::Allocator;
@@ -68,6 +68,9 @@ pub fn last_program_map<'f, A: Allocator>(
 {
     let mut last = None;
     for finding in findings {
+        if !is_on(program.pid, finding) {
+            continue;
+        }
         last = pmt_found(program, finding).or(last);
     }
     last
@@ -142,6 +145,9 @@ fn first_differing<A: Allocator>(
     ensures { result ≡ spec.first_differing part program (pmt_view last.now) (map finding_view findings.now) }
 {
     for finding in findings {
+        if !is_on(program.pid, finding) {
+            continue;
+        }
         if differs(part, program, last, finding) {
             return Some(finding.packet);
         }

@@ -1,6 +1,6 @@
 //! The sections of a PID in the findings of a stream.
 
-ghost use Rattle.std.specs.Prelude.{◌≡◌, option_map};
+ghost use Rattle.std.specs.Prelude.{◌≡◌, false, None, option_map};
 ghost use Rattle.demux.specs.Shown.{finding_view};
 ghost use Rattle.stream_programs.specs.Sections as spec;
 
@@ -19,4 +19,12 @@ pub fn section_on<'f, A: Allocator>(pid: u16, finding: &'f Finding<'_, A>) -> Op
         What::Section(part) => Some(part.bytes()),
         _ => None,
     }
+}
+
+/// Whether a finding is of a PID: one that is not has no section of it.
+#[tactic(auto, unfolding(crate::specs::Sections::section_on))]
+pub(crate) fn is_on<A: Allocator>(pid: u16, finding: &Finding<'_, A>) -> bool
+    ensures { result ≡ false → spec.section_on pid (finding_view finding.now) ≡ None }
+{
+    finding.pid == Some(pid)
 }

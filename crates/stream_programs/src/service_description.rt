@@ -12,8 +12,8 @@ use dvb_tables::Sdt;
 use psi_tables::Section;
 use std::alloc::Allocator;
 
-// The PID of service description sections.
-const SDT_PID: u16 = 0x11;
+/// The PID of service description sections.
+pub(crate) const SDT_PID: u16 = 0x11;
 
 // A table that is in force now.
 #[tactic(auto, unfolding(crate::specs::ServiceDescriptions::sdt_of_section, crate::specs::ServiceDescriptions::in_force))]

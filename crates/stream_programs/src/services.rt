@@ -6,7 +6,8 @@ ghost use Rattle.dvb_tables.specs.Services.{service_view, services_of};
 ghost use Rattle.descriptor_loops.specs.Descriptors.{descriptor_view, descriptors_in};
 ghost use Rattle.stream_programs.specs.Services as spec;
 
-use crate::service_description::sdt_found;
+use crate::sections::is_on;
+use crate::service_description::{SDT_PID, sdt_found};
 use demux::Finding;
 use descriptor_loops::{Descriptor, Descriptors};
 use dvb_tables::{Service, Services};
@@ -137,6 +138,9 @@ pub fn last_service<'f, A: Allocator>(
 {
     let mut last = None;
     for finding in findings {
+        if !is_on(SDT_PID, finding) {
+            continue;
+        }
         last = service_found(number, finding).or(last);
     }
     last

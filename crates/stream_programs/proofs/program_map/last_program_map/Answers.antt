@@ -1,13 +1,20 @@
-use Rattle.std.proofs.Common.{◌≡◌, ◌∙◌, sym, map, rules}
+use Rattle.std.proofs.Common.{◌≡◌, ◌∙◌, None, refl, sym, map, rules}
 use Rattle.std.specs.Option.{option_or}
 use Rattle.psi_tables.specs.ProgramMap.{pmt_view}
 use Rattle.demux.specs.Shown.{finding_view}
 use Rattle.stream_programs.specs.ProgramMaps.{program_map}
-use Rattle.stream_programs.proofs.LastMaps.{last_more, last_end, or_none}
+use Rattle.stream_programs.proofs.LastMaps.{last_more, last_end, not_found, or_none}
 use Rattle.stream_programs.proofs.program_map.last_program_map.Goals as goal
 
 pub loop-finding-init : goal.loop-finding-init
 loop-finding-init g c = or_none (program_map c.args.program (map (finding_view {A = g.row.A.Denot}) c.args.findings.now))
+
+pub loop-finding-preserved-then-not-is_on : goal.loop-finding-preserved-then-not-is_on
+loop-finding-preserved-then-not-is_on g c =
+    let view = finding_view {A = g.row.A.Denot} in
+    c.loop-finding.invariant
+    ∙ last_more view pmt_view c.args.program c.loop-finding.finding-index c.args.findings.now c.finding-item.result None c.loop-finding.last c.loop-finding.last
+    c.loop-finding-test.true c.finding-item.is (sym (not_found c.args.program (view c.finding-item.result) (c.is_on.ensures c.if-not-is_on.true))) refl
 
 pub loop-finding-preserved : goal.loop-finding-preserved
 loop-finding-preserved g c =
