@@ -18,6 +18,10 @@ records_of units = flat_map record_of units
 abbrev pub written : List ℕ → List ℕ → List (ℕ × AccessUnit) → List ℕ
 written text plan units = (text ++ plan) ++ records_of units
 
+-- bytes that wait for a write
+pub record PendingView : Type 0 where
+  pub items : List ℕ
+
 -- a front of a text is written, and this is left of it
 pub record Sends (output : Device) (text left : List ℕ) : Type 0 where
   pub sent : List ℕ

@@ -7,8 +7,8 @@ ghost use Rattle.devices.specs.Lines.{Reports, Tells, WritesLine};
 ghost use Rattle.unit_output.specs.FedLines as spec;
 ghost use Rattle.unit_output.specs.Records.{Puts};
 
-use crate::records::{ROOM, flush, put_record};
-use arrayvec::ArrayVec;
+use crate::pending::PendingBytes;
+use crate::records::{flush, put_record};
 use counted_io::Sink;
 use devices::{Halt, report_line};
 use pes_packet::Unit;
@@ -19,7 +19,7 @@ use unit_feed::{ClockJump, CutCause, CutUnits, FeedFault, Loss, NewMap};
 #[tactic(auto, unfolding(crate::specs::FedLines::fed_record))]
 fn put_fed<W: Sink>(
     to: &mut W,
-    pending: &mut ArrayVec<u8, ROOM>,
+    pending: &mut PendingBytes,
     fed: &(u8, Result<Unit, FeedFault>),
 ) -> Result<(), Halt>
     ensures { Puts (writes W.Sink to.old to.new) (pending.old.items ++ spec.fed_record fed.now) pending.new.items result }
@@ -33,7 +33,7 @@ fn put_fed<W: Sink>(
 // Puts the records of all that is fed.
 fn put_all_fed<W: Sink>(
     to: &mut W,
-    pending: &mut ArrayVec<u8, ROOM>,
+    pending: &mut PendingBytes,
     fed: &[(u8, Result<Unit, FeedFault>)],
 ) -> Result<(), Halt>
     ensures { Puts (writes W.Sink to.old to.new) (pending.old.items ++ spec.fed_records fed.now) pending.new.items result }
@@ -54,7 +54,7 @@ pub(crate) fn write_fed<W: Sink>(
 ) -> Result<(), Halt>
     ensures { WritesLine (spec.fed_records fed.now) (writes W.Sink to.old to.new) result }
 {
-    let mut pending = ArrayVec::new();
+    let mut pending = PendingBytes::new();
     match put_all_fed(to, &mut pending, fed) {
         Ok(()) => flush(to, &mut pending),
         Err(halt) => Err(halt),

@@ -7,6 +7,7 @@
 
 mod fed_records;
 mod passing;
+mod pending;
 mod records;
 
 pub use passing::pass_stream;

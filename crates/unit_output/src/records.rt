@@ -7,15 +7,11 @@ ghost use Rattle.devices.specs.Lines.{WritesLine};
 ghost use Rattle.unit_records.specs.Records.{record_bytes};
 ghost use Rattle.unit_output.specs.Records as spec;
 
-use arrayvec::ArrayVec;
-use bit_fields::append;
+use crate::pending::{PendingBytes, ROOM};
 use counted_io::{Sink, write_part};
 use devices::Halt;
 use pes_packet::Unit;
 use unit_records::record_head;
-
-/// The most bytes that wait for one write.
-pub(crate) const ROOM: usize = 1 << 16;
 
 // The bytes of a unit.
 fn bytes_of(unit: &Unit) -> &[u8]
@@ -35,7 +31,7 @@ fn write_bytes<W: Sink>(to: &mut W, part: &[u8]) -> Result<(), Halt>
 }
 
 /// Writes the pending bytes.
-pub(crate) fn flush<W: Sink>(to: &mut W, pending: &mut ArrayVec<u8, ROOM>) -> Result<(), Halt>
+pub(crate) fn flush<W: Sink>(to: &mut W, pending: &mut PendingBytes) -> Result<(), Halt>
     ensures puts { spec.Puts (writes W.Sink to.old to.new) pending.old.items pending.new.items result }
     ensures none { OnOk result (pending.new.items ≡ []) }
 {
@@ -49,23 +45,23 @@ pub(crate) fn flush<W: Sink>(to: &mut W, pending: &mut ArrayVec<u8, ROOM>) -> Re
 }
 
 // Keeps bytes pending where none are, or writes them where there is no room.
-fn put_first<W: Sink>(to: &mut W, pending: &mut ArrayVec<u8, ROOM>, part: &[u8]) -> Result<(), Halt>
+fn put_first<W: Sink>(to: &mut W, pending: &mut PendingBytes, part: &[u8]) -> Result<(), Halt>
     requires { pending.old.items ≡ [] }
     ensures { spec.Puts (writes W.Sink to.old to.new) part.now pending.new.items result }
 {
     if part.len() <= ROOM {
-        append(pending, part);
+        pending.append(part);
         return Ok(());
     }
     write_bytes(to, part)
 }
 
 // Keeps bytes pending, and writes those before them where there is no room for both.
-fn put<W: Sink>(to: &mut W, pending: &mut ArrayVec<u8, ROOM>, part: &[u8]) -> Result<(), Halt>
+fn put<W: Sink>(to: &mut W, pending: &mut PendingBytes, part: &[u8]) -> Result<(), Halt>
     ensures { spec.Puts (writes W.Sink to.old to.new) (pending.old.items ++ part.now) pending.new.items result }
 {
-    if part.len() <= ROOM - pending.len() {
-        append(pending, part);
+    if part.len() <= pending.free() {
+        pending.append(part);
         return Ok(());
     }
     match flush(to, pending) {
@@ -77,7 +73,7 @@ fn put<W: Sink>(to: &mut W, pending: &mut ArrayVec<u8, ROOM>, part: &[u8]) -> Re
 /// Puts the record of a unit out.
 pub(crate) fn put_record<W: Sink>(
     to: &mut W,
-    pending: &mut ArrayVec<u8, ROOM>,
+    pending: &mut PendingBytes,
     stream: u8,
     unit: &Unit,
 ) -> Result<(), Halt>
@@ -93,7 +89,7 @@ pub(crate) fn put_record<W: Sink>(
 // Puts the records of units.
 fn put_records<W: Sink>(
     to: &mut W,
-    pending: &mut ArrayVec<u8, ROOM>,
+    pending: &mut PendingBytes,
     units: &[(u8, Unit)],
 ) -> Result<(), Halt>
     ensures { spec.Puts (writes W.Sink to.old to.new)
@@ -111,7 +107,7 @@ fn put_records<W: Sink>(
 // Puts two texts.
 fn put_texts<W: Sink>(
     to: &mut W,
-    pending: &mut ArrayVec<u8, ROOM>,
+    pending: &mut PendingBytes,
     text: &[u8],
     plan: &[u8],
 ) -> Result<(), Halt>
@@ -127,7 +123,7 @@ fn put_texts<W: Sink>(
 // Puts two texts, and the records of units after them.
 fn put_job<W: Sink>(
     to: &mut W,
-    pending: &mut ArrayVec<u8, ROOM>,
+    pending: &mut PendingBytes,
     text: &[u8],
     plan: &[u8],
     units: &[(u8, Unit)],
@@ -150,7 +146,7 @@ pub fn write_job<W: Sink>(
 ) -> Result<(), Halt>
     ensures { WritesLine ((text.now ++ plan.now) ++ spec.records_of units.now) (writes W.Sink to.old to.new) result }
 {
-    let mut pending = ArrayVec::new();
+    let mut pending = PendingBytes::new();
     match put_job(to, &mut pending, text, plan, units) {
         Ok(()) => flush(to, &mut pending),
         Err(halt) => Err(halt),
