@@ -1,8 +1,7 @@
 -- A stream that comes: what is carried for certain goes through a demultiplexer.
-use Rattle.std.proofs.Common.{◌≡◌, ◌≤◌, ◌<◌, ℕ, ◌+◌, ◌-◌, Bool, true, false, List, [], ◌++◌, length, length-append, length-drop, take, drop, refl, sym, ap, ap₂, subst, ◌∙◌, arith, append_assoc, append-nil, drop-drop, Option, Some, None, is_some}
+use Rattle.std.proofs.Common.{◌≡◌, ◌≤◌, ℕ, ◌+◌, ◌-◌, Bool, true, false, List, [], ◌++◌, length, length-append, take, drop, refl, sym, ap, ap₂, subst, ◌∙◌, arith, append_assoc, append-nil, drop-drop}
 use Rattle.std.proofs.Math.Seq.{drop-append-add}
 use Rattle.std.proofs.lemmas.List.{drop_all, drop-append-le, take-append-drop}
-use Rattle.demux.specs.Views.{FindingView}
 use Rattle.demux.specs.Stream.{StreamState, finished, pushed, start}
 use Rattle.demux.proofs.PushedBytes.{pushed_append}
 use Rattle.packet_sync.specs.Notes.{IsNoted, NotesView, SayAlike, no_notes}
@@ -11,7 +10,7 @@ use Rattle.packet_sync.specs.Stretches.{IsStretch}
 use Rattle.packet_sync.specs.declared.stretch.Stretch.{Stretch}
 use Rattle.packet_sync.proofs.Noted.{all_noted}
 use Rattle.packet_sync.proofs.Stretches.{carried_few}
-use Rattle.job_outcomes.specs.Streams.{CarriedView, IsCarriedTo, IsOfStream, PacketNotesView, PacketsView, findings_of, no_packets, notes_of, with_bytes}
+use Rattle.job_outcomes.specs.Streams.{CarriedView, IsCarriedTo, IsOfStream, PacketsView, with_bytes}
 
 -- 1. What is said
 

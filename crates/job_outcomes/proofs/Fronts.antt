@@ -1,5 +1,5 @@
 -- The first 409 bytes of a stream that comes.
-use Rattle.std.proofs.Common.{◌≡◌, ◌≤◌, ◌<◌, ℕ, ◌+◌, ◌-◌, min, nat_lt, Bool, true, false, List, [], ◌++◌, length, length-append, length-take, take, drop, refl, sym, ap, ap₂, subst, ◌∙◌, arith, append-nil, Option, Some, None, is_some}
+use Rattle.std.proofs.Common.{◌≡◌, ◌≤◌, ◌<◌, ℕ, ◌+◌, ◌-◌, min, nat_lt, Bool, true, false, List, ◌++◌, length, length-take, take, drop, refl, sym, ap, ap₂, subst, ◌∙◌, arith, append-nil, Option, None, is_some}
 use Rattle.std.proofs.Math.Seq.{take-append-add}
 use Rattle.std.proofs.lemmas.List.{length-take-le, take_all, take-append-drop, take-append-le}
 use Rattle.packet_sync.specs.OtherPackets.{other_packets}

@@ -23,15 +23,15 @@ use Rattle.job_lines.specs.SlipLines.{packets_line}
 use Rattle.stream_jobs.specs.Answers.{Answers, Refuses}
 use Rattle.stream_jobs.specs.JobInput.{JobInputView, job_input}
 use Rattle.stream_jobs.specs.Jobs.{AreStreams}
-use Rattle.stream_jobs.specs.JoinedInputs.{AreMadeOf, AreStreamsIn, JoinedInputsView, findings_in, joined_inputs}
+use Rattle.stream_jobs.specs.JoinedInputs.{AreMadeOf, AreStreamsIn, JoinedInputsView, findings_in}
 use Rattle.stream_jobs.specs.declared.refusal.JobError.{JobError}
 use Rattle.stream_jobs.specs.declared.refusal.JobError.TheVariants.{Memory, Refused}
 use Rattle.stream_jobs.specs.declared.refusal.JobRefusal.{JobRefusal}
 use Rattle.stream_jobs.proofs.JoinedStreams.{joined_found}
 use Rattle.job_outcomes.specs.JobArguments.{JobArgumentsView}
 use Rattle.job_outcomes.specs.Outcomes.{ReportsWhy, Withholds, is_told_less, status_of, told_lines}
-use Rattle.job_outcomes.specs.SeveralInputs.{GivesIn, InputsLead, IsGivenIn, IsRefusedIn, JoinedLead, NamedStream, StreamsLead, all_findings, all_joined, are_streams_less, input_or_line, names_of, packets_input, stream_input, stream_inputs, streams_lines, under, with_first}
-use Rattle.job_outcomes.specs.StreamFiles.{AreNamedInputs, AreTaken, EndsAt, Files, FilesLead, HasRead, IsGivenOf, IsInput, IsInputIn, IsInputOf, IsLedTo, IsNamedInput, IsRefusalOf, IsStop, IsStopped, IsTaken, IsTakenFrom, IsTakenOf, IsUntaken, JoinedLeads, TakenLead, TakenView, taken_lines, told_under}
+use Rattle.job_outcomes.specs.SeveralInputs.{GivesIn, InputsLead, JoinedLead, NamedStream, all_findings, all_joined, are_streams_less, input_or_line, names_of, packets_input, stream_input, stream_inputs, streams_lines, under, with_first}
+use Rattle.job_outcomes.specs.StreamFiles.{AreNamedInputs, AreTaken, EndsAt, Files, FilesLead, HasRead, IsInput, IsInputIn, IsInputOf, IsLedTo, IsNamedInput, IsRefusalOf, IsTakenFrom, IsTakenOf, JoinedLeads, TakenLead, TakenView, taken_lines, told_under}
 use Rattle.job_outcomes.specs.Streams.{IsOfStream, IsRead, PacketNotesView, ReadingView, findings_of, notes_of}
 
 -- 1. One stream

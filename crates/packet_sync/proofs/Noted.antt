@@ -1,10 +1,10 @@
 -- What is said of a stream, from some of its rest on.
-use Rattle.std.proofs.Common.{◌≡◌, ◌≤◌, ◌<◌, ◌⊎◌, inl, inr, ℕ, zero, suc, ◌+◌, ◌*◌, ◌-◌, ◌/◌, ◌==◌, nat_lt, Bool, true, false, refl, sym, ap, ap₂, subst, arith, ◌∙◌, List, [], ◌∷◌, ◌++◌, length, length-append, length-drop, map, take, drop, slice_range, Option, None, Some, append_assoc, append-nil, drop-drop}
+use Rattle.std.proofs.Common.{◌≡◌, ◌≤◌, ◌<◌, inl, inr, ℕ, zero, suc, ◌+◌, ◌*◌, ◌-◌, ◌/◌, ◌==◌, nat_lt, Bool, true, false, refl, sym, ap, ap₂, subst, arith, ◌∙◌, List, [], ◌∷◌, ◌++◌, length, length-append, length-drop, map, take, drop, Option, None, Some, append_assoc, append-nil, drop-drop}
 use Rattle.std.proofs.lemmas.Bool.Decides.{nat_tests}
 use Rattle.std.proofs.lemmas.List.{drop_all, drop-append-le, take-append-le}
 use Rattle.packet_sync.specs.Slips.{slips, slips_from, slip_size}
 use Rattle.packet_sync.specs.FieldsLeftOut.{fields_from, fields_left_out, packet_at, with_packet, with_packets}
-use Rattle.packet_sync.specs.Notes.{NotesView, later_slip, all_slips, all_fields, no_notes, SayAlike, IsNoted, with_stretch, with_slip}
+use Rattle.packet_sync.specs.Notes.{NotesView, later_slip, no_notes, SayAlike, IsNoted, with_stretch, with_slip}
 use Rattle.packet_sync.specs.Stretches.{IsOfPackets, IsStepped, IsSteppedSoFar}
 use Rattle.packet_sync.specs.declared.left_out.FieldLeftOut.{FieldLeftOut}
 use Rattle.packet_sync.specs.declared.slip.Slip.{Slip}

@@ -1,11 +1,9 @@
 -- PAT and PMT come before the packets of a job's streams.
-use Rattle.std.proofs.Common.{◌≡◌, ℕ, ◌*◌, false, List, take, slice_get, Some, sym, ap, subst, ◌∙◌}
-use Rattle.pes_packet.specs.AccessUnits.{AccessUnit}
+use Rattle.std.proofs.Common.{◌≡◌, ℕ, ◌*◌, false, List, take, slice_get, Some, sym, subst}
 use Rattle.pes_packet.specs.Units.{units_of}
-use Rattle.ts_packet.specs.PidList.{Entry, pid_list}
+use Rattle.ts_packet.specs.PidList.{pid_list}
 use Rattle.plan_timing.specs.Promised.{PlanLaw}
 use Rattle.mux_core.specs.Histories.{content_at}
-use Rattle.mux_core.specs.WholeJobs.{job_history, output_of}
 use Rattle.mux_core.proofs.JobWriting.{output_bytes}
 use Rattle.round_trip_run.specs.FollowedTables.{IsFollowed}
 use Rattle.round_trip_run.specs.TablesFirst.{TablesFirstLaw as RunTablesFirst}

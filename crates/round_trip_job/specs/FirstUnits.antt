@@ -1,5 +1,5 @@
 -- The first units of a job: none is due earlier than 2 s after the run's begin, so that PAT and PMT come before each packet of a stream.
-use Rattle.std.specs.Prelude.{◌≡◌, ◌≤◌, ◌<◌, ℕ, ◌+◌, ◌*◌, ◌%◌, ◌^◌, false, List, [], ◌∷◌, take, slice_get, Some, Ok, All}
+use Rattle.std.specs.Prelude.{◌≡◌, ◌<◌, ℕ, ◌+◌, ◌*◌, ◌%◌, ◌^◌, false, List, [], ◌∷◌, take, slice_get, Some, Ok, All}
 use Rattle.pes_packet.specs.AccessUnits.{AccessUnit}
 use Rattle.pes_packet.specs.Units.{units_of}
 use Rattle.ts_packet.specs.PidList.{Entry, pid_list}

@@ -1,11 +1,10 @@
 -- PAT and PMT have come before the packets of a stream.
-use Rattle.std.proofs.Common.{◌≡◌, ◌≤◌, ◌<◌, ℕ, zero, suc, ◌+◌, ◌*◌, ◌%◌, ◌==◌, nat_eq, Bool, true, false, List, [], ◌∷◌, ◌++◌, length, map, take, replicate, option_map, Option, Some, None, slice_get, All, refl, sym, ap, subst, ◌∙◌, inl, inr, arith, eqb-true}
+use Rattle.std.proofs.Common.{◌≡◌, ◌≤◌, ◌<◌, ℕ, zero, suc, ◌+◌, ◌*◌, ◌%◌, nat_eq, Bool, true, false, List, [], ◌∷◌, ◌++◌, length, map, take, replicate, option_map, Option, Some, slice_get, All, refl, sym, ap, subst, ◌∙◌, inl, inr, arith}
 use Rattle.std.specs.Prelude.{cond}
 use Rattle.std.specs.List.{flat_map}
 use Rattle.std.proofs.Math.Nat.{mul-le-mul_right}
 use Rattle.std.proofs.Math.Seq.{take-append-add}
 use Rattle.std.proofs.lemmas.Bool.{cases_Bool, cases_lt, false≢true}
-use Rattle.std.proofs.lemmas.List.{length-append}
 use Rattle.std.proofs.lemmas.List.Concat.{flat_map-cons}
 use Rattle.std.proofs.lemmas.List.Elements.{All-head, All-tail}
 use Rattle.std.proofs.lemmas.Option.{slice_get-map}
@@ -23,7 +22,7 @@ use Rattle.description.specs.Ranges.{IsInRange}
 use Rattle.description.specs.Tables.{table_count, table_limit, round_packets}
 use Rattle.description.proofs.SectionCounts.{sections_law}
 use Rattle.slot_plan.specs.declared.slot.Slot.{Slot}
-use Rattle.slot_plan.specs.declared.slot.Slot.TheVariants.{Stream, Pcr, Table, Null}
+use Rattle.slot_plan.specs.declared.slot.Slot.TheVariants.{Stream, Table}
 use Rattle.slot_plan.specs.declared.slot.Item.TheVariants.{Table as TableItem}
 use Rattle.slot_plan.specs.Items.{is_own}
 use Rattle.slot_plan.specs.Schedule.{slot_of, owned}
@@ -31,7 +30,7 @@ use Rattle.slot_plan.specs.SlotPids.{slot_pid}
 use Rattle.slot_plan.specs.TableRounds.{section_starts, first_packet}
 use Rattle.slot_plan.proofs.SlotPids.{slots_apart, slots_below}
 use Rattle.unit_queue.specs.OwnedStreams.{OwnedStream, pes_bytes, packet_count}
-use Rattle.unit_queue.specs.Payloads.{marked, pes_pieces, piece_in, all_pieces, all_senders}
+use Rattle.unit_queue.specs.Payloads.{pes_pieces, piece_in, all_pieces, all_senders}
 use Rattle.mux_core.specs.Scheduled.{Scheduled}
 use Rattle.mux_core.specs.Histories.{owned_stream, content_at}
 use Rattle.mux_core.specs.Headline.{StreamKept, UnitsKept}

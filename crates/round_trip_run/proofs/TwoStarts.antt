@@ -1,5 +1,5 @@
 -- A table whose sections recur within half a second begins twice in a run of more than a second, so that the first section is whole.
-use Rattle.std.proofs.Common.{◌≡◌, ◌≤◌, ◌<◌, ℕ, zero, suc, ◌+◌, ◌-◌, ◌*◌, Bool, true, false, List, [], ◌∷◌, ◌++◌, length, map, take, Option, Some, slice_get, option_map, All, refl, sym, ap, subst, ◌∙◌, inl, inr, arith}
+use Rattle.std.proofs.Common.{◌≡◌, ◌≤◌, ◌<◌, ℕ, zero, suc, ◌+◌, ◌-◌, ◌*◌, Bool, true, List, [], ◌∷◌, ◌++◌, length, map, take, Option, Some, slice_get, option_map, All, refl, sym, ap, subst, ◌∙◌, inl, inr, arith}
 use Rattle.std.specs.List.{concat, flat_map}
 use Rattle.std.specs.Simd.{first_chunks}
 use Rattle.std.proofs.lemmas.Bool.{cases_Bool}
@@ -19,7 +19,7 @@ use Rattle.description.proofs.Pids.{at_place}
 use Rattle.slot_plan.specs.TableRounds.{section_starts}
 use Rattle.unit_queue.specs.Payloads.{marked, piece_in}
 use Rattle.table_rounds.specs.Tables.{Table, round_places}
-use Rattle.table_rounds.specs.Payloads.{table_payloads, Begins}
+use Rattle.table_rounds.specs.Payloads.{table_payloads}
 use Rattle.round_trip_pid.specs.Sections.{filled_section, section_packets, section_pieces}
 use Rattle.round_trip_pid.specs.Rounds.{sections_of_rounds}
 use Rattle.round_trip_pid.proofs.FoundInRun.{piece_lists}

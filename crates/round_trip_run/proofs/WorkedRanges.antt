@@ -1,10 +1,9 @@
 -- The worked service is in its ranges.
-use Rattle.std.specs.Prelude.{Contains, IsTrue}
+use Rattle.std.specs.Prelude.{Contains}
 use Rattle.std.specs.List.{IsDistinct}
-use Rattle.std.specs.Option.{option_to_list}
-use Rattle.std.proofs.Common.{◌≡◌, ◌≤◌, ◌<◌, ℕ, List, [], ◌∷◌, length, All, refl, inr, arith}
+use Rattle.std.proofs.Common.{◌≡◌, ◌≤◌, ◌<◌, ℕ, List, [], All, refl, inr, arith}
 use Rattle.std.proofs.lemmas.List.Elements.{All-nil, All-cons}
-use Rattle.description.specs.Described.{DescribedNetwork, DescribedProgram, DescribedStream, DescribedEvent, DescribedTable}
+use Rattle.description.specs.Described.{DescribedNetwork, DescribedProgram, DescribedStream}
 use Rattle.description.specs.Tables.{pmt_length, nit_length}
 use Rattle.description.specs.Ranges.{IsPid, IsBytes, IsLanguage, IsNetwork, IsProgram, IsEvent, IsStream, IsTable, IsListed, IsSharing, IsInRange, program_numbers, longest_section}
 use Rattle.round_trip_run.specs.WorkedService.{worked_stream, worked_program, worked_service}

@@ -1,5 +1,5 @@
 -- A small run: its premises, and its bytes.
-use Rattle.std.proofs.Common.{◌≡◌, ℕ, zero, suc, List, [], ◌∷◌, Some, None, slice_get, All, refl, subst, sym, arith}
+use Rattle.std.proofs.Common.{◌≡◌, ℕ, zero, suc, List, [], ◌∷◌, Some, None, slice_get, All, refl, subst, arith}
 use Rattle.std.proofs.lemmas.List.Elements.{All-nil, All-cons}
 use Rattle.own_slots.specs.Slots.{own_before}
 use Rattle.own_slots.specs.Period.{places}
@@ -10,7 +10,6 @@ use Rattle.psi_tables.specs.Encoding.{check_word_bytes, start_bytes, long_header
 use Rattle.psi_tables.specs.ProgramAssociation.{program_bytes, programs_bytes, pat_header, pat_section}
 use Rattle.psi_tables.specs.ProgramMap.{info_length_bytes, pid_bytes, stream_entry, stream_bytes, streams_bytes, pmt_body, pmt_header, pmt_section}
 use Rattle.psi_tables.specs.Loops.{entry_bytes}
-use Rattle.pes_packet.specs.AccessUnits.{AccessUnit}
 use Rattle.pes_packet.specs.Encoding.{pes_start_bytes, packet_length, stamp_bytes, pts_header, pts_dts_header, pes_header_bytes, pes_packet_bytes}
 use Rattle.pes_packet.specs.Units.{units_of}
 use Rattle.ts_packet.specs.Writing.{header_bytes as packet_header_bytes, reference_bytes, flags_of, parts_bytes, adaptation_bytes, packet_bytes}

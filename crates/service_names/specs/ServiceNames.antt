@@ -1,10 +1,10 @@
 -- The names of the services of programs, as service description tables of this stream say them (EN 300 468, 5.2.3 and 6.2.33).
-use Rattle.std.specs.Prelude.{ℕ, ◌%◌, ◌==◌, ◌&&◌, Bool, if◌then◌else◌, List, [], ◌∷◌, length, map, slice_index, Option, Some, None, option_and_then}
+use Rattle.std.specs.Prelude.{ℕ, ◌%◌, ◌==◌, ◌&&◌, Bool, if◌then◌else◌, List, [], ◌∷◌, length, map, slice_index, Option, Some, None}
 use Rattle.std.specs.Option.{option_map, option_or}
 use Rattle.demux.specs.Views.{FindingView}
 use Rattle.demux.specs.Stream.{StreamState, start, pushed}
 use Rattle.demux.specs.FoundSoFar.{with_found}
-use Rattle.stream_programs.specs.Programs.{FoundProgramView, FoundProgramsView}
+use Rattle.stream_programs.specs.Programs.{FoundProgramView}
 use Rattle.stream_programs.specs.Services.{FoundServiceView, service}
 use Rattle.stream_programs.specs.Texts.{decode_text}
 use Rattle.named_streams.specs.NamedStreams.{NamedView}

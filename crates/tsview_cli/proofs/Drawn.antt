@@ -1,20 +1,18 @@
 -- A page that is drawn of a stream piece by piece, whole packets in each but the last.
-use Rattle.std.proofs.Common.{◌≡◌, ℕ, ◌+◌, ◌*◌, ◌/◌, ◌%◌, List, [], ◌∷◌, ◌++◌, length, drop, refl, sym, ap, subst, ◌∙◌, arith, Result, Ok, Err}
+use Rattle.std.proofs.Common.{◌≡◌, ℕ, ◌+◌, ◌*◌, ◌/◌, ◌%◌, List, [], ◌∷◌, ◌++◌, length, refl, sym, subst, arith, Result, Ok, Err}
 use Rattle.std.specs.Prelude.{IfErr, IfOk, OnOk, if◌then◌else◌, string_bytes}
 use Rattle.ts_packet.specs.PidList.{cut_packets}
 use Rattle.stream_report.specs.Choices.{RequestView}
 use Rattle.stream_report.specs.ClockedViews.{ClockedState, after_all, after_packet, start}
 use Rattle.view_page.specs.Pages.{PageState}
 use Rattle.devices.specs.Devices.{Device}
-use Rattle.devices.specs.WholeInput.{ReadsInput, TakesAll, TakesInput}
+use Rattle.devices.specs.WholeInput.{ReadsInput, TakesAll}
 use Rattle.devices.specs.declared.halt.Halt.{Halt}
 use Rattle.devices.specs.declared.halt.Halt.TheVariants.{Memory}
 use Rattle.tsview_cli.specs.declared.drawing.Drawing.{Drawing}
 use Rattle.tsview_cli.specs.declared.drawing.DrawnPage.{DrawnPage}
 use Rattle.tsview_cli.specs.Drawing.{Draws, IsDrawn, IsWritten, DrawsPage, TakesPackets, drawn, first_page, page_after, page_of}
-use Rattle.devices.specs.Outcomes.{Outcome, printed}
-use Rattle.view_page.specs.PageText.{page_text}
-use Rattle.stream_report.specs.ClockedViews.{is_good}
+use Rattle.devices.specs.Outcomes.{printed}
 use Rattle.tsview_cli.specs.Viewing.{kept_of, left_in}
 use Rattle.tsview_cli.proofs.Pieces.{after_both, cut_both}
 

@@ -1,4 +1,4 @@
-use Rattle.std.proofs.Common.{◌≡◌, ◌∙◌, ◌++◌, List, ℕ, ap, map, string_bytes}
+use Rattle.std.proofs.Common.{◌∙◌, ◌++◌, List, ℕ, ap, map, string_bytes}
 use Rattle.job_lines.specs.InputLines.{name_of}
 use Rattle.job_outcomes.specs.SeveralInputs.{under}
 use Rattle.job_outcomes.specs.StreamFiles.{TakenView, taken_lines}

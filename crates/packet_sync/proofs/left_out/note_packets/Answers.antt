@@ -1,4 +1,4 @@
-use Rattle.std.proofs.Common.{◌≡◌, ◌∙◌, ◌*◌, ap, sym, refl, add-one}
+use Rattle.std.proofs.Common.{◌∙◌, ◌*◌, ap, refl, add-one}
 use Rattle.packet_sync.specs.FieldsLeftOut.{packet_at, with_packet, with_packets}
 use Rattle.packet_sync.proofs.left_out.note_packets.Goals as goal
 

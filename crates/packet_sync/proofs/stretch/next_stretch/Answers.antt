@@ -1,4 +1,4 @@
-use Rattle.std.proofs.Common.{◌≡◌, ◌≤◌, suc, ◌+◌, ◌*◌, ◌++◌, inl, inr, refl, length, arith}
+use Rattle.std.proofs.Common.{◌≤◌, suc, ◌+◌, ◌++◌, inl, inr, refl, length, arith}
 use Rattle.packet_sync.proofs.Stretches.{known_by, a_packet, no_packet, so_far_none, so_far_packet, next_slip, next_last, steady_last, steady_none, steady_packet, stepped_none, stepped_slip}
 use Rattle.packet_sync.proofs.stretch.next_stretch.Goals as goal
 

@@ -1,6 +1,6 @@
-use Rattle.std.proofs.Common.{◌≡◌, ◌∙◌, Some, None, refl, sym}
+use Rattle.std.proofs.Common.{◌∙◌, Some, None, refl, sym}
 use Rattle.word_faults.proofs.UsageReports.{of_usage}
-use Rattle.tsjob_cli.proofs.FileWords.{files_asked, no_memory_for_files, some_and_none, version_is_no_file}
+use Rattle.tsjob_cli.proofs.FileWords.{files_asked, some_and_none, version_is_no_file}
 use Rattle.tsjob_cli.proofs.program.run_on_files.Goals as goal
 
 pub returns-in-Ok-None-clause-version : goal.returns-in-Ok-None-clause-version

@@ -1,4 +1,4 @@
-use Rattle.std.proofs.Common.{◌≡◌, ℕ, refl, string_bytes}
+use Rattle.std.proofs.Common.{refl, string_bytes}
 use Rattle.std.specs.Prelude.{if◌then◌else◌}
 use Rattle.devices.specs.Outcomes.{printed}
 use Rattle.devices.proofs.Performances.{reports_none, text_unwritten, text_written}

@@ -1,4 +1,4 @@
-use Rattle.std.proofs.Common.{◌≡◌, ◌≤◌, ◌+◌, ◌∙◌, ℕ, List, take, drop, length, length-drop, refl, sym, ap, subst, arith}
+use Rattle.std.proofs.Common.{ℕ, take, drop, length, length-drop, refl, sym, ap, subst, arith}
 use Rattle.job_outcomes.specs.Streams.{IsCarriedTo, PacketsView}
 use Rattle.job_outcomes.proofs.Carrying.{stretch_carried}
 use Rattle.job_outcomes.proofs.carried_stream.CarriedPackets.take_decided.Goals as goal

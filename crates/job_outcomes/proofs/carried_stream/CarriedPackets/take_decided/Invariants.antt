@@ -1,4 +1,4 @@
-use Rattle.std.proofs.Common.{◌≡◌, ◌≤◌, ℕ, ◌-◌, List, length, drop}
+use Rattle.std.proofs.Common.{◌≤◌, ℕ, ◌-◌, List, length, drop}
 use Rattle.job_outcomes.specs.Streams.{IsCarriedTo}
 use Rattle.job_outcomes.proofs.carried_stream.CarriedPackets.take_decided.Given as goal
 

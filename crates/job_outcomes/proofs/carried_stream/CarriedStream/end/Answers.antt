@@ -1,4 +1,4 @@
-use Rattle.std.proofs.Common.{◌≡◌, ◌∙◌, List, ℕ, true, false, drop, refl, sym, ap, subst}
+use Rattle.std.proofs.Common.{◌≡◌, ◌∙◌, true, false, drop, refl, sym, ap, subst}
 use Rattle.packet_sync.specs.Notes.{NotesView}
 use Rattle.job_outcomes.specs.Streams.{CarriedView, IsCarriedTo, PacketsView}
 use Rattle.job_outcomes.proofs.Carrying.{carried_as, no_more, stream_ended}

@@ -1,4 +1,4 @@
-use Rattle.std.proofs.Common.{◌≡◌, ◌≤◌, ◌-◌, ◌++◌, ◌∙◌, ℕ, List, [], drop, length, refl, sym, ap, append-nil, arith}
+use Rattle.std.proofs.Common.{◌≡◌, ◌≤◌, ◌-◌, ◌++◌, ◌∙◌, ℕ, List, drop, length, refl, sym, ap, append-nil, arith}
 use Rattle.job_outcomes.proofs.Carrying.{carried_as, front_taken, rest_is}
 use Rattle.job_outcomes.proofs.carried_stream.CarriedStream.take.Goals as goal
 

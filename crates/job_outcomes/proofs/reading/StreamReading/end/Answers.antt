@@ -1,4 +1,4 @@
-use Rattle.std.proofs.Common.{◌≡◌, false, sym, subst}
+use Rattle.std.proofs.Common.{false, sym, subst}
 use Rattle.job_outcomes.specs.Streams.{IsCarriedTo, ReadingView}
 use Rattle.job_outcomes.proofs.Fronts.{none_other}
 use Rattle.job_outcomes.proofs.reading.StreamReading.end.Goals as goal

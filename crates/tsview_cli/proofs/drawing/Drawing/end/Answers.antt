@@ -1,4 +1,4 @@
-use Rattle.std.proofs.Common.{◌≡◌, ◌∙◌, ◌++◌, ℕ, List, ap, subst, string_bytes}
+use Rattle.std.proofs.Common.{◌≡◌, ◌∙◌, ◌++◌, ℕ, List, ap, subst}
 use Rattle.stream_report.specs.ClockedViews.{end_lines}
 use Rattle.view_page.specs.Pages.{IsPage, after_text}
 use Rattle.tsview_cli.proofs.drawing.Drawing.end.Goals as goal
