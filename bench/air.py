@@ -8,7 +8,7 @@ import sys
 import tempfile
 from pathlib import Path
 
-from common import SIZES, audio_front, audio_job, audio_pieces, beside, copy_seconds, least, limit_spent, peak_bytes, peak_of_pipe
+from common import SIZES, audio_front, audio_job, audio_pieces, beside, least, measured, peak_bytes, peak_of_pipe
 
 tsmux, tsair = sys.argv[1:3]
 LONG = int(sys.argv[3]) if len(sys.argv) > 3 else 4
@@ -22,7 +22,7 @@ for streams in (1, 32):
             with open(made, "rb") as source:
                 same = subprocess.run([tsmux, "mux"], stdin=source, capture_output=True, check=True).stdout == packets.read_bytes()
             count = packets.stat().st_size // 188
-            ours, limit, copy, mux = least([tsair], made), limit_spent(packets), copy_seconds(count), least([tsmux, "mux"], made)
+            (ours, limit, copy), mux = measured([tsair], made, packets), least([tsmux, "mux"], made)
             size, most = made.stat().st_size / 1e6, peak_bytes([tsair], made) / 1e6
             print(beside(f"tsair, {streams} streams, {size:.0f} MB of job", count, ours, limit, copy) + f"; {'the bytes of' if same else 'NOT THE BYTES OF'}"
                   f" mux, which takes {mux.whole:.2f} s; at most {most:.1f} MB of memory")

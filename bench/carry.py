@@ -9,7 +9,7 @@ import sys
 import tempfile
 from pathlib import Path
 
-from common import beside, copy_seconds, least, limit_spent
+from common import beside, measured
 
 binary = sys.argv[1]
 words = [binary, "carry", "--id", "224"]
@@ -25,4 +25,4 @@ for size in (20_000, 576):
             with open(made, "rb") as source, open(packets, "wb") as sink:
                 subprocess.run(words, stdin=source, stdout=sink, check=True)
             sent = packets.stat().st_size // 188
-            print(beside(f"carry, units of {size} bytes", sent, least(words, made), limit_spent(packets), copy_seconds(sent)))
+            print(beside(f"carry, units of {size} bytes", sent, *measured(words, made, packets)))

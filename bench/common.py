@@ -8,6 +8,7 @@ import struct
 import subprocess
 import sys
 import tempfile
+from contextlib import contextmanager
 from pathlib import Path
 from typing import NamedTuple
 
@@ -127,28 +128,47 @@ def spent(words, path=None):
     return Spent(after.ru_utime - before.ru_utime, after.ru_stime - before.ru_stime)
 
 
+# The speed of a shared machine changes from one second to the next: of so many runs the least is taken.
+RUNS = 11
+
+
 def least(words, path=None):
-    """The least of five runs."""
-    return min((spent(words, path) for _ in range(5)), key=lambda it: it.whole)
+    """The least of these runs."""
+    return min((spent(words, path) for _ in range(RUNS)), key=lambda it: it.whole)
 
 
-def limit_spent(packets):
-    """What the machine takes at least for these packets: a program that reads them, copies each, and writes them, through pieces
-    of 64 KiB; its output goes where `spent` lets that of any program go."""
+@contextmanager
+def compiled(**sources):
+    """The programs of these texts in C, by name."""
     with tempfile.TemporaryDirectory() as scratch:
-        source, binary = Path(scratch, "limit.c"), Path(scratch, "limit")
-        source.write_text(LIMIT)
-        subprocess.run(["cc", "-O2", "-o", binary, source], check=True)
-        return least([binary], packets)
+        programs = []
+        for name, text in sources.items():
+            source, binary = Path(scratch, name + ".c"), Path(scratch, name)
+            source.write_text(text)
+            subprocess.run(["cc", "-O2", "-o", binary, source], check=True)
+            programs.append(binary)
+        yield programs
+
+
+def copied(binary, packets):
+    """The processor time of a copy, packet by packet, of so many packets in memory that is at hand."""
+    return float(subprocess.run([binary, str(packets)], capture_output=True, check=True, text=True).stdout.split()[0])
+
+
+def measured(words, path, packets):
+    """What a program takes, whose standard input is the file at `path`; what the machine takes at least for these packets: a program that
+    reads them, copies each, and writes them, through pieces of 64 KiB, whose output goes where `spent` lets that of any program go; and
+    what a copy of as many in memory takes. The least of as many runs, one of each in turn."""
+    count = packets.stat().st_size // 188
+    with compiled(limit=LIMIT, copy=COPY) as (limit, copy):
+        ours, limits, copies = zip(*((spent(words, path), spent([limit], packets), copied(copy, count)) for _ in range(RUNS)))
+    return min(ours, key=lambda it: it.whole), min(limits, key=lambda it: it.whole), min(copies)
 
 
 def hold_spent(job, count):
     """What a plain program takes that holds this job before it writes so many packets; no bound for others."""
-    with tempfile.TemporaryDirectory() as scratch:
-        source, binary = Path(scratch, "hold.c"), Path(scratch, "hold")
-        source.write_text(HOLD)
-        subprocess.run(["cc", "-O2", "-o", binary, source], check=True)
-        return least([binary, count], job)
+    with compiled(hold=HOLD) as (hold,):
+        return least([hold, count], job)
 
 
 def beside(name, count, ours, limit, copy):
@@ -184,13 +204,9 @@ def peak_bytes(words, path):
 
 
 def copy_seconds(packets):
-    """The processor time of a copy, packet by packet, of so many packets in memory that is at hand."""
-    with tempfile.TemporaryDirectory() as scratch:
-        source, binary = Path(scratch, "copy.c"), Path(scratch, "copy")
-        source.write_text(COPY)
-        subprocess.run(["cc", "-O2", "-o", binary, source], check=True)
-        runs = (subprocess.run([binary, str(packets)], capture_output=True, check=True, text=True).stdout for _ in range(5))
-        return min(float(run.split()[0]) for run in runs)
+    """That of such a copy: the least of as many runs."""
+    with compiled(copy=COPY) as (copy,):
+        return min(copied(copy, packets) for _ in range(RUNS))
 
 
 def built(work, name, uses):

@@ -11,7 +11,7 @@ import sys
 import tempfile
 from pathlib import Path
 
-from common import beside, built, copy_seconds, least, limit_spent, peak_bytes, television_job
+from common import beside, built, least, measured, peak_bytes, television_job
 
 PAT = bytes.fromhex("4740001000" "00b00d0001c100000001f0002ab104b2") + b"\xff" * 167
 
@@ -42,7 +42,7 @@ with tempfile.TemporaryDirectory() as scratch:
             stream = work / "stream.ts"
             stream.write_bytes(made(binary, size))
             count = stream.stat().st_size // 188
-            ours, limit, copy = least([binary, "demux"], stream), limit_spent(stream), copy_seconds(count)
+            ours, limit, copy = measured([binary, "demux"], stream, stream)
             print(beside(f"demux, {made.__name__}, {size // 1_000_000} MB", count, ours, limit, copy)
                   + f"; at most {peak_bytes([binary, 'demux'], stream) / 1e6:.0f} MB of memory")
             none = least([calls], stream).whole

@@ -9,7 +9,7 @@ import sys
 import tempfile
 from pathlib import Path
 
-from common import beside, copy_seconds, least, limit_spent, peak_bytes, television_job
+from common import beside, measured, peak_bytes, television_job
 
 PAT = bytes.fromhex("4740001000" "00b00d0001c100000001f0002ab104b2") + b"\xff" * 167
 # A PMT without streams, so that the program that the PAT names is never late.
@@ -48,12 +48,12 @@ binary = sys.argv[1]
 words = [binary, "monitor", "--rate", "100000000"]
 
 
-def measured(name, stream):
+def tell(name, stream):
     """A line on a stream without faults."""
     count = stream.stat().st_size // 188
     report = subprocess.run(words, stdin=open(stream, "rb"), stdout=subprocess.PIPE, check=True).stdout
     assert report.endswith(b"\nfaults 0\n"), report[-200:]
-    print(beside(f"monitor, {name}, {stream.stat().st_size / 1e6:.0f} MB", count, least(words, stream), limit_spent(stream), copy_seconds(count)))
+    print(beside(f"monitor, {name}, {stream.stat().st_size / 1e6:.0f} MB", count, *measured(words, stream, stream)))
 
 
 with tempfile.TemporaryDirectory() as scratch:
@@ -61,9 +61,9 @@ with tempfile.TemporaryDirectory() as scratch:
     turns = radio(binary)
     for size in (46_000_000, 150_000_000):
         stream.write_bytes(subprocess.run([binary, "mux"], input=television_job(binary, size), stdout=subprocess.PIPE, check=True).stdout)
-        measured("television", stream)
+        tell("television", stream)
         stream.write_bytes(turns * (size // len(turns)))
-        measured("radio", stream)
+        tell("radio", stream)
     for times in (1, 13):
         peak = peak_bytes(["sh", "-c", PIPED, stream, times, binary], "/dev/null")
         print(f"monitor: {times * stream.stat().st_size / 1e9:.1f} GB through a pipe, at most {peak / 1e6:.1f} MB of memory")

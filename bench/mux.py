@@ -9,7 +9,7 @@ import sys
 import tempfile
 from pathlib import Path
 
-from common import SIZES, TELEVISION_SIZES, audio_job, beside, copy_seconds, hold_spent, least, limit_spent, peak_bytes, television_job
+from common import SIZES, TELEVISION_SIZES, audio_job, beside, hold_spent, least, measured, peak_bytes, television_job
 
 binary = sys.argv[1]
 jobs = (
@@ -25,7 +25,7 @@ for name, sizes, job in jobs:
             with open(made, "rb") as source, open(packets, "wb") as sink:
                 subprocess.run([binary, "mux"], stdin=source, stdout=sink, check=True)
             count = packets.stat().st_size // 188
-            ours, limit, copy = least([binary, "mux"], made), limit_spent(packets), copy_seconds(count)
+            ours, limit, copy = measured([binary, "mux"], made, packets)
             hold = hold_spent(made, count)
             slots = ours.whole - least([binary, "mux", "--slots", "0"], made).whole
             size, most = made.stat().st_size / 1e6, peak_bytes([binary, "mux"], made) / 1e6

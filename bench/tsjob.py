@@ -9,7 +9,7 @@ import sys
 import tempfile
 from pathlib import Path
 
-from common import audio_job, beside, copy_seconds, least, limit_spent, peak_bytes, peak_of_pipe, television_job, television_pieces, television_text
+from common import audio_job, beside, measured, peak_bytes, peak_of_pipe, television_job, television_pieces, television_text
 
 tsjob, tsmux = sys.argv[1:3]
 LONG = int(sys.argv[3]) if len(sys.argv) > 3 else 4
@@ -25,7 +25,6 @@ for name, job in jobs:
             with open(stream, "wb") as sink:
                 subprocess.run([tsmux, "mux"], input=job(wanted), stdout=sink, check=True)
             size = stream.stat().st_size
-            limit, copy = limit_spent(stream), copy_seconds(size // 188)
             description = Path(scratch, "description")
             with open(stream, "rb") as source, open(description, "wb") as sink:
                 subprocess.run([tsjob, "describe"], stdin=source, stdout=sink, stderr=subprocess.DEVNULL)
@@ -34,7 +33,7 @@ for name, job in jobs:
                 # 1: what the end of the input cuts short is told, beside a job of the rest
                 assert done.returncode in (0, 1) and done.stdout, done.stderr[-500:]
                 most = peak_bytes([tsjob, *word], stream)
-                print(beside(" ".join(["tsjob", *word[:2]]) + f", {name}, {size / 1e6:.0f} MB", size // 188, least([tsjob, *word], stream), limit, copy)
+                print(beside(" ".join(["tsjob", *word[:2]]) + f", {name}, {size / 1e6:.0f} MB", size // 188, *measured([tsjob, *word], stream, stream))
                       + f"; {len(done.stdout) / 1e6:.1f} MB of job, at most {most / 1e6:.0f} MB of memory, {most / size:.2f} times the stream")
 with tempfile.TemporaryDirectory() as scratch:
     description = Path(scratch, "description")

@@ -8,7 +8,7 @@ import sys
 import tempfile
 from pathlib import Path
 
-from common import audio_job, beside, copy_seconds, least, limit_spent, peak_bytes, television_job
+from common import audio_job, beside, measured, peak_bytes, television_job
 
 tsview, tsmux = sys.argv[1:3]
 jobs = (
@@ -28,5 +28,5 @@ for name, job in jobs:
             words = [tsview, "--rate", rate]
             done = subprocess.run(words, stdin=open(stream, "rb"), capture_output=True)
             assert done.returncode == 0, done.stderr[-500:]
-            print(beside(f"tsview, {name}, {size / 1e6:.0f} MB", size // 188, least(words, stream), limit_spent(stream), copy_seconds(size // 188))
+            print(beside(f"tsview, {name}, {size / 1e6:.0f} MB", size // 188, *measured(words, stream, stream))
                   + f"; {len(done.stdout) / 1e3:.0f} kB of lines, at most {peak_bytes(words, stream) / 1e6:.0f} MB of memory")
