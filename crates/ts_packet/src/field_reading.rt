@@ -1,5 +1,5 @@
 //! Reading an adaptation field from its first byte on.
-ghost use Rattle.std.specs.Prelude.{◌≡◌, ◌^◌, ◌<◌, length};
+ghost use Rattle.std.specs.Prelude.{◌≡◌, ◌^◌, ◌<◌, false, length};
 ghost use Rattle.std.specs.Option.{option_map};
 ghost use Rattle.bit_fields.specs.Fields.{flag};
 ghost use Rattle.bit_fields.specs.Reading.{Gives};
@@ -74,8 +74,21 @@ fn length_prefixed_at(flagged: bool, bytes: &[u8]) -> Result<(Option<&[u8]>, &[u
     }
 }
 
+// Whether a part is announced.
+fn has_parts(flags: u8) -> bool
+    ensures pcr { result ≡ false → flag flags 16 ≡ false }
+    ensures opcr { result ≡ false → flag flags 8 ≡ false }
+    ensures countdown { result ≡ false → flag flags 4 ≡ false }
+    ensures private { result ≡ false → flag flags 2 ≡ false }
+    ensures extension { result ≡ false → flag flags 1 ≡ false }
+{
+    flag(flags, 4) || flag(flags, 3) || flag(flags, 2) || flag(flags, 1) || flag(flags, 0)
+}
+
+// The parts that the flags announce. It stays a call of its own: most fields have stuffing alone.
+#[inline(never)]
 #[tactic(auto, unfolding(crate::specs::Reading::parts_at))]
-fn parts_at(flags: u8, bytes: &[u8]) -> Result<AdaptationField<'_>, PacketError>
+fn announced_at(flags: u8, bytes: &[u8]) -> Result<AdaptationField<'_>, PacketError>
     ensures { Gives field_view result (parts_at flags bytes.now) }
 {
     let (pcr, bytes) = reference_at(flag(flags, 4), bytes)?;
@@ -93,6 +106,27 @@ fn parts_at(flags: u8, bytes: &[u8]) -> Result<AdaptationField<'_>, PacketError>
         private_data,
         extension,
         stuffing,
+    })
+}
+
+#[inline(always)]
+#[tactic(auto, unfolding(crate::specs::Reading::parts_at, crate::specs::Reading::reference_at, crate::specs::Reading::countdown_at, crate::specs::Reading::length_prefixed_at))]
+fn parts_at(flags: u8, bytes: &[u8]) -> Result<AdaptationField<'_>, PacketError>
+    ensures { Gives field_view result (parts_at flags bytes.now) }
+{
+    if has_parts(flags) {
+        return announced_at(flags, bytes);
+    }
+    Ok(AdaptationField {
+        discontinuity_indicator: flag(flags, 7),
+        random_access_indicator: flag(flags, 6),
+        elementary_stream_priority_indicator: flag(flags, 5),
+        pcr: None,
+        opcr: None,
+        splice_countdown: None,
+        private_data: None,
+        extension: None,
+        stuffing: bytes,
     })
 }
 

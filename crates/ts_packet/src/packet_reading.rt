@@ -23,6 +23,8 @@ fn header_of(bytes: &[u8; 188]) -> Header
     }
 }
 
+// What follows the header. It stays a call of its own: most packets have no adaptation field.
+#[inline(never)]
 #[tactic(auto, unfolding(crate::specs::Reading::body_at))]
 fn body_at(header: Header, control: u8, bytes: &[u8]) -> Result<Packet<'_>, PacketError>
     requires { length bytes.now ≡ 184 }
@@ -54,7 +56,8 @@ fn body_at(header: Header, control: u8, bytes: &[u8]) -> Result<Packet<'_>, Pack
     }
 }
 
-#[tactic(auto, unfolding(crate::specs::Reading::packet_at))]
+#[inline(always)]
+#[tactic(auto, unfolding(crate::specs::Reading::packet_at, crate::specs::Reading::body_at))]
 fn packet_at(bytes: &[u8; 188]) -> Result<Packet<'_>, PacketError>
     ensures { Gives packet_view result (packet_at bytes.now) }
 {
@@ -62,7 +65,16 @@ fn packet_at(bytes: &[u8; 188]) -> Result<Packet<'_>, PacketError>
         return Err(PacketError::Sync);
     }
     let (_header, rest) = bytes.split_at(4);
-    body_at(header_of(bytes), bytes[3] >> 4 & 3, rest)
+    let header = header_of(bytes);
+    let control = bytes[3] >> 4 & 3;
+    if control != 1 {
+        return body_at(header, control, rest);
+    }
+    Ok(Packet {
+        header,
+        adaptation: None,
+        payload: Some(rest),
+    })
 }
 
 /// Reads a packet. Its slices borrow from these 188 bytes. Where an adaptation field without payload is shorter than
