@@ -13,3 +13,4 @@ pub mod FoundViews
 pub mod FoundSoFar
 pub mod LeastSizes
 pub mod HeadedUnits
+pub mod NullPackets

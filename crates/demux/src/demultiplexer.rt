@@ -2,6 +2,7 @@
 ghost use Rattle.std.specs.Prelude.{◌≡◌, ◌<◌, ◌≤◌, ◌+◌, ◌++◌, [], false, true, IfOk, IfErr, OnOk, OnErr, map, take};
 ghost use Rattle.std.specs.Prelude.{length};
 ghost use Rattle.bit_fields.specs.Reading.{Gives};
+ghost use Rattle.ts_packet.specs.Packets.{null_packet};
 ghost use Rattle.ts_packet.specs.Reading.{packet_at};
 ghost use Rattle.ts_packet.specs.Views.{packet_view};
 ghost use Rattle.demux.specs.Stream as stream;
@@ -230,6 +231,24 @@ impl<A: Allocator + Copy> Demux<A> {
             }
             Err(_) => Err(DemuxError::Memory { taken: 0 }),
         }
+    }
+
+    // One more packet.
+    fn count(&mut self)
+        ensures { self.new ≡ record self.old { packets = stream.next_packet self.old.packets } }
+    {
+        self.packets = self.packets.saturating_add(1);
+    }
+
+    /// A packet comes in which nothing is found, such as a null packet: it is counted, and nothing else changes. Whether
+    /// the stream has ended is not looked at.
+    #[tactic(auto, using(crate::proofs::NullPackets::null_found))]
+    pub fn skip(&mut self)
+        requires aligned { stream.is_aligned self.old ≡ true }
+        ensures taken { self.new ≡ stream.taken self.old null_packet }
+        ensures none { stream.found_in self.old null_packet ≡ [] }
+    {
+        self.count();
     }
 
     // What the end of the stream decides.
