@@ -207,7 +207,7 @@ fn append_bytes<'a, A: Allocator + Clone>(
 }
 
 // Notes a PES packet whose header was read: its body, of which there are to be `size` bytes, ends with this payload, and is
-// moved to the finding.
+// moved to the finding, with the room that it has.
 fn note_whole<'a, A: Allocator + Clone>(
     alloc: &A,
     place: Place,
@@ -230,7 +230,6 @@ fn note_whole<'a, A: Allocator + Clone>(
     body.extend_from_slice(payload)?;
     let mut whole = mem::replace(body, empty);
     whole.truncate(size);
-    whole.shrink_to_fit();
     let (packet, header) = begun;
     found.push_reserved(Finding {
         packet: place.packet,
