@@ -14,3 +14,4 @@ pub mod FoundSoFar
 pub mod LeastSizes
 pub mod HeadedUnits
 pub mod NullPackets
+pub mod GoingOn

@@ -1,5 +1,5 @@
 -- A null packet changes no state, and nothing is found in it.
-use Rattle.std.proofs.Common.{◌≡◌, List, [], refl}
+use Rattle.std.proofs.Common.{◌≡◌, [], refl}
 use Rattle.ts_packet.specs.Packets.{null_packet}
 use Rattle.ts_packet.proofs.PlainWritten.{null_again}
 use Rattle.demux.specs.Stream.{StreamState, found_in, findings_by, next_packet, states_by, taken}

@@ -5,6 +5,7 @@ pub mod OpenUnits
 pub mod Findings
 pub mod Shown
 pub mod Machine
+pub mod GoingOn
 pub mod Codes
 pub mod Stream
 pub mod Laws

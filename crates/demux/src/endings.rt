@@ -207,7 +207,7 @@ fn append_bytes<'a, A: Allocator + Clone>(
 }
 
 // Notes a PES packet whose header was read: its body, of which there are to be `size` bytes, ends with this payload, and is
-// moved to the finding, with the room that it has.
+// moved to the finding with its room: at most 4,096 bytes, or fewer than twice those that came.
 fn note_whole<'a, A: Allocator + Clone>(
     alloc: &A,
     place: Place,

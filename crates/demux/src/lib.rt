@@ -10,6 +10,7 @@ mod demultiplexer;
 mod endings;
 mod error;
 mod finding;
+mod going_on;
 mod last;
 mod laws;
 mod marks;

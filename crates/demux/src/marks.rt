@@ -28,7 +28,7 @@ fn is_discontinuity(packet: &Packet<'_>) -> bool
 }
 
 /// The counter that follows.
-fn following(counter: u8, has_payload: bool) -> u8
+pub(crate) fn following(counter: u8, has_payload: bool) -> u8
     ensures { result ≡ marks.following counter has_payload }
 {
     if has_payload {

@@ -1,5 +1,5 @@
 //! A whole packet of a stream.
-ghost use Rattle.std.specs.Prelude.{◌≡◌, ◌&&◌, [], ◌∷◌, true, false, OnOk, OnErr, option_map, map};
+ghost use Rattle.std.specs.Prelude.{◌≡◌, ◌&&◌, [], ◌∷◌, true, false, IfOk, OnOk, OnErr, option_map, map};
 ghost use Rattle.bit_fields.specs.Reading.{Gives};
 ghost use Rattle.ts_packet.specs.Reading.{packet_at};
 ghost use Rattle.ts_packet.specs.Views.{packet_view, bytes_view};
@@ -9,6 +9,7 @@ ghost use Rattle.demux.specs.Shown.{has_span};
 ghost use Rattle.demux.specs.Shown.{payload_borrowed, payload_list, what_view};
 
 use crate::finding::{Finding, Part, What};
+use crate::going_on::{is_plain, pid_in};
 use crate::payload_bytes::PayloadBytes;
 use crate::place::Place;
 use crate::states::States;
@@ -52,6 +53,33 @@ pub(crate) fn note_held<'a, A: Allocator + Copy>(
     let bytes = Vec::from_slice(*alloc, held)?;
     note_without_pid(packet, What::Truncated(Part::Joined(bytes)), found)?;
     Ok(())
+}
+
+// Takes a packet in which nothing is found, if its first bytes show that it is one: a null packet, or one that goes on
+// with an open unit. Whether they do; else nothing changes.
+#[tactic(auto, unfolding(crate::specs::Stream::states_by, crate::specs::Stream::findings_by, crate::specs::Stream::within_by))]
+fn pass<A: Allocator + Copy>(
+    states: &mut States<A>,
+    index: u64,
+    bytes: &[u8; 188],
+) -> Result<bool, AllocError>
+    ensures states { IfOk result (λ passed. passed ≡ true →
+        states.new ≡ states_by index bytes.now states.old (packet_at bytes.now)) }
+    ensures none { IfOk result (λ passed. passed ≡ true →
+        findings_by index bytes.now states.old (packet_at bytes.now) ≡ []) }
+    ensures within { IfOk result (λ passed. passed ≡ true →
+        within_by index bytes.now states.old (packet_at bytes.now) ≡ []) }
+    ensures stays { IfOk result (λ passed. passed ≡ false → states.new ≡ states.old) }
+    ensures err { OnErr result (states.new ≡ states.old) }
+{
+    if !is_plain(bytes) {
+        return Ok(false);
+    }
+    let pid = pid_in(bytes);
+    if pid == NULL_PID {
+        return Ok(true);
+    }
+    states.go_on(index, pid, bytes)
 }
 
 // A packet that was read.
@@ -114,9 +142,10 @@ fn copied<'p>(payload: Option<&'p [u8]>) -> Option<PayloadBytes<'p, 'static>>
     }
 }
 
-/// Takes 188 bytes that findings may point into, and that were read.
+// Takes 188 bytes that findings may point into, and that were read. It stays a call of its own: few packets come to it.
+#[inline(never)]
 #[tactic(auto, unfolding(crate::specs::Stream::states_by, crate::specs::Stream::findings_by, crate::specs::Stream::within_by))]
-pub(crate) fn take_borrowed<'a, A: Allocator + Copy>(
+fn find_borrowed<'a, A: Allocator + Copy>(
     states: &mut States<A>,
     index: u64,
     bytes: &'a [u8; 188],
@@ -146,9 +175,34 @@ pub(crate) fn take_borrowed<'a, A: Allocator + Copy>(
     }
 }
 
-/// Takes 188 bytes that findings may not point into.
+/// Takes 188 bytes that findings may point into, and that were read.
+pub(crate) fn take_borrowed<'a, A: Allocator + Copy>(
+    states: &mut States<A>,
+    index: u64,
+    bytes: &'a [u8; 188],
+    read: &Result<Packet<'a>, PacketError>,
+    found: &mut Vec<Finding<'a, A>, A>,
+) -> Result<(), AllocError>
+    requires read { Gives packet_view read.now (packet_at bytes.now) }
+    ensures states { OnOk result (states.new ≡ states_by index bytes.now states.old
+        (packet_at bytes.now)) }
+    ensures found { OnOk result (AddsFindings found.old.items found.new.items
+        (findings_by index bytes.now states.old (packet_at bytes.now))) }
+    ensures spans { OnOk result (Spans found.old.items found.new.items
+        (within_by index bytes.now states.old (packet_at bytes.now))) }
+    ensures err { OnErr result (states.new ≡ states.old) }
+    ensures none { OnErr result (KeepsFindings found.old.items found.new.items) }
+{
+    if pass(states, index, bytes)? {
+        return Ok(());
+    }
+    find_borrowed(states, index, bytes, read, found)
+}
+
+// Takes 188 bytes that findings may not point into. It stays a call of its own: few packets come to it.
+#[inline(never)]
 #[tactic(auto, unfolding(crate::specs::Stream::states_by, crate::specs::Stream::findings_by, crate::specs::Stream::within_by), using(crate::proofs::FoundViews::joined_one, crate::proofs::FoundViews::same_joined, crate::proofs::FoundViews::same_says))]
-pub(crate) fn take_copied<A: Allocator + Copy>(
+fn find_copied<A: Allocator + Copy>(
     states: &mut States<A>,
     index: u64,
     bytes: &[u8; 188],
@@ -174,4 +228,25 @@ pub(crate) fn take_copied<A: Allocator + Copy>(
             Ok(())
         }
     }
+}
+
+/// Takes 188 bytes that findings may not point into.
+pub(crate) fn take_copied<A: Allocator + Copy>(
+    states: &mut States<A>,
+    index: u64,
+    bytes: &[u8; 188],
+    found: &mut Vec<Finding<'static, A>, A>,
+) -> Result<(), AllocError>
+    ensures states { OnOk result (states.new ≡ states_by index bytes.now states.old
+        (packet_at bytes.now)) }
+    ensures found { OnOk result (AddsFindings found.old.items found.new.items
+        (findings_by index bytes.now states.old (packet_at bytes.now))) }
+    ensures joined { KeepsJoined found.old.items found.new.items }
+    ensures err { OnErr result (states.new ≡ states.old) }
+    ensures none { OnErr result (map finding_view found.new.items ≡ map finding_view found.old.items) }
+{
+    if pass(states, index, bytes)? {
+        return Ok(());
+    }
+    find_copied(states, index, bytes, found)
 }

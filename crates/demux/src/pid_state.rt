@@ -1,5 +1,6 @@
 //! The state of a PID, packet by packet.
-ghost use Rattle.std.specs.Prelude.{◌≡◌, None, Some, IfOk, OnOk, OnErr, true, false};
+ghost use Rattle.std.specs.Prelude.{◌≡◌, [], None, Some, IfOk, OnOk, OnErr, true, false};
+ghost use Rattle.demux.specs.GoingOn.{plain_entry};
 ghost use Rattle.demux.specs.Roles as roles;
 ghost use Rattle.demux.specs.Findings as findings;
 ghost use Rattle.demux.specs.Machine as machine;
@@ -10,6 +11,7 @@ ghost use Rattle.demux.specs.Shown.{mark_broken, marked_findings, marked_role, r
 use crate::beginnings::begin_pes;
 use crate::endings::{append_payload, cut_short, end_before_pointer, end_moved, end_unit};
 use crate::finding::{Finding, What};
+use crate::going_on::{grow, is_next, keep_plain};
 use crate::last::Last;
 use crate::marks::{Mark, keep, mark_of};
 use crate::open_unit::OpenUnit;
@@ -230,6 +232,27 @@ impl<A: Allocator + Clone> PidState<A> {
             last: None,
             open_unit: None,
         }
+    }
+
+    /// Takes a packet that has a payload alone, if its counter follows and it goes on with an open unit that stays open.
+    /// Whether it does; else nothing changes.
+    pub fn go_on(&mut self, index: u64, bytes: &[u8; 188]) -> Result<bool, AllocError>
+        ensures state { IfOk result (λ went. went ≡ true →
+            self.new ≡ machine.step self.old (plain_entry index bytes.now)) }
+        ensures none { IfOk result (λ went. went ≡ true →
+            machine.found_by self.old (plain_entry index bytes.now) ≡ []) }
+        ensures stays { IfOk result (λ went. went ≡ false → self.new ≡ self.old) }
+        ensures err { OnErr result (self.new ≡ self.old) }
+    {
+        if !is_next(&self.last, bytes) {
+            return Ok(false);
+        }
+        let (_, payload) = bytes.split_at(4);
+        if !grow(&mut self.open_unit, index, payload)? {
+            return Ok(false);
+        }
+        keep_plain(&mut self.last, bytes);
+        Ok(true)
     }
 
     /// Takes a packet of the PID; findings borrow its payload, or copy from it.

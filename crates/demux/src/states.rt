@@ -1,5 +1,5 @@
 //! The states of the PIDs of a stream, in the order in which these were first seen.
-ghost use Rattle.std.specs.Prelude.{◌≡◌, ◌<◌, ◌++◌, [], ℕ, Some, None, IfSome, OnOk, OnErr, is_some, map, true, position, slice_get, nat_eq};
+ghost use Rattle.std.specs.Prelude.{◌≡◌, ◌<◌, ◌++◌, [], ℕ, Some, None, IfOk, IfSome, OnOk, OnErr, is_some, map, false, true, position, slice_get, nat_eq};
 ghost use Rattle.std.specs.Map.{keys_of, lookup};
 ghost use Rattle.indexmap.specs.IndexMap.{index_map_len, get, values, set_value_at};
 ghost use Rattle.demux.specs.Machine as machine;
@@ -8,6 +8,7 @@ ghost use Rattle.demux.specs.Shown.{Finds, KeepsFindings, entry_with, finding_vi
 ghost use Rattle.demux.specs.Shown.{AddsFindings};
 ghost use Rattle.demux.specs.Shown.{with_pid};
 ghost use Rattle.demux.specs.Findings as findings;
+ghost use Rattle.demux.specs.GoingOn.{plain_entry};
 
 use crate::finding::Finding;
 use crate::payload_bytes::PayloadBytes;
@@ -41,6 +42,23 @@ impl<A: Allocator> Model for States<A> {
     ghost view = { λ s. s.by_pid.entries };
 }
 
+// Whether the state of a PID stands at an index.
+fn stands_at<A: Allocator>(states: &StatesByPid<A>, index: usize, pid: u16) -> bool
+    ensures index { result ≡ true → position (nat_eq pid) (keys_of states.now.entries) ≡ Some index }
+    ensures within { result ≡ true → index < index_map_len states.now }
+    ensures value { result ≡ true →
+        slice_get (values states.now) index ≡ lookup (nat_eq pid) states.now.entries }
+{
+    if index < states.len() {
+        if let Some((at, _)) = states.get_index(index) {
+            if *at == pid {
+                return true;
+            }
+        }
+    }
+    false
+}
+
 // The index of a PID, looked for first where it may be.
 #[tactic(auto, using(crate::proofs::MapSteps::index_at, crate::proofs::MapSteps::value_at, crate::proofs::MapSteps::found_at))]
 fn index_of<A: Allocator>(states: &StatesByPid<A>, last: usize, pid: u16) -> Option<usize>
@@ -49,14 +67,32 @@ fn index_of<A: Allocator>(states: &StatesByPid<A>, last: usize, pid: u16) -> Opt
     ensures value { IfSome result (λ i. slice_get (values states.now) i ≡ lookup (nat_eq pid) states.now.entries) }
     ensures found { is_some result ≡ is_some (lookup (nat_eq pid) states.now.entries) }
 {
-    if last < states.len() {
-        if let Some((at, _)) = states.get_index(last) {
-            if *at == pid {
-                return Some(last);
-            }
-        }
+    if stands_at(states, last, pid) {
+        return Some(last);
     }
     states.get_index_of(&pid)
+}
+
+// A packet that goes on with the open unit of a PID that was seen before.
+fn go_on_at<A: Allocator + Copy>(
+    states: &mut StatesByPid<A>,
+    at: usize,
+    index: u64,
+    bytes: &[u8; 188],
+) -> Result<bool, AllocError>
+    requires there { at < index_map_len states.old }
+    ensures states { (state : machine.PidState) → slice_get (values states.old) at ≡ Some state →
+        IfOk result (λ went. went ≡ true → states.new.entries ≡ set_value_at states.old.entries at
+        (machine.step state (plain_entry index bytes.now))) }
+    ensures none { (state : machine.PidState) → slice_get (values states.old) at ≡ Some state →
+        IfOk result (λ went. went ≡ true → machine.found_by state (plain_entry index bytes.now) ≡ []) }
+    ensures stays { (state : machine.PidState) → slice_get (values states.old) at ≡ Some state →
+        IfOk result (λ went. went ≡ false → states.new.entries ≡ set_value_at states.old.entries at state) }
+    ensures err { (state : machine.PidState) → slice_get (values states.old) at ≡ Some state →
+        OnErr result (states.new.entries ≡ set_value_at states.old.entries at state) }
+{
+    let state = &mut states[at];
+    state.go_on(index, bytes)
 }
 
 // A packet of a PID that was seen before.
@@ -171,6 +207,24 @@ impl<A: Allocator + Copy> States<A> {
     /// Where they are kept.
     pub fn allocator(&self) -> &A {
         self.by_pid.allocator()
+    }
+
+    /// Takes a packet that has a payload alone, if it goes on with the open unit of its PID and nothing is found in it.
+    /// Whether it does; else nothing changes.
+    pub fn go_on(&mut self, index: u64, pid: u16, bytes: &[u8; 188]) -> Result<bool, AllocError>
+        ensures states { let state = state_of pid self.old in
+            IfOk result (λ went. went ≡ true →
+            self.new ≡ with_state pid (machine.step state (plain_entry index bytes.now)) self.old) }
+        ensures none { let state = state_of pid self.old in
+            IfOk result (λ went. went ≡ true → machine.found_by state (plain_entry index bytes.now) ≡ []) }
+        ensures stays { IfOk result (λ went. went ≡ false → self.new ≡ self.old) }
+        ensures err { OnErr result (self.new ≡ self.old) }
+    {
+        let at = self.places[pid as usize % PLACES];
+        if !stands_at(&self.by_pid, at, pid) {
+            return Ok(false);
+        }
+        go_on_at(&mut self.by_pid, at, index, bytes)
     }
 
     /// Takes a packet of a PID.

@@ -1,0 +1,88 @@
+//! Packets that have a payload alone and go on with the open unit of their PID: most packets of a stream. Nothing is
+//! found in them.
+ghost use Rattle.std.specs.Prelude.{◌≡◌, [], IfOk, Ok, OnErr, false, is_some, true, Some};
+ghost use Rattle.ts_packet.specs.Reading.{packet_at};
+ghost use Rattle.demux.specs.Findings as findings;
+ghost use Rattle.demux.specs.GoingOn as going;
+ghost use Rattle.demux.specs.Machine.{next_open};
+ghost use Rattle.demux.specs.Roles.{Continuation};
+
+use crate::last::Last;
+use crate::marks::following;
+use crate::open_unit::OpenUnit;
+use std::alloc::{AllocError, Allocator};
+
+/// Whether a packet has no error, no start, no scrambling and no adaptation field.
+#[tactic(auto, using(crate::proofs::GoingOn::plain_read))]
+pub(crate) fn is_plain(bytes: &[u8; 188]) -> bool
+    ensures { result ≡ true → packet_at bytes.now ≡ Ok (going.plain_view bytes.now) }
+{
+    if bytes[0] != 0x47 {
+        return false;
+    }
+    if bytes[1] >= 0x40 {
+        return false;
+    }
+    bytes[3] >> 4 == 1
+}
+
+/// The PID in the header of a packet.
+pub(crate) fn pid_in(bytes: &[u8; 188]) -> u16
+    ensures { result ≡ going.pid_in bytes.now }
+{
+    u16::from_be_bytes([bytes[1] & 0x1f, bytes[2]])
+}
+
+// The counter.
+fn counter_in(bytes: &[u8; 188]) -> u8
+    ensures { result ≡ going.counter_in bytes.now }
+{
+    bytes[3] & 0x0f
+}
+
+/// Whether the counter follows that of the last packet, if there is one.
+pub(crate) fn is_next(last: &Option<Last>, bytes: &[u8; 188]) -> bool
+    ensures { result ≡ going.is_next last.now bytes.now }
+{
+    match last {
+        None => false,
+        Some(last) => counter_in(bytes) == following(last.counter, true),
+    }
+}
+
+/// Writes a packet over the last one.
+#[tactic(auto, unfolding(ts_packet::specs::PcrBytes::without_pcr))]
+pub(crate) fn keep_plain(last: &mut Option<Last>, bytes: &[u8; 188])
+    ensures { is_some last.old ≡ true → last.new ≡ Some (going.plain_last bytes.now) }
+{
+    if let Some(kept) = last {
+        kept.duplicate = false;
+        kept.has_payload = true;
+        kept.counter = counter_in(bytes);
+        kept.has_pcr = false;
+        kept.bytes = *bytes;
+    }
+}
+
+/// Appends a payload to the open unit, if there is one that is open with it as well. Whether it is appended.
+#[tactic(auto, unfolding(crate::specs::Findings::found_appended, crate::specs::Findings::found_if, crate::specs::Findings::undecided, crate::specs::Findings::unless_decided, crate::specs::Machine::next_open), using(crate::proofs::LeastSizes::still_open))]
+pub(crate) fn grow<A: Allocator>(
+    open_unit: &mut Option<OpenUnit<A>>,
+    index: u64,
+    payload: &[u8],
+) -> Result<bool, AllocError>
+    ensures next { IfOk result (λ grown. grown ≡ true →
+        open_unit.new ≡ next_open index (Continuation payload.now) open_unit.old) }
+    ensures none { IfOk result (λ grown. grown ≡ true → findings.found_appended payload.now open_unit.old ≡ []) }
+    ensures stays { IfOk result (λ grown. grown ≡ false → open_unit.new ≡ open_unit.old) }
+    ensures err { OnErr result (open_unit.new ≡ open_unit.old) }
+{
+    let Some(unit) = open_unit else {
+        return Ok(false);
+    };
+    if unit.least <= unit.front.len() + unit.bytes.len() + payload.len() {
+        return Ok(false);
+    }
+    unit.bytes.extend_from_slice(payload)?;
+    Ok(true)
+}
