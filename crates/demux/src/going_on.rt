@@ -1,6 +1,6 @@
 //! Packets that have a payload alone and go on with the open unit of their PID: most packets of a stream. Nothing is
 //! found in them.
-ghost use Rattle.std.specs.Prelude.{◌≡◌, [], IfOk, Ok, OnErr, false, is_some, true, Some};
+ghost use Rattle.std.specs.Prelude.{◌≡◌, ◌++◌, [], IfOk, Ok, OnErr, false, if◌then◌else◌, is_ok, is_some, true, Some};
 ghost use Rattle.ts_packet.specs.Reading.{packet_at};
 ghost use Rattle.demux.specs.Findings as findings;
 ghost use Rattle.demux.specs.GoingOn as going;
@@ -64,6 +64,35 @@ pub(crate) fn keep_plain(last: &mut Option<Last>, bytes: &[u8; 188])
     }
 }
 
+// The most bytes of a PES packet that says how many it has: PES_packet_length has 16 bits (2.4.3.7).
+const LONGEST_SAID: usize = 6 + 65_535;
+
+// Room for all bytes of a PES packet that says how many it has. The first room is full then, so that a length that is said
+// and does not come takes little memory. It stays a call of its own: few packets need it.
+#[inline(never)]
+fn make_room<A: Allocator>(bytes: &mut Vec<u8, A>, all: usize) -> Result<(), AllocError>
+    ensures same { bytes.new.items ≡ bytes.old.items }
+{
+    if all > LONGEST_SAID {
+        return Ok(());
+    }
+    bytes.reserve_exact(all.saturating_sub(bytes.len()))
+}
+
+// Appends a payload to the bytes of a unit that are to be `all` in the end.
+fn append<A: Allocator>(
+    bytes: &mut Vec<u8, A>,
+    payload: &[u8],
+    all: usize,
+) -> Result<(), AllocError>
+    ensures items { bytes.new.items ≡ (if is_ok result then bytes.old.items ++ payload.now else bytes.old.items) }
+{
+    if bytes.capacity().saturating_sub(bytes.len()) < payload.len() {
+        make_room(bytes, all)?;
+    }
+    bytes.extend_from_slice(payload)
+}
+
 /// Appends a payload to the open unit, if there is one that is open with it as well. Whether it is appended.
 #[tactic(auto, unfolding(crate::specs::Findings::found_appended, crate::specs::Findings::found_if, crate::specs::Findings::undecided, crate::specs::Findings::unless_decided, crate::specs::Machine::next_open), using(crate::proofs::LeastSizes::still_open))]
 pub(crate) fn grow<A: Allocator>(
@@ -83,6 +112,10 @@ pub(crate) fn grow<A: Allocator>(
     if unit.least <= unit.front.len() + unit.bytes.len() + payload.len() {
         return Ok(false);
     }
-    unit.bytes.extend_from_slice(payload)?;
+    append(
+        &mut unit.bytes,
+        payload,
+        unit.least.saturating_sub(unit.front.len()),
+    )?;
     Ok(true)
 }
