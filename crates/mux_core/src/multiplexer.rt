@@ -1,6 +1,6 @@
 //! The multiplexer: units in, packets out, in any interleaving.
 
-ghost use Rattle.std.specs.Prelude.{◌≡◌, ◌<◌, ◌^◌, suc, OnOk, IfErr, option_map, slice_get, length};
+ghost use Rattle.std.specs.Prelude.{◌≡◌, ◌<◌, ◌^◌, suc, OnOk, OnErr, IfErr, option_map, slice_get, length};
 ghost use Rattle.slot_contents.specs.Contents.{packet_of};
 ghost use Rattle.slot_plan.specs.Schedule.{slot_of};
 ghost use Rattle.unit_queue.specs.Causes.{refusal};
@@ -79,12 +79,27 @@ impl<A: Allocator> Mux<A> {
         ensures headline { (h : History) → Stands h self.old →
             OnOk result (Headline self.old.schedule h.units (suc h.slots) (bytes_of self.old.schedule (next_slot h))) }
     {
+        let mut packet = [0; 188];
+        match self.write_next(&mut packet) {
+            Ok(()) => Ok(packet),
+            Err(done) => Err(done),
+        }
+    }
+
+    /// Writes the packet of the next slot over the bytes of `packet`, as `next_packet` gives it. Where there is no next
+    /// slot these stay as they are.
+    pub fn write_next(&mut self, packet: &mut [u8; 188]) -> Result<(), Done>
+        ensures next { (h : History) → Stands h self.old → OnOk result (Gives h self.old (Ok packet.new) self.new) }
+        ensures done { (h : History) → Stands h self.old → IfErr result (λ done. Gives h self.old (Err done) self.new) }
+        ensures headline { (h : History) → Stands h self.old →
+            OnOk result (Headline self.old.schedule h.units (suc h.slots) (bytes_of self.old.schedule (next_slot h))) }
+        ensures same { OnErr result (packet.new ≡ packet.old) }
+    {
         if self.slots >= MAX_SLOTS {
             return Err(Done);
         }
-        let mut packet = [0; 188];
-        self.fill_slot(&mut packet);
-        Ok(packet)
+        self.fill_slot(packet);
+        Ok(())
     }
 
     // Writes the packet of the next slot over the bytes of `packet`: it is made there, and no byte of it is copied

@@ -279,8 +279,9 @@ fn write_slots<A: Allocator, B: Allocator, W: Sink>(
     ensures clean { OnOk result (W.fault_count to.new ≡ W.fault_count to.old) }
     ensures fault { OnErr result (Failed (W.fault_count to.old) (W.fault_count to.new)) }
 {
+    let mut packet = [0; 188];
     'slots: for _ in 0..slots {
-        let Ok(packet) = mux.next_packet() else {
+        let Ok(()) = mux.write_next(&mut packet) else {
             return Ok(());
         };
         match packets.push(to, &packet) {

@@ -12,8 +12,8 @@ slots-init g c = record {
 pub returns-in_default-clause-ok : goal.returns-in_default-clause-ok
 returns-in_default-clause-ok g c = λ h start stands none holds.
     let w = c.slots.invariant.written h start stands none holds in
-    not_done h c.slots.mux c.next_packet.new.self c.slots.counter c.args.slots c.in_default.field-0 (omega (arith, c.slots-test.true)) c.requires.slots
-    (c.in_default.ensures.next (at_slot h c.slots.counter) w.stands)
+    not_done h c.slots.mux c.write_next.new.self c.slots.counter c.args.slots c.in_default.field-0 (omega (arith, c.slots-test.true)) c.requires.slots
+    (c.in_default.ensures.done (at_slot h c.slots.counter) w.stands)
 
 pub returns-in-Err-clause-err : goal.returns-in-Err-clause-err
 returns-in-Err-clause-err g c = λ h start stands none holds.

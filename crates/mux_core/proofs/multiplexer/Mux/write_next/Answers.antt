@@ -4,7 +4,7 @@ use Rattle.plan_timing.specs.Promised.{Promised}
 use Rattle.mux_core.specs.MuxStates.{MuxState}
 use Rattle.mux_core.proofs.MuxStates.{gives}
 use Rattle.mux_core.proofs.Accepted.{standing}
-use Rattle.mux_core.proofs.multiplexer.Mux.next_packet.Goals as goal
+use Rattle.mux_core.proofs.multiplexer.Mux.write_next.Goals as goal
 
 pub returns-clause-next : goal.returns-clause-next
 returns-clause-next g c = λ h st.
