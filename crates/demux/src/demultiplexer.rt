@@ -286,8 +286,8 @@ impl<A: Allocator + Copy> Demux<A> {
         Ok(())
     }
 
-    /// The findings.
-    fn into_findings(self) -> Vec<Finding<'static, A>, A>
+    /// What was found by `push` and `finish` and not forgotten since; the rest is dropped.
+    pub fn into_findings(self) -> Vec<Finding<'static, A>, A>
         ensures found { map finding_view result.items ≡ self.found }
         ensures joined { list_any is_span result.items ≡ false }
     {
