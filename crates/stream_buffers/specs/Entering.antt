@@ -33,6 +33,9 @@ entered_view e = record {
   main_least = e.main_least;
 }
 
+abbrev pub nothing_entered : Entered
+nothing_entered = record { lead = None; header = None; payload = None; main = None; unit = None; transport_most = 0; main_most = 0; main_least = None }
+
 abbrev pub nothing : EnteredView
 nothing = record { transport = []; main = []; unit = None; transport_most = 0; main_most = 0; main_least = None }
 

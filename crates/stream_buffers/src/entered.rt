@@ -1,4 +1,6 @@
 //! What has ended with a packet.
+ghost use Rattle.std.specs.Prelude.{◌≡◌};
+ghost use Rattle.stream_buffers.specs.Entering.{nothing_entered};
 
 use stream_view::UnitSeen;
 use transport_buffer::Excess;
@@ -17,4 +19,23 @@ pub struct Entered {
     pub transport_most: u128,
     pub main_most: u64,
     pub main_least: Option<u64>,
+}
+
+impl Entered {
+    /// Nothing has ended, and nothing was in the buffers.
+    #[inline(always)]
+    pub fn new() -> Entered
+        ensures { result ≡ nothing_entered }
+    {
+        Entered {
+            lead: None,
+            header: None,
+            payload: None,
+            main: None,
+            unit: None,
+            transport_most: 0,
+            main_most: 0,
+            main_least: None,
+        }
+    }
 }

@@ -1,16 +1,18 @@
 //! Both buffers of a stream.
-ghost use Rattle.std.specs.Prelude.{◌≡◌, ◌+◌, ◌<◌, ◌≤◌, ◌^◌, IfOk, None, OnOk, true};
+ghost use Rattle.std.specs.Prelude.{◌≡◌, ◌+◌, ◌<◌, ◌≤◌, ◌^◌, IfOk, None, OnOk, false, true};
 ghost use Rattle.std.specs.Option.{option_to_list};
 ghost use Rattle.stream_arrival.specs.Arrivals.{has_times, step_of, times_at};
-ghost use Rattle.stream_buffers.specs.Held.{Held, IsHeld, carried, empty, main_ended, main_found, main_least_found, main_most, passed, transport_ended, transport_found, transport_most, transport_under_way, unit_before};
-ghost use Rattle.stream_buffers.specs.Entering.{after, after_begin, after_bytes, bytes_main, bytes_main_least, bytes_main_most, bytes_transport, bytes_transport_most, entered, entered_view, unit_ended};
+ghost use Rattle.stream_view.specs.MainExcess.{after_row, ended_by};
+ghost use Rattle.stream_buffers.specs.Held.{Held, IsHeld, begun, carried, empty, main_ended, main_found, main_least_found, main_most, passed, transport_ended, transport_found, transport_most, transport_under_way, unit_before};
+ghost use Rattle.stream_buffers.specs.Entering.{after, after_begin, after_bytes, bytes_main, bytes_main_least, bytes_main_most, bytes_transport, bytes_transport_most, entered, entered_view, nothing_entered, unit_ended};
+ghost use Rattle.stream_buffers.specs.Rows.{seen_of};
 
 use crate::arriving::Arriving;
 use crate::buffers::StreamBuffers;
 use crate::entered::Entered;
 use std::alloc::{AllocError, Global};
 use stream_arrival::Arrival;
-use stream_view::{DueTime, MainWatch, RowSeen, StreamView, UnitSeen};
+use stream_view::{DueTime, MainWatch, RowFound, RowSeen, StreamView, UnitSeen};
 use transport_buffer::Excess;
 
 /// The size of a transport buffer in bytes (ISO/IEC 13818-1, 2.4.2.3).
@@ -23,13 +25,44 @@ const LAST_INDEX: u64 = 5_848_000_000;
 const LAST_BYTES: u64 = (1 << 40) - 188;
 
 // What no bytes find.
-const NO_ROW: RowSeen = RowSeen {
+const NO_ROW: RowFound = RowFound {
     transport: 0,
-    ended: None,
     main: 0,
     least: None,
-    last: 0,
 };
+
+// The excess of the main buffer that has ended with a row. A call of its own: few rows end one.
+#[inline(never)]
+fn see_excess(watch: &mut MainWatch, found: &RowFound, last: u128, ended: &mut Option<Excess>)
+    ensures ended { ended.new ≡ ended_by watch.old.size watch.old.under_way (seen_of found.now last) }
+    ensures under_way { watch.new.under_way ≡ after_row watch.old.size watch.old.under_way (seen_of found.now last) }
+    ensures size { watch.new.size ≡ watch.old.size }
+{
+    let seen = RowSeen {
+        transport: 0,
+        ended: None,
+        main: found.main,
+        least: found.least,
+        last,
+    };
+    *ended = watch.see(&seen);
+}
+
+// The excess of the main buffer that has ended with a row, whose last byte enters it at `last`, is written where none is yet. Where the row
+// finds room and no excess is under way, nothing is written.
+#[inline(always)]
+#[tactic(auto, unfolding(stream_view::specs::MainExcess::ended_at))]
+fn see(watch: &mut MainWatch, found: &RowFound, last: u128, ended: &mut Option<Excess>)
+    requires none { ended.old ≡ None }
+    ensures ended { ended.new ≡ ended_by watch.old.size watch.old.under_way (seen_of found.now last) }
+    ensures under_way { watch.new.under_way ≡ after_row watch.old.size watch.old.under_way (seen_of found.now last) }
+    ensures size { watch.new.size ≡ watch.old.size }
+{
+    if found.main <= watch.size && watch.under_way.is_none() {
+        return;
+    }
+    see_excess(watch, found, last, ended);
+}
 
 impl StreamBuffers {
     /// Empty ones, the main buffer of `size` bytes, for packets that arrive so.
@@ -79,69 +112,124 @@ impl StreamBuffers {
         self.view.unit
     }
 
-    // Bytes of the stream that go no further than the transport buffer, from byte `byte` on: what they found.
+    // Bytes of the stream that go no further than the transport buffer, from byte `byte` on: the most that one of them found. The excess that
+    // has ended is written where none is yet.
     #[inline(always)]
-    fn pass(&mut self, arrival: &Arrival, byte: u64, count: u64) -> RowSeen
+    fn pass(&mut self, arrival: &Arrival, byte: u64, count: u64, ended: &mut Option<Excess>) -> u128
         requires some { 0 < count }
         requires few { count ≤ 188 }
         requires times { has_times arrival.now byte count ≡ true }
         requires room { self.old.view.transport.bytes + count ≤ 2 ^ 40 }
+        requires none { ended.old ≡ None }
         ensures held { (h : Held) → IsHeld self.old h → IsHeld self.new (passed h (times_at arrival.now h.rx byte count)) }
         ensures ended { (h : Held) → IsHeld self.old h →
-            option_to_list result.ended ≡ transport_ended h (times_at arrival.now h.rx byte count) }
+            option_to_list ended.new ≡ transport_ended h (times_at arrival.now h.rx byte count) }
         ensures most { (h : Held) → IsHeld self.old h →
-            result.transport ≡ transport_found h (times_at arrival.now h.rx byte count) }
-        ensures main { result.main ≡ 0 }
-        ensures least { result.least ≡ None }
+            result ≡ transport_found h (times_at arrival.now h.rx byte count) }
         ensures bytes { self.new.view.transport.bytes ≡ self.old.view.transport.bytes + count }
     {
         let row = arrival.row(u64::from(self.rx), byte, count);
-        self.view.pass(&row)
+        self.view.pass_into(&row, ended)
     }
 
-    // Bytes of the unit under way: what they found, and the excess of the main buffer that has ended.
+    // Bytes before a payload, none where there are none.
     #[inline(always)]
-    fn carry(&mut self, arrival: &Arrival, byte: u64, count: u64) -> (RowSeen, Option<Excess>)
+    #[tactic(auto, unfolding(crate::specs::Entering::after_payload, crate::specs::Entering::payload_transport, crate::specs::Entering::payload_transport_most))]
+    fn pass_if(
+        &mut self,
+        arrival: &Arrival,
+        byte: u64,
+        count: u64,
+        ended: &mut Option<Excess>,
+    ) -> u128
+        requires few { count ≤ 188 }
+        requires times { has_times arrival.now byte count ≡ true }
+        requires room { self.old.view.transport.bytes + count ≤ 2 ^ 40 }
+        requires none { ended.old ≡ None }
+        ensures held { (h : Held) → IsHeld self.old h → IsHeld self.new (after_bytes h arrival.now false byte count) }
+        ensures ended { (h : Held) → IsHeld self.old h → option_to_list ended.new ≡ bytes_transport h arrival.now byte count }
+        ensures most { (h : Held) → IsHeld self.old h → result ≡ bytes_transport_most h arrival.now byte count }
+        ensures bytes { self.new.view.transport.bytes ≡ self.old.view.transport.bytes + count }
+    {
+        if count == 0 {
+            0
+        } else {
+            self.pass(arrival, byte, count, ended)
+        }
+    }
+
+    // Bytes of the unit under way: what they found. The excesses that have ended are written where none are yet.
+    #[inline(always)]
+    fn carry(
+        &mut self,
+        arrival: &Arrival,
+        byte: u64,
+        count: u64,
+        ended: &mut Option<Excess>,
+        main: &mut Option<Excess>,
+    ) -> RowFound
         requires some { 0 < count }
         requires few { count ≤ 188 }
         requires times { has_times arrival.now byte count ≡ true }
         requires room { self.old.view.transport.bytes + count ≤ 2 ^ 40 }
+        requires none { ended.old ≡ None }
+        requires none_main { main.old ≡ None }
         ensures held { (h : Held) → IsHeld self.old h → IsHeld self.new (carried h (times_at arrival.now h.rx byte count)) }
         ensures ended { (h : Held) → IsHeld self.old h →
-            option_to_list result.0.ended ≡ transport_ended h (times_at arrival.now h.rx byte count) }
+            option_to_list ended.new ≡ transport_ended h (times_at arrival.now h.rx byte count) }
         ensures main { (h : Held) → IsHeld self.old h →
-            option_to_list result.1 ≡ main_ended h (times_at arrival.now h.rx byte count) }
+            option_to_list main.new ≡ main_ended h (times_at arrival.now h.rx byte count) }
         ensures most { (h : Held) → IsHeld self.old h →
-            result.0.transport ≡ transport_found h (times_at arrival.now h.rx byte count) }
+            result.transport ≡ transport_found h (times_at arrival.now h.rx byte count) }
         ensures main_most { (h : Held) → IsHeld self.old h →
-            result.0.main ≡ main_found h (times_at arrival.now h.rx byte count) }
+            result.main ≡ main_found h (times_at arrival.now h.rx byte count) }
         ensures main_least { (h : Held) → IsHeld self.old h →
-            result.0.least ≡ main_least_found h (times_at arrival.now h.rx byte count) }
+            result.least ≡ main_least_found h (times_at arrival.now h.rx byte count) }
         ensures bytes { self.new.view.transport.bytes ≡ self.old.view.transport.bytes + count }
     {
         let row = arrival.row(u64::from(self.rx), byte, count);
-        let seen = self.view.carry(&row);
-        (seen, self.main.see(&seen))
+        let found = self.view.carry_into(&row, ended);
+        see(&mut self.main, &found, self.view.transport.last, main);
+        found
     }
 
-    // A unit begins, if one does: the one before it.
-    #[tactic(auto, unfolding(crate::specs::Entering::after_begin, crate::specs::Entering::unit_ended))]
-    fn begin(&mut self, due: Option<DueTime>) -> Result<Option<UnitSeen>, AllocError>
-        ensures held { (h : Held) → IsHeld self.old h → OnOk result (IsHeld self.new (after_begin h due)) }
-        ensures unit { (h : Held) → IsHeld self.old h → IfOk result (λ unit. unit ≡ unit_ended h due) }
+    // A unit begins: the one before it. A call of its own: few packets begin one.
+    #[inline(never)]
+    fn begin_unit(&mut self, due: DueTime, unit: &mut Option<UnitSeen>) -> Result<(), AllocError>
+        ensures held { (h : Held) → IsHeld self.old h → OnOk result (IsHeld self.new (begun h due)) }
+        ensures unit { (h : Held) → IsHeld self.old h → OnOk result (unit.new ≡ unit_before h) }
         ensures bytes { self.new.view.transport.bytes ≡ self.old.view.transport.bytes }
     {
-        let Some(due) = due else {
-            return Ok(None);
-        };
         match self.view.begin(due) {
-            Ok(unit) => Ok(unit),
+            Ok(before) => {
+                *unit = before;
+                Ok(())
+            }
             Err(_) => Err(AllocError),
         }
     }
 
-    // Bytes of the stream from byte `byte` on, none where there are none: what they found, and the excess of the main buffer that has
-    // ended.
+    // A unit begins, if one does: the one before it is written where none is yet.
+    #[inline(always)]
+    #[tactic(auto, unfolding(crate::specs::Entering::after_begin, crate::specs::Entering::unit_ended))]
+    fn begin(
+        &mut self,
+        due: &Option<DueTime>,
+        unit: &mut Option<UnitSeen>,
+    ) -> Result<(), AllocError>
+        requires none { unit.old ≡ None }
+        ensures held { (h : Held) → IsHeld self.old h → OnOk result (IsHeld self.new (after_begin h due.now)) }
+        ensures unit { (h : Held) → IsHeld self.old h → OnOk result (unit.new ≡ unit_ended h due.now) }
+        ensures bytes { self.new.view.transport.bytes ≡ self.old.view.transport.bytes }
+    {
+        match due {
+            None => Ok(()),
+            Some(due) => self.begin_unit(*due, unit),
+        }
+    }
+
+    // Bytes of a payload from byte `byte` on, none where there are none: what they found. The excesses that have ended are written where
+    // none are yet.
     #[inline(always)]
     #[tactic(auto, unfolding(crate::specs::Entering::after_payload, crate::specs::Entering::payload_transport, crate::specs::Entering::payload_main, crate::specs::Entering::payload_transport_most, crate::specs::Entering::payload_main_most, crate::specs::Entering::payload_main_least))]
     fn take(
@@ -150,68 +238,85 @@ impl StreamBuffers {
         byte: u64,
         count: u64,
         enters: bool,
-    ) -> (RowSeen, Option<Excess>)
+        ended: &mut Option<Excess>,
+        main: &mut Option<Excess>,
+    ) -> RowFound
         requires few { count ≤ 188 }
         requires times { has_times arrival.now byte count ≡ true }
         requires room { self.old.view.transport.bytes + count ≤ 2 ^ 40 }
+        requires none { ended.old ≡ None }
+        requires none_main { main.old ≡ None }
         ensures held { (h : Held) → IsHeld self.old h → IsHeld self.new (after_bytes h arrival.now enters byte count) }
-        ensures ended { (h : Held) → IsHeld self.old h → option_to_list result.0.ended ≡ bytes_transport h arrival.now byte count }
-        ensures main { (h : Held) → IsHeld self.old h → option_to_list result.1 ≡ bytes_main h arrival.now enters byte count }
-        ensures most { (h : Held) → IsHeld self.old h → result.0.transport ≡ bytes_transport_most h arrival.now byte count }
-        ensures main_most { (h : Held) → IsHeld self.old h → result.0.main ≡ bytes_main_most h arrival.now enters byte count }
-        ensures main_least { (h : Held) → IsHeld self.old h → result.0.least ≡ bytes_main_least h arrival.now enters byte count }
+        ensures ended { (h : Held) → IsHeld self.old h → option_to_list ended.new ≡ bytes_transport h arrival.now byte count }
+        ensures main { (h : Held) → IsHeld self.old h → option_to_list main.new ≡ bytes_main h arrival.now enters byte count }
+        ensures most { (h : Held) → IsHeld self.old h → result.transport ≡ bytes_transport_most h arrival.now byte count }
+        ensures main_most { (h : Held) → IsHeld self.old h → result.main ≡ bytes_main_most h arrival.now enters byte count }
+        ensures main_least { (h : Held) → IsHeld self.old h → result.least ≡ bytes_main_least h arrival.now enters byte count }
         ensures bytes { self.new.view.transport.bytes ≡ self.old.view.transport.bytes + count }
     {
         if count == 0 {
-            (NO_ROW, None)
+            NO_ROW
         } else if enters {
-            self.carry(arrival, byte, count)
+            self.carry(arrival, byte, count, ended, main)
         } else {
-            (self.pass(arrival, byte, count), None)
+            let transport = self.pass(arrival, byte, count, ended);
+            RowFound {
+                transport,
+                main: 0,
+                least: None,
+            }
         }
     }
 
-    /// A packet of the stream enters: what has ended, and what was in the buffers. There is no memory where 4,096 units wait in the main buffer, or none is left for
-    /// one more; then drop them.
+    /// A packet of the stream enters: what has ended, and what was in the buffers, is written where nothing is yet, so that it is not moved. There
+    /// is no memory where 4,096 units wait in the main buffer, or none is left for one more; then drop them.
     #[tactic(auto, unfolding(crate::specs::Entering::after, crate::specs::Entering::entered), using(crate::proofs::Packets::within))]
-    pub fn enter(&mut self, arrival: &Arrival, packet: &Arriving) -> Result<Entered, AllocError>
+    pub fn enter_into(
+        &mut self,
+        arrival: &Arrival,
+        packet: &Arriving,
+        into: &mut Entered,
+    ) -> Result<(), AllocError>
+        requires { into.old ≡ nothing_entered }
         ensures held { (h : Held) → IsHeld self.old h → OnOk result (IsHeld self.new (after h arrival.now packet.now)) }
         ensures entered { (h : Held) → IsHeld self.old h →
-            IfOk result (λ e. entered_view e ≡ entered h arrival.now packet.now) }
+            OnOk result (entered_view into.new ≡ entered h arrival.now packet.now) }
     {
         if packet.index >= LAST_INDEX
             || self.view.transport.bytes > LAST_BYTES
             || !arrival.has_times(188 * packet.index, 188)
         {
-            return Ok(Entered {
-                lead: None,
-                header: None,
-                payload: None,
-                main: None,
-                unit: None,
-                transport_most: 0,
-                main_most: 0,
-                main_least: None,
-            });
+            return Ok(());
         }
         let size = packet.size.min(184);
         let byte = 188 * packet.index;
         let lead = arrival.lead(byte).min(188 - size);
-        let (before, _) = self.take(arrival, byte, lead, false);
-        let (header, _) = self.take(arrival, byte + lead, 188 - size - lead, false);
-        let unit = self.begin(packet.begins)?;
-        let (payload, main) = self.take(arrival, byte + (188 - size), size, packet.enters);
-        let waited = before.transport.max(header.transport);
-        let most = waited.max(payload.transport);
-        Ok(Entered {
-            lead: before.ended,
-            header: header.ended,
-            payload: payload.ended,
-            main,
-            unit,
-            transport_most: most,
-            main_most: payload.main,
-            main_least: payload.least,
-        })
+        let before = self.pass_if(arrival, byte, lead, &mut into.lead);
+        let header = self.pass_if(arrival, byte + lead, 188 - size - lead, &mut into.header);
+        self.begin(&packet.begins, &mut into.unit)?;
+        let payload = self.take(
+            arrival,
+            byte + (188 - size),
+            size,
+            packet.enters,
+            &mut into.payload,
+            &mut into.main,
+        );
+        into.transport_most = before.max(header).max(payload.transport);
+        into.main_most = payload.main;
+        into.main_least = payload.least;
+        Ok(())
+    }
+
+    /// A packet of the stream enters: what has ended, and what was in the buffers. There is no memory where 4,096 units wait in the main buffer, or none is left for
+    /// one more; then drop them.
+    pub fn enter(&mut self, arrival: &Arrival, packet: &Arriving) -> Result<Entered, AllocError>
+        ensures held { (h : Held) → IsHeld self.old h → OnOk result (IsHeld self.new (after h arrival.now packet.now)) }
+        ensures entered { (h : Held) → IsHeld self.old h →
+            IfOk result (λ e. entered_view e ≡ entered h arrival.now packet.now) }
+    {
+        let mut entered = Entered::new();
+        self.enter_into(arrival, packet, &mut entered)?;
+        Ok(entered)
     }
 }

@@ -1,5 +1,5 @@
 //! Bytes that arrive at the transport buffer.
-ghost use Rattle.std.specs.Prelude.{◌≡◌, ◌+◌, ◌<◌, ◌≤◌, ◌^◌};
+ghost use Rattle.std.specs.Prelude.{◌≡◌, ◌+◌, ◌<◌, ◌≤◌, ◌^◌, None};
 ghost use Rattle.std.specs.Option.{option_to_list};
 ghost use Rattle.clock27.specs.Departure.{departures};
 ghost use Rattle.clock27.specs.Peak.{most_found};
@@ -14,14 +14,53 @@ use transport_buffer::{Excess, ExcessWatch, Leaving, TransportBuffer};
 #[derive(Clone, Copy)]
 pub(crate) struct Arrived {
     pub most: u128,
-    pub ended: Option<Excess>,
     pub leaving: Leaving,
 }
 
-// The excess that has ended, where `most` is the most that one of the bytes finds: where no byte finds too many, none has to be looked
-// for that does.
+// The excess under way ends, if there is one. A call of its own: few rows end one.
+#[inline(never)]
+fn end_excess(watch: &mut ExcessWatch, ended: &mut Option<Excess>)
+    ensures ended { ended.new ≡ watch.old.under_way }
+    ensures under_way { watch.new.under_way ≡ None }
+    ensures size { watch.new.size ≡ watch.old.size }
+{
+    *ended = watch.under_way.take();
+}
+
+// The excess that has ended, where a byte may find too many. A call of its own: few rows have such a byte.
+#[inline(never)]
+fn see_over(
+    watch: &mut ExcessWatch,
+    buffer: &TransportBuffer,
+    row: &Row,
+    ended: &mut Option<Excess>,
+)
+    requires paced { IsPaced buffer.now }
+    requires timed { IsTimed row.now }
+    requires early { IsEarly row.now }
+    requires some { 0 < row.now.bytes }
+    requires count { buffer.now.bytes + row.now.bytes ≤ 2 ^ 40 }
+    requires size { 0 < watch.old.size }
+    requires bound { watch.old.size ≤ 2 ^ 40 }
+    ensures ended { option_to_list ended.new
+        ≡ excesses_ended buffer.now.step watch.old.size buffer.now.last watch.old.under_way (times_of row.now) }
+    ensures under_way { watch.new.under_way
+        ≡ excess_after buffer.now.step watch.old.size buffer.now.last watch.old.under_way (times_of row.now) }
+    ensures size { watch.new.size ≡ watch.old.size }
+{
+    *ended = watch.enter(buffer, row);
+}
+
+// The excess that has ended is written where none is yet; `most` is the most that one of the bytes finds. Where no byte finds too many and
+// none is under way, nothing is written.
 #[inline(always)]
-fn see(watch: &mut ExcessWatch, buffer: &TransportBuffer, row: &Row, most: u128) -> Option<Excess>
+fn see(
+    watch: &mut ExcessWatch,
+    buffer: &TransportBuffer,
+    row: &Row,
+    most: u128,
+    ended: &mut Option<Excess>,
+)
     requires paced { IsPaced buffer.now }
     requires timed { IsTimed row.now }
     requires early { IsEarly row.now }
@@ -30,21 +69,30 @@ fn see(watch: &mut ExcessWatch, buffer: &TransportBuffer, row: &Row, most: u128)
     requires size { 0 < watch.old.size }
     requires bound { watch.old.size ≤ 2 ^ 40 }
     requires most { most ≡ most_found buffer.now.step buffer.now.last (times_of row.now) }
-    ensures ended { option_to_list result
+    requires none { ended.old ≡ None }
+    ensures ended { option_to_list ended.new
         ≡ excesses_ended buffer.now.step watch.old.size buffer.now.last watch.old.under_way (times_of row.now) }
     ensures under_way { watch.new.under_way
         ≡ excess_after buffer.now.step watch.old.size buffer.now.last watch.old.under_way (times_of row.now) }
     ensures size { watch.new.size ≡ watch.old.size }
 {
     if most <= u128::from(watch.size) {
-        return watch.under_way.take();
+        if watch.under_way.is_some() {
+            end_excess(watch, ended);
+        }
+        return;
     }
-    watch.enter(buffer, row)
+    see_over(watch, buffer, row, ended);
 }
 
-/// The bytes of a row arrive.
+/// The bytes of a row arrive. The excess that has ended is written where none is yet.
 #[inline(always)]
-pub(crate) fn arrive(transport: &mut TransportBuffer, watch: &mut ExcessWatch, row: &Row) -> Arrived
+pub(crate) fn arrive(
+    transport: &mut TransportBuffer,
+    watch: &mut ExcessWatch,
+    row: &Row,
+    ended: &mut Option<Excess>,
+) -> Arrived
     requires paced { IsPaced transport.old }
     requires timed { IsTimed row.now }
     requires early { IsEarly row.now }
@@ -52,10 +100,11 @@ pub(crate) fn arrive(transport: &mut TransportBuffer, watch: &mut ExcessWatch, r
     requires count { transport.old.bytes + row.now.bytes ≤ 2 ^ 40 }
     requires size { 0 < watch.old.size }
     requires bound { watch.old.size ≤ 2 ^ 40 }
+    requires none { ended.old ≡ None }
     ensures buffer { transport.new ≡ entered transport.old (times_of row.now) }
     ensures paced { IsPaced transport.new }
     ensures most { result.most ≡ most_found transport.old.step transport.old.last (times_of row.now) }
-    ensures ended { option_to_list result.ended
+    ensures ended { option_to_list ended.new
         ≡ excesses_ended transport.old.step watch.old.size transport.old.last watch.old.under_way (times_of row.now) }
     ensures under_way { watch.new.under_way
         ≡ excess_after transport.old.step watch.old.size transport.old.last watch.old.under_way (times_of row.now) }
@@ -68,10 +117,6 @@ pub(crate) fn arrive(transport: &mut TransportBuffer, watch: &mut ExcessWatch, r
     let leaving = transport.enter(row);
     let most = transport.most;
     transport.most = buffer.most.max(most);
-    let ended = see(watch, &buffer, row, most);
-    Arrived {
-        most,
-        ended,
-        leaving,
-    }
+    see(watch, &buffer, row, most, ended);
+    Arrived { most, leaving }
 }

@@ -3,7 +3,7 @@
 //! - [`StreamView`]: both buffers, filled row by row as the bytes of the stream's packets arrive; the most that each holds,
 //!   each excess, and each unit with the time at which it has left the transport buffer.
 //! - [`DueTime`], [`UnitSeen`]: when a unit is due, and when it came.
-//! - [`RowSeen`]: what the bytes of one row found.
+//! - [`RowSeen`], [`RowFound`]: what the bytes of one row found.
 //! - [`MainWatch`]: excesses of the main buffer, row by row.
 //! - [`SystemView`]: the two buffers of a program's tables, with each excess of both.
 //! - [`WatchedQueue`]: a buffer that bytes pass one after another, with its excesses.
@@ -28,7 +28,7 @@ mod watched_queue;
 
 pub use buffers::StreamView;
 pub use main_watch::MainWatch;
-pub use row_seen::RowSeen;
+pub use row_seen::{RowFound, RowSeen};
 pub use system_buffers::{EndedExcesses, SYSTEM_BYTES, SystemView, TABLE_TRANSPORT_BYTES};
 pub use unit_seen::{DueTime, UnitSeen};
 pub use view::{BeginError, MOST_WAITING};

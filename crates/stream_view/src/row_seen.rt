@@ -16,3 +16,11 @@ pub struct RowSeen {
     /// When the last of them leaves the transport buffer.
     pub last: u128,
 }
+
+/// The figures of a row: the most that one of its bytes found in each buffer, and the least in the main buffer, as [`RowSeen`] has them.
+#[derive(Clone, Copy)]
+pub struct RowFound {
+    pub transport: u128,
+    pub main: u64,
+    pub least: Option<u64>,
+}

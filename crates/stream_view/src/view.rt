@@ -15,14 +15,14 @@ ghost use Rattle.stream_view.specs.Viewed.{IsViewOf};
 
 use crate::arrival::arrive;
 use crate::buffers::StreamView;
-use crate::row_seen::RowSeen;
+use crate::row_seen::{RowFound, RowSeen};
 use crate::unit_seen::{DueTime, UnitSeen};
 use decoder_buffers::MainBuffer;
 use main_buffer_rows::enter_leaving;
 use packet_arrival::Row;
 use std::alloc::Allocator;
 use thiserror::Error;
-use transport_buffer::{ExcessWatch, TransportBuffer};
+use transport_buffer::{Excess, ExcessWatch, TransportBuffer};
 
 /// The most units whose bytes may wait in a main buffer together.
 pub const MOST_WAITING: usize = 4096;
@@ -38,18 +38,17 @@ pub enum BeginError {
     TooManyWaiting,
 }
 
-// A unit with more bytes, the last of which leaves then.
-fn with_bytes(unit: Option<UnitSeen>, count: u64, left: u128) -> Option<UnitSeen>
-    requires { IfSome unit (λ u. u.bytes + count < 2 ^ 64) }
-    ensures { result ≡ with_bytes unit count left }
+// A unit has more bytes, the last of which leaves then.
+fn add_bytes(unit: &mut Option<UnitSeen>, count: u64, left: u128)
+    requires { IfSome unit.old (λ u. u.bytes + count < 2 ^ 64) }
+    ensures { unit.new ≡ with_bytes unit.old count left }
 {
     match unit {
-        None => None,
-        Some(unit) => Some(UnitSeen {
-            due: unit.due,
-            bytes: unit.bytes + count,
-            left,
-        }),
+        None => {}
+        Some(unit) => {
+            unit.bytes += count;
+            unit.left = left;
+        }
     }
 }
 
@@ -72,6 +71,26 @@ impl<A: Allocator> StreamView<A> {
         }
     }
 
+    /// Bytes arrive that go no further than the transport buffer: the most that one of them finds. The excess that has ended is written where
+    /// none is yet, so that it is not moved.
+    #[inline(always)]
+    pub fn pass_into(&mut self, row: &Row, ended: &mut Option<Excess>) -> u128
+        requires timed { IsTimed row.now }
+        requires early { IsEarly row.now }
+        requires some { 0 < row.now.bytes }
+        requires count { self.old.transport.bytes + row.now.bytes ≤ 2 ^ 40 }
+        requires none { ended.old ≡ None }
+        ensures view { (parts : List Part) → IsViewOf self.old parts → IsViewOf self.new (Passes (times_of row.now) ∷ parts) }
+        ensures buffer { self.new.transport ≡ entered self.old.transport (times_of row.now) }
+        ensures transport { result ≡ most_found self.old.transport.step self.old.transport.last (times_of row.now) }
+        ensures ended { option_to_list ended.new
+            ≡ excesses_ended self.old.transport.step self.old.watch.size self.old.transport.last self.old.watch.under_way (times_of row.now) }
+        ensures size { self.new.watch.size ≡ self.old.watch.size }
+        ensures unit { self.new.unit ≡ self.old.unit }
+    {
+        arrive(&mut self.transport, &mut self.watch, row, ended).most
+    }
+
     /// Bytes arrive that go no further than the transport buffer: headers of packets, adaptation fields, and payload of no unit.
     #[inline(always)]
     pub fn pass(&mut self, row: &Row) -> RowSeen
@@ -91,13 +110,46 @@ impl<A: Allocator> StreamView<A> {
         ensures size { self.new.watch.size ≡ self.old.watch.size }
         ensures unit { self.new.unit ≡ self.old.unit }
     {
-        let arrived = arrive(&mut self.transport, &mut self.watch, row);
+        let mut ended = None;
+        let transport = self.pass_into(row, &mut ended);
         RowSeen {
-            transport: arrived.most,
-            ended: arrived.ended,
+            transport,
+            ended,
             main: 0,
             least: None,
             last: self.transport.last,
+        }
+    }
+
+    /// Payload bytes of the unit under way arrive, as [`carry`](StreamView::carry) takes them: what they find. The excess of the transport
+    /// buffer that has ended is written where none is yet, so that it is not moved.
+    #[inline(always)]
+    pub fn carry_into(&mut self, row: &Row, ended: &mut Option<Excess>) -> RowFound
+        requires timed { IsTimed row.now }
+        requires early { IsEarly row.now }
+        requires some { 0 < row.now.bytes }
+        requires count { self.old.transport.bytes + row.now.bytes ≤ 2 ^ 40 }
+        requires none { ended.old ≡ None }
+        ensures view { (parts : List Part) → IsViewOf self.old parts → IsViewOf self.new (Carries (times_of row.now) ∷ parts) }
+        ensures buffer { self.new.transport ≡ entered self.old.transport (times_of row.now) }
+        ensures transport { result.transport
+            ≡ most_found self.old.transport.step self.old.transport.last (times_of row.now) }
+        ensures ended { option_to_list ended.new
+            ≡ excesses_ended self.old.transport.step self.old.watch.size self.old.transport.last self.old.watch.under_way (times_of row.now) }
+        ensures main { let left : List ℕ = departures self.old.transport.step self.old.transport.last (times_of row.now) in
+            result.main ≡ greatest_at (fullness_with self.old.main left) left }
+        ensures least { result.least
+            ≡ least_in self.old.main None (departures self.old.transport.step self.old.transport.last (times_of row.now)) }
+        ensures size { self.new.watch.size ≡ self.old.watch.size }
+        ensures unit { self.new.unit ≡ with_bytes self.old.unit row.now.bytes self.new.transport.last }
+    {
+        let arrived = arrive(&mut self.transport, &mut self.watch, row, ended);
+        let found = enter_leaving(&mut self.main, &arrived.leaving);
+        add_bytes(&mut self.unit, row.bytes, self.transport.last);
+        RowFound {
+            transport: arrived.most,
+            main: found.most,
+            least: found.least,
         }
     }
 
@@ -123,13 +175,12 @@ impl<A: Allocator> StreamView<A> {
         ensures size { self.new.watch.size ≡ self.old.watch.size }
         ensures unit { self.new.unit ≡ with_bytes self.old.unit row.now.bytes self.new.transport.last }
     {
-        let arrived = arrive(&mut self.transport, &mut self.watch, row);
-        let found = enter_leaving(&mut self.main, &arrived.leaving);
-        self.unit = with_bytes(self.unit, row.bytes, self.transport.last);
+        let mut ended = None;
+        let found = self.carry_into(row, &mut ended);
         RowSeen {
-            transport: arrived.most,
-            ended: arrived.ended,
-            main: found.most,
+            transport: found.transport,
+            ended,
+            main: found.main,
             least: found.least,
             last: self.transport.last,
         }

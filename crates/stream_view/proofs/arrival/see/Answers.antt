@@ -1,8 +1,10 @@
-use Rattle.std.proofs.Common.{◌≡◌, ◌∙◌, ◌<◌, ◌≤◌, ℕ, false, sym, arith}
+use Rattle.std.proofs.Common.{◌≡◌, ◌∙◌, ◌<◌, ◌≤◌, ℕ, false, Option, Some, None, is_some, refl, ap, sym, arith}
+use Rattle.std.specs.Option.{option_to_list}
 use Rattle.packet_arrival.specs.Rows.{times_of}
 use Rattle.packet_arrival.specs.declared.row.Row.{Row}
+use Rattle.transport_buffer.specs.declared.excess.Excess.{Excess}
 use Rattle.transport_buffer.specs.declared.transport_buffer.TransportBuffer.{TransportBuffer}
-use Rattle.transport_buffer.specs.Excesses.{AreOver}
+use Rattle.transport_buffer.specs.Excesses.{AreOver, excess_after, excesses_ended}
 use Rattle.transport_buffer.proofs.ExcessBytes.{room_row_after, room_row_ended}
 use Rattle.transport_buffer.proofs.OverBytes.{none_over}
 use Rattle.clock27.specs.Peak.{most_found}
@@ -16,18 +18,41 @@ all_room : (buffer : TransportBuffer) (size most : ℕ) (row : Row) → most ≤
     AreOver false buffer.step size buffer.last (times_of row)
 all_room buffer size most row within is = none_over buffer.step size buffer.last (times_of row) (rw is at within)
 
-pub returns-then-most-from-clause-ended : goal.returns-then-most-from-clause-ended
-returns-then-most-from-clause-ended c =
-    let row : Row = c.args.row.now in
-    let buffer : TransportBuffer = c.args.buffer.now in
-    let room = all_room buffer c.args.watch.now.size c.args.most row (rw c.from.ensures at c.if-most-from.true) c.requires.most in
-    rw c.take.ensures.value
-    (sym (room_row_ended buffer.step c.args.watch.now.size buffer.last c.args.watch.now.under_way row.from row.pace row.parts row.bytes (some_bytes row.bytes c.requires.some) room))
+-- the excess under way ends then, if there is one
+ends : (buffer : TransportBuffer) (size : ℕ) (under_way : Option Excess) (row : Row) → 0 < row.bytes → AreOver false buffer.step size buffer.last (times_of row) →
+    option_to_list under_way ≡ excesses_ended buffer.step size buffer.last under_way (times_of row)
+ends buffer size under_way row some room = sym (room_row_ended buffer.step size buffer.last under_way row.from row.pace row.parts row.bytes (some_bytes row.bytes some) room)
 
-pub returns-then-most-from-clause-under_way : goal.returns-then-most-from-clause-under_way
-returns-then-most-from-clause-under_way c =
-    let row : Row = c.args.row.now in
-    let buffer : TransportBuffer = c.args.buffer.now in
-    let room = all_room buffer c.args.watch.now.size c.args.most row (rw c.from.ensures at c.if-most-from.true) c.requires.most in
-    c.take.ensures.after
-    ∙ sym (room_row_after buffer.step c.args.watch.now.size buffer.last c.args.watch.now.under_way row.from row.pace row.parts row.bytes (some_bytes row.bytes c.requires.some) room)
+leaves : (buffer : TransportBuffer) (size : ℕ) (under_way : Option Excess) (row : Row) → 0 < row.bytes → AreOver false buffer.step size buffer.last (times_of row) →
+    None ≡ excess_after buffer.step size buffer.last under_way (times_of row)
+leaves buffer size under_way row some room = sym (room_row_after buffer.step size buffer.last under_way row.from row.pace row.parts row.bytes (some_bytes row.bytes some) room)
+
+none_there : (o : Option Excess) → is_some o ≡ false → o ≡ None
+none_there None e = refl
+none_there (Some excess) e = absurd cc
+
+pub returns-then-is_some-clause-ended : goal.returns-then-is_some-clause-ended
+returns-then-is_some-clause-ended c =
+    let watch = c.args.watch.now in
+    let room = all_room c.args.buffer.now watch.size c.args.most c.args.row.now (rw c.from.ensures at c.if-most-from.true) c.requires.most in
+    ap (λ (e : Option Excess). option_to_list e) c.end_excess.ensures.ended ∙ ends c.args.buffer.now watch.size watch.under_way c.args.row.now c.requires.some room
+
+pub returns-then-is_some-clause-under_way : goal.returns-then-is_some-clause-under_way
+returns-then-is_some-clause-under_way c =
+    let watch = c.args.watch.now in
+    let room = all_room c.args.buffer.now watch.size c.args.most c.args.row.now (rw c.from.ensures at c.if-most-from.true) c.requires.most in
+    c.end_excess.ensures.under_way ∙ leaves c.args.buffer.now watch.size watch.under_way c.args.row.now c.requires.some room
+
+pub returns-else-is_some-clause-ended : goal.returns-else-is_some-clause-ended
+returns-else-is_some-clause-ended c =
+    let watch = c.args.watch.now in
+    let room = all_room c.args.buffer.now watch.size c.args.most c.args.row.now (rw c.from.ensures at c.if-most-from.true) c.requires.most in
+    let none : watch.under_way ≡ None = none_there watch.under_way (sym c.is_some.ensures ∙ c.if-is_some.false) in
+    ap (λ (e : Option Excess). option_to_list e) (c.requires.none ∙ sym none) ∙ ends c.args.buffer.now watch.size watch.under_way c.args.row.now c.requires.some room
+
+pub returns-else-is_some-clause-under_way : goal.returns-else-is_some-clause-under_way
+returns-else-is_some-clause-under_way c =
+    let watch = c.args.watch.now in
+    let room = all_room c.args.buffer.now watch.size c.args.most c.args.row.now (rw c.from.ensures at c.if-most-from.true) c.requires.most in
+    let none : watch.under_way ≡ None = none_there watch.under_way (sym c.is_some.ensures ∙ c.if-is_some.false) in
+    none ∙ leaves c.args.buffer.now watch.size watch.under_way c.args.row.now c.requires.some room

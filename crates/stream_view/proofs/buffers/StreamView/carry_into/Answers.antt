@@ -5,7 +5,7 @@ use Rattle.clock27.specs.Departure.{departures}
 use Rattle.main_buffer_rows.proofs.Pieces.{length-row}
 use Rattle.stream_view.specs.History.{with_bytes}
 use Rattle.stream_view.proofs.Views.{carried, left_bytes, bytes_more, climbing, held_left, least_left, most_left, counted_more}
-use Rattle.stream_view.proofs.buffers.StreamView.carry.Goals as goal
+use Rattle.stream_view.proofs.buffers.StreamView.carry_into.Goals as goal
 
 pub enter_leaving-found-requires-clause-climbing : goal.enter_leaving-found-requires-clause-climbing
 enter_leaving-found-requires-clause-climbing g c =
@@ -29,7 +29,7 @@ pub invariant_of-self-clause-counted : goal.invariant_of-self-clause-counted
 invariant_of-self-clause-counted g c =
     let old = c.args.self.now in
     let more = bytes_more old.transport c.arrive-arrived.new.transport c.args.row.now c.arrive-arrived.ensures.buffer in
-    rw c.with_bytes-self.ensures
+    rw c.add_bytes.ensures
     (counted_more old.unit c.args.row.now.bytes c.arrive-arrived.new.transport.last old.transport.bytes c.arrive-arrived.new.transport.bytes old.counted (omega (arith, more)))
 
 pub returns-clause-view : goal.returns-clause-view
@@ -43,7 +43,7 @@ returns-clause-view g c = λ parts v.
     carried old _ parts (times_of row) v old.paced.some c.arrive-arrived.ensures.buffer c.arrive-arrived.ensures.under_way c.arrive-arrived.ensures.size
     (held_left old.main c.enter_leaving-found.new.buffer leaving ds c.arrive-arrived.ensures.left e.there) e.until
     (e.peak ∙ ap (λ (n : ℕ). max old.main.peak n) (e.most ∙ most_left old.main leaving ds c.arrive-arrived.ensures.left))
-    (c.with_bytes-self.ensures ∙ ap (λ (n : ℕ). with_bytes old.unit n c.arrive-arrived.new.transport.last) many)
+    (c.add_bytes.ensures ∙ ap (λ (n : ℕ). with_bytes old.unit n c.arrive-arrived.new.transport.last) many)
 
 pub returns-clause-main : goal.returns-clause-main
 returns-clause-main g c =

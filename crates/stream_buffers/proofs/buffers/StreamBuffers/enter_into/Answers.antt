@@ -2,7 +2,7 @@ use Rattle.std.proofs.Common.{rules, ◌≡◌, ◌*◌, true, arith}
 use Rattle.stream_arrival.specs.Arrivals.{has_times}
 use Rattle.stream_buffers.specs.Entering.{lead_in, size_of, takes_in}
 use Rattle.stream_buffers.proofs.Packets.{packet_entered, packet_held, taken_in}
-use Rattle.stream_buffers.proofs.buffers.StreamBuffers.enter.Goals as goal
+use Rattle.stream_buffers.proofs.buffers.StreamBuffers.enter_into.Goals as goal
 
 pub returns-clause-held : goal.returns-clause-held
 returns-clause-held c = λ h k.
@@ -13,8 +13,8 @@ returns-clause-held c = λ h k.
     let lead : c.min-lead.result ≡ lead_in a p = search rules in
     let takes : takes_in h a p ≡ true =
     taken_in c.args.self.now h a p k (omega (arith, c.if-packet-ge-LAST_INDEX.false)) (omega (arith, c.if-self-gt-LAST_BYTES.false)) times in
-    packet_held c.args.self.now c.take.new.self c.take-2.new.self c.begin.new.self c.take-main.new.self h a p c.min-size.result c.min-lead.result k takes size lead
-    c.take.ensures.held c.take-2.ensures.held c.in_ok-unit.ensures.held c.take-main.ensures.held
+    packet_held c.args.self.now c.pass_if-before.new.self c.pass_if-header.new.self c.begin.new.self c.take-payload.new.self h a p c.min-size.result c.min-lead.result k takes size lead
+    c.pass_if-before.ensures.held c.pass_if-header.ensures.held c.in_ok-begin.ensures.held c.take-payload.ensures.held
 
 pub returns-clause-entered : goal.returns-clause-entered
 returns-clause-entered c = λ h k.
@@ -25,21 +25,21 @@ returns-clause-entered c = λ h k.
     let lead : c.min-lead.result ≡ lead_in a p = search rules in
     let takes : takes_in h a p ≡ true =
     taken_in c.args.self.now h a p k (omega (arith, c.if-packet-ge-LAST_INDEX.false)) (omega (arith, c.if-self-gt-LAST_BYTES.false)) times in
-    packet_entered c.args.self.now c.take.new.self c.take-2.new.self c.begin.new.self h a p _ c.min-size.result c.min-lead.result
-    c.take.result.0.transport c.take-2.result.0.transport c.take-main.result.0.transport k takes size lead
+    packet_entered c.args.self.now c.pass_if-before.new.self c.pass_if-header.new.self c.begin.new.self h a p _ c.min-size.result c.min-lead.result
+    c.pass_if-before.result c.pass_if-header.result c.take-payload.result.transport k takes size lead
     (record {
-      first = c.take.ensures.held;
-      lead = c.take.ensures.ended;
-      lead_found = c.take.ensures.most;
-      pass = c.take-2.ensures.held;
-      header = c.take-2.ensures.ended;
-      header_found = c.take-2.ensures.most;
-      begin = c.in_ok-unit.ensures.held;
-      unit = c.in_ok-unit.ensures.unit;
-      transport = c.take-main.ensures.ended;
-      main = c.take-main.ensures.main;
-      payload_found = c.take-main.ensures.most;
-      main_found = c.take-main.ensures.main_most;
-      least_found = c.take-main.ensures.main_least;
+      first = c.pass_if-before.ensures.held;
+      lead = c.pass_if-before.ensures.ended;
+      lead_found = c.pass_if-before.ensures.most;
+      pass = c.pass_if-header.ensures.held;
+      header = c.pass_if-header.ensures.ended;
+      header_found = c.pass_if-header.ensures.most;
+      begin = c.in_ok-begin.ensures.held;
+      unit = c.in_ok-begin.ensures.unit;
+      transport = c.take-payload.ensures.ended;
+      main = c.take-payload.ensures.main;
+      payload_found = c.take-payload.ensures.most;
+      main_found = c.take-payload.ensures.main_most;
+      least_found = c.take-payload.ensures.main_least;
       most = search rules;
     })
