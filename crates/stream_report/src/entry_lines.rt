@@ -217,8 +217,9 @@ pub(crate) fn write_ahead_if(
     }
 }
 
-/// What has ended with a packet, of a stream with a main buffer of the size at its place.
-pub(crate) fn write_ended(
+// What has ended with a packet. A call of its own: with few packets something has.
+#[inline(never)]
+fn write_all_ended(
     text: &mut String,
     options: &ViewOptions,
     place: &Place,
@@ -236,6 +237,28 @@ pub(crate) fn write_ended(
     write_excess_if(text, options, "excess", &transport, &entered.payload)?;
     write_excess_if(text, options, "main_excess", place, &entered.main)?;
     write_late_if(text, options, place, &entered.unit)
+}
+
+/// What has ended with a packet, of a stream with a main buffer of the size at its place.
+#[inline(always)]
+pub(crate) fn write_ended(
+    text: &mut String,
+    options: &ViewOptions,
+    place: &Place,
+    entered: &Entered,
+) -> Result<(), AllocError>
+    ensures { OnOk result (string_bytes text.new
+        ≡ string_bytes text.old ++ spec.ended_lines options.now place.now (entered_view entered.now)) }
+{
+    if entered.lead.is_none()
+        && entered.header.is_none()
+        && entered.payload.is_none()
+        && entered.main.is_none()
+        && entered.unit.is_none()
+    {
+        return Ok(());
+    }
+    write_all_ended(text, options, place, entered)
 }
 
 /// The number of excesses, with the one under way.

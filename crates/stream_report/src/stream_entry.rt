@@ -144,14 +144,13 @@ fn excess_counts(entered: &Entered) -> (u64, u64)
 }
 
 #[inline(always)]
-fn tally_after(tally: Tally, window: u64, unread: bool, entered: &Entered) -> Tally
-    ensures { result ≡ spec.tally_after tally window unread (entered_view entered.now) }
+fn add_entered(tally: &mut Tally, window: u64, unread: bool, entered: &Entered)
+    ensures { tally.new ≡ spec.tally_after tally.old window unread (entered_view entered.now) }
 {
     let (transport, main) = excess_counts(entered);
-    tally
-        .with_packet(window, entered)
-        .with_excesses(transport, main, unread)
-        .with_unit_if(window, &entered.unit)
+    tally.add_packet(window, entered);
+    tally.add_excesses(transport, main, unread);
+    tally.add_unit_if(window, &entered.unit);
 }
 
 impl StreamEntry {
@@ -193,11 +192,13 @@ impl StreamEntry {
             beginning,
             packet,
         );
-        let entered = self.buffers.enter(&options.arrival, &arriving)?;
+        let mut entered = Entered::new();
+        self.buffers
+            .enter_into(&options.arrival, &arriving, &mut entered)?;
         write_ahead_if(text, options, &place, ahead_by(clock, beginning))?;
         write_ended(text, options, &place, &entered)?;
         self.counter = counter_after(self.counter, packet);
-        self.tally = tally_after(self.tally, window, is_unread(beginning), &entered);
+        add_entered(&mut self.tally, window, is_unread(beginning), &entered);
         Ok(())
     }
 
@@ -205,7 +206,9 @@ impl StreamEntry {
     fn closed(&self, window: u64) -> Tally
         ensures { (e : EntryState) → IsEntry self.now e → result ≡ spec.closed window e }
     {
-        self.tally.with_unit_if(window, &self.buffers.unit())
+        let mut tally = self.tally;
+        tally.add_unit_if(window, &self.buffers.unit());
+        tally
     }
 
     /// Appends its lines of a window: what its buffers held, and the units that ended, if some did.

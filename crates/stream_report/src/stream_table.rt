@@ -1,5 +1,5 @@
 //! The streams whose buffers have begun.
-ghost use Rattle.std.specs.Prelude.{◌≡◌, ◌++◌, ◌≤◌, List, OnOk, flat_map, nat_eq, option_map, string_bytes};
+ghost use Rattle.std.specs.Prelude.{◌≡◌, ◌++◌, ◌≤◌, List, OnOk, flat_map, is_some, nat_eq, option_map, string_bytes};
 ghost use Rattle.std.specs.List.{list_all};
 ghost use Rattle.std.specs.Map.{lookup};
 ghost use Rattle.ts_packet.specs.Views.{packet_view};
@@ -38,18 +38,33 @@ pub struct StreamTable {
     entries: Vec<StreamEntry>,
 }
 
-// The place of a PID and its index, looked for first where that of another packet is.
-fn place_of(places: &PlacesByPid, last: &[usize; 64], pid: u16) -> Option<(usize, usize)>
-    ensures { option_map (λ found. found.1) result ≡ lookup (nat_eq pid) places.now.entries }
+// The place of a PID, looked for first where that of another packet is: its index is kept.
+#[inline(always)]
+fn place_of(places: &PlacesByPid, last: &mut [usize; 64], pid: u16) -> Option<usize>
+    ensures { result ≡ lookup (nat_eq pid) places.now.entries }
 {
-    let last = last[usize::from(pid % 64)];
-    if let Some((at, place)) = places.get_index(last) {
+    let ending = usize::from(pid % 64);
+    if let Some((at, place)) = places.get_index(last[ending]) {
         if *at == pid {
-            return Some((last, *place));
+            return Some(*place);
         }
     }
     let (index, _, place) = places.get_full(&pid)?;
-    Some((index, *place))
+    last[ending] = index;
+    Some(*place)
+}
+
+// Whether a PID has a place.
+#[inline(always)]
+fn has_place(places: &PlacesByPid, last: &[usize; 64], pid: u16) -> bool
+    ensures { result ≡ is_some (lookup (nat_eq pid) places.now.entries) }
+{
+    if let Some((at, _)) = places.get_index(last[usize::from(pid % 64)]) {
+        if *at == pid {
+            return true;
+        }
+    }
+    places.get(&pid).is_some()
 }
 
 // The bytes of a payload after the header of the PES packet that it begins.
@@ -237,11 +252,9 @@ impl StreamTable {
         ensures lines { (t : TableState) → IsTable self.old t → OnOk result (string_bytes text.new
             ≡ string_bytes text.old ++ spec.lines_of options.now index clocks.now t (packet_view packet.now)) }
     {
-        let Some((index_of_pid, place)) = place_of(&self.places, &self.last, packet.header.pid)
-        else {
+        let Some(place) = place_of(&self.places, &mut self.last, packet.header.pid) else {
             return Ok(());
         };
-        self.last[usize::from(packet.header.pid % 64)] = index_of_pid;
         let Some(entry) = self.entries.get_mut(place) else {
             return Ok(());
         };
@@ -253,7 +266,7 @@ impl StreamTable {
     pub fn has_stream(&self, pid: u16) -> bool
         ensures { (t : TableState) → IsTable self.now t → result ≡ spec.has_stream t pid }
     {
-        place_of(&self.places, &self.last, pid).is_some()
+        has_place(&self.places, &self.last, pid)
     }
 
     /// Appends a line for each stream of which a unit ended in a window.

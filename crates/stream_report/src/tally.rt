@@ -7,7 +7,7 @@ ghost use Rattle.stream_report.specs.Tallies as spec;
 use stream_buffers::Entered;
 use stream_view::UnitSeen;
 
-/// What is counted of a stream. Numbers stop at 2^64 - 1. The steps from one to the next are part of their callers, so that it is not moved.
+/// What is counted of a stream. Numbers stop at 2^64 - 1. It is changed in place, so that it is not moved.
 #[derive(Clone, Copy)]
 pub struct Tally {
     /// Excesses that have ended, of the transport buffer and of the main buffer.
@@ -62,78 +62,66 @@ impl Tally {
         }
     }
 
-    // With nothing in the window, if it is another one than the last packet's.
+    // Nothing is in the window, if it is another one than the last packet's.
     #[inline(always)]
-    fn in_window(self, window: u64) -> Tally
-        ensures { result ≡ spec.in_window self window }
+    fn enter_window(&mut self, window: u64)
+        ensures { self.new ≡ spec.in_window self.old window }
     {
-        if self.window == window {
-            return self;
-        }
-        Tally {
-            window,
-            window_transport: 0,
-            window_main: 0,
-            window_least: None,
-            window_units: 0,
-            window_late: 0,
-            slack: u128::MAX,
-            ..self
+        if self.window != window {
+            self.window = window;
+            self.window_transport = 0;
+            self.window_main = 0;
+            self.window_least = None;
+            self.window_units = 0;
+            self.window_late = 0;
+            self.slack = u128::MAX;
         }
     }
 
     /// A packet of a window has entered the buffers.
     #[inline(always)]
-    pub fn with_packet(self, window: u64, entered: &Entered) -> Tally
-        ensures { result ≡ spec.with_packet self window (entered_view entered.now) }
+    pub fn add_packet(&mut self, window: u64, entered: &Entered)
+        ensures { self.new ≡ spec.with_packet self.old window (entered_view entered.now) }
     {
-        let tally = self.in_window(window);
-        Tally {
-            window_transport: tally.window_transport.max(entered.transport_most),
-            window_main: tally.window_main.max(entered.main_most),
-            window_least: least_of_both(tally.window_least, entered.main_least),
-            ..tally
-        }
+        self.enter_window(window);
+        self.window_transport = self.window_transport.max(entered.transport_most);
+        self.window_main = self.window_main.max(entered.main_most);
+        self.window_least = least_of_both(self.window_least, entered.main_least);
     }
 
-    /// A unit has ended in a window.
-    pub fn with_unit(self, window: u64, unit: &UnitSeen) -> Tally
-        ensures { result ≡ spec.with_unit self window unit.now }
+    /// A unit has ended in a window. A call of its own: few packets end one.
+    #[inline(never)]
+    pub fn add_unit(&mut self, window: u64, unit: &UnitSeen)
+        ensures { self.new ≡ spec.with_unit self.old window unit.now }
     {
-        let tally = self.in_window(window);
+        self.enter_window(window);
         let late = u64::from(unit.lateness() > 0);
-        Tally {
-            units: tally.units.saturating_add(1),
-            late: tally.late.saturating_add(late),
-            window_units: tally.window_units.saturating_add(1),
-            window_late: tally.window_late.saturating_add(late),
-            slack: tally.slack.min(unit.slack()),
-            ..tally
-        }
+        self.units = self.units.saturating_add(1);
+        self.late = self.late.saturating_add(late);
+        self.window_units = self.window_units.saturating_add(1);
+        self.window_late = self.window_late.saturating_add(late);
+        self.slack = self.slack.min(unit.slack());
     }
 
     /// A unit has ended, if one has.
     #[inline(always)]
     #[tactic(auto, unfolding(crate::specs::Tallies::with_unit_if))]
-    pub fn with_unit_if(self, window: u64, unit: &Option<UnitSeen>) -> Tally
-        ensures { result ≡ spec.with_unit_if self window unit.now }
+    pub fn add_unit_if(&mut self, window: u64, unit: &Option<UnitSeen>)
+        ensures { self.new ≡ spec.with_unit_if self.old window unit.now }
     {
         match unit {
-            None => self,
-            Some(unit) => self.with_unit(window, unit),
+            None => {}
+            Some(unit) => self.add_unit(window, unit),
         }
     }
 
     /// So many excesses have ended, and a header was not read or none.
     #[inline(always)]
-    pub fn with_excesses(self, transport: u64, main: u64, unread: bool) -> Tally
-        ensures { result ≡ spec.with_excesses self transport main unread }
+    pub fn add_excesses(&mut self, transport: u64, main: u64, unread: bool)
+        ensures { self.new ≡ spec.with_excesses self.old transport main unread }
     {
-        Tally {
-            excesses: self.excesses.saturating_add(transport),
-            main_excesses: self.main_excesses.saturating_add(main),
-            unread: self.unread.saturating_add(u64::from(unread)),
-            ..self
-        }
+        self.excesses = self.excesses.saturating_add(transport);
+        self.main_excesses = self.main_excesses.saturating_add(main);
+        self.unread = self.unread.saturating_add(u64::from(unread));
     }
 }

@@ -86,12 +86,17 @@ impl View {
         ensures lines { (s : ViewState) → IsView self.old s → OnOk result
             (string_bytes text.new ≡ string_bytes text.old ++ spec.buffer_lines_at s (packet_view packet.now)) }
     {
-        let options = self.seen.options;
         let index = self.seen.packets;
         self.table
-            .begin(&options, index, &self.seen.named, packet, text)?;
-        self.table
-            .take(&options, index, window, &self.seen.clocks, packet, text)
+            .begin(&self.seen.options, index, &self.seen.named, packet, text)?;
+        self.table.take(
+            &self.seen.options,
+            index,
+            window,
+            &self.seen.clocks,
+            packet,
+            text,
+        )
     }
 
     // A packet that is not known to be wrong.
