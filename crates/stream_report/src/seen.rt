@@ -262,11 +262,11 @@ impl Seen {
     }
 
     /// The null packet, which has no section.
-    pub fn pass_null(&mut self) -> Result<(), AllocError>
-        ensures seen { OnOk result (self.new ≡ spec.with_sections self.old null_packet) }
+    pub fn pass_null(&mut self)
+        ensures seen { self.new ≡ spec.with_sections self.old null_packet }
         ensures lines { spec.section_lines self.old null_packet ≡ [] }
     {
-        self.tables.pass_null()
+        self.tables.pass_null();
     }
 
     /// What 188 bytes name counts from the next packet on.

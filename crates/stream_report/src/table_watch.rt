@@ -1,7 +1,7 @@
 //! The sections of tables, packet by packet.
 ghost use Rattle.std.specs.Prelude.{◌≡◌, ◌==◌, [], ◌++◌, OnOk, Some, map, string_bytes};
 ghost use Rattle.bit_fields.specs.Reading.{Gives};
-ghost use Rattle.ts_packet.specs.Packets.{null_packet, null_view};
+ghost use Rattle.ts_packet.specs.Packets.{null_packet};
 ghost use Rattle.ts_packet.specs.Reading.{packet_at};
 ghost use Rattle.ts_packet.specs.Views.{packet_view};
 ghost use Rattle.demux.specs.Shown.{finding_view};
@@ -18,7 +18,7 @@ use table_intervals::{
     SectionBegin, SectionPlaces, TableError, TableIntervals, TableTiming, limit_of, pid_of,
     section_begin, table_id_of, time_between,
 };
-use ts_packet::{Header, NULL_PID, Packet, PacketError, null_packet};
+use ts_packet::{Packet, PacketError};
 
 /// The sections of each table, and the number of those that begin too late, which stops at 2^64 - 1.
 #[derive(Drop)]
@@ -51,25 +51,6 @@ impl Model for TableWatch {
     ghost view = { λ t. record { demux = t.demux; times = t.times } };
 
     ghost invariant = { λ t. TakesPackets t.demux };
-}
-
-// The null packet as it is read.
-fn null_read(bytes: &[u8; 188]) -> Packet<'_>
-    requires { bytes.now ≡ null_packet }
-    ensures { packet_view result ≡ null_view }
-{
-    Packet {
-        header: Header {
-            transport_error_indicator: false,
-            payload_unit_start_indicator: false,
-            transport_priority: false,
-            pid: NULL_PID,
-            transport_scrambling_control: 0,
-            continuity_counter: 0,
-        },
-        adaptation: None,
-        payload: Some(&bytes[4..]),
-    }
 }
 
 fn write_error(
@@ -246,17 +227,11 @@ impl TableWatch {
     }
 
     /// The null packet: no section begins in it.
-    pub fn pass_null(&mut self) -> Result<(), AllocError>
-        ensures tables { (options : ViewOptions) → OnOk result (self.new ≡ spec.with_packet options self.old null_packet) }
+    pub fn pass_null(&mut self)
+        ensures tables { (options : ViewOptions) → self.new ≡ spec.with_packet options self.old null_packet }
         ensures lines { (options : ViewOptions) → spec.packet_lines options self.old null_packet ≡ [] }
     {
-        let bytes = null_packet();
-        let read = Ok(null_read(&bytes));
-        let mut found = Vec::new(self.alloc);
-        match self.demux.take_read(&bytes, &read, &mut found) {
-            Ok(()) => Ok(()),
-            Err(_) => Err(AllocError),
-        }
+        self.demux.skip();
     }
 
     /// Whether no section began too late.

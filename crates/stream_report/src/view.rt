@@ -159,7 +159,8 @@ impl View {
             Err(_) => self.seen.take_sections(bytes, read, text),
             Ok(packet) => {
                 if self.table.has_stream(packet.header.pid) {
-                    self.seen.pass_null()
+                    self.seen.pass_null();
+                    Ok(())
                 } else {
                     self.seen.take_sections(bytes, read, text)
                 }

@@ -2,7 +2,6 @@ use Rattle.std.proofs.Common.{◌∙◌, ap}
 use Rattle.ts_packet.specs.Packets.{null_packet}
 use Rattle.stream_report.specs.Seen.{SeenState, with_sections}
 use Rattle.stream_report.specs.TableLines.{TablesState}
-use Rattle.stream_report.proofs.Tables.{on_ok}
 use Rattle.stream_report.proofs.seen.Seen.pass_null.Goals as goal
 
 pub returns-clause-seen : goal.returns-clause-seen
@@ -21,5 +20,5 @@ returns-clause-seen c =
       named = c.self.inside.named;
       services = c.self.inside.services;
     } in
-    on_ok c.pass_null.result (λ e. ap (λ (t : TablesState). record seen { tables = t }) e ∙ ap (λ (s : SeenState). with_sections s null_packet) c.self.view_is)
-    (c.pass_null.ensures.tables seen.options)
+    ap (λ (t : TablesState). record seen { tables = t }) (c.pass_null.ensures.tables seen.options)
+    ∙ ap (λ (s : SeenState). with_sections s null_packet) c.self.view_is
