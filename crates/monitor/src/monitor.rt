@@ -1,5 +1,8 @@
 //! A stream packet by packet.
 ghost use Rattle.std.specs.Prelude.{◌≡◌, ◌<◌, ◌^◌, ◌∷◌, [], true, IfOk, OnOk, length, map};
+ghost use Rattle.bit_fields.specs.Reading.{Gives};
+ghost use Rattle.ts_packet.specs.Reading.{packet_at};
+ghost use Rattle.ts_packet.specs.Views.{packet_view};
 ghost use Rattle.demux.specs.Stream.{is_aligned};
 ghost use Rattle.monitor.specs.Taken.{HasTaken, ReportsTaken, Takes};
 ghost use Rattle.monitor.specs.MonitorStates.{demux_ended, found_to_end, packet_taken, stream_ended};
@@ -16,7 +19,7 @@ use clock27::Rate;
 use demux::{Demux, Finding};
 use std::alloc::{AllocError, Allocator, Global};
 use std::marker::Model;
-use ts_packet::read_packet;
+use ts_packet::{Packet, PacketError, read_packet};
 
 /// A monitor that takes a stream packet by packet: a state for each PID, and the faults so far. No packet is kept.
 ///
@@ -40,6 +43,17 @@ impl<A: Allocator> Model for Monitor<A> {
     ghost view = { λ w. record { demux = w.demux; packets = w.packets; seen = w.seen; found = w.found } };
 
     ghost invariant = { λ w. is_aligned w.demux ≡ true };
+}
+
+// Takes out what was found in other packets, in most of which nothing was.
+// Inlined: most calls end with the test.
+#[inline(always)]
+fn take_out<A: Allocator>(found: &mut Vec<Finding<'_, A>, A>)
+    ensures { found.new.items ≡ [] }
+{
+    if !found.is_empty() {
+        found.clear();
+    }
 }
 
 // All faults, in the order of the rules' groups.
@@ -126,7 +140,27 @@ impl<A: Allocator + Copy> Monitor<A> {
         })
     }
 
-    // The next packet. What is found in it goes to the room of what was found in others.
+    // The next packet, as it was read. What is found in it goes to the room of what was found in others.
+    fn take_read<'a>(
+        &mut self,
+        bytes: &'a [u8; 188],
+        read: &Result<Packet<'a>, PacketError>,
+        found: &mut Vec<Finding<'a, A>, A>,
+    ) -> Result<(), AllocError>
+        requires { Gives packet_view read.now (packet_at bytes.now) }
+        ensures { OnOk result (self.new ≡ packet_taken self.old bytes.now) }
+    {
+        take_out(found);
+        let Ok(()) = self.demux.take_read(bytes, read, found) else {
+            return Err(AllocError);
+        };
+        self.found.note_found(found)?;
+        self.seen.take(self.packets, read)?;
+        self.packets = self.packets.saturating_add(1);
+        Ok(())
+    }
+
+    // The next packet.
     fn take_next<'a>(
         &mut self,
         bytes: &'a [u8; 188],
@@ -134,15 +168,7 @@ impl<A: Allocator + Copy> Monitor<A> {
     ) -> Result<(), AllocError>
         ensures { OnOk result (self.new ≡ packet_taken self.old bytes.now) }
     {
-        let read = read_packet(bytes);
-        found.clear();
-        let Ok(()) = self.demux.take_read(bytes, &read, found) else {
-            return Err(AllocError);
-        };
-        self.found.note_all(found.as_slice())?;
-        self.seen.take(self.packets, &read)?;
-        self.packets = self.packets.saturating_add(1);
-        Ok(())
+        self.take_read(bytes, &read_packet(bytes), found)
     }
 
     /// The next packet.
