@@ -1,26 +1,27 @@
 //! `demux`: a line for each finding in a transport stream, which is read piece by piece.
-ghost use Rattle.std.specs.Prelude.{◌≡◌, ◌++◌, IfOk, IfErr, OnOk, Err, map, string_bytes};
+ghost use Rattle.std.specs.Prelude.{◌≡◌, ◌++◌, IfOk, IfErr, OnOk, Err, map};
 ghost use Rattle.demux.specs.Shown.{finding_view};
 ghost use Rattle.demux.specs.Stream as stream;
 ghost use Rattle.devices.specs.Devices.{reads, writes};
+ghost use Rattle.devices.specs.Lines.{WritesLine};
 ghost use Rattle.devices.specs.Runs.{Performs};
 ghost use Rattle.devices.specs.WholeInput.{ReadsInput};
 ghost use Rattle.tsmux_cli.specs.Demultiplexing.{Demultiplexes, ListsPiece, ListsSome, ListsWhole};
 ghost use Rattle.tsmux_cli.specs.FindingLines.{finding_lines, has_fault};
 
 use crate::finding_lines::{has_fault, write_findings};
-use counted_io::{Sink, Source};
+use counted_io::{Sink, Source, write_part};
 use demux::{Demux, Finding};
-use devices::{Halt, PieceTaker, report_halt, take_input, write_text};
+use devices::{Halt, PieceTaker, report_halt, take_input};
 use std::alloc::Global;
 
 /// The size of a piece in bytes.
 const PIECE: usize = 1 << 18;
 
 /// Appends the lines of findings, and returns whether one is a fault.
-fn list(found: &[Finding<'_>], text: &mut String) -> Result<bool, Halt>
+fn list(found: &[Finding<'_>], text: &mut Vec<u8>) -> Result<bool, Halt>
     ensures lines { OnOk result
-        (string_bytes text.new ≡ string_bytes text.old ++ finding_lines (map finding_view found.now)) }
+        (text.new.items ≡ text.old.items ++ finding_lines (map finding_view found.now)) }
     ensures fault { IfOk result (λ faulty. faulty ≡ has_fault (map finding_view found.now)) }
     ensures memory { IfErr result (λ halt. halt ≡ Halt.Memory) }
 {
@@ -31,8 +32,8 @@ fn list(found: &[Finding<'_>], text: &mut String) -> Result<bool, Halt>
 }
 
 /// Appends the lines of the findings in the next piece of a stream, and returns whether one is a fault.
-fn list_piece(piece: &[u8], demux: &mut Demux, text: &mut String) -> Result<bool, Halt>
-    ensures { ListsPiece piece.now demux.old demux.new (string_bytes text.old) (string_bytes text.new) result }
+fn list_piece(piece: &[u8], demux: &mut Demux, text: &mut Vec<u8>) -> Result<bool, Halt>
+    ensures { ListsPiece piece.now demux.old demux.new text.old.items text.new.items result }
 {
     let Ok(()) = demux.push(piece) else {
         return Err(Halt::Memory);
@@ -46,14 +47,14 @@ fn list_piece(piece: &[u8], demux: &mut Demux, text: &mut String) -> Result<bool
 #[derive(Drop)]
 struct FindingList {
     demux: Demux,
-    text: String,
+    text: Vec<u8>,
     faulty: bool,
 }
 
 impl PieceTaker for FindingList {
     ghost unit = { 1 };
 
-    ghost has_taken = { λ first bytes now. ListsSome bytes now.demux now.faulty (string_bytes now.text) };
+    ghost has_taken = { λ first bytes now. ListsSome bytes now.demux now.faulty now.text.items };
 
     fn take_piece(&mut self, piece: &[u8]) -> Result<(), Halt> {
         let faulty = list_piece(piece, &mut self.demux, &mut self.text)?;
@@ -63,9 +64,9 @@ impl PieceTaker for FindingList {
 }
 
 /// Lists the findings at the end of the stream, and returns whether there is a fault.
-fn list_end(demux: &mut Demux, text: &mut String) -> Result<bool, Halt>
+fn list_end(demux: &mut Demux, text: &mut Vec<u8>) -> Result<bool, Halt>
     ensures lines { OnOk result
-        (string_bytes text.new ≡ string_bytes text.old ++ finding_lines (stream.finished demux.old).found) }
+        (text.new.items ≡ text.old.items ++ finding_lines (stream.finished demux.old).found) }
     ensures fault { IfOk result (λ faulty. faulty ≡ has_fault (stream.finished demux.old).found) }
     ensures memory { IfErr result (λ halt. halt ≡ Halt.Memory) }
 {
@@ -76,13 +77,13 @@ fn list_end(demux: &mut Demux, text: &mut String) -> Result<bool, Halt>
 }
 
 /// The lines of all findings in the input, and whether there is a fault.
-fn list_input<R: Source>(alloc: Global, input: &mut R) -> Result<(String, bool), Halt>
+fn list_input<R: Source>(alloc: Global, input: &mut R) -> Result<(Vec<u8>, bool), Halt>
     ensures ok { IfOk result (λ listed. ListsWhole (reads R.Source input.old input.new)
-        (string_bytes listed.0) listed.1) }
+        listed.0.items listed.1) }
     ensures err { IfErr result (λ halt. ReadsInput (reads R.Source input.old input.new) (Err halt)) }
 {
     let demux = Demux::new(alloc);
-    let text = String::new(alloc);
+    let text = Vec::new(alloc);
     let mut found = FindingList {
         demux,
         text,
@@ -96,6 +97,16 @@ fn list_input<R: Source>(alloc: Global, input: &mut R) -> Result<(String, bool),
     } = found;
     let ended = list_end(&mut demux, &mut text)?;
     Ok((text, faulty | ended))
+}
+
+/// Writes lines whole.
+fn write_lines<W: Sink>(lines: &[u8], output: &mut W) -> Result<(), Halt>
+    ensures { WritesLine lines.now (writes W.Sink output.old output.new) result }
+{
+    match write_part(output, lines) {
+        Ok(()) => Ok(()),
+        Err(_) => Err(Halt::Write),
+    }
 }
 
 /// Writes a line for each finding, and returns the status.
@@ -115,7 +126,7 @@ pub fn demultiplex<R: Source, W: Sink, E: Sink>(
         Ok(listed) => listed,
         Err(halt) => return report_halt(faults, halt),
     };
-    match write_text(&text, output) {
+    match write_lines(&text, output) {
         Ok(()) => { if faulty { 1 } else { 0 } }
         Err(halt) => report_halt(faults, halt),
     }

@@ -1,31 +1,66 @@
 //! The lines of findings.
-ghost use Rattle.std.specs.Prelude.{◌≡◌, ◌++◌, decimal, OnOk, Option, length, slice_index, map, string_bytes};
+//!
+//! A line is put into a room on the stack from its end: each part of it before what already stands there.
+ghost use Rattle.std.specs.Prelude.{◌≡◌, ◌++◌, ◌+◌, ◌≤◌, codes, decimal, drop, OnOk, Option, length, slice_index, map};
 ghost use Rattle.demux.specs.Shown.{finding_view, what_view};
 ghost use Rattle.tsmux_cli.specs.FindingLines.{dts_of, finding_line, finding_lines, has_fault, is_fault};
 ghost use Rattle.tsmux_cli.specs.FindingLines.{pes_text, place_text, pts_of, section_text, stamp_text, what_text};
 
 use demux::{Finding, What};
+use itoa::write_digits;
 use pes_packet::{PesHeader, Stamps};
 use std::alloc::AllocError;
-use std::fmt::Write;
 
-/// Appends `I pid P`, or `I` where the packet has no PID.
-fn write_place(text: &mut String, packet: u64, pid: Option<u16>) -> Result<(), AllocError>
-    ensures { OnOk result (string_bytes text.new ≡ string_bytes text.old ++ place_text packet pid) }
+/// The room of a line. A line has at most 152 bytes: LF, 45 of its place, and 106 of what was found.
+const ROOM: usize = 192;
+
+/// Puts bytes before a place in the room, and returns where they begin.
+// Inlined: a word's length is known at each call, and the copy is then a move or two.
+#[inline(always)]
+fn put(room: &mut [u8; ROOM], end: usize, word: &[u8]) -> usize
+    requires { (length word.now ≤ end) × (end ≤ 192) }
+    ensures start { result + length word.now ≡ end }
+    ensures written { drop result room.new ≡ word.now ++ drop end room.old }
+{
+    let start = end - word.len();
+    room[start..end].copy_from_slice(word);
+    start
+}
+
+/// Puts a number before a place in the room, and returns where it begins.
+fn put_number(room: &mut [u8; ROOM], end: usize, number: u64) -> usize
+    requires { (20 ≤ end) × (end ≤ 192) }
+    ensures within { (result ≤ end) × (end ≤ result + 20) }
+    ensures written { drop result room.new ≡ decimal number ++ drop end room.old }
+{
+    write_digits(number, room, end)
+}
+
+/// Puts `I pid P`, or `I` where the packet has no PID.
+fn put_place(room: &mut [u8; ROOM], end: usize, packet: u64, pid: Option<u16>) -> usize
+    requires { (45 ≤ end) × (end ≤ 192) }
+    ensures within { result ≤ end }
+    ensures written { drop result room.new ≡ place_text packet pid ++ drop end room.old }
 {
     match pid {
-        None => write!(text, "{packet}"),
-        Some(pid) => write!(text, "{packet} pid {pid}"),
+        None => put_number(room, end, packet),
+        Some(pid) => {
+            let end = put_number(room, end, u64::from(pid));
+            let end = put(room, end, b" pid ");
+            put_number(room, end, packet)
+        }
     }
 }
 
-/// Appends a time stamp, or `-`.
-fn write_stamp(text: &mut String, stamp: Option<u64>) -> Result<(), AllocError>
-    ensures { OnOk result (string_bytes text.new ≡ string_bytes text.old ++ stamp_text stamp) }
+/// Puts a time stamp, or `-`.
+fn put_stamp(room: &mut [u8; ROOM], end: usize, stamp: Option<u64>) -> usize
+    requires { (20 ≤ end) × (end ≤ 192) }
+    ensures within { (result ≤ end) × (end ≤ result + 20) }
+    ensures written { drop result room.new ≡ stamp_text stamp ++ drop end room.old }
 {
     match stamp {
-        None => text.push_str("-"),
-        Some(stamp) => write!(text, "{stamp}"),
+        None => put(room, end, b"-"),
+        Some(stamp) => put_number(room, end, stamp),
     }
 }
 
@@ -49,25 +84,28 @@ fn dts_of(stamps: Stamps) -> Option<u64>
     }
 }
 
-/// Appends a PES packet: its stream_id, its time stamps and the number of bytes after its header.
-fn write_pes(
-    text: &mut String,
+/// Puts a PES packet: its stream_id, its time stamps and the number of bytes after its header.
+fn put_pes(
+    room: &mut [u8; ROOM],
+    end: usize,
     header: &PesHeader,
     unended: bool,
     size: usize,
-) -> Result<(), AllocError>
-    ensures { OnOk result (string_bytes text.new ≡ string_bytes text.old ++ pes_text header.now unended size) }
+) -> usize
+    requires { (110 ≤ end) × (end ≤ 192) }
+    ensures within { (result ≤ end) × (end ≤ result + 110) }
+    ensures written { drop result room.new ≡ pes_text header.now unended size ++ drop end room.old }
 {
-    let id = header.id;
-    write!(text, " pes {id} pts ")?;
-    write_stamp(text, pts_of(header.stamps))?;
-    text.push_str(" dts ")?;
-    write_stamp(text, dts_of(header.stamps))?;
-    write!(text, " size {size}")?;
-    if unended {
-        text.push_str(" open")?;
-    }
-    Ok(())
+    let word: &[u8] = if unended { b" open" } else { b"" };
+    let end = put(room, end, word);
+    let end = put_number(room, end, size as u64);
+    let end = put(room, end, b" size ");
+    let end = put_stamp(room, end, dts_of(header.stamps));
+    let end = put(room, end, b" dts ");
+    let end = put_stamp(room, end, pts_of(header.stamps));
+    let end = put(room, end, b" pts ");
+    let end = put_number(room, end, u64::from(header.id));
+    put(room, end, b" pes ")
 }
 
 /// The table_id of a section.
@@ -77,62 +115,87 @@ fn table_id(section: &[u8]) -> u8
     section.first().copied().unwrap_or(0)
 }
 
-/// Appends a name and a number.
-fn write_number(text: &mut String, name: &str, number: usize) -> Result<(), AllocError>
-    ensures { OnOk result (string_bytes text.new ≡ string_bytes text.old ++ (name.now ++ decimal number)) }
+/// Puts a name of up to 20 bytes and a number.
+fn put_named(room: &mut [u8; ROOM], end: usize, name: &[u8], number: u64) -> usize
+    requires name { length name.now ≤ 20 }
+    requires room { (110 ≤ end) × (end ≤ 192) }
+    ensures within { (result ≤ end) × (end ≤ result + 110) }
+    ensures written { drop result room.new ≡ (name.now ++ decimal number) ++ drop end room.old }
 {
-    write!(text, "{name}{number}")
+    let end = put_number(room, end, number);
+    put(room, end, name)
 }
 
-/// Appends a section.
-fn write_section(text: &mut String, section: &[u8]) -> Result<(), AllocError>
-    ensures { OnOk result (string_bytes text.new
-        ≡ string_bytes text.old ++ section_text (slice_index section.now 0) (length section.now)) }
+/// Puts a section.
+fn put_section(room: &mut [u8; ROOM], end: usize, section: &[u8]) -> usize
+    requires { (110 ≤ end) × (end ≤ 192) }
+    ensures within { (result ≤ end) × (end ≤ result + 110) }
+    ensures written { drop result room.new
+        ≡ section_text (slice_index section.now 0) (length section.now) ++ drop end room.old }
 {
-    let table_id = table_id(section);
-    let size = section.len();
-    write!(text, " section {table_id} size {size}")
+    let end = put_number(room, end, section.len() as u64);
+    let end = put(room, end, b" size ");
+    let end = put_number(room, end, u64::from(table_id(section)));
+    put(room, end, b" section ")
 }
 
-/// Appends what was found.
+/// Puts a break of the continuity_counter.
+fn put_break(room: &mut [u8; ROOM], end: usize, expected: u8, found: u8) -> usize
+    requires { (110 ≤ end) × (end ≤ 192) }
+    ensures within { (result ≤ end) × (end ≤ result + 110) }
+    ensures written { drop result room.new
+        ≡ (codes " counter " ++ decimal expected ++ codes " " ++ decimal found) ++ drop end room.old }
+{
+    let end = put_number(room, end, u64::from(found));
+    let end = put(room, end, b" ");
+    let end = put_number(room, end, u64::from(expected));
+    put(room, end, b" counter ")
+}
+
+/// Puts what was found.
 #[tactic(auto, unfolding(crate::specs::FindingLines::what_text))]
-fn write_what(text: &mut String, what: &What<'_>) -> Result<(), AllocError>
-    ensures { OnOk result (string_bytes text.new ≡ string_bytes text.old ++ what_text (what_view what.now)) }
+fn put_what(room: &mut [u8; ROOM], end: usize, what: &What<'_>) -> usize
+    requires { (110 ≤ end) × (end ≤ 192) }
+    ensures within { (result ≤ end) × (end ≤ result + 110) }
+    ensures written { drop result room.new ≡ what_text (what_view what.now) ++ drop end room.old }
 {
     match what {
-        What::Duplicate => text.push_str(" duplicate"),
-        What::CounterBreak { expected, found } => write!(text, " counter {expected} {found}"),
-        What::Scrambled => text.push_str(" scrambled"),
-        What::Truncated(part) => write_number(text, " truncated ", part.bytes().len()),
-        What::Section(part) => write_section(text, part.bytes()),
-        What::BadSection(error) => write_number(text, " bad-section ", error.code() as usize),
+        What::Duplicate => put(room, end, b" duplicate"),
+        What::CounterBreak { expected, found } => put_break(room, end, *expected, *found),
+        What::Scrambled => put(room, end, b" scrambled"),
+        What::Truncated(part) => put_named(room, end, b" truncated ", part.bytes().len() as u64),
+        What::Section(part) => put_section(room, end, part.bytes()),
+        What::BadSection(error) => put_named(room, end, b" bad-section ", u64::from(error.code())),
         What::Pes {
             header,
             unended,
             body,
-        } => write_pes(text, header, *unended, body.bytes().len()),
-        What::BadPes(error) => write_number(text, " bad-pes ", error.code() as usize),
-        What::BadPacket(error) => write_number(text, " bad-packet ", error.code() as usize),
-        What::Errored => text.push_str(" errored"),
+        } => put_pes(room, end, header, *unended, body.bytes().len()),
+        What::BadPes(error) => put_named(room, end, b" bad-pes ", u64::from(error.code())),
+        What::BadPacket(error) => put_named(room, end, b" bad-packet ", u64::from(error.code())),
+        What::Errored => put(room, end, b" errored"),
     }
 }
 
-/// Appends the line of a finding.
-fn write_finding(text: &mut String, finding: &Finding<'_>) -> Result<(), AllocError>
-    ensures { OnOk result (string_bytes text.new ≡ string_bytes text.old ++ finding_line (finding_view finding.now)) }
+/// Puts the line of a finding at the end of the room, and returns where it begins.
+fn put_finding(room: &mut [u8; ROOM], finding: &Finding<'_>) -> usize
+    ensures within { result ≤ 192 }
+    ensures written { drop result room.new ≡ finding_line (finding_view finding.now) }
 {
-    write_place(text, finding.packet, finding.pid)?;
-    write_what(text, &finding.what)?;
-    text.push_str("\n")
+    let end = put(room, ROOM, b"\n");
+    let end = put_what(room, end, &finding.what);
+    put_place(room, end, finding.packet, finding.pid)
 }
 
 /// Appends the lines of findings.
-pub fn write_findings(text: &mut String, found: &[Finding<'_>]) -> Result<(), AllocError>
+pub fn write_findings(text: &mut Vec<u8>, found: &[Finding<'_>]) -> Result<(), AllocError>
     ensures { OnOk result
-        (string_bytes text.new ≡ string_bytes text.old ++ finding_lines (map finding_view found.now)) }
+        (text.new.items ≡ text.old.items ++ finding_lines (map finding_view found.now)) }
 {
+    let mut room = [0; ROOM];
     for finding in found {
-        write_finding(text, finding)?;
+        let start = put_finding(&mut room, finding);
+        text.extend_from_slice(&room[start..])?;
     }
     Ok(())
 }

@@ -12,26 +12,26 @@ pub returns-then-faulty : goal.returns-then-faulty
 unfolding demultiplexed
 returns-then-faulty g c =
     let bytes = c.in-Ok.ensures.ok.bytes in
-    let text : c.deref.result.now ≡ finding_lines (findings_of bytes) = c.deref.ensures ∙ c.in-Ok.ensures.ok.lines_are in
+    let text : c.deref.result.now ≡ finding_lines (findings_of bytes) = c.deref.ensures.value ∙ c.in-Ok.ensures.ok.lines_are in
     let fault : has_fault (findings_of bytes) ≡ true = sym c.in-Ok.ensures.ok.faults ∙ c.if-faulty.true in
     text_written Demultiplexes bytes c.deref.result.now (demultiplexed bytes) _ _ _ _ c.in-Ok.ensures.ok.read refl text
-    c.in-Ok-write_text.ensures.0 c.in-Ok-write_text.ensures.1 (reports_none _ refl)
+    c.in-Ok-write_lines.ensures.0 c.in-Ok-write_lines.ensures.1 (reports_none _ refl)
     (sym (ap (λ (b : Bool). if b then 1 else 0) fault))
 
-pub returns-in-Ok-write_text : goal.returns-in-Ok-write_text
+pub returns-in-Ok-write_lines : goal.returns-in-Ok-write_lines
 unfolding demultiplexed
-returns-in-Ok-write_text g c =
+returns-in-Ok-write_lines g c =
     let bytes = c.in-Ok.ensures.ok.bytes in
-    let text : c.deref.result.now ≡ finding_lines (findings_of bytes) = c.deref.ensures ∙ c.in-Ok.ensures.ok.lines_are in
+    let text : c.deref.result.now ≡ finding_lines (findings_of bytes) = c.deref.ensures.value ∙ c.in-Ok.ensures.ok.lines_are in
     let fault : has_fault (findings_of bytes) ≡ false = sym c.in-Ok.ensures.ok.faults ∙ c.if-faulty.false in
     text_written Demultiplexes bytes c.deref.result.now (demultiplexed bytes) _ _ _ _ c.in-Ok.ensures.ok.read refl text
-    c.in-Ok-write_text.ensures.0 c.in-Ok-write_text.ensures.1 (reports_none _ refl)
+    c.in-Ok-write_lines.ensures.0 c.in-Ok-write_lines.ensures.1 (reports_none _ refl)
     (sym (ap (λ (b : Bool). if b then 1 else 0) fault))
 
 pub returns : goal.returns
 unfolding demultiplexed
 returns g c =
     let bytes = c.in-Ok.ensures.ok.bytes in
-    let text : c.deref.result.now ≡ finding_lines (findings_of bytes) = c.deref.ensures ∙ c.in-Ok.ensures.ok.lines_are in
-    text_unwritten (Unit {0}) Demultiplexes bytes c.deref.result.now (demultiplexed bytes) _ _ _ _ c.in-Err-write_text.halt c.in-Ok.ensures.ok.read refl text
-    c.in-Err-write_text.ensures c.report_halt-in-Err-write_text.ensures.reports c.report_halt-in-Err-write_text.ensures.status
+    let text : c.deref.result.now ≡ finding_lines (findings_of bytes) = c.deref.ensures.value ∙ c.in-Ok.ensures.ok.lines_are in
+    text_unwritten (Unit {0}) Demultiplexes bytes c.deref.result.now (demultiplexed bytes) _ _ _ _ c.in-Err-write_lines.halt c.in-Ok.ensures.ok.read refl text
+    c.in-Err-write_lines.ensures c.report_halt-in-Err-write_lines.ensures.reports c.report_halt-in-Err-write_lines.ensures.status

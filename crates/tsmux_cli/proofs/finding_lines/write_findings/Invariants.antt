@@ -1,8 +1,8 @@
-use Rattle.std.proofs.Common.{◌≡◌, ◌++◌, drop, map, string_bytes}
+use Rattle.std.proofs.Common.{◌≡◌, ◌++◌, drop, map}
 use Rattle.demux.specs.Shown.{finding_view}
 use Rattle.tsmux_cli.specs.FindingLines.{finding_lines}
 use Rattle.tsmux_cli.proofs.finding_lines.write_findings.Given as goal
 
 abbrev pub invariant-loop-finding : goal.invariant-loop-finding
 invariant-loop-finding l =
-    string_bytes l.text ++ finding_lines (map finding_view (drop l.finding-index l.found)) ≡ string_bytes l.fn.text ++ finding_lines (map finding_view l.found)
+    l.text.items ++ finding_lines (map finding_view (drop l.finding-index l.found)) ≡ l.fn.text.items ++ finding_lines (map finding_view l.found)
