@@ -50,25 +50,25 @@ fn count_at<A: Allocator>(packet_counts: &mut PacketCountsByPid<A>, index: usize
     }
 }
 
-// The index of a PID, looked for first where it may be.
+/// The index of a PID, looked for first where it may be.
 #[tactic(auto, using(crate::proofs::CountedPids::index_at, crate::proofs::CountedPids::found_at))]
-fn index_of<A: Allocator>(
-    packet_counts: &PacketCountsByPid<A>,
+pub(crate) fn index_of<V, A: Allocator>(
+    entries: &IndexMap<u16, V, BuildHasherDefault<FoldHasher>, A>,
     place: usize,
     pid: u16,
 ) -> Option<usize>
-    ensures index { result ≡ position (nat_eq pid) (keys_of packet_counts.now.entries) }
-    ensures within { IfSome result (λ i. i < index_map_len packet_counts.now) }
-    ensures found { is_some result ≡ is_some (lookup (nat_eq pid) packet_counts.now.entries) }
+    ensures index { result ≡ position (nat_eq pid) (keys_of entries.now.entries) }
+    ensures within { IfSome result (λ i. i < index_map_len entries.now) }
+    ensures found { is_some result ≡ is_some (lookup (nat_eq pid) entries.now.entries) }
 {
-    if place < packet_counts.len() {
-        if let Some((at, _)) = packet_counts.get_index(place) {
+    if place < entries.len() {
+        if let Some((at, _)) = entries.get_index(place) {
             if *at == pid {
                 return Some(place);
             }
         }
     }
-    packet_counts.get_index_of(&pid)
+    entries.get_index_of(&pid)
 }
 
 /// Counts a packet of a PID. The counts stop at 2^64 - 1. Those of the PID are looked for first at `place`, where they then
