@@ -17,7 +17,7 @@ returns-in-Err-clause-err g c = λ run h start carries holds.
     let w = c.slots.invariant.written h start carries.stands (way_of_run run h c.args.mux.now c.args.packets.now.hex start _ _ carries holds) in
     let below : h.slots + c.slots.counter < on_to h.slots c.args.target = omega (arith, c.slots-test.true, c.saturating_sub-count.ensures, c.now.ensures h carries.stands) in
     way_failed run h c.args.mux.now c.slots.mux c.write_next.new.self c.args.packets.now.hex c.slots.packets.hex (h.slots + c.slots.counter) c.args.target c.in-Err.fault.sent
-    start _ _ c.slots.packets c.in-Ok.packet carries w below c.slots.invariant.hex
+    start _ _ c.slots.packets c.write_next.new.packet carries w below c.slots.invariant.hex
     (c.in-Ok.ensures.next (at_slot h (h.slots + c.slots.counter)) w.written.stands) (c.in-Err.ensures.err start _ w.written.holds)
 
 pub slots-preserved : goal.slots-preserved
@@ -29,7 +29,7 @@ slots-preserved g c = record {
       let next : (h.slots + c.slots.counter) + 1 ≡ h.slots + (c.slots.counter + 1) = omega arith in
       subst (λ (n : ℕ). OnWay h c.args.mux.now c.write_next.new.self c.args.packets.now.hex n start (g.W.Write.contents c.push.new.to) c.push.new.self) next
       (way_goes_on h c.args.mux.now c.slots.mux c.write_next.new.self c.args.packets.now.hex c.slots.packets.hex (h.slots + c.slots.counter) start _ _ c.slots.packets c.push.new.self
-      c.in-Ok.packet w c.slots.invariant.hex (c.in-Ok.ensures.next (at_slot h (h.slots + c.slots.counter)) w.written.stands) (c.in-Ok-push.ensures.ok start _ w.written.holds));
+      c.write_next.new.packet w c.slots.invariant.hex (c.in-Ok.ensures.next (at_slot h (h.slots + c.slots.counter)) w.written.stands) (c.in-Ok-push.ensures.ok start _ w.written.holds));
 }
 
 pub returns-clause-ok : goal.returns-clause-ok
