@@ -86,17 +86,12 @@ impl View {
         ensures lines { (s : ViewState) → IsView self.old s → OnOk result
             (string_bytes text.new ≡ string_bytes text.old ++ spec.buffer_lines_at s (packet_view packet.now)) }
     {
-        let index = self.seen.packets;
+        let seen = &self.seen;
+        let index = seen.packets;
         self.table
-            .begin(&self.seen.options, index, &self.seen.named, packet, text)?;
-        self.table.take(
-            &self.seen.options,
-            index,
-            window,
-            &self.seen.clocks,
-            packet,
-            text,
-        )
+            .begin(&seen.options, index, &seen.named, packet, text)?;
+        self.table
+            .take(&seen.options, index, window, &seen.clocks, packet, text)
     }
 
     // A packet that is not known to be wrong.
