@@ -2,6 +2,7 @@
 use Rattle.std.proofs.Common.{◌≡◌, ℕ, zero, suc, zero-add, ◌+◌, ◌<◌, ◌≤◌, ◌==◌, true, false, List, [], ◌∷◌, ◌++◌, length, take, drop, refl, sym, ap, ap₂, ◌∙◌, arith, append_assoc, length-append}
 use Rattle.std.proofs.lemmas.List.{append-nil, length-take-le}
 use Rattle.std.proofs.lemmas.Bool.Decides.{nat_tests}
+use Rattle.demux.specs.Views.{FindingView}
 use Rattle.demux.specs.Stream.{StreamState, completed, packet_pushed, pushed, taken, found_in}
 use Rattle.demux.specs.Laws.{TakenAsPushed}
 
@@ -90,3 +91,11 @@ taken_as_pushed s bytes a w =
     let n : length s.held ≡ 0 = ap length none in
     pushed_whole s bytes (omega arith) (omega arith)
     ∙ ap₂ (λ (front held : List ℕ). record (packet_pushed s (front ++ bytes)) { held = held }) none (sym none)
+
+-- a packet in which nothing is found, whoever held its bytes
+pub plain_pushed : (s t : StreamState) (bytes : List ℕ) → t ≡ taken s bytes → found_in s bytes ≡ [] → record t { held = [] } ≡ packet_pushed s bytes
+unfolding taken
+plain_pushed s t bytes e none =
+    ap (λ (u : StreamState). record u { held = [] }) e
+    ∙ ap (λ (found : List FindingView). record (taken s bytes) { held = []; found = found })
+    (sym (append-nil s.found) ∙ ap (λ (more : List FindingView). s.found ++ more) (sym none))

@@ -1,17 +1,18 @@
 //! The demultiplexer: a stream in pieces, or packet by packet.
-ghost use Rattle.std.specs.Prelude.{◌≡◌, ◌<◌, ◌≤◌, ◌+◌, ◌++◌, [], false, true, IfOk, IfErr, OnOk, OnErr, map, take};
+ghost use Rattle.std.specs.Prelude.{◌≡◌, ◌<◌, ◌≤◌, ◌+◌, ◌++◌, [], false, true, Ok, IfOk, IfErr, OnOk, OnErr, map, take};
 ghost use Rattle.std.specs.Prelude.{length};
 ghost use Rattle.bit_fields.specs.Reading.{Gives};
 ghost use Rattle.ts_packet.specs.Packets.{null_packet};
 ghost use Rattle.ts_packet.specs.Reading.{packet_at};
 ghost use Rattle.ts_packet.specs.Views.{packet_view};
+ghost use Rattle.demux.specs.GoingOn.{plain_view};
 ghost use Rattle.demux.specs.Stream as stream;
 ghost use Rattle.std.specs.List.{list_any};
 ghost use Rattle.demux.specs.Shown.{KeepsFindings, Spans, AddsFindings, finding_view, is_span};
 
 use crate::error::DemuxError;
 use crate::finding::Finding;
-use crate::packets::{note_held, take_borrowed, take_copied};
+use crate::packets::{note_held, pass, take_borrowed, take_copied};
 use crate::states::States;
 use arrayvec::ArrayVec;
 use std::alloc::{AllocError, Allocator, Global};
@@ -105,12 +106,35 @@ impl<A: Allocator + Copy> Demux<A> {
         self.found.clear();
     }
 
+    // Takes a packet in which nothing is found, if its first bytes show that it is one. Whether they do; else nothing
+    // changes.
+    #[tactic(auto, unfolding(crate::specs::Stream::taken, crate::specs::Stream::found_in, crate::specs::Stream::within_in))]
+    fn take_plain(&mut self, bytes: &[u8; 188]) -> Result<bool, AllocError>
+        ensures taken { IfOk result (λ passed. passed ≡ true → self.new ≡ stream.taken self.old bytes.now) }
+        ensures none { IfOk result (λ passed. passed ≡ true → stream.found_in self.old bytes.now ≡ []) }
+        ensures within { IfOk result (λ passed. passed ≡ true → stream.within_in self.old bytes.now ≡ []) }
+        ensures plain { IfOk result (λ passed. passed ≡ true → packet_at bytes.now ≡ Ok (plain_view bytes.now)) }
+        ensures stays { IfOk result (λ passed. passed ≡ false → self.new ≡ self.old) }
+        ensures held { self.new.held ≡ self.old.held }
+        ensures err { OnErr result (self.new ≡ self.old) }
+    {
+        if !pass(&mut self.states, self.packets, bytes)? {
+            return Ok(false);
+        }
+        self.packets = self.packets.saturating_add(1);
+        Ok(true)
+    }
+
     // Takes a packet whose bytes findings copy; none are held after it.
-    #[tactic(auto, unfolding(crate::specs::Stream::taken, crate::specs::Stream::found_in))]
+    #[tactic(auto, unfolding(crate::specs::Stream::taken, crate::specs::Stream::found_in), using(crate::proofs::PushedBytes::plain_pushed))]
     fn push_packet(&mut self, bytes: &[u8; 188]) -> Result<(), AllocError>
         ensures ok { OnOk result (self.new ≡ stream.packet_pushed self.old bytes.now) }
         ensures err { OnErr result (self.new ≡ self.old) }
     {
+        if self.take_plain(bytes)? {
+            self.held.clear();
+            return Ok(());
+        }
         take_copied(&mut self.states, self.packets, bytes, &mut self.found)?;
         self.packets = self.packets.saturating_add(1);
         self.held.clear();
@@ -182,6 +206,29 @@ impl<A: Allocator + Copy> Demux<A> {
         Ok(())
     }
 
+    /// Takes a packet in which nothing is found, where no part of one is held, if its first four bytes show that it is one:
+    /// a null packet, or one that has a payload alone and goes on with a section or a PES packet that it does not end.
+    /// Whether they do; else nothing changes.
+    pub fn go_on(&mut self, bytes: &[u8; 188]) -> Result<bool, DemuxError>
+        requires aligned { stream.is_aligned self.old ≡ true }
+        ensures taken { IfOk result (λ went. went ≡ true → self.new ≡ stream.taken self.old bytes.now) }
+        ensures none { IfOk result (λ went. went ≡ true → stream.found_in self.old bytes.now ≡ []) }
+        ensures within { IfOk result (λ went. went ≡ true → stream.within_in self.old bytes.now ≡ []) }
+        ensures plain { IfOk result (λ went. went ≡ true → packet_at bytes.now ≡ Ok (plain_view bytes.now)) }
+        ensures stays { IfOk result (λ went. went ≡ false → self.new ≡ self.old) }
+        ensures open { OnOk result (self.old.ended ≡ false) }
+        ensures aligned { stream.is_aligned self.new ≡ true }
+        ensures refused { IfErr result (λ error. stream.TakeRefused self.old self.new error) }
+    {
+        if self.ended {
+            return Err(DemuxError::Ended);
+        }
+        match self.take_plain(bytes) {
+            Ok(went) => Ok(went),
+            Err(_) => Err(DemuxError::Memory { taken: 0 }),
+        }
+    }
+
     /// Takes a packet, where no part of one is held. What is found goes to `found`, and points into the packet where it
     /// lies in it whole.
     pub fn take<'a>(
@@ -199,6 +246,9 @@ impl<A: Allocator + Copy> Demux<A> {
         ensures refused { IfErr result (λ error. stream.TakeRefused self.old self.new error) }
         ensures none { OnErr result (KeepsFindings found.old.items found.new.items) }
     {
+        if self.go_on(bytes)? {
+            return Ok(());
+        }
         self.take_read(bytes, &read_packet(bytes), found)
     }
 
@@ -221,8 +271,8 @@ impl<A: Allocator + Copy> Demux<A> {
         ensures refused { IfErr result (λ error. stream.TakeRefused self.old self.new error) }
         ensures none { OnErr result (KeepsFindings found.old.items found.new.items) }
     {
-        if self.ended {
-            return Err(DemuxError::Ended);
+        if self.go_on(bytes)? {
+            return Ok(());
         }
         match take_borrowed(&mut self.states, self.packets, bytes, read, found) {
             Ok(()) => {

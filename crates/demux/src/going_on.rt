@@ -26,8 +26,8 @@ pub(crate) fn is_plain(bytes: &[u8; 188]) -> bool
     bytes[3] >> 4 == 1
 }
 
-/// The PID in the header of a packet.
-pub(crate) fn pid_in(bytes: &[u8; 188]) -> u16
+/// The PID in the header of 188 bytes.
+pub fn pid_in(bytes: &[u8; 188]) -> u16
     ensures { result ≡ going.pid_in bytes.now }
 {
     u16::from_be_bytes([bytes[1] & 0x1f, bytes[2]])

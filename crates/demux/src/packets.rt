@@ -1,8 +1,9 @@
 //! A whole packet of a stream.
-ghost use Rattle.std.specs.Prelude.{◌≡◌, ◌&&◌, [], ◌∷◌, true, false, IfOk, OnOk, OnErr, option_map, map};
+ghost use Rattle.std.specs.Prelude.{◌≡◌, ◌&&◌, [], ◌∷◌, true, false, Ok, IfOk, OnOk, OnErr, option_map, map};
 ghost use Rattle.bit_fields.specs.Reading.{Gives};
 ghost use Rattle.ts_packet.specs.Reading.{packet_at};
 ghost use Rattle.ts_packet.specs.Views.{packet_view, bytes_view};
+ghost use Rattle.demux.specs.GoingOn.{plain_view};
 ghost use Rattle.demux.specs.Stream.{findings_by, held_found, states_by, without_pid, within_by};
 ghost use Rattle.demux.specs.Shown.{IsPayloadOf, KeepsJoined, KeepsFindings, Spans, AddsFindings, finding_view};
 ghost use Rattle.demux.specs.Shown.{has_span};
@@ -55,10 +56,10 @@ pub(crate) fn note_held<'a, A: Allocator + Copy>(
     Ok(())
 }
 
-// Takes a packet in which nothing is found, if its first bytes show that it is one: a null packet, or one that goes on
-// with an open unit. Whether they do; else nothing changes.
+/// Takes a packet in which nothing is found, if its first bytes show that it is one: a null packet, or one that goes on
+/// with an open unit. Whether they do; else nothing changes.
 #[tactic(auto, unfolding(crate::specs::Stream::states_by, crate::specs::Stream::findings_by, crate::specs::Stream::within_by))]
-fn pass<A: Allocator + Copy>(
+pub(crate) fn pass<A: Allocator + Copy>(
     states: &mut States<A>,
     index: u64,
     bytes: &[u8; 188],
@@ -69,6 +70,7 @@ fn pass<A: Allocator + Copy>(
         findings_by index bytes.now states.old (packet_at bytes.now) ≡ []) }
     ensures within { IfOk result (λ passed. passed ≡ true →
         within_by index bytes.now states.old (packet_at bytes.now) ≡ []) }
+    ensures plain { IfOk result (λ passed. passed ≡ true → packet_at bytes.now ≡ Ok (plain_view bytes.now)) }
     ensures stays { IfOk result (λ passed. passed ≡ false → states.new ≡ states.old) }
     ensures err { OnErr result (states.new ≡ states.old) }
 {
@@ -142,10 +144,10 @@ fn copied<'p>(payload: Option<&'p [u8]>) -> Option<PayloadBytes<'p, 'static>>
     }
 }
 
-// Takes 188 bytes that findings may point into, and that were read. It stays a call of its own: few packets come to it.
+/// Takes 188 bytes that findings may point into, and that were read. It stays a call of its own: few packets come to it.
 #[inline(never)]
 #[tactic(auto, unfolding(crate::specs::Stream::states_by, crate::specs::Stream::findings_by, crate::specs::Stream::within_by))]
-fn find_borrowed<'a, A: Allocator + Copy>(
+pub(crate) fn take_borrowed<'a, A: Allocator + Copy>(
     states: &mut States<A>,
     index: u64,
     bytes: &'a [u8; 188],
@@ -175,34 +177,10 @@ fn find_borrowed<'a, A: Allocator + Copy>(
     }
 }
 
-/// Takes 188 bytes that findings may point into, and that were read.
-pub(crate) fn take_borrowed<'a, A: Allocator + Copy>(
-    states: &mut States<A>,
-    index: u64,
-    bytes: &'a [u8; 188],
-    read: &Result<Packet<'a>, PacketError>,
-    found: &mut Vec<Finding<'a, A>, A>,
-) -> Result<(), AllocError>
-    requires read { Gives packet_view read.now (packet_at bytes.now) }
-    ensures states { OnOk result (states.new ≡ states_by index bytes.now states.old
-        (packet_at bytes.now)) }
-    ensures found { OnOk result (AddsFindings found.old.items found.new.items
-        (findings_by index bytes.now states.old (packet_at bytes.now))) }
-    ensures spans { OnOk result (Spans found.old.items found.new.items
-        (within_by index bytes.now states.old (packet_at bytes.now))) }
-    ensures err { OnErr result (states.new ≡ states.old) }
-    ensures none { OnErr result (KeepsFindings found.old.items found.new.items) }
-{
-    if pass(states, index, bytes)? {
-        return Ok(());
-    }
-    find_borrowed(states, index, bytes, read, found)
-}
-
-// Takes 188 bytes that findings may not point into. It stays a call of its own: few packets come to it.
+/// Takes 188 bytes that findings may not point into. It stays a call of its own: few packets come to it.
 #[inline(never)]
 #[tactic(auto, unfolding(crate::specs::Stream::states_by, crate::specs::Stream::findings_by, crate::specs::Stream::within_by), using(crate::proofs::FoundViews::joined_one, crate::proofs::FoundViews::same_joined, crate::proofs::FoundViews::same_says))]
-fn find_copied<A: Allocator + Copy>(
+pub(crate) fn take_copied<A: Allocator + Copy>(
     states: &mut States<A>,
     index: u64,
     bytes: &[u8; 188],
@@ -228,25 +206,4 @@ fn find_copied<A: Allocator + Copy>(
             Ok(())
         }
     }
-}
-
-/// Takes 188 bytes that findings may not point into.
-pub(crate) fn take_copied<A: Allocator + Copy>(
-    states: &mut States<A>,
-    index: u64,
-    bytes: &[u8; 188],
-    found: &mut Vec<Finding<'static, A>, A>,
-) -> Result<(), AllocError>
-    ensures states { OnOk result (states.new ≡ states_by index bytes.now states.old
-        (packet_at bytes.now)) }
-    ensures found { OnOk result (AddsFindings found.old.items found.new.items
-        (findings_by index bytes.now states.old (packet_at bytes.now))) }
-    ensures joined { KeepsJoined found.old.items found.new.items }
-    ensures err { OnErr result (states.new ≡ states.old) }
-    ensures none { OnErr result (map finding_view found.new.items ≡ map finding_view found.old.items) }
-{
-    if pass(states, index, bytes)? {
-        return Ok(());
-    }
-    find_copied(states, index, bytes, found)
 }

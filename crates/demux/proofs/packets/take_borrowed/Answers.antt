@@ -5,7 +5,7 @@ use Rattle.ts_packet.specs.Views.{PacketView, packet_view}
 use Rattle.demux.specs.Shown.{is_span}
 use Rattle.demux.specs.Stream.{within_by}
 use Rattle.demux.proofs.FoundViews.{all_borrowed}
-use Rattle.demux.proofs.packets.find_borrowed.Goals as goal
+use Rattle.demux.proofs.packets.take_borrowed.Goals as goal
 
 pub returns-in_ok-take_read-in-Ok-clause-spans : goal.returns-in_ok-take_read-in-Ok-clause-spans
 returns-in_ok-take_read-in-Ok-clause-spans g c =
