@@ -8,7 +8,7 @@ pub mod ReportParts
 pub mod RisingLists
 pub mod PacketSteps
 pub mod FindingSteps
-pub mod NothingFound
+pub mod PlainPackets
 pub mod LateFaults
 pub mod TableBegins
 pub mod FindingFaults

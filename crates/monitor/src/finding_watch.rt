@@ -178,18 +178,6 @@ impl<A: Allocator + Copy> FindingWatch<A> {
         Ok(())
     }
 
-    /// What is found in a packet: in most packets nothing.
-    // Inlined: most calls end with the test.
-    #[inline(always)]
-    pub fn note_found(&mut self, found: &Vec<Finding<'_, A>, A>) -> Result<(), AllocError>
-        ensures { OnOk result (self.new ≡ all_noted self.old (map finding_view found.now.items)) }
-    {
-        if found.is_empty() {
-            return Ok(());
-        }
-        self.note_all(found.as_slice())
-    }
-
     /// The last gap of the program association table ends with the stream, which has `packets` packets.
     #[tactic(auto, unfolding(crate::specs::MonitorStates::pat_marked))]
     pub fn end_pat(&mut self, packets: u64) -> Result<(), AllocError>

@@ -1,8 +1,5 @@
 //! A stream packet by packet.
-ghost use Rattle.std.specs.Prelude.{◌≡◌, ◌<◌, ◌^◌, ◌∷◌, [], true, IfOk, OnOk, length, map};
-ghost use Rattle.bit_fields.specs.Reading.{Gives};
-ghost use Rattle.ts_packet.specs.Reading.{packet_at};
-ghost use Rattle.ts_packet.specs.Views.{packet_view};
+ghost use Rattle.std.specs.Prelude.{◌≡◌, ◌<◌, ◌^◌, ◌∷◌, [], false, true, IfOk, OnOk, length, map};
 ghost use Rattle.demux.specs.Stream.{is_aligned};
 ghost use Rattle.monitor.specs.Taken.{HasTaken, ReportsTaken, Takes};
 ghost use Rattle.monitor.specs.MonitorStates.{demux_ended, found_to_end, packet_taken, stream_ended};
@@ -19,7 +16,7 @@ use clock27::Rate;
 use demux::{Demux, Finding};
 use std::alloc::{AllocError, Allocator, Global};
 use std::marker::Model;
-use ts_packet::{Packet, PacketError, read_packet};
+use ts_packet::read_packet;
 
 /// A monitor that takes a stream packet by packet: a state for each PID, and the faults so far. No packet is kept.
 ///
@@ -43,17 +40,6 @@ impl<A: Allocator> Model for Monitor<A> {
     ghost view = { λ w. record { demux = w.demux; packets = w.packets; seen = w.seen; found = w.found } };
 
     ghost invariant = { λ w. is_aligned w.demux ≡ true };
-}
-
-// Takes out what was found in other packets, in most of which nothing was.
-// Inlined: most calls end with the test.
-#[inline(always)]
-fn take_out<A: Allocator>(found: &mut Vec<Finding<'_, A>, A>)
-    ensures { found.new.items ≡ [] }
-{
-    if !found.is_empty() {
-        found.clear();
-    }
 }
 
 // All faults, in the order of the rules' groups.
@@ -140,22 +126,40 @@ impl<A: Allocator + Copy> Monitor<A> {
         })
     }
 
-    // The next packet, as it was read. What is found in it goes to the room of what was found in others.
-    fn take_read<'a>(
+    // The next packet, if nothing is found in it and its first bytes show that. Whether they do; else nothing changes.
+    #[tactic(auto, using(crate::proofs::PlainPackets::plain_taken))]
+    fn go_on(&mut self, bytes: &[u8; 188]) -> Result<bool, AllocError>
+        ensures taken { IfOk result (λ went. went ≡ true → self.new ≡ packet_taken self.old bytes.now) }
+        ensures stays { IfOk result (λ went. went ≡ false → self.new ≡ self.old) }
+    {
+        match self.demux.go_on(bytes) {
+            Ok(true) => {
+                self.seen.go_on(bytes)?;
+                self.packets = self.packets.saturating_add(1);
+                Ok(true)
+            }
+            Ok(false) => Ok(false),
+            Err(_) => Err(AllocError),
+        }
+    }
+
+    // The next packet, which is read. What is found in it goes to the room of what was found in others. It stays a call of
+    // its own: few packets come to it, and what is read would else be made ready for each.
+    #[inline(never)]
+    fn read_next<'a>(
         &mut self,
         bytes: &'a [u8; 188],
-        read: &Result<Packet<'a>, PacketError>,
         found: &mut Vec<Finding<'a, A>, A>,
     ) -> Result<(), AllocError>
-        requires { Gives packet_view read.now (packet_at bytes.now) }
         ensures { OnOk result (self.new ≡ packet_taken self.old bytes.now) }
     {
-        take_out(found);
-        let Ok(()) = self.demux.take_read(bytes, read, found) else {
+        let read = read_packet(bytes);
+        found.clear();
+        let Ok(()) = self.demux.take_read(bytes, &read, found) else {
             return Err(AllocError);
         };
-        self.found.note_found(found)?;
-        self.seen.take(self.packets, read)?;
+        self.found.note_all(found.as_slice())?;
+        self.seen.take(self.packets, &read)?;
         self.packets = self.packets.saturating_add(1);
         Ok(())
     }
@@ -168,7 +172,10 @@ impl<A: Allocator + Copy> Monitor<A> {
     ) -> Result<(), AllocError>
         ensures { OnOk result (self.new ≡ packet_taken self.old bytes.now) }
     {
-        self.take_read(bytes, &read_packet(bytes), found)
+        if self.go_on(bytes)? {
+            return Ok(());
+        }
+        self.read_next(bytes, found)
     }
 
     /// The next packet.

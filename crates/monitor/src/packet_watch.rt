@@ -1,12 +1,16 @@
 //! What a stream's packets say one by one: sync, headers, program clock references.
-ghost use Rattle.std.specs.Prelude.{◌≡◌, ◌++◌, ◌∷◌, [], OnOk, None, Result};
+ghost use Rattle.std.specs.Prelude.{◌≡◌, ◌++◌, ◌∷◌, [], ℕ, OnOk, None, Ok, Result};
 ghost use Rattle.bit_fields.specs.Reading.{Gives};
+ghost use Rattle.demux.specs.GoingOn.{plain_view};
+ghost use Rattle.ts_packet.specs.Reading.{packet_at};
 ghost use Rattle.ts_packet.specs.Views.{PacketView, packet_view};
-ghost use Rattle.monitor.specs.PacketStates.{no_packets, packet_counted_by, packet_watched_by, refusal_rule};
+ghost use Rattle.monitor.specs.PacketStates.{no_packets, packet_counted_by, packet_watched, packet_watched_by};
+ghost use Rattle.monitor.specs.PacketStates.{refusal_rule};
 
 use crate::counts::{PacketCountsByPid, count_packet};
 use crate::fault::{Rule, StreamFault};
 use crate::recurrence::RecurrenceWatch;
+use demux::pid_in;
 use indexmap::IndexMap;
 use std::alloc::{AllocError, Allocator};
 use std::marker::Model;
@@ -99,6 +103,21 @@ impl<A: Allocator + Copy> PacketWatch<A> {
             self.pcr.mark(pid, index)?;
         }
         Ok(())
+    }
+
+    /// A packet of the stream that has no error, no start and no adaptation field.
+    #[tactic(auto, using(crate::proofs::PlainPackets::plain_watched))]
+    pub fn go_on(&mut self, bytes: &[u8; 188]) -> Result<(), AllocError>
+        requires { packet_at bytes.now ≡ Ok (plain_view bytes.now) }
+        ensures { (index : ℕ) → OnOk result (self.new ≡ packet_watched self.old index bytes.now) }
+    {
+        let pid = pid_in(bytes);
+        count_packet(
+            &mut self.packet_counts,
+            &mut self.places[pid as usize % PLACES],
+            pid,
+            false,
+        )
     }
 
     /// A packet of the stream, as it was read.
