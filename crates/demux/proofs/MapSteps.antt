@@ -6,7 +6,7 @@ use Rattle.indexmap.specs.IndexMap.{insert_entry, set_value_at}
 use Rattle.indexmap.proofs.MapLemmas.{Found-position, index-first, some_index, value_index, insert_entry-first}
 use Rattle.indexmap.proofs.RemoveLemmas.{own_first}
 use Rattle.std.specs.List.{IsDistinct}
-use Rattle.std.specs.Prelude.{IfOk, IfSome, OnOk, OnErr, Result, Ok, Err, ⊤}
+use Rattle.std.specs.Prelude.{IfSome, OnOk, OnErr, Result, Ok, Err, ⊤}
 use Rattle.std.specs.Cmp.{nat_eq_equiv}
 use Rattle.demux.specs.Machine.{PidState, fresh}
 use Rattle.demux.specs.Stream.{States, state_of, with_state}
@@ -83,12 +83,10 @@ unstepped (Ok x) i old new states state same at e = tt
 unstepped (Err x) i old new states state same at e = e ∙ set_same i old state at ∙ same
 
 -- the same where it is made or not
-pub went_on : {E : Type 0} (result : Result Bool E) (pid i : ℕ) (old new states : States) (next : PidState) → old ≡ states → position (nat_eq pid) (keys_of old) ≡ Some i →
-    IfOk result (λ went. went ≡ true → new ≡ set_value_at old i next) → IfOk result (λ went. went ≡ true → new ≡ with_state pid next states)
-went_on (Ok went) pid i old new states next same p e = λ is. e is ∙ sym (with_is_set pid i next old p) ∙ ap (λ (s : States). with_state pid next s) same
-went_on (Err x) pid i old new states next same p e = tt
+pub went_on : (went : Bool) (pid i : ℕ) (old new states : States) (next : PidState) → old ≡ states → position (nat_eq pid) (keys_of old) ≡ Some i →
+    (went ≡ true → new ≡ set_value_at old i next) → went ≡ true → new ≡ with_state pid next states
+went_on went pid i old new states next same p e is = e is ∙ sym (with_is_set pid i next old p) ∙ ap (λ (s : States). with_state pid next s) same
 
-pub stayed : {E : Type 0} (result : Result Bool E) (i : ℕ) (old new states : States) (state : PidState) → old ≡ states → slice_get (values_of old) i ≡ Some state →
-    IfOk result (λ went. went ≡ false → new ≡ set_value_at old i state) → IfOk result (λ went. went ≡ false → new ≡ states)
-stayed (Ok went) i old new states state same at e = λ is. e is ∙ set_same i old state at ∙ same
-stayed (Err x) i old new states state same at e = tt
+pub stayed : (went : Bool) (i : ℕ) (old new states : States) (state : PidState) → old ≡ states → slice_get (values_of old) i ≡ Some state →
+    (went ≡ false → new ≡ set_value_at old i state) → went ≡ false → new ≡ states
+stayed went i old new states state same at e is = e is ∙ set_same i old state at ∙ same

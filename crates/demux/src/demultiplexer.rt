@@ -106,23 +106,22 @@ impl<A: Allocator + Copy> Demux<A> {
         self.found.clear();
     }
 
-    // Takes a packet in which nothing is found, if its first bytes show that it is one. Whether they do; else nothing
-    // changes.
+    // Takes a packet in which nothing is found, if its first bytes show that it is one and there is memory for it. Whether
+    // they do; else nothing changes.
     #[tactic(auto, unfolding(crate::specs::Stream::taken, crate::specs::Stream::found_in, crate::specs::Stream::within_in))]
-    fn take_plain(&mut self, bytes: &[u8; 188]) -> Result<bool, AllocError>
-        ensures taken { IfOk result (λ passed. passed ≡ true → self.new ≡ stream.taken self.old bytes.now) }
-        ensures none { IfOk result (λ passed. passed ≡ true → stream.found_in self.old bytes.now ≡ []) }
-        ensures within { IfOk result (λ passed. passed ≡ true → stream.within_in self.old bytes.now ≡ []) }
-        ensures plain { IfOk result (λ passed. passed ≡ true → packet_at bytes.now ≡ Ok (plain_view bytes.now)) }
-        ensures stays { IfOk result (λ passed. passed ≡ false → self.new ≡ self.old) }
+    fn take_plain(&mut self, bytes: &[u8; 188]) -> bool
+        ensures taken { result ≡ true → self.new ≡ stream.taken self.old bytes.now }
+        ensures none { result ≡ true → stream.found_in self.old bytes.now ≡ [] }
+        ensures within { result ≡ true → stream.within_in self.old bytes.now ≡ [] }
+        ensures plain { result ≡ true → packet_at bytes.now ≡ Ok (plain_view bytes.now) }
+        ensures stays { result ≡ false → self.new ≡ self.old }
         ensures held { self.new.held ≡ self.old.held }
-        ensures err { OnErr result (self.new ≡ self.old) }
     {
-        if !pass(&mut self.states, self.packets, bytes)? {
-            return Ok(false);
+        if !pass(&mut self.states, self.packets, bytes) {
+            return false;
         }
         self.packets = self.packets.saturating_add(1);
-        Ok(true)
+        true
     }
 
     // Takes a packet whose bytes findings copy; none are held after it.
@@ -131,7 +130,7 @@ impl<A: Allocator + Copy> Demux<A> {
         ensures ok { OnOk result (self.new ≡ stream.packet_pushed self.old bytes.now) }
         ensures err { OnErr result (self.new ≡ self.old) }
     {
-        if self.take_plain(bytes)? {
+        if self.take_plain(bytes) {
             self.held.clear();
             return Ok(());
         }
@@ -208,25 +207,21 @@ impl<A: Allocator + Copy> Demux<A> {
 
     /// Takes a packet in which nothing is found, where no part of one is held, if its first four bytes show that it is one:
     /// a null packet, or one that has a payload alone and goes on with a section or a PES packet that it does not end.
-    /// Whether they do; else nothing changes.
-    pub fn go_on(&mut self, bytes: &[u8; 188]) -> Result<bool, DemuxError>
-        requires aligned { stream.is_aligned self.old ≡ true }
-        ensures taken { IfOk result (λ went. went ≡ true → self.new ≡ stream.taken self.old bytes.now) }
-        ensures none { IfOk result (λ went. went ≡ true → stream.found_in self.old bytes.now ≡ []) }
-        ensures within { IfOk result (λ went. went ≡ true → stream.within_in self.old bytes.now ≡ []) }
-        ensures plain { IfOk result (λ went. went ≡ true → packet_at bytes.now ≡ Ok (plain_view bytes.now)) }
-        ensures stays { IfOk result (λ went. went ≡ false → self.new ≡ self.old) }
-        ensures open { OnOk result (self.old.ended ≡ false) }
+    /// Whether it is taken; else nothing changes: it is another packet, there is no memory, or the stream has ended.
+    pub fn go_on(&mut self, bytes: &[u8; 188]) -> bool
+        requires { stream.is_aligned self.old ≡ true }
+        ensures taken { result ≡ true → self.new ≡ stream.taken self.old bytes.now }
+        ensures none { result ≡ true → stream.found_in self.old bytes.now ≡ [] }
+        ensures within { result ≡ true → stream.within_in self.old bytes.now ≡ [] }
+        ensures plain { result ≡ true → packet_at bytes.now ≡ Ok (plain_view bytes.now) }
+        ensures open { result ≡ true → self.old.ended ≡ false }
+        ensures stays { result ≡ false → self.new ≡ self.old }
         ensures aligned { stream.is_aligned self.new ≡ true }
-        ensures refused { IfErr result (λ error. stream.TakeRefused self.old self.new error) }
     {
         if self.ended {
-            return Err(DemuxError::Ended);
+            return false;
         }
-        match self.take_plain(bytes) {
-            Ok(went) => Ok(went),
-            Err(_) => Err(DemuxError::Memory { taken: 0 }),
-        }
+        self.take_plain(bytes)
     }
 
     /// Takes a packet, where no part of one is held. What is found goes to `found`, and points into the packet where it
@@ -246,7 +241,7 @@ impl<A: Allocator + Copy> Demux<A> {
         ensures refused { IfErr result (λ error. stream.TakeRefused self.old self.new error) }
         ensures none { OnErr result (KeepsFindings found.old.items found.new.items) }
     {
-        if self.go_on(bytes)? {
+        if self.go_on(bytes) {
             return Ok(());
         }
         self.take_read(bytes, &read_packet(bytes), found)
@@ -271,7 +266,10 @@ impl<A: Allocator + Copy> Demux<A> {
         ensures refused { IfErr result (λ error. stream.TakeRefused self.old self.new error) }
         ensures none { OnErr result (KeepsFindings found.old.items found.new.items) }
     {
-        if self.go_on(bytes)? {
+        if self.ended {
+            return Err(DemuxError::Ended);
+        }
+        if self.take_plain(bytes) {
             return Ok(());
         }
         match take_borrowed(&mut self.states, self.packets, bytes, read, found) {

@@ -1,6 +1,6 @@
 //! Packets that have a payload alone and go on with the open unit of their PID: most packets of a stream. Nothing is
 //! found in them.
-ghost use Rattle.std.specs.Prelude.{◌≡◌, ◌++◌, [], IfOk, Ok, OnErr, false, if◌then◌else◌, is_ok, is_some, true, Some};
+ghost use Rattle.std.specs.Prelude.{◌≡◌, ◌++◌, [], Ok, false, if◌then◌else◌, is_ok, is_some, true, Some};
 ghost use Rattle.ts_packet.specs.Reading.{packet_at};
 ghost use Rattle.demux.specs.Findings as findings;
 ghost use Rattle.demux.specs.GoingOn as going;
@@ -93,29 +93,27 @@ fn append<A: Allocator>(
     bytes.extend_from_slice(payload)
 }
 
-/// Appends a payload to the open unit, if there is one that is open with it as well. Whether it is appended.
+/// Appends a payload to the open unit, if there is one that is open with it as well and there is memory for it. Whether it
+/// is appended.
 #[tactic(auto, unfolding(crate::specs::Findings::found_appended, crate::specs::Findings::found_if, crate::specs::Findings::undecided, crate::specs::Findings::unless_decided, crate::specs::Machine::next_open), using(crate::proofs::LeastSizes::still_open))]
 pub(crate) fn grow<A: Allocator>(
     open_unit: &mut Option<OpenUnit<A>>,
     index: u64,
     payload: &[u8],
-) -> Result<bool, AllocError>
-    ensures next { IfOk result (λ grown. grown ≡ true →
-        open_unit.new ≡ next_open index (Continuation payload.now) open_unit.old) }
-    ensures none { IfOk result (λ grown. grown ≡ true → findings.found_appended payload.now open_unit.old ≡ []) }
-    ensures stays { IfOk result (λ grown. grown ≡ false → open_unit.new ≡ open_unit.old) }
-    ensures err { OnErr result (open_unit.new ≡ open_unit.old) }
+) -> bool
+    ensures next { result ≡ true → open_unit.new ≡ next_open index (Continuation payload.now) open_unit.old }
+    ensures none { result ≡ true → findings.found_appended payload.now open_unit.old ≡ [] }
+    ensures stays { result ≡ false → open_unit.new ≡ open_unit.old }
 {
     let Some(unit) = open_unit else {
-        return Ok(false);
+        return false;
     };
     if unit.least <= unit.front.len() + unit.bytes.len() + payload.len() {
-        return Ok(false);
+        return false;
     }
-    append(
-        &mut unit.bytes,
-        payload,
-        unit.least.saturating_sub(unit.front.len()),
-    )?;
-    Ok(true)
+    let all = unit.least.saturating_sub(unit.front.len());
+    match append(&mut unit.bytes, payload, all) {
+        Ok(()) => true,
+        Err(_) => false,
+    }
 }

@@ -1,5 +1,5 @@
 //! A whole packet of a stream.
-ghost use Rattle.std.specs.Prelude.{◌≡◌, ◌&&◌, [], ◌∷◌, true, false, Ok, IfOk, OnOk, OnErr, option_map, map};
+ghost use Rattle.std.specs.Prelude.{◌≡◌, ◌&&◌, [], ◌∷◌, true, false, Ok, OnOk, OnErr, option_map, map};
 ghost use Rattle.bit_fields.specs.Reading.{Gives};
 ghost use Rattle.ts_packet.specs.Reading.{packet_at};
 ghost use Rattle.ts_packet.specs.Views.{packet_view, bytes_view};
@@ -57,29 +57,25 @@ pub(crate) fn note_held<'a, A: Allocator + Copy>(
 }
 
 /// Takes a packet in which nothing is found, if its first bytes show that it is one: a null packet, or one that goes on
-/// with an open unit. Whether they do; else nothing changes.
+/// with an open unit, for which there is memory. Whether they do; else nothing changes.
 #[tactic(auto, unfolding(crate::specs::Stream::states_by, crate::specs::Stream::findings_by, crate::specs::Stream::within_by))]
 pub(crate) fn pass<A: Allocator + Copy>(
     states: &mut States<A>,
     index: u64,
     bytes: &[u8; 188],
-) -> Result<bool, AllocError>
-    ensures states { IfOk result (λ passed. passed ≡ true →
-        states.new ≡ states_by index bytes.now states.old (packet_at bytes.now)) }
-    ensures none { IfOk result (λ passed. passed ≡ true →
-        findings_by index bytes.now states.old (packet_at bytes.now) ≡ []) }
-    ensures within { IfOk result (λ passed. passed ≡ true →
-        within_by index bytes.now states.old (packet_at bytes.now) ≡ []) }
-    ensures plain { IfOk result (λ passed. passed ≡ true → packet_at bytes.now ≡ Ok (plain_view bytes.now)) }
-    ensures stays { IfOk result (λ passed. passed ≡ false → states.new ≡ states.old) }
-    ensures err { OnErr result (states.new ≡ states.old) }
+) -> bool
+    ensures states { result ≡ true → states.new ≡ states_by index bytes.now states.old (packet_at bytes.now) }
+    ensures none { result ≡ true → findings_by index bytes.now states.old (packet_at bytes.now) ≡ [] }
+    ensures within { result ≡ true → within_by index bytes.now states.old (packet_at bytes.now) ≡ [] }
+    ensures plain { result ≡ true → packet_at bytes.now ≡ Ok (plain_view bytes.now) }
+    ensures stays { result ≡ false → states.new ≡ states.old }
 {
     if !is_plain(bytes) {
-        return Ok(false);
+        return false;
     }
     let pid = pid_in(bytes);
     if pid == NULL_PID {
-        return Ok(true);
+        return true;
     }
     states.go_on(index, pid, bytes)
 }

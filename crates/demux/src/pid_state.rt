@@ -234,25 +234,22 @@ impl<A: Allocator + Clone> PidState<A> {
         }
     }
 
-    /// Takes a packet that has a payload alone, if its counter follows and it goes on with an open unit that stays open.
-    /// Whether it does; else nothing changes.
-    pub fn go_on(&mut self, index: u64, bytes: &[u8; 188]) -> Result<bool, AllocError>
-        ensures state { IfOk result (λ went. went ≡ true →
-            self.new ≡ machine.step self.old (plain_entry index bytes.now)) }
-        ensures none { IfOk result (λ went. went ≡ true →
-            machine.found_by self.old (plain_entry index bytes.now) ≡ []) }
-        ensures stays { IfOk result (λ went. went ≡ false → self.new ≡ self.old) }
-        ensures err { OnErr result (self.new ≡ self.old) }
+    /// Takes a packet that has a payload alone, if its counter follows, it goes on with an open unit that stays open, and
+    /// there is memory for it. Whether it does; else nothing changes.
+    pub fn go_on(&mut self, index: u64, bytes: &[u8; 188]) -> bool
+        ensures state { result ≡ true → self.new ≡ machine.step self.old (plain_entry index bytes.now) }
+        ensures none { result ≡ true → machine.found_by self.old (plain_entry index bytes.now) ≡ [] }
+        ensures stays { result ≡ false → self.new ≡ self.old }
     {
         if !is_next(&self.last, bytes) {
-            return Ok(false);
+            return false;
         }
         let (_, payload) = bytes.split_at(4);
-        if !grow(&mut self.open_unit, index, payload)? {
-            return Ok(false);
+        if !grow(&mut self.open_unit, index, payload) {
+            return false;
         }
         keep_plain(&mut self.last, bytes);
-        Ok(true)
+        true
     }
 
     /// Takes a packet of the PID; findings borrow its payload, or copy from it.

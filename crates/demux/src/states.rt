@@ -1,5 +1,5 @@
 //! The states of the PIDs of a stream, in the order in which these were first seen.
-ghost use Rattle.std.specs.Prelude.{◌≡◌, ◌<◌, ◌++◌, [], ℕ, Some, None, IfOk, IfSome, OnOk, OnErr, is_some, map, false, true, position, slice_get, nat_eq};
+ghost use Rattle.std.specs.Prelude.{◌≡◌, ◌<◌, ◌++◌, [], ℕ, Some, None, IfSome, OnOk, OnErr, is_some, map, false, true, position, slice_get, nat_eq};
 ghost use Rattle.std.specs.Map.{keys_of, lookup};
 ghost use Rattle.indexmap.specs.IndexMap.{index_map_len, get, values, set_value_at};
 ghost use Rattle.demux.specs.Machine as machine;
@@ -79,17 +79,15 @@ fn go_on_at<A: Allocator + Copy>(
     at: usize,
     index: u64,
     bytes: &[u8; 188],
-) -> Result<bool, AllocError>
+) -> bool
     requires there { at < index_map_len states.old }
     ensures states { (state : machine.PidState) → slice_get (values states.old) at ≡ Some state →
-        IfOk result (λ went. went ≡ true → states.new.entries ≡ set_value_at states.old.entries at
-        (machine.step state (plain_entry index bytes.now))) }
+        result ≡ true → states.new.entries ≡ set_value_at states.old.entries at
+        (machine.step state (plain_entry index bytes.now)) }
     ensures none { (state : machine.PidState) → slice_get (values states.old) at ≡ Some state →
-        IfOk result (λ went. went ≡ true → machine.found_by state (plain_entry index bytes.now) ≡ []) }
+        result ≡ true → machine.found_by state (plain_entry index bytes.now) ≡ [] }
     ensures stays { (state : machine.PidState) → slice_get (values states.old) at ≡ Some state →
-        IfOk result (λ went. went ≡ false → states.new.entries ≡ set_value_at states.old.entries at state) }
-    ensures err { (state : machine.PidState) → slice_get (values states.old) at ≡ Some state →
-        OnErr result (states.new.entries ≡ set_value_at states.old.entries at state) }
+        result ≡ false → states.new.entries ≡ set_value_at states.old.entries at state }
 {
     let state = &mut states[at];
     state.go_on(index, bytes)
@@ -209,20 +207,18 @@ impl<A: Allocator + Copy> States<A> {
         self.by_pid.allocator()
     }
 
-    /// Takes a packet that has a payload alone, if it goes on with the open unit of its PID and nothing is found in it.
-    /// Whether it does; else nothing changes.
-    pub fn go_on(&mut self, index: u64, pid: u16, bytes: &[u8; 188]) -> Result<bool, AllocError>
-        ensures states { let state = state_of pid self.old in
-            IfOk result (λ went. went ≡ true →
-            self.new ≡ with_state pid (machine.step state (plain_entry index bytes.now)) self.old) }
-        ensures none { let state = state_of pid self.old in
-            IfOk result (λ went. went ≡ true → machine.found_by state (plain_entry index bytes.now) ≡ []) }
-        ensures stays { IfOk result (λ went. went ≡ false → self.new ≡ self.old) }
-        ensures err { OnErr result (self.new ≡ self.old) }
+    /// Takes a packet that has a payload alone, if it goes on with the open unit of its PID, nothing is found in it, and
+    /// there is memory for it. Whether it does; else nothing changes.
+    pub fn go_on(&mut self, index: u64, pid: u16, bytes: &[u8; 188]) -> bool
+        ensures states { let state = state_of pid self.old in result ≡ true →
+            self.new ≡ with_state pid (machine.step state (plain_entry index bytes.now)) self.old }
+        ensures none { let state = state_of pid self.old in result ≡ true →
+            machine.found_by state (plain_entry index bytes.now) ≡ [] }
+        ensures stays { result ≡ false → self.new ≡ self.old }
     {
         let at = self.places[pid as usize % PLACES];
         if !stands_at(&self.by_pid, at, pid) {
-            return Ok(false);
+            return false;
         }
         go_on_at(&mut self.by_pid, at, index, bytes)
     }

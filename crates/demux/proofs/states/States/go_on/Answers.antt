@@ -1,27 +1,26 @@
-use Rattle.std.proofs.Common.{◌≡◌, [], refl, subst, true}
-use Rattle.std.specs.Prelude.{IfOk}
+use Rattle.std.proofs.Common.{◌≡◌, [], refl, subst}
 use Rattle.demux.specs.GoingOn.{plain_entry}
 use Rattle.demux.specs.Stream.{States, state_of, with_state}
 use Rattle.demux.specs.Machine as machine
-use Rattle.demux.proofs.MapSteps.{state_at, stayed, unstepped, went_on}
+use Rattle.demux.proofs.MapSteps.{state_at, stayed, went_on}
 use Rattle.demux.proofs.states.States.go_on.Goals as goal
 
 pub returns-clause-states : goal.returns-clause-states
-returns-clause-states g c =
+returns-clause-states g c = λ is.
     let before = c.self.inside.by_pid.entries in
     let there = state_at c.args.pid _ before (c.if-not-stands_at.ensures.index refl) (c.if-not-stands_at.ensures.value refl) in
     let entry = plain_entry c.args.index c.args.bytes.now in
     let done = went_on c.go_on_at.result c.args.pid _ before c.go_on_at.new.states.entries c.args.self.now
-    (machine.step (state_of c.args.pid before) entry) c.self.view_is (c.if-not-stands_at.ensures.index refl) (c.go_on_at.ensures.states (state_of c.args.pid before) there) in
-    subst (λ (s : States). IfOk c.go_on_at.result (λ went. went ≡ true → c.go_on_at.new.states.entries ≡ with_state c.args.pid (machine.step (state_of c.args.pid s) entry) c.args.self.now)) c.self.view_is done
+    (machine.step (state_of c.args.pid before) entry) c.self.view_is (c.if-not-stands_at.ensures.index refl) (c.go_on_at.ensures.states (state_of c.args.pid before) there) is in
+    subst (λ (s : States). c.go_on_at.new.states.entries ≡ with_state c.args.pid (machine.step (state_of c.args.pid s) entry) c.args.self.now) c.self.view_is done
 
 pub returns-clause-none : goal.returns-clause-none
-returns-clause-none g c =
+returns-clause-none g c = λ is.
     let before = c.self.inside.by_pid.entries in
     let there = state_at c.args.pid _ before (c.if-not-stands_at.ensures.index refl) (c.if-not-stands_at.ensures.value refl) in
     let entry = plain_entry c.args.index c.args.bytes.now in
-    subst (λ (s : States). IfOk c.go_on_at.result (λ went. went ≡ true → machine.found_by (state_of c.args.pid s) entry ≡ [])) c.self.view_is
-    (c.go_on_at.ensures.none (state_of c.args.pid before) there)
+    subst (λ (s : States). machine.found_by (state_of c.args.pid s) entry ≡ []) c.self.view_is
+    (c.go_on_at.ensures.none (state_of c.args.pid before) there is)
 
 pub returns-clause-stays : goal.returns-clause-stays
 returns-clause-stays g c =
@@ -29,10 +28,3 @@ returns-clause-stays g c =
     let there = state_at c.args.pid _ before (c.if-not-stands_at.ensures.index refl) (c.if-not-stands_at.ensures.value refl) in
     stayed c.go_on_at.result _ before c.go_on_at.new.states.entries c.args.self.now (state_of c.args.pid before) c.self.view_is there
     (c.go_on_at.ensures.stays (state_of c.args.pid before) there)
-
-pub returns-clause-err : goal.returns-clause-err
-returns-clause-err g c =
-    let before = c.self.inside.by_pid.entries in
-    let there = state_at c.args.pid _ before (c.if-not-stands_at.ensures.index refl) (c.if-not-stands_at.ensures.value refl) in
-    unstepped c.go_on_at.result _ before c.go_on_at.new.states.entries c.args.self.now (state_of c.args.pid before) c.self.view_is there
-    (c.go_on_at.ensures.err (state_of c.args.pid before) there)
