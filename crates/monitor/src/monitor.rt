@@ -132,15 +132,12 @@ impl<A: Allocator + Copy> Monitor<A> {
         ensures taken { IfOk result (λ went. went ≡ true → self.new ≡ packet_taken self.old bytes.now) }
         ensures stays { IfOk result (λ went. went ≡ false → self.new ≡ self.old) }
     {
-        match self.demux.go_on(bytes) {
-            Ok(true) => {
-                self.seen.go_on(bytes)?;
-                self.packets = self.packets.saturating_add(1);
-                Ok(true)
-            }
-            Ok(false) => Ok(false),
-            Err(_) => Err(AllocError),
+        if !self.demux.go_on(bytes) {
+            return Ok(false);
         }
+        self.seen.go_on(bytes)?;
+        self.packets = self.packets.saturating_add(1);
+        Ok(true)
     }
 
     // The next packet, which is read. What is found in it goes to the room of what was found in others. It stays a call of
