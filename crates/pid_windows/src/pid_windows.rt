@@ -1,12 +1,10 @@
 //! The counts of one window.
-ghost use Rattle.std.specs.Prelude.{◌≡◌, ◌<◌, IfSome, OnOk, Some, is_some, nat_eq, position, slice_get};
-ghost use Rattle.std.specs.Map.{keys_of, lookup};
+ghost use Rattle.std.specs.Prelude.{◌≡◌, ◌<◌, OnOk, Some, slice_get};
 ghost use Rattle.indexmap.specs.IndexMap.{index_map_len, set_value_at, values};
 ghost use Rattle.pid_windows.specs.Windows.{counts_in, no_packet, taken, with_one, with_packet};
 
-use indexmap::IndexMap;
+use pid_map::PidMap;
 use std::alloc::{AllocError, Allocator};
-use std::hash::{BuildHasherDefault, FoldHasher};
 use std::marker::Model;
 
 /// The number of packets of a PID, and of those of them that have a program_clock_reference.
@@ -17,16 +15,13 @@ pub struct PidCounts {
 }
 
 /// Counts by PID, in the order in which the PIDs were first seen.
-pub type PidEntries<A> = IndexMap<u16, PidCounts, BuildHasherDefault<FoldHasher>, A>;
+pub type PidEntries<A> = pid_map::PidEntries<PidCounts, A>;
 
-/// The window of the last packet, and its counts. There is room for each PID once, whatever the number of windows. PIDs come again and again,
-/// so the index of the last one is kept, of each 64 PIDs.
+/// The window of the last packet, and its counts. There is room for each PID once, whatever the number of windows.
 #[derive(Drop)]
 pub struct PidWindow<A: Allocator> {
     number: u64,
-    counts: PidEntries<A>,
-    // where the counts stand of the last packet's PID, of those that end in the same six bits, if they stand there
-    last: [usize; 64],
+    counts: PidMap<PidCounts, A>,
 }
 
 impl<A: Allocator> Model for PidWindow<A> {
@@ -35,23 +30,6 @@ impl<A: Allocator> Model for PidWindow<A> {
     ghost Value = { WindowView };
 
     ghost view = { λ w. record { number = w.number; counts = w.counts.entries } };
-}
-
-// The index of a PID, looked for first where that of another packet is.
-#[tactic(auto, using(crate::proofs::CountedPids::index_there, crate::proofs::CountedPids::found_there))]
-fn index_of<A: Allocator>(counts: &PidEntries<A>, last: usize, pid: u16) -> Option<usize>
-    ensures index { result ≡ position (nat_eq pid) (keys_of counts.now.entries) }
-    ensures within { IfSome result (λ i. i < index_map_len counts.now) }
-    ensures found { is_some result ≡ is_some (lookup (nat_eq pid) counts.now.entries) }
-{
-    if last < counts.len() {
-        if let Some((at, _)) = counts.get_index(last) {
-            if *at == pid {
-                return Some(last);
-            }
-        }
-    }
-    counts.get_index_of(&pid)
 }
 
 // These counts with one packet more. They stop at 2^64 - 1.
@@ -71,29 +49,28 @@ fn with_one(counts: PidCounts, pcr: bool) -> PidCounts
 }
 
 // Counts a packet of the PID at an index.
-fn count_at<A: Allocator>(counts: &mut PidEntries<A>, index: usize, pcr: bool)
+fn count_at<A: Allocator>(counts: &mut PidMap<PidCounts, A>, index: usize, pcr: bool)
     requires { index < index_map_len counts.old }
     ensures { (before : PidCounts) → slice_get (values counts.old) index ≡ Some before →
         counts.new.entries ≡ set_value_at counts.old.entries index (with_one before pcr) }
 {
-    let before = &mut counts[index];
+    let before = counts.value_mut(index);
     *before = with_one(*before, pcr);
 }
 
-// Counts a packet of a PID, and returns where to look first for that of the next one.
+// Counts a packet of a PID.
 #[tactic(auto, unfolding(crate::specs::Windows::counts_or_zero), using(crate::proofs::CountedPids::counted_there, crate::proofs::CountedPids::counts_there))]
 fn count<A: Allocator + Clone>(
-    counts: &mut PidEntries<A>,
-    last: usize,
+    counts: &mut PidMap<PidCounts, A>,
     pid: u16,
     pcr: bool,
-) -> Result<usize, AllocError>
+) -> Result<(), AllocError>
     ensures { OnOk result (counts.new.entries ≡ with_packet counts.old.entries pid pcr) }
 {
-    match index_of(counts, last, pid) {
+    match counts.index_of(pid) {
         Some(index) => {
             count_at(counts, index, pcr);
-            Ok(index)
+            Ok(())
         }
         None => {
             let none = PidCounts {
@@ -101,7 +78,7 @@ fn count<A: Allocator + Clone>(
                 pcrs: 0,
             };
             counts.insert(pid, with_one(none, pcr))?;
-            Ok(last)
+            Ok(())
         }
     }
 }
@@ -113,8 +90,7 @@ impl<A: Allocator + Copy> PidWindow<A> {
     {
         PidWindow {
             number: 0,
-            counts: IndexMap::new(alloc),
-            last: [0; 64],
+            counts: PidMap::new(alloc),
         }
     }
 
@@ -129,7 +105,7 @@ impl<A: Allocator + Copy> PidWindow<A> {
     pub fn counts(&self) -> &PidEntries<A>
         ensures { result.now.entries ≡ self.now.counts }
     {
-        &self.counts
+        self.counts.entries()
     }
 
     /// A packet of a window: of another one than the last packet's it is the first, and the counts of the last window are
@@ -144,8 +120,6 @@ impl<A: Allocator + Copy> PidWindow<A> {
             self.number = window;
             self.counts.clear();
         }
-        let ending = usize::from(pid % 64);
-        self.last[ending] = count(&mut self.counts, self.last[ending], pid, pcr)?;
-        Ok(())
+        count(&mut self.counts, pid, pcr)
     }
 }

@@ -1,0 +1,146 @@
+//! A map by PID.
+ghost use Rattle.std.specs.Prelude.{◌≡◌, ◌<◌, [], Some, IfOk, IfSome, OnOk, OnErr, IsOk, is_some, nat_eq, position, slice_get};
+ghost use Rattle.std.specs.Borrow.{Lends, sem};
+ghost use Rattle.std.specs.Map.{keys_of, lookup};
+ghost use Rattle.indexmap.specs.IndexMap.{index_map_len, insert_entry, spare, with_value_at, values};
+
+use indexmap::IndexMap;
+use std::alloc::{AllocError, AllocFailed, Allocator};
+use std::hash::{BuildHasherDefault, FoldHasher};
+use std::marker::Model;
+
+/// Entries by PID, in the order in which the PIDs were first seen.
+pub type PidEntries<V, A> = IndexMap<u16, V, BuildHasherDefault<FoldHasher>, A>;
+
+// For how many PIDs it is kept where their entries are.
+const PLACES: usize = 64;
+
+/// Entries by PID, in the order in which the PIDs were first seen, and where those of the last ones are.
+#[derive(Drop)]
+pub struct PidMap<V, A: Allocator> {
+    entries: PidEntries<V, A>,
+    // by the rest of a PID: where the entry of the last one with that rest is, if it is there
+    places: [usize; PLACES],
+}
+
+// A contract sees the entries.
+impl<V, A: Allocator> Model for PidMap<V, A> {
+    ghost use Rattle.pid_map.specs.PidMaps.{PidEntries, pid_entries_code};
+
+    ghost Value = { PidEntries V };
+
+    ghost coded = { pid_entries_code V.code };
+
+    ghost view = { λ m. m.entries };
+}
+
+impl<V, A: Allocator> PidMap<V, A> {
+    ghost use Rattle.pid_map.specs.contracts.pid_map.PidMap.{the_row};
+
+    /// No entries.
+    pub fn new(alloc: A) -> PidMap<V, A>
+    where
+        A: Copy,
+        ensures entries { result.entries ≡ [] }
+    {
+        PidMap {
+            entries: IndexMap::new(alloc),
+            places: [0; PLACES],
+        }
+    }
+
+    /// The entries.
+    #[inline(always)]
+    pub fn entries(&self) -> &PidEntries<V, A>
+        ensures { result.now ≡ self.now }
+    {
+        &self.entries
+    }
+
+    /// The index of the entry of a PID, if it is where that of the last PID with the same rest is: few instructions, and no search.
+    #[inline(always)]
+    pub fn noted(&self, pid: u16) -> Option<usize>
+        ensures index { IfSome result (λ i. position (nat_eq pid) (keys_of self.now.entries) ≡ Some i) }
+        ensures within { IfSome result (λ i. i < index_map_len self.now) }
+        ensures value { IfSome result (λ i. slice_get (values self.now) i ≡ lookup (nat_eq pid) self.now.entries) }
+    {
+        let place = self.places[pid as usize % PLACES];
+        if place < self.entries.len() {
+            if let Some((at, _)) = self.entries.get_index(place) {
+                if *at == pid {
+                    return Some(place);
+                }
+            }
+        }
+        None
+    }
+
+    // The index of the entry of a PID, which is searched for, and noted.
+    #[inline(never)]
+    fn search(&mut self, pid: u16) -> Option<usize>
+        ensures same { self.new ≡ self.old }
+        ensures index { result ≡ position (nat_eq pid) (keys_of self.old.entries) }
+        ensures within { IfSome result (λ i. i < index_map_len self.old) }
+        ensures value { IfSome result (λ i. slice_get (values self.old) i ≡ lookup (nat_eq pid) self.old.entries) }
+        ensures found { is_some result ≡ is_some (lookup (nat_eq pid) self.old.entries) }
+    {
+        let index = self.entries.get_index_of(&pid)?;
+        self.places[pid as usize % PLACES] = index;
+        Some(index)
+    }
+
+    /// The index of the entry of a PID. It is searched for where it is not noted, and then noted.
+    #[inline(always)]
+    #[tactic(auto, using(crate::proofs::Entries::found_there))]
+    pub fn index_of(&mut self, pid: u16) -> Option<usize>
+        ensures same { self.new ≡ self.old }
+        ensures index { result ≡ position (nat_eq pid) (keys_of self.old.entries) }
+        ensures within { IfSome result (λ i. i < index_map_len self.old) }
+        ensures value { IfSome result (λ i. slice_get (values self.old) i ≡ lookup (nat_eq pid) self.old.entries) }
+        ensures found { is_some result ≡ is_some (lookup (nat_eq pid) self.old.entries) }
+    {
+        match self.noted(pid) {
+            Some(index) => Some(index),
+            None => self.search(pid),
+        }
+    }
+
+    /// The value at an index, to write.
+    #[inline(always)]
+    pub fn value_mut(&mut self, index: usize) -> &mut V
+        requires { index < index_map_len self.old }
+        ensures* writes_back { sem 𝓛 (Lends (the_row V.row A.row A.Allocator) V.row self.entry result (with_value_at self.old index)) }
+        ensures value { slice_get (values self.old) index ≡ Some result.now }
+    {
+        &mut self.entries[index]
+    }
+
+    /// Removes all entries.
+    pub fn clear(&mut self)
+    where
+        V: Drop,
+        ensures { self.new.entries ≡ [] }
+    {
+        self.entries.clear();
+    }
+}
+
+impl<V, A: Allocator + Clone> PidMap<V, A> {
+    /// Makes room for an entry more.
+    pub fn reserve_one(&mut self) -> Result<(), AllocError>
+        ensures entries { self.new.entries ≡ self.old.entries }
+        ensures room { OnOk result (0 < spare self.new) }
+    {
+        self.entries.reserve(1)
+    }
+
+    /// Inserts an entry: where the PID has one its value is replaced and returned, else it is the last.
+    pub fn insert(&mut self, pid: u16, value: V) -> Result<Option<V>, AllocFailed<(u16, V)>>
+        ensures before { IfOk result (λ before. before ≡ lookup (nat_eq pid) self.old.entries) }
+        ensures entries { OnOk result (self.new.entries ≡ insert_entry nat_eq self.old.entries pid value) }
+        ensures err { OnErr result (self.new.entries ≡ self.old.entries) }
+        ensures succeeds { 0 < spare self.old → IsOk result }
+    {
+        self.entries.insert(pid, value)
+    }
+}
