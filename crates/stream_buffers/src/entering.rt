@@ -129,7 +129,7 @@ impl StreamBuffers {
         ensures bytes { self.new.view.transport.bytes ≡ self.old.view.transport.bytes + count }
     {
         let row = arrival.row(u64::from(self.rx), byte, count);
-        self.view.pass_into(&row, ended)
+        self.view.pass(&row, ended)
     }
 
     // Bytes before a payload, none where there are none.
@@ -188,7 +188,7 @@ impl StreamBuffers {
         ensures bytes { self.new.view.transport.bytes ≡ self.old.view.transport.bytes + count }
     {
         let row = arrival.row(u64::from(self.rx), byte, count);
-        let found = self.view.carry_into(&row, ended);
+        let found = self.view.carry(&row, ended);
         see(&mut self.main, &found, self.view.transport.last, main);
         found
     }

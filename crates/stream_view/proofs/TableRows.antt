@@ -115,9 +115,9 @@ tables_more view view' step times ts v first second =
     }
 
 -- where the call gives something
-pub both_ok : {V E A B C : Type 0} (r : Result V E) → (A → B → C) → OnOk r A → OnOk r B → OnOk r C
-both_ok (Ok v) f a b = f a b
-both_ok (Err e) f a b = tt
+pub on_ok : {V E A B : Type 0} (r : Result V E) → (A → B) → OnOk r A → OnOk r B
+on_ok (Ok v) f a = f a
+on_ok (Err e) f a = tt
 
 pub no_tables : (view : SystemView) (step : ℕ) → view.transport ≡ empty_queue (2 * step) TABLE_TRANSPORT_BYTES →
     view.system ≡ empty_queue (25 * step) SYSTEM_BYTES → IsSystemViewOf view step []

@@ -8,3 +8,6 @@ pub mod Refusal
 pub mod WatchedQueues
 pub mod EvenBytes
 pub mod SystemViewed
+pub mod Arriving
+pub mod TableQueues
+pub mod TableRows

@@ -1,11 +1,10 @@
 //! Bytes that arrive at the transport buffer.
-ghost use Rattle.std.specs.Prelude.{◌≡◌, ◌+◌, ◌<◌, ◌≤◌, ◌^◌, None};
-ghost use Rattle.std.specs.Option.{option_to_list};
+ghost use Rattle.std.specs.Prelude.{◌≡◌, None};
 ghost use Rattle.clock27.specs.Departure.{departures};
 ghost use Rattle.clock27.specs.Peak.{most_found};
-ghost use Rattle.packet_arrival.specs.Rows.{IsTimed, IsEarly, times_of};
+ghost use Rattle.packet_arrival.specs.Rows.{IsTimed, times_of};
 ghost use Rattle.transport_buffer.specs.Buffers.{IsPaced, entered, times_left};
-ghost use Rattle.transport_buffer.specs.Excesses.{excess_after, excesses_ended};
+ghost use Rattle.stream_view.specs.Arriving.{CanArrive, HaveArrived};
 
 use packet_arrival::Row;
 use transport_buffer::{Excess, ExcessWatch, Leaving, TransportBuffer};
@@ -35,18 +34,8 @@ fn see_over(
     row: &Row,
     ended: &mut Option<Excess>,
 )
-    requires paced { IsPaced buffer.now }
-    requires timed { IsTimed row.now }
-    requires early { IsEarly row.now }
-    requires some { 0 < row.now.bytes }
-    requires count { buffer.now.bytes + row.now.bytes ≤ 2 ^ 40 }
-    requires size { 0 < watch.old.size }
-    requires bound { watch.old.size ≤ 2 ^ 40 }
-    ensures ended { option_to_list ended.new
-        ≡ excesses_ended buffer.now.step watch.old.size buffer.now.last watch.old.under_way (times_of row.now) }
-    ensures under_way { watch.new.under_way
-        ≡ excess_after buffer.now.step watch.old.size buffer.now.last watch.old.under_way (times_of row.now) }
-    ensures size { watch.new.size ≡ watch.old.size }
+    requires { CanArrive buffer.now watch.old row.now }
+    ensures { HaveArrived buffer.now (times_of row.now) watch.old watch.new ended.new }
 {
     *ended = watch.enter(buffer, row);
 }
@@ -61,20 +50,10 @@ fn see(
     most: u128,
     ended: &mut Option<Excess>,
 )
-    requires paced { IsPaced buffer.now }
-    requires timed { IsTimed row.now }
-    requires early { IsEarly row.now }
-    requires some { 0 < row.now.bytes }
-    requires count { buffer.now.bytes + row.now.bytes ≤ 2 ^ 40 }
-    requires size { 0 < watch.old.size }
-    requires bound { watch.old.size ≤ 2 ^ 40 }
+    requires can { CanArrive buffer.now watch.old row.now }
     requires most { most ≡ most_found buffer.now.step buffer.now.last (times_of row.now) }
     requires none { ended.old ≡ None }
-    ensures ended { option_to_list ended.new
-        ≡ excesses_ended buffer.now.step watch.old.size buffer.now.last watch.old.under_way (times_of row.now) }
-    ensures under_way { watch.new.under_way
-        ≡ excess_after buffer.now.step watch.old.size buffer.now.last watch.old.under_way (times_of row.now) }
-    ensures size { watch.new.size ≡ watch.old.size }
+    ensures { HaveArrived buffer.now (times_of row.now) watch.old watch.new ended.new }
 {
     if most <= u128::from(watch.size) {
         if watch.under_way.is_some() {
@@ -93,22 +72,12 @@ pub(crate) fn arrive(
     row: &Row,
     ended: &mut Option<Excess>,
 ) -> Arrived
-    requires paced { IsPaced transport.old }
-    requires timed { IsTimed row.now }
-    requires early { IsEarly row.now }
-    requires some { 0 < row.now.bytes }
-    requires count { transport.old.bytes + row.now.bytes ≤ 2 ^ 40 }
-    requires size { 0 < watch.old.size }
-    requires bound { watch.old.size ≤ 2 ^ 40 }
+    requires can { CanArrive transport.old watch.old row.now }
     requires none { ended.old ≡ None }
     ensures buffer { transport.new ≡ entered transport.old (times_of row.now) }
     ensures paced { IsPaced transport.new }
     ensures most { result.most ≡ most_found transport.old.step transport.old.last (times_of row.now) }
-    ensures ended { option_to_list ended.new
-        ≡ excesses_ended transport.old.step watch.old.size transport.old.last watch.old.under_way (times_of row.now) }
-    ensures under_way { watch.new.under_way
-        ≡ excess_after transport.old.step watch.old.size transport.old.last watch.old.under_way (times_of row.now) }
-    ensures size { watch.new.size ≡ watch.old.size }
+    ensures arrived { HaveArrived transport.old (times_of row.now) watch.old watch.new ended.new }
     ensures left { times_left result.leaving ≡ departures transport.old.step transport.old.last (times_of row.now) }
     ensures timed { IsTimed result.leaving.waiting × IsTimed result.leaving.free }
 {

@@ -1,5 +1,6 @@
 //! The two buffers of a program's tables.
-ghost use Rattle.std.specs.Prelude.{◌+◌, ◌*◌, ◌<◌, ◌≤◌, ◌^◌};
+ghost use Rattle.std.specs.Prelude.{◌≤◌, ◌^◌};
+ghost use Rattle.stream_view.specs.TableQueues.{AreInTime};
 
 use crate::watched_queue::WatchedQueue;
 use std::alloc::Global;
@@ -19,14 +20,7 @@ pub struct SystemView {
     /// The number of bytes that have arrived.
     pub bytes: u64,
     pub ghost few: { bytes ≤ 2 ^ 40 },
-    pub ghost some: { 0 < transport.queue.step },
-    pub ghost slow: { transport.queue.step ≤ 2 ^ 33 },
-    pub ghost system_some: { 0 < system.queue.step },
-    pub ghost system_slow: { system.queue.step ≤ 2 ^ 33 },
-    pub ghost last: { transport.queue.last ≤ 2 ^ 87 + bytes * 2 ^ 33 },
-    pub ghost left: { system.queue.last ≤ 2 ^ 87 + bytes * 2 ^ 34 },
-    pub ghost inner: { transport.queue.longest_residence ≤ transport.queue.last },
-    pub ghost within: { system.queue.longest_residence ≤ system.queue.last },
+    pub ghost in_time: { AreInTime transport system bytes },
 }
 
 /// The excesses of both buffers that have ended.

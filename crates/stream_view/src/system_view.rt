@@ -5,6 +5,8 @@ ghost use Rattle.packet_arrival.specs.Rows.{IsTimed, times_of};
 ghost use Rattle.decoder_buffers.specs.Queues.{bytes_within};
 ghost use Rattle.stream_view.specs.EvenBytes.{AreEven, PassEvenly};
 ghost use Rattle.stream_view.specs.SystemViewed.{IsSystemViewOf};
+ghost use Rattle.stream_view.specs.TableQueues.{AreInTime};
+ghost use Rattle.stream_view.specs.TableRows.{HavePassed};
 ghost use Rattle.stream_view.specs.WatchedQueues.{all_entered, empty_queue, ended_by, left_at};
 
 use crate::even_bytes::{EvenBytes, even_bytes};
@@ -23,28 +25,12 @@ fn pass_bytes(
     row: &Row,
     ended: &mut EndedExcesses,
 ) -> Result<(), AllocError>
-    requires some { 0 < transport.old.queue.step }
-    requires system_some { 0 < system.old.queue.step }
-    requires step { transport.old.queue.step ≤ 2 ^ 33 }
-    requires system_step { system.old.queue.step ≤ 2 ^ 33 }
+    requires in_time { AreInTime transport.old system.old before }
     requires timed { IsTimed row.now }
     requires count { before + row.now.bytes ≤ 2 ^ 40 }
-    requires last { transport.old.queue.last ≤ 2 ^ 87 + before * 2 ^ 33 }
-    requires left { system.old.queue.last ≤ 2 ^ 87 + before * 2 ^ 34 }
-    requires longest_residence { transport.old.queue.longest_residence ≤ transport.old.queue.last }
-    requires inner { system.old.queue.longest_residence ≤ system.old.queue.last }
-    ensures transport { OnOk result (transport.new ≡ all_entered transport.old (times_of row.now)) }
-    ensures system { OnOk result (system.new ≡ all_entered system.old (left_at transport.old (times_of row.now))) }
-    ensures transport_ended { OnOk result (ended.new.transport.items
-        ≡ ended.old.transport.items ++ ended_by transport.old (times_of row.now)) }
-    ensures system_ended { OnOk result (ended.new.system.items
-        ≡ ended.old.system.items ++ ended_by system.old (left_at transport.old (times_of row.now))) }
-    ensures last { transport.new.queue.last ≤ 2 ^ 87 + (before + row.now.bytes) * 2 ^ 33 }
-    ensures left { system.new.queue.last ≤ 2 ^ 87 + (before + row.now.bytes) * 2 ^ 34 }
-    ensures longest_residence { transport.new.queue.longest_residence ≤ transport.new.queue.last }
-    ensures inner { system.new.queue.longest_residence ≤ system.new.queue.last }
-    ensures step { transport.new.queue.step ≡ transport.old.queue.step }
-    ensures system_step { system.new.queue.step ≡ system.old.queue.step }
+    ensures passed { OnOk result
+        (HavePassed (times_of row.now) transport.old system.old transport.new system.new ended.old ended.new) }
+    ensures in_time { AreInTime transport.new system.new (before + row.now.bytes) }
 {
     for j in 0..row.bytes {
         let left = transport.arrive(row.time(j), &mut ended.transport)?;
@@ -101,28 +87,12 @@ fn pass_row(
     row: &Row,
     ended: &mut EndedExcesses,
 ) -> Result<(), AllocError>
-    requires some { 0 < transport.old.queue.step }
-    requires system_some { 0 < system.old.queue.step }
-    requires step { transport.old.queue.step ≤ 2 ^ 33 }
-    requires system_step { system.old.queue.step ≤ 2 ^ 33 }
+    requires in_time { AreInTime transport.old system.old before }
     requires timed { IsTimed row.now }
     requires count { before + row.now.bytes ≤ 2 ^ 40 }
-    requires last { transport.old.queue.last ≤ 2 ^ 87 + before * 2 ^ 33 }
-    requires left { system.old.queue.last ≤ 2 ^ 87 + before * 2 ^ 34 }
-    requires longest_residence { transport.old.queue.longest_residence ≤ transport.old.queue.last }
-    requires inner { system.old.queue.longest_residence ≤ system.old.queue.last }
-    ensures transport { OnOk result (transport.new ≡ all_entered transport.old (times_of row.now)) }
-    ensures system { OnOk result (system.new ≡ all_entered system.old (left_at transport.old (times_of row.now))) }
-    ensures transport_ended { OnOk result (ended.new.transport.items
-        ≡ ended.old.transport.items ++ ended_by transport.old (times_of row.now)) }
-    ensures system_ended { OnOk result (ended.new.system.items
-        ≡ ended.old.system.items ++ ended_by system.old (left_at transport.old (times_of row.now))) }
-    ensures last { transport.new.queue.last ≤ 2 ^ 87 + (before + row.now.bytes) * 2 ^ 33 }
-    ensures left { system.new.queue.last ≤ 2 ^ 87 + (before + row.now.bytes) * 2 ^ 34 }
-    ensures longest_residence { transport.new.queue.longest_residence ≤ transport.new.queue.last }
-    ensures inner { system.new.queue.longest_residence ≤ system.new.queue.last }
-    ensures step { transport.new.queue.step ≡ transport.old.queue.step }
-    ensures system_step { system.new.queue.step ≡ system.old.queue.step }
+    ensures passed { OnOk result
+        (HavePassed (times_of row.now) transport.old system.old transport.new system.new ended.old ended.new) }
+    ensures in_time { AreInTime transport.new system.new (before + row.now.bytes) }
 {
     let Some((come, between, left)) = ways_of(transport, system, row) else {
         return pass_bytes(transport, system, before, row, ended);

@@ -15,7 +15,7 @@ ghost use Rattle.stream_view.specs.Viewed.{IsViewOf};
 
 use crate::arrival::arrive;
 use crate::buffers::StreamView;
-use crate::row_seen::{RowFound, RowSeen};
+use crate::row_seen::RowFound;
 use crate::unit_seen::{DueTime, UnitSeen};
 use decoder_buffers::MainBuffer;
 use main_buffer_rows::enter_leaving;
@@ -71,10 +71,10 @@ impl<A: Allocator> StreamView<A> {
         }
     }
 
-    /// Bytes arrive that go no further than the transport buffer: the most that one of them finds. The excess that has ended is written where
-    /// none is yet, so that it is not moved.
+    /// Bytes arrive that go no further than the transport buffer, headers of packets, adaptation fields, and payload of no unit: the most
+    /// that one of them finds. The excess that has ended is written where none is yet, so that it is not moved.
     #[inline(always)]
-    pub fn pass_into(&mut self, row: &Row, ended: &mut Option<Excess>) -> u128
+    pub fn pass(&mut self, row: &Row, ended: &mut Option<Excess>) -> u128
         requires timed { IsTimed row.now }
         requires early { IsEarly row.now }
         requires some { 0 < row.now.bytes }
@@ -91,40 +91,11 @@ impl<A: Allocator> StreamView<A> {
         arrive(&mut self.transport, &mut self.watch, row, ended).most
     }
 
-    /// Bytes arrive that go no further than the transport buffer: headers of packets, adaptation fields, and payload of no unit.
+    /// Payload bytes of the unit under way arrive, its PES header's too: what they find. They enter the main buffer as they leave the transport
+    /// buffer, and stay there until the unit is due; before the first unit none enters. The excess of the transport buffer that has ended is
+    /// written where none is yet, so that it is not moved.
     #[inline(always)]
-    pub fn pass(&mut self, row: &Row) -> RowSeen
-        requires timed { IsTimed row.now }
-        requires early { IsEarly row.now }
-        requires some { 0 < row.now.bytes }
-        requires count { self.old.transport.bytes + row.now.bytes ≤ 2 ^ 40 }
-        ensures view { (parts : List Part) → IsViewOf self.old parts → IsViewOf self.new (Passes (times_of row.now) ∷ parts) }
-        ensures buffer { self.new.transport ≡ entered self.old.transport (times_of row.now) }
-        ensures transport { result.transport
-            ≡ most_found self.old.transport.step self.old.transport.last (times_of row.now) }
-        ensures ended { option_to_list result.ended
-            ≡ excesses_ended self.old.transport.step self.old.watch.size self.old.transport.last self.old.watch.under_way (times_of row.now) }
-        ensures main { result.main ≡ 0 }
-        ensures least { result.least ≡ None }
-        ensures last { result.last ≡ self.new.transport.last }
-        ensures size { self.new.watch.size ≡ self.old.watch.size }
-        ensures unit { self.new.unit ≡ self.old.unit }
-    {
-        let mut ended = None;
-        let transport = self.pass_into(row, &mut ended);
-        RowSeen {
-            transport,
-            ended,
-            main: 0,
-            least: None,
-            last: self.transport.last,
-        }
-    }
-
-    /// Payload bytes of the unit under way arrive, as [`carry`](StreamView::carry) takes them: what they find. The excess of the transport
-    /// buffer that has ended is written where none is yet, so that it is not moved.
-    #[inline(always)]
-    pub fn carry_into(&mut self, row: &Row, ended: &mut Option<Excess>) -> RowFound
+    pub fn carry(&mut self, row: &Row, ended: &mut Option<Excess>) -> RowFound
         requires timed { IsTimed row.now }
         requires early { IsEarly row.now }
         requires some { 0 < row.now.bytes }
@@ -150,39 +121,6 @@ impl<A: Allocator> StreamView<A> {
             transport: arrived.most,
             main: found.most,
             least: found.least,
-        }
-    }
-
-    /// Payload bytes of the unit under way arrive, its PES header's too. They enter the main buffer as they leave the transport
-    /// buffer, and stay there until the unit is due; before the first unit none enters.
-    #[inline(always)]
-    pub fn carry(&mut self, row: &Row) -> RowSeen
-        requires timed { IsTimed row.now }
-        requires early { IsEarly row.now }
-        requires some { 0 < row.now.bytes }
-        requires count { self.old.transport.bytes + row.now.bytes ≤ 2 ^ 40 }
-        ensures view { (parts : List Part) → IsViewOf self.old parts → IsViewOf self.new (Carries (times_of row.now) ∷ parts) }
-        ensures buffer { self.new.transport ≡ entered self.old.transport (times_of row.now) }
-        ensures transport { result.transport
-            ≡ most_found self.old.transport.step self.old.transport.last (times_of row.now) }
-        ensures ended { option_to_list result.ended
-            ≡ excesses_ended self.old.transport.step self.old.watch.size self.old.transport.last self.old.watch.under_way (times_of row.now) }
-        ensures main { let left : List ℕ = departures self.old.transport.step self.old.transport.last (times_of row.now) in
-            result.main ≡ greatest_at (fullness_with self.old.main left) left }
-        ensures least { result.least
-            ≡ least_in self.old.main None (departures self.old.transport.step self.old.transport.last (times_of row.now)) }
-        ensures last { result.last ≡ self.new.transport.last }
-        ensures size { self.new.watch.size ≡ self.old.watch.size }
-        ensures unit { self.new.unit ≡ with_bytes self.old.unit row.now.bytes self.new.transport.last }
-    {
-        let mut ended = None;
-        let found = self.carry_into(row, &mut ended);
-        RowSeen {
-            transport: found.transport,
-            ended,
-            main: found.main,
-            least: found.least,
-            last: self.transport.last,
         }
     }
 

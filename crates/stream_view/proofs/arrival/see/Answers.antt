@@ -31,28 +31,25 @@ none_there : (o : Option Excess) → is_some o ≡ false → o ≡ None
 none_there None e = refl
 none_there (Some excess) e = absurd cc
 
-pub returns-then-is_some-clause-ended : goal.returns-then-is_some-clause-ended
-returns-then-is_some-clause-ended c =
+pub returns-then-is_some : goal.returns-then-is_some
+returns-then-is_some c =
     let watch = c.args.watch.now in
     let room = all_room c.args.buffer.now watch.size c.args.most c.args.row.now (rw c.from.ensures at c.if-most-from.true) c.requires.most in
-    ap (λ (e : Option Excess). option_to_list e) c.end_excess.ensures.ended ∙ ends c.args.buffer.now watch.size watch.under_way c.args.row.now c.requires.some room
+    record {
+      ended = ap (λ (e : Option Excess). option_to_list e) c.end_excess.ensures.ended
+          ∙ ends c.args.buffer.now watch.size watch.under_way c.args.row.now c.requires.can.some room;
+      under_way = c.end_excess.ensures.under_way ∙ leaves c.args.buffer.now watch.size watch.under_way c.args.row.now c.requires.can.some room;
+      size = c.end_excess.ensures.size;
+    }
 
-pub returns-then-is_some-clause-under_way : goal.returns-then-is_some-clause-under_way
-returns-then-is_some-clause-under_way c =
-    let watch = c.args.watch.now in
-    let room = all_room c.args.buffer.now watch.size c.args.most c.args.row.now (rw c.from.ensures at c.if-most-from.true) c.requires.most in
-    c.end_excess.ensures.under_way ∙ leaves c.args.buffer.now watch.size watch.under_way c.args.row.now c.requires.some room
-
-pub returns-else-is_some-clause-ended : goal.returns-else-is_some-clause-ended
-returns-else-is_some-clause-ended c =
+pub returns-else-is_some : goal.returns-else-is_some
+returns-else-is_some c =
     let watch = c.args.watch.now in
     let room = all_room c.args.buffer.now watch.size c.args.most c.args.row.now (rw c.from.ensures at c.if-most-from.true) c.requires.most in
     let none : watch.under_way ≡ None = none_there watch.under_way (sym c.is_some.ensures ∙ c.if-is_some.false) in
-    ap (λ (e : Option Excess). option_to_list e) (c.requires.none ∙ sym none) ∙ ends c.args.buffer.now watch.size watch.under_way c.args.row.now c.requires.some room
-
-pub returns-else-is_some-clause-under_way : goal.returns-else-is_some-clause-under_way
-returns-else-is_some-clause-under_way c =
-    let watch = c.args.watch.now in
-    let room = all_room c.args.buffer.now watch.size c.args.most c.args.row.now (rw c.from.ensures at c.if-most-from.true) c.requires.most in
-    let none : watch.under_way ≡ None = none_there watch.under_way (sym c.is_some.ensures ∙ c.if-is_some.false) in
-    none ∙ leaves c.args.buffer.now watch.size watch.under_way c.args.row.now c.requires.some room
+    record {
+      ended = ap (λ (e : Option Excess). option_to_list e) (c.requires.none ∙ sym none)
+          ∙ ends c.args.buffer.now watch.size watch.under_way c.args.row.now c.requires.can.some room;
+      under_way = none ∙ leaves c.args.buffer.now watch.size watch.under_way c.args.row.now c.requires.can.some room;
+      size = refl;
+    }

@@ -1,5 +1,7 @@
-use Rattle.std.proofs.Common.{ℕ, ◌+◌, ◌*◌, ◌^◌, ◌≤◌, max, arith}
+use Rattle.std.proofs.Common.{◌≡◌, ℕ, ◌+◌, ◌-◌, ◌*◌, ◌^◌, ◌≤◌, max, arith}
 use Rattle.std.proofs.Math.Nat.{mul-le-mul_left}
+use Rattle.stream_view.specs.declared.watched_queue.WatchedQueue.{WatchedQueue}
+use Rattle.stream_view.specs.TableQueues.{AreInTime}
 use Rattle.stream_view.proofs.system_view.pass_row.Goals as goal
 
 -- when the last of so many bytes leaves the first buffer, and the second
@@ -11,26 +13,44 @@ system_soon : (left between prev step before n : ℕ) → left ≤ max between p
     prev ≤ 2 ^ 87 + before * 2 ^ 34 → step ≤ 2 ^ 33 → left ≤ 2 ^ 87 + (before + n) * 2 ^ 34
 system_soon left between prev step before n le come early slow = omega (arith, le, come, early, mul-le-mul_left n slow)
 
-pub returns-clause-last : goal.returns-clause-last
-returns-clause-last c =
-    rw c.pass-first.ensures.last
-    (soon c.in-Some.between.last c.args.transport.now.queue.last c.args.transport.now.queue.step c.args.before c.args.row.now.bytes
-    c.in-Some.ensures.soon c.requires.last c.requires.step)
+-- a buffer whose last byte has come and leaves at these times, later than the one before
+record IsLater (old new : WatchedQueue) (comes leaves : ℕ) : Type 0 where
+  step : new.queue.step ≡ old.queue.step
+  last : new.queue.last ≡ leaves
+  longest : new.queue.longest_residence ≡ max old.queue.longest_residence (leaves - comes)
+  later : old.queue.last ≤ leaves
 
-pub returns-clause-left : goal.returns-clause-left
-returns-clause-left c =
-    rw c.pass-second.ensures.last
-    (system_soon c.in-Some.left.last c.in-Some.between.last c.args.system.now.queue.last c.args.system.now.queue.step c.args.before c.args.row.now.bytes
-    c.in-Some.ensures.system_soon
-    (soon c.in-Some.between.last c.args.transport.now.queue.last c.args.transport.now.queue.step c.args.before c.args.row.now.bytes
-    c.in-Some.ensures.soon c.requires.last c.requires.step)
-    c.requires.left c.requires.system_step)
+still_in_time : (first second first' second' : WatchedQueue) (come between left before n : ℕ) → AreInTime first second before →
+    IsLater first first' come between → IsLater second second' between left →
+    between ≤ max (2 ^ 87) first.queue.last + n * first.queue.step → left ≤ max between second.queue.last + n * second.queue.step →
+    AreInTime first' second' (before + n)
+still_in_time first second first' second' come between left before n old a b by by' =
+    let leaves = soon between first.queue.last first.queue.step before n by old.last old.slow in
+    record {
+      some = rw a.step old.some;
+      slow = rw a.step old.slow;
+      system_some = rw b.step old.system_some;
+      system_slow = rw b.step old.system_slow;
+      last = rw a.last leaves;
+      left = rw b.last (system_soon left between second.queue.last second.queue.step before n by' leaves old.left old.system_slow);
+      inner = omega (arith, a.longest, a.last, a.later, old.inner);
+      within = omega (arith, b.longest, b.last, b.later, old.within);
+    }
 
-pub returns-in_err-append-clause-left : goal.returns-in_err-append-clause-left
-returns-in_err-append-clause-left c =
-    rw c.pass-second.ensures.last
-    (system_soon c.in-Some.left.last c.in-Some.between.last c.args.system.now.queue.last c.args.system.now.queue.step c.args.before c.args.row.now.bytes
-    c.in-Some.ensures.system_soon
-    (soon c.in-Some.between.last c.args.transport.now.queue.last c.args.transport.now.queue.step c.args.before c.args.row.now.bytes
-    c.in-Some.ensures.soon c.requires.last c.requires.step)
-    c.requires.left c.requires.system_step)
+pub returns-clause-in_time : goal.returns-clause-in_time
+returns-clause-in_time c =
+    let ways = c.in-Some.ensures in
+    let first = c.pass-first.ensures in
+    let second = c.pass-second.ensures in
+    still_in_time c.args.transport.now c.args.system.now c.pass-first.new.self c.pass-second.new.self c.in-Some.come.last c.in-Some.between.last c.in-Some.left.last
+    c.args.before c.args.row.now.bytes c.requires.in_time (record { step = first.step; last = first.last; longest = first.longest; later = ways.later })
+    (record { step = second.step; last = second.last; longest = second.longest; later = ways.system_later }) ways.soon ways.system_soon
+
+pub returns-in_err-append-clause-in_time : goal.returns-in_err-append-clause-in_time
+returns-in_err-append-clause-in_time c =
+    let ways = c.in-Some.ensures in
+    let first = c.pass-first.ensures in
+    let second = c.pass-second.ensures in
+    still_in_time c.args.transport.now c.args.system.now c.pass-first.new.self c.pass-second.new.self c.in-Some.come.last c.in-Some.between.last c.in-Some.left.last
+    c.args.before c.args.row.now.bytes c.requires.in_time (record { step = first.step; last = first.last; longest = first.longest; later = ways.later })
+    (record { step = second.step; last = second.last; longest = second.longest; later = ways.system_later }) ways.soon ways.system_soon

@@ -8,7 +8,7 @@ use Rattle.stream_buffers.proofs.buffers.StreamBuffers.pass.Goals as goal
 pub returns-clause-bytes : goal.returns-clause-bytes
 returns-clause-bytes c = omega (
   arith,
-  bytes_more c.args.self.now.view.transport c.pass_into.new.self.transport c.row-row.result c.pass_into.ensures.buffer,
+  bytes_more c.args.self.now.view.transport c.pass.new.self.transport c.row-row.result c.pass.ensures.buffer,
   c.row-row.ensures.bytes,
 )
 
@@ -16,4 +16,4 @@ pub returns-clause-most : goal.returns-clause-most
 returns-clause-most c = λ h k.
     let times : times_of c.row-row.result ≡ times_at c.args.arrival.now h.rx c.args.byte c.args.count =
     c.row-row.ensures.times ∙ ap (λ (r : ℕ). times_at c.args.arrival.now r c.args.byte c.args.count) (c.from.ensures ∙ k.rx) in
-    transport_most_found c.args.self.now h (times_of c.row-row.result) (times_at c.args.arrival.now h.rx c.args.byte c.args.count) c.pass_into.result k times c.pass_into.ensures.transport
+    transport_most_found c.args.self.now h (times_of c.row-row.result) (times_at c.args.arrival.now h.rx c.args.byte c.args.count) c.pass.result k times c.pass.ensures.transport

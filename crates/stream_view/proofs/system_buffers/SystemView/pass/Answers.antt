@@ -1,8 +1,20 @@
 use Rattle.packet_arrival.specs.Rows.{times_of}
-use Rattle.stream_view.proofs.TableRows.{both_ok, tables_more}
+use Rattle.stream_view.proofs.TableRows.{on_ok, tables_more}
 use Rattle.stream_view.proofs.system_buffers.SystemView.pass.Goals as goal
 
 pub returns-clause-view : goal.returns-clause-view
 returns-clause-view c = λ step times v.
-    both_ok c.pass_row-result.result (λ first second. tables_more c.args.self.now _ step times (times_of c.args.row.now) v first second)
-    c.pass_row-result.ensures.transport c.pass_row-result.ensures.system
+    on_ok c.pass_row-result.result (λ passed. tables_more c.args.self.now _ step times (times_of c.args.row.now) v passed.transport passed.system)
+    c.pass_row-result.ensures.passed
+
+pub returns-clause-transport : goal.returns-clause-transport
+returns-clause-transport c = on_ok c.pass_row-result.result (λ passed. passed.transport) c.pass_row-result.ensures.passed
+
+pub returns-clause-system : goal.returns-clause-system
+returns-clause-system c = on_ok c.pass_row-result.result (λ passed. passed.system) c.pass_row-result.ensures.passed
+
+pub returns-clause-transport_ended : goal.returns-clause-transport_ended
+returns-clause-transport_ended c = on_ok c.pass_row-result.result (λ passed. passed.transport_ended) c.pass_row-result.ensures.passed
+
+pub returns-clause-system_ended : goal.returns-clause-system_ended
+returns-clause-system_ended c = on_ok c.pass_row-result.result (λ passed. passed.system_ended) c.pass_row-result.ensures.passed

@@ -5,7 +5,7 @@ use Rattle.clock27.specs.Departure.{departures}
 use Rattle.main_buffer_rows.proofs.Pieces.{length-row}
 use Rattle.stream_view.specs.History.{with_bytes}
 use Rattle.stream_view.proofs.Views.{carried, left_bytes, bytes_more, climbing, held_left, least_left, most_left, counted_more}
-use Rattle.stream_view.proofs.buffers.StreamView.carry_into.Goals as goal
+use Rattle.stream_view.proofs.buffers.StreamView.carry.Goals as goal
 
 pub enter_leaving-found-requires-clause-climbing : goal.enter_leaving-found-requires-clause-climbing
 enter_leaving-found-requires-clause-climbing g c =
@@ -40,7 +40,7 @@ returns-clause-view g c = λ parts v.
     let ds = departures old.transport.step old.transport.last (times_of row) in
     let e = c.enter_leaving-found.ensures in
     let many : row.bytes ≡ length (times_of row) = sym (length-row row.from row.pace row.parts row.bytes) in
-    carried old _ parts (times_of row) v old.paced.some c.arrive-arrived.ensures.buffer c.arrive-arrived.ensures.under_way c.arrive-arrived.ensures.size
+    carried old _ parts (times_of row) v old.paced.some c.arrive-arrived.ensures.buffer c.arrive-arrived.ensures.arrived.under_way c.arrive-arrived.ensures.arrived.size
     (held_left old.main c.enter_leaving-found.new.buffer leaving ds c.arrive-arrived.ensures.left e.there) e.until
     (e.peak ∙ ap (λ (n : ℕ). max old.main.peak n) (e.most ∙ most_left old.main leaving ds c.arrive-arrived.ensures.left))
     (c.add_bytes.ensures ∙ ap (λ (n : ℕ). with_bytes old.unit n c.arrive-arrived.new.transport.last) many)

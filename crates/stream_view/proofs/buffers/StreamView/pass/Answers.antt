@@ -1,0 +1,8 @@
+use Rattle.std.proofs.Common.{refl}
+use Rattle.packet_arrival.specs.Rows.{times_of}
+use Rattle.stream_view.proofs.Views.{passed}
+use Rattle.stream_view.proofs.buffers.StreamView.pass.Goals as goal
+
+pub returns-clause-view : goal.returns-clause-view
+returns-clause-view g c = λ parts v.
+    passed c.args.self.now _ parts (times_of c.args.row.now) v c.arrive.ensures.buffer c.arrive.ensures.arrived.under_way c.arrive.ensures.arrived.size refl refl
