@@ -75,6 +75,15 @@ impl<V, A: Allocator> PidMap<V, A> {
         None
     }
 
+    /// Whether a PID has an entry.
+    #[inline(always)]
+    #[tactic(auto, using(crate::proofs::Entries::found_there))]
+    pub fn contains(&self, pid: u16) -> bool
+        ensures { result ≡ is_some (lookup (nat_eq pid) self.now.entries) }
+    {
+        self.noted(pid).is_some() || self.entries.get(&pid).is_some()
+    }
+
     // The index of the entry of a PID, which is searched for, and noted.
     #[inline(never)]
     fn search(&mut self, pid: u16) -> Option<usize>

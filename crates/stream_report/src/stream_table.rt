@@ -1,5 +1,5 @@
 //! The streams whose buffers have begun.
-ghost use Rattle.std.specs.Prelude.{◌≡◌, ◌++◌, ◌≤◌, List, OnOk, flat_map, is_some, nat_eq, option_map, string_bytes};
+ghost use Rattle.std.specs.Prelude.{◌≡◌, ◌++◌, ◌≤◌, List, OnOk, flat_map, nat_eq, option_map, string_bytes};
 ghost use Rattle.std.specs.List.{list_all};
 ghost use Rattle.std.specs.Map.{lookup};
 ghost use Rattle.ts_packet.specs.Views.{packet_view};
@@ -15,56 +15,32 @@ use crate::stream_entry::StreamEntry;
 use crate::tally::Tally;
 use crate::view_choice::ViewChoice;
 use crate::view_options::ViewOptions;
-use indexmap::IndexMap;
 use named_streams::NamedStreams;
+use pid_map::PidMap;
 use std::alloc::{AllocError, Global};
-use std::hash::{BuildHasherDefault, FoldHasher};
 use stream_buffers::StreamBuffers;
 use stream_coding::{Buffers, Coding, coding_of};
 use stream_programs::FoundStream;
 use ts_packet::Packet;
 
-type PlacesByPid = IndexMap<u16, usize, BuildHasherDefault<FoldHasher>, Global>;
-
-/// Which streams are viewed; those whose buffers have begun, and the place of each PID among them. PIDs come again and again, so the
-/// index of the last one is kept, of each 64 PIDs.
+/// Which streams are viewed; those whose buffers have begun, and the place of each PID among them.
 #[derive(Drop)]
 pub struct StreamTable {
     alloc: Global,
     choice: ViewChoice,
-    places: PlacesByPid,
-    // where the place stands of the last packet's PID, of those that end in the same six bits, if it stands there
-    last: [usize; 64],
+    places: PidMap<usize, Global>,
     entries: Vec<StreamEntry>,
 }
 
-// The place of a PID, looked for first where that of another packet is: its index is kept.
+// The place of a PID.
 #[inline(always)]
-fn place_of(places: &PlacesByPid, last: &mut [usize; 64], pid: u16) -> Option<usize>
-    ensures { result ≡ lookup (nat_eq pid) places.now.entries }
+fn place_of(places: &mut PidMap<usize, Global>, pid: u16) -> Option<usize>
+    ensures place { result ≡ lookup (nat_eq pid) places.old.entries }
+    ensures same { places.new.entries ≡ places.old.entries }
 {
-    let ending = usize::from(pid % 64);
-    if let Some((at, place)) = places.get_index(last[ending]) {
-        if *at == pid {
-            return Some(*place);
-        }
-    }
-    let (index, _, place) = places.get_full(&pid)?;
-    last[ending] = index;
+    let index = places.index_of(pid)?;
+    let (_, place) = places.entries().get_index(index)?;
     Some(*place)
-}
-
-// Whether a PID has a place.
-#[inline(always)]
-fn has_place(places: &PlacesByPid, last: &[usize; 64], pid: u16) -> bool
-    ensures { result ≡ is_some (lookup (nat_eq pid) places.now.entries) }
-{
-    if let Some((at, _)) = places.get_index(last[usize::from(pid % 64)]) {
-        if *at == pid {
-            return true;
-        }
-    }
-    places.get(&pid).is_some()
 }
 
 // The bytes of a payload after the header of the PES packet that it begins.
@@ -172,8 +148,7 @@ impl StreamTable {
         StreamTable {
             alloc,
             choice,
-            places: IndexMap::new(alloc),
-            last: [0; 64],
+            places: PidMap::new(alloc),
             entries: Vec::new(alloc),
         }
     }
@@ -190,9 +165,7 @@ impl StreamTable {
         ensures { (t : TableState) → IsTable self.now t →
             option_map (λ s. s.now) result ≡ spec.beginning named.now t (packet_view packet.now) }
     {
-        if packet.header.payload_unit_start_indicator
-            && self.places.get(&packet.header.pid).is_none()
-        {
+        if packet.header.payload_unit_start_indicator && !self.places.contains(packet.header.pid) {
             chosen(&self.choice, named.stream(packet.header.pid))
         } else {
             None
@@ -252,7 +225,7 @@ impl StreamTable {
         ensures lines { (t : TableState) → IsTable self.old t → OnOk result (string_bytes text.new
             ≡ string_bytes text.old ++ spec.lines_of options.now index clocks.now t (packet_view packet.now)) }
     {
-        let Some(place) = place_of(&self.places, &mut self.last, packet.header.pid) else {
+        let Some(place) = place_of(&mut self.places, packet.header.pid) else {
             return Ok(());
         };
         let Some(entry) = self.entries.get_mut(place) else {
@@ -266,7 +239,7 @@ impl StreamTable {
     pub fn has_stream(&self, pid: u16) -> bool
         ensures { (t : TableState) → IsTable self.now t → result ≡ spec.has_stream t pid }
     {
-        has_place(&self.places, &self.last, pid)
+        self.places.contains(pid)
     }
 
     /// Appends a line for each stream of which a unit ended in a window.

@@ -15,13 +15,13 @@ pub returns-in_default-get_mut-clause-table : goal.returns-in_default-get_mut-cl
 returns-in_default-get_mut-clause-table c = λ t k.
     let packet = packet_view c.args.packet.now in
     let found : lookup (nat_eq packet.header.pid) c.args.self.now.places.entries ≡ Some c.in-Some.place =
-    sym c.place_of.ensures ∙ c.in-Some.is in
+    sym c.place_of.ensures.place ∙ c.in-Some.is in
     let none : slice_get c.args.self.now.entries.items c.in-Some.place ≡ None = slice_get_past c.args.self.now.entries.items c.in-Some.place c.in_default-get_mut.ensures.item.3 in
     let last = taken_none c.args.options.now c.args.index c.args.window c.args.clocks.now t packet c.in-Some.place
     (ap (λ (m : List (ℕ × ℕ)). lookup (nat_eq packet.header.pid) m) (sym k.places) ∙ found) (none_at c.args.self.now.entries.items t.entries c.in-Some.place k.entries none) in
     record {
       choice = k.choice ∙ ap (λ (x : TableState). x.choice) (sym last);
-      places = k.places ∙ ap (λ (x : TableState). x.places) (sym last);
+      places = c.place_of.ensures.same ∙ k.places ∙ ap (λ (x : TableState). x.places) (sym last);
       entries = subst (λ (x : TableState). AreEntries c.args.self.now.entries.items x.entries) (sym last) k.entries;
     }
 
@@ -29,7 +29,7 @@ pub returns-in_default-get_mut-clause-lines : goal.returns-in_default-get_mut-cl
 returns-in_default-get_mut-clause-lines c = λ t k.
     let packet = packet_view c.args.packet.now in
     let found : lookup (nat_eq packet.header.pid) c.args.self.now.places.entries ≡ Some c.in-Some.place =
-    sym c.place_of.ensures ∙ c.in-Some.is in
+    sym c.place_of.ensures.place ∙ c.in-Some.is in
     let none : slice_get c.args.self.now.entries.items c.in-Some.place ≡ None = slice_get_past c.args.self.now.entries.items c.in-Some.place c.in_default-get_mut.ensures.item.3 in
     sym (append-nil (string_bytes c.args.text.now)) ∙ ap (λ (l : List ℕ). string_bytes c.args.text.now ++ l)
     (sym (lines_none c.args.options.now c.args.index c.args.clocks.now t packet c.in-Some.place
@@ -41,7 +41,7 @@ returns-clause-table c = λ t k.
     let place = c.in-Some.place in
     let entry = c.in-Some-get_mut.entry.now in
     let found : lookup (nat_eq packet.header.pid) c.args.self.now.places.entries ≡ Some place =
-    sym c.place_of.ensures ∙ c.in-Some.is in
+    sym c.place_of.ensures.place ∙ c.in-Some.is in
     let at : slice_get c.args.self.now.entries.items place ≡ Some entry =
     slice_get_read c.args.self.now.entries.items (length c.args.self.now.entries.items) place entry refl c.in-Some-get_mut.ensures.item.3.0 c.in-Some-get_mut.ensures.value in
     let s = some_at c.args.self.now.entries.items t.entries place entry k.entries at in
@@ -53,7 +53,7 @@ returns-clause-table c = λ t k.
     let last = taken_some c.args.options.now c.args.index c.args.window c.args.clocks.now t packet place s.entry held s.at in
     on_ok c.take.result (λ i. record {
       choice = k.choice ∙ ap (λ (x : TableState). x.choice) (sym last);
-      places = k.places ∙ ap (λ (x : TableState). x.places) (sym last);
+      places = c.place_of.ensures.same ∙ k.places ∙ ap (λ (x : TableState). x.places) (sym last);
       entries = subst (λ (x : TableState). AreEntries (set c.args.self.now.entries.items place c.take.new.self) x.entries) (sym last)
           (set_at c.args.self.now.entries.items t.entries place c.take.new.self _ k.entries i);
     }) taken
@@ -64,7 +64,7 @@ returns-clause-lines c = λ t k.
     let place = c.in-Some.place in
     let entry = c.in-Some-get_mut.entry.now in
     let found : lookup (nat_eq packet.header.pid) c.args.self.now.places.entries ≡ Some place =
-    sym c.place_of.ensures ∙ c.in-Some.is in
+    sym c.place_of.ensures.place ∙ c.in-Some.is in
     let at : slice_get c.args.self.now.entries.items place ≡ Some entry =
     slice_get_read c.args.self.now.entries.items (length c.args.self.now.entries.items) place entry refl c.in-Some-get_mut.ensures.item.3.0 c.in-Some-get_mut.ensures.value in
     let s = some_at c.args.self.now.entries.items t.entries place entry k.entries at in
