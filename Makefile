@@ -98,6 +98,7 @@ bench: binary tsjob tsair tsview
 	python3 bench/air.py $(BINARY) $(TSAIR)
 	python3 bench/slots.py $(BINARY)
 	python3 bench/carry.py $(BINARY)
+	python3 bench/film.py $(BINARY) $(TSJOB) $(TSAIR)
 	python3 bench/demux.py $(BINARY)
 	python3 bench/monitor.py $(BINARY)
 	python3 bench/tsjob.py $(TSJOB) $(BINARY)

@@ -54,14 +54,18 @@ int main(void) {
 }
 """
 
-# A program that holds its input, as one must that judges all of it before it writes: pieces of 256 KiB are read into the same memory and
-# copied from there into rooms of their own, 64 KiB each; then so many packets are made of these bytes, 184 each, and written as by the limit.
+# A program that holds its input, as one must that judges all of it before it writes, and does nothing else with it: each 64 KiB are read
+# straight into a room of their own, of memory as it is asked for or, with a second word, of one piece that may have pages of 2 MiB; then so
+# many packets are made of these bytes, 184 each, and written as by the limit.
 HOLD = r"""
+#define _GNU_SOURCE
 #include <stdlib.h>
 #include <string.h>
+#include <sys/mman.h>
 #include <unistd.h>
-enum { PACKET = 188, PAYLOAD = 184, HEADER = PACKET - PAYLOAD, READ = 1 << 18, ROOM = 1 << 16, WRITTEN = 348 * PACKET };
-static unsigned char from[READ], to[WRITTEN];
+enum { PACKET = 188, PAYLOAD = 184, HEADER = PACKET - PAYLOAD, ROOM = 1 << 16, ROOMS = 1 << 20, WRITTEN = 348 * PACKET };
+static unsigned char *held[ROOMS], to[WRITTEN], *great;
+static unsigned char *room_at(size_t index) { return great ? great + index * ROOM : malloc(ROOM); }
 static int is_written(size_t size) {
     ssize_t n = 0;
     for (size_t sent = 0; sent < size; sent += n)
@@ -70,20 +74,20 @@ static int is_written(size_t size) {
     return 1;
 }
 int main(int count, char **words) {
-    size_t packets = strtoull(words[1], 0, 10), rooms = 0, size = 0;
-    unsigned char **held = malloc((1 << 20) * sizeof *held);
-    for (ssize_t n; (n = read(0, from, READ)) > 0;)
-        for (ssize_t at = 0, part; at < n; at += part) {
-            size_t place = size % ROOM;
-            if (place == 0)
-                held[rooms++] = malloc(ROOM);
-            part = n - at < ROOM - (ssize_t)place ? n - at : ROOM - (ssize_t)place;
-            memcpy(held[rooms - 1] + place, from + at, part);
-            size += part;
-        }
+    size_t packets = strtoull(words[1], 0, 10), size = 0;
+    if (count > 2) {
+        great = mmap(0, (size_t)ROOM * ROOMS, PROT_READ | PROT_WRITE, MAP_PRIVATE | MAP_ANONYMOUS | MAP_NORESERVE, -1, 0);
+        madvise(great, (size_t)ROOM * ROOMS, MADV_HUGEPAGE);
+    }
+    for (size_t have = ROOM, rooms = 0; have == ROOM; size += have) {
+        unsigned char *room = held[rooms] = room_at(rooms);
+        ssize_t n;
+        for (have = 0, rooms++; have < ROOM && (n = read(0, room + have, ROOM - have)) > 0;)
+            have += n;
+    }
     size_t filled = 0;
     for (size_t packet = 0, at = 0; packet < packets; packet++, at += PAYLOAD) {
-        if (at + ROOM >= size)
+        if (at + 2 * ROOM >= size)
             at = 0;
         size_t place = at % ROOM, part = ROOM - place < PAYLOAD ? ROOM - place : PAYLOAD;
         memset(to + filled, 0x47, HEADER);
@@ -165,10 +169,14 @@ def measured(words, path, packets):
     return min(ours, key=lambda it: it.whole), min(limits, key=lambda it: it.whole), min(copies)
 
 
+# By these words a program's memory may have pages of 2 MiB, where the system gives them to those that ask (`madvise`).
+GREAT_PAGES = ["env", "GLIBC_TUNABLES=glibc.malloc.hugetlb=1"]
+
+
 def hold_spent(job, count):
-    """What a plain program takes that holds this job before it writes so many packets; no bound for others."""
+    """What a plain program takes that holds this job before it writes so many packets, and what in pages of 2 MiB."""
     with compiled(hold=HOLD) as (hold,):
-        return least([hold, count], job)
+        return least([hold, count], job), least([hold, count, "great"], job)
 
 
 def beside(name, count, ours, limit, copy):
