@@ -1,5 +1,5 @@
 //! Sections and PES packets that begin in a packet.
-ghost use Rattle.std.specs.Prelude.{◌≡◌, ◌++◌, [], ◌∷◌, IfOk, OnOk, OnErr};
+ghost use Rattle.std.specs.Prelude.{◌≡◌, ◌≤◌, ◌++◌, [], ◌∷◌, IfOk, OnOk, OnErr, length};
 ghost use Rattle.pes_packet.specs.Reading.{header_at};
 ghost use Rattle.demux.specs.OpenUnits as units;
 ghost use Rattle.demux.specs.Findings as findings;
@@ -10,6 +10,7 @@ use crate::open_unit::{OpenUnit, UnitKind};
 use crate::payload_bytes::{PayloadBytes, after, bytes_of};
 use crate::place::{Place, note, note_here, what_by};
 use crate::verdicts::{Head, Verdict, decide_first, head_of};
+use arrayvec::ArrayVec;
 use pes_packet::{Stamps, read_header};
 use std::alloc::{AllocError, Allocator};
 
@@ -106,14 +107,18 @@ fn open_pes<A: Allocator + Clone>(
     packet: u64,
     head: Head<'_>,
 ) -> Result<OpenUnit<A>, AllocError>
-    requires { units.IsOpen head.header UnitKind.Pes head.front.now (head.front.now ++ head.rest.now) head.least }
+    requires open { units.IsOpen head.header UnitKind.Pes head.front.now (head.front.now ++ head.rest.now) head.least }
+    requires short { length head.front.now ≤ 48 }
     ensures { IfOk result (λ unit. unit ≡ record {
       packet = packet;
       kind = UnitKind.Pes;
       bytes = head.entry.front.now ++ head.entry.rest.now;
     }) }
 {
-    let front = Vec::from_slice(alloc.clone()?, head.front)?;
+    let mut front = ArrayVec::<u8, 48>::new();
+    let Ok(()) = front.try_extend_from_slice(head.front) else {
+        unreachable!()
+    };
     let room = head.least.saturating_sub(front.len());
     let bytes = with_room(alloc.clone()?, head.rest, room)?;
     Ok(OpenUnit {

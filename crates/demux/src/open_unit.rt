@@ -1,6 +1,7 @@
 //! The open unit of a PID: a section or a PES packet that has begun and is not decided.
 ghost use Rattle.std.specs.Prelude.{◌≡◌, IfOk};
 
+use arrayvec::ArrayVec;
 use pes_packet::PesHeader;
 use std::alloc::{AllocError, Allocator};
 use std::marker::Model;
@@ -14,16 +15,17 @@ pub enum UnitKind {
 
 /// A section or a PES packet from its first byte on, as far as it has come: at most 8,388,608 bytes.
 ///
-/// The bytes of a PES packet's header stand apart once it is read, so that the others can be moved to the finding.
+/// The bytes of a PES packet's header stand apart once it is read, so that the others can be moved to the finding. Those of a
+/// long header, of more than 48 bytes, stay with the others.
 #[derive(Drop)]
 pub(crate) struct OpenUnit<A: Allocator> {
     // the packet of its first byte
     pub packet: u64,
     pub kind: UnitKind,
-    // of a PES packet, once it is read
+    // of a PES packet, once it is read and stands apart
     pub header: Option<PesHeader>,
     // its bytes, none until then
-    pub front: Vec<u8, A>,
+    pub front: ArrayVec<u8, 48>,
     // those after them
     pub bytes: Vec<u8, A>,
     // fewer bytes than these do not decide it

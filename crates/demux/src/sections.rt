@@ -9,6 +9,7 @@ use crate::open_unit::{OpenUnit, UnitKind};
 use crate::payload_bytes::{PayloadBytes, after, bytes_of};
 use crate::place::Place;
 use crate::verdicts::{Verdict, decide};
+use arrayvec::ArrayVec;
 use psi_tables::SectionError;
 use std::alloc::{AllocError, Allocator};
 
@@ -82,7 +83,7 @@ pub(crate) fn sections<'p, 'a: 'p, A: Allocator + Clone>(
                     packet: place.packet,
                     kind: UnitKind::Section,
                     header: None,
-                    front: Vec::new(alloc.clone()?),
+                    front: ArrayVec::new(),
                     bytes,
                     least: 0,
                 }));

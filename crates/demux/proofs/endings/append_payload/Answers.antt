@@ -6,6 +6,6 @@ use Rattle.demux.proofs.endings.append_payload.Goals as goal
 pub invariant_of-unit : goal.invariant_of-unit
 invariant_of-unit g c =
     let unit = c.unit.inside in
-    let few : length unit.front.items + length unit.bytes.items + length c.args.payload.now < unit.least = omega (arith, c.len.ensures, c.len-2.ensures, c.if-len-payload.true) in
+    let few : length unit.front.items + length unit.bytes.items + length c.args.payload.now < unit.least = omega (arith, c.len.ensures.value, c.len-2.ensures, c.if-len-payload.true) in
     grown_if (is_ok c.extend_from_slice.result) unit.header unit.kind unit.front.items unit.bytes.items c.args.payload.now c.extend_from_slice.new.self.items unit.least
     c.extend_from_slice.ensures.items c.unit.invariant few

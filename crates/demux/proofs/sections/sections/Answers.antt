@@ -28,7 +28,7 @@ returns-in-None-clause-last g c =
     let none : units.decided unit_kinds.Section c.bytes_of-bytes.result.now ≡ None = search rules in
     let cut : units.decided unit_kinds.Section (payload_list c.loop-rest.rest) ≡ None = sym (ap (units.decided unit_kinds.Section) c.bytes_of-bytes.ensures) ∙ none in
     let bytes : c.new.result.items ++ c.in_ok-bytes-in-None.bytes.items ≡ payload_list c.loop-rest.rest =
-    ap (λ (front : List ℕ). front ++ c.in_ok-bytes-in-None.bytes.items) c.new.ensures.items ∙ c.in_ok-bytes-in-None.ensures.items ∙ c.bytes_of-bytes.ensures in
+    ap (λ (front : List ℕ). front ++ c.in_ok-bytes-in-None.bytes.items) c.new.ensures ∙ c.in_ok-bytes-in-None.ensures.items ∙ c.bytes_of-bytes.ensures in
     ap (λ (x : List ℕ). Some (units.section c.args.place.packet x)) bytes
     ∙ ap (λ (o : Option (List ℕ)). option_map (units.section c.args.place.packet) o) (sym (cut_last (payload_list c.loop-rest.rest) fill cut) ∙ c.loop-rest.invariant.last)
 
