@@ -106,8 +106,8 @@ impl<A: Allocator + Copy> Demux<A> {
         self.found.clear();
     }
 
-    // Takes a packet in which nothing is found, if its first bytes show that it is one and there is memory for it. Whether
-    // they do; else nothing changes.
+    // Takes a packet in which nothing is found, if its first bytes show that it is one and there is memory for it.
+    // Whether it is taken; else nothing changes.
     #[tactic(auto, unfolding(crate::specs::Stream::taken, crate::specs::Stream::found_in, crate::specs::Stream::within_in))]
     fn take_plain(&mut self, bytes: &[u8; 188]) -> bool
         ensures taken { result ≡ true → self.new ≡ stream.taken self.old bytes.now }
@@ -205,8 +205,8 @@ impl<A: Allocator + Copy> Demux<A> {
         Ok(())
     }
 
-    /// Takes a packet in which nothing is found, where no part of one is held, if its first four bytes show that it is one:
-    /// a null packet, or one that has a payload alone and goes on with a section or a PES packet that it does not end.
+    /// Takes a packet in which nothing is found, where no part of one is held, if its first four bytes show that it is
+    /// one: a null packet, or a payload alone that goes on with an open section or PES packet and does not end it.
     /// Whether it is taken; else nothing changes: it is another packet, there is no memory, or the stream has ended.
     pub fn go_on(&mut self, bytes: &[u8; 188]) -> bool
         requires { stream.is_aligned self.old ≡ true }

@@ -93,8 +93,8 @@ fn append<A: Allocator>(
     bytes.extend_from_slice(payload)
 }
 
-/// Appends a payload to the open unit, if there is one that is open with it as well and there is memory for it. Whether it
-/// is appended.
+/// Appends a payload to the open unit, if there is one that is open with it as well and there is memory for it.
+/// Whether it is appended.
 #[tactic(auto, unfolding(crate::specs::Findings::found_appended, crate::specs::Findings::found_if, crate::specs::Findings::undecided, crate::specs::Findings::unless_decided, crate::specs::Machine::next_open), using(crate::proofs::LeastSizes::still_open))]
 pub(crate) fn grow<A: Allocator>(
     open_unit: &mut Option<OpenUnit<A>>,

@@ -15,8 +15,8 @@ pub enum UnitKind {
 
 /// A section or a PES packet from its first byte on, as far as it has come: at most 8,388,608 bytes.
 ///
-/// The bytes of a PES packet's header stand apart once it is read, so that the others can be moved to the finding. Those of a
-/// long header, of more than 48 bytes, stay with the others.
+/// The bytes of a PES packet's header stand apart once it is read, so that the others can be moved to the finding.
+/// Those of a header of more than 48 bytes stay with the others.
 #[derive(Drop)]
 pub(crate) struct OpenUnit<A: Allocator> {
     // the packet of its first byte

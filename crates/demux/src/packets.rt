@@ -57,7 +57,7 @@ pub(crate) fn note_held<'a, A: Allocator + Copy>(
 }
 
 /// Takes a packet in which nothing is found, if its first bytes show that it is one: a null packet, or one that goes on
-/// with an open unit, for which there is memory. Whether they do; else nothing changes.
+/// with an open unit, for which there is memory. Whether it is taken; else nothing changes.
 #[tactic(auto, unfolding(crate::specs::Stream::states_by, crate::specs::Stream::findings_by, crate::specs::Stream::within_by))]
 pub(crate) fn pass<A: Allocator + Copy>(
     states: &mut States<A>,
@@ -140,7 +140,7 @@ fn copied<'p>(payload: Option<&'p [u8]>) -> Option<PayloadBytes<'p, 'static>>
     }
 }
 
-/// Takes 188 bytes that findings may point into, and that were read. It stays a call of its own: few packets come to it.
+/// Takes 188 bytes, read before, that findings may point into. It stays a call of its own: few packets come to it.
 #[inline(never)]
 #[tactic(auto, unfolding(crate::specs::Stream::states_by, crate::specs::Stream::findings_by, crate::specs::Stream::within_by))]
 pub(crate) fn take_borrowed<'a, A: Allocator + Copy>(
