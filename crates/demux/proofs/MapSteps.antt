@@ -1,13 +1,10 @@
 -- The states of PIDs as the entries of a map.
-use Rattle.std.proofs.Common.{◌≡◌, ℕ, zero, suc, true≢false, is_some, Bool, true, false, cond, nat_eq, [], ◌∷◌, Option, Some, None, refl, sym, ap, ◌∙◌, subst}
+use Rattle.std.proofs.Common.{◌≡◌, ℕ, true≢false, is_some, Bool, true, false, cond, nat_eq, [], ◌∷◌, Option, Some, None, refl, sym, ap, ◌∙◌}
 use Rattle.std.specs.Prelude.{position, slice_get}
 use Rattle.std.specs.Map.{keys_of, lookup, values_of}
 use Rattle.indexmap.specs.IndexMap.{insert_entry, set_value_at}
-use Rattle.indexmap.proofs.MapLemmas.{Found-position, index-first, some_index, value_index, insert_entry-first}
-use Rattle.indexmap.proofs.RemoveLemmas.{own_first}
-use Rattle.std.specs.List.{IsDistinct}
-use Rattle.std.specs.Prelude.{IfSome, OnOk, OnErr, Result, Ok, Err, ⊤}
-use Rattle.std.specs.Cmp.{nat_eq_equiv}
+use Rattle.pid_map.proofs.Entries.{found_there, set_same, set_there}
+use Rattle.std.specs.Prelude.{OnOk, OnErr, Result, Ok, Err, ⊤}
 use Rattle.demux.specs.Machine.{PidState, fresh}
 use Rattle.demux.specs.Stream.{States, state_of, with_state}
 
@@ -22,7 +19,7 @@ with_is_insert pid state (e ∷ states) =
 
 -- where the PID has an index, one put in its place
 pub with_is_set : (pid i : ℕ) (state : PidState) (states : States) → position (nat_eq pid) (keys_of states) ≡ Some i → with_state pid state states ≡ set_value_at states i state
-with_is_set pid i state states p = with_is_insert pid state states ∙ insert_entry-first nat_eq pid state states i (Found-position (nat_eq pid) states i p).first
+with_is_set pid i state states p = with_is_insert pid state states ∙ set_there pid i states state p
 
 -- the state that stands in the map
 found_by_test : (t : Bool) (x state other : PidState) (rest : Option PidState) → (rest ≡ Some state → other ≡ state) → cond t (Some x) rest ≡ Some state → cond t x other ≡ state
@@ -51,24 +48,7 @@ state_at pid i states p v = v ∙ by (lookup (nat_eq pid) states) refl
   where
     by : (o : Option PidState) → lookup (nat_eq pid) states ≡ o → lookup (nat_eq pid) states ≡ Some (state_of pid states)
     by (Some state) e = e ∙ ap (λ (x : PidState). Some x) (sym (state_found pid states state e))
-    by None e = absurd (true≢false (sym (ap is_some p) ∙ some_index (nat_eq pid) states ∙ ap is_some e))
-
--- writing the state that is there changes nothing
-pub set_same : (i : ℕ) (states : States) (state : PidState) → slice_get (values_of states) i ≡ Some state → set_value_at states i state ≡ states
-set_same i [] state h = refl
-set_same zero (x ∷ states) state h = ap (λ (s : PidState). (x.0, s) ∷ states) (sym (same_state x.1 state h))
-set_same (suc i) (x ∷ states) state h = ap (λ (rest : States). x ∷ rest) (set_same i states state h)
-
--- a PID has its index where it stands
-pub index_at : (pid i : ℕ) (states : States) (state : PidState) → IsDistinct nat_eq (keys_of states) → slice_get states i ≡ Some (pid, state) → position (nat_eq pid) (keys_of states) ≡ Some i
-index_at pid i states state unique at = index-first (nat_eq pid) states i (own_first nat_eq nat_eq_equiv states i pid state unique at)
-
--- and its state there
-pub value_at : (pid i : ℕ) (states : States) → position (nat_eq pid) (keys_of states) ≡ Some i → slice_get (values_of states) i ≡ lookup (nat_eq pid) states
-value_at pid i states p = subst (λ (o : Option ℕ). IfSome o (λ n. slice_get (values_of states) n ≡ lookup (nat_eq pid) states)) p (value_index (nat_eq pid) states)
-
-pub found_at : (pid i : ℕ) (states : States) → position (nat_eq pid) (keys_of states) ≡ Some i → is_some (lookup (nat_eq pid) states) ≡ true
-found_at pid i states p = sym (some_index (nat_eq pid) states) ∙ ap is_some p
+    by None e = absurd (true≢false (sym (found_there pid i states p) ∙ ap is_some e))
 
 -- a step of the state at a PID's index is one of the PID's state
 pub stepped : {E : Type 0} (result : Result ⊤ E) (pid i : ℕ) (old new states : States) (next : PidState) → old ≡ states → position (nat_eq pid) (keys_of old) ≡ Some i →

@@ -1,6 +1,5 @@
 //! The states of the PIDs of a stream, in the order in which these were first seen.
-ghost use Rattle.std.specs.Prelude.{◌≡◌, ◌<◌, ◌++◌, [], ℕ, Some, None, IfSome, OnOk, OnErr, is_some, map, false, true, position, slice_get, nat_eq};
-ghost use Rattle.std.specs.Map.{keys_of, lookup};
+ghost use Rattle.std.specs.Prelude.{◌≡◌, ◌<◌, ◌++◌, [], ℕ, Some, None, OnOk, OnErr, map, false, true, slice_get, nat_eq};
 ghost use Rattle.indexmap.specs.IndexMap.{index_map_len, get, values, set_value_at};
 ghost use Rattle.demux.specs.Machine as machine;
 ghost use Rattle.demux.specs.Stream.{ended_found, state_of, with_state};
@@ -14,23 +13,15 @@ use crate::finding::Finding;
 use crate::payload_bytes::PayloadBytes;
 use crate::pid_state::PidState;
 use crate::place::Place;
-use indexmap::IndexMap;
+use pid_map::{PidEntries, PidMap};
 use std::alloc::{AllocError, Allocator};
-use std::hash::{BuildHasherDefault, FoldHasher};
 use std::marker::Model;
 use ts_packet::Packet;
 
-type StatesByPid<A> = IndexMap<u16, PidState<A>, BuildHasherDefault<FoldHasher>, A>;
-
-// For how many PIDs it is kept where their states stand.
-const PLACES: usize = 64;
-
-/// The states of the PIDs. Where those of the last ones stand is kept, so that few packets have to look for theirs.
+/// The states of the PIDs.
 #[derive(Drop)]
 pub(crate) struct States<A: Allocator> {
-    by_pid: StatesByPid<A>,
-    // by the rest of a PID: where the state of the last one with that rest stands, if it stands there
-    places: [usize; PLACES],
+    by_pid: PidMap<PidState<A>, A>,
 }
 
 // A contract sees the states, with their PIDs.
@@ -42,40 +33,9 @@ impl<A: Allocator> Model for States<A> {
     ghost view = { λ s. s.by_pid.entries };
 }
 
-// Whether the state of a PID stands at an index.
-fn stands_at<A: Allocator>(states: &StatesByPid<A>, index: usize, pid: u16) -> bool
-    ensures index { result ≡ true → position (nat_eq pid) (keys_of states.now.entries) ≡ Some index }
-    ensures within { result ≡ true → index < index_map_len states.now }
-    ensures value { result ≡ true →
-        slice_get (values states.now) index ≡ lookup (nat_eq pid) states.now.entries }
-{
-    if index < states.len() {
-        if let Some((at, _)) = states.get_index(index) {
-            if *at == pid {
-                return true;
-            }
-        }
-    }
-    false
-}
-
-// The index of a PID, looked for first where it may be.
-#[tactic(auto, using(crate::proofs::MapSteps::index_at, crate::proofs::MapSteps::value_at, crate::proofs::MapSteps::found_at))]
-fn index_of<A: Allocator>(states: &StatesByPid<A>, last: usize, pid: u16) -> Option<usize>
-    ensures index { result ≡ position (nat_eq pid) (keys_of states.now.entries) }
-    ensures within { IfSome result (λ i. i < index_map_len states.now) }
-    ensures value { IfSome result (λ i. slice_get (values states.now) i ≡ lookup (nat_eq pid) states.now.entries) }
-    ensures found { is_some result ≡ is_some (lookup (nat_eq pid) states.now.entries) }
-{
-    if stands_at(states, last, pid) {
-        return Some(last);
-    }
-    states.get_index_of(&pid)
-}
-
 // A packet that goes on with the open unit of a PID that was seen before.
 fn go_on_at<A: Allocator + Copy>(
-    states: &mut StatesByPid<A>,
+    states: &mut PidMap<PidState<A>, A>,
     at: usize,
     index: u64,
     bytes: &[u8; 188],
@@ -89,13 +49,13 @@ fn go_on_at<A: Allocator + Copy>(
     ensures stays { (state : machine.PidState) → slice_get (values states.old) at ≡ Some state →
         result ≡ false → states.new.entries ≡ set_value_at states.old.entries at state }
 {
-    let state = &mut states[at];
+    let state = states.value_mut(at);
     state.go_on(index, bytes)
 }
 
 // A packet of a PID that was seen before.
 fn step_at<'p, 'a: 'p, A: Allocator + Copy>(
-    states: &mut StatesByPid<A>,
+    states: &mut PidMap<PidState<A>, A>,
     index: usize,
     place: Place,
     bytes: &[u8; 188],
@@ -115,8 +75,8 @@ fn step_at<'p, 'a: 'p, A: Allocator + Copy>(
         OnErr result (states.new.entries ≡ set_value_at states.old.entries index state) }
     ensures none { OnErr result (KeepsFindings found.old.items found.new.items) }
 {
-    let alloc = *states.allocator();
-    let state = &mut states[index];
+    let alloc = *states.entries().allocator();
+    let state = states.value_mut(index);
     state.step(&alloc, place, bytes, packet, payload, found)
 }
 
@@ -124,7 +84,7 @@ fn step_at<'p, 'a: 'p, A: Allocator + Copy>(
 #[inline(never)]
 #[tactic(auto, using(crate::proofs::MapSteps::with_is_insert))]
 fn step_first<'p, 'a: 'p, A: Allocator + Copy>(
-    states: &mut StatesByPid<A>,
+    states: &mut PidMap<PidState<A>, A>,
     place: Place,
     bytes: &[u8; 188],
     packet: &Packet<'_>,
@@ -140,8 +100,8 @@ fn step_first<'p, 'a: 'p, A: Allocator + Copy>(
     ensures err { OnErr result (states.new.entries ≡ states.old.entries) }
     ensures none { OnErr result (KeepsFindings found.old.items found.new.items) }
 {
-    states.reserve(1)?;
-    let alloc = *states.allocator();
+    states.reserve_one()?;
+    let alloc = *states.entries().allocator();
     let mut state = PidState::new();
     state.step(&alloc, place, bytes, packet, payload, found)?;
     states.insert(place.pid, state)?;
@@ -150,7 +110,7 @@ fn step_first<'p, 'a: 'p, A: Allocator + Copy>(
 
 // What the end of the stream decides of a PID.
 fn end_at<'a, A: Allocator + Copy>(
-    states: &StatesByPid<A>,
+    states: &PidEntries<PidState<A>, A>,
     index: usize,
     packet: u64,
     found: &mut Vec<Finding<'a, A>, A>,
@@ -178,7 +138,7 @@ fn end_at<'a, A: Allocator + Copy>(
 
 // What the end of the stream decides of the PIDs, in their order.
 fn end_each<'a, A: Allocator + Copy>(
-    states: &StatesByPid<A>,
+    states: &PidEntries<PidState<A>, A>,
     packet: u64,
     found: &mut Vec<Finding<'a, A>, A>,
 ) -> Result<(), AllocError>
@@ -197,14 +157,13 @@ impl<A: Allocator + Copy> States<A> {
         ensures { result ≡ [] }
     {
         States {
-            by_pid: IndexMap::new(alloc),
-            places: [0; PLACES],
+            by_pid: PidMap::new(alloc),
         }
     }
 
     /// Where they are kept.
     pub fn allocator(&self) -> &A {
-        self.by_pid.allocator()
+        self.by_pid.entries().allocator()
     }
 
     /// Takes a packet that has a payload alone, if it goes on with the open unit of its PID, nothing is found in it, and
@@ -216,15 +175,14 @@ impl<A: Allocator + Copy> States<A> {
             machine.found_by state (plain_entry index bytes.now) ≡ [] }
         ensures stays { result ≡ false → self.new ≡ self.old }
     {
-        let at = self.places[pid as usize % PLACES];
-        if !stands_at(&self.by_pid, at, pid) {
-            return false;
+        match self.by_pid.noted(pid) {
+            None => false,
+            Some(at) => go_on_at(&mut self.by_pid, at, index, bytes),
         }
-        go_on_at(&mut self.by_pid, at, index, bytes)
     }
 
     /// Takes a packet of a PID.
-    #[tactic(auto, using(crate::proofs::MapSteps::with_is_set, crate::proofs::MapSteps::state_at, crate::proofs::MapSteps::state_new, crate::proofs::MapSteps::set_same))]
+    #[tactic(auto, using(crate::proofs::MapSteps::with_is_set, crate::proofs::MapSteps::state_at, crate::proofs::MapSteps::state_new, pid_map::proofs::Entries::set_same))]
     pub fn step<'p, 'a: 'p>(
         &mut self,
         place: Place,
@@ -243,20 +201,16 @@ impl<A: Allocator + Copy> States<A> {
         ensures err { OnErr result (self.new ≡ self.old) }
         ensures none { OnErr result (KeepsFindings found.old.items found.new.items) }
     {
-        let rest = place.pid as usize % PLACES;
-        match index_of(&self.by_pid, self.places[rest], place.pid) {
-            Some(index) => {
-                self.places[rest] = index;
-                step_at(
-                    &mut self.by_pid,
-                    index,
-                    place,
-                    bytes,
-                    packet,
-                    payload,
-                    found,
-                )
-            }
+        match self.by_pid.index_of(place.pid) {
+            Some(index) => step_at(
+                &mut self.by_pid,
+                index,
+                place,
+                bytes,
+                packet,
+                payload,
+                found,
+            ),
             None => step_first(&mut self.by_pid, place, bytes, packet, payload, found),
         }
     }
@@ -266,6 +220,6 @@ impl<A: Allocator + Copy> States<A> {
         ensures found { OnOk result (AddsFindings found.old.items found.new.items (ended_found packet self.now)) }
         ensures joined { OnOk result (KeepsJoined found.old.items found.new.items) }
     {
-        end_each(&self.by_pid, packet, found)
+        end_each(self.by_pid.entries(), packet, found)
     }
 }

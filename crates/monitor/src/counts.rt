@@ -1,12 +1,10 @@
 //! What is counted for each PID.
-ghost use Rattle.std.specs.Prelude.{◌≡◌, ◌<◌, IfSome, OnOk, Some, is_some, nat_eq, position, slice_get};
-ghost use Rattle.std.specs.Map.{keys_of, lookup};
+ghost use Rattle.std.specs.Prelude.{◌≡◌, ◌<◌, OnOk, Some, slice_get};
 ghost use Rattle.indexmap.specs.IndexMap.{index_map_len, set_value_at, values};
 ghost use Rattle.monitor.specs.Counts.{duplicate_counted, finding_counts_of, one_more_packet, scrambled_counted, packet_counted};
 
-use indexmap::IndexMap;
+use pid_map::{PidEntries, PidMap};
 use std::alloc::{AllocError, Allocator};
-use std::hash::{BuildHasherDefault, FoldHasher};
 
 /// The number of packets of a PID, and of those with payload_unit_start_indicator.
 #[derive(Clone, Copy)]
@@ -22,69 +20,35 @@ pub(crate) struct FindingCounts {
     pub scrambled: u64,
 }
 
-pub(crate) type PacketCountsByPid<A> = IndexMap<
-    u16,
-    PacketCounts,
-    BuildHasherDefault<FoldHasher>,
-    A,
->;
+pub(crate) type PacketCountsByPid<A> = PidEntries<PacketCounts, A>;
 
-pub(crate) type FindingCountsByPid<A> = IndexMap<
-    u16,
-    FindingCounts,
-    BuildHasherDefault<FoldHasher>,
-    A,
->;
+pub(crate) type FindingCountsByPid<A> = PidEntries<FindingCounts, A>;
 
 // Counts a packet of the PID at an index.
 #[tactic(auto, unfolding(crate::specs::Counts::one_more, crate::specs::Counts::one_more_packet))]
-fn count_at<A: Allocator>(packet_counts: &mut PacketCountsByPid<A>, index: usize, start: bool)
+fn count_at<A: Allocator>(packet_counts: &mut PidMap<PacketCounts, A>, index: usize, start: bool)
     requires { index < index_map_len packet_counts.old }
     ensures { (counts : PacketCounts) → slice_get (values packet_counts.old) index ≡ Some counts →
         packet_counts.new.entries ≡ set_value_at packet_counts.old.entries index (one_more_packet counts start) }
 {
-    let counts = &mut packet_counts[index];
+    let counts = packet_counts.value_mut(index);
     counts.packets = counts.packets.saturating_add(1);
     if start {
         counts.starts = counts.starts.saturating_add(1);
     }
 }
 
-/// The index of a PID, looked for first where it may be.
-#[tactic(auto, using(crate::proofs::CountedPids::index_at, crate::proofs::CountedPids::found_at))]
-pub(crate) fn index_of<V, A: Allocator>(
-    entries: &IndexMap<u16, V, BuildHasherDefault<FoldHasher>, A>,
-    place: usize,
-    pid: u16,
-) -> Option<usize>
-    ensures index { result ≡ position (nat_eq pid) (keys_of entries.now.entries) }
-    ensures within { IfSome result (λ i. i < index_map_len entries.now) }
-    ensures found { is_some result ≡ is_some (lookup (nat_eq pid) entries.now.entries) }
-{
-    if place < entries.len() {
-        if let Some((at, _)) = entries.get_index(place) {
-            if *at == pid {
-                return Some(place);
-            }
-        }
-    }
-    entries.get_index_of(&pid)
-}
-
-/// Counts a packet of a PID. The counts stop at 2^64 - 1. Those of the PID are looked for first at `place`, where they then
-/// stand.
+/// Counts a packet of a PID. The counts stop at 2^64 - 1.
 #[tactic(auto, unfolding(crate::specs::Counts::packet_counts_or_zero, crate::specs::Counts::one_more, crate::specs::Counts::one_more_packet), using(crate::proofs::CountedPids::counted_there, crate::proofs::CountedPids::counts_there))]
 pub(crate) fn count_packet<A: Allocator + Clone>(
-    packet_counts: &mut PacketCountsByPid<A>,
-    place: &mut usize,
+    packet_counts: &mut PidMap<PacketCounts, A>,
     pid: u16,
     start: bool,
 ) -> Result<(), AllocError>
     ensures { OnOk result (packet_counts.new.entries ≡ packet_counted packet_counts.old.entries pid start) }
 {
-    match index_of(packet_counts, *place, pid) {
+    match packet_counts.index_of(pid) {
         Some(index) => {
-            *place = index;
             count_at(packet_counts, index, start);
             Ok(())
         }

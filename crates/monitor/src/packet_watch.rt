@@ -7,25 +7,20 @@ ghost use Rattle.ts_packet.specs.Views.{PacketView, packet_view};
 ghost use Rattle.monitor.specs.PacketStates.{no_packets, packet_counted_by, packet_watched, packet_watched_by};
 ghost use Rattle.monitor.specs.PacketStates.{refusal_rule};
 
-use crate::counts::{PacketCountsByPid, count_packet};
+use crate::counts::{PacketCounts, PacketCountsByPid, count_packet};
 use crate::fault::{Rule, StreamFault};
 use crate::recurrence::RecurrenceWatch;
 use demux::pid_in;
-use indexmap::IndexMap;
+use pid_map::PidMap;
 use std::alloc::{AllocError, Allocator};
 use std::marker::Model;
 use ts_packet::{Packet, PacketError, has_pcr};
-
-// For how many PIDs it is kept where their counts stand.
-const PLACES: usize = 64;
 
 /// The faults of packets that are refused or in error, the counts of each PID, and the program clock references.
 #[derive(Drop)]
 pub(crate) struct PacketWatch<A: Allocator> {
     pub faults: Vec<StreamFault, A>,
-    packet_counts: PacketCountsByPid<A>,
-    // by the rest of a PID: where the counts of the last one with that rest stand, if they stand there
-    places: [usize; PLACES],
+    packet_counts: PidMap<PacketCounts, A>,
     pub pcr: RecurrenceWatch<A>,
 }
 
@@ -56,8 +51,7 @@ impl<A: Allocator + Copy> PacketWatch<A> {
     {
         PacketWatch {
             faults: Vec::new(alloc),
-            packet_counts: IndexMap::new(alloc),
-            places: [0; PLACES],
+            packet_counts: PidMap::new(alloc),
             pcr: RecurrenceWatch::new(alloc, limit_times_rate),
         }
     }
@@ -66,7 +60,7 @@ impl<A: Allocator + Copy> PacketWatch<A> {
     pub fn counts(&self) -> &PacketCountsByPid<A>
         ensures { result.now.entries ≡ self.now.packet_counts }
     {
-        &self.packet_counts
+        self.packet_counts.entries()
     }
 
     /// A rule fails at a packet.
@@ -95,7 +89,6 @@ impl<A: Allocator + Copy> PacketWatch<A> {
         let pid = packet.header.pid;
         count_packet(
             &mut self.packet_counts,
-            &mut self.places[pid as usize % PLACES],
             pid,
             packet.header.payload_unit_start_indicator,
         )?;
@@ -112,12 +105,7 @@ impl<A: Allocator + Copy> PacketWatch<A> {
         ensures { (index : ℕ) → OnOk result (self.new ≡ packet_watched self.old index bytes.now) }
     {
         let pid = pid_in(bytes);
-        count_packet(
-            &mut self.packet_counts,
-            &mut self.places[pid as usize % PLACES],
-            pid,
-            false,
-        )
+        count_packet(&mut self.packet_counts, pid, false)
     }
 
     /// A packet of the stream, as it was read.

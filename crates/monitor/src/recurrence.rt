@@ -5,11 +5,9 @@ ghost use Rattle.indexmap.specs.IndexMap.{index_map_len, insert_entry, set_value
 ghost use Rattle.monitor.specs.Gaps.{is_long};
 ghost use Rattle.monitor.specs.Recurrences.{marked, no_marks};
 
-use crate::counts::index_of;
 use clock27::SLOT_MS_AT_1BPS;
-use indexmap::IndexMap;
+use pid_map::PidMap;
 use std::alloc::{AllocError, Allocator};
-use std::hash::{BuildHasherDefault, FoldHasher};
 use std::marker::Model;
 
 /// A packet of a PID at which a gap ends that is too long.
@@ -19,19 +17,11 @@ pub(crate) struct LatePacket {
     pub packet: u64,
 }
 
-// For how many PIDs it is kept where their last packets stand.
-const PLACES: usize = 64;
-
-// The last packet of each PID.
-type LastByPid<A> = IndexMap<u16, u64, BuildHasherDefault<FoldHasher>, A>;
-
 /// The last packet of each PID at which something came, and the packets at which it came too late.
 #[derive(Drop)]
 pub(crate) struct RecurrenceWatch<A: Allocator> {
     limit_times_rate: u64,
-    last: LastByPid<A>,
-    // by the rest of a PID: where the last packet of one with that rest stands, if it stands there
-    places: [usize; PLACES],
+    last: PidMap<u64, A>,
     late: Vec<LatePacket, A>,
 }
 
@@ -51,34 +41,29 @@ pub(crate) fn is_long(limit_times_rate: u64, gap: u64) -> bool
 }
 
 // The last packet at an index becomes this one, and the one before is returned.
-fn replace_at<A: Allocator>(last: &mut LastByPid<A>, index: usize, packet: u64) -> u64
+fn replace_at<A: Allocator>(last: &mut PidMap<u64, A>, index: usize, packet: u64) -> u64
     requires { index < index_map_len last.old }
     ensures before { slice_get (values last.old) index ≡ Some result }
     ensures entries { last.new.entries ≡ set_value_at last.old.entries index packet }
 {
-    let last = &mut last[index];
+    let last = last.value_mut(index);
     let before = *last;
     *last = packet;
     before
 }
 
-// The last packet of a PID becomes this one, and the one before is returned. It is looked for first at `place`, where
-// it then stands.
+// The last packet of a PID becomes this one, and the one before is returned.
 #[tactic(auto, using(crate::proofs::CountedPids::last_there, crate::proofs::CountedPids::replaced_there))]
 fn replace<A: Allocator + Clone>(
-    last: &mut LastByPid<A>,
-    place: &mut usize,
+    last: &mut PidMap<u64, A>,
     pid: u16,
     packet: u64,
 ) -> Result<Option<u64>, AllocError>
     ensures before { IfOk result (λ before. before ≡ lookup (nat_eq pid) last.old.entries) }
     ensures entries { OnOk result (last.new.entries ≡ insert_entry nat_eq last.old.entries pid packet) }
 {
-    match index_of(last, *place, pid) {
-        Some(index) => {
-            *place = index;
-            Ok(Some(replace_at(last, index, packet)))
-        }
+    match last.index_of(pid) {
+        Some(index) => Ok(Some(replace_at(last, index, packet))),
         None => {
             let before = last.insert(pid, packet)?;
             Ok(before)
@@ -93,8 +78,7 @@ impl<A: Allocator + Copy> RecurrenceWatch<A> {
     {
         RecurrenceWatch {
             limit_times_rate,
-            last: IndexMap::new(alloc),
-            places: [0; PLACES],
+            last: PidMap::new(alloc),
             late: Vec::new(alloc),
         }
     }
@@ -104,8 +88,7 @@ impl<A: Allocator + Copy> RecurrenceWatch<A> {
     pub fn mark(&mut self, pid: u16, packet: u64) -> Result<(), AllocError>
         ensures { OnOk result (self.new ≡ marked self.old pid packet) }
     {
-        let place = &mut self.places[pid as usize % PLACES];
-        match replace(&mut self.last, place, pid, packet)? {
+        match replace(&mut self.last, pid, packet)? {
             None => Ok(()),
             Some(before) => {
                 if is_long(self.limit_times_rate, packet.saturating_sub(before)) {
