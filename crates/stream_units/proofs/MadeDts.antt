@@ -1,9 +1,9 @@
 -- What is made of moments, one by one.
-use Rattle.std.proofs.Common.{◌≡◌, ◌≤◌, ◌<◌, ◌∙◌, ℕ, ◌+◌, ◌-◌, ◌%◌, ◌^◌, ◌++◌, max, true, false, nat_lt, refl, sym, ap, add-one, List, [], ◌∷◌, length, drop, get_or, None, Some}
+use Rattle.std.proofs.Common.{◌≡◌, ◌≤◌, ◌<◌, ◌∙◌, ℕ, suc, Bool, if◌then◌else◌, map, nat_le, arith, ◌+◌, ◌-◌, ◌%◌, ◌^◌, ◌++◌, max, true, false, nat_lt, refl, sym, ap, add-one, List, [], ◌∷◌, length, drop, get_or, None, Some}
 use Rattle.std.proofs.Math.Seq.{drop-cons}
-use Rattle.std.proofs.lemmas.List.{append_assoc, append-nil, drop_all}
+use Rattle.std.proofs.lemmas.List.{append_assoc, append-nil, drop_all, length-map}
 use Rattle.stream_units.specs.CarriedUnits.{CarriedUnit, unit_with}
-use Rattle.stream_units.specs.MadeDts.{nearest, moments_after, max_ahead, stands_first, first_same_pts, first_late_pts, with_dts}
+use Rattle.stream_units.specs.MadeDts.{nearest, moments_after, moments_of, placed, in_order, shift_of, made_dts, pts_of, made_units, max_ahead, stands_first, first_same_pts, first_late_pts, with_dts}
 use Rattle.stream_units.specs.declared.dts_from_pts.DtsFault.TheVariants.{SamePts, PtsTooLate}
 
 pub next : (i : ℕ) (xs : List ℕ) → i < length xs → drop i xs ≡ get_or xs i 0 ∷ drop (i + 1) xs
@@ -91,3 +91,38 @@ dts_end (d ∷ dts) us none = rw none refl
 
 pub dts_done : (all out rest : List CarriedUnit) → all ≡ out ++ rest → rest ≡ [] → out ≡ all
 dts_done all out rest is none = sym (is ∙ ap (λ (l : List CarriedUnit). out ++ l) none ∙ append-nil out)
+
+-- units with other DTS have the same bytes
+length_moments : (moment : ℕ) (stamps : List ℕ) → length (moments_after moment stamps) ≡ length stamps
+unfolding moments_after
+length_moments moment [] = refl
+length_moments moment (stamp ∷ stamps) = ap suc (length_moments (nearest moment stamp) stamps)
+
+length_either : (b : Bool) (x y : ℕ) (ys zs : List ℕ) → length zs ≡ suc (length ys) → length (if b then x ∷ y ∷ ys else y ∷ zs) ≡ suc (suc (length ys))
+length_either true x y ys zs is = refl
+length_either false x y ys zs is = ap suc is
+
+length_placed : (x : ℕ) (ys : List ℕ) → length (placed x ys) ≡ suc (length ys)
+unfolding placed
+length_placed x [] = refl
+length_placed x (y ∷ ys) = length_either (nat_le x y) x y ys (placed x ys) (length_placed x ys)
+
+length_order : (xs : List ℕ) → length (in_order xs) ≡ length xs
+unfolding in_order
+length_order [] = refl
+length_order (x ∷ xs) = length_placed x (in_order xs) ∙ ap suc (length_order xs)
+
+length_made : (us : List CarriedUnit) → length (made_dts (pts_of us)) ≡ length us
+length_made us =
+    let moments = moments_of (pts_of us) in
+    length-map (in_order moments) (λ (m : ℕ). (m - shift_of moments) % 2 ^ 33) ∙ length_order moments ∙ length_moments (2 ^ 100) (pts_of us) ∙ length-map us (λ (u : CarriedUnit). u.unit.pts)
+
+restamped_bytes : (dts : List ℕ) (us : List CarriedUnit) → length dts ≡ length us → map (λ (u : CarriedUnit). u.unit.bytes) (with_dts dts us) ≡ map (λ (u : CarriedUnit). u.unit.bytes) us
+unfolding with_dts
+restamped_bytes [] [] same = refl
+restamped_bytes [] (u ∷ us) same = absurd cc
+restamped_bytes (d ∷ dts) [] same = absurd cc
+restamped_bytes (d ∷ dts) (u ∷ us) same = ap (λ (l : List (List ℕ)). u.unit.bytes ∷ l) (restamped_bytes dts us (let less : length dts ≡ length us = omega (arith, same) in less))
+
+pub made_bytes : (us : List CarriedUnit) → map (λ (u : CarriedUnit). u.unit.bytes) (made_units us) ≡ map (λ (u : CarriedUnit). u.unit.bytes) us
+made_bytes us = restamped_bytes (made_dts (pts_of us)) us (length_made us)

@@ -11,3 +11,5 @@ pub mod Declaration
 pub mod UnitRuns
 pub mod Laws
 pub mod UnitSteps
+pub mod UnitMoments
+pub mod TakenUnits

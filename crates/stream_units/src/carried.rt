@@ -1,61 +1,34 @@
-//! The units of a PID in what is found of a stream.
+//! Copies of the units of a PID in what is found of a stream.
 
-ghost use Rattle.std.specs.Prelude.{◌≡◌, ◌++◌, IfOk, OnOk, map};
-ghost use Rattle.std.specs.Option.{option_to_list};
+ghost use Rattle.std.specs.Prelude.{◌≡◌, IfOk, map};
 ghost use Rattle.demux.specs.Shown.{finding_view};
 ghost use Rattle.stream_units.specs.CarriedUnits as spec;
-ghost use Rattle.stream_units.specs.UnitSteps.{has_cut};
 
-use crate::pes_role::{is_on, role_of};
-use crate::split_units::{cuts_any, is_split};
-use crate::unit_taker::UnitTaker;
+use crate::found::found_units;
+use crate::found_unit::FoundUnit;
 use crate::wire_unit::WireUnit;
 use demux::Finding;
+use pes_packet::Unit;
 use std::alloc::{AllocError, Allocator};
 
-// Appends the unit, if there is one.
-fn push_unit<A: Allocator>(
-    units: &mut Vec<WireUnit<A>, A>,
-    unit: Option<WireUnit<A>>,
-) -> Result<(), AllocError>
-    ensures { OnOk result (units.new.items ≡ units.old.items ++ option_to_list unit) }
+// A copy of a unit.
+fn copied<A: Allocator>(alloc: A, unit: &FoundUnit<'_, A>) -> Result<WireUnit<A>, AllocError>
+    ensures { IfOk result (λ copy. copy ≡ unit.now) }
 {
-    let Some(unit) = unit else {
-        return Ok(());
-    };
-    units.push(unit)?;
-    Ok(())
+    let mut bytes = Vec::from_slice(alloc, unit.body)?;
+    bytes.extend_from_slice(&unit.more)?;
+    Ok(WireUnit {
+        packet: unit.packet,
+        stream_id: unit.stream_id,
+        unit: Unit {
+            dts: unit.dts,
+            pts: unit.pts,
+            bytes,
+        },
+    })
 }
 
-// The units of a PID, where its units may have several PES packets if `split`, and whether one of them is cut.
-fn units_by<A: Allocator + Clone>(
-    alloc: A,
-    split: bool,
-    pid: u16,
-    findings: &[Finding<'_, A>],
-) -> Result<(Vec<WireUnit<A>, A>, bool), AllocError>
-    ensures units { IfOk result (λ found. found.0.items ≡ spec.units_in split pid (map finding_view findings.now)) }
-    ensures cut { IfOk result (λ found. found.1 ≡ has_cut pid (map finding_view findings.now)) }
-{
-    let mut taker = UnitTaker::new(pid, split);
-    let mut units = Vec::new(alloc.clone()?);
-    let mut cut = false;
-    for finding in findings {
-        if !is_on(pid, finding) {
-            continue;
-        }
-        cut = cuts_any(cut, taker.stream_id(), role_of(pid, finding));
-        let unit = taker.take(&alloc, finding)?;
-        push_unit(&mut units, unit)?;
-    }
-    push_unit(&mut units, taker.finish())?;
-    Ok((units, cut))
-}
-
-/// The units of a PID in the findings of a stream: each PES packet with a PTS is one, with the bytes of those without a
-/// PTS and with its stream_id that follow it, if nothing but padding_stream is found on the PID in between. A unit of
-/// which a part is lost is left out, and one without bytes.
-#[tactic(auto, using(crate::proofs::UnitSteps::uncut))]
+/// Copies of the units that `found_units` gives.
 pub fn carried_units<A: Allocator + Clone>(
     alloc: A,
     pid: u16,
@@ -63,12 +36,10 @@ pub fn carried_units<A: Allocator + Clone>(
 ) -> Result<Vec<WireUnit<A>, A>, AllocError>
     ensures { IfOk result (λ units. units.items ≡ spec.carried_units pid (map finding_view findings.now)) }
 {
-    // Where none is cut, it is all the same whether units have several PES packets, and this is not asked.
-    let (units, cut) = units_by(alloc.clone()?, false, pid, findings)?;
-    if !cut || !is_split(pid, findings) {
-        return Ok(units);
+    let found = found_units(alloc.clone()?, pid, findings)?;
+    let mut units = Vec::with_capacity(alloc.clone()?, found.len())?;
+    for unit in &found {
+        units.push(copied(alloc.clone()?, unit)?)?;
     }
-    drop(units);
-    let (units, _) = units_by(alloc, true, pid, findings)?;
     Ok(units)
 }

@@ -6,46 +6,41 @@ ghost use Rattle.stream_units.specs.MadeDts as spec;
 ghost use Rattle.stream_units.specs.DtsErrors.{IsDtsError};
 
 use crate::dts_from_pts::{DtsError, made_dts};
-use crate::wire_unit::WireUnit;
-use pes_packet::Unit;
+use crate::found_unit::FoundUnit;
 use std::alloc::{AllocError, Allocator};
 use std::collections::VecDeque;
 
 // The PTS of units.
-fn all_pts<A: Allocator>(alloc: A, wire: &[WireUnit<A>]) -> Result<Vec<u64, A>, AllocError>
-    ensures { IfOk result (λ stamps. stamps.items ≡ spec.pts_of wire.now) }
+fn all_pts<A: Allocator>(alloc: A, found: &[FoundUnit<'_, A>]) -> Result<Vec<u64, A>, AllocError>
+    ensures { IfOk result (λ stamps. stamps.items ≡ spec.pts_of found.now) }
 {
-    wire.iter().map(|unit| unit.unit.pts).collect(alloc)
+    found.iter().map(|unit| unit.pts).collect(alloc)
 }
 
 // A unit with another DTS.
-fn restamped<A: Allocator>(dts: u64, wire: WireUnit<A>) -> WireUnit<A>
-    ensures { result ≡ unit_with wire.packet wire.stream_id dts wire.unit.pts wire.unit.bytes }
+fn restamped<'f, A: Allocator>(dts: u64, unit: FoundUnit<'f, A>) -> FoundUnit<'f, A>
+    ensures { result ≡ unit_with unit.entry.packet unit.entry.stream_id dts unit.entry.unit.pts unit.entry.unit.bytes }
 {
-    let packet = wire.packet;
-    let stream_id = wire.stream_id;
-    let unit = wire.unit;
-    WireUnit {
-        packet,
-        stream_id,
-        unit: Unit {
-            dts,
-            pts: unit.pts,
-            bytes: unit.bytes,
-        },
+    FoundUnit {
+        packet: unit.packet,
+        stream_id: unit.stream_id,
+        dts,
+        pts: unit.pts,
+        body: unit.body,
+        more: unit.more,
     }
 }
 
 // Units with these DTS.
-fn with_dts<A: Allocator>(
+fn with_dts<'f, A: Allocator>(
     alloc: A,
     dts: &[u64],
-    wire: Vec<WireUnit<A>, A>,
-) -> Result<Vec<WireUnit<A>, A>, AllocError>
-    ensures { IfOk result (λ units. units.items ≡ spec.with_dts dts.now wire.items) }
+    found: Vec<FoundUnit<'f, A>, A>,
+) -> Result<Vec<FoundUnit<'f, A>, A>, AllocError>
+    ensures { IfOk result (λ units. units.items ≡ spec.with_dts dts.now found.entry.items) }
 {
-    let mut units = Vec::with_capacity(alloc, wire.len())?;
-    let mut left = VecDeque::from(wire);
+    let mut units = Vec::with_capacity(alloc, found.len())?;
+    let mut left = VecDeque::from(found);
     let mut later = dts;
     'units: while let Some(next) = left.pop_front() {
         let Some((first, rest)) = later.split_first() else {
@@ -59,18 +54,18 @@ fn with_dts<A: Allocator>(
 
 /// The units of a stream with DTS that `made_dts` makes from their PTS, all else as it was. For streams without DTS
 /// whose pictures come in another order than they are shown, or whose DTS do not rise.
-pub fn units_with_made_dts<A: Allocator + Clone>(
+pub fn units_with_made_dts<'f, A: Allocator + Clone>(
     alloc: A,
-    wire: Vec<WireUnit<A>, A>,
-) -> Result<Vec<WireUnit<A>, A>, DtsError>
-    ensures made { IfOk result (λ units. units.items ≡ spec.made_units wire.items) }
-    ensures sound { OnOk result (spec.dts_fault (spec.pts_of wire.items) ≡ None) }
-    ensures refused { IfErr result (λ error. IsDtsError (spec.pts_of wire.items) error) }
+    found: Vec<FoundUnit<'f, A>, A>,
+) -> Result<Vec<FoundUnit<'f, A>, A>, DtsError>
+    ensures made { IfOk result (λ units. units.items ≡ spec.made_units found.entry.items) }
+    ensures sound { OnOk result (spec.dts_fault (spec.pts_of found.entry.items) ≡ None) }
+    ensures refused { IfErr result (λ error. IsDtsError (spec.pts_of found.entry.items) error) }
 {
     let Ok(other) = alloc.clone() else {
         return Err(DtsError::Memory);
     };
-    let Ok(pts) = all_pts(other, &wire) else {
+    let Ok(pts) = all_pts(other, &found) else {
         return Err(DtsError::Memory);
     };
     let Ok(other) = alloc.clone() else {
@@ -80,7 +75,7 @@ pub fn units_with_made_dts<A: Allocator + Clone>(
         Ok(dts) => dts,
         Err(error) => return Err(error),
     };
-    match with_dts(alloc, &dts, wire) {
+    match with_dts(alloc, &dts, found) {
         Ok(units) => Ok(units),
         Err(_) => Err(DtsError::Memory),
     }

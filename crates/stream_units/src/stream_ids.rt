@@ -3,12 +3,12 @@
 ghost use Rattle.std.specs.Prelude.{◌≡◌};
 ghost use Rattle.stream_units.specs.StreamIds as spec;
 
-use crate::wire_unit::WireUnit;
+use crate::found_unit::FoundUnit;
 use pes_packet::is_unit_id;
 use std::alloc::Allocator;
 
 /// The place of the first unit of another stream_id than this one.
-pub fn first_other<A: Allocator>(id: u8, units: &[WireUnit<A>]) -> Option<usize>
+pub fn first_other<A: Allocator>(id: u8, units: &[FoundUnit<'_, A>]) -> Option<usize>
     ensures { result ≡ spec.first_other_at id 0 units.now }
 {
     for (at, unit) in units.iter().enumerate() {

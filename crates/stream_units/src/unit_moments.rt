@@ -2,13 +2,14 @@
 
 ghost use Rattle.std.specs.Prelude.{◌≡◌, ◌≤◌, ◌<◌, ◌^◌, IfOk, IfErr, IfSome, OnOk, None, map};
 ghost use Rattle.stream_units.specs.Stamps as spec;
+ghost use Rattle.stream_units.specs.UnitMoments as at;
 ghost use Rattle.stream_units.specs.StampErrors.{IsStampError, fault_of};
 
+use crate::found_unit::FoundUnit;
 use crate::stamps::{StampFault, distance, dts_at, unit_fault};
-use crate::unit::dts_of;
 use crate::wire_unit::WireUnit;
 use pes_packet::Unit;
-use std::alloc::Allocator;
+use std::alloc::{AllocError, Allocator};
 use std::collections::VecDeque;
 
 /// Why the units of a stream have no moments.
@@ -18,6 +19,34 @@ pub enum StampError {
     Memory,
     /// The first unit whose stamps can't be moments.
     Unit { index: usize, fault: StampFault },
+}
+
+/// The moments of a unit, in units of 90 kHz.
+#[derive(Clone, Copy, PartialEq, Eq)]
+pub struct UnitMoment {
+    pub dts: u64,
+    pub pts: u64,
+}
+
+// The moments of a unit of these stamps, after a DTS or after none, where the clock shows `base` at moment 0; or why it
+// can't have any.
+fn moment(base: u64, before: Option<u64>, dts: u64, pts: u64) -> Result<UnitMoment, StampFault>
+    requires base { base < 2 ^ 33 }
+    requires before { IfSome before (λ dts. dts ≤ 2 ^ 52) }
+    ensures value { IfOk result (λ m. m ≡ at.moment_at base before dts pts) }
+    ensures fault { fault_of result ≡ spec.or_fault (spec.dts_not_increasing base before dts)
+        (spec.or_fault (spec.pts_out_of_range base (spec.dts_at base before dts) pts)
+        (spec.dts_too_far (spec.dts_at base before dts))) }
+    ensures bound { IfOk result (λ m. m.dts ≤ 2 ^ 52) }
+{
+    if let Some(fault) = unit_fault(base, before, dts, pts) {
+        return Err(fault);
+    }
+    let moment = dts_at(base, before, dts);
+    Ok(UnitMoment {
+        dts: moment,
+        pts: moment + distance(moment + base, pts),
+    })
 }
 
 /// A unit at its moments, after a DTS or after none, where the clock shows `base` at moment 0; or why it can't have any.
@@ -34,51 +63,74 @@ pub fn moved_unit<A: Allocator>(
     ensures bound { IfOk result (λ u. u.dts ≤ 2 ^ 52) }
 {
     let unit = wire.unit;
-    if let Some(fault) = unit_fault(base, before, unit.dts, unit.pts) {
-        return Err(fault);
+    match moment(base, before, unit.dts, unit.pts) {
+        Err(fault) => Err(fault),
+        Ok(moment) => Ok(Unit {
+            dts: moment.dts,
+            pts: moment.pts,
+            bytes: unit.bytes,
+        }),
     }
-    let dts = dts_at(base, before, unit.dts);
-    let pts = dts + distance(dts + base, unit.pts);
-    Ok(Unit {
-        dts,
-        pts,
-        bytes: unit.bytes,
-    })
 }
 
-/// The units at their moments, where the clock shows `base` at moment 0: each DTS at the first moment after the DTS
-/// before at which the clock shows it, the first one at the first such moment of all, each PTS at the first from its
-/// DTS on.
-pub fn moved_units<A: Allocator>(
+/// The moments of units, where the clock shows `base` at moment 0: each DTS at the first moment after the DTS before at
+/// which the clock shows it, the first one at the first such moment of all, each PTS at the first from its DTS on.
+pub fn found_moments<A: Allocator>(
     alloc: A,
     base: u64,
-    wire: Vec<WireUnit<A>, A>,
-) -> Result<Vec<Unit<A>, A>, StampError>
+    units: &[FoundUnit<'_, A>],
+) -> Result<Vec<UnitMoment, A>, StampError>
     requires { base < 2 ^ 33 }
-    ensures moved { IfOk result (λ units. units.items ≡ spec.moved base None (map (λ w. w.unit) wire.items)) }
-    ensures sound { OnOk result (spec.first_fault base None 0 (map (λ w. w.unit) wire.items) ≡ None) }
-    ensures refused { IfErr result (λ error. IsStampError base (map (λ w. w.unit) wire.items) error) }
+    ensures moments { IfOk result (λ found. found.items
+        ≡ map at.moment_of (spec.moved base None (map (λ u. u.unit) units.now))) }
+    ensures sound { OnOk result (spec.first_fault base None 0 (map (λ u. u.unit) units.now) ≡ None) }
+    ensures refused { IfErr result (IsStampError base (map (λ u. u.unit) units.now)) }
 {
-    let Ok(mut units) = Vec::with_capacity(alloc, wire.len()) else {
+    let Ok(mut found) = Vec::with_capacity(alloc, units.len()) else {
         return Err(StampError::Memory);
     };
-    let mut left = VecDeque::from(wire);
     let mut before = None;
+    for (index, unit) in units.iter().enumerate() {
+        let next = match moment(base, before, unit.dts, unit.pts) {
+            Ok(next) => next,
+            Err(fault) => return Err(StampError::Unit { index, fault }),
+        };
+        before = Some(next.dts);
+        let Ok(()) = found.push(next) else {
+            return Err(StampError::Memory);
+        };
+    }
+    Ok(found)
+}
+
+// A unit at these moments.
+fn unit_at<A: Allocator>(moment: UnitMoment, wire: WireUnit<A>) -> Unit<A>
+    ensures { result ≡ at.unit_at moment wire }
+{
+    Unit {
+        dts: moment.dts,
+        pts: moment.pts,
+        bytes: wire.unit.bytes,
+    }
+}
+
+/// Units at these moments.
+pub fn units_at<A: Allocator>(
+    alloc: A,
+    moments: &[UnitMoment],
+    wire: Vec<WireUnit<A>, A>,
+) -> Result<Vec<Unit<A>, A>, AllocError>
+    ensures { IfOk result (λ units. units.items ≡ at.units_at moments.now wire.items) }
+{
+    let mut units = Vec::with_capacity(alloc, wire.len())?;
+    let mut left = VecDeque::from(wire);
+    let mut later = moments;
     'units: while let Some(next) = left.pop_front() {
-        match moved_unit(base, before, next) {
-            Ok(unit) => {
-                before = Some(dts_of(&unit));
-                let Ok(()) = units.push(unit) else {
-                    return Err(StampError::Memory);
-                };
-            }
-            Err(fault) => {
-                return Err(StampError::Unit {
-                    index: units.len(),
-                    fault,
-                });
-            }
-        }
+        let Some((first, rest)) = later.split_first() else {
+            return Ok(units);
+        };
+        units.push(unit_at(*first, next))?;
+        later = rest;
     }
     Ok(units)
 }

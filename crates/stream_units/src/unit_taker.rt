@@ -1,18 +1,21 @@
 //! The units of a PID, given as they become whole.
 
-ghost use Rattle.std.specs.Prelude.{◌≡◌, IfOk, OnOk, OnErr, None, true, false, option_map};
-ghost use Rattle.demux.specs.Shown.{finding_view};
+ghost use Rattle.std.specs.Prelude.{◌≡◌, ◌∷◌, [], IfOk, IfSome, OnOk, OnErr, None, Some, true, false, option_map};
+ghost use Rattle.demux.specs.Shown.{finding_view, what_view};
 ghost use Rattle.stream_units.specs.CarriedUnits as units;
+ghost use Rattle.stream_units.specs.TakenUnits as taken;
+ghost use Rattle.stream_units.specs.TakenUnits.{OthersStay};
 ghost use Rattle.stream_units.specs.UnitSteps as spec;
 ghost use Rattle.stream_units.specs.Shown.{role_view, start_view};
 
 use crate::pes_role::{PesRole, UnitStart, is_on, role_of};
 use crate::unit::dts_of;
 use crate::wire_unit::WireUnit;
-use demux::Finding;
+use demux::{Finding, Part, What};
 use pes_packet::Unit;
 use std::alloc::{AllocError, Allocator, Global};
 use std::marker::Model;
+use std::mem;
 
 /// Takes what is found of a PID, finding by finding, and gives each unit as soon as it is whole. It holds the bytes of the
 /// one unit under way.
@@ -46,6 +49,61 @@ fn started<A: Allocator>(alloc: A, first: UnitStart<'_>) -> Result<WireUnit<A>, 
             bytes,
         },
     })
+}
+
+// The body of a PES packet, moved out of what is found; none of anything else.
+#[tactic(auto, unfolding(crate::specs::TakenUnits::body_of))]
+fn moved_body<A: Allocator>(alloc: A, what: What<'_, A>) -> Result<Vec<u8, A>, AllocError>
+    ensures { IfOk result (λ bytes. bytes.items ≡ taken.body_of (what_view what.entry)) }
+{
+    let What::Pes { body, .. } = what else {
+        return Ok(Vec::new(alloc));
+    };
+    match body {
+        Part::Joined(bytes) => Ok(bytes),
+        Part::Span(bytes) => Vec::from_slice(alloc, bytes),
+    }
+}
+
+// The first PES packet of a unit, if a finding is one: all but its body.
+#[tactic(auto, using(crate::proofs::TakenUnits::start_body))]
+fn start_in<A: Allocator>(pid: u16, finding: &Finding<'_, A>) -> Option<(u64, u8, u64, u64)>
+    ensures start { IfSome result (λ s. units.role_of pid (finding_view finding.now)
+        ≡ units.Start (units.unit_with s.0 s.1 s.2 s.3 (taken.body_of (what_view finding.now.what)))) }
+    ensures on { IfSome result (λ s. finding.now.pid ≡ Some pid) }
+{
+    if !is_on(pid, finding) {
+        return None;
+    }
+    match role_of(pid, finding) {
+        PesRole::Start(first) => Some((first.packet, first.stream_id, first.dts, first.pts)),
+        _ => None,
+    }
+}
+
+// The unit that starts with a finding, if one does: its body is moved out of the finding.
+#[tactic(auto, using(crate::proofs::TakenUnits::stay_same, crate::proofs::TakenUnits::stay_moved))]
+fn moved_start<A: Allocator + Clone>(
+    alloc: &A,
+    pid: u16,
+    finding: &mut Finding<'_, A>,
+) -> Result<Option<WireUnit<A>>, AllocError>
+    ensures start { IfOk result (λ unit. IfSome unit (λ u. units.role_of pid (finding_view finding.old)
+        ≡ units.Start u)) }
+    ensures none { IfOk result (λ unit. unit ≡ None → finding.new ≡ finding.old) }
+    ensures others { OnOk result (OthersStay pid (finding_view finding.old ∷ []) (finding_view finding.new ∷ [])) }
+{
+    let Some((packet, stream_id, dts, pts)) = start_in(pid, finding) else {
+        return Ok(None);
+    };
+    let empty = alloc.clone()?;
+    let what = mem::replace(&mut finding.what, What::Duplicate);
+    let bytes = moved_body(empty, what)?;
+    Ok(Some(WireUnit {
+        packet,
+        stream_id,
+        unit: Unit { dts, pts, bytes },
+    }))
 }
 
 // A unit, if no part of it may be lost and it has bytes.
@@ -135,6 +193,28 @@ impl<A: Allocator + Clone> UnitTaker<A> {
             }
             PesRole::Interruption(_) => Ok(ended(self.split, self.unit.take())),
         }
+    }
+
+    /// The same, where the body of a PES packet with which a unit starts is moved out of its finding: of this nothing is left
+    /// then but a packet that comes twice.
+    #[tactic(auto, unfolding(crate::specs::UnitSteps::made_whole, crate::specs::UnitSteps::goes_on_as))]
+    pub(crate) fn take_moved(
+        &mut self,
+        alloc: &A,
+        finding: &mut Finding<'_, A>,
+    ) -> Result<Option<WireUnit<A>>, AllocError>
+        ensures given { IfOk result (λ unit. unit
+            ≡ spec.made_whole self.old.split self.old.unit (units.role_of self.old.pid (finding_view finding.old))) }
+        ensures kept { OnOk result (self.new ≡ spec.after_finding self.old (finding_view finding.old)) }
+        ensures others { OnOk result (OthersStay self.old.pid (finding_view finding.old ∷ [])
+            (finding_view finding.new ∷ [])) }
+    {
+        let Some(next) = moved_start(alloc, self.pid, finding)? else {
+            return self.take(alloc, finding);
+        };
+        let before = self.unit.take();
+        self.unit = Some(next);
+        Ok(ended(false, before))
     }
 
     /// The packet in which the unit under way begins, and its DTS as it stands in the header, modulo 2^33.
