@@ -3,6 +3,7 @@
 ghost use Rattle.std.specs.Prelude.{◌≡◌, ◌==◌, ◌&&◌, ◌≤◌, IfErr, IfOk, List, None, Ok, ℕ, length, map, string_bytes};
 ghost use Rattle.demux.specs.Shown.{finding_view};
 ghost use Rattle.demux.specs.Views.{FindingView};
+ghost use Rattle.other_tables.specs.OtherTables as found;
 ghost use Rattle.packet_sync.specs.OtherPackets.{other_packets};
 ghost use Rattle.slot_plan.specs.Planned.{plan_error};
 ghost use Rattle.slot_plan.specs.Text.{plan_text};
@@ -212,23 +213,22 @@ pub(crate) fn status_of(subcommand: Subcommand, output: &JobText, less: bool) ->
     if bad { 1 } else { 0 }
 }
 
-// What is told of a stream of which a job takes this, and whether something of it is lost.
+// What is told of a stream of which a job takes this, with these tables beside it, and whether something of it is lost.
 pub(crate) fn told_of(
     alloc: Global,
     whole: bool,
     notes: &PacketNotes,
-    findings: &[Finding<'_>],
+    others: &[OtherTable],
     input: &JobInput,
 ) -> Result<(String, bool), AllocError>
-    ensures lines { IfOk result (λ t. string_bytes t.0
-        ≡ spec.told_lines whole notes.now (map finding_view findings.now) input.now) }
-    ensures less { IfOk result (λ t. t.1
-        ≡ spec.is_told_less whole notes.now (map finding_view findings.now) input.now) }
+    ensures lines { (findings : List FindingView) → others.now ≡ found.other_tables findings →
+        IfOk result (λ t. string_bytes t.0 ≡ spec.told_lines whole notes.now findings input.now) }
+    ensures less { (findings : List FindingView) → others.now ≡ found.other_tables findings →
+        IfOk result (λ t. t.1 ≡ spec.is_told_less whole notes.now findings input.now) }
 {
     let told = told_warnings(alloc, whole, &input.warnings)?;
     let fields = told_fields(alloc, input, &notes.fields)?;
-    let others = other_tables(alloc, findings)?;
-    let tables = told_tables(alloc, input, &others)?;
+    let tables = told_tables(alloc, input, others)?;
     let lines = loss_report(alloc, &notes.slips, &fields, &tables, &told)?;
     let less = is_less(&notes.slips, &fields, &tables, &told);
     Ok((lines, less))
@@ -240,14 +240,15 @@ fn job_outcome(
     alloc: Global,
     arguments: &JobArguments<'_>,
     notes: &PacketNotes,
-    findings: &[Finding<'_>],
+    others: &[OtherTable],
     input: JobInput,
 ) -> Result<JobOutcome, JobError>
-    requires { AreStreams arguments.now.options.make_dts (map finding_view findings.now) input }
-    ensures given { IfOk result (λ a. spec.IsGiven arguments.now notes.now (map finding_view findings.now) input a) }
+    requires { length input.streams ≤ 32 }
+    ensures given { (findings : List FindingView) → AreStreams arguments.now.options.make_dts findings input →
+        others.now ≡ found.other_tables findings → IfOk result (λ a. spec.IsGiven arguments.now notes.now findings input a) }
     ensures withheld { IfErr result (spec.Withholds arguments.now.subcommand arguments.now.options input) }
 {
-    let (report, less) = told_of(alloc, arguments.whole, notes, findings, &input)?;
+    let (report, less) = told_of(alloc, arguments.whole, notes, others, &input)?;
     let output = output_for(alloc, arguments, input)?;
     let status = status_of(arguments.subcommand, &output, less);
     Ok(JobOutcome {
@@ -286,13 +287,15 @@ fn input_outcome(
     alloc: Global,
     arguments: &JobArguments<'_>,
     notes: &PacketNotes,
-    findings: &[Finding<'_>],
+    others: &[OtherTable],
     input: JobInput,
 ) -> Result<JobOutcome, AllocError>
-    requires { AreStreams arguments.now.options.make_dts (map finding_view findings.now) input }
-    ensures { IfOk result (λ a. spec.InputLeads arguments.now notes.now (map finding_view findings.now) (Ok input) a) }
+    requires { length input.streams ≤ 32 }
+    ensures { (findings : List FindingView) → AreStreams arguments.now.options.make_dts findings input →
+        others.now ≡ found.other_tables findings →
+        IfOk result (λ a. spec.InputLeads arguments.now notes.now findings (Ok input) a) }
 {
-    match job_outcome(alloc, arguments, notes, findings, input) {
+    match job_outcome(alloc, arguments, notes, others, input) {
         Ok(outcome) => Ok(outcome),
         Err(error) => refused_outcome(alloc, error),
     }
@@ -305,12 +308,14 @@ fn findings_outcome(
     arguments: &JobArguments<'_>,
     notes: &PacketNotes,
     count: u64,
-    findings: &[Finding<'_>],
+    findings: Vec<Finding<'static>>,
 ) -> Result<JobOutcome, AllocError>
-    ensures { IfOk result (λ a. spec.FindingsLead arguments.now notes.now count (map finding_view findings.now) a) }
+    ensures { IfOk result (λ a. spec.FindingsLead arguments.now notes.now count
+        (map finding_view findings.entry.items) a) }
 {
+    let others = other_tables(alloc, &findings)?;
     match job_input(alloc, &arguments.options(), count, findings) {
-        Ok(input) => input_outcome(alloc, arguments, notes, findings, input),
+        Ok(input) => input_outcome(alloc, arguments, notes, &others, input),
         Err(error) => refused_outcome(alloc, error),
     }
 }
@@ -339,7 +344,7 @@ fn carried_outcome(
 {
     let ReadStream { notes, demux, size } = stream.end()?;
     let count = size as u64 / 188;
-    let outcome = findings_outcome(alloc, arguments, &notes, count, demux.findings())?;
+    let outcome = findings_outcome(alloc, arguments, &notes, count, demux.into_findings())?;
     Ok(outcome)
 }
 

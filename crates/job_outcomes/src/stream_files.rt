@@ -2,6 +2,8 @@
 
 ghost use Rattle.std.specs.Prelude.{◌≡◌, ◌++◌, IfOk, List, None, OnOk, ℕ, map, string_bytes};
 ghost use Rattle.demux.specs.Shown.{finding_view};
+ghost use Rattle.demux.specs.Views.{FindingView};
+ghost use Rattle.other_tables.specs.OtherTables as tables;
 ghost use Rattle.packet_sync.specs.OtherPackets.{other_packets};
 ghost use Rattle.job_outcomes.specs.Outcomes.{is_told_less, told_lines};
 ghost use Rattle.job_outcomes.specs.StreamFiles as spec;
@@ -14,6 +16,7 @@ use crate::reading::{StreamReading, read_stream};
 use demux::Finding;
 use devices::{Halt, NamedFiles};
 use job_lines::write_input;
+use other_tables::{OtherTable, other_tables};
 use std::alloc::{AllocError, Global};
 use std::marker::Model;
 use stream_jobs::{JobInput, job_input};
@@ -36,21 +39,21 @@ impl Model for TakenStream {
     ghost view = { λ t. record { input = t.input; lines = string_bytes t.lines; less = t.less } };
 }
 
-// What a job takes of a stream with these findings.
+// What a job takes of a stream, with these tables beside it.
 fn taken(
     alloc: Global,
     arguments: &JobArguments<'_>,
     notes: &PacketNotes,
-    findings: &[Finding<'_>],
+    others: &[OtherTable],
     input: JobInput,
 ) -> Result<TakenStream, AllocError>
     ensures input { IfOk result (λ t. t.input ≡ input) }
-    ensures lines { IfOk result (λ t. t.lines
-        ≡ told_lines arguments.now.whole notes.now (map finding_view findings.now) input) }
-    ensures less { IfOk result (λ t. t.less
-        ≡ is_told_less arguments.now.whole notes.now (map finding_view findings.now) input) }
+    ensures lines { (findings : List FindingView) → others.now ≡ tables.other_tables findings →
+        IfOk result (λ t. t.lines ≡ told_lines arguments.now.whole notes.now findings input) }
+    ensures less { (findings : List FindingView) → others.now ≡ tables.other_tables findings →
+        IfOk result (λ t. t.less ≡ is_told_less arguments.now.whole notes.now findings input) }
 {
-    let (lines, less) = told_of(alloc, arguments.whole, notes, findings, &input)?;
+    let (lines, less) = told_of(alloc, arguments.whole, notes, others, &input)?;
     Ok(TakenStream { input, lines, less })
 }
 
@@ -61,12 +64,13 @@ fn taken_or_refused(
     arguments: &JobArguments<'_>,
     notes: &PacketNotes,
     count: u64,
-    findings: &[Finding<'_>],
+    findings: Vec<Finding<'static>>,
 ) -> Result<Result<TakenStream, JobOutcome>, AllocError>
-    ensures { IfOk result (spec.IsInputOf arguments.now notes.now count (map finding_view findings.now)) }
+    ensures { IfOk result (spec.IsInputOf arguments.now notes.now count (map finding_view findings.entry.items)) }
 {
+    let others = other_tables(alloc, &findings)?;
     match job_input(alloc, &arguments.options(), count, findings) {
-        Ok(input) => Ok(Ok(taken(alloc, arguments, notes, findings, input)?)),
+        Ok(input) => Ok(Ok(taken(alloc, arguments, notes, &others, input)?)),
         Err(error) => Ok(Err(refused_outcome(alloc, error)?)),
     }
 }
@@ -83,7 +87,7 @@ fn carried_input(
 {
     let ReadStream { notes, demux, size } = stream.end()?;
     let count = size as u64 / 188;
-    let taken = taken_or_refused(alloc, arguments, &notes, count, demux.findings())?;
+    let taken = taken_or_refused(alloc, arguments, &notes, count, demux.into_findings())?;
     Ok(taken)
 }
 

@@ -7,8 +7,10 @@ use Rattle.stream_programs.specs.Association.{AssociationView}
 use Rattle.stream_programs.specs.Programs.{FoundProgramsView}
 use Rattle.stream_programs.specs.declared.pid_assignment.ProgramPids.{ProgramPids}
 use Rattle.stream_jobs.specs.declared.refusal.JobError.{JobError}
+use Rattle.stream_jobs.specs.declared.refusal.JobRefusal.{JobRefusal}
 use Rattle.stream_jobs.specs.declared.warning.Warning.{Warning}
-use Rattle.stream_jobs.specs.Answers.{Answers, and_then}
+use Rattle.stream_jobs.specs.Answers.{and_then}
+use Rattle.stream_jobs.specs.InputDrafts.{Leads}
 use Rattle.stream_jobs.specs.JobPrograms.{JobProgramView, job_programs, all_program_warnings}
 use Rattle.stream_jobs.specs.JobInput.{JobInputView, service_warnings, table_warnings, stream_warnings, job_warnings, tables_of, with_pids, with_streams}
 use Rattle.stream_jobs.specs.Warnings.{pid_warnings}
@@ -31,11 +33,11 @@ all_warnings options count findings a named found assigned streams tables emptie
 
 -- the streams have units, and these are the programs, the tables and the warnings
 pub in_pids : (options : JobOptionsView) (count : ℕ) (findings : List FindingView) (a : AssociationView) (named : List Program) (found : FoundProgramsView) (assigned : List ProgramPids) (streams : List WireStreamView)
-    (programs : List JobProgramView) (tables : List JobTableView) (warnings left : List Warning) (result : Result JobInputView JobError) →
+    (programs : List JobProgramView) (tables : List JobTableView) (warnings left : List Warning) {A : Type 0} (next : A → Result JobInputView JobRefusal) (result : Result A JobError) →
     wire_streams options.make_dts options.without findings found.streams ≡ Ok streams → programs ≡ job_programs streams found.programs assigned →
     tables ≡ job_tables options.without count findings programs streams found.tables →
     warnings ≡ job_warnings options count findings a named found assigned streams → left ≡ told tables warnings →
-    Answers (with_streams options findings a.transport_stream_id programs tables left streams) result → Answers (with_pids options count findings a named found assigned) result
+    Leads (with_streams options findings a.transport_stream_id programs tables left streams) next result → Leads (with_pids options count findings a named found assigned) next result
 unfolding with_pids and_then tables_of
-in_pids options count findings a named found assigned streams programs tables warnings left result are made tabled all kept is =
+in_pids options count findings a named found assigned streams programs tables warnings left next result are made tabled all kept is =
     rw (are, sym made, sym tabled, sym all, sym kept) is

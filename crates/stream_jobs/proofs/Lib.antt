@@ -10,6 +10,8 @@ pub mod NewNumbersApart
 mod NewNumbersBecome
 mod Each
 mod CarriedStreams
+mod StreamMoments
+mod TakenStreams
 mod TriedRates
 mod FirstWhy
 pub mod Steps

@@ -15,6 +15,8 @@ pub mod Information
 pub mod Moments
 pub mod Declarations
 pub mod JobInput
+pub mod InputDrafts
+pub mod TakenStreams
 pub mod Texts
 pub mod FoundUnits
 pub mod ClockConstants

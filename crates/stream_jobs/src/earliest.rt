@@ -17,7 +17,7 @@ const LATER: u64 = 225_000;
 
 // The bytes of a stream in the program map section of a program.
 #[tactic(auto, unfolding(crate::specs::Moments::entry_size))]
-fn entry_size(number: u16, stream: &WireStream) -> usize
+fn entry_size(number: u16, stream: &WireStream<'_>) -> usize
     ensures { result ≡ spec.entry_size number stream.now }
 {
     if is_stream_of(number, stream) {
@@ -28,7 +28,7 @@ fn entry_size(number: u16, stream: &WireStream) -> usize
 }
 
 // The bytes of all streams, or the greatest number if they are more.
-fn entries_size(number: u16, streams: &[WireStream]) -> usize
+fn entries_size(number: u16, streams: &[WireStream<'_>]) -> usize
     ensures { result ≡ min (sum_by (spec.entry_size number) streams.now) (2 ^ 64 - 1) }
 {
     let mut size: usize = 0;
@@ -63,7 +63,7 @@ fn tables_size(number: u16, tables: &[JobTable]) -> usize
 
 // Whether the program map section of a program has more than one packet.
 #[tactic(auto, unfolding(crate::specs::Moments::map_size, crate::specs::Moments::is_long_map))]
-fn is_long_map(program: &JobProgram, tables: &[JobTable], streams: &[WireStream]) -> bool
+fn is_long_map(program: &JobProgram, tables: &[JobTable], streams: &[WireStream<'_>]) -> bool
     ensures { result ≡ spec.is_long_map tables.now streams.now program.now }
 {
     let entries = entries_size(program.number, streams);
@@ -73,7 +73,7 @@ fn is_long_map(program: &JobProgram, tables: &[JobTable], streams: &[WireStream]
 }
 
 // Whether that of any program has.
-fn has_long_map(programs: &[JobProgram], tables: &[JobTable], streams: &[WireStream]) -> bool
+fn has_long_map(programs: &[JobProgram], tables: &[JobTable], streams: &[WireStream<'_>]) -> bool
     ensures { result ≡ list_any (spec.is_long_map tables.now streams.now) programs.now }
 {
     programs
@@ -86,7 +86,7 @@ fn has_long_map(programs: &[JobProgram], tables: &[JobTable], streams: &[WireStr
 pub(crate) fn earliest_of(
     programs: &[JobProgram],
     tables: &[JobTable],
-    streams: &[WireStream],
+    streams: &[WireStream<'_>],
 ) -> u64
     ensures { result ≡ spec.earliest programs.now tables.now streams.now }
 {

@@ -56,7 +56,7 @@ pub(crate) fn clock_in(programs: &[JobProgram], number: u16) -> ProgramClock
 }
 
 // Whether a program has a stream with units.
-fn has_stream(streams: &[WireStream], number: u16) -> bool
+fn has_stream(streams: &[WireStream<'_>], number: u16) -> bool
     ensures { result ≡ list_any (is_stream_of number) streams.now }
 {
     streams.iter().any(|stream| is_stream_of(number, stream))
@@ -65,7 +65,7 @@ fn has_stream(streams: &[WireStream], number: u16) -> bool
 // Appends the warning that a program has no stream, or that its map moves.
 #[tactic(auto, unfolding(crate::specs::JobPrograms::program_warnings, crate::specs::JobPrograms::has_stream))]
 fn push_program_warnings(
-    streams: &[WireStream],
+    streams: &[WireStream<'_>],
     program: &FoundProgram,
     assigned: ProgramPids,
     warnings: &mut Vec<Warning>,
@@ -106,7 +106,7 @@ fn program_with_pids(program: FoundProgram, assigned: ProgramPids) -> JobProgram
 // Appends a program that has a stream, with the PIDs that it is given, and the warning about a program.
 #[tactic(auto, unfolding(crate::specs::JobPrograms::has_stream))]
 fn push_program(
-    streams: &[WireStream],
+    streams: &[WireStream<'_>],
     program: FoundProgram,
     assigned: ProgramPids,
     programs: &mut Vec<JobProgram>,
@@ -127,7 +127,7 @@ fn push_program(
 /// The programs with a stream that has units, each with the PIDs that it is given, and the warnings about the others.
 pub(crate) fn job_programs(
     alloc: Global,
-    streams: &[WireStream],
+    streams: &[WireStream<'_>],
     found: Vec<FoundProgram>,
     assigned: Vec<ProgramPids>,
     warnings: &mut Vec<Warning>,

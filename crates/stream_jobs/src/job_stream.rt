@@ -6,7 +6,7 @@ ghost use Rattle.stream_jobs.specs.JobStreams as spec;
 use crate::job_options::is_among;
 use pes_packet::Unit;
 use std::marker::Model;
-use stream_units::WireUnit;
+use stream_units::{FoundUnit, UnitMoment};
 
 /// An elementary stream that has units.
 #[derive(Drop)]
@@ -23,8 +23,11 @@ pub(crate) struct JobStream<U> {
     pub units: Vec<U>,
 }
 
-/// One whose units have the stamps on the wire.
-pub(crate) type WireStream = JobStream<WireUnit>;
+/// One whose units have the stamps on the wire, and their bytes where they were found.
+pub(crate) type WireStream<'f> = JobStream<FoundUnit<'f>>;
+
+/// One of whose units the moments alone are known.
+pub(crate) type StreamMoments = JobStream<UnitMoment>;
 
 /// One whose units are at moments of a run.
 pub(crate) type TimedStream = JobStream<Unit>;

@@ -15,7 +15,7 @@ use other_tables::{SteadySections, steady_sections};
 use std::alloc::{AllocError, Global};
 use std::marker::Model;
 use stream_programs::{FoundStream, TableOmission};
-use stream_units::WireUnit;
+use stream_units::FoundUnit;
 
 /// Sections of a program, on a PID of their own.
 #[derive(Drop)]
@@ -54,7 +54,7 @@ impl Model for JobTable {
 
 // The packets from the first of some units to the last.
 #[tactic(auto, unfolding(crate::specs::JobTables::packet_at, crate::specs::JobTables::packet_span))]
-fn packet_span(units: &[WireUnit]) -> u64
+fn packet_span(units: &[FoundUnit<'_>]) -> u64
     ensures { result ≡ spec.packet_span units.now }
 {
     let first = match units.first() {
@@ -68,7 +68,7 @@ fn packet_span(units: &[WireUnit]) -> u64
 }
 
 // The first stream of a program.
-fn first_of(number: u16, streams: &[WireStream]) -> Option<&WireStream>
+fn first_of<'a, 'f>(number: u16, streams: &'a [WireStream<'f>]) -> Option<&'a WireStream<'f>>
     ensures { option_map (λ s. s.now) result ≡ find (is_stream_of number) streams.now }
 {
     streams.iter().find(|stream| is_stream_of(number, stream))
@@ -76,7 +76,7 @@ fn first_of(number: u16, streams: &[WireStream]) -> Option<&WireStream>
 
 // The packets from the first unit of that stream to its last.
 #[tactic(auto, unfolding(crate::specs::JobTables::span_if))]
-fn span_of(number: u16, streams: &[WireStream]) -> u64
+fn span_of(number: u16, streams: &[WireStream<'_>]) -> u64
     ensures { result ≡ spec.span_if (find (is_stream_of number) streams.now) }
 {
     match first_of(number, streams) {
@@ -89,7 +89,7 @@ fn span_of(number: u16, streams: &[WireStream]) -> u64
 #[tactic(auto, unfolding(crate::specs::JobTables::table_of))]
 fn table_of(
     alloc: Global,
-    streams: &[WireStream],
+    streams: &[WireStream<'_>],
     entry: &FoundStream,
     steady: SteadySections,
 ) -> Result<JobTable, AllocError>
@@ -134,7 +134,7 @@ fn push_table(
     count: u64,
     findings: &[Finding<'_>],
     programs: &[JobProgram],
-    streams: &[WireStream],
+    streams: &[WireStream<'_>],
     entry: &FoundStream,
     tables: &mut Vec<JobTable>,
 ) -> Result<(), AllocError>
@@ -158,7 +158,7 @@ fn all_tables(
     count: u64,
     findings: &[Finding<'_>],
     programs: &[JobProgram],
-    streams: &[WireStream],
+    streams: &[WireStream<'_>],
     entries: &[FoundStream],
 ) -> Result<Vec<JobTable>, AllocError>
     ensures { IfOk result (λ tables. tables.items
@@ -190,7 +190,7 @@ pub(crate) fn job_tables(
     count: u64,
     findings: &[Finding<'_>],
     programs: &[JobProgram],
-    streams: &[WireStream],
+    streams: &[WireStream<'_>],
     entries: &[FoundStream],
 ) -> Result<Vec<JobTable>, AllocError>
     ensures { IfOk result (λ tables. tables.items ≡ spec.job_tables without.now count (map finding_view findings.now)

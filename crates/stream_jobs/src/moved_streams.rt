@@ -1,20 +1,21 @@
-//! The units of streams at the moments of a run.
+//! The moments of streams' units in a run.
 
 ghost use Rattle.std.specs.Prelude.{◌≡◌, ◌<◌, ◌^◌, IfOk, IfErr, Ok, All, map};
 ghost use Rattle.demux.specs.Shown.{finding_view};
-ghost use Rattle.stream_jobs.specs.Answers.{Answers, Refuses, each};
+ghost use Rattle.stream_jobs.specs.Answers.{Refuses, each};
+ghost use Rattle.stream_jobs.specs.InputDrafts.{Leads, timed_stream};
 ghost use Rattle.stream_jobs.specs.Jobs.{IsCarried, IsMoved};
 ghost use Rattle.stream_jobs.specs.Moments as spec;
 
 use crate::job_programs::{JobProgram, clock_in};
-use crate::job_stream::{TimedStream, WireStream};
+use crate::job_stream::{StreamMoments, WireStream};
 use crate::program_clock::{ProgramClock, is_same_clock};
 use crate::refusal::{JobError, JobRefusal};
 use clock27::STAMP_MODULUS;
 use demux::Finding;
 use std::alloc::{AllocError, Global};
 use stream_units::{
-    DtsError, StampError, StampFault, carried_units, constant, moved_units, units_with_made_dts,
+    DtsError, StampError, StampFault, constant, found_moments, found_units, units_with_made_dts,
 };
 
 /// The first DTS of a stream, as on the wire, and the clock by which it counts.
@@ -26,11 +27,11 @@ pub(crate) struct FirstDts {
 
 // The first DTS of a stream.
 #[tactic(auto, unfolding(crate::specs::Moments::first_dts, crate::specs::Moments::first_dts_of))]
-fn first_dts_of(programs: &[JobProgram], stream: &WireStream) -> FirstDts
+fn first_dts_of(programs: &[JobProgram], stream: &WireStream<'_>) -> FirstDts
     ensures { result ≡ spec.first_dts_of programs.now stream.now }
 {
     let dts = match stream.units.first() {
-        Some(unit) => unit.unit.dts,
+        Some(unit) => unit.dts,
         None => 0,
     };
     FirstDts {
@@ -43,7 +44,7 @@ fn first_dts_of(programs: &[JobProgram], stream: &WireStream) -> FirstDts
 fn firsts_of(
     alloc: Global,
     programs: &[JobProgram],
-    streams: &[WireStream],
+    streams: &[WireStream<'_>],
 ) -> Result<Vec<FirstDts>, AllocError>
     ensures { IfOk result (λ firsts. firsts.items ≡ spec.firsts programs.now streams.now) }
 {
@@ -106,7 +107,7 @@ fn packet_of(
 ) -> Result<u64, AllocError>
     ensures { IfOk result (λ packet. packet ≡ spec.packet_of (map finding_view findings.now) pid index) }
 {
-    let units = carried_units(alloc, pid, findings)?;
+    let units = found_units(alloc, pid, findings)?;
     match units.get(index) {
         Some(unit) => Ok(unit.packet),
         None => Ok(0),
@@ -118,7 +119,7 @@ fn packet_of(
 fn is_mended(alloc: Global, pid: u16, findings: &[Finding<'_>]) -> Result<bool, AllocError>
     ensures { IfOk result (λ mended. mended ≡ spec.is_mended (map finding_view findings.now) pid) }
 {
-    let units = carried_units(alloc, pid, findings)?;
+    let units = found_units(alloc, pid, findings)?;
     match units_with_made_dts(alloc, units) {
         Ok(_) => Ok(true),
         Err(DtsError::Fault(_)) => Ok(false),
@@ -148,23 +149,28 @@ fn stamps_refusal(
     })
 }
 
-// A stream with its units at their moments.
-#[tactic(auto, unfolding(crate::specs::Moments::moved_stream, crate::specs::Moments::with_moments, crate::specs::Answers::unless, crate::specs::Answers::Answers, crate::specs::Answers::Refuses))]
-fn moved_stream(
+// The moments of a stream's units by the constant of its program's clock.
+#[tactic(auto, unfolding(crate::specs::Moments::moved_by, crate::specs::Moments::moved_stream, crate::specs::Answers::unless, crate::specs::InputDrafts::Leads, crate::specs::Answers::Refuses))]
+fn moved_by(
     alloc: Global,
     make_dts: bool,
-    base: u64,
-    stream: WireStream,
+    earliest: u64,
+    programs: &[JobProgram],
+    firsts: &[FirstDts],
+    stream: WireStream<'_>,
     findings: &[Finding<'_>],
-) -> Result<TimedStream, JobError>
-    requires base { base < 2 ^ 33 }
-    requires carried { IsCarried make_dts (map finding_view findings.now) stream }
-    ensures value { Answers (spec.moved_stream (map finding_view findings.now) base stream) result }
-    ensures moved { IfOk result (IsMoved make_dts (map finding_view findings.now)) }
+) -> Result<StreamMoments, JobError>
+    requires { IsCarried make_dts (map finding_view findings.now) stream }
+    ensures value { Leads (spec.moved_by (map finding_view findings.now) earliest programs.now firsts.now
+        stream.entry) (λ s. Ok (timed_stream (map finding_view findings.now) s)) result }
+    ensures moved { IfOk result (λ s. IsMoved make_dts (map finding_view findings.now)
+        (timed_stream (map finding_view findings.now) s)) }
 {
     let pid = stream.pid;
-    match moved_units(alloc, base, stream.units) {
-        Ok(units) => Ok(TimedStream {
+    let clock = clock_in(programs, stream.program);
+    let base = base_of(alloc, earliest, clock, firsts)?;
+    match found_moments(alloc, base, &stream.units) {
+        Ok(units) => Ok(StreamMoments {
             program: stream.program,
             pid,
             stream_type: stream.stream_type,
@@ -181,28 +187,7 @@ fn moved_stream(
     }
 }
 
-// A stream with its units at moments by the constant of its program's clock.
-#[tactic(auto, unfolding(crate::specs::Moments::moved_by, crate::specs::Answers::Answers, crate::specs::Answers::Refuses))]
-fn moved_by(
-    alloc: Global,
-    make_dts: bool,
-    earliest: u64,
-    programs: &[JobProgram],
-    firsts: &[FirstDts],
-    stream: WireStream,
-    findings: &[Finding<'_>],
-) -> Result<TimedStream, JobError>
-    requires { IsCarried make_dts (map finding_view findings.now) stream }
-    ensures value { Answers (spec.moved_by (map finding_view findings.now) earliest programs.now firsts.now stream)
-        result }
-    ensures moved { IfOk result (IsMoved make_dts (map finding_view findings.now)) }
-{
-    let clock = clock_in(programs, stream.program);
-    let base = base_of(alloc, earliest, clock, firsts)?;
-    moved_stream(alloc, make_dts, base, stream, findings)
-}
-
-// All streams with their units at moments.
+// The moments of all streams' units.
 #[tactic(auto, unfolding(crate::specs::Answers::Refuses))]
 fn each_moved(
     alloc: Global,
@@ -210,15 +195,16 @@ fn each_moved(
     earliest: u64,
     programs: &[JobProgram],
     firsts: &[FirstDts],
-    streams: Vec<WireStream>,
+    streams: Vec<WireStream<'_>>,
     findings: &[Finding<'_>],
-) -> Result<Vec<TimedStream>, JobError>
+) -> Result<Vec<StreamMoments>, JobError>
     requires { All (IsCarried make_dts (map finding_view findings.now)) streams.items }
     ensures streams { IfOk result (λ moved. each (spec.moved_by (map finding_view findings.now) earliest programs.now
-        firsts.now) streams.items ≡ Ok moved.items) }
+        firsts.now) streams.entry.items ≡ Ok (map (timed_stream (map finding_view findings.now)) moved.items)) }
     ensures refused { IfErr result (Refuses (each (spec.moved_by (map finding_view findings.now) earliest programs.now
-        firsts.now) streams.items)) }
-    ensures moved { IfOk result (λ moved. All (IsMoved make_dts (map finding_view findings.now)) moved.items) }
+        firsts.now) streams.entry.items)) }
+    ensures moved { IfOk result (λ moved. All (IsMoved make_dts (map finding_view findings.now))
+        (map (timed_stream (map finding_view findings.now)) moved.items)) }
 {
     let mut moved = Vec::new(alloc);
     for stream in streams {
@@ -236,7 +222,7 @@ pub(crate) fn first_base(
     alloc: Global,
     earliest: u64,
     programs: &[JobProgram],
-    streams: &[WireStream],
+    streams: &[WireStream<'_>],
 ) -> Result<u64, AllocError>
     ensures { IfOk result (λ base. base ≡ spec.first_base earliest programs.now streams.now) }
 {
@@ -247,22 +233,23 @@ pub(crate) fn first_base(
     }
 }
 
-/// The streams with their units at moments, by which the first unit of each clock is due at `earliest`.
+/// The moments of the streams' units, by which the first unit of each clock is due at `earliest`.
 #[tactic(auto, unfolding(crate::specs::Moments::moved_streams, crate::specs::Answers::Refuses))]
 pub(crate) fn moved_streams(
     alloc: Global,
     make_dts: bool,
     earliest: u64,
     programs: &[JobProgram],
-    streams: Vec<WireStream>,
+    streams: Vec<WireStream<'_>>,
     findings: &[Finding<'_>],
-) -> Result<Vec<TimedStream>, JobError>
+) -> Result<Vec<StreamMoments>, JobError>
     requires { All (IsCarried make_dts (map finding_view findings.now)) streams.items }
     ensures streams { IfOk result (λ moved. spec.moved_streams (map finding_view findings.now) earliest programs.now
-        streams.items ≡ Ok moved.items) }
+        streams.entry.items ≡ Ok (map (timed_stream (map finding_view findings.now)) moved.items)) }
     ensures refused { IfErr result (Refuses (spec.moved_streams (map finding_view findings.now) earliest programs.now
-        streams.items)) }
-    ensures moved { IfOk result (λ moved. All (IsMoved make_dts (map finding_view findings.now)) moved.items) }
+        streams.entry.items)) }
+    ensures moved { IfOk result (λ moved. All (IsMoved make_dts (map finding_view findings.now))
+        (map (timed_stream (map finding_view findings.now)) moved.items)) }
 {
     let firsts = firsts_of(alloc, programs, &streams)?;
     each_moved(

@@ -44,7 +44,10 @@ fn first_why(warnings: &[Warning]) -> Option<JobRefusal>
 
 /// The refusal of a transport stream of which no stream is carried, since none can be written or is clear.
 #[tactic(auto, unfolding(crate::specs::JobInput::nothing_carried))]
-pub(crate) fn nothing_carried(warnings: &[Warning], streams: &[WireStream]) -> Option<JobRefusal>
+pub(crate) fn nothing_carried(
+    warnings: &[Warning],
+    streams: &[WireStream<'_>],
+) -> Option<JobRefusal>
     ensures { result ≡ spec.nothing_carried warnings.now streams.now }
 {
     if streams.is_empty() {

@@ -220,7 +220,7 @@ pub(crate) fn push_pid_warnings(
 pub(crate) fn push_stream_warnings(
     alloc: Global,
     count: u64,
-    streams: &[WireStream],
+    streams: &[WireStream<'_>],
     findings: &[Finding<'_>],
     warnings: &mut Vec<Warning>,
 ) -> Result<(), AllocError>

@@ -18,12 +18,12 @@ use std::alloc::{AllocError, Global};
 use stream_coding::is_ac3;
 use stream_programs::FoundStream;
 use stream_units::{
-    DtsError, WireUnit, carried_units, first_other, units_with_made_dts, written_id,
+    DtsError, FoundUnit, first_other, found_units, units_with_made_dts, written_id,
 };
 
 // The refusal of the first unit of another stream_id.
 #[tactic(auto, unfolding(crate::specs::WireStreams::other_id_refusal))]
-fn other_id_refusal(pid: u16, first: u8, units: &[WireUnit]) -> Option<JobRefusal>
+fn other_id_refusal(pid: u16, first: u8, units: &[FoundUnit<'_>]) -> Option<JobRefusal>
     ensures { result ≡ spec.other_id_refusal pid first units.now }
 {
     let at = first_other(first, units)?;
@@ -38,7 +38,7 @@ fn other_id_refusal(pid: u16, first: u8, units: &[WireUnit]) -> Option<JobRefusa
 
 // The stream_id that is written for that of the first unit.
 #[tactic(auto, unfolding(crate::specs::WireStreams::id_of))]
-fn id_of(is_ac3: bool, first: &WireUnit) -> Result<u8, JobRefusal>
+fn id_of(is_ac3: bool, first: &FoundUnit<'_>) -> Result<u8, JobRefusal>
     ensures { result ≡ spec.id_of is_ac3 first.now }
 {
     match written_id(first.stream_id, is_ac3) {
@@ -49,7 +49,7 @@ fn id_of(is_ac3: bool, first: &WireUnit) -> Result<u8, JobRefusal>
 
 // The stream_id that is written for all of these units.
 #[tactic(auto, unfolding(crate::specs::WireStreams::common_id, crate::specs::Answers::unless))]
-fn common_id(pid: u16, is_ac3: bool, units: &[WireUnit]) -> Result<u8, JobRefusal>
+fn common_id(pid: u16, is_ac3: bool, units: &[FoundUnit<'_>]) -> Result<u8, JobRefusal>
     ensures { result ≡ spec.common_id pid is_ac3 units.now }
 {
     let Some((first, _)) = units.split_first() else {
@@ -63,14 +63,15 @@ fn common_id(pid: u16, is_ac3: bool, units: &[WireUnit]) -> Result<u8, JobRefusa
 
 // The units, with DTS that are made from their PTS if `make_dts`.
 #[tactic(auto, unfolding(crate::specs::WireStreams::with_stamps, crate::specs::WireStreams::dts_refusal, crate::specs::Answers::unless, crate::specs::Answers::Refuses))]
-fn with_stamps(
+fn with_stamps<'f>(
     alloc: Global,
     make_dts: bool,
     pid: u16,
-    units: Vec<WireUnit>,
-) -> Result<Vec<WireUnit>, JobError>
-    ensures value { IfOk result (λ with_stamps. spec.with_stamps make_dts pid units.items ≡ Ok with_stamps.items) }
-    ensures refused { IfErr result (Refuses (spec.with_stamps make_dts pid units.items)) }
+    units: Vec<FoundUnit<'f>>,
+) -> Result<Vec<FoundUnit<'f>>, JobError>
+    ensures value { IfOk result (λ with_stamps. spec.with_stamps make_dts pid units.entry.items
+        ≡ Ok with_stamps.items) }
+    ensures refused { IfErr result (Refuses (spec.with_stamps make_dts pid units.entry.items)) }
 {
     if !make_dts {
         return Ok(units);
@@ -84,13 +85,13 @@ fn with_stamps(
 
 // A stream with its units.
 #[tactic(auto, unfolding(crate::specs::WireStreams::stream_of, crate::specs::WireStreams::with_units, crate::specs::Answers::and_then, crate::specs::Answers::Answers, crate::specs::Answers::Refuses))]
-fn stream_of(
+fn stream_of<'f>(
     alloc: Global,
     make_dts: bool,
     stream: FoundStream,
-    units: Vec<WireUnit>,
-) -> Result<WireStream, JobError>
-    ensures { Answers (spec.stream_of make_dts stream units.items) result }
+    units: Vec<FoundUnit<'f>>,
+) -> Result<WireStream<'f>, JobError>
+    ensures { Answers (spec.stream_of make_dts stream units.entry.items) result }
 {
     let is_ac3 = is_ac3(stream.stream_type, &stream.descriptors);
     let stream_id = common_id(stream.pid, is_ac3, &units)?;
@@ -108,7 +109,7 @@ fn stream_of(
 
 // Whether a stream with these units can be carried: there are any, and their stream_id can be written.
 #[tactic(auto, unfolding(crate::specs::WireStreams::is_written))]
-fn is_written(stream: &FoundStream, units: &[WireUnit]) -> bool
+fn is_written(stream: &FoundStream, units: &[FoundUnit<'_>]) -> bool
     ensures { result ≡ spec.is_written stream.now units.now }
 {
     let Some((first, _)) = units.split_first() else {
@@ -120,15 +121,15 @@ fn is_written(stream: &FoundStream, units: &[WireUnit]) -> bool
 
 // A stream with the units of its PID, if it can be carried.
 #[tactic(auto, unfolding(crate::specs::WireStreams::stream_if_any, crate::specs::WireStreams::can_carry, crate::specs::WireStreams::wire_stream, crate::specs::Answers::and_then, crate::specs::Answers::Answers, crate::specs::Answers::Refuses))]
-fn stream_if_any(
+fn stream_if_any<'f>(
     alloc: Global,
     make_dts: bool,
     stream: FoundStream,
-    findings: &[Finding<'_>],
-) -> Result<Option<WireStream>, JobError>
+    findings: &'f [Finding<'_>],
+) -> Result<Option<WireStream<'f>>, JobError>
     ensures { Answers (spec.stream_if_any make_dts (map finding_view findings.now) stream) result }
 {
-    let units = carried_units(alloc, stream.pid, findings)?;
+    let units = found_units(alloc, stream.pid, findings)?;
     if !is_written(&stream, &units) {
         return Ok(None);
     }
@@ -157,7 +158,7 @@ fn push_empty_stream_warnings(
         ++ spec.why_not_carried count (map finding_view findings.now) program pid
         (carried_units pid (map finding_view findings.now))) }
 {
-    let units = carried_units(alloc, pid, findings)?;
+    let units = found_units(alloc, pid, findings)?;
     match units.first() {
         Some(first) => {
             warnings.push(Warning::StreamId {
@@ -177,13 +178,13 @@ fn push_empty_stream_warnings(
 
 // Appends a stream with its units, if it can be carried, else the warnings about it.
 #[tactic(auto, unfolding(crate::specs::WireStreams::stream_if_any, crate::specs::WireStreams::empty_stream_warnings, crate::specs::Answers::and_then, crate::specs::Answers::Answers, crate::specs::Answers::Refuses))]
-fn push_stream(
+fn push_stream<'f>(
     alloc: Global,
     make_dts: bool,
     count: u64,
     stream: FoundStream,
-    findings: &[Finding<'_>],
-    streams: &mut Vec<WireStream>,
+    findings: &'f [Finding<'_>],
+    streams: &mut Vec<WireStream<'f>>,
     warnings: &mut Vec<Warning>,
 ) -> Result<(), JobError>
     ensures streams { OnOk result (and_then (λ one. Ok (streams.old.items ++ option_to_list one))
@@ -201,14 +202,14 @@ fn push_stream(
 }
 
 // The streams that can be carried, each with its units, and the warnings about the others.
-fn carried_streams(
+fn carried_streams<'f>(
     alloc: Global,
     make_dts: bool,
     count: u64,
     selected: Vec<FoundStream>,
-    findings: &[Finding<'_>],
+    findings: &'f [Finding<'_>],
     warnings: &mut Vec<Warning>,
-) -> Result<Vec<WireStream>, JobError>
+) -> Result<Vec<WireStream<'f>>, JobError>
     ensures streams { IfOk result (λ streams. spec.carried_streams make_dts (map finding_view findings.now)
         selected.items ≡ Ok streams.items) }
     ensures refused { IfErr result (Refuses (spec.carried_streams make_dts (map finding_view findings.now)
@@ -243,15 +244,15 @@ fn selected(without: &[u16], found: Vec<FoundStream>) -> Vec<FoundStream>
 /// The selected streams that have units and a stream_id that can be written, each with its units, and the warnings about
 /// the others.
 #[tactic(auto, using(crate::proofs::CarriedStreams::all_carried))]
-pub(crate) fn wire_streams(
+pub(crate) fn wire_streams<'f>(
     alloc: Global,
     make_dts: bool,
     count: u64,
     without: &[u16],
     found: Vec<FoundStream>,
-    findings: &[Finding<'_>],
+    findings: &'f [Finding<'_>],
     warnings: &mut Vec<Warning>,
-) -> Result<Vec<WireStream>, JobError>
+) -> Result<Vec<WireStream<'f>>, JobError>
     ensures streams { IfOk result (λ streams. spec.wire_streams make_dts without.now (map finding_view findings.now)
         found.items ≡ Ok streams.items) }
     ensures refused { IfErr result (Refuses (spec.wire_streams make_dts without.now (map finding_view findings.now)

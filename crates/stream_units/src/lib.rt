@@ -1,6 +1,7 @@
 //! Access units from what a demultiplexer finds, and what a stream declares so that they keep it.
 //!
-//! The units of a PID are a function of its findings (`specs/CarriedUnits`); their stamps of 33 bits become moments of
+//! The units of a PID are a function of its findings (`specs/CarriedUnits`): where they are found, copied, or moved out of
+//! the findings (`specs/TakenUnits`); their stamps of 33 bits become moments of
 //! a run by one constant for a clock (`specs/Stamps`); the least that a stream declares is counted from them
 //! (`specs/Declaration`). The laws say that the stamps on the wire are the moments with the constant modulo 2^33, and
 //! that the units keep what is declared, so that a queue accepts each.

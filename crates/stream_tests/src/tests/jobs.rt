@@ -6,7 +6,7 @@ use demux::Finding;
 use pes_packet::Unit;
 use std::alloc::Global;
 use stream_jobs::{Job, JobError, JobOptions, JobRefusal, describe, job_input, make_job, units};
-use streams::{audio, input, two_programs, usual};
+use streams::{audio, copied, input, two_programs, usual};
 
 // Units of 24 ms.
 static UNITS: [(u8, u64, usize); 3] = [(192, 3_600, 100), (192, 5_760, 100), (192, 7_920, 100)];
@@ -68,7 +68,7 @@ fn is_job(job: Job) -> bool {
 
 // The job of a stream.
 fn made(alloc: Global, options: &JobOptions<'_>, found: &[Finding<'_>]) -> Result<Job, JobError> {
-    match job_input(alloc, options, found.len() as u64, found) {
+    match job_input(alloc, options, found.len() as u64, copied(alloc, found)?) {
         Ok(input) => make_job(alloc, options, input),
         Err(error) => Err(error),
     }
@@ -120,7 +120,7 @@ fn is_too_slow(alloc: Global, found: &[Finding<'_>]) -> bool {
 
 // The units alone need no rate.
 fn are_alone(alloc: Global, found: &[Finding<'_>]) -> Result<bool, JobError> {
-    let input = job_input(alloc, &usual(), 5, found)?;
+    let input = job_input(alloc, &usual(), 5, copied(alloc, found)?)?;
     match units(alloc, input) {
         Ok(units) => Ok(are_units(&units)),
         Err(error) => Err(error),
@@ -183,7 +183,8 @@ fn are_due(moments: [u64; 2], units: &[(u8, Unit)]) -> bool {
 
 fn is_clock_row(alloc: Global, row: &ClockRow) -> Result<bool, JobError> {
     let found = two_programs(alloc, row.references, row.first)?;
-    let input = job_input(alloc, &usual(), found.len() as u64, &found)?;
+    let count = found.len() as u64;
+    let input = job_input(alloc, &usual(), count, found)?;
     match units(alloc, input) {
         Ok(units) => Ok(are_due(row.moments, &units)),
         Err(error) => Err(error),

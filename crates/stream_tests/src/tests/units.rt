@@ -7,7 +7,8 @@ use demux::{Finding, Kind, Part, What};
 use pes_packet::{PesHeader, Stamps, Unit};
 use std::alloc::{AllocError, Global};
 use stream_units::{
-    UnitWarning, UnitWarningCause, WireUnit, carried_units, first_other, unit_warnings, written_id,
+    FoundUnit, UnitWarning, UnitWarningCause, WireUnit, carried_units, first_other, taken_units,
+    unit_warnings, written_id,
 };
 
 // What is found, in short: a PES packet that begins in a packet, a duplicate, counter 7 where 5 was expected, a part
@@ -91,7 +92,7 @@ fn worked_findings(alloc: Global) -> Result<Vec<Finding<'static>>, AllocError> {
 }
 
 // Whether a unit begins in this packet, with these stamps, DTS first, and bytes.
-pub fn is_unit(unit: &WireUnit, packet: u64, stamps: (u64, u64), bytes: &[u8]) -> bool {
+fn is_unit(unit: &WireUnit, packet: u64, stamps: (u64, u64), bytes: &[u8]) -> bool {
     unit.packet == packet
         && unit.stream_id == 224
         && (unit.unit.dts, unit.unit.pts) == stamps
@@ -112,6 +113,14 @@ fn are_carried(alloc: Global, found: &[Finding<'_>]) -> bool {
         Ok(units) => are_units(&units),
         Err(_) => false,
     }
+}
+
+// The same units are moved out of the findings, and then none is left.
+fn are_taken(alloc: Global) -> Result<bool, AllocError> {
+    let mut found = worked_findings(alloc)?;
+    let taken = taken_units(alloc, 256, &mut found)?;
+    let left = taken_units(alloc, 256, &mut found)?;
+    Ok(are_units(&taken) && left.is_empty())
 }
 
 const COUNTER: UnitWarningCause = UnitWarningCause::Counter {
@@ -152,7 +161,11 @@ fn are_left_out(alloc: Global, found: &[Finding<'_>]) -> bool {
 
 fn are_found(alloc: Global) -> bool {
     match worked_findings(alloc) {
-        Ok(found) => are_carried(alloc, &found) && are_left_out(alloc, &found),
+        Ok(found) => {
+            are_carried(alloc, &found)
+                && are_left_out(alloc, &found)
+                && are_taken(alloc) == Ok(true)
+        }
         Err(_) => false,
     }
 }
@@ -179,6 +192,24 @@ pub fn wire(alloc: Global, stamps: &[(u64, u64, usize)]) -> Option<Vec<WireUnit>
     Some(units)
 }
 
+// The same units, their bytes where they are.
+pub fn lent<'f>(alloc: Global, units: &'f [WireUnit]) -> Option<Vec<FoundUnit<'f>>> {
+    let mut found = Vec::new(alloc);
+    for unit in units {
+        let Ok(()) = found.push(FoundUnit {
+            packet: unit.packet,
+            stream_id: unit.stream_id,
+            dts: unit.unit.dts,
+            pts: unit.unit.pts,
+            body: unit.unit.bytes.as_slice(),
+            more: Vec::new(alloc),
+        }) else {
+            return None;
+        };
+    }
+    Some(found)
+}
+
 // Three units of stream_id 224, and one of 225.
 fn of_two_ids(alloc: Global) -> Option<Vec<WireUnit>> {
     let mut units = wire(alloc, &[(0, 0, 1), (1, 1, 1), (2, 2, 1), (3, 3, 1)])?;
@@ -188,13 +219,16 @@ fn of_two_ids(alloc: Global) -> Option<Vec<WireUnit>> {
     Some(units)
 }
 
-fn are_ids(units: &[WireUnit]) -> bool {
+fn are_ids(units: &[FoundUnit<'_>]) -> bool {
     first_other(224, units.get(..3).unwrap_or(&[])).is_none() && first_other(224, units) == Some(3)
 }
 
 fn are_stream_ids(alloc: Global) -> bool {
-    match of_two_ids(alloc) {
-        Some(units) => are_ids(&units),
+    let Some(units) = of_two_ids(alloc) else {
+        return false;
+    };
+    match lent(alloc, &units) {
+        Some(found) => are_ids(&found),
         None => false,
     }
 }

@@ -125,7 +125,54 @@ pub fn two_programs(
     Ok(found)
 }
 
+// A copy of bytes that are found.
+fn copied_part(alloc: Global, part: &Part<'_>) -> Result<Part<'static>, AllocError> {
+    Ok(Part::Joined(Vec::from_slice(alloc, part.bytes())?))
+}
+
+// A copy of what is found.
+fn copied_what(alloc: Global, what: &What<'_>) -> Result<What<'static>, AllocError> {
+    Ok(match what {
+        What::Duplicate => What::Duplicate,
+        What::CounterBreak { expected, found } => What::CounterBreak {
+            expected: *expected,
+            found: *found,
+        },
+        What::Scrambled => What::Scrambled,
+        What::Truncated(bytes) => What::Truncated(copied_part(alloc, bytes)?),
+        What::Section(bytes) => What::Section(copied_part(alloc, bytes)?),
+        What::BadSection(error) => What::BadSection(*error),
+        What::Pes {
+            header,
+            unended,
+            body,
+        } => What::Pes {
+            header: *header,
+            unended: *unended,
+            body: copied_part(alloc, body)?,
+        },
+        What::BadPes(error) => What::BadPes(*error),
+        What::BadPacket(error) => What::BadPacket(*error),
+        What::Errored => What::Errored,
+    })
+}
+
+/// A copy of findings.
+pub fn copied(alloc: Global, found: &[Finding<'_>]) -> Result<Found, AllocError> {
+    let mut copy: Found = Vec::new(alloc);
+    for finding in found {
+        copy.push(Finding {
+            packet: finding.packet,
+            pid: finding.pid,
+            begun: finding.begun,
+            what: copied_what(alloc, &finding.what)?,
+        })?;
+    }
+    Ok(copy)
+}
+
 /// The input of a job of a stream.
 pub fn input(alloc: Global, options: &JobOptions<'_>, found: &[Finding<'_>]) -> Option<JobInput> {
-    job_input(alloc, options, found.len() as u64, found).ok()
+    let copy = copied(alloc, found).ok()?;
+    job_input(alloc, options, found.len() as u64, copy).ok()
 }

@@ -1,11 +1,11 @@
 //! Stamps as moments of a run, and DTS made of PTS, by hand.
 
-use super::{is_unit, wire, wire_unit};
+use super::{lent, wire, wire_unit};
 use pes_packet::Unit;
 use std::alloc::Global;
 use stream_units::{
-    DtsError, DtsFault, StampError, StampFault, WireUnit, constant, distance, made_dts,
-    moved_units, units_with_made_dts,
+    DtsError, DtsFault, FoundUnit, StampError, StampFault, UnitMoment, WireUnit, constant,
+    distance, found_moments, made_dts, units_at, units_with_made_dts,
 };
 
 // The range of stamps, 2^33.
@@ -30,15 +30,26 @@ fn are_constants() -> bool {
     distance(RANGE - 1, 1) == 2 && distance(1, RANGE - 1) == RANGE - 2
 }
 
+// The moments of units.
+fn moments_of(
+    alloc: Global,
+    constant: u64,
+    units: &[WireUnit],
+) -> Option<Result<Vec<UnitMoment>, StampError>> {
+    let found = lent(alloc, units)?;
+    Some(found_moments(alloc, constant % RANGE, &found))
+}
+
 // Units of these stamps and sizes, at their moments. None where there is no memory for them.
 pub fn moved(
     alloc: Global,
     constant: u64,
     stamps: &[(u64, u64, usize)],
 ) -> Option<Result<Vec<Unit>, StampError>> {
-    match wire(alloc, stamps) {
-        Some(units) => Some(moved_units(alloc, constant % RANGE, units)),
-        None => None,
+    let units = wire(alloc, stamps)?;
+    match moments_of(alloc, constant % RANGE, &units)? {
+        Ok(moments) => units_at(alloc, &moments, units).ok().map(Ok),
+        Err(error) => Some(Err(error)),
     }
 }
 
@@ -132,18 +143,14 @@ fn shown(alloc: Global) -> Option<Vec<WireUnit>> {
     Some(units)
 }
 
-fn are_made(units: &[WireUnit]) -> bool {
+fn are_made(units: &[FoundUnit<'_>]) -> bool {
     let mut left = PICTURES.as_slice();
     for unit in units {
         let [row, rest @ ..] = left else {
             return false;
         };
-        if !is_unit(
-            unit,
-            0,
-            (FIRST.saturating_add(row.1) % RANGE, row.0),
-            &[0xa5],
-        ) {
+        let dts = FIRST.saturating_add(row.1) % RANGE;
+        if unit.dts != dts || unit.pts != row.0 || unit.body != [0xa5u8].as_slice() {
             return false;
         }
         left = rest;
@@ -152,8 +159,11 @@ fn are_made(units: &[WireUnit]) -> bool {
 }
 
 // The DTS that are made of them.
-fn are_pictures(alloc: Global, units: Vec<WireUnit>) -> bool {
-    match units_with_made_dts(alloc, units) {
+fn are_pictures(alloc: Global, units: &[WireUnit]) -> bool {
+    let Some(found) = lent(alloc, units) else {
+        return false;
+    };
+    match units_with_made_dts(alloc, found) {
         Ok(made) => are_made(&made),
         Err(_) => false,
     }
@@ -190,7 +200,7 @@ fn are_unmade(alloc: Global) -> bool {
 #[test]
 fn dts_of_pictures(rt: HostRuntime) {
     let is_well = match shown(rt.alloc()) {
-        Some(units) => are_pictures(rt.alloc(), units),
+        Some(units) => are_pictures(rt.alloc(), &units),
         None => false,
     };
     assert!(rt; is_well && are_unmade(rt.alloc()));

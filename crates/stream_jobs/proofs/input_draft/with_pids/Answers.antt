@@ -1,7 +1,7 @@
 use Rattle.std.proofs.Common.{map, ◌≡◌, ◌++◌, ◌∙◌, ap, ap₂, List, Ok, rules}
 use Rattle.std.specs.Prelude.{flat_map}
 use Rattle.demux.specs.Shown.{finding_view}
-use Rattle.stream_jobs.specs.Answers.{Answers}
+use Rattle.stream_jobs.specs.InputDrafts.{Leads, finished}
 use Rattle.stream_programs.specs.Association.{AssociationView}
 use Rattle.stream_programs.specs.Programs.{FoundProgramsView}
 use Rattle.stream_jobs.specs.GivenNames.{ServiceNameView}
@@ -13,7 +13,7 @@ use Rattle.stream_jobs.specs.WireStreams.{wire_streams, all_empty_stream_warning
 use Rattle.stream_jobs.specs.JobTables.{job_tables, told}
 use Rattle.stream_jobs.specs.JobStreams.{WireStreamView}
 use Rattle.stream_jobs.proofs.JobInputs.{all_warnings, in_pids}
-use Rattle.stream_jobs.proofs.input.with_pids.Goals as goal
+use Rattle.stream_jobs.proofs.input_draft.with_pids.Goals as goal
 
 pub returns-clause-value : goal.returns-clause-value
 returns-clause-value c =
@@ -34,11 +34,11 @@ returns-clause-value c =
     let tables : c.in_ok-tables.tables.items ≡ job_tables options.without c.args.count findings c.in_ok-programs.programs.items streams c.args.found.tables = search (rules, c.in_ok-tables.ensures) in
     let left : c.told-told.result.items ≡ told c.in_ok-tables.tables.items c.push_service_warnings.new.warnings.items = search (rules, c.told-told.ensures) in
     let id = ap (λ (a : AssociationView). a.transport_stream_id) c.association.view_is in
-    let value : Answers (with_streams options findings c.args.association.now.transport_stream_id c.in_ok-programs.programs.items c.in_ok-tables.tables.items c.told-told.result.items streams) c.with_streams.result =
+    let value : Leads (with_streams options findings c.args.association.now.transport_stream_id c.in_ok-programs.programs.items c.in_ok-tables.tables.items c.told-told.result.items streams) (finished options findings) c.with_streams.result =
     search (rules, c.with_streams.ensures.value, id) in
     let warnings = all_warnings options c.args.count findings c.args.association.now c.args.named.now c.args.found c.args.assigned.items streams
     c.in_ok-warnings.warnings.items c.wire_streams.new.warnings.items c.job_programs.new.warnings.items c.push_stream_warnings.new.warnings.items c.push_service_warnings.new.warnings.items
     c.in_ok-warnings.ensures empties programs pids texts in
     in_pids options c.args.count findings c.args.association.now c.args.named.now c.args.found c.args.assigned.items streams
-    c.in_ok-programs.programs.items c.in_ok-tables.tables.items c.push_service_warnings.new.warnings.items c.told-told.result.items c.with_streams.result
+    c.in_ok-programs.programs.items c.in_ok-tables.tables.items c.push_service_warnings.new.warnings.items c.told-told.result.items (finished options findings) c.with_streams.result
     are made tables warnings left value

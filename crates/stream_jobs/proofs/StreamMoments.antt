@@ -1,0 +1,89 @@
+-- Streams of whose units the moments alone are known, and with the bytes of these.
+use Rattle.std.proofs.Common.{◌≡◌, ◌∙◌, ◌<◌, ◌≤◌, ◌^◌, ℕ, Bool, true, false, None, List, map, Result, Ok, Err, IfOk, All, length, refl, sym, ap, subst}
+use Rattle.pes_packet.specs.AccessUnits.{AccessUnit}
+use Rattle.demux.specs.Views.{FindingView}
+use Rattle.stream_units.specs.CarriedUnits.{CarriedUnit, carried_units}
+use Rattle.stream_units.specs.MadeDts.{made_units}
+use Rattle.stream_units.specs.Stamps.{first_fault, moved}
+use Rattle.stream_units.specs.UnitMoments.{moment_of, units_at}
+use Rattle.stream_units.specs.declared.unit_moments.UnitMoment.{UnitMoment}
+use Rattle.stream_units.proofs.MadeDts.{made_bytes}
+use Rattle.stream_units.proofs.UnitMoments.{at_own}
+use Rattle.stream_jobs.specs.declared.moved_streams.FirstDts.{FirstDts}
+use Rattle.stream_jobs.specs.declared.refusal.JobRefusal.{JobRefusal}
+use Rattle.stream_jobs.specs.Answers.{unless}
+use Rattle.stream_jobs.specs.FoundUnits.{AreFound, source_of}
+use Rattle.stream_jobs.specs.InputDrafts.{StreamMomentsView, with_units, timed_stream}
+use Rattle.stream_jobs.specs.JobPrograms.{JobProgramView, clock_in}
+use Rattle.stream_jobs.specs.declared.refusal.JobError.{JobError}
+use Rattle.stream_jobs.specs.JobInput.{JobInputView}
+use Rattle.stream_jobs.specs.Jobs.{AreStreams, FitsQueue, IsCarried, IsMoved}
+use Rattle.stream_jobs.specs.JobStreams.{TimedStreamView, WireStreamView}
+use Rattle.stream_jobs.specs.Moments.{base_of, moved_by, moved_stream, wire_of, with_moments}
+
+-- the bytes of the units of a PID
+abbrev bytes_of : List CarriedUnit → List (List ℕ)
+bytes_of us = map (λ u. u.unit.bytes) us
+
+source_bytes : (made : Bool) (pid : ℕ) (findings : List FindingView) → bytes_of (source_of made pid findings) ≡ bytes_of (carried_units pid findings)
+unfolding source_of
+source_bytes false pid findings = refl
+source_bytes true pid findings = made_bytes (carried_units pid findings)
+
+-- with these at the moments of its units it is as if they were moved
+pub at_source : (made : Bool) (pid base : ℕ) (findings : List FindingView) (us : List CarriedUnit) (ms : List UnitMoment) → us ≡ source_of made pid findings →
+    ms ≡ map moment_of (moved base None (map (λ (u : CarriedUnit). u.unit) us)) →
+    units_at ms (carried_units pid findings) ≡ moved base None (map (λ (u : CarriedUnit). u.unit) us)
+at_source made pid base findings us ms are is =
+    ap (λ (l : List UnitMoment). units_at l (carried_units pid findings)) is
+    ∙ at_own base None us (carried_units pid findings) (ap bytes_of are ∙ source_bytes made pid findings)
+
+-- a stream of whose units these are the moments
+abbrev pub head_of : WireStreamView → List UnitMoment → StreamMomentsView
+head_of s ms = record {
+  program = s.program;
+  pid = s.pid;
+  stream_type = s.stream_type;
+  stream_id = s.stream_id;
+  descriptors = s.descriptors;
+  shared_with = s.shared_with;
+  units = ms;
+}
+
+-- its units have those of the constant of its program's clock
+pub moved_leads : (made : Bool) (findings : List FindingView) (due base : ℕ) (programs : List JobProgramView) (all : List FirstDts) (s : WireStreamView) (ms : List UnitMoment) (h : StreamMomentsView) →
+    base ≡ base_of due all (clock_in programs s.program) → IsCarried made findings s → first_fault base None 0 (wire_of s) ≡ None → ms ≡ map moment_of (moved base None (wire_of s)) → h ≡ head_of s ms →
+    moved_by findings due programs all s ≡ Ok (timed_stream findings h)
+unfolding moved_by moved_stream with_moments with_units unless
+moved_leads made findings due base programs all s ms h based carried sound is head =
+    rw (head, sym based, sound) (ap (λ (us : List AccessUnit). let r : Result TimedStreamView JobRefusal = Ok (record {
+      program = s.program;
+      pid = s.pid;
+      stream_type = s.stream_type;
+      stream_id = s.stream_id;
+      descriptors = s.descriptors;
+      shared_with = s.shared_with;
+      units = us;
+    }) in r) (sym (at_source made s.pid base findings s.units ms carried is)))
+
+pub moved_is : (made : Bool) (findings : List FindingView) (base : ℕ) (s : WireStreamView) (ms : List UnitMoment) (h : StreamMomentsView) →
+    base < 2 ^ 33 → IsCarried made findings s → first_fault base None 0 (wire_of s) ≡ None → ms ≡ map moment_of (moved base None (wire_of s)) → h ≡ head_of s ms →
+    IsMoved made findings (timed_stream findings h)
+unfolding with_units
+moved_is made findings base s ms h range carried sound is head =
+    let are : AreFound made findings s.pid (units_at ms (carried_units s.pid findings)) = record {
+      base = base;
+      moved = record {
+        range = range;
+        sound = subst (λ (us : List CarriedUnit). first_fault base None 0 (map (λ (u : CarriedUnit). u.unit) us) ≡ None) carried sound;
+        are = at_source made s.pid base findings s.units ms carried is ∙ ap (λ (us : List CarriedUnit). moved base None (map (λ (u : CarriedUnit). u.unit) us)) carried;
+      };
+    } in
+    rw head are
+
+-- an input of these streams has them
+pub are_streams : (made : Bool) (findings : List FindingView) (streams : List TimedStreamView) (r : Result JobInputView JobError) → All (IsMoved made findings) streams →
+    IfOk r (λ i. i.streams ≡ streams) → IfOk r (λ i. All FitsQueue i.streams) → IfOk r (λ i. length i.streams ≤ 32) → IfOk r (AreStreams made findings)
+are_streams made findings streams (Ok i) all same fits count =
+    record { moved = subst (All (IsMoved made findings)) (sym same) all; fits = fits; stream_count = count }
+are_streams made findings streams (Err error) all same fits count = tt
