@@ -1,7 +1,7 @@
 -- Units whose bytes stay where they were found.
-use Rattle.std.proofs.Common.{◌≡◌, ℕ, ◌++◌, ◌==◌, ◌<◌, ◌&&◌, Bool, List, [], ◌∷◌, length, refl, sym, ap, arith}
+use Rattle.std.proofs.Common.{◌≡◌, ℕ, ◌++◌, ◌==◌, ◌<◌, ◌&&◌, List, [], ◌∷◌, length, refl, sym, ap, arith}
 use Rattle.std.proofs.lemmas.List.{append_assoc, append-nil}
-use Rattle.stream_units.specs.CarriedUnits.{CarriedUnit, unit_with, with_more}
+use Rattle.stream_units.specs.CarriedUnits.{unit_with, with_more}
 use Rattle.stream_units.proofs.QueueAcceptance.{not_none}
 use Rattle.stream_units.proofs.UnitWarnings.{alone_some}
 

@@ -1,5 +1,5 @@
 -- Units that are moved out of findings.
-use Rattle.std.proofs.Common.{◌≡◌, ◌<◌, ◌∙◌, ◌++◌, ◌==◌, ℕ, suc, Bool, true, false, if◌then◌else◌, Option, Some, None, List, [], ◌∷◌, length, map, filter, take, drop, set, get_or, refl, sym, ap}
+use Rattle.std.proofs.Common.{◌≡◌, ◌<◌, ◌∙◌, ◌++◌, ◌==◌, ℕ, suc, Bool, true, false, if◌then◌else◌, Some, List, [], ◌∷◌, length, map, take, drop, set, get_or, refl, sym, ap}
 use Rattle.std.proofs.Math.Seq.{drop-cons}
 use Rattle.std.proofs.lemmas.List.{map-set, set_split, take-append-drop, length-map, get_or-map}
 use Rattle.std.proofs.lemmas.List.Elements.{filter-append}
@@ -7,7 +7,7 @@ use Rattle.pes_packet.specs.declared.time_stamps.Stamps.{Stamps}
 use Rattle.pes_packet.specs.declared.time_stamps.Stamps.TheVariants.{Absent, Pts, PtsDts}
 use Rattle.demux.specs.Laws.{has_pid, found_of}
 use Rattle.demux.specs.Views.{WhatView, IsDuplicate, BreaksCounter, IsScrambled, IsTruncated, IsSection, IsBadSection, IsPes, IsBadPes, IsBadPacket, IsErrored, FindingView}
-use Rattle.stream_units.specs.CarriedUnits.{RoleView, Ignored, Start, Continuation, Interruption, CarriedUnit, unit_with, pes_role, role_of_what, role_of, is_unstamped, first_packet, carried_units}
+use Rattle.stream_units.specs.CarriedUnits.{RoleView, Ignored, Start, Continuation, CarriedUnit, unit_with, pes_role, role_of_what, role_of, is_unstamped, first_packet, carried_units}
 use Rattle.stream_units.specs.TakenUnits.{body_of, OthersStay}
 use Rattle.stream_units.proofs.CarriedUnits.{same_units}
 

@@ -1,8 +1,7 @@
-use Rattle.std.proofs.Common.{◌++◌, ◌∙◌, ◌||◌, None, false, ℕ, option_to_list, refl, sym, ap, ap₂, Bool, Option, map}
+use Rattle.std.proofs.Common.{◌++◌, ◌∙◌, ◌||◌, None, false, ℕ, option_to_list, refl, ap, ap₂, Option, map}
 use Rattle.demux.specs.Shown.{finding_view}
 use Rattle.stream_units.specs.CarriedUnits.{CarriedUnit, RoleView, role_of, units_in}
 use Rattle.stream_units.specs.UnitSteps.{UnitsSoFar, cuts, ended_unit, goes_on_as, has_cut, made_whole}
-use Rattle.stream_units.specs.UnitWarnings.{current_after}
 use Rattle.stream_units.proofs.UnitSteps.{units_start, units_step, units_skip, units_finish, cut_start, cut_step, cut_skip, cut_finish, id_under_way, same_id}
 use Rattle.stream_units.proofs.found.units_by.Goals as goal
 

@@ -1,7 +1,6 @@
-use Rattle.std.proofs.Common.{◌≡◌, ◌<◌, ◌++◌, ◌∙◌, ◌+◌, ℕ, Bool, None, subst, [], ◌∷◌, List, get_or, map, drop, set, refl, sym, ap, arith}
+use Rattle.std.proofs.Common.{◌≡◌, ◌++◌, ◌∙◌, ◌+◌, ℕ, Bool, None, subst, [], ◌∷◌, List, get_or, map, drop, set, refl, sym, ap, arith}
 use Rattle.std.proofs.lemmas.List.{drop-set-lt}
 use Rattle.demux.specs.Shown.{finding_view}
-use Rattle.demux.specs.Views.{FindingView}
 use Rattle.stream_units.specs.CarriedUnits.{carried_units, is_split}
 use Rattle.stream_units.specs.TakenUnits.{OthersStay}
 use Rattle.stream_units.specs.UnitSteps.{UnitsSoFar}

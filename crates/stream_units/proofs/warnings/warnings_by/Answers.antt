@@ -1,9 +1,9 @@
-use Rattle.std.proofs.Common.{◌≡◌, ◌+◌, ◌++◌, ◌∙◌, ◌||◌, sym, ap, ap₂, ℕ, Bool, Option, None, List, map, drop, refl, rules}
+use Rattle.std.proofs.Common.{◌≡◌, ◌+◌, ◌++◌, ◌∙◌, ◌||◌, sym, ap, ap₂, ℕ, Option, List, map, drop, rules}
 use Rattle.std.proofs.lemmas.List.{append-nil}
 use Rattle.demux.specs.Shown.{finding_view}
 use Rattle.stream_units.specs.CarriedUnits.{RoleView}
 use Rattle.stream_units.specs.UnitSteps.{cuts, has_cut}
-use Rattle.stream_units.specs.UnitWarnings.{current_after, warning_list, warnings_from}
+use Rattle.stream_units.specs.UnitWarnings.{current_after, warning_list}
 use Rattle.stream_units.specs.declared.unit_warning.UnitWarningCause.{UnitWarningCause}
 use Rattle.stream_units.specs.declared.unit_warning.UnitWarning.{UnitWarning}
 use Rattle.stream_units.proofs.UnitSteps.{cut_step, cut_skip, cut_finish}
