@@ -1,7 +1,7 @@
 //! What is kept for each PID of a stream, in the order in which the PIDs were first seen.
 //!
-//! - [`PidMap`]: a map by PID that looks for an entry first where the entry of another packet was. A stream has few PIDs and they come again
-//!   and again, so few packets have to search.
+//! - [`PidMap`]: a map by PID that looks for an entry first where that of the last PID with the same rest is. The PIDs
+//!   of a stream are few and come again and again, so few packets search.
 //!
 //! A contract sees it as an `IndexMap`: its entries in their order.
 #![tactic(auto)]

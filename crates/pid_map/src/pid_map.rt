@@ -1,5 +1,6 @@
 //! A map by PID.
-ghost use Rattle.std.specs.Prelude.{◌≡◌, ◌<◌, [], Some, IfOk, IfSome, OnOk, OnErr, IsOk, is_some, nat_eq, position, slice_get};
+ghost use Rattle.std.specs.Prelude.{◌≡◌, ◌<◌, [], Some, is_some, nat_eq, position, slice_get};
+ghost use Rattle.std.specs.Prelude.{IfOk, IfSome, OnOk, OnErr, IsOk};
 ghost use Rattle.std.specs.Borrow.{Lends, sem};
 ghost use Rattle.std.specs.Map.{keys_of, lookup};
 ghost use Rattle.indexmap.specs.IndexMap.{index_map_len, insert_entry, spare, with_value_at, values};
@@ -57,7 +58,7 @@ impl<V, A: Allocator> PidMap<V, A> {
         &self.entries
     }
 
-    /// The index of the entry of a PID, if it is where that of the last PID with the same rest is: few instructions, and no search.
+    /// The index of the entry of a PID, if it is where that of the last PID with the same rest is. Nothing is searched.
     #[inline(always)]
     pub fn noted(&self, pid: u16) -> Option<usize>
         ensures index { IfSome result (λ i. position (nat_eq pid) (keys_of self.now.entries) ≡ Some i) }
@@ -84,20 +85,6 @@ impl<V, A: Allocator> PidMap<V, A> {
         self.noted(pid).is_some() || self.entries.get(&pid).is_some()
     }
 
-    // The index of the entry of a PID, which is searched for, and noted.
-    #[inline(never)]
-    fn search(&mut self, pid: u16) -> Option<usize>
-        ensures same { self.new ≡ self.old }
-        ensures index { result ≡ position (nat_eq pid) (keys_of self.old.entries) }
-        ensures within { IfSome result (λ i. i < index_map_len self.old) }
-        ensures value { IfSome result (λ i. slice_get (values self.old) i ≡ lookup (nat_eq pid) self.old.entries) }
-        ensures found { is_some result ≡ is_some (lookup (nat_eq pid) self.old.entries) }
-    {
-        let index = self.entries.get_index_of(&pid)?;
-        self.places[pid as usize % PLACES] = index;
-        Some(index)
-    }
-
     /// The index of the entry of a PID. It is searched for where it is not noted, and then noted.
     #[inline(always)]
     #[tactic(auto, using(crate::proofs::Entries::found_there))]
@@ -108,17 +95,20 @@ impl<V, A: Allocator> PidMap<V, A> {
         ensures value { IfSome result (λ i. slice_get (values self.old) i ≡ lookup (nat_eq pid) self.old.entries) }
         ensures found { is_some result ≡ is_some (lookup (nat_eq pid) self.old.entries) }
     {
-        match self.noted(pid) {
-            Some(index) => Some(index),
-            None => self.search(pid),
+        if let Some(index) = self.noted(pid) {
+            return Some(index);
         }
+        let index = self.entries.get_index_of(&pid)?;
+        self.places[pid as usize % PLACES] = index;
+        Some(index)
     }
 
     /// The value at an index, to write.
     #[inline(always)]
     pub fn value_mut(&mut self, index: usize) -> &mut V
         requires { index < index_map_len self.old }
-        ensures* writes_back { sem 𝓛 (Lends (the_row V.row A.row A.Allocator) V.row self.entry result (with_value_at self.old index)) }
+        ensures* writes_back { sem 𝓛 (Lends (the_row V.row A.row A.Allocator) V.row self.entry result
+            (with_value_at self.old index)) }
         ensures value { slice_get (values self.old) index ≡ Some result.now }
     {
         &mut self.entries[index]
