@@ -3,7 +3,7 @@
 //! A `Device` (`specs/Devices`) is a reader or a writer before a call and after it: the bytes that it still gives or
 //! has taken, where they are known, and the number of its calls that failed. An input is read to its end piece by
 //! piece, and a `PieceTaker` takes each piece: a vector of all bytes (`read_whole`), or a type of the caller's. `lines`
-//! writes a text, and lines of a name and numbers; `halt` is why a program ends early, with the line and the status.
+//! writes bytes, a text, and lines of a name and numbers; `halt` is why a program ends early, with the line and the status.
 //! `specs/Runs` says what a program does that reads its whole input and takes all its memory before the first byte
 //! that it writes: to its end, or until a device fails or memory runs out. `options` are the numbers and flags of a
 //! command line. `files` opens a file by its name; `host` runs a program over the real reader, writers and files. A `Watched` reader
@@ -23,7 +23,7 @@ mod whole_input;
 pub use files::NamedFiles;
 pub use halt::{Halt, report_halt};
 pub use host::{Program, run_program};
-pub use lines::{report_line, report_text, write_line, write_text};
+pub use lines::{report_line, report_text, write_bytes, write_line, write_text};
 pub use meter::Meter;
 pub use options::{
     flag, is_given, number_given, number_if_given, number_in, number_option, option, text_of,

@@ -48,6 +48,16 @@ fn line(name: &str, numbers: &[u128]) -> ArrayVec<u8, ROOM>
     line
 }
 
+/// Writes bytes whole.
+pub fn write_bytes<W: Sink>(bytes: &[u8], to: &mut W) -> Result<(), Halt>
+    ensures { WritesLine bytes.now (writes W.Sink to.old to.new) result }
+{
+    match write_part(to, bytes) {
+        Ok(()) => Ok(()),
+        Err(_) => Err(Halt::Write),
+    }
+}
+
 /// Writes a line.
 pub fn write_line<W: Sink>(to: &mut W, name: &str, numbers: &[u128]) -> Result<(), Halt>
     requires name { length name.now ≤ 40 }
@@ -56,20 +66,14 @@ pub fn write_line<W: Sink>(to: &mut W, name: &str, numbers: &[u128]) -> Result<(
         (writes W.Sink to.old to.new) result }
 {
     let text = line(name, numbers);
-    match write_part(to, text.as_slice()) {
-        Ok(()) => Ok(()),
-        Err(_) => Err(Halt::Write),
-    }
+    write_bytes(text.as_slice(), to)
 }
 
 /// Writes a text whole.
 pub fn write_text<W: Sink>(text: &str, to: &mut W) -> Result<(), Halt>
     ensures { WritesLine text.now (writes W.Sink to.old to.new) result }
 {
-    match write_part(to, text.as_bytes()) {
-        Ok(()) => Ok(()),
-        Err(_) => Err(Halt::Write),
-    }
+    write_bytes(text.as_bytes(), to)
 }
 
 /// Writes bytes, as far as the writer goes.

@@ -3,16 +3,15 @@ ghost use Rattle.std.specs.Prelude.{◌≡◌, ◌++◌, IfOk, IfErr, OnOk, Err,
 ghost use Rattle.demux.specs.Shown.{finding_view};
 ghost use Rattle.demux.specs.Stream as stream;
 ghost use Rattle.devices.specs.Devices.{reads, writes};
-ghost use Rattle.devices.specs.Lines.{WritesLine};
 ghost use Rattle.devices.specs.Runs.{Performs};
 ghost use Rattle.devices.specs.WholeInput.{ReadsInput};
 ghost use Rattle.tsmux_cli.specs.Demultiplexing.{Demultiplexes, ListsPiece, ListsSome, ListsWhole};
 ghost use Rattle.tsmux_cli.specs.FindingLines.{finding_lines, has_fault};
 
 use crate::finding_lines::{has_fault, write_findings};
-use counted_io::{Sink, Source, write_part};
+use counted_io::{Sink, Source};
 use demux::{Demux, Finding};
-use devices::{Halt, PieceTaker, report_halt, take_input};
+use devices::{Halt, PieceTaker, report_halt, take_input, write_bytes};
 use std::alloc::Global;
 
 /// The size of a piece in bytes.
@@ -99,16 +98,6 @@ fn list_input<R: Source>(alloc: Global, input: &mut R) -> Result<(Vec<u8>, bool)
     Ok((text, faulty | ended))
 }
 
-/// Writes lines whole.
-fn write_lines<W: Sink>(lines: &[u8], output: &mut W) -> Result<(), Halt>
-    ensures { WritesLine lines.now (writes W.Sink output.old output.new) result }
-{
-    match write_part(output, lines) {
-        Ok(()) => Ok(()),
-        Err(_) => Err(Halt::Write),
-    }
-}
-
 /// Writes a line for each finding, and returns the status.
 pub fn demultiplex<R: Source, W: Sink, E: Sink>(
     alloc: Global,
@@ -126,7 +115,7 @@ pub fn demultiplex<R: Source, W: Sink, E: Sink>(
         Ok(listed) => listed,
         Err(halt) => return report_halt(faults, halt),
     };
-    match write_lines(&text, output) {
+    match write_bytes(&text, output) {
         Ok(()) => { if faulty { 1 } else { 0 } }
         Err(halt) => report_halt(faults, halt),
     }

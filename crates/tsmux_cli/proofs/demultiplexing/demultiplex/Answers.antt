@@ -15,17 +15,17 @@ returns-then-faulty g c =
     let text : c.deref.result.now ≡ finding_lines (findings_of bytes) = c.deref.ensures.value ∙ c.in-Ok.ensures.ok.lines_are in
     let fault : has_fault (findings_of bytes) ≡ true = sym c.in-Ok.ensures.ok.faults ∙ c.if-faulty.true in
     text_written Demultiplexes bytes c.deref.result.now (demultiplexed bytes) _ _ _ _ c.in-Ok.ensures.ok.read refl text
-    c.in-Ok-write_lines.ensures.0 c.in-Ok-write_lines.ensures.1 (reports_none _ refl)
+    c.in-Ok-write_bytes.ensures.0 c.in-Ok-write_bytes.ensures.1 (reports_none _ refl)
     (sym (ap (λ (b : Bool). if b then 1 else 0) fault))
 
-pub returns-in-Ok-write_lines : goal.returns-in-Ok-write_lines
+pub returns-in-Ok-write_bytes : goal.returns-in-Ok-write_bytes
 unfolding demultiplexed
-returns-in-Ok-write_lines g c =
+returns-in-Ok-write_bytes g c =
     let bytes = c.in-Ok.ensures.ok.bytes in
     let text : c.deref.result.now ≡ finding_lines (findings_of bytes) = c.deref.ensures.value ∙ c.in-Ok.ensures.ok.lines_are in
     let fault : has_fault (findings_of bytes) ≡ false = sym c.in-Ok.ensures.ok.faults ∙ c.if-faulty.false in
     text_written Demultiplexes bytes c.deref.result.now (demultiplexed bytes) _ _ _ _ c.in-Ok.ensures.ok.read refl text
-    c.in-Ok-write_lines.ensures.0 c.in-Ok-write_lines.ensures.1 (reports_none _ refl)
+    c.in-Ok-write_bytes.ensures.0 c.in-Ok-write_bytes.ensures.1 (reports_none _ refl)
     (sym (ap (λ (b : Bool). if b then 1 else 0) fault))
 
 pub returns : goal.returns
@@ -33,5 +33,5 @@ unfolding demultiplexed
 returns g c =
     let bytes = c.in-Ok.ensures.ok.bytes in
     let text : c.deref.result.now ≡ finding_lines (findings_of bytes) = c.deref.ensures.value ∙ c.in-Ok.ensures.ok.lines_are in
-    text_unwritten (Unit {0}) Demultiplexes bytes c.deref.result.now (demultiplexed bytes) _ _ _ _ c.in-Err-write_lines.halt c.in-Ok.ensures.ok.read refl text
-    c.in-Err-write_lines.ensures c.report_halt-in-Err-write_lines.ensures.reports c.report_halt-in-Err-write_lines.ensures.status
+    text_unwritten (Unit {0}) Demultiplexes bytes c.deref.result.now (demultiplexed bytes) _ _ _ _ c.in-Err-write_bytes.halt c.in-Ok.ensures.ok.read refl text
+    c.in-Err-write_bytes.ensures c.report_halt-in-Err-write_bytes.ensures.reports c.report_halt-in-Err-write_bytes.ensures.status
