@@ -1,11 +1,13 @@
 //! The units of a PID, moved out of what is found of a stream.
 
-ghost use Rattle.std.specs.Prelude.{◌≡◌, ◌++◌, IfOk, OnOk, map};
+ghost use Rattle.std.specs.Prelude.{◌≡◌, ◌++◌, ◌∷◌, [], IfOk, OnOk, map};
 ghost use Rattle.std.specs.Option.{option_to_list};
 ghost use Rattle.demux.specs.Shown.{finding_view};
 ghost use Rattle.stream_units.specs.CarriedUnits as spec;
 ghost use Rattle.stream_units.specs.TakenUnits.{OthersStay};
+ghost use Rattle.stream_units.specs.UnitSteps as steps;
 
+use crate::pes_role::is_on;
 use crate::split_units::is_split;
 use crate::unit_taker::UnitTaker;
 use crate::wire_unit::WireUnit;
@@ -26,6 +28,29 @@ fn push_unit<A: Allocator>(
     Ok(())
 }
 
+// Takes the next finding, and appends the unit that it makes whole, if there is one.
+// Inlined: most findings are of other PIDs, and the call ends with the test.
+#[inline(always)]
+#[tactic(auto, unfolding(crate::specs::UnitSteps::made_whole, crate::specs::UnitSteps::goes_on_as), using(crate::proofs::TakenUnits::stay_same))]
+fn take_next<A: Allocator + Clone>(
+    alloc: &A,
+    taker: &mut UnitTaker<A>,
+    finding: &mut Finding<'_, A>,
+    units: &mut Vec<WireUnit<A>, A>,
+) -> Result<(), AllocError>
+    ensures units { OnOk result (units.new.items ≡ units.old.items ++ option_to_list
+        (steps.made_whole taker.old.split taker.old.unit (spec.role_of taker.old.pid (finding_view finding.old)))) }
+    ensures kept { OnOk result (taker.new ≡ steps.after_finding taker.old (finding_view finding.old)) }
+    ensures others { OnOk result (OthersStay taker.old.pid (finding_view finding.old ∷ [])
+        (finding_view finding.new ∷ [])) }
+{
+    if !is_on(taker.pid(), finding) {
+        return Ok(());
+    }
+    let unit = taker.take_moved(alloc, finding)?;
+    push_unit(units, unit)
+}
+
 /// The units that `found_units` gives. The body of the first PES packet of each is moved out of its finding, which then
 /// is one of a packet that comes twice: no more units of this PID are found, and those of others as before.
 pub fn taken_units<A: Allocator + Clone>(
@@ -40,8 +65,7 @@ pub fn taken_units<A: Allocator + Clone>(
     let mut units = Vec::new(alloc.clone()?);
     let mut at = 0;
     'findings: while at < findings.len() {
-        let unit = taker.take_moved(&alloc, &mut findings[at])?;
-        push_unit(&mut units, unit)?;
+        take_next(&alloc, &mut taker, &mut findings[at], &mut units)?;
         at += 1;
     }
     push_unit(&mut units, taker.finish())?;

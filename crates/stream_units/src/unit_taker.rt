@@ -162,6 +162,13 @@ impl<A: Allocator + Clone> UnitTaker<A> {
         }
     }
 
+    /// The PID.
+    pub(crate) fn pid(&self) -> u16
+        ensures { result ≡ self.now.pid }
+    {
+        self.pid
+    }
+
     /// Takes the next finding of a stream, and gives the unit that it makes whole, if there is one.
     #[tactic(auto, unfolding(crate::specs::UnitSteps::made_whole, crate::specs::UnitSteps::goes_on_as), using(crate::proofs::UnitSteps::not_lengthened))]
     pub fn take(
