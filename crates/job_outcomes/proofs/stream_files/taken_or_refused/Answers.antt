@@ -8,8 +8,8 @@ use Rattle.stream_jobs.specs.Jobs.{AreStreams}
 use Rattle.job_outcomes.proofs.StreamFiles.{is_taken_of}
 use Rattle.job_outcomes.proofs.stream_files.taken_or_refused.Goals as goal
 
-pub returns-in_ok-taken-in-Ok : goal.returns-in_ok-taken-in-Ok
-returns-in_ok-taken-in-Ok c =
+pub returns-in-Ok : goal.returns-in-Ok
+returns-in-Ok c =
     let findings = map finding_view c.args.findings.items in
     let m = c.in-Ok.input in
     let found : c.deref-in-Ok.result.now ≡ other_tables findings = search rules in
