@@ -10,5 +10,6 @@ pub mod EachStream
 pub mod MovedApart
 pub mod FedMaps
 pub mod FedPackets
+pub mod PlainPackets
 pub mod FedStreams
 pub mod FedTicks

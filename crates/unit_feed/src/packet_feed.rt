@@ -1,6 +1,6 @@
 //! A stream packet by packet.
 
-ghost use Rattle.std.specs.Prelude.{◌≡◌, ◌++◌, IfOk, OnOk};
+ghost use Rattle.std.specs.Prelude.{◌≡◌, ◌++◌, [], false, true, IfOk, OnOk};
 ghost use Rattle.demux.specs.Stream.{found_in, taken};
 ghost use Rattle.unit_feed.specs.StreamFeeding as spec;
 ghost use Rattle.unit_feed.specs.Clocks.{pcr_at};
@@ -16,7 +16,7 @@ use std::marker::Model;
 use ts_packet::read_packet;
 
 /// A stream whose packets come one after another: each is demultiplexed, and what is found in it is fed, and then its clock
-/// reference.
+/// reference. A packet that only goes on with an open unit is not read: nothing is found in it, and it has no reference.
 #[derive(Drop)]
 pub(crate) struct PacketFeed {
     demux: Demux,
@@ -66,9 +66,29 @@ impl PacketFeed {
         }
     }
 
-    // Takes a packet.
+    // Takes a packet in which nothing is found and that has no clock reference, if its first bytes show that. Whether they
+    // do; else nothing changes.
+    #[tactic(auto, unfolding(demux::specs::Stream::taken), using(crate::proofs::PlainPackets::plain_after, crate::proofs::PlainPackets::plain_fed))]
+    fn go_on(&mut self, bytes: &[u8; 188]) -> bool
+        ensures demux { result ≡ true → self.new.demux ≡ taken self.old.demux bytes.now }
+        ensures feed { result ≡ true → self.new.feed ≡ ticks.after_packet self.old.feed
+            (found_in self.old.demux bytes.now) (pcr_at self.old.demux.packets bytes.now) }
+        ensures none { result ≡ true → ticks.fed_packet self.old.feed
+            (found_in self.old.demux bytes.now) (pcr_at self.old.demux.packets bytes.now) ≡ [] }
+        ensures stays { result ≡ false → self.new ≡ self.old }
+    {
+        if !self.demux.go_on(bytes) {
+            return false;
+        }
+        self.packets = self.packets.saturating_add(1);
+        true
+    }
+
+    // Takes a packet, which is read. It stays a call of its own: few packets come to it, and what is read would else be
+    // made ready for each.
     #[tactic(auto, unfolding(demux::specs::Stream::taken))]
-    fn take(
+    #[inline(never)]
+    fn read_next(
         &mut self,
         alloc: &Global,
         bytes: &[u8; 188],
@@ -89,6 +109,25 @@ impl PacketFeed {
         self.packets = index.saturating_add(1);
         self.feed.take_all(alloc, found.as_slice(), fed)?;
         self.take_pcr(alloc, found_pcr(index, &read), fed)
+    }
+
+    // Takes a packet.
+    fn take(
+        &mut self,
+        alloc: &Global,
+        bytes: &[u8; 188],
+        fed: &mut Vec<(u8, Result<Unit, FeedFault>)>,
+    ) -> Result<(), AllocError>
+        ensures demux { OnOk result (self.new.demux ≡ taken self.old.demux bytes.now) }
+        ensures feed { OnOk result (self.new.feed ≡ ticks.after_packet self.old.feed
+            (found_in self.old.demux bytes.now) (pcr_at self.old.demux.packets bytes.now)) }
+        ensures fed { OnOk result (fed.new.items ≡ fed.old.items ++ ticks.fed_packet self.old.feed
+            (found_in self.old.demux bytes.now) (pcr_at self.old.demux.packets bytes.now)) }
+    {
+        if self.go_on(bytes) {
+            return Ok(());
+        }
+        self.read_next(alloc, bytes, fed)
     }
 
     /// Takes the whole packets at the front of bytes, and returns how many bytes these have.
