@@ -2,11 +2,12 @@
 use Rattle.std.specs.Prelude.{◌≡◌, ◌<◌, ◌≤◌, ℕ, ◌+◌, ◌*◌, ◌++◌, Bool, true, false, List, [], All, drop, length, take}
 use Rattle.std.specs.List.{concat}
 use Rattle.ts_packet.specs.PidList.{cut_packets}
-use Rattle.demux.specs.Stream.{StreamState, start, pushed, finished}
+use Rattle.demux.specs.Stream.{StreamState, start, pushed, finished, found_in, taken}
 use Rattle.demux.specs.FoundSoFar.{taken_all}
 use Rattle.packet_sync.specs.Slips.{carried}
 use Rattle.unit_feed.specs.Feeding.{Fed, FeedView, fed_to_end}
-use Rattle.unit_feed.specs.Ticks.{after_packets, fed_packets}
+use Rattle.unit_feed.specs.Clocks.{pcr_at}
+use Rattle.unit_feed.specs.Ticks.{after_packet, after_packets, fed_packet, fed_packets}
 
 -- 1. Whole packets
 
@@ -17,6 +18,12 @@ pub record PacketFeedView : Type 0 where
 
 abbrev pub is_packet : List ℕ → Type 0
 is_packet packet = length packet ≡ 188
+
+-- a packet was taken: it is demultiplexed, and what is found in it is fed, and then its clock reference
+abbrev pub TakesPacket : PacketFeedView → PacketFeedView → List ℕ → List Fed → List Fed → Type 0
+TakesPacket old new bytes before after = (new.demux ≡ taken old.demux bytes)
+    × (new.feed ≡ after_packet old.feed (found_in old.demux bytes) (pcr_at old.demux.packets bytes))
+    × (after ≡ before ++ fed_packet old.feed (found_in old.demux bytes) (pcr_at old.demux.packets bytes))
 
 -- the whole packets at the front of these bytes were taken, which have n bytes
 pub record TakesPackets (old new : PacketFeedView) (bytes : List ℕ) (n : ℕ) (before after : List Fed) : Type 0 where

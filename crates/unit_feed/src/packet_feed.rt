@@ -94,11 +94,7 @@ impl PacketFeed {
         bytes: &[u8; 188],
         fed: &mut Vec<(u8, Result<Unit, FeedFault>)>,
     ) -> Result<(), AllocError>
-        ensures demux { OnOk result (self.new.demux ≡ taken self.old.demux bytes.now) }
-        ensures feed { OnOk result (self.new.feed ≡ ticks.after_packet self.old.feed
-            (found_in self.old.demux bytes.now) (pcr_at self.old.demux.packets bytes.now)) }
-        ensures fed { OnOk result (fed.new.items ≡ fed.old.items ++ ticks.fed_packet self.old.feed
-            (found_in self.old.demux bytes.now) (pcr_at self.old.demux.packets bytes.now)) }
+        ensures { OnOk result (spec.TakesPacket self.old self.new bytes.now fed.old.items fed.new.items) }
     {
         let index = self.packets;
         let read = read_packet(bytes);
@@ -118,11 +114,7 @@ impl PacketFeed {
         bytes: &[u8; 188],
         fed: &mut Vec<(u8, Result<Unit, FeedFault>)>,
     ) -> Result<(), AllocError>
-        ensures demux { OnOk result (self.new.demux ≡ taken self.old.demux bytes.now) }
-        ensures feed { OnOk result (self.new.feed ≡ ticks.after_packet self.old.feed
-            (found_in self.old.demux bytes.now) (pcr_at self.old.demux.packets bytes.now)) }
-        ensures fed { OnOk result (fed.new.items ≡ fed.old.items ++ ticks.fed_packet self.old.feed
-            (found_in self.old.demux bytes.now) (pcr_at self.old.demux.packets bytes.now)) }
+        ensures { OnOk result (spec.TakesPacket self.old self.new bytes.now fed.old.items fed.new.items) }
     {
         if self.go_on(bytes) {
             return Ok(());

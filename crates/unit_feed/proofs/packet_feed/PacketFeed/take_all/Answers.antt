@@ -15,4 +15,4 @@ loop-at-preserved c =
     let long : at + 188 ≤ length bytes = omega (arith, enough, ap (length {A = ℕ}) c.split_at.ensures.back, length-drop at bytes, c.loop-at.invariant.within) in
     one_more c.args.self.now c.loop-at.self c.take.new.self bytes rest c.in-Some.packet.now at c.args.fed.now.items c.loop-at.fed.items c.take.new.fed.items
     c.loop-at.invariant c.split_at.ensures.back long front (ap (length {A = ℕ}) front ∙ length-take-le 188 rest enough)
-    c.in_ok-take.ensures.demux c.in_ok-take.ensures.feed c.in_ok-take.ensures.fed
+    c.in_ok-take.ensures.0 c.in_ok-take.ensures.1 c.in_ok-take.ensures.2
