@@ -64,8 +64,8 @@ HOLD = r"""
 #include <sys/mman.h>
 #include <unistd.h>
 enum { PACKET = 188, PAYLOAD = 184, HEADER = PACKET - PAYLOAD, ROOM = 1 << 16, ROOMS = 1 << 20, WRITTEN = 348 * PACKET };
-static unsigned char *held[ROOMS], to[WRITTEN], *great;
-static unsigned char *room_at(size_t index) { return great ? great + index * ROOM : malloc(ROOM); }
+static unsigned char *held[ROOMS], to[WRITTEN], *huge;
+static unsigned char *room_at(size_t index) { return huge ? huge + index * ROOM : malloc(ROOM); }
 static int is_written(size_t size) {
     ssize_t n = 0;
     for (size_t sent = 0; sent < size; sent += n)
@@ -76,8 +76,8 @@ static int is_written(size_t size) {
 int main(int count, char **words) {
     size_t packets = strtoull(words[1], 0, 10), size = 0;
     if (count > 2) {
-        great = mmap(0, (size_t)ROOM * ROOMS, PROT_READ | PROT_WRITE, MAP_PRIVATE | MAP_ANONYMOUS | MAP_NORESERVE, -1, 0);
-        madvise(great, (size_t)ROOM * ROOMS, MADV_HUGEPAGE);
+        huge = mmap(0, (size_t)ROOM * ROOMS, PROT_READ | PROT_WRITE, MAP_PRIVATE | MAP_ANONYMOUS | MAP_NORESERVE, -1, 0);
+        madvise(huge, (size_t)ROOM * ROOMS, MADV_HUGEPAGE);
     }
     for (size_t have = ROOM, rooms = 0; have == ROOM; size += have) {
         unsigned char *room = held[rooms] = room_at(rooms);
@@ -170,13 +170,13 @@ def measured(words, path, packets):
 
 
 # By these words a program's memory may have pages of 2 MiB, where the system gives them to those that ask (`madvise`).
-GREAT_PAGES = ["env", "GLIBC_TUNABLES=glibc.malloc.hugetlb=1"]
+HUGE_PAGES = ["env", "GLIBC_TUNABLES=glibc.malloc.hugetlb=1"]
 
 
 def hold_spent(job, count):
     """What a plain program takes that holds this job before it writes so many packets, and what in pages of 2 MiB."""
     with compiled(hold=HOLD) as (hold,):
-        return least([hold, count], job), least([hold, count, "great"], job)
+        return least([hold, count], job), least([hold, count, "huge"], job)
 
 
 def beside(name, count, ours, limit, copy):

@@ -10,7 +10,7 @@ import sys
 import tempfile
 from pathlib import Path
 
-from common import GREAT_PAGES, beside, hold_spent, measured, peak_bytes
+from common import HUGE_PAGES, beside, hold_spent, measured, peak_bytes
 
 RATE = 6_000_000
 SECONDS = 300
@@ -58,13 +58,13 @@ with tempfile.TemporaryDirectory() as scratch:
     count, size = ours.stat().st_size // 188, job.stat().st_size
     print(f"{theirs.stat().st_size // 188} packets by ffmpeg, {count} by mux, of {size / 1e6:.0f} MB of job")
     tell("mux", [tsmux, "mux"], job, ours)
-    tell("mux in great pages", [*GREAT_PAGES, tsmux, "mux"], job, ours)
-    print("a program that holds the job: {}; in great pages: {}".format(*hold_spent(job, count)))
+    tell("mux in huge pages", [*HUGE_PAGES, tsmux, "mux"], job, ours)
+    print("a program that holds the job: {}; in huge pages: {}".format(*hold_spent(job, count)))
     tell("tsair", [tsair], job, ours)
     tell("demux", [tsmux, "demux"], ours, ours)
     tell("monitor", [tsmux, "monitor", "--rate", RATE], ours, ours)
     tell("tsjob", [tsjob], ours, ours)
-    tell("tsjob in great pages", [*GREAT_PAGES, tsjob], ours, ours)
+    tell("tsjob in huge pages", [*HUGE_PAGES, tsjob], ours, ours)
     tell("tsjob of ffmpeg's stream", [tsjob], theirs, theirs)
     tell("ffmpeg", remux(film), film, theirs)
     for words in PEERS:

@@ -26,10 +26,10 @@ for name, sizes, job in jobs:
                 subprocess.run([binary, "mux"], stdin=source, stdout=sink, check=True)
             count = packets.stat().st_size // 188
             ours, limit, copy = measured([binary, "mux"], made, packets)
-            small, great = hold_spent(made, count)
+            small, huge = hold_spent(made, count)
             slots = ours.whole - least([binary, "mux", "--slots", "0"], made).whole
             size, most = made.stat().st_size / 1e6, peak_bytes([binary, "mux"], made) / 1e6
             print(beside(f"mux, {name}, {size:.0f} MB of job", count, ours, limit, copy) + f"; the slots alone {slots:.3f} s,"
                   f" {count / slots / 1e6:.1f} million a second, {limit.whole / slots:.2f} of the limit; at most {most:.0f} MB of memory,"
                   f" {most / size:.2f} times the job; a program that holds the job {small}, {limit.whole / small.whole:.2f} of the limit,"
-                  f" in great pages {great}, {limit.whole / great.whole:.2f}")
+                  f" in huge pages {huge}, {limit.whole / huge.whole:.2f}")

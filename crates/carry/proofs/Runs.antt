@@ -16,7 +16,7 @@ use Rattle.carry.specs.declared.carrying.Stop.{Stop}
 use Rattle.carry.specs.declared.carrying.Stop.TheVariants.{Refused, Unread, OutOfMemory}
 use Rattle.std.specs.Io.KnownBytes.{Appends}
 use Rattle.std.proofs.KnownBytes.{Appends-nil}
-use Rattle.packet_output.proofs.Written.{holds_none, took_longer}
+use Rattle.packet_output.proofs.Written.{took_longer}
 use Rattle.unit_records.proofs.RecordReading.{record_long}
 
 -- how many packets units become
@@ -218,10 +218,6 @@ midway_stopped pid id hex xs min_next_dts index counter left later start now pac
 pub written_none : (hex : Bool) (pid id : ℕ) (a : Option (List ℕ)) → Appends a a (carried hex pid id [])
 written_none hex pid id a = rw (carried_none hex pid id) (Appends-nil a)
 
--- a new output holds nothing
-pub holds_new : (hex : Bool) (packets : Buffered) (start : Option (List ℕ)) → packets ≡ record { waiting = []; sent = 0; hex = hex } → IsOutput start start packets []
-holds_new hex packets start e = rw e (holds_none start hex)
-
 -- what is answered of a run that ended so
 pub answers_of : (run : Run) (index sent : ℕ) (stop : Option Stop) → EndsRun run index stop → Answers run (answer_of index stop sent)
 answers_of run index sent None h = h.0
@@ -253,13 +249,12 @@ took_units hex pid id index sent units start now t =
     (took_longer start now sent (carried hex pid id (take index units)) front.0 t)
 
 -- the output of a fresh start, by the form that it was made with
-pub took_new : (hex : Bool) (pid id sent : ℕ) (units : List AccessUnit) (packets : Buffered) (start now : Option (List ℕ))
-    → packets ≡ record { waiting = []; sent = 0; hex = hex } → Took start now sent ([] ++ carried packets.hex pid id units) → Took start now sent (carried hex pid id units)
-took_new hex pid id sent units packets start now e t = subst (λ (p : Buffered). Took start now sent (carried p.hex pid id units)) e t
+pub took_new : (hex made : Bool) (pid id sent : ℕ) (units : List AccessUnit) (start now : Option (List ℕ)) → made ≡ hex →
+    Took start now sent ([] ++ carried made pid id units) → Took start now sent (carried hex pid id units)
+took_new hex made pid id sent units start now e t = subst (λ (x : Bool). Took start now sent (carried x pid id units)) e t
 
-pub wrote_new : (hex : Bool) (pid id sent : ℕ) (units : List AccessUnit) (packets : Buffered) (start now : Option (List ℕ))
-    → packets ≡ record { waiting = []; sent = 0; hex = hex }
-    → (sent ≡ byte_count (length ([] ++ carried packets.hex pid id units))) × Appends start now ([] ++ carried packets.hex pid id units)
-    → (sent ≡ byte_count (length (carried hex pid id units))) × Appends start now (carried hex pid id units)
-wrote_new hex pid id sent units packets start now e t =
-    subst (λ (p : Buffered). (sent ≡ byte_count (length (carried p.hex pid id units))) × Appends start now (carried p.hex pid id units)) e t
+pub wrote_new : (hex made : Bool) (pid id sent : ℕ) (units : List AccessUnit) (start now : Option (List ℕ)) → made ≡ hex →
+    (sent ≡ byte_count (length ([] ++ carried made pid id units))) × Appends start now ([] ++ carried made pid id units) →
+    (sent ≡ byte_count (length (carried hex pid id units))) × Appends start now (carried hex pid id units)
+wrote_new hex made pid id sent units start now e t =
+    subst (λ (x : Bool). (sent ≡ byte_count (length (carried x pid id units))) × Appends start now (carried x pid id units)) e t

@@ -83,12 +83,11 @@ fn push_pieces<A: Allocator, W: Sink>(
     ensures clean { OnOk result (W.fault_count to.new ≡ W.fault_count to.old) }
     ensures fault { OnErr result (Failed (W.fault_count to.old) (W.fault_count to.new)) }
 {
-    let mut packet = [0; 188];
     let mut counter = counter;
     let mut sent = 0;
     'pieces: loop {
-        let more = write_piece(&mut packet, pid, counter, header, bytes, sent);
-        match packets.push(to, &packet) {
+        let more = write_piece(packets.room(), pid, counter, header, bytes, sent);
+        match packets.push(to) {
             Ok(()) => {}
             Err(fault) => return Err(fault),
         }

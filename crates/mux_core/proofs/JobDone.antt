@@ -50,10 +50,6 @@ pub output_short : (hex : Bool) (slots : ℕ) → slots ≤ 2 ^ 40 → slot_size
 output_short false slots most = omega (arith, most)
 output_short true slots most = omega (arith, most)
 
--- nothing is collected yet
-pub holds_empty : (packets : Buffered) (start : Option (List ℕ)) → packets.waiting ≡ [] → packets.sent ≡ 0 → IsOutput start start packets []
-holds_empty packets start none unsent = record { written = []; taken = Appends-nil start; is = sym none; sent = unsent }
-
 -- ---- what is answered
 
 pub cause_is : (d : Scheduled) (capacity : ℕ) (units : List (ℕ × AccessUnit)) (o : Option MuxError) → capacity ≡ capacity_for units →

@@ -7,7 +7,7 @@ ghost use Rattle.mux_core.specs.Headline.{Headline};
 ghost use Rattle.mux_core.specs.MeasuredRuns.{MeasuresWell};
 ghost use Rattle.mux_core.specs.Histories.{History, content_at, bytes_of, empty_history};
 ghost use Rattle.mux_core.specs.MuxStates.{Stands};
-ghost use Rattle.packet_output.specs.Buffer.{IsOutput, Took};
+ghost use Rattle.packet_output.specs.Buffer.{waiting_of, IsOutput, Took};
 ghost use Rattle.mux_core.specs.WholeJobs.{plan_schedule, switch_schedule, job_history, slots_cause};
 ghost use Rattle.mux_core.specs.WholeJobs.{switch_slots_cause, job_cause, capacity_for, max_stream_units};
 ghost use Rattle.mux_core.specs.WholeJobs.{run_output, output_of, slot_size, FeedsAll, WritesAll, Refuses, Writes};
@@ -225,7 +225,7 @@ fn write_all<A: Allocator, B: Allocator, W: Sink>(
     to: &mut W,
 ) -> Result<u64, MuxError>
     requires slots { slots ≤ 2 ^ 40 }
-    requires empty { packets.waiting ≡ [] }
+    requires empty { waiting_of packets ≡ [] }
     requires none_sent { packets.sent ≡ 0 }
     ensures answers { (h : History) → Stands h mux.old → h.slots ≡ 0 →
         WritesAll (run_output packets.hex (content_at mux.old.schedule h.units) 0 slots)
@@ -279,12 +279,11 @@ fn write_slots<A: Allocator, B: Allocator, W: Sink>(
     ensures clean { OnOk result (W.fault_count to.new ≡ W.fault_count to.old) }
     ensures fault { OnErr result (Failed (W.fault_count to.old) (W.fault_count to.new)) }
 {
-    let mut packet = [0; 188];
     'slots: for _ in 0..slots {
-        let Ok(()) = mux.write_next(&mut packet) else {
+        let Ok(()) = mux.write_next(packets.room()) else {
             return Ok(());
         };
-        match packets.push(to, &packet) {
+        match packets.push(to) {
             Ok(()) => {}
             Err(fault) => return Err(fault),
         }

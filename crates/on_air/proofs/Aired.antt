@@ -5,14 +5,14 @@ use Rattle.plan_timing.specs.Promised.{Promised}
 use Rattle.pes_packet.specs.AccessUnits.{AccessUnit}
 use Rattle.pes_packet.specs.Units.{units_of}
 use Rattle.slot_contents.specs.Contents.{run_bytes}
-use Rattle.packet_output.specs.Buffer.{Buffered, IsOutput, Took}
+use Rattle.packet_output.specs.Buffer.{waiting_of, Buffered, IsOutput, Took}
+use Rattle.packet_output.proofs.Written.{holds_none}
 use Rattle.mux_core.specs.Scheduled.{Scheduled}
 use Rattle.mux_core.specs.Headline.{Headline}
 use Rattle.mux_core.specs.Histories.{bytes_of, content_at, empty_history}
 use Rattle.mux_core.specs.MuxStates.{MuxState}
 use Rattle.mux_core.specs.WholeJobs.{job_history, run_output, output_of}
 use Rattle.mux_core.proofs.Accepted.{standing}
-use Rattle.mux_core.proofs.JobDone.{holds_empty}
 use Rattle.on_air.specs.declared.options.Terms.{Terms}
 use Rattle.on_air.specs.declared.refusals.AirRefusal.{AirRefusal}
 use Rattle.on_air.specs.Airing.{Run, Air, silence, job_of, air_output, lead_of, limit_of, settled, settled_at, last_of, last_at, on_to, air_cause, accepted_by, aired_by, aired, ended}
@@ -195,18 +195,18 @@ settled_same run a start now old rate lead limit due dts terms h r l t m e =
 
 -- before the first record
 pub begins : (d : Scheduled) (terms : Terms) (hex : Bool) (start : Option (List ℕ)) (s : AirState) → Carries (run_with d terms hex) empty_history s.mux → Promises d →
-    s.packets ≡ record { waiting = []; sent = 0; hex = hex } → s.terms ≡ terms → s.rate ≡ d.description.rate → s.lead ≡ lead_of (run_with d terms hex) →
+    waiting_of s.packets ≡ [] → s.packets.sent ≡ 0 → s.packets.hex ≡ hex → s.terms ≡ terms → s.rate ≡ d.description.rate → s.lead ≡ lead_of (run_with d terms hex) →
     s.greatest ≡ 0 → s.records ≡ 0 → IsOnAir (run_with d terms hex) silence start start s
 unfolding run_output
-begins d terms hex start s carries promises packets t r l g n = record {
+begins d terms hex start s carries promises none unsent same t r l g n = record {
   mux = carries;
   promises = promises;
   terms = t;
-  hex = ap (λ (p : Buffered). p.hex) packets;
+  hex = same;
   rate = r;
   lead = l;
   greatest = g;
   records = n;
-  output = holds_empty s.packets start (ap (λ (p : Buffered). p.waiting) packets) (ap (λ (p : Buffered). p.sent) packets);
+  output = holds_none start s.packets none unsent;
   headline = keeps (run_with d terms hex) [] 0 0 s.mux promises carries;
 }

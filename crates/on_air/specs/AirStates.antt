@@ -3,7 +3,7 @@ use Rattle.std.specs.Prelude.{◌≡◌, ◌+◌, ℕ, Bool, false, nat_le, if�
 use Rattle.description.specs.Ranges.{IsInRange}
 use Rattle.pes_packet.specs.AccessUnits.{AccessUnit}
 use Rattle.pes_packet.specs.Units.{units_of}
-use Rattle.packet_output.specs.Buffer.{Buffered, IsOutput}
+use Rattle.packet_output.specs.Buffer.{waiting_of, Buffered, IsOutput}
 use Rattle.unit_records.specs.Records.{head_size, size_at}
 use Rattle.plan_checker.specs.Served.{Served}
 use Rattle.plan_checker.specs.Followed.{Followed}
@@ -84,7 +84,7 @@ holds_record xs = nat_le (head_size + size_at xs) (length xs)
 
 -- where the record that comes next is not whole in the bytes that the input holds, so that a read of it may wait, no packet waits
 abbrev pub IsOut : List ℕ → AirState → Type 0
-IsOut held s = holds_record held ≡ false → s.packets.waiting ≡ []
+IsOut held s = holds_record held ≡ false → waiting_of s.packets ≡ []
 
 -- ---- what is aired of a plan, and of two
 

@@ -2,6 +2,7 @@
 
 ghost use Rattle.std.specs.Prelude.{◌≡◌, ◌<◌, ◌≤◌, ◌-◌, ◌+◌, ◌^◌, ℕ, List, [], Option, IfOk, IfErr, OnOk, OnErr};
 ghost use Rattle.counted_io.specs.Device.{Failed};
+ghost use Rattle.packet_output.specs.Buffer.{waiting_of};
 ghost use Rattle.on_air.specs.Airing.{Run, Air, ended};
 ghost use Rattle.on_air.specs.AirStates.{IsOnAir, IsOut};
 ghost use Rattle.on_air.specs.Hearing.{Fails, Hears, TakesUnit, CountsRecord, CountsRecords, LetsOut, NamesDevice, HasHeard, HearsOn};
@@ -148,7 +149,7 @@ impl<A: Allocator + Copy> OnAir<A> {
             OnOk result (IsOnAir run (ended run a) start (W.contents to.new) self.new) }
         ensures err { (run : Run) (a : Air) (start : Option (List ℕ)) → IsOnAir run a start (W.contents to.old) self.old →
             IfErr result (λ fault. Fails run (ended run a) start (W.contents to.new) fault.sent) }
-        ensures out { OnOk result (self.new.packets.waiting ≡ []) }
+        ensures out { OnOk result (waiting_of self.new.packets ≡ []) }
         ensures clean { OnOk result (W.fault_count to.new ≡ W.fault_count to.old) }
         ensures fault { OnErr result (Failed (W.fault_count to.old) (W.fault_count to.new)) }
     {
@@ -172,7 +173,7 @@ impl<A: Allocator + Copy> OnAir<A> {
             OnOk result (IsOnAir run a start (W.contents to.new) self.new) }
         ensures err { (run : Run) (a : Air) (start : Option (List ℕ)) → IsOnAir run a start (W.contents to.old) self.old →
             IfErr result (λ fault. Fails run a start (W.contents to.new) fault.sent) }
-        ensures empty { self.new.packets.waiting ≡ [] }
+        ensures empty { waiting_of self.new.packets ≡ [] }
         ensures records { self.new.records ≡ self.old.records }
         ensures clean { OnOk result (W.fault_count to.new ≡ W.fault_count to.old) }
         ensures fault { OnErr result (Failed (W.fault_count to.old) (W.fault_count to.new)) }

@@ -1,6 +1,7 @@
 //! How a run begins: the one place where it takes memory of its own.
 
 ghost use Rattle.std.specs.Prelude.{◌≡◌, ◌+◌, ℕ, List, [], Option, None, IfOk};
+ghost use Rattle.packet_output.specs.Buffer.{waiting_of};
 ghost use Rattle.mux_core.specs.NewMux.{Judges};
 ghost use Rattle.mux_core.specs.Scheduled.{Scheduled};
 ghost use Rattle.mux_core.specs.Histories.{empty_history};
@@ -29,7 +30,7 @@ impl<A: Allocator + Copy> OnAir<A> {
         ensures refused { Judges None (begin_refusal result) }
         ensures begun { (start : Option (List ℕ)) →
             IfOk result (IsOnAir (plan_run plan terms hex) silence start start) }
-        ensures out { IfOk result (λ run. run.packets.waiting ≡ []) }
+        ensures out { IfOk result (λ run. waiting_of run.packets ≡ []) }
     {
         let of = numbers_of(plan.description(), terms);
         plan.description().keeps_ranges();
@@ -55,7 +56,7 @@ impl<A: Allocator + Copy> OnAir<A> {
         ensures refused { Judges (switch_refusal switch periods) (begin_refusal result) }
         ensures begun { (start : Option (List ℕ)) →
             IfOk result (IsOnAir (switch_run switch periods terms hex) silence start start) }
-        ensures out { IfOk result (λ run. run.packets.waiting ≡ []) }
+        ensures out { IfOk result (λ run. waiting_of run.packets ≡ []) }
     {
         let of = numbers_of(switch.first().description(), terms);
         switch.first().description().keeps_ranges();
@@ -106,7 +107,7 @@ fn begun<A: Allocator + Copy>(
     ensures begun { (d : Scheduled) (start : Option (List ℕ)) → Carries (run_with d terms hex) empty_history mux → Promises d →
         of.rate ≡ d.description.rate → of.lead ≡ greatest_lead d.description.streams + terms.wait →
         IfOk result (IsOnAir (run_with d terms hex) silence start start) }
-    ensures out { IfOk result (λ run. run.packets.waiting ≡ []) }
+    ensures out { IfOk result (λ run. waiting_of run.packets ≡ []) }
 {
     match PacketOutput::new(alloc, hex) {
         Ok(packets) => Ok(OnAir {

@@ -59,12 +59,11 @@ pub(crate) fn write_on<A: Allocator, B: Allocator, W: Sink>(
     ensures fault { OnErr result (Failed (W.fault_count to.old) (W.fault_count to.new)) }
 {
     let count = target.saturating_sub(mux.now());
-    let mut packet = [0; 188];
     'slots: for _ in 0..count {
-        let Ok(()) = mux.write_next(&mut packet) else {
+        let Ok(()) = mux.write_next(packets.room()) else {
             return Ok(());
         };
-        match packets.push(to, &packet) {
+        match packets.push(to) {
             Ok(()) => {}
             Err(fault) => return Err(fault),
         }

@@ -1,91 +1,161 @@
 -- What is written and what waits, after one more packet, a part written, or a part that failed.
-use Rattle.std.proofs.Common.{◌≡◌, ℕ, ◌+◌, Bool, List, [], ◌++◌, length, take, Option, refl, sym, ap, ◌∙◌, subst, arith, append_assoc, append-nil}
-use Rattle.std.proofs.lemmas.List.{length-append, take-append-le}
+use Rattle.std.proofs.Common.{◌≡◌, ℕ, ◌+◌, ◌<◌, ◌≤◌, Bool, true, false, List, [], ◌∷◌, ◌++◌, length, take, Option, Some, Result, Ok, Err, refl, sym, ap, ◌∙◌, subst, arith, append_assoc, append-nil}
+use Rattle.std.proofs.lemmas.List.{length-append, length-set, take-append-le, take_all, take_more, take-set, get_or-set_same}
+use Rattle.std.proofs.lemmas.Grind.{flat_map-append}
+use Rattle.std.proofs.lemmas.Option.{get_or_from_slice_get, slice_get-get_or, slice_get_within}
 use Rattle.std.proofs.Math.Seq.{take-append-add}
+use Rattle.std.specs.List.{flat_map, slice_get}
+use Rattle.std.specs.Prelude.{IfOk, IfErr, OnOk}
 use Rattle.std.specs.Io.KnownBytes.{Appends}
 use Rattle.std.proofs.KnownBytes.{Appends-trans, Appends-nil}
-use Rattle.packet_output.specs.Buffer.{byte_count, Buffered, IsOutput, Took, TookPart}
+use Rattle.packet_output.specs.Buffer.{byte_count, waiting_of, with_next, Buffered, HasNext, IsOutput, Took, TookPart}
+use Rattle.packet_output.specs.Formats.{formatted}
+use Rattle.packet_output.specs.declared.output.OutputFault.{OutputFault}
+
+-- 1. What waits
+
+-- the bytes of packets
+abbrev pub joined : List (List ℕ) → List ℕ
+joined packets = flat_map (λ packet. packet) packets
+
+-- a packet more waits
+joined_more : (rooms : List (List ℕ)) (n : ℕ) (packet : List ℕ) → slice_get rooms n ≡ Some packet → joined (take (n + 1) rooms) ≡ joined (take n rooms) ++ packet
+joined_more rooms n packet at =
+    let inside = slice_get_within rooms n packet at in
+    ap joined (take_more rooms n [] inside ∙ ap (λ (x : List ℕ). take n rooms ++ x ∷ []) (get_or_from_slice_get rooms n packet [] at))
+    ∙ flat_map-append (λ packet. packet) (take n rooms) (packet ∷ []) ∙ ap (λ (x : List ℕ). joined (take n rooms) ++ x) (append-nil packet)
+
+-- lines alone wait
+pub lines_alone : (lines : List ℕ) (rooms : List (List ℕ)) (n : ℕ) → n ≡ 0 → lines ≡ lines ++ joined (take n rooms)
+lines_alone lines rooms n none = sym (ap (λ (k : ℕ). lines ++ joined (take k rooms)) none ∙ append-nil lines)
+
+-- all rooms wait, and no lines
+pub rooms_alone : (lines : List ℕ) (rooms : List (List ℕ)) (n : ℕ) → lines ≡ [] → length rooms ≤ n → joined rooms ≡ lines ++ joined (take n rooms)
+rooms_alone lines rooms n none all = ap joined (sym (take_all n rooms all)) ∙ ap (λ (x : List ℕ). x ++ joined (take n rooms)) (sym none)
 
 -- nothing is collected yet
-pub holds_none : (start : Option (List ℕ)) (hex : Bool) → IsOutput start start (record { waiting = []; sent = 0; hex = hex }) []
-holds_none start hex = record { written = []; taken = Appends-nil start; is = refl; sent = refl }
+pub holds_none : (start : Option (List ℕ)) (buffer : Buffered) → waiting_of buffer ≡ [] → buffer.sent ≡ 0 → IsOutput start start buffer []
+holds_none start buffer none unsent = record { written = []; taken = Appends-nil start; is = sym none; sent = unsent }
+
+-- the packet in the room of the next one does not wait yet
+pub next_put : (start now : Option (List ℕ)) (old : Buffered) (all packet : List ℕ) → IsOutput start now old all → IsOutput start now (with_next old packet) all
+next_put start now old all packet h = record {
+  written = h.written;
+  taken = h.taken;
+  is = h.is ∙ ap (λ (x : List (List ℕ)). h.written ++ (old.lines ++ joined x)) (sym (take-set old.rooms old.count packet));
+  sent = h.sent;
+}
+
+pub next_is : (old : Buffered) (packet : List ℕ) → old.count < length old.rooms → HasNext (with_next old packet) packet
+next_is old packet room =
+    let rooms = (with_next old packet).rooms in
+    let size : length rooms ≡ length old.rooms = length-set old.rooms old.count packet in
+    slice_get-get_or rooms old.count packet (omega (arith, size, room)) ∙ ap Some (get_or-set_same old.rooms old.count packet packet room)
+
+-- 2. A packet more
+
+-- more waits
+holds_more : (start now : Option (List ℕ)) (old new : Buffered) (all part : List ℕ) → IsOutput start now old all →
+    waiting_of new ≡ waiting_of old ++ part → new.sent ≡ old.sent → IsOutput start now new (all ++ part)
+holds_more start now old new all part h more same = record {
+  written = h.written;
+  taken = h.taken;
+  is = ap (λ (t : List ℕ). t ++ part) h.is ∙ append_assoc h.written (waiting_of old) part ∙ ap (λ (t : List ℕ). h.written ++ t) (sym more);
+  sent = same ∙ h.sent;
+}
+
+-- as its bytes: the room of the next packet is the one after it
+packet_waits : (start now : Option (List ℕ)) (old : Buffered) (all packet : List ℕ) → old.hex ≡ false → HasNext old packet → IsOutput start now old all →
+    IsOutput start now (record old { count = old.count + 1 }) (all ++ formatted old.hex packet)
+unfolding formatted
+packet_waits start now old all packet bytes next h =
+    subst (λ (x : Bool). IsOutput start now (record old { count = old.count + 1 }) (all ++ formatted x packet)) (sym bytes)
+    (holds_more start now old (record old { count = old.count + 1 }) all packet h
+    (ap (λ (x : List ℕ). old.lines ++ x) (joined_more old.rooms old.count packet next) ∙ sym (append_assoc old.lines (joined (take old.count old.rooms)) packet)) refl)
+
+-- as a line
+line_waits : (start now : Option (List ℕ)) (old : Buffered) (all packet lines first : List ℕ) → old.hex ≡ true → old.count ≡ 0 → HasNext old packet →
+    slice_get old.rooms 0 ≡ Some first → lines ≡ old.lines ++ formatted true first → IsOutput start now old all →
+    IsOutput start now (record old { lines = lines }) (all ++ formatted old.hex packet)
+line_waits start now old all packet lines first hex none next there line h =
+    let at : slice_get old.rooms 0 ≡ Some packet = subst (λ (n : ℕ). slice_get old.rooms n ≡ Some packet) none next in
+    let same : first ≡ packet = sym (get_or_from_slice_get old.rooms 0 first [] there) ∙ get_or_from_slice_get old.rooms 0 packet [] at in
+    subst (λ (x : Bool). IsOutput start now (record old { lines = lines }) (all ++ formatted x packet)) (sym hex)
+    (holds_more start now old (record old { lines = lines }) all (formatted true packet) h
+    (sym (lines_alone lines old.rooms old.count none) ∙ line ∙ ap (λ (x : List ℕ). old.lines ++ formatted true x) same
+    ∙ ap (λ (x : List ℕ). x ++ formatted true packet) (lines_alone old.lines old.rooms old.count none)) refl)
+
+-- the same of what a struct has inside
+pub packet_waits_inside : (start now : Option (List ℕ)) (inside old : Buffered) (all packet : List ℕ) → inside ≡ old → inside.hex ≡ false → HasNext old packet →
+    IsOutput start now old all → IsOutput start now (record inside { count = inside.count + 1 }) (all ++ formatted old.hex packet)
+packet_waits_inside start now inside old all packet same bytes =
+    subst (λ (b : Buffered). HasNext b packet → IsOutput start now b all → IsOutput start now (record inside { count = inside.count + 1 }) (all ++ formatted b.hex packet)) same
+    (packet_waits start now inside all packet bytes)
+
+pub line_waits_inside : (start now : Option (List ℕ)) (inside old : Buffered) (all packet lines first : List ℕ) → inside ≡ old → inside.hex ≡ true → inside.count ≡ 0 →
+    HasNext old packet → slice_get inside.rooms 0 ≡ Some first → lines ≡ inside.lines ++ formatted true first → IsOutput start now old all →
+    IsOutput start now (record inside { lines = lines }) (all ++ formatted old.hex packet)
+line_waits_inside start now inside old all packet lines first same hex none next at line =
+    subst (λ (b : Buffered). HasNext b packet → IsOutput start now b all → IsOutput start now (record inside { lines = lines }) (all ++ formatted b.hex packet)) same
+    (λ there h. line_waits start now inside all packet lines first hex none there at line h) next
+
+-- 3. What waits is written
+
+-- what was answered of a part that was written after `before` bytes
+pub record Wrote (now later : Option (List ℕ)) (part : List ℕ) (before : ℕ) (result : Result ℕ OutputFault) : Type 0 where
+  pub ok : IfOk result (λ n. n ≡ byte_count (before + length part))
+  pub bytes : OnOk result (Appends now later part)
+  pub err : IfErr result (λ fault. TookPart now later part before fault.sent)
+
+-- all that waited was written, or not
+pub record PartOut (start now later : Option (List ℕ)) (all : List ℕ) (result : Result ℕ OutputFault) : Type 0 where
+  pub buffer : Buffered
+  pub holds : IsOutput start now buffer all
+  pub wrote : Wrote now later (waiting_of buffer) buffer.sent result
+
+-- of a part that is what waited
+pub part_out : (start now later : Option (List ℕ)) (buffer : Buffered) (all part : List ℕ) (before : ℕ) (result : Result ℕ OutputFault) → IsOutput start now buffer all →
+    part ≡ waiting_of buffer → before ≡ buffer.sent → IfOk result (λ n. n ≡ byte_count (before + length part)) → OnOk result (Appends now later part) →
+    IfErr result (λ fault. TookPart now later part before fault.sent) → PartOut start now later all result
+part_out start now later buffer all part before result h is same ok bytes err =
+    let wrote : Wrote now later part before result = record { ok = ok; bytes = bytes; err = err } in record {
+      buffer = buffer;
+      holds = h;
+      wrote = subst (λ (n : ℕ). Wrote now later (waiting_of buffer) n result) same (subst (λ (x : List ℕ). Wrote now later x before result) is wrote);
+    }
 
 counts_on : (a b : ℕ) → byte_count (byte_count a + b) ≡ byte_count (a + b)
 counts_on a b = omega arith
 
--- more waits
-pub holds_more : (start now : Option (List ℕ)) (old : Buffered) (all part waiting : List ℕ)
-    → IsOutput start now old all → waiting ≡ old.waiting ++ part
-    → IsOutput start now (record { waiting = waiting; sent = old.sent; hex = old.hex }) (all ++ part)
-holds_more start now old all part waiting h e = record {
-  written = h.written;
-  taken = h.taken;
-  is = ap (λ (t : List ℕ). t ++ part) h.is ∙ append_assoc h.written old.waiting part ∙ ap (λ (t : List ℕ). h.written ++ t) (sym e);
-  sent = h.sent;
-}
+pub out_whole : (start now later : Option (List ℕ)) (new : Buffered) (all : List ℕ) (result : Result ℕ OutputFault) → PartOut start now later all result → result ≡ Ok new.sent →
+    waiting_of new ≡ [] → IsOutput start later new all
+out_whole start now later new all result out ok none =
+    let h = out.holds in
+    let waiting = waiting_of out.buffer in
+    let wrote : Wrote now later waiting out.buffer.sent (Ok new.sent) = subst (λ (r : Result ℕ OutputFault). Wrote now later waiting out.buffer.sent r) ok out.wrote in record {
+      written = h.written ++ waiting;
+      taken = Appends-trans start now later h.written waiting h.taken wrote.bytes;
+      is = h.is ∙ sym (append-nil (h.written ++ waiting)) ∙ ap (λ (x : List ℕ). (h.written ++ waiting) ++ x) (sym none);
+      sent = wrote.ok ∙ ap (λ (n : ℕ). byte_count (n + length waiting)) h.sent ∙ counts_on (length h.written) (length waiting)
+          ∙ ap byte_count (sym (length-append h.written waiting));
+    }
 
--- what waited was written
-pub holds_written : (start now later : Option (List ℕ)) (old : Buffered) (all : List ℕ) (sent : ℕ)
-    → IsOutput start now old all → Appends now later old.waiting → sent ≡ byte_count (old.sent + length old.waiting)
-    → IsOutput start later (record { waiting = []; sent = sent; hex = old.hex }) all
-holds_written start now later old all sent h more e = record {
-  written = h.written ++ old.waiting;
-  taken = Appends-trans start now later h.written old.waiting h.taken more;
-  is = h.is ∙ sym (append-nil (h.written ++ old.waiting));
-  sent = e ∙ ap (λ (n : ℕ). byte_count (n + length old.waiting)) h.sent ∙ counts_on (length h.written) (length old.waiting)
-      ∙ ap byte_count (sym (length-append h.written old.waiting));
-}
-
--- a part of what waited was written
-pub took_part : (start now later : Option (List ℕ)) (old : Buffered) (all : List ℕ) (sent : ℕ)
-    → IsOutput start now old all → TookPart now later old.waiting old.sent sent
-    → Took start later sent all
-took_part start now later old all sent h t = record {
-  count = length h.written + t.count;
-  within = omega (arith, t.within, length-append h.written old.waiting, ap (length {A = ℕ}) h.is);
-  taken =
-      let front : take (length h.written + t.count) all ≡ h.written ++ take t.count old.waiting =
-      ap (take {A = ℕ} (length h.written + t.count)) h.is ∙ take-append-add h.written old.waiting t.count in
-      subst (λ (x : List ℕ). Appends start later x) (sym front)
-      (Appends-trans start now later h.written (take t.count old.waiting) h.taken t.taken);
-  sent_is = t.sent_is ∙ ap (λ (n : ℕ). byte_count (n + t.count)) h.sent ∙ counts_on (length h.written) t.count;
-}
-
--- all that waited was written
-pub flush_written : (start now later : Option (List ℕ)) (old : Buffered) (all waiting cleared : List ℕ) (before sent : ℕ) (hex : Bool)
-    → IsOutput start now old all → waiting ≡ old.waiting → before ≡ old.sent → hex ≡ old.hex
-    → Appends now later waiting → sent ≡ byte_count (before + length waiting) → cleared ≡ []
-    → IsOutput start later (record { waiting = cleared; sent = sent; hex = hex }) all
-flush_written start now later old all waiting cleared before sent hex h is same same_hex took counted none =
-    let appended : Appends now later old.waiting = subst (λ (x : List ℕ). Appends now later x) is took in
-    let count : sent ≡ byte_count (old.sent + length old.waiting) =
-    counted ∙ ap (λ (n : ℕ). byte_count (n + length waiting)) same ∙ ap (λ (x : List ℕ). byte_count (old.sent + length x)) is in
-    rw (none, same_hex) (holds_written start now later old all sent h appended count)
-
--- more waited, and all that waited was written
-pub push_written : (start now later : Option (List ℕ)) (old : Buffered) (all part waiting cleared : List ℕ) (before sent : ℕ) (hex : Bool)
-    → IsOutput start now old all → waiting ≡ old.waiting ++ part → before ≡ old.sent → hex ≡ old.hex
-    → Appends now later waiting → sent ≡ byte_count (before + length waiting) → cleared ≡ []
-    → IsOutput start later (record { waiting = cleared; sent = sent; hex = hex }) (all ++ part)
-push_written start now later old all part waiting cleared before sent hex h more same same_hex took counted none =
-    flush_written start now later (record { waiting = waiting; sent = old.sent; hex = old.hex }) (all ++ part) waiting cleared before sent hex
-    (holds_more start now old all part waiting h more) refl same same_hex took counted none
-
--- a part of what waited was written
-pub took_all : (start now later : Option (List ℕ)) (old : Buffered) (all part : List ℕ) (before sent : ℕ)
-    → IsOutput start now old all → part ≡ old.waiting → before ≡ old.sent → TookPart now later part before sent
-    → Took start later sent all
-took_all start now later old all part before sent h is same t =
-    took_part start now later old all sent h
-    (subst (λ (x : List ℕ). TookPart now later x old.sent sent) is (subst (λ (n : ℕ). TookPart now later part n sent) same t))
-
--- more waited, and a part of all was written
-pub push_failed : (start now later : Option (List ℕ)) (old : Buffered) (all part waiting : List ℕ) (before sent : ℕ)
-    → IsOutput start now old all → waiting ≡ old.waiting ++ part → before ≡ old.sent → TookPart now later waiting before sent
-    → Took start later sent (all ++ part)
-push_failed start now later old all part waiting before sent h more same t =
-    took_all start now later (record { waiting = waiting; sent = old.sent; hex = old.hex }) (all ++ part) waiting before sent
-    (holds_more start now old all part waiting h more) refl same t
+pub out_in_part : (start now later : Option (List ℕ)) (all : List ℕ) (result : Result ℕ OutputFault) (fault : OutputFault) → PartOut start now later all result → result ≡ Err fault →
+    Took start later fault.sent all
+out_in_part start now later all result fault out err =
+    let h = out.holds in
+    let waiting = waiting_of out.buffer in
+    let wrote : Wrote now later waiting out.buffer.sent (Err fault) = subst (λ (r : Result ℕ OutputFault). Wrote now later waiting out.buffer.sent r) err out.wrote in
+    let t : TookPart now later waiting out.buffer.sent fault.sent = wrote.err in record {
+      count = length h.written + t.count;
+      within = omega (arith, t.within, length-append h.written waiting, ap (length {A = ℕ}) h.is);
+      taken =
+          let front : take (length h.written + t.count) all ≡ h.written ++ take t.count waiting =
+          ap (take {A = ℕ} (length h.written + t.count)) h.is ∙ take-append-add h.written waiting t.count in
+          subst (λ (x : List ℕ). Appends start later x) (sym front)
+          (Appends-trans start now later h.written (take t.count waiting) h.taken t.taken);
+      sent_is = t.sent_is ∙ ap (λ (n : ℕ). byte_count (n + t.count)) h.sent ∙ counts_on (length h.written) t.count;
+    }
 
 -- the writer took the first bytes of what goes on
 pub took_longer : (start now : Option (List ℕ)) (sent : ℕ) (all more : List ℕ) → Took start now sent all → Took start now sent (all ++ more)
@@ -95,3 +165,9 @@ took_longer start now sent all more t = record {
   taken = rw (take-append-le t.count all more t.within) t.taken;
   sent_is = t.sent_is;
 }
+
+-- where the output ends with a part, what the writer took of it if it failed
+pub out_ends : (start now later : Option (List ℕ)) (all : List ℕ) (result : Result ℕ OutputFault) → PartOut start now later all result →
+    IfErr result (λ fault. Took start later fault.sent all)
+out_ends start now later all (Ok n) out = tt
+out_ends start now later all (Err fault) out = out_in_part start now later all (Err fault) fault out refl

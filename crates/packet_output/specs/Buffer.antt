@@ -1,12 +1,28 @@
 -- Bytes on their way to a writer: some are written, the rest waits.
-use Rattle.std.specs.Prelude.{◌≡◌, ◌≤◌, ℕ, ◌+◌, ◌-◌, ◌^◌, min, Bool, List, ◌++◌, length, take, Option}
+use Rattle.std.specs.Prelude.{◌≡◌, ◌≤◌, ℕ, ◌+◌, ◌-◌, ◌^◌, min, Bool, List, ◌++◌, length, take, slice_get, slice_set, Option, Some}
+use Rattle.std.specs.List.{flat_map}
 use Rattle.std.specs.Io.KnownBytes.{Appends}
 
--- what waits, the number of bytes written, and whether packets are written as lines of digits
+-- lines that wait, rooms of packets and how many of these wait, the number of bytes written, and whether packets are written as lines of
+-- digits
 pub record Buffered : Type 0 where
-  pub waiting : List ℕ
+  pub lines : List ℕ
+  pub rooms : List (List ℕ)
+  pub count : ℕ
   pub sent : ℕ
   pub hex : Bool
+
+-- what waits
+abbrev pub waiting_of : Buffered → List ℕ
+waiting_of buffer = buffer.lines ++ flat_map (λ packet. packet) (take buffer.count buffer.rooms)
+
+-- in the room of the next packet stands this one
+abbrev pub HasNext : Buffered → List ℕ → Type 0
+HasNext buffer packet = slice_get buffer.rooms buffer.count ≡ Some packet
+
+-- the same with this packet there
+abbrev pub with_next : Buffered → List ℕ → Buffered
+with_next buffer packet = record buffer { rooms = slice_set buffer.rooms buffer.count packet }
 
 -- a number of bytes as it is answered: it stops at 2^64 - 1
 abbrev pub byte_count : ℕ → ℕ
@@ -16,7 +32,7 @@ byte_count n = min n (2 ^ 64 - 1)
 pub record IsOutput (start now : Option (List ℕ)) (buffer : Buffered) (all : List ℕ) : Type 0 where
   pub written : List ℕ
   pub taken : Appends start now written
-  pub is : all ≡ written ++ buffer.waiting
+  pub is : all ≡ written ++ waiting_of buffer
   pub sent : buffer.sent ≡ byte_count (length written)
 
 -- the writer took exactly the first bytes of `all`, and `sent` counts them

@@ -1,10 +1,11 @@
 //! Packets buffered, and written in large parts.
 
 ghost use Rattle.std.specs.Prelude.{◌≡◌, ◌≤◌, ◌<◌, ℕ, ◌+◌, ◌++◌, [], List, Option, IfOk, IfErr, OnOk, OnErr};
-ghost use Rattle.std.specs.Prelude.{length};
-ghost use Rattle.packet_output.specs.Buffer.{byte_count, Buffered, IsOutput, Took, TookPart};
+ghost use Rattle.std.specs.Prelude.{length, true};
+ghost use Rattle.packet_output.specs.Buffer.{byte_count, waiting_of, with_next, HasNext, IsOutput, Took, TookPart};
 ghost use Rattle.packet_output.specs.Formats.{formatted};
 ghost use Rattle.hex.specs.Hex.{encode_lower};
+ghost use Rattle.std.specs.Borrow.{Array, Lends, sem, u8 as byte};
 ghost use Rattle.std.specs.Vec.{vec_len, vec_capacity};
 ghost use Rattle.std.specs.Io.KnownBytes.{Appends};
 ghost use Rattle.counted_io.specs.Device.{Failed};
@@ -13,7 +14,9 @@ use counted_io::{Sink, write_part};
 use std::alloc::{AllocError, Allocator};
 use std::marker::Model;
 
-// What waits is written once it is this many bytes.
+// What waits is written once it is so many packets, 65,612 bytes, or lines of so many bytes.
+const PACKETS: usize = 349;
+
 const PART: usize = 65_536;
 
 // The length of a line: two digits a byte, and LF.
@@ -26,55 +29,98 @@ pub struct OutputFault {
 }
 
 /// Packets on their way to a writer, as bytes or as lines of hexadecimal digits. They leave in parts of 64 KiB and
-/// more; the room for a part is taken once.
+/// more; the room for a part is taken once. A packet is written where it waits: into the room of the next one.
 #[derive(Drop)]
 pub struct PacketOutput<A: Allocator> {
-    waiting: Vec<u8, A>,
+    // Lines that wait.
+    lines: Vec<u8, A>,
+    // The rooms of a part's packets: of the first `count` the packets wait, the next one is the room of the next packet.
+    rooms: Vec<[u8; 188], A>,
+    count: usize,
     sent: u64,
     hex: bool,
 }
 
 impl<A: Allocator> Model for PacketOutput<A> {
-    ghost use Rattle.std.specs.Prelude.{◌≤◌, ◌<◌, ◌+◌};
+    ghost use Rattle.std.specs.Prelude.{◌≡◌, ◌≤◌, ◌<◌, ◌+◌, true, false, []};
     ghost use Rattle.std.specs.Vec.{vec_len, vec_capacity};
     ghost use Rattle.packet_output.specs.Buffer.{Buffered};
 
     ghost Value = { Buffered };
 
-    ghost view = { λ output. record { waiting = output.waiting.items; sent = output.sent; hex = output.hex } };
+    ghost view = { λ output. record {
+      lines = output.lines.items;
+      rooms = output.rooms.items;
+      count = output.count;
+      sent = output.sent;
+      hex = output.hex;
+    } };
 
-    ghost invariant = { λ output. (vec_len output.waiting < 65_536) × (65_536 + 377 ≤ vec_capacity output.waiting) };
+    // As bytes no line waits, as lines no packet.
+    ghost invariant = { λ output. (vec_len output.lines < 65_536) × (65_536 + 377 ≤ vec_capacity output.lines)
+        × (vec_len output.rooms ≡ 349) × (output.count < 349)
+        × (output.hex ≡ false → output.lines.items ≡ []) × (output.hex ≡ true → output.count ≡ 0) };
 }
 
-impl<A: Allocator> PacketOutput<A> {
+impl<A: Allocator + Copy> PacketOutput<A> {
     /// An output of no packets, with the memory for a part.
     pub fn new(alloc: A, hex: bool) -> Result<PacketOutput<A>, AllocError>
-        ensures { IfOk result (λ output. output ≡ record { waiting = []; sent = 0; hex = hex }) }
+        ensures empty { IfOk result (λ output. waiting_of output ≡ []) }
+        ensures sent { IfOk result (λ output. output.sent ≡ 0) }
+        ensures hex { IfOk result (λ output. output.hex ≡ hex) }
     {
-        let waiting = Vec::with_capacity(alloc, PART + LINE)?;
+        let lines = Vec::with_capacity(alloc, PART + LINE)?;
+        let rooms = vec![in alloc; [0u8; 188]; PACKETS]?;
         Ok(PacketOutput {
-            waiting,
+            lines,
+            rooms,
+            count: 0,
             sent: 0,
             hex,
         })
     }
+}
 
-    /// Adds a packet, and writes what waits once it is a part.
-    pub fn push<W: Sink>(&mut self, to: &mut W, packet: &[u8; 188]) -> Result<(), OutputFault>
-        ensures ok { (start : Option (List ℕ)) (all : List ℕ) → IsOutput start (W.contents to.old) self.old all →
-            OnOk result (IsOutput start (W.contents to.new) self.new (all ++ formatted self.old.hex packet.now)) }
-        ensures err { (start : Option (List ℕ)) (all : List ℕ) → IsOutput start (W.contents to.old) self.old all →
+impl<A: Allocator> PacketOutput<A> {
+    ghost use Rattle.packet_output.specs.contracts.output.PacketOutput.{the_row};
+
+    /// The room of the next packet.
+    pub fn room(&mut self) -> &mut [u8; 188]
+        ensures* next { sem 𝓛 (Lends (the_row A.row A.Allocator) (Array byte 0) self.entry result (with_next self.old)) }
+        ensures there { self.old.count < length self.old.rooms }
+    {
+        &mut self.rooms[self.count]
+    }
+
+    /// Adds the packet in the room of the next one, and writes what waits once it is a part.
+    pub fn push<W: Sink>(&mut self, to: &mut W) -> Result<(), OutputFault>
+        ensures ok { (start : Option (List ℕ)) (all packet : List ℕ) → HasNext self.old packet →
+            IsOutput start (W.contents to.old) self.old all →
+            OnOk result (IsOutput start (W.contents to.new) self.new (all ++ formatted self.old.hex packet)) }
+        ensures err { (start : Option (List ℕ)) (all packet : List ℕ) → HasNext self.old packet →
+            IsOutput start (W.contents to.old) self.old all →
             IfErr result (λ fault. Took start (W.contents to.new) fault.sent
-            (all ++ formatted self.old.hex packet.now)) }
+            (all ++ formatted self.old.hex packet)) }
         ensures hex { self.new.hex ≡ self.old.hex }
         ensures clean { OnOk result (W.fault_count to.new ≡ W.fault_count to.old) }
         ensures fault { OnErr result (Failed (W.fault_count to.old) (W.fault_count to.new)) }
     {
-        append_formatted(&mut self.waiting, self.hex, packet);
-        if self.waiting.len() < PART {
-            return Ok(());
-        }
-        match write_waiting(to, &mut self.waiting, self.sent) {
+        let written = if self.hex {
+            append_line(&mut self.lines, &self.rooms[0]);
+            if self.lines.len() < PART {
+                return Ok(());
+            }
+            write_after(to, &self.lines, self.sent)
+        } else {
+            if self.count + 1 < PACKETS {
+                self.count += 1;
+                return Ok(());
+            }
+            write_after(to, self.rooms.as_flattened(), self.sent)
+        };
+        self.lines.clear();
+        self.count = 0;
+        match written {
             Ok(sent) => {
                 self.sent = sent;
                 Ok(())
@@ -89,12 +135,15 @@ impl<A: Allocator> PacketOutput<A> {
             OnOk result (IsOutput start (W.contents to.new) self.new all) }
         ensures err { (start : Option (List ℕ)) (all : List ℕ) → IsOutput start (W.contents to.old) self.old all →
             IfErr result (λ fault. Took start (W.contents to.new) fault.sent all) }
-        ensures empty { self.new.waiting ≡ [] }
+        ensures empty { waiting_of self.new ≡ [] }
         ensures hex { self.new.hex ≡ self.old.hex }
         ensures clean { OnOk result (W.fault_count to.new ≡ W.fault_count to.old) }
         ensures fault { OnErr result (Failed (W.fault_count to.old) (W.fault_count to.new)) }
     {
-        match write_waiting(to, &mut self.waiting, self.sent) {
+        let written = write_after(to, self.waiting(), self.sent);
+        self.lines.clear();
+        self.count = 0;
+        match written {
             Ok(sent) => {
                 self.sent = sent;
                 Ok(())
@@ -112,18 +161,20 @@ impl<A: Allocator> PacketOutput<A> {
         ensures clean { OnOk result (W.fault_count to.new ≡ W.fault_count to.old) }
         ensures fault { OnErr result (Failed (W.fault_count to.old) (W.fault_count to.new)) }
     {
-        write_after(to, &self.waiting, self.sent)
+        write_after(to, self.waiting(), self.sent)
     }
-}
 
-// Appends bytes for which there is room.
-fn append<A: Allocator>(waiting: &mut Vec<u8, A>, bytes: &[u8])
-    requires { vec_len waiting.old + length bytes.now ≤ vec_capacity waiting.old }
-    ensures items { waiting.new.items ≡ waiting.old.items ++ bytes.now }
-    ensures len { vec_len waiting.new ≡ vec_len waiting.old + length bytes.now }
-    ensures capacity { vec_capacity waiting.old ≤ vec_capacity waiting.new }
-{
-    let _ = waiting.extend_from_slice(bytes);
+    // What waits.
+    fn waiting(&self) -> &[u8]
+        ensures { result.now ≡ waiting_of self.now }
+    {
+        if self.hex {
+            &self.lines
+        } else {
+            let (packets, _) = self.rooms.split_at(self.count);
+            packets.as_flattened()
+        }
+    }
 }
 
 // Two digits a byte.
@@ -135,20 +186,16 @@ fn digits_of(packet: &[u8; 188]) -> [u8; 376]
     digits
 }
 
-// Appends a packet in its format: its bytes, or a line of digits.
+// Appends the line of a packet.
 #[tactic(auto, unfolding(crate::specs::Formats::formatted))]
-fn append_formatted<A: Allocator>(waiting: &mut Vec<u8, A>, hex: bool, packet: &[u8; 188])
-    requires { vec_len waiting.old + 377 ≤ vec_capacity waiting.old }
-    ensures items { waiting.new.items ≡ waiting.old.items ++ formatted hex packet.now }
-    ensures len { vec_len waiting.new ≤ vec_len waiting.old + 377 }
-    ensures capacity { vec_capacity waiting.old ≤ vec_capacity waiting.new }
+fn append_line<A: Allocator>(lines: &mut Vec<u8, A>, packet: &[u8; 188])
+    requires { vec_len lines.old + 377 ≤ vec_capacity lines.old }
+    ensures items { lines.new.items ≡ lines.old.items ++ formatted true packet.now }
+    ensures len { vec_len lines.new ≤ vec_len lines.old + 377 }
+    ensures capacity { vec_capacity lines.old ≤ vec_capacity lines.new }
 {
-    if hex {
-        append(waiting, &digits_of(packet));
-        append(waiting, b"\n");
-    } else {
-        append(waiting, packet);
-    }
+    let _ = lines.extend_from_slice(&digits_of(packet));
+    let _ = lines.extend_from_slice(b"\n");
 }
 
 // Writes a part after `sent` bytes, and adds its length.
@@ -165,25 +212,4 @@ fn write_after<W: Sink>(to: &mut W, part: &[u8], sent: u64) -> Result<u64, Outpu
             sent: sent.saturating_add(fault.taken as u64),
         }),
     }
-}
-
-// The same of all that waits; nothing waits then.
-fn write_waiting<A: Allocator, W: Sink>(
-    to: &mut W,
-    waiting: &mut Vec<u8, A>,
-    sent: u64,
-) -> Result<u64, OutputFault>
-    ensures ok { IfOk result (λ n. n ≡ byte_count (sent + length waiting.old.items)) }
-    ensures bytes { OnOk result (Appends (W.contents to.old) (W.contents to.new) waiting.old.items) }
-    ensures err { IfErr result (λ fault. TookPart (W.contents to.old) (W.contents to.new) waiting.old.items sent
-        fault.sent) }
-    ensures items { waiting.new.items ≡ [] }
-    ensures len { vec_len waiting.new ≡ 0 }
-    ensures capacity { vec_capacity waiting.old ≤ vec_capacity waiting.new }
-    ensures clean { OnOk result (W.fault_count to.new ≡ W.fault_count to.old) }
-    ensures fault { OnErr result (Failed (W.fault_count to.old) (W.fault_count to.new)) }
-{
-    let result = write_after(to, waiting, sent);
-    waiting.clear();
-    result
 }

@@ -3,7 +3,7 @@ use Rattle.std.proofs.Common.{◌≡◌, ◌⊎◌, ℕ, Bool, List, [], ◌++�
 use Rattle.std.specs.Prelude.{is_some}
 use Rattle.std.specs.Io.KnownBytes.{Appends}
 use Rattle.counted_io.specs.Device.{Failed}
-use Rattle.packet_output.specs.Buffer.{Buffered, IsOutput}
+use Rattle.packet_output.specs.Buffer.{waiting_of, Buffered, IsOutput}
 use Rattle.devices.specs.Devices.{Device, IsUntouched, Port, between}
 use Rattle.devices.specs.Lines.{Reports}
 use Rattle.devices.specs.Outcomes.{halt_line}
@@ -26,7 +26,7 @@ use Rattle.tsair_cli.specs.Fronts.{ReadsPlans}
 use Rattle.tsair_cli.specs.HeardRecords.{EndsRecords, FailsRecords}
 
 -- nothing waits, so all is written
-whole_output : (start now : Option (List ℕ)) (packets : Buffered) (all : List ℕ) → packets.waiting ≡ [] → IsOutput start now packets all → Appends start now all
+whole_output : (start now : Option (List ℕ)) (packets : Buffered) (all : List ℕ) → waiting_of packets ≡ [] → IsOutput start now packets all → Appends start now all
 whole_output start now packets all none o =
     subst (λ (bytes : List ℕ). Appends start now bytes) (sym (o.is ∙ ap (λ (l : List ℕ). o.written ++ l) none ∙ append-nil o.written)) o.taken
 
@@ -47,7 +47,7 @@ records_failed o run input output before told after sent status f r s = inr (rec
 })
 
 pub run_ended : (o : AirOptions) (run : Run) (input : Device) (begin mid end before told after : Port) (why : RecordsEnd) (s t : AirState) (records status : ℕ)
-    (e : EndsRecords run o.stop begin.bytes input (between begin mid) (between before told) why s) → IsOnAir run (ended run e.airs.came) begin.bytes end.bytes t → t.packets.waiting ≡ [] → end.failed ≡ mid.failed →
+    (e : EndsRecords run o.stop begin.bytes input (between begin mid) (between before told) why s) → IsOnAir run (ended run e.airs.came) begin.bytes end.bytes t → waiting_of t.packets ≡ [] → end.failed ≡ mid.failed →
     records ≡ t.records → Reports (between told after) (end_outcome o.terms.slots records why).report → status ≡ (end_outcome o.terms.slots records why).status →
     AirsRecords o run input (between begin end) (between before after) status
 run_ended o run input begin mid end before told after why s t records status e h none clean n r st =

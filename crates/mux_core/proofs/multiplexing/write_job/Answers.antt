@@ -1,5 +1,4 @@
-use Rattle.std.proofs.Common.{refl, ap}
-use Rattle.packet_output.specs.Buffer.{Buffered}
+use Rattle.std.proofs.Common.{refl}
 use Rattle.mux_core.specs.WholeJobs.{job_history}
 use Rattle.mux_core.proofs.JobDone.{cause_is, answers, writes, sends, on_writing, output_short, fed_size, fed_short, fed_headline, fed_measured, fed_writes}
 use Rattle.mux_core.proofs.multiplexing.write_job.Goals as goal
@@ -20,7 +19,7 @@ returns-clause-written g c =
     let all = c.write_all.ensures.answers (job_history c.args.units.items 0) fed.stands refl in
     writes _ _ _ c.write_all.result (fed_short c.args.mux.now c.feed_all.new.mux c.args.units.items c.args.hex c.args.slots c.keeps_promises.ensures.ranges c.requires.slots fed)
     (fed_writes c.args.mux.now c.feed_all.new.mux c.args.units.items c.args.hex c.args.slots _ _ c.write_all.result c.in-Ok-new.packets.hex fed
-    (ap (λ (x : Buffered). x.hex) c.in-Ok-new.ensures) all)
+    c.in-Ok-new.ensures.hex all)
 
 pub returns-clause-sent : goal.returns-clause-sent
 returns-clause-sent g c =
@@ -29,7 +28,7 @@ returns-clause-sent g c =
     sends _ _ _ _ c.write_all.result (fed_size c.args.mux.now c.feed_all.new.mux c.args.units.items c.args.hex c.args.slots c.keeps_promises.ensures.ranges fed)
     (output_short c.args.hex c.args.slots c.requires.slots)
     (fed_writes c.args.mux.now c.feed_all.new.mux c.args.units.items c.args.hex c.args.slots _ _ c.write_all.result c.in-Ok-new.packets.hex fed
-    (ap (λ (x : Buffered). x.hex) c.in-Ok-new.ensures) all)
+    c.in-Ok-new.ensures.hex all)
 
 pub returns-clause-headline : goal.returns-clause-headline
 returns-clause-headline g c =

@@ -1,4 +1,5 @@
 use Rattle.std.proofs.Common.{refl, ◌∙◌, arith}
+use Rattle.packet_output.proofs.Written.{next_is, next_put}
 use Rattle.mux_core.proofs.JobWriting.{at_slot, written_none, written_more, written_failed, not_done}
 use Rattle.mux_core.proofs.multiplexing.write_slots.Goals as goal
 
@@ -19,7 +20,8 @@ pub returns-in-Err-clause-err : goal.returns-in-Err-clause-err
 returns-in-Err-clause-err g c = λ h start stands none holds.
     let w = c.slots.invariant.written h start stands none holds in
     written_failed h _ _ _ _ c.slots.packets.hex c.slots.counter c.args.slots c.in-Err.fault.sent start _ _ c.slots.packets _ w (omega (arith, c.slots-test.true)) c.slots.invariant.hex
-    (c.in-Ok.ensures.next (at_slot h c.slots.counter) w.stands) (c.in-Err.ensures.err start _ w.holds)
+    (c.in-Ok.ensures.next (at_slot h c.slots.counter) w.stands) (c.in-Err.ensures.err start _ c.write_next.new.packet (next_is c.slots.packets c.write_next.new.packet c.room.ensures.there)
+    (next_put start _ c.slots.packets _ c.write_next.new.packet w.holds))
 
 pub slots-preserved : goal.slots-preserved
 slots-preserved g c = record {
@@ -28,5 +30,6 @@ slots-preserved g c = record {
   written = λ h start stands none holds.
       let w = c.slots.invariant.written h start stands none holds in
       written_more h _ _ _ _ c.slots.packets.hex c.slots.counter start _ _ c.slots.packets _ _ w c.slots.invariant.hex
-      (c.in-Ok.ensures.next (at_slot h c.slots.counter) w.stands) (c.in-Ok-push.ensures.ok start _ w.holds);
+      (c.in-Ok.ensures.next (at_slot h c.slots.counter) w.stands) (c.in-Ok-push.ensures.ok start _ c.write_next.new.packet
+      (next_is c.slots.packets c.write_next.new.packet c.room.ensures.there) (next_put start _ c.slots.packets _ c.write_next.new.packet w.holds));
 }

@@ -1,4 +1,5 @@
 use Rattle.std.proofs.Common.{◌≡◌, ◌<◌, ◌≤◌, ◌+◌, ◌^◌, ℕ, arith, subst, ◌∙◌}
+use Rattle.packet_output.proofs.Written.{next_is, next_put}
 use Rattle.mux_core.proofs.JobWriting.{at_slot, not_done}
 use Rattle.on_air.specs.Airing.{on_to}
 use Rattle.on_air.proofs.SlotsOn.{OnWay, way_of_run, way_goes_on, way_ends, way_failed}
@@ -18,7 +19,8 @@ returns-in-Err-clause-err g c = λ run h start carries holds.
     let below : h.slots + c.slots.counter < on_to h.slots c.args.target = omega (arith, c.slots-test.true, c.saturating_sub-count.ensures, c.now.ensures h carries.stands) in
     way_failed run h c.args.mux.now c.slots.mux c.write_next.new.self c.args.packets.now.hex c.slots.packets.hex (h.slots + c.slots.counter) c.args.target c.in-Err.fault.sent
     start _ _ c.slots.packets c.write_next.new.packet carries w below c.slots.invariant.hex
-    (c.in-Ok.ensures.next (at_slot h (h.slots + c.slots.counter)) w.written.stands) (c.in-Err.ensures.err start _ w.written.holds)
+    (c.in-Ok.ensures.next (at_slot h (h.slots + c.slots.counter)) w.written.stands) (c.in-Err.ensures.err start _ c.write_next.new.packet
+    (next_is c.slots.packets c.write_next.new.packet c.room.ensures.there) (next_put start _ c.slots.packets _ c.write_next.new.packet w.written.holds))
 
 pub slots-preserved : goal.slots-preserved
 slots-preserved g c = record {
@@ -29,7 +31,8 @@ slots-preserved g c = record {
       let next : (h.slots + c.slots.counter) + 1 ≡ h.slots + (c.slots.counter + 1) = omega arith in
       subst (λ (n : ℕ). OnWay h c.args.mux.now c.write_next.new.self c.args.packets.now.hex n start (g.W.Write.contents c.push.new.to) c.push.new.self) next
       (way_goes_on h c.args.mux.now c.slots.mux c.write_next.new.self c.args.packets.now.hex c.slots.packets.hex (h.slots + c.slots.counter) start _ _ c.slots.packets c.push.new.self
-      c.write_next.new.packet w c.slots.invariant.hex (c.in-Ok.ensures.next (at_slot h (h.slots + c.slots.counter)) w.written.stands) (c.in-Ok-push.ensures.ok start _ w.written.holds));
+      c.write_next.new.packet w c.slots.invariant.hex (c.in-Ok.ensures.next (at_slot h (h.slots + c.slots.counter)) w.written.stands) (c.in-Ok-push.ensures.ok start _ c.write_next.new.packet
+      (next_is c.slots.packets c.write_next.new.packet c.room.ensures.there) (next_put start _ c.slots.packets _ c.write_next.new.packet w.written.holds)));
 }
 
 pub returns-clause-ok : goal.returns-clause-ok

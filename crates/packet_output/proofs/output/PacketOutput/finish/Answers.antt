@@ -1,12 +1,10 @@
-use Rattle.std.proofs.Common.{ap, ◌∙◌}
-use Rattle.std.proofs.lemmas.Result.{IfErr-weaker}
+use Rattle.std.proofs.Common.{ap}
 use Rattle.packet_output.specs.Buffer.{Buffered}
-use Rattle.packet_output.proofs.Written.{took_all}
+use Rattle.packet_output.proofs.Written.{out_ends, part_out}
 use Rattle.packet_output.proofs.output.PacketOutput.finish.Goals as goal
 
 pub returns-clause-err : goal.returns-clause-err
 returns-clause-err g c = λ start all h.
-    IfErr-weaker c.write_after.result _ _
-    (λ fault t. took_all start _ _ c.args.self all _ _ fault.sent h
-    (c.deref.ensures.value ∙ ap (λ (x : Buffered). x.waiting) c.self.view_is) (ap (λ (x : Buffered). x.sent) c.self.view_is) t)
-    c.write_after.ensures.err
+    out_ends start _ _ all c.write_after.result
+    (part_out start _ _ c.args.self all _ _ c.write_after.result h c.waiting.ensures (ap (λ (x : Buffered). x.sent) c.self.view_is) c.write_after.ensures.ok c.write_after.ensures.bytes
+    c.write_after.ensures.err)

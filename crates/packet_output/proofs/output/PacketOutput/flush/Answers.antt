@@ -1,19 +1,16 @@
-use Rattle.std.proofs.Common.{ap}
+use Rattle.std.proofs.Common.{ap, ◌∙◌, append-nil}
 use Rattle.packet_output.specs.Buffer.{Buffered}
-use Rattle.packet_output.proofs.Written.{flush_written, took_all}
+use Rattle.packet_output.proofs.Written.{out_in_part, out_whole, part_out}
 use Rattle.packet_output.proofs.output.PacketOutput.flush.Goals as goal
 
 pub returns-in-Ok-clause-ok : goal.returns-in-Ok-clause-ok
 returns-in-Ok-clause-ok g c = λ start all h.
-    flush_written start _ _ c.args.self.now all _ _ _ _ _ h
-    (ap (λ (x : Buffered). x.waiting) c.self.view_is)
-    (ap (λ (x : Buffered). x.sent) c.self.view_is)
-    (ap (λ (x : Buffered). x.hex) c.self.view_is)
-    c.in-Ok.ensures.bytes c.in-Ok.ensures.ok c.in-Ok.ensures.items
+    out_whole start _ _ _ all c.write_after-written.result
+    (part_out start _ _ c.args.self.now all _ _ c.write_after-written.result h c.waiting.ensures (ap (λ (x : Buffered). x.sent) c.self.view_is) c.write_after-written.ensures.ok
+    c.write_after-written.ensures.bytes c.write_after-written.ensures.err) c.in-Ok.is (append-nil _ ∙ c.clear.ensures.items)
 
 pub returns-in-Err-clause-err : goal.returns-in-Err-clause-err
 returns-in-Err-clause-err g c = λ start all h.
-    took_all start _ _ c.args.self.now all _ _ c.in-Err.fault.sent h
-    (ap (λ (x : Buffered). x.waiting) c.self.view_is)
-    (ap (λ (x : Buffered). x.sent) c.self.view_is)
-    c.in-Err.ensures.err
+    out_in_part start _ _ all c.write_after-written.result _
+    (part_out start _ _ c.args.self.now all _ _ c.write_after-written.result h c.waiting.ensures (ap (λ (x : Buffered). x.sent) c.self.view_is) c.write_after-written.ensures.ok
+    c.write_after-written.ensures.bytes c.write_after-written.ensures.err) c.in-Err.is
