@@ -37,7 +37,10 @@ avc_limits level =
     else (if level == 50 then (135_000, 135_000)
     else (if level == 51 then (240_000, 240_000)
     else (if level == 52 then (240_000, 240_000)
-    else (20_000, 25_000))))))))))))))))
+    else (if level == 60 then (240_000, 240_000)
+    else (if level == 61 then (480_000, 480_000)
+    else (if level == 62 then (800_000, 800_000)
+    else (20_000, 25_000)))))))))))))))))))
 
 -- MaxBR and MaxCPB of a level in the main tier: ISO/IEC 23008-2, tables A.8 and A.9
 unfoldable pub hevc_limits : ℕ → ℕ × ℕ

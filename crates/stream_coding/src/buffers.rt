@@ -38,8 +38,8 @@ fn mpeg_limits(level: u8) -> (u32, u32)
 #[tactic(auto, unfolding(crate::specs::Buffers::avc_limits))]
 fn avc_limits(level: u8) -> (u32, u32)
     ensures value { result ≡ spec.avc_limits level }
-    ensures rate { result.0 ≤ 240000 }
-    ensures size { result.1 ≤ 240000 }
+    ensures rate { result.0 ≤ 800000 }
+    ensures size { result.1 ≤ 800000 }
 {
     match level {
         10 => (64, 175),
@@ -58,6 +58,9 @@ fn avc_limits(level: u8) -> (u32, u32)
         50 => (135_000, 135_000),
         51 => (240_000, 240_000),
         52 => (240_000, 240_000),
+        60 => (240_000, 240_000),
+        61 => (480_000, 480_000),
+        62 => (800_000, 800_000),
         _ => (20_000, 25_000),
     }
 }
@@ -88,9 +91,9 @@ fn hevc_limits(level: u8) -> (u32, u32)
 
 // The bits of 4 ms for multiplexing and of a 750th of a second for headers.
 fn mux_bits(rate: u32) -> u32
-    requires { rate ≤ 300000000 }
+    requires { rate ≤ 960000000 }
     ensures value { result ≡ spec.mux_bits rate }
-    ensures bound { result ≤ 1600000 }
+    ensures bound { result ≤ 5120000 }
 {
     4 * rate / 1000 + rate / 750
 }
@@ -108,8 +111,8 @@ fn capped(rx: u32, bits: u32) -> Buffers
 
 // By a level's rate and its buffer in bits.
 fn level_buffers(rate: u32, bits: u32) -> Buffers
-    requires rate { rate ≤ 300000000 }
-    requires bits { bits ≤ 300000000 }
+    requires rate { rate ≤ 960000000 }
+    requires bits { bits ≤ 960000000 }
     ensures { result ≡ spec.level_buffers rate bits }
 {
     let rate = if rate < 2_000_000 { 2_000_000 } else { rate };
