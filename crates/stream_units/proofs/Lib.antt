@@ -13,6 +13,5 @@ pub mod SameIds
 pub mod TimeOrder
 pub mod MadeDts
 pub mod UnitSteps
-pub mod FoundUnits
 pub mod TakenUnits
 pub mod UnitMoments

@@ -5,26 +5,25 @@ ghost use Rattle.demux.specs.Shown.{finding_view};
 ghost use Rattle.stream_units.specs.CarriedUnits as spec;
 
 use crate::found::found_units;
-use crate::found_unit::FoundUnit;
-use crate::wire_unit::WireUnit;
+use crate::wire_unit::{FoundUnit, WireUnit};
 use demux::Finding;
-use pes_packet::Unit;
 use std::alloc::{AllocError, Allocator};
 
 // A copy of a unit.
-fn copied<A: Allocator>(alloc: A, unit: &FoundUnit<'_, A>) -> Result<WireUnit<A>, AllocError>
+fn copied<A: Allocator>(
+    alloc: A,
+    unit: &FoundUnit<'_, A>,
+) -> Result<WireUnit<Vec<u8, A>>, AllocError>
     ensures { IfOk result (λ copy. copy ≡ unit.now) }
 {
-    let mut bytes = Vec::from_slice(alloc, unit.body)?;
-    bytes.extend_from_slice(&unit.more)?;
+    let mut bytes = Vec::from_slice(alloc, unit.bytes.body)?;
+    bytes.extend_from_slice(&unit.bytes.more)?;
     Ok(WireUnit {
         packet: unit.packet,
         stream_id: unit.stream_id,
-        unit: Unit {
-            dts: unit.dts,
-            pts: unit.pts,
-            bytes,
-        },
+        dts: unit.dts,
+        pts: unit.pts,
+        bytes,
     })
 }
 
@@ -33,7 +32,7 @@ pub fn carried_units<A: Allocator + Clone>(
     alloc: A,
     pid: u16,
     findings: &[Finding<'_, A>],
-) -> Result<Vec<WireUnit<A>, A>, AllocError>
+) -> Result<Vec<WireUnit<Vec<u8, A>>, A>, AllocError>
     ensures { IfOk result (λ units. units.items ≡ spec.carried_units pid (map finding_view findings.now)) }
 {
     let found = found_units(alloc.clone()?, pid, findings)?;

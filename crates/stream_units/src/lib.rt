@@ -12,7 +12,6 @@ mod counted_packets;
 mod declaration;
 mod dts_from_pts;
 mod found;
-mod found_unit;
 mod laws;
 mod made_units;
 mod moments;
@@ -22,6 +21,7 @@ mod stamps;
 mod stream_ids;
 mod taken;
 mod unit;
+mod unit_bytes;
 mod unit_moments;
 mod unit_runs;
 mod unit_taker;
@@ -34,7 +34,6 @@ pub use counted_packets::CountedPackets;
 pub use declaration::{max_unit_size, min_interval};
 pub use dts_from_pts::{DtsError, DtsFault, made_dts};
 pub use found::found_units;
-pub use found_unit::FoundUnit;
 pub use laws::{
     constant_is_least, findings_of_the_pid, given_as_carried, moved_by_one_constant, moved_in_turn,
     nothing_is_lost, taken_one_by_one, units_are_kept,
@@ -43,9 +42,10 @@ pub use made_units::units_with_made_dts;
 pub use stamps::{StampFault, constant, distance, dts_at};
 pub use stream_ids::{first_other, written_id};
 pub use taken::taken_units;
+pub use unit_bytes::{BodyBytes, LentBytes, UnitBytes};
 pub use unit_moments::{StampError, UnitMoment, found_moments, moved_unit, units_at};
 pub use unit_runs::UnitRuns;
 pub use unit_taker::UnitTaker;
 pub use unit_warning::{UnitWarning, UnitWarningCause};
 pub use warnings::unit_warnings;
-pub use wire_unit::WireUnit;
+pub use wire_unit::{FoundUnit, WireUnit};

@@ -6,7 +6,7 @@ ghost use Rattle.stream_units.specs.MadeDts as spec;
 ghost use Rattle.stream_units.specs.DtsErrors.{IsDtsError};
 
 use crate::dts_from_pts::{DtsError, made_dts};
-use crate::found_unit::FoundUnit;
+use crate::wire_unit::{FoundUnit, WireUnit};
 use std::alloc::{AllocError, Allocator};
 use std::collections::VecDeque;
 
@@ -21,13 +21,12 @@ fn all_pts<A: Allocator>(alloc: A, found: &[FoundUnit<'_, A>]) -> Result<Vec<u64
 fn restamped<'f, A: Allocator>(dts: u64, unit: FoundUnit<'f, A>) -> FoundUnit<'f, A>
     ensures { result ≡ unit_with unit.entry.packet unit.entry.stream_id dts unit.entry.unit.pts unit.entry.unit.bytes }
 {
-    FoundUnit {
+    WireUnit {
         packet: unit.packet,
         stream_id: unit.stream_id,
         dts,
         pts: unit.pts,
-        body: unit.body,
-        more: unit.more,
+        bytes: unit.bytes,
     }
 }
 

@@ -3,7 +3,7 @@
 ghost use Rattle.std.specs.Prelude.{◌≡◌};
 ghost use Rattle.stream_units.specs.StreamIds as spec;
 
-use crate::found_unit::FoundUnit;
+use crate::wire_unit::FoundUnit;
 use pes_packet::is_unit_id;
 use std::alloc::Allocator;
 

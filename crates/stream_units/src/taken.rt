@@ -9,15 +9,16 @@ ghost use Rattle.stream_units.specs.UnitSteps as steps;
 
 use crate::pes_role::is_on;
 use crate::split_units::is_split;
+use crate::unit_bytes::UnitBytes;
 use crate::unit_taker::UnitTaker;
 use crate::wire_unit::WireUnit;
 use demux::Finding;
 use std::alloc::{AllocError, Allocator};
 
-// Appends the unit, if there is one.
-fn push_unit<A: Allocator>(
-    units: &mut Vec<WireUnit<A>, A>,
-    unit: Option<WireUnit<A>>,
+/// Appends the unit, if there is one.
+pub(crate) fn push_unit<B: UnitBytes, A: Allocator>(
+    units: &mut Vec<WireUnit<B>, A>,
+    unit: Option<WireUnit<B>>,
 ) -> Result<(), AllocError>
     ensures { OnOk result (units.new.items ≡ units.old.items ++ option_to_list unit) }
 {
@@ -34,9 +35,9 @@ fn push_unit<A: Allocator>(
 #[tactic(auto, unfolding(crate::specs::UnitSteps::made_whole, crate::specs::UnitSteps::goes_on_as), using(crate::proofs::TakenUnits::stay_same))]
 fn take_next<A: Allocator + Clone>(
     alloc: &A,
-    taker: &mut UnitTaker<A>,
+    taker: &mut UnitTaker<Vec<u8, A>>,
     finding: &mut Finding<'_, A>,
-    units: &mut Vec<WireUnit<A>, A>,
+    units: &mut Vec<WireUnit<Vec<u8, A>>, A>,
 ) -> Result<(), AllocError>
     ensures units { OnOk result (units.new.items ≡ units.old.items ++ option_to_list
         (steps.made_whole taker.old.split taker.old.unit (spec.role_of taker.old.pid (finding_view finding.old)))) }
@@ -57,7 +58,7 @@ pub fn taken_units<A: Allocator + Clone>(
     alloc: A,
     pid: u16,
     findings: &mut [Finding<'_, A>],
-) -> Result<Vec<WireUnit<A>, A>, AllocError>
+) -> Result<Vec<WireUnit<Vec<u8, A>>, A>, AllocError>
     ensures units { IfOk result (λ units. units.items ≡ spec.carried_units pid (map finding_view findings.old)) }
     ensures others { OnOk result (OthersStay pid (map finding_view findings.old) (map finding_view findings.new)) }
 {

@@ -5,9 +5,8 @@ ghost use Rattle.stream_units.specs.Stamps as spec;
 ghost use Rattle.stream_units.specs.UnitMoments as at;
 ghost use Rattle.stream_units.specs.StampErrors.{IsStampError, fault_of};
 
-use crate::found_unit::FoundUnit;
 use crate::stamps::{StampFault, distance, dts_at, unit_fault};
-use crate::wire_unit::WireUnit;
+use crate::wire_unit::{FoundUnit, WireUnit};
 use pes_packet::Unit;
 use std::alloc::{AllocError, Allocator};
 use std::collections::VecDeque;
@@ -54,7 +53,7 @@ fn moment(base: u64, before: Option<u64>, dts: u64, pts: u64) -> Result<UnitMome
 pub fn moved_unit<A: Allocator>(
     base: u64,
     before: Option<u64>,
-    wire: WireUnit<A>,
+    wire: WireUnit<Vec<u8, A>>,
 ) -> Result<Unit<A>, StampFault>
     requires base { base < 2 ^ 33 }
     requires before { IfSome before (λ dts. dts ≤ 2 ^ 52) }
@@ -62,13 +61,12 @@ pub fn moved_unit<A: Allocator>(
     ensures fault { fault_of result ≡ spec.unit_fault base before wire.unit }
     ensures bound { IfOk result (λ u. u.dts ≤ 2 ^ 52) }
 {
-    let unit = wire.unit;
-    match moment(base, before, unit.dts, unit.pts) {
+    match moment(base, before, wire.dts, wire.pts) {
         Err(fault) => Err(fault),
         Ok(moment) => Ok(Unit {
             dts: moment.dts,
             pts: moment.pts,
-            bytes: unit.bytes,
+            bytes: wire.bytes,
         }),
     }
 }
@@ -104,13 +102,13 @@ pub fn found_moments<A: Allocator>(
 }
 
 // A unit at these moments.
-fn unit_at<A: Allocator>(moment: UnitMoment, wire: WireUnit<A>) -> Unit<A>
+fn unit_at<A: Allocator>(moment: UnitMoment, wire: WireUnit<Vec<u8, A>>) -> Unit<A>
     ensures { result ≡ at.unit_at moment wire }
 {
     Unit {
         dts: moment.dts,
         pts: moment.pts,
-        bytes: wire.unit.bytes,
+        bytes: wire.bytes,
     }
 }
 
@@ -118,7 +116,7 @@ fn unit_at<A: Allocator>(moment: UnitMoment, wire: WireUnit<A>) -> Unit<A>
 pub fn units_at<A: Allocator>(
     alloc: A,
     moments: &[UnitMoment],
-    wire: Vec<WireUnit<A>, A>,
+    wire: Vec<WireUnit<Vec<u8, A>>, A>,
 ) -> Result<Vec<Unit<A>, A>, AllocError>
     ensures { IfOk result (λ units. units.items ≡ at.units_at moments.now wire.items) }
 {

@@ -9,25 +9,24 @@ ghost use Rattle.stream_units.specs.UnitSteps as spec;
 ghost use Rattle.stream_units.specs.Shown.{role_view, start_view};
 
 use crate::pes_role::{PesRole, UnitStart, is_on, role_of};
-use crate::unit::dts_of;
+use crate::unit_bytes::{BodyBytes, UnitBytes};
 use crate::wire_unit::WireUnit;
 use demux::{Finding, Part, What};
-use pes_packet::Unit;
-use std::alloc::{AllocError, Allocator, Global};
+use std::alloc::{AllocError, Allocator};
 use std::marker::Model;
 use std::mem;
 
 /// Takes what is found of a PID, finding by finding, and gives each unit as soon as it is whole. It holds the bytes of the
 /// one unit under way.
 #[derive(Drop)]
-pub struct UnitTaker<A: Allocator = Global> {
+pub struct UnitTaker<B: UnitBytes = Vec<u8>> {
     pid: u16,
     split: bool,
-    unit: Option<WireUnit<A>>,
+    unit: Option<WireUnit<B>>,
 }
 
 // A contract sees what it says, and not where the bytes of the unit are kept.
-impl<A: Allocator> Model for UnitTaker<A> {
+impl<B: UnitBytes> Model for UnitTaker<B> {
     ghost use Rattle.stream_units.specs.UnitSteps.{UnitsSoFar};
 
     ghost Value = { UnitsSoFar };
@@ -36,18 +35,19 @@ impl<A: Allocator> Model for UnitTaker<A> {
 }
 
 // The unit that starts with this PES packet.
-fn started<A: Allocator>(alloc: A, first: UnitStart<'_>) -> Result<WireUnit<A>, AllocError>
+fn started<'f, A, B: BodyBytes<'f, A>>(
+    alloc: A,
+    first: UnitStart<'f>,
+) -> Result<WireUnit<B>, AllocError>
     ensures { IfOk result (λ u. u ≡ start_view first.entry) }
 {
-    let bytes = Vec::from_slice(alloc, first.body)?;
+    let bytes = B::of_body(alloc, first.body)?;
     Ok(WireUnit {
         packet: first.packet,
         stream_id: first.stream_id,
-        unit: Unit {
-            dts: first.dts,
-            pts: first.pts,
-            bytes,
-        },
+        dts: first.dts,
+        pts: first.pts,
+        bytes,
     })
 }
 
@@ -87,7 +87,7 @@ fn moved_start<A: Allocator + Clone>(
     alloc: &A,
     pid: u16,
     finding: &mut Finding<'_, A>,
-) -> Result<Option<WireUnit<A>>, AllocError>
+) -> Result<Option<WireUnit<Vec<u8, A>>>, AllocError>
     ensures start { IfOk result (λ unit. IfSome unit (λ u. units.role_of pid (finding_view finding.old)
         ≡ units.Start u)) }
     ensures none { IfOk result (λ unit. unit ≡ None → finding.new ≡ finding.old) }
@@ -102,15 +102,17 @@ fn moved_start<A: Allocator + Clone>(
     Ok(Some(WireUnit {
         packet,
         stream_id,
-        unit: Unit { dts, pts, bytes },
+        dts,
+        pts,
+        bytes,
     }))
 }
 
 // A unit, if no part of it may be lost and it has bytes.
-fn if_whole<A: Allocator>(lost: bool, unit: WireUnit<A>) -> Option<WireUnit<A>>
+fn if_whole<B: UnitBytes>(lost: bool, unit: WireUnit<B>) -> Option<WireUnit<B>>
     ensures { result ≡ spec.if_whole lost unit }
 {
-    if lost || unit.unit.bytes.is_empty() {
+    if lost || unit.bytes.is_empty() {
         return None;
     }
     Some(unit)
@@ -118,7 +120,7 @@ fn if_whole<A: Allocator>(lost: bool, unit: WireUnit<A>) -> Option<WireUnit<A>>
 
 // The unit that was under way, as it is given where it ends.
 #[tactic(auto, unfolding(crate::specs::UnitSteps::ended_unit))]
-fn ended<A: Allocator>(lost: bool, unit: Option<WireUnit<A>>) -> Option<WireUnit<A>>
+fn ended<B: UnitBytes>(lost: bool, unit: Option<WireUnit<B>>) -> Option<WireUnit<B>>
     ensures { result ≡ spec.ended_unit lost unit }
 {
     match unit {
@@ -129,8 +131,8 @@ fn ended<A: Allocator>(lost: bool, unit: Option<WireUnit<A>>) -> Option<WireUnit
 
 // Appends bytes to the unit under way, if it has this stream_id, and returns whether it has.
 #[tactic(auto, unfolding(crate::specs::UnitSteps::has_id, crate::specs::UnitSteps::lengthened))]
-fn lengthen<A: Allocator>(
-    unit: &mut Option<WireUnit<A>>,
+fn lengthen<B: UnitBytes>(
+    unit: &mut Option<WireUnit<B>>,
     id: u8,
     body: &[u8],
 ) -> Result<bool, AllocError>
@@ -145,14 +147,14 @@ fn lengthen<A: Allocator>(
     if unit.stream_id != id {
         return Ok(false);
     }
-    unit.unit.bytes.extend_from_slice(body)?;
+    unit.bytes.append(body)?;
     Ok(true)
 }
 
-impl<A: Allocator + Clone> UnitTaker<A> {
+impl<B: UnitBytes> UnitTaker<B> {
     /// Before the first finding of a PID. `split`: whether its units may have several PES packets, so that of one after
     /// which something is lost a part may be, and it is left out.
-    pub fn new(pid: u16, split: bool) -> UnitTaker<A>
+    pub fn new(pid: u16, split: bool) -> UnitTaker<B>
         ensures { result ≡ spec.none_so_far pid split }
     {
         UnitTaker {
@@ -169,29 +171,35 @@ impl<A: Allocator + Clone> UnitTaker<A> {
         self.pid
     }
 
-    /// Takes the next finding of a stream, and gives the unit that it makes whole, if there is one.
+    // A unit starts, and the one under way ends.
+    fn start(&mut self, next: WireUnit<B>) -> Option<WireUnit<B>>
+        ensures given { result ≡ spec.ended_unit false self.old.unit }
+        ensures kept { self.new ≡ record self.old { unit = Some next } }
+    {
+        let before = self.unit.take();
+        self.unit = Some(next);
+        ended(false, before)
+    }
+
+    /// Takes the role of the next finding of its PID, and gives the unit that it makes whole, if there is one.
     #[tactic(auto, unfolding(crate::specs::UnitSteps::made_whole, crate::specs::UnitSteps::goes_on_as), using(crate::proofs::UnitSteps::not_lengthened))]
-    pub fn take(
+    pub(crate) fn take_role<'f, A: Allocator + Clone>(
         &mut self,
         alloc: &A,
-        finding: &Finding<'_, A>,
-    ) -> Result<Option<WireUnit<A>>, AllocError>
+        role: PesRole<'f>,
+    ) -> Result<Option<WireUnit<B>>, AllocError>
+    where
+        B: BodyBytes<'f, A>,
         ensures given { IfOk result (λ unit. unit
-            ≡ spec.made_whole self.old.split self.old.unit (units.role_of self.old.pid (finding_view finding.now))) }
-        ensures kept { OnOk result (self.new ≡ spec.after_finding self.old (finding_view finding.now)) }
+            ≡ spec.made_whole self.old.split self.old.unit (role_view role.entry)) }
+        ensures kept { OnOk result (self.new ≡ record self.old {
+          unit = spec.goes_on_as self.old.unit (role_view role.entry);
+        }) }
         ensures err { OnErr result (self.new ≡ self.old) }
     {
-        if !is_on(self.pid, finding) {
-            return Ok(None);
-        }
-        match role_of(self.pid, finding) {
+        match role {
             PesRole::Ignored => Ok(None),
-            PesRole::Start(first) => {
-                let next = started(alloc.clone()?, first)?;
-                let before = self.unit.take();
-                self.unit = Some(next);
-                Ok(ended(false, before))
-            }
+            PesRole::Start(first) => Ok(self.start(started(alloc.clone()?, first)?)),
             PesRole::Continuation(id, body) => {
                 if lengthen(&mut self.unit, id, body)? {
                     return Ok(None);
@@ -202,26 +210,24 @@ impl<A: Allocator + Clone> UnitTaker<A> {
         }
     }
 
-    /// The same, where the body of a PES packet with which a unit starts is moved out of its finding: of this nothing is left
-    /// then but a packet that comes twice.
+    /// Takes the next finding of a stream, and gives the unit that it makes whole, if there is one.
     #[tactic(auto, unfolding(crate::specs::UnitSteps::made_whole, crate::specs::UnitSteps::goes_on_as))]
-    pub(crate) fn take_moved(
+    pub fn take<'f, A: Allocator + Clone>(
         &mut self,
         alloc: &A,
-        finding: &mut Finding<'_, A>,
-    ) -> Result<Option<WireUnit<A>>, AllocError>
+        finding: &'f Finding<'_, A>,
+    ) -> Result<Option<WireUnit<B>>, AllocError>
+    where
+        B: BodyBytes<'f, A>,
         ensures given { IfOk result (λ unit. unit
-            ≡ spec.made_whole self.old.split self.old.unit (units.role_of self.old.pid (finding_view finding.old))) }
-        ensures kept { OnOk result (self.new ≡ spec.after_finding self.old (finding_view finding.old)) }
-        ensures others { OnOk result (OthersStay self.old.pid (finding_view finding.old ∷ [])
-            (finding_view finding.new ∷ [])) }
+            ≡ spec.made_whole self.old.split self.old.unit (units.role_of self.old.pid (finding_view finding.now))) }
+        ensures kept { OnOk result (self.new ≡ spec.after_finding self.old (finding_view finding.now)) }
+        ensures err { OnErr result (self.new ≡ self.old) }
     {
-        let Some(next) = moved_start(alloc, self.pid, finding)? else {
-            return self.take(alloc, finding);
-        };
-        let before = self.unit.take();
-        self.unit = Some(next);
-        Ok(ended(false, before))
+        if !is_on(self.pid, finding) {
+            return Ok(None);
+        }
+        self.take_role(alloc, role_of(self.pid, finding))
     }
 
     /// The packet in which the unit under way begins, and its DTS as it stands in the header, modulo 2^33.
@@ -231,7 +237,7 @@ impl<A: Allocator + Clone> UnitTaker<A> {
     {
         match &self.unit {
             None => None,
-            Some(unit) => Some((unit.packet, dts_of(&unit.unit))),
+            Some(unit) => Some((unit.packet, unit.dts)),
         }
     }
 
@@ -246,7 +252,7 @@ impl<A: Allocator + Clone> UnitTaker<A> {
     }
 
     /// The unit under way ends here, if there is one.
-    pub fn end(&mut self) -> Option<WireUnit<A>>
+    pub fn end(&mut self) -> Option<WireUnit<B>>
         ensures given { result ≡ spec.ended_unit false self.old.unit }
         ensures kept { self.new ≡ record self.old { unit = None } }
     {
@@ -254,9 +260,31 @@ impl<A: Allocator + Clone> UnitTaker<A> {
     }
 
     /// The findings end: the last unit, if there is one.
-    pub fn finish(self) -> Option<WireUnit<A>>
+    pub fn finish(self) -> Option<WireUnit<B>>
         ensures { result ≡ spec.ended_unit false self.unit }
     {
         ended(false, self.unit)
+    }
+}
+
+impl<A: Allocator + Clone> UnitTaker<Vec<u8, A>> {
+    /// The same as `take`, where the body of a PES packet with which a unit starts is moved out of its finding: of this
+    /// nothing is left then but a packet that comes twice.
+    #[tactic(auto, unfolding(crate::specs::UnitSteps::made_whole, crate::specs::UnitSteps::goes_on_as))]
+    pub(crate) fn take_moved(
+        &mut self,
+        alloc: &A,
+        finding: &mut Finding<'_, A>,
+    ) -> Result<Option<WireUnit<Vec<u8, A>>>, AllocError>
+        ensures given { IfOk result (λ unit. unit
+            ≡ spec.made_whole self.old.split self.old.unit (units.role_of self.old.pid (finding_view finding.old))) }
+        ensures kept { OnOk result (self.new ≡ spec.after_finding self.old (finding_view finding.old)) }
+        ensures others { OnOk result (OthersStay self.old.pid (finding_view finding.old ∷ [])
+            (finding_view finding.new ∷ [])) }
+    {
+        match moved_start(alloc, self.pid, finding)? {
+            Some(next) => Ok(self.start(next)),
+            None => self.take(alloc, finding),
+        }
     }
 }

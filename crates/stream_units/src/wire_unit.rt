@@ -1,25 +1,29 @@
 //! Units with the stamps that they have on the wire.
 
-use pes_packet::Unit;
-use std::alloc::{Allocator, Global};
+use crate::unit_bytes::{LentBytes, UnitBytes};
+use std::alloc::Global;
 use std::marker::Model;
 
-/// A unit as a stream carries it.
+/// A unit as a stream carries it, its stamps as they stand in the header, modulo 2^33.
 #[derive(Drop)]
-pub struct WireUnit<A: Allocator = Global> {
+pub struct WireUnit<B: UnitBytes = Vec<u8>> {
     /// The packet in which its PES packet begins.
     pub packet: u64,
     /// stream_id of its PES packet.
     pub stream_id: u8,
-    /// Its bytes, and its stamps as they stand in the header, modulo 2^33.
-    pub unit: Unit<A>,
+    pub dts: u64,
+    pub pts: u64,
+    pub bytes: B,
 }
 
+/// One of which the body of the first PES packet stays in its finding.
+pub type FoundUnit<'f, A = Global> = WireUnit<LentBytes<'f, A>>;
+
 // A contract sees what it says, and not where its bytes are kept.
-impl<A: Allocator> Model for WireUnit<A> {
-    ghost use Rattle.stream_units.specs.CarriedUnits.{CarriedUnit};
+impl<B: UnitBytes> Model for WireUnit<B> {
+    ghost use Rattle.stream_units.specs.CarriedUnits.{CarriedUnit, unit_with};
 
     ghost Value = { CarriedUnit };
 
-    ghost view = { λ u. record { packet = u.packet; stream_id = u.stream_id; unit = u.unit } };
+    ghost view = { λ u. unit_with u.packet u.stream_id u.dts u.pts (B.bytes u.bytes) };
 }

@@ -15,13 +15,13 @@ const MAX_AHEAD: u64 = 900_000;
 
 // What the clock shows at moment 0, with the first unit of all at `earliest`.
 #[tactic(auto, unfolding(crate::specs::Feeding::base_by))]
-fn base_by(earliest: u64, base: Option<u64>, unit: &Unit) -> u64
+fn base_by(earliest: u64, base: Option<u64>, wire: &WireUnit) -> u64
     requires { IfSome base (λ base. base < 2 ^ 33) }
-    ensures value { result ≡ spec.base_by earliest base unit.now }
+    ensures value { result ≡ spec.base_by earliest base wire.now.unit }
     ensures bound { result < 2 ^ 33 }
 {
     match base {
-        None => distance(earliest, unit.dts),
+        None => distance(earliest, wire.dts),
         Some(base) => base,
     }
 }
@@ -35,7 +35,7 @@ fn fix(due: Due, origin: &mut Origin, wire: &WireUnit) -> u64
     ensures bound { result < 2 ^ 33 }
 {
     let packet = wire.packet;
-    let base = base_by(due.earliest, origin.base_for(packet), &wire.unit);
+    let base = base_by(due.earliest, origin.base_for(packet), wire);
     *origin = origin.fixed(packet, base);
     base
 }

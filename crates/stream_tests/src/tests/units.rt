@@ -4,11 +4,11 @@ mod declaration;
 mod moments;
 
 use demux::{Finding, Kind, Part, What};
-use pes_packet::{PesHeader, Stamps, Unit};
+use pes_packet::{PesHeader, Stamps};
 use std::alloc::{AllocError, Global};
 use stream_units::{
-    FoundUnit, UnitWarning, UnitWarningCause, WireUnit, carried_units, first_other, taken_units,
-    unit_warnings, written_id,
+    FoundUnit, LentBytes, UnitWarning, UnitWarningCause, WireUnit, carried_units, first_other,
+    taken_units, unit_warnings, written_id,
 };
 
 // What is found, in short: a PES packet that begins in a packet, a duplicate, counter 7 where 5 was expected, a part
@@ -95,8 +95,8 @@ fn worked_findings(alloc: Global) -> Result<Vec<Finding<'static>>, AllocError> {
 fn is_unit(unit: &WireUnit, packet: u64, stamps: (u64, u64), bytes: &[u8]) -> bool {
     unit.packet == packet
         && unit.stream_id == 224
-        && (unit.unit.dts, unit.unit.pts) == stamps
-        && unit.unit.bytes.as_slice() == bytes
+        && (unit.dts, unit.pts) == stamps
+        && unit.bytes.as_slice() == bytes
 }
 
 fn are_units(units: &[WireUnit]) -> bool {
@@ -176,7 +176,9 @@ pub fn wire_unit(alloc: Global, dts: u64, pts: u64, size: usize) -> Result<WireU
     Ok(WireUnit {
         packet: 0,
         stream_id: 224,
-        unit: Unit { dts, pts, bytes },
+        dts,
+        pts,
+        bytes,
     })
 }
 
@@ -196,13 +198,16 @@ pub fn wire(alloc: Global, stamps: &[(u64, u64, usize)]) -> Option<Vec<WireUnit>
 pub fn lent<'f>(alloc: Global, units: &'f [WireUnit]) -> Option<Vec<FoundUnit<'f>>> {
     let mut found = Vec::new(alloc);
     for unit in units {
-        let Ok(()) = found.push(FoundUnit {
+        let bytes = LentBytes {
+            body: unit.bytes.as_slice(),
+            more: Vec::new(alloc),
+        };
+        let Ok(()) = found.push(WireUnit {
             packet: unit.packet,
             stream_id: unit.stream_id,
-            dts: unit.unit.dts,
-            pts: unit.unit.pts,
-            body: unit.unit.bytes.as_slice(),
-            more: Vec::new(alloc),
+            dts: unit.dts,
+            pts: unit.pts,
+            bytes,
         }) else {
             return None;
         };

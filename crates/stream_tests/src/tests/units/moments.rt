@@ -150,7 +150,7 @@ fn are_made(units: &[FoundUnit<'_>]) -> bool {
             return false;
         };
         let dts = FIRST.saturating_add(row.1) % RANGE;
-        if unit.dts != dts || unit.pts != row.0 || unit.body != [0xa5u8].as_slice() {
+        if unit.dts != dts || unit.pts != row.0 || unit.bytes.body != [0xa5u8].as_slice() {
             return false;
         }
         left = rest;

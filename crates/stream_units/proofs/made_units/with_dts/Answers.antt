@@ -1,4 +1,5 @@
 use Rattle.std.proofs.Common.{◌≡◌, ◌∙◌, ◌++◌, ◌∷◌, [], List, ap, sym, rules}
+use Rattle.std.proofs.lemmas.List.{nil_from_length}
 use Rattle.stream_units.specs.CarriedUnits.{CarriedUnit, unit_with}
 use Rattle.stream_units.specs.MadeDts.{with_dts}
 use Rattle.stream_units.proofs.MadeDts.{dts_more, dts_short, dts_end, dts_done}
@@ -23,7 +24,6 @@ returns-in_default-split_first g c =
 
 pub returns : goal.returns
 returns g c =
-    let none : c.units.left.items ≡ [] = search rules in
     dts_done (with_dts c.args.dts.now c.from-left.result.items) c.units.units.items (with_dts c.units.later.now c.units.left.items) c.units.invariant
-    (dts_end c.units.later.now c.units.left.items none)
+    (dts_end c.units.later.now c.units.left.items (nil_from_length c.units.left.items (sym c.units.left.ok.0 ∙ c.in_default.ensures.cases.0)))
     ∙ ap (with_dts c.args.dts.now) c.from-left.ensures.0
