@@ -5,6 +5,7 @@ ghost use Rattle.packet_arrival.specs.Rows.{IsTimed, IsEarly, times_of};
 
 use crate::clock_line::ClockLine;
 use clock27::Rate;
+use clock27::units::BYTE_TICKS_AT_1BPS;
 use packet_arrival::Row;
 
 /// Two lines of a clock in a row: up to the byte with which the second begins, bytes lie on the first.
@@ -56,7 +57,7 @@ impl Arrival {
     {
         match self {
             Arrival::AtRate(rate) => rate.bits_per_second(),
-            Arrival::Unknown | Arrival::OnLines(_) => 216_000_000,
+            Arrival::Unknown | Arrival::OnLines(_) => BYTE_TICKS_AT_1BPS as u64,
         }
     }
 

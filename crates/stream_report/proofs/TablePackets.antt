@@ -1,7 +1,6 @@
 -- A packet in the demultiplexer of tables, where no part of one is held and no finding.
-use Rattle.std.proofs.Common.{◌≡◌, ◌∙◌, ℕ, List, [], ◌++◌, length, Ok, refl, sym, ap, ap₂}
-use Rattle.ts_packet.specs.Packets.{null_packet, null_view}
-use Rattle.ts_packet.specs.Reading.{packet_at}
+use Rattle.std.proofs.Common.{◌≡◌, ◌∙◌, ℕ, List, [], ◌++◌, length, refl, sym, ap, ap₂}
+use Rattle.ts_packet.specs.Packets.{null_packet}
 use Rattle.ts_packet.proofs.PlainWritten.{null_again}
 use Rattle.demux.specs.Views.{FindingView}
 use Rattle.demux.specs.FoundSoFar.{with_found}

@@ -3,6 +3,7 @@ ghost use Rattle.std.specs.Prelude.{◌≡◌, ◌<◌, ◌^◌, OnOk};
 ghost use Rattle.ts_packet.specs.Views.{packet_view};
 ghost use Rattle.stream_report.specs.Clocks as spec;
 
+use clock27::units::BYTE_TICKS_AT_1BPS;
 use indexmap::IndexMap;
 use packet_arrival::{PCR_PERIOD, PcrSample};
 use pes_packet::{PesError, PesHeader, Stamps, read_header};
@@ -12,9 +13,6 @@ use std::marker::Model;
 use stream_arrival::Arrival;
 use stream_view::DueTime;
 use ts_packet::{Adaptation, Packet};
-
-// A byte at 1 bit a second in ticks of 27 MHz.
-const BYTE_TICKS: u128 = 216_000_000;
 
 // No time in ticks that counts is after this one.
 const LAST_TICK: u128 = 1 << 60;
@@ -163,7 +161,7 @@ pub(crate) fn ahead_of(clock: &PcrSample, dts: u64) -> u64
 fn tick_of(rate: u64, clock: &PcrSample) -> u128
     ensures { result ≡ spec.tick_of rate clock.now }
 {
-    (u128::from(clock.byte) * BYTE_TICKS / u128::from(rate.max(1))).min(LAST_TICK)
+    (u128::from(clock.byte) * BYTE_TICKS_AT_1BPS / u128::from(rate.max(1))).min(LAST_TICK)
 }
 
 // When a unit is due, in ticks from the stream's first byte.
@@ -187,7 +185,7 @@ pub(crate) fn due_at(rate: u64, rx: u32, clock: &PcrSample, dts: u64) -> DueTime
 {
     let parts = due_tick(rate, clock, dts) * (u128::from(rate) * u128::from(rx));
     DueTime {
-        until: parts.div_ceil(BYTE_TICKS),
-        deadline: parts / BYTE_TICKS,
+        until: parts.div_ceil(BYTE_TICKS_AT_1BPS),
+        deadline: parts / BYTE_TICKS_AT_1BPS,
     }
 }

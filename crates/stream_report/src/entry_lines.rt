@@ -9,6 +9,7 @@ use crate::clocks::LONGEST_STAY;
 use crate::lines::{number, word, write_line};
 use crate::tally::Tally;
 use crate::view_options::ViewOptions;
+use clock27::units::BYTE_TICKS_AT_1BPS;
 use std::alloc::AllocError;
 use stream_buffers::{Entered, StreamBuffers, TRANSPORT_BYTES};
 use stream_coding::{Buffers, Coding};
@@ -32,9 +33,6 @@ pub struct MainFigures {
     pub most: u64,
     pub excesses: u128,
 }
-
-// A byte at 1 bit a second in ticks of 27 MHz.
-const BYTE_TICKS: u128 = 216_000_000;
 
 /// The word for a coding.
 #[tactic(auto, unfolding(crate::specs::EntryLines::coding_word))]
@@ -82,7 +80,7 @@ fn ticks_of(rate: u64, rx: u32, time: u128) -> u128
     requires { rate < 4294967296 }
     ensures { result ≡ spec.ticks_of rate rx time }
 {
-    time.saturating_mul(BYTE_TICKS) / u128::from((rate * u64::from(rx)).max(1))
+    time.saturating_mul(BYTE_TICKS_AT_1BPS) / u128::from((rate * u64::from(rx)).max(1))
 }
 
 /// How long a time of a buffer is in ticks.

@@ -1,4 +1,4 @@
-use Rattle.std.proofs.Common.{refl, length, ◌≡◌, ◌∙◌, sym, ℕ, List, ◌++◌, Option, Some, None, option_map, ap, subst, append-nil, nat_eq}
+use Rattle.std.proofs.Common.{refl, length, ◌≡◌, ◌∙◌, sym, ℕ, List, ◌++◌, Option, Some, None, ap, subst, append-nil, nat_eq}
 use Rattle.std.specs.Prelude.{OnOk, set, slice_get, string_bytes}
 use Rattle.std.specs.Map.{lookup}
 use Rattle.std.proofs.lemmas.Option.{slice_get_past, slice_get_read}
