@@ -1,5 +1,5 @@
 -- A packet enters: its first bytes, the rest of its header, the begin of a unit, and its payload, one after another.
-use Rattle.std.proofs.Common.{◌≡◌, ◌∙◌, sym, ℕ, ◌+◌, ◌-◌, ◌*◌, ◌^◌, ◌≤◌, ◌<◌, max, ◌&&◌, nat_le, nat_lt, Bool, true, false, List, ◌++◌, Option, refl, subst, ap, arith}
+use Rattle.std.proofs.Common.{◌≡◌, ◌∙◌, sym, ℕ, ◌+◌, ◌-◌, ◌*◌, ◌≤◌, ◌<◌, max, ◌&&◌, nat_le, nat_lt, Bool, true, false, List, ◌++◌, Option, refl, subst, ap, arith}
 use Rattle.std.proofs.lemmas.Bool.Decides.{nat_tests}
 use Rattle.std.specs.Option.{option_to_list}
 use Rattle.stream_arrival.specs.declared.arrival.Arrival.{Arrival}
@@ -13,7 +13,7 @@ use Rattle.stream_buffers.specs.declared.entered.Entered.{Entered}
 use Rattle.stream_buffers.specs.declared.buffers.StreamBuffers.{StreamBuffers}
 use Rattle.stream_buffers.specs.declared.entering.TheConstants.{LAST_INDEX, LAST_BYTES}
 use Rattle.stream_buffers.specs.Held.{Held, IsHeld}
-use Rattle.stream_buffers.specs.Entering.{EnteredView, after, after_begin, after_bytes, after_header, after_lead, after_unit, bytes_main, bytes_main_least, bytes_main_most, bytes_transport, bytes_transport_most, ended_with, entered, entered_view, lead_in, size_of, takes_in, unit_ended, with_packet}
+use Rattle.stream_buffers.specs.Entering.{after, after_begin, after_bytes, after_header, after_lead, after_unit, bytes_main, bytes_main_least, bytes_main_most, bytes_transport, bytes_transport_most, ended_with, entered, entered_view, lead_in, size_of, takes_in, unit_ended, with_packet}
 use Rattle.stream_buffers.proofs.Rows.{bytes_held}
 
 -- bytes among others that have times

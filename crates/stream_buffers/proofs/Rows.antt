@@ -1,5 +1,5 @@
 -- Bytes of a unit that enter both buffers, and the excess of the main buffer.
-use Rattle.std.proofs.Common.{◌≡◌, ◌∙◌, sym, ℕ, ◌+◌, ◌<◌, List, ◌∷◌, Option, Some, None, refl, ap, ap₂, subst, arith}
+use Rattle.std.proofs.Common.{◌≡◌, ◌∙◌, sym, ℕ, ◌+◌, ◌<◌, List, ◌∷◌, Option, None, ap, ap₂, subst, arith}
 use Rattle.clock27.specs.Departure.{departures, last_left}
 use Rattle.clock27.specs.Peak.{greatest_at, most_found}
 use Rattle.clock27.proofs.Departures.{last_left-append}
@@ -15,22 +15,10 @@ use Rattle.stream_view.specs.History.Part.{Carries}
 use Rattle.stream_view.specs.Viewed.{IsViewOf}
 use Rattle.stream_view.specs.MainExcess.{after_row, ended_by}
 use Rattle.stream_view.specs.declared.buffers.StreamView.{StreamView}
-use Rattle.stream_view.specs.declared.row_seen.RowSeen.{RowSeen}
 use Rattle.stream_view.specs.declared.main_watch.MainWatch.{MainWatch}
 use Rattle.stream_view.proofs.Views.{row_lowest, row_most}
-use Rattle.stream_buffers.specs.Held.{Held, IsHeld, carried, main_ended, main_found, main_least_found, row_of, transport_found}
+use Rattle.stream_buffers.specs.Held.{Held, IsHeld, carried, last_entry, main_ended, main_found, main_least_found, transport_found}
 use Rattle.stream_buffers.specs.declared.buffers.StreamBuffers.{StreamBuffers}
-
--- an excess of the main buffer depends on the most that a row finds, and on when its last byte enters
-pub same_after : (size : ℕ) (under_way : Option Excess) (a b : RowSeen) → a.main ≡ b.main → a.last ≡ b.last → after_row size under_way a ≡ after_row size under_way b
-unfolding Rattle.stream_view.specs.MainExcess.grown
-same_after size None a b p q = rw (p, q) refl
-same_after size (Some e) a b p q = rw (p, q) refl
-
-pub same_ended : (size : ℕ) (under_way : Option Excess) (a b : RowSeen) → a.main ≡ b.main → a.last ≡ b.last → ended_by size under_way a ≡ ended_by size under_way b
-unfolding Rattle.stream_view.specs.MainExcess.ended_at
-same_ended size None a b p q = rw p refl
-same_ended size (Some e) a b p q = rw (p, q) refl
 
 -- the most in the main buffer when one of these bytes enters
 pub main_row : {A : Type 0} (view : StreamView A) (rate : ℕ) (parts : List Part) (ts : List ℕ) → IsViewOf view parts → view.transport.step ≡ rate → 0 < view.transport.step →
@@ -85,18 +73,18 @@ last_row view after rate parts ts v step is =
     left ∙ rw last (sym (last_left-append s 0 (arrivals_of parts) ts)) ∙ ap (λ (n : ℕ). last_of n (Carries ts ∷ parts)) step
 
 -- bytes of a unit enter buffers that hold what came
-pub carried_held : (old new : StreamBuffers) (h : Held) (ts times : List ℕ) (seen : RowSeen) → IsHeld old h → ts ≡ times → new.rx ≡ old.rx →
+pub carried_held : (old new : StreamBuffers) (h : Held) (ts times : List ℕ) (most last : ℕ) → IsHeld old h → ts ≡ times → new.rx ≡ old.rx →
     ((parts : List Part) → IsViewOf old.view parts → IsViewOf new.view (Carries ts ∷ parts)) → new.view.transport ≡ buffer_entered old.view.transport ts →
     new.view.watch.size ≡ old.view.watch.size → 0 < old.view.transport.step →
-    seen.main ≡ greatest_at (fullness_with old.view.main (departures old.view.transport.step old.view.transport.last ts)) (departures old.view.transport.step old.view.transport.last ts) →
-    seen.last ≡ new.view.transport.last → new.main.size ≡ old.main.size → new.main.under_way ≡ after_row old.main.size old.main.under_way seen → IsHeld new (carried h times)
-carried_held old new h ts times seen k same rx views enters size pos most last main_size main =
-    let found : seen.main ≡ (row_of h ts).main = most ∙ main_row old.view h.rate h.parts ts k.view k.step pos in
-    let ends : seen.last ≡ (row_of h ts).last = last ∙ last_row old.view new.view.transport h.rate h.parts ts k.view k.step enters in
+    most ≡ greatest_at (fullness_with old.view.main (departures old.view.transport.step old.view.transport.last ts)) (departures old.view.transport.step old.view.transport.last ts) →
+    last ≡ new.view.transport.last → new.main.size ≡ old.main.size → new.main.under_way ≡ after_row old.main.size old.main.under_way most last → IsHeld new (carried h times)
+carried_held old new h ts times most last k same rx views enters size pos most_is last_is main_size main =
+    let found : most ≡ main_found h ts = most_is ∙ main_row old.view h.rate h.parts ts k.view k.step pos in
+    let ends : last ≡ last_entry h ts = last_is ∙ last_row old.view new.view.transport h.rate h.parts ts k.view k.step enters in
     let size_is : new.main.size ≡ h.main.size = main_size ∙ ap (λ (m : MainWatch). m.size) k.main in
-    let grows : new.main.under_way ≡ after_row h.main.size h.main.under_way (row_of h ts) =
-    main ∙ ap (λ (m : MainWatch). after_row m.size m.under_way seen) k.main ∙ same_after h.main.size h.main.under_way seen (row_of h ts) found ends in
-    let watch : new.main ≡ record { size = h.main.size; under_way = after_row h.main.size h.main.under_way (row_of h ts) } =
+    let grows : new.main.under_way ≡ after_row h.main.size h.main.under_way (main_found h ts) (last_entry h ts) =
+    main ∙ ap (λ (m : MainWatch). after_row m.size m.under_way most last) k.main ∙ ap₂ (λ (n l : ℕ). after_row h.main.size h.main.under_way n l) found ends in
+    let watch : new.main ≡ record { size = h.main.size; under_way = after_row h.main.size h.main.under_way (main_found h ts) (last_entry h ts) } =
     ap₂ {C = MainWatch} (λ (n : ℕ) (u : Option Excess). record { size = n; under_way = u }) size_is grows in
     subst (λ (t : List ℕ). IsHeld new (carried h t)) same (record {
       rx = rx ∙ k.rx;
@@ -107,15 +95,15 @@ carried_held old new h ts times seen k same rx views enters size pos most last m
     })
 
 -- and the excess of the main buffer that has ended
-pub carried_ended : (old : StreamBuffers) (after : TransportBuffer) (h : Held) (ts times : List ℕ) (seen : RowSeen) (result : Option Excess) → IsHeld old h → ts ≡ times →
+pub carried_ended : (old : StreamBuffers) (after : TransportBuffer) (h : Held) (ts times : List ℕ) (most last : ℕ) (result : Option Excess) → IsHeld old h → ts ≡ times →
     after ≡ buffer_entered old.view.transport ts → 0 < old.view.transport.step →
-    seen.main ≡ greatest_at (fullness_with old.view.main (departures old.view.transport.step old.view.transport.last ts)) (departures old.view.transport.step old.view.transport.last ts) →
-    seen.last ≡ after.last → result ≡ ended_by old.main.size old.main.under_way seen → option_to_list result ≡ main_ended h times
-carried_ended old after h ts times seen result k same enters pos most last is =
-    let found : seen.main ≡ (row_of h ts).main = most ∙ main_row old.view h.rate h.parts ts k.view k.step pos in
-    let ends : seen.last ≡ (row_of h ts).last = last ∙ last_row old.view after h.rate h.parts ts k.view k.step enters in
+    most ≡ greatest_at (fullness_with old.view.main (departures old.view.transport.step old.view.transport.last ts)) (departures old.view.transport.step old.view.transport.last ts) →
+    last ≡ after.last → result ≡ ended_by old.main.size old.main.under_way most last → option_to_list result ≡ main_ended h times
+carried_ended old after h ts times most last result k same enters pos most_is last_is is =
+    let found : most ≡ main_found h ts = most_is ∙ main_row old.view h.rate h.parts ts k.view k.step pos in
+    let ends : last ≡ last_entry h ts = last_is ∙ last_row old.view after h.rate h.parts ts k.view k.step enters in
     ap (λ (e : Option Excess). option_to_list e)
-    (is ∙ ap (λ (m : MainWatch). ended_by m.size m.under_way seen) k.main ∙ same_ended h.main.size h.main.under_way seen (row_of h ts) found ends)
+    (is ∙ ap (λ (m : MainWatch). ended_by m.size m.under_way most last) k.main ∙ ap₂ (λ (n l : ℕ). ended_by h.main.size h.main.under_way n l) found ends)
     ∙ ap (λ (t : List ℕ). main_ended h t) same
 
 -- how many bytes have come

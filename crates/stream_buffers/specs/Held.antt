@@ -10,7 +10,6 @@ use Rattle.stream_view.specs.History.Part.{Passes, Carries, Begins}
 use Rattle.stream_view.specs.Viewed.{IsViewOf}
 use Rattle.stream_view.specs.MainExcess.{after_row, ended_by}
 use Rattle.stream_view.specs.declared.main_watch.MainWatch.{MainWatch}
-use Rattle.stream_view.specs.declared.row_seen.RowSeen.{RowSeen}
 use Rattle.stream_view.specs.declared.unit_seen.UnitSeen.{UnitSeen}
 use Rattle.stream_view.specs.declared.unit_seen.DueTime.{DueTime}
 use Rattle.stream_buffers.specs.declared.buffers.StreamBuffers.{StreamBuffers}
@@ -65,36 +64,29 @@ transport_found h times = most_found h.rate (last_of h.rate h.parts) times
 abbrev pub passed : Held → List ℕ → Held
 passed h times = record { rate = h.rate; rx = h.rx; parts = Passes times ∷ h.parts; main = h.main }
 
--- or they are of the unit under way: what the main buffer holds at most when one of them enters, at least before one does, and
--- when the last one does
-abbrev pub row_of : Held → List ℕ → RowSeen
-row_of h times = record {
-  transport = 0;
-  ended = None;
-  main = greatest_at (main_fullness h.rate (Carries times ∷ h.parts)) (left_after h.rate h.parts times);
-  least = row_least h.rate h.parts times;
-  last = last_of h.rate (Carries times ∷ h.parts);
-}
+-- or they are of the unit under way: the most that is in the main buffer when one of them enters it
+abbrev pub main_found : Held → List ℕ → ℕ
+main_found h times = greatest_at (main_fullness h.rate (Carries times ∷ h.parts)) (left_after h.rate h.parts times)
+
+-- the least that one of them finds there, itself not counted
+abbrev pub main_least_found : Held → List ℕ → Option ℕ
+main_least_found h times = row_least h.rate h.parts times
+
+-- and when the last of them enters it
+abbrev pub last_entry : Held → List ℕ → ℕ
+last_entry h times = last_of h.rate (Carries times ∷ h.parts)
 
 abbrev pub carried : Held → List ℕ → Held
 carried h times = record {
   rate = h.rate;
   rx = h.rx;
   parts = Carries times ∷ h.parts;
-  main = record { size = h.main.size; under_way = after_row h.main.size h.main.under_way (row_of h times) };
+  main = record { size = h.main.size; under_way = after_row h.main.size h.main.under_way (main_found h times) (last_entry h times) };
 }
-
--- the most that was in the main buffer when one of them entered it
-abbrev pub main_found : Held → List ℕ → ℕ
-main_found h times = (row_of h times).main
-
--- and the least that one of them found there, itself not counted
-abbrev pub main_least_found : Held → List ℕ → Option ℕ
-main_least_found h times = (row_of h times).least
 
 -- the excess of the main buffer that has ended by then
 abbrev pub main_ended : Held → List ℕ → List Excess
-main_ended h times = option_to_list (ended_by h.main.size h.main.under_way (row_of h times))
+main_ended h times = option_to_list (ended_by h.main.size h.main.under_way (main_found h times) (last_entry h times))
 
 -- 3. A unit begins with the next byte
 

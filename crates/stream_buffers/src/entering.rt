@@ -5,14 +5,13 @@ ghost use Rattle.stream_arrival.specs.Arrivals.{has_times, step_of, times_at};
 ghost use Rattle.stream_view.specs.MainExcess.{after_row, ended_by};
 ghost use Rattle.stream_buffers.specs.Held.{Held, IsHeld, begun, carried, empty, main_ended, main_found, main_least_found, main_most, passed, transport_ended, transport_found, transport_most, transport_under_way, unit_before};
 ghost use Rattle.stream_buffers.specs.Entering.{after, after_begin, after_bytes, bytes_main, bytes_main_least, bytes_main_most, bytes_transport, bytes_transport_most, entered, entered_view, nothing_entered, unit_ended};
-ghost use Rattle.stream_buffers.specs.Rows.{seen_of};
 
 use crate::arriving::Arriving;
 use crate::buffers::StreamBuffers;
 use crate::entered::Entered;
 use std::alloc::{AllocError, Global};
 use stream_arrival::Arrival;
-use stream_view::{DueTime, MainWatch, RowFound, RowSeen, StreamView, UnitSeen};
+use stream_view::{DueTime, MainWatch, RowFound, StreamView, UnitSeen};
 use transport_buffer::Excess;
 
 /// The size of a transport buffer in bytes (ISO/IEC 13818-1, 2.4.2.3).
@@ -31,37 +30,20 @@ const NO_ROW: RowFound = RowFound {
     least: None,
 };
 
-// The excess of the main buffer that has ended with a row. A call of its own: few rows end one.
-#[inline(never)]
-fn see_excess(watch: &mut MainWatch, found: &RowFound, last: u128, ended: &mut Option<Excess>)
-    ensures ended { ended.new ≡ ended_by watch.old.size watch.old.under_way (seen_of found.now last) }
-    ensures under_way { watch.new.under_way ≡ after_row watch.old.size watch.old.under_way (seen_of found.now last) }
-    ensures size { watch.new.size ≡ watch.old.size }
-{
-    let seen = RowSeen {
-        transport: 0,
-        ended: None,
-        main: found.main,
-        least: found.least,
-        last,
-    };
-    *ended = watch.see(&seen);
-}
-
-// The excess of the main buffer that has ended with a row, whose last byte enters it at `last`, is written where none is yet. Where the row
-// finds room and no excess is under way, nothing is written.
+// The excess of the main buffer that has ended with a row is written where none is yet: the row's last byte enters it at `last`, and one of
+// its bytes found `most` there. Where it finds room and no excess is under way, nothing is written.
 #[inline(always)]
 #[tactic(auto, unfolding(stream_view::specs::MainExcess::ended_at))]
-fn see(watch: &mut MainWatch, found: &RowFound, last: u128, ended: &mut Option<Excess>)
+fn see(watch: &mut MainWatch, most: u64, last: u128, ended: &mut Option<Excess>)
     requires none { ended.old ≡ None }
-    ensures ended { ended.new ≡ ended_by watch.old.size watch.old.under_way (seen_of found.now last) }
-    ensures under_way { watch.new.under_way ≡ after_row watch.old.size watch.old.under_way (seen_of found.now last) }
+    ensures ended { ended.new ≡ ended_by watch.old.size watch.old.under_way most last }
+    ensures under_way { watch.new.under_way ≡ after_row watch.old.size watch.old.under_way most last }
     ensures size { watch.new.size ≡ watch.old.size }
 {
-    if found.main <= watch.size && watch.under_way.is_none() {
+    if most <= watch.size && watch.under_way.is_none() {
         return;
     }
-    see_excess(watch, found, last, ended);
+    *ended = watch.see(most, last);
 }
 
 impl StreamBuffers {
@@ -189,7 +171,7 @@ impl StreamBuffers {
     {
         let row = arrival.row(u64::from(self.rx), byte, count);
         let found = self.view.carry(&row, ended);
-        see(&mut self.main, &found, self.view.transport.last, main);
+        see(&mut self.main, found.main, self.view.transport.last, main);
         found
     }
 

@@ -3,7 +3,7 @@
 //! - [`StreamView`]: both buffers, filled row by row as the bytes of the stream's packets arrive; the most that each holds,
 //!   each excess, and each unit with the time at which it has left the transport buffer.
 //! - [`DueTime`], [`UnitSeen`]: when a unit is due, and when it came.
-//! - [`RowSeen`], [`RowFound`]: what the bytes of one row found.
+//! - [`RowFound`]: what the bytes of one row found.
 //! - [`MainWatch`]: excesses of the main buffer, row by row.
 //! - [`SystemView`]: the two buffers of a program's tables, with each excess of both.
 //! - [`WatchedQueue`]: a buffer that bytes pass one after another, with its excesses.
@@ -19,7 +19,7 @@ mod buffers;
 mod even_bytes;
 pub mod laws;
 mod main_watch;
-mod row_seen;
+mod row_found;
 mod system_buffers;
 mod system_view;
 mod unit_seen;
@@ -28,7 +28,7 @@ mod watched_queue;
 
 pub use buffers::StreamView;
 pub use main_watch::MainWatch;
-pub use row_seen::{RowFound, RowSeen};
+pub use row_found::RowFound;
 pub use system_buffers::{EndedExcesses, SYSTEM_BYTES, SystemView, TABLE_TRANSPORT_BYTES};
 pub use unit_seen::{DueTime, UnitSeen};
 pub use view::{BeginError, MOST_WAITING};

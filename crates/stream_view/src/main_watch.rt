@@ -2,7 +2,6 @@
 ghost use Rattle.std.specs.Prelude.{◌≡◌, None};
 ghost use Rattle.stream_view.specs.MainExcess.{after_row, ended_by};
 
-use crate::row_seen::RowSeen;
 use transport_buffer::Excess;
 
 /// The excess of a main buffer that is under way, if there is one, row by row.
@@ -24,29 +23,31 @@ impl MainWatch {
         }
     }
 
-    /// A row that `carry` took has entered the buffer: the excess that has ended. It begins with the last byte of the first row
-    /// of which a byte finds no room, and ends with the last byte of the first one after it that finds room.
+    /// A row that `carry` took has entered the buffer, its last byte at `last`, and one of its bytes found `most` bytes there, itself
+    /// included: the excess that has ended. It begins with the last byte of the first row of which a byte finds no room, and ends with
+    /// the last byte of the first one after it that finds room. A call of its own: few rows begin or end one.
+    #[inline(never)]
     #[tactic(auto, unfolding(crate::specs::MainExcess::grown, crate::specs::MainExcess::ended_at))]
-    pub fn see(&mut self, seen: &RowSeen) -> Option<Excess>
-        ensures ended { result ≡ ended_by self.old.size self.old.under_way seen.now }
-        ensures under_way { self.new.under_way ≡ after_row self.old.size self.old.under_way seen.now }
+    pub fn see(&mut self, most: u64, last: u128) -> Option<Excess>
+        ensures ended { result ≡ ended_by self.old.size self.old.under_way most last }
+        ensures under_way { self.new.under_way ≡ after_row self.old.size self.old.under_way most last }
         ensures size { self.new.size ≡ self.old.size }
     {
-        if seen.main <= self.size {
+        if most <= self.size {
             return self.under_way.take().map(|excess| Excess {
                 begin: excess.begin,
-                end: seen.last,
+                end: last,
                 peak: excess.peak,
             });
         }
-        let main = u128::from(seen.main);
+        let most = u128::from(most);
         let (begin, peak) = match self.under_way {
-            None => (seen.last, main),
-            Some(excess) => (excess.begin, excess.peak.max(main)),
+            None => (last, most),
+            Some(excess) => (excess.begin, excess.peak.max(most)),
         };
         self.under_way = Some(Excess {
             begin,
-            end: seen.last,
+            end: last,
             peak,
         });
         None

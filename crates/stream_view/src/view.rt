@@ -15,7 +15,7 @@ ghost use Rattle.stream_view.specs.Viewed.{IsViewOf};
 
 use crate::arrival::arrive;
 use crate::buffers::StreamView;
-use crate::row_seen::RowFound;
+use crate::row_found::RowFound;
 use crate::unit_seen::{DueTime, UnitSeen};
 use decoder_buffers::MainBuffer;
 use main_buffer_rows::enter_leaving;

@@ -14,7 +14,7 @@ use Rattle.stream_view.specs.MainExcess.{ended_at}
 use Rattle.stream_view.specs.declared.main_watch.MainWatch.{MainWatch}
 use Rattle.stream_view.specs.declared.unit_seen.DueTime.{DueTime}
 use Rattle.stream_buffers.specs.declared.arriving.Arriving.{Arriving}
-use Rattle.stream_buffers.specs.Held.{Held, begun, carried, empty, main_ended, main_most, passed, row_of}
+use Rattle.stream_buffers.specs.Held.{Held, begun, carried, empty, main_ended, main_found, main_most, passed}
 use Rattle.stream_buffers.specs.Entering.{EnteredView, after, after_begin, after_header, after_lead, after_payload, after_unit, ended_with, entered, lead_in, nothing, payload_main, size_of, takes_in, with_packet}
 use Rattle.stream_report.specs.Entries.{EntryState}
 use Rattle.viewed_streams.specs.MainExcesses.{NoMainExcessLaw, TimedNoExcessLaw}
@@ -52,7 +52,7 @@ most_begun : (h : Held) (due : DueTime) → main_most h ≤ main_most (begun h d
 unfolding main_fullness payload_left
 most_begun h due = greatest_fuller (main_fullness h.rate h.parts) (main_fullness h.rate (begun h due).parts) (payload_left h.rate h.parts) (λ x. omega arith)
 
-row_within : (h : Held) (times : List ℕ) → (row_of h times).main ≤ main_most (carried h times)
+row_within : (h : Held) (times : List ℕ) → main_found h times ≤ main_most (carried h times)
 unfolding payload_left
 row_within h times = greatest_last (main_fullness h.rate (Carries times ∷ h.parts)) (payload_left h.rate h.parts) (left_after h.rate h.parts times)
 
@@ -77,7 +77,7 @@ quiet_carried : (h : Held) (times : List ℕ) → h.main.under_way ≡ None → 
     (main_ended h times ≡ []) × ((carried h times).main.under_way ≡ None)
 unfolding ended_at
 quiet_carried h times none few =
-    let room : nat_lt h.main.size (row_of h times).main ≡ false = le-ltb h.main.size (row_of h times).main (omega (arith, row_within h times, few)) in
+    let room : nat_lt h.main.size (main_found h times) ≡ false = le-ltb h.main.size (main_found h times) (omega (arith, row_within h times, few)) in
     (rw (room, none) refl, rw room refl)
 
 quiet_goes : (h : Held) (enters : Bool) (times : List ℕ) → h.main.under_way ≡ None → main_most (if enters then carried h times else passed h times) ≤ h.main.size →

@@ -2,7 +2,6 @@ use Rattle.std.proofs.Common.{◌≡◌, ◌∙◌, ℕ, refl, ap, arith}
 use Rattle.stream_arrival.specs.Arrivals.{times_at}
 use Rattle.packet_arrival.specs.Rows.{times_of}
 use Rattle.stream_view.proofs.Views.{bytes_more}
-use Rattle.stream_buffers.specs.Rows.{seen_of}
 use Rattle.stream_buffers.proofs.Rows.{carried_ended, carried_held, main_lowest_found, main_most_found, transport_most_found}
 use Rattle.stream_buffers.proofs.buffers.StreamBuffers.carry.Goals as goal
 
@@ -13,7 +12,7 @@ returns-clause-held c = λ h k.
     let times : times_of c.row-row.result ≡ times_at c.args.arrival.now h.rx c.args.byte c.args.count =
     c.row-row.ensures.times ∙ ap (λ (r : ℕ). times_at c.args.arrival.now r c.args.byte c.args.count) (c.from.ensures ∙ k.rx) in
     carried_held old _ h (times_of c.row-row.result) (times_at c.args.arrival.now h.rx c.args.byte c.args.count)
-    (seen_of c.carry-found.result c.carry-found.new.self.transport.last) k times refl seen.view seen.buffer seen.size old.view.paced.some seen.main refl c.see.ensures.size c.see.ensures.under_way
+    c.carry-found.result.main c.carry-found.new.self.transport.last k times refl seen.view seen.buffer seen.size old.view.paced.some seen.main refl c.see.ensures.size c.see.ensures.under_way
 
 pub returns-clause-main : goal.returns-clause-main
 returns-clause-main c = λ h k.
@@ -21,7 +20,7 @@ returns-clause-main c = λ h k.
     let seen = c.carry-found.ensures in
     let times : times_of c.row-row.result ≡ times_at c.args.arrival.now h.rx c.args.byte c.args.count =
     c.row-row.ensures.times ∙ ap (λ (r : ℕ). times_at c.args.arrival.now r c.args.byte c.args.count) (c.from.ensures ∙ k.rx) in
-    carried_ended old c.carry-found.new.self.transport h (times_of c.row-row.result) (times_at c.args.arrival.now h.rx c.args.byte c.args.count) (seen_of c.carry-found.result c.carry-found.new.self.transport.last) c.see.new.ended k times
+    carried_ended old c.carry-found.new.self.transport h (times_of c.row-row.result) (times_at c.args.arrival.now h.rx c.args.byte c.args.count) c.carry-found.result.main c.carry-found.new.self.transport.last c.see.new.ended k times
     seen.buffer old.view.paced.some seen.main refl c.see.ensures.ended
 
 pub returns-clause-most : goal.returns-clause-most
