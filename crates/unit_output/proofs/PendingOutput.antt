@@ -1,11 +1,11 @@
 -- Output that is written part by part, with its last bytes pending.
-use Rattle.std.proofs.Common.{◌≡◌, ℕ, ◌+◌, ◌<◌, ◌≤◌, List, [], ◌++◌, length, take, refl, sym, ap, subst, ◌∙◌, append_assoc, arith, get_or, drop, Result, Ok, Err, inl, inr}
+use Rattle.std.proofs.Common.{◌≡◌, ℕ, ◌+◌, ◌<◌, ◌≤◌, List, [], ◌++◌, length, take, refl, sym, ap, subst, ◌∙◌, append_assoc, get_or, drop, Result, Ok, Err}
 use Rattle.std.proofs.KnownBytes.{Appends-nil, Appends-trans}
 use Rattle.std.specs.Prelude.{OnOk}
 use Rattle.std.proofs.Math.Seq.{take-append_seam}
 use Rattle.std.specs.List.{flat_map}
 use Rattle.std.proofs.lemmas.List.{append-nil, at_drop_more, drop_all, take-append-drop}
-use Rattle.counted_io.specs.Device.{CountsOne, Failed}
+use Rattle.counted_io.specs.Device.{Failed}
 use Rattle.devices.specs.Devices.{Device, Port, Takes, between}
 use Rattle.devices.specs.Lines.{WritesLine}
 use Rattle.devices.specs.declared.halt.Halt.{Halt}
@@ -57,17 +57,14 @@ puts_whole output text pending (Err Write) n a =
     (record { taken = length a.1.sent; appends = subst (λ (y : List ℕ). Takes output y) (sym front) a.1.takes }, a.2)
 puts_whole output text pending (Err Memory) n a = absurd a
 
--- a part of which the writer took a front
-failed_one : (old new : ℕ) → CountsOne old new → Failed old new
-failed_one old new (inl e) = inl (omega (arith, e))
-failed_one old new (inr h) = inr h
-
-pub part_failed : (output : Device) (part pending : List ℕ) (taken : ℕ) → Takes output (take taken part) → CountsOne output.before.failed output.after.failed → Puts output part pending (Err Write)
-part_failed output part pending taken t f = (
-  drop taken part,
-  record { sent = take taken part; takes = t; is = sym (take-append-drop taken part) },
-  failed_one output.before.failed output.after.failed f,
-)
+-- a text that is written whole, or of which the writer took a front
+pub puts_written : (output : Device) (text pending : List ℕ) (r : Result (Unit {0}) Halt) → (r ≡ Ok tt → pending ≡ []) → WritesLine text output r → Puts output text pending r
+puts_written output text pending (Ok x) n w =
+    (record { sent = text; takes = w.0; is = sym (append-nil text) ∙ ap (λ (y : List ℕ). text ++ y) (sym (n refl)) }, w.1)
+puts_written output text pending (Err Read) n w = absurd w
+puts_written output text pending (Err Write) n w =
+    (drop w.0.taken text, record { sent = take w.0.taken text; takes = w.0.appends; is = sym (take-append-drop w.0.taken text) }, w.1)
+puts_written output text pending (Err Memory) n w = absurd w
 
 -- a part more, where nothing was pending any more
 pub puts_first : (old mid new : Port) (one pending two after : List ℕ) (r : Result (Unit {0}) Halt) → pending ≡ [] →

@@ -8,8 +8,8 @@ ghost use Rattle.unit_records.specs.Records.{record_bytes};
 ghost use Rattle.unit_output.specs.Records as spec;
 
 use crate::pending::{PendingBytes, ROOM};
-use counted_io::{Sink, write_part};
-use devices::Halt;
+use counted_io::Sink;
+use devices::{Halt, write_bytes};
 use pes_packet::Unit;
 use unit_records::record_head;
 
@@ -20,22 +20,13 @@ fn bytes_of(unit: &Unit) -> &[u8]
     unit.bytes.as_slice()
 }
 
-// Writes bytes.
-fn write_bytes<W: Sink>(to: &mut W, part: &[u8]) -> Result<(), Halt>
-    ensures { spec.Puts (writes W.Sink to.old to.new) part.now [] result }
-{
-    match write_part(to, part) {
-        Ok(()) => Ok(()),
-        Err(_) => Err(Halt::Write),
-    }
-}
-
 /// Writes the pending bytes.
+#[tactic(auto, using(crate::proofs::PendingOutput::puts_written))]
 pub(crate) fn flush<W: Sink>(to: &mut W, pending: &mut PendingBytes) -> Result<(), Halt>
     ensures puts { spec.Puts (writes W.Sink to.old to.new) pending.old.items pending.new.items result }
     ensures none { OnOk result (pending.new.items ≡ []) }
 {
-    match write_bytes(to, pending.as_slice()) {
+    match write_bytes(pending.as_slice(), to) {
         Ok(()) => {
             pending.clear();
             Ok(())
@@ -45,6 +36,7 @@ pub(crate) fn flush<W: Sink>(to: &mut W, pending: &mut PendingBytes) -> Result<(
 }
 
 // Keeps bytes pending where none are, or writes them where there is no room.
+#[tactic(auto, using(crate::proofs::PendingOutput::puts_written))]
 fn put_first<W: Sink>(to: &mut W, pending: &mut PendingBytes, part: &[u8]) -> Result<(), Halt>
     requires { pending.old.items ≡ [] }
     ensures { spec.Puts (writes W.Sink to.old to.new) part.now pending.new.items result }
@@ -53,7 +45,7 @@ fn put_first<W: Sink>(to: &mut W, pending: &mut PendingBytes, part: &[u8]) -> Re
         pending.append(part);
         return Ok(());
     }
-    write_bytes(to, part)
+    write_bytes(part, to)
 }
 
 // Keeps bytes pending, and writes those before them where there is no room for both.
