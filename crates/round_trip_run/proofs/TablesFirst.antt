@@ -1,7 +1,6 @@
 -- PAT and PMT have come before the packets of a stream.
-use Rattle.std.proofs.Common.{◌≡◌, ◌≤◌, ◌<◌, ℕ, zero, suc, ◌+◌, ◌*◌, ◌%◌, nat_eq, Bool, true, false, List, [], ◌∷◌, ◌++◌, length, map, take, replicate, option_map, Option, Some, slice_get, All, refl, sym, ap, subst, ◌∙◌, inl, inr, arith}
+use Rattle.std.proofs.Common.{◌≡◌, ◌≤◌, ◌<◌, ℕ, zero, suc, ◌+◌, ◌*◌, ◌%◌, nat_eq, Bool, true, false, List, [], ◌∷◌, ◌++◌, length, map, take, replicate, option_map, Option, Some, slice_get, refl, sym, ap, subst, ◌∙◌, inl, inr, arith}
 use Rattle.std.specs.Prelude.{cond}
-use Rattle.std.specs.List.{flat_map}
 use Rattle.std.proofs.Math.Nat.{mul-le-mul_right}
 use Rattle.std.proofs.Math.Seq.{take-append-add}
 use Rattle.std.proofs.lemmas.Bool.{cases_Bool, cases_lt, false≢true}
@@ -22,7 +21,7 @@ use Rattle.description.specs.Ranges.{IsInRange}
 use Rattle.description.specs.Tables.{table_count, table_limit, round_packets}
 use Rattle.description.proofs.SectionCounts.{sections_law}
 use Rattle.slot_plan.specs.declared.slot.Slot.{Slot}
-use Rattle.slot_plan.specs.declared.slot.Slot.TheVariants.{Stream, Table}
+use Rattle.slot_plan.specs.declared.slot.Slot.TheVariants.{Stream}
 use Rattle.slot_plan.specs.declared.slot.Item.TheVariants.{Table as TableItem}
 use Rattle.slot_plan.specs.Items.{is_own}
 use Rattle.slot_plan.specs.Schedule.{slot_of, owned}

@@ -1,7 +1,7 @@
 -- The worked service is in its ranges.
 use Rattle.std.specs.Prelude.{Contains}
 use Rattle.std.specs.List.{IsDistinct}
-use Rattle.std.proofs.Common.{◌≡◌, ◌≤◌, ◌<◌, ℕ, List, [], All, refl, inr, arith}
+use Rattle.std.proofs.Common.{◌≡◌, ◌≤◌, ◌<◌, ℕ, [], refl, inr, arith}
 use Rattle.std.proofs.lemmas.List.Elements.{All-nil, All-cons}
 use Rattle.description.specs.Described.{DescribedNetwork, DescribedProgram, DescribedStream}
 use Rattle.description.specs.Tables.{pmt_length, nit_length}

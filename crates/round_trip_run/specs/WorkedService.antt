@@ -2,7 +2,6 @@
 use Rattle.std.specs.Prelude.{false, [], ◌∷◌, None}
 use Rattle.unit_timing.specs.declared.allowance.Allowance.TheVariants.{Groups}
 use Rattle.description.specs.Described.{Described, DescribedProgram, DescribedStream}
-use Rattle.slot_plan.specs.declared.slot.Slot.{Slot}
 use Rattle.slot_plan.specs.declared.slot.Slot.TheVariants.{Stream, Pcr, Table}
 use Rattle.slot_plan.specs.Planned.{Planned}
 
