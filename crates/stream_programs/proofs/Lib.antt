@@ -1,5 +1,6 @@
 pub mod Slices
 pub mod AssociationSteps
+pub mod ProgramLists
 pub mod PidHolders
 pub mod LastMaps
 pub mod LastServices

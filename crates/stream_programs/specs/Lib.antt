@@ -1,5 +1,6 @@
 pub mod Sections
 pub mod Association
+pub mod ProgramLists
 pub mod ProgramMaps
 pub mod Omissions
 pub mod Streams
@@ -13,5 +14,4 @@ pub mod Networks
 pub mod NetworkInformation
 pub mod CharacterTables
 pub mod Texts
-pub mod Tables
 pub mod Laws

@@ -1,12 +1,13 @@
 //! The programs that the program association table names (ISO/IEC 13818-1, 2.4.4.3).
 
-ghost use Rattle.std.specs.Prelude.{◌≡◌, IfOk, OnOk, map, option_map};
+ghost use Rattle.std.specs.Prelude.{◌≡◌, true, IfOk, OnOk, map, option_map};
 ghost use Rattle.std.specs.List.{list_all};
 ghost use Rattle.psi_tables.specs.ProgramAssociation.{pat_at, pat_view, programs_of};
 ghost use Rattle.psi_tables.specs.Views.{section_view};
 ghost use Rattle.demux.specs.Shown.{finding_view};
 ghost use Rattle.stream_programs.specs.Association as spec;
 
+use crate::program_list::{PROGRAM_NUMBERS, ProgramList};
 use crate::sections::section_on;
 use demux::Finding;
 use psi_tables::{Pat, Program, Section};
@@ -86,37 +87,13 @@ fn first_pat<'f, A: Allocator>(findings: &'f [Finding<'_, A>]) -> Option<Pat<'f>
     None
 }
 
-// Whether a program_number is named.
-#[tactic(auto, unfolding(crate::specs::Association::is_named))]
-fn is_named(number: u16, programs: &[Program]) -> bool
-    ensures { result ≡ spec.is_named number programs.now }
-{
-    programs
-        .iter()
-        .any(|program| program.program_number == number)
-}
-
-#[tactic(auto, unfolding(crate::specs::Association::with_program))]
-fn add_program<A: Allocator>(
-    program: Program,
-    programs: &mut Vec<Program, A>,
-) -> Result<(), AllocError>
-    ensures { OnOk result (programs.new.items ≡ spec.with_program programs.old.items program) }
-{
-    if program.program_number != 0 && !is_named(program.program_number, programs) {
-        programs.push(program)?;
-    }
-    Ok(())
-}
-
 // The entries of a table.
 #[tactic(auto, unfolding(crate::specs::Association::with_programs))]
-fn add_entries<A: Allocator>(pat: Pat<'_>, programs: &mut Vec<Program, A>) -> Result<(), AllocError>
-    ensures { OnOk result (programs.new.items ≡ spec.with_programs programs.old.items
-        (programs_of pat.entry.programs)) }
+fn add_entries<A: Allocator>(pat: Pat<'_>, programs: &mut ProgramList<A>) -> Result<(), AllocError>
+    ensures { OnOk result (programs.new ≡ spec.with_programs programs.old (programs_of pat.entry.programs)) }
 {
     for program in pat.programs {
-        add_program(program, programs)?;
+        programs.add(program)?;
     }
     Ok(())
 }
@@ -126,9 +103,9 @@ fn add_entries<A: Allocator>(pat: Pat<'_>, programs: &mut Vec<Program, A>) -> Re
 fn add_version<A: Allocator>(
     version: u8,
     finding: &Finding<'_, A>,
-    programs: &mut Vec<Program, A>,
+    programs: &mut ProgramList<A>,
 ) -> Result<(), AllocError>
-    ensures { OnOk result (programs.new.items ≡ spec.with_programs programs.old.items
+    ensures { OnOk result (programs.new ≡ spec.with_programs programs.old
         (spec.entries_of version (spec.pat_found (finding_view finding.now)))) }
 {
     match pat_found(finding) {
@@ -147,9 +124,9 @@ fn add_version<A: Allocator>(
 fn add_all<A: Allocator>(
     version: u8,
     findings: &[Finding<'_, A>],
-    programs: &mut Vec<Program, A>,
+    programs: &mut ProgramList<A>,
 ) -> Result<(), AllocError>
-    ensures { OnOk result (programs.new.items ≡ spec.with_programs programs.old.items
+    ensures { OnOk result (programs.new ≡ spec.with_programs programs.old
         (spec.entries version (map finding_view findings.now))) }
 {
     for finding in findings {
@@ -170,20 +147,43 @@ pub fn named_programs<A: Allocator>(
     let Some(first) = first_pat(findings) else {
         return Ok(None);
     };
-    let mut programs = Vec::new(alloc);
+    let mut programs = ProgramList::new(alloc);
     add_all(first.header.version_number, findings, &mut programs)?;
     Ok(Some(Association {
         transport_stream_id: first.header.table_id_extension,
         version_number: first.header.version_number,
-        programs,
+        programs: programs.into_programs(),
     }))
 }
 
-// Whether a program is one of these with the same PID.
+// By program_number where the last program of it is, if there is one.
+fn places_of(programs: &[Program]) -> [u16; PROGRAM_NUMBERS] {
+    let mut places = [0; PROGRAM_NUMBERS];
+    for (place, program) in programs.iter().enumerate() {
+        places[program.program_number as usize] = (place % PROGRAM_NUMBERS) as u16;
+    }
+    places
+}
+
+// Whether the program at a place is this one with the same PID.
 #[tactic(auto, unfolding(crate::specs::Association::is_entry))]
-fn is_entry(named: &[Program], program: Program) -> bool
+fn is_at(place: u16, named: &[Program], program: Program) -> bool
+    ensures { result ≡ true → spec.is_entry named.now program ≡ true }
+{
+    match named.get(place as usize) {
+        None => false,
+        Some(other) => other.program_number == program.program_number && other.pid == program.pid,
+    }
+}
+
+// Whether a program is one of these with the same PID: it is looked for first where one of its number is.
+#[tactic(auto, unfolding(crate::specs::Association::is_entry))]
+fn is_entry(places: &[u16; PROGRAM_NUMBERS], named: &[Program], program: Program) -> bool
     ensures { result ≡ spec.is_entry named.now program }
 {
+    if is_at(places[program.program_number as usize], named, program) {
+        return true;
+    }
     named.iter().any(|other| {
         other.program_number == program.program_number && other.pid == program.pid
     })
@@ -191,18 +191,18 @@ fn is_entry(named: &[Program], program: Program) -> bool
 
 // Whether an entry names the network PID, or is one of these.
 #[tactic(auto, unfolding(crate::specs::Association::is_said))]
-fn is_said(named: &[Program], program: Program) -> bool
+fn is_said(places: &[u16; PROGRAM_NUMBERS], named: &[Program], program: Program) -> bool
     ensures { result ≡ spec.is_said named.now program }
 {
-    program.program_number == 0 || is_entry(named, program)
+    program.program_number == 0 || is_entry(places, named, program)
 }
 
 // Whether all entries of a table do.
-fn are_said(named: &[Program], pat: Pat<'_>) -> bool
+fn are_said(places: &[u16; PROGRAM_NUMBERS], named: &[Program], pat: Pat<'_>) -> bool
     ensures { result ≡ list_all (spec.is_said named.now) (programs_of pat.entry.programs) }
 {
     for program in pat.programs {
-        if !is_said(named, program) {
+        if !is_said(places, named, program) {
             return false;
         }
     }
@@ -211,7 +211,11 @@ fn are_said(named: &[Program], pat: Pat<'_>) -> bool
 
 // Whether a table says something else than the association.
 #[tactic(auto, unfolding(crate::specs::Association::differs))]
-fn differs<A: Allocator>(association: &Association<A>, pat: Pat<'_>) -> bool
+fn differs<A: Allocator>(
+    places: &[u16; PROGRAM_NUMBERS],
+    association: &Association<A>,
+    pat: Pat<'_>,
+) -> bool
     ensures { result ≡ spec.differs association.now (pat_view pat.entry) }
 {
     if pat.header.version_number != association.version_number {
@@ -220,17 +224,21 @@ fn differs<A: Allocator>(association: &Association<A>, pat: Pat<'_>) -> bool
     if pat.header.table_id_extension != association.transport_stream_id {
         return true;
     }
-    !are_said(&association.programs, pat)
+    !are_said(places, &association.programs, pat)
 }
 
 // Whether a finding has such a table.
 #[tactic(auto, unfolding(crate::specs::Association::is_other))]
-fn is_other<A: Allocator>(association: &Association<A>, finding: &Finding<'_, A>) -> bool
+fn is_other<A: Allocator>(
+    places: &[u16; PROGRAM_NUMBERS],
+    association: &Association<A>,
+    finding: &Finding<'_, A>,
+) -> bool
     ensures { result ≡ spec.is_other association.now (spec.pat_found (finding_view finding.now)) }
 {
     match pat_found(finding) {
         None => false,
-        Some(pat) => differs(association, pat),
+        Some(pat) => differs(places, association, pat),
     }
 }
 
@@ -242,8 +250,9 @@ pub fn association_change<A: Allocator>(
 ) -> Option<u64>
     ensures { result ≡ spec.association_change association.now (map finding_view findings.now) }
 {
+    let places = places_of(&association.programs);
     for finding in findings {
-        if is_other(association, finding) {
+        if is_other(&places, association, finding) {
             return Some(finding.packet);
         }
     }

@@ -8,9 +8,9 @@ use demux::{Finding, Kind, Part, What};
 use psi_tables::Program;
 use std::alloc::{AllocError, Global};
 use stream_programs::{
-    Association, FoundPrograms, FoundStream, MapPart, ProgramPids, StreamTables, TableOmission,
+    Association, FoundPrograms, FoundStream, MapPart, ProgramPids, TableOmission, assigned_pids,
     association_change, found_programs, free_pid, last_service, map_change, named_programs,
-    original_network, stream_tables,
+    original_network,
 };
 use vectors::{EMPTY_MAP, FIRST_MAP, LAST_MAP, MORE, NEXT_PAT, OTHER_PAT, PAT, PMT, SDT};
 
@@ -249,37 +249,17 @@ const PLACE: ProgramPids = ProgramPids {
     pcr_pid: 0x102,
 };
 
-fn is_placed(said: &StreamTables) -> bool {
-    match &said.pids {
-        Some(places) => places.as_slice() == [PLACE].as_slice(),
-        None => false,
-    }
-}
-
-fn is_served(said: &StreamTables) -> bool {
-    match said.services.as_slice() {
-        [Some(service)] => {
-            service.service_type == 1
-                && service.provider.as_str() == "FFmpeg"
-                && service.name.as_str() == "Service01"
-        }
+fn is_placed(alloc: Global, programs: &FoundPrograms) -> bool {
+    match assigned_pids(alloc, programs) {
+        Ok(Some(places)) => places.as_slice() == [PLACE].as_slice(),
         _ => false,
     }
 }
 
-fn is_said(said: &StreamTables) -> bool {
-    said.transport_stream_id == 1 && said.version_number == 0 && is_placed(said) && is_served(said)
-}
-
-static ALL: [(u16, &[u8]); 3] = [(0x11, &SDT), (0x1000, &PMT), (0, &PAT)];
-
-// All that the tables of ffmpeg's stream say.
-fn are_tables(alloc: Global) -> Option<bool> {
-    let findings = found(alloc, &ALL).ok()?;
-    match stream_tables(alloc, &findings) {
-        Ok(Some(said)) => Some(is_said(&said)),
-        _ => None,
-    }
+fn are_placed(alloc: Global) -> Option<bool> {
+    let findings = found(alloc, &FFMPEG).ok()?;
+    let programs = programs(alloc, &findings)?;
+    Some(is_placed(alloc, &programs))
 }
 
 fn are_free_pids() -> bool {
@@ -290,8 +270,8 @@ fn are_free_pids() -> bool {
 }
 
 #[test]
-fn services_and_tables(rt: HostRuntime) {
+fn services_and_pids(rt: HostRuntime) {
     assert!(rt;
-        are_services(rt.alloc()) && are_tables(rt.alloc()) == Some(true) && are_free_pids()
+        are_services(rt.alloc()) && are_placed(rt.alloc()) == Some(true) && are_free_pids()
     );
 }

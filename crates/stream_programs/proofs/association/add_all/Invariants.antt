@@ -5,5 +5,5 @@ use Rattle.stream_programs.proofs.association.add_all.Given as goal
 
 abbrev pub invariant-loop-finding : goal.invariant-loop-finding
 invariant-loop-finding g l =
-    with_programs l.fn.programs.items (entries l.version (map finding_view l.findings))
-    ≡ with_programs l.programs.items (entries l.version (map finding_view (drop l.finding-index l.findings)))
+    with_programs l.fn.programs (entries l.version (map finding_view l.findings))
+    ≡ with_programs l.programs (entries l.version (map finding_view (drop l.finding-index l.findings)))

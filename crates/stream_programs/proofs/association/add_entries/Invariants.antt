@@ -5,4 +5,4 @@ use Rattle.stream_programs.proofs.association.add_entries.Given as goal
 
 abbrev pub invariant-loop-program : goal.invariant-loop-program
 invariant-loop-program g l =
-    with_programs l.programs.items (programs_of l.program-iterator) ≡ with_programs l.fn.programs.items (programs_of l.fn.pat.programs)
+    with_programs l.programs (programs_of l.program-iterator) ≡ with_programs l.fn.programs (programs_of l.fn.pat.programs)
