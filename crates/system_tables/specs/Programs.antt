@@ -1,5 +1,5 @@
--- The buffers of the tables of programs (ISO/IEC 13818-1, 2.4.2.3): all bytes of the packets of the PAT and of a program's PMT enter a transport
--- buffer, which is drained at 1,000,000 bits a second, and from there a system buffer, which is drained at 80,000.
+-- The buffers of the tables of programs (ISO/IEC 13818-1, 2.4.2.3): all bytes of the packets of the PIDs 0 to 3 (PAT, CAT, TSDT and IPMP control
+-- information) and of a program's PMT enter a transport buffer, which is drained at 1,000,000 bits a second, and from there a system buffer, which is drained at 80,000.
 use Rattle.std.specs.Prelude.{ℕ, ◌+◌, ◌-◌, ◌*◌, ◌^◌, ◌==◌, ◌&&◌, ◌||◌, min, nat_le, nat_lt, Bool, if◌then◌else◌, List, [], ◌++◌, length, map, flat_map, Option, Some, None}
 use Rattle.std.specs.Option.{option_map}
 use Rattle.decoder_buffers.specs.Queues.{bytes_within}
@@ -92,9 +92,9 @@ with_packet arrival index p =
     with_ended (length (transport_in arrival index p)) (length (system_in arrival index p))
     (passed arrival (188 * index + lead_in arrival index) (188 - lead_in arrival index) (after_lead arrival index p))
 
--- a packet of a PID enters where it is of the PAT or of the program's map
+-- a packet of a PID enters where it is of one of the tables of all programs or of the program's map
 abbrev pub is_of : ℕ → ℕ → ProgramState → Bool
-is_of index pid p = nat_lt index LAST_INDEX && (pid == 0 || pid == p.map_pid)
+is_of index pid p = nat_lt index LAST_INDEX && (nat_le pid 3 || pid == p.map_pid)
 
 abbrev pub entered : Arrival → ℕ → ℕ → ProgramState → ProgramState
 entered arrival index pid p = if is_of index pid p then with_packet arrival index p else p

@@ -20,6 +20,9 @@ const MOST_BYTES: u64 = 1 << 40;
 /// The buffers count time in units of one that is drained at this rate, in bits a second.
 pub const DRAIN: u32 = 2_000_000;
 
+// The last of the PIDs whose packets enter the buffers of each program: those of PAT, CAT, TSDT and IPMP control information.
+const LAST_SYSTEM_PID: u16 = 3;
+
 /// A program, the PID of its map, the buffers of its tables, and the number of excesses of each that have ended.
 #[derive(Drop)]
 pub struct ProgramTables {
@@ -145,7 +148,7 @@ impl ProgramTables {
             .saturating_add(ended.system.len() as u64);
     }
 
-    // A packet of the PAT or of its map at an index: the excesses that end with it.
+    // A packet that is of its tables, at an index: the excesses that end with it.
     fn enter(
         &mut self,
         alloc: Global,
@@ -179,7 +182,7 @@ impl ProgramTables {
         ensures excesses { OnOk result (excesses.new.items
             ≡ excesses.old.items ++ spec.excesses_in arrival.now index pid self.old) }
     {
-        if index >= LAST_INDEX || (pid != 0 && pid != self.map_pid) {
+        if index >= LAST_INDEX || (pid > LAST_SYSTEM_PID && pid != self.map_pid) {
             return Ok(());
         }
         let ended = self.enter(alloc, arrival, index)?;
