@@ -29,11 +29,10 @@ passed_peak step q ts some rises is =
     record { never_more = λ x. omega (arith, peak.never_more x, most); moment = peak.moment; reached = omega (arith, peak.reached, most) }
 
 pub tables_law : TablesLaw
-tables_law view step times some rises v =
+tables_law view step system_step times some system_some rises v =
     let first : 0 < 2 * step = omega (arith, some) in
-    let second : 0 < 25 * step = omega (arith, some) in
     let ds = departures (2 * step) 0 times in
     let leave = climbs_rises 0 ds (climbs_low 0 1 ds (omega arith) (departures_climb (2 * step) 0 times first)) in (
       passed_peak (2 * step) view.transport.queue times first rises (ap (λ (b : WatchedQueue). b.queue) v.transport),
-      passed_peak (25 * step) view.system.queue ds second leave (ap (λ (b : WatchedQueue). b.queue) v.system),
+      passed_peak system_step view.system.queue ds system_some leave (ap (λ (b : WatchedQueue). b.queue) v.system),
     )

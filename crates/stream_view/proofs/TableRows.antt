@@ -98,12 +98,12 @@ entered-append b ts us =
     )
     refl
 
-pub tables_more : (view view' : SystemView) (step : ℕ) (times ts : List ℕ) → IsSystemViewOf view step times →
+pub tables_more : (view view' : SystemView) (step system_step : ℕ) (times ts : List ℕ) → IsSystemViewOf view step system_step times →
     view'.transport ≡ all_entered view.transport ts → view'.system ≡ all_entered view.system (left_at view.transport ts) →
-    IsSystemViewOf view' step (times ++ ts)
-tables_more view view' step times ts v first second =
+    IsSystemViewOf view' step system_step (times ++ ts)
+tables_more view view' step system_step times ts v first second =
     let q = empty_queue (2 * step) TABLE_TRANSPORT_BYTES in
-    let p = empty_queue (25 * step) SYSTEM_BYTES in
+    let p = empty_queue system_step SYSTEM_BYTES in
     let steps : view.transport.queue.step ≡ 2 * step = ap (λ (b : WatchedQueue). b.queue.step) v.transport ∙ passed-step q.queue times in
     let last : view.transport.queue.last ≡ last_left (2 * step) 0 times = ap (λ (b : WatchedQueue). b.queue.last) v.transport ∙ passed-last q.queue times in
     record {
@@ -119,7 +119,7 @@ pub on_ok : {V E A B : Type 0} (r : Result V E) → (A → B) → OnOk r A → O
 on_ok (Ok v) f a = f a
 on_ok (Err e) f a = tt
 
-pub no_tables : (view : SystemView) (step : ℕ) → view.transport ≡ empty_queue (2 * step) TABLE_TRANSPORT_BYTES →
-    view.system ≡ empty_queue (25 * step) SYSTEM_BYTES → IsSystemViewOf view step []
+pub no_tables : (view : SystemView) (step system_step : ℕ) → view.transport ≡ empty_queue (2 * step) TABLE_TRANSPORT_BYTES →
+    view.system ≡ empty_queue system_step SYSTEM_BYTES → IsSystemViewOf view step system_step []
 unfolding departures excess_after
-no_tables view step first second = record { transport = first; system = second }
+no_tables view step system_step first second = record { transport = first; system = second }

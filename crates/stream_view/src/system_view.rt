@@ -105,29 +105,31 @@ fn pass_row(
 
 impl SystemView {
     /// Empty buffers, on the scale of one that is drained at 2,000,000 bits a second: at a buffer of the stream's own rate a
-    /// byte takes `step`, so that it takes two steps to leave the first, which is drained at 1,000,000 bits a second, and 25 to
-    /// leave the second, which is drained at 80,000. At a constant rate `step` is that rate, by clock references 216,000,000.
-    pub fn new(step: u64) -> SystemView
+    /// byte takes `step`, so that it takes two steps to leave the first, which is drained at 1,000,000 bits a second; it takes
+    /// `system_step` to leave the second. At a constant rate `step` is that rate, by clock references 216,000,000.
+    pub fn new(step: u64, system_step: u64) -> SystemView
         requires some { 0 < step }
         requires slow { step ≤ 2 ^ 28 }
-        ensures view { IsSystemViewOf result step [] }
+        requires system_some { 0 < system_step }
+        requires system_slow { system_step ≤ 2 ^ 33 }
+        ensures view { IsSystemViewOf result step system_step [] }
         ensures transport { result.transport ≡ empty_queue (2 * step) TABLE_TRANSPORT_BYTES }
-        ensures system { result.system ≡ empty_queue (25 * step) SYSTEM_BYTES }
+        ensures system { result.system ≡ empty_queue system_step SYSTEM_BYTES }
         ensures bytes { result.bytes ≡ 0 }
     {
         SystemView {
             transport: WatchedQueue::new(2 * step, TABLE_TRANSPORT_BYTES),
-            system: WatchedQueue::new(25 * step, SYSTEM_BYTES),
+            system: WatchedQueue::new(system_step, SYSTEM_BYTES),
             bytes: 0,
         }
     }
 
-    /// Bytes arrive of packets of the PAT or of the program's PMT: all of their packets. The excesses that have ended are appended.
+    /// Bytes arrive of packets of the program's tables: all of their packets. The excesses that have ended are appended.
     pub fn pass(&mut self, row: &Row, ended: &mut EndedExcesses) -> Result<(), AllocError>
         requires timed { IsTimed row.now }
         requires count { self.old.bytes + row.now.bytes ≤ 2 ^ 40 }
-        ensures view { (step : ℕ) (times : List ℕ) → IsSystemViewOf self.old step times →
-            OnOk result (IsSystemViewOf self.new step (times ++ times_of row.now)) }
+        ensures view { (step system_step : ℕ) (times : List ℕ) → IsSystemViewOf self.old step system_step times →
+            OnOk result (IsSystemViewOf self.new step system_step (times ++ times_of row.now)) }
         ensures transport { OnOk result (self.new.transport ≡ all_entered self.old.transport (times_of row.now)) }
         ensures system { OnOk result (self.new.system
             ≡ all_entered self.old.system (left_at self.old.transport (times_of row.now))) }

@@ -1,15 +1,17 @@
 -- The buffers of the tables of programs (ISO/IEC 13818-1, 2.4.2.3): all bytes of the packets of the PIDs 0 to 3 (PAT, CAT, TSDT and IPMP control
--- information) and of a program's PMT enter a transport buffer, which is drained at 1,000,000 bits a second, and from there a system buffer, which is drained at 80,000.
+-- information) and of a program's PMT enter a transport buffer, which is drained at 1,000,000 bits a second, and from there a system buffer, which
+-- is drained at 80,000 bits a second, or at a constant rate R at R / 500, where that is more.
 use Rattle.std.specs.Prelude.{ℕ, ◌+◌, ◌-◌, ◌*◌, ◌^◌, ◌==◌, ◌&&◌, ◌||◌, min, nat_le, nat_lt, Bool, if◌then◌else◌, List, [], ◌++◌, length, map, flat_map, Option, Some, None}
 use Rattle.std.specs.Option.{option_map}
 use Rattle.decoder_buffers.specs.Queues.{bytes_within}
 use Rattle.transport_buffer.specs.declared.excess.Excess.{Excess}
 use Rattle.stream_arrival.specs.Arrivals.{has_times, lead_of, step_of, times_at}
 use Rattle.stream_arrival.specs.declared.arrival.Arrival.{Arrival}
+use Rattle.stream_arrival.specs.declared.arrival.Arrival.TheVariants.{Unknown, AtRate, OnLines}
 use Rattle.stream_view.specs.WatchedQueues.{all_entered, empty_queue, ended_by, left_at}
 use Rattle.stream_view.specs.declared.system_buffers.TheConstants.{SYSTEM_BYTES, TABLE_TRANSPORT_BYTES}
 use Rattle.stream_view.specs.declared.watched_queue.WatchedQueue.{WatchedQueue}
-use Rattle.stream_programs.specs.Programs.{FoundProgramView, FoundProgramsView}
+use Rattle.stream_programs.specs.Programs.{FoundProgramView}
 use Rattle.named_streams.specs.NamedStreams.{NamedView}
 use Rattle.system_tables.specs.declared.program_tables.TheConstants.{LAST_INDEX}
 use Rattle.system_tables.specs.declared.table_excess.TableBuffer.{TableBuffer}
@@ -26,13 +28,20 @@ pub record ProgramState : Type 0 where
   pub transport_excesses : ℕ
   pub system_excesses : ℕ
 
--- before its first packet, on the scale of a buffer that is drained at 2,000,000 bits a second
-abbrev pub program_of : ℕ → FoundProgramView → ProgramState
-program_of step found = record {
+-- how long a byte takes to leave the system buffer, on the scale of a buffer that is drained at 2,000,000 bits a second: 25 steps at 80,000. At a
+-- constant rate R the unit is 8 / (R * 2,000,000) seconds, so at R / 500 bits a second a byte takes 1,000,000,000 units, whatever R is.
+unfoldable pub system_step : Arrival → ℕ
+system_step Unknown = 25 * step_of Unknown
+system_step (AtRate rate) = min (25 * step_of (AtRate rate)) 1000000000
+system_step (OnLines lines) = 25 * step_of (OnLines lines)
+
+-- before its first packet, on that scale
+abbrev pub program_of : Arrival → FoundProgramView → ProgramState
+program_of arrival found = record {
   number = found.number;
   map_pid = found.map_pid;
-  transport = empty_queue (2 * step) TABLE_TRANSPORT_BYTES;
-  system = empty_queue (25 * step) SYSTEM_BYTES;
+  transport = empty_queue (2 * step_of arrival) TABLE_TRANSPORT_BYTES;
+  system = empty_queue (system_step arrival) SYSTEM_BYTES;
   bytes = 0;
   transport_excesses = 0;
   system_excesses = 0;
@@ -111,12 +120,12 @@ excesses_in arrival index pid p = if is_of index pid p then told p.number (trans
 
 -- 3. The programs of the first tables, once these are known
 
-unfoldable pub begun : ℕ → NamedView → Option (List ProgramState) → Option (List ProgramState)
-begun step named None = option_map (λ found. map (program_of step) found.programs) named.streams
-begun step named (Some programs) = Some programs
+unfoldable pub begun : Arrival → NamedView → Option (List ProgramState) → Option (List ProgramState)
+begun arrival named None = option_map (λ found. map (program_of arrival) found.programs) named.streams
+begun arrival named (Some programs) = Some programs
 
 abbrev pub taken : Arrival → ℕ → NamedView → ℕ → Option (List ProgramState) → Option (List ProgramState)
-taken arrival index named pid programs = option_map (λ ps. map (entered arrival index pid) ps) (begun (step_of arrival) named programs)
+taken arrival index named pid programs = option_map (λ ps. map (entered arrival index pid) ps) (begun arrival named programs)
 
 -- those that are known
 unfoldable pub known : Option (List ProgramState) → List ProgramState
@@ -125,7 +134,7 @@ known (Some programs) = programs
 
 -- the excesses of all of them that end with the packet of a PID
 abbrev pub excesses_at : Arrival → ℕ → NamedView → ℕ → Option (List ProgramState) → List TableExcess
-excesses_at arrival index named pid programs = flat_map (excesses_in arrival index pid) (known (begun (step_of arrival) named programs))
+excesses_at arrival index named pid programs = flat_map (excesses_in arrival index pid) (known (begun arrival named programs))
 
 -- the most bytes that were in each buffer
 abbrev pub transport_most : ProgramState → ℕ

@@ -1,6 +1,5 @@
 //! The buffers of the tables of a program.
-ghost use Rattle.std.specs.Prelude.{◌≡◌, ◌≤◌, ◌++◌, ◌^◌, IfOk, OnOk, length};
-ghost use Rattle.stream_arrival.specs.Arrivals.{step_of};
+ghost use Rattle.std.specs.Prelude.{◌≡◌, ◌<◌, ◌≤◌, ◌++◌, ◌^◌, IfOk, OnOk, length};
 ghost use Rattle.system_tables.specs.Programs as spec;
 
 use crate::table_excess::{TableExcess, append_ended};
@@ -19,6 +18,9 @@ const MOST_BYTES: u64 = 1 << 40;
 
 /// The buffers count time in units of one that is drained at this rate, in bits a second.
 pub const DRAIN: u32 = 2_000_000;
+
+// How many of these units a byte takes to leave a buffer that is drained at a 500th of the stream's constant rate, whatever that is.
+const STEP_AT_A_500TH: u64 = 500 * DRAIN as u64;
 
 // The last of the PIDs whose packets enter the buffers of each program: those of PAT, CAT, TSDT and IPMP control information.
 const LAST_SYSTEM_PID: u16 = 3;
@@ -49,15 +51,29 @@ impl Model for ProgramTables {
     } };
 }
 
+// How long a byte takes to leave a system buffer: 25 steps at 80,000 bits a second, and at a constant rate no longer than at a 500th of it.
+#[tactic(auto, unfolding(crate::specs::Programs::system_step))]
+fn system_step(arrival: &Arrival) -> u64
+    ensures step { result ≡ spec.system_step arrival.now }
+    ensures some { 0 < result }
+    ensures slow { result ≤ 2 ^ 33 }
+{
+    let step = 25 * arrival.step();
+    match arrival {
+        Arrival::AtRate(_) => step.min(STEP_AT_A_500TH),
+        Arrival::Unknown | Arrival::OnLines(_) => step,
+    }
+}
+
 impl ProgramTables {
     /// Before its first packet.
     pub(crate) fn new(arrival: &Arrival, program: &FoundProgram) -> ProgramTables
-        ensures { result ≡ spec.program_of (step_of arrival.now) program.now }
+        ensures { result ≡ spec.program_of arrival.now program.now }
     {
         ProgramTables {
             number: program.number,
             map_pid: program.map_pid,
-            view: SystemView::new(arrival.step()),
+            view: SystemView::new(arrival.step(), system_step(arrival)),
             transport_excesses: 0,
             system_excesses: 0,
         }

@@ -1,6 +1,5 @@
 //! The programs of a stream, and the buffers of their tables.
 ghost use Rattle.std.specs.Prelude.{◌≡◌, ◌++◌, IfOk, None, OnOk, flat_map, map};
-ghost use Rattle.stream_arrival.specs.Arrivals.{step_of};
 ghost use Rattle.system_tables.specs.Programs as spec;
 
 use crate::program_tables::ProgramTables;
@@ -33,7 +32,7 @@ fn programs_of(
     arrival: &Arrival,
     found: &[FoundProgram],
 ) -> Result<Vec<ProgramTables>, AllocError>
-    ensures { IfOk result (λ programs. programs.items ≡ map (spec.program_of (step_of arrival.now)) found.now) }
+    ensures { IfOk result (λ programs. programs.items ≡ map (spec.program_of arrival.now) found.now) }
 {
     found
         .iter()
@@ -74,7 +73,7 @@ impl SystemTables {
     // The buffers begin, once the programs are known.
     #[tactic(auto, unfolding(crate::specs::Programs::begun))]
     fn begin(&mut self, arrival: &Arrival, named: &NamedStreams) -> Result<(), AllocError>
-        ensures { OnOk result (self.new ≡ spec.begun (step_of arrival.now) named.now self.old) }
+        ensures { OnOk result (self.new ≡ spec.begun arrival.now named.now self.old) }
     {
         if self.programs.is_some() {
             return Ok(());

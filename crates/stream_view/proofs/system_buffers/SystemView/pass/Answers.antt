@@ -3,8 +3,8 @@ use Rattle.stream_view.proofs.TableRows.{on_ok, tables_more}
 use Rattle.stream_view.proofs.system_buffers.SystemView.pass.Goals as goal
 
 pub returns-clause-view : goal.returns-clause-view
-returns-clause-view c = λ step times v.
-    on_ok c.pass_row-result.result (λ passed. tables_more c.args.self.now _ step times (times_of c.args.row.now) v passed.transport passed.system)
+returns-clause-view c = λ step system_step times v.
+    on_ok c.pass_row-result.result (λ passed. tables_more c.args.self.now _ step system_step times (times_of c.args.row.now) v passed.transport passed.system)
     c.pass_row-result.ensures.passed
 
 pub returns-clause-transport : goal.returns-clause-transport
