@@ -8,7 +8,7 @@ use Rattle.std.specs.Prelude.{IfOk}
 use Rattle.std.proofs.lemmas.List.{length-map}
 use Rattle.std.proofs.lemmas.List.Elements.{All-cons, All-head, All-nil, All-tail}
 use Rattle.std.proofs.lemmas.Option.{same_Some, slice_get-get_or, slice_get_within}
-use Rattle.std.specs.Prelude.{is_ok, slice_get}
+use Rattle.std.specs.Prelude.{is_ok}
 use Rattle.std.specs.List.{AllZip, list_any}
 use Rattle.demux.specs.Views.{FindingView}
 use Rattle.devices.specs.Devices.{Device}

@@ -1,5 +1,5 @@
 -- The text that is told where the words are a usage error. Its numbers are those by which words are taken.
-use Rattle.std.specs.Prelude.{ℕ, List, [], ◌∷◌, ◌++◌, codes}
+use Rattle.std.specs.Prelude.{ℕ, List, [], ◌∷◌, codes}
 use Rattle.std.specs.List.{concat}
 use Rattle.devices.specs.Usage.{range_text}
 use Rattle.tsmux_cli.specs.Request.{least_pid, greatest_pid, least_rate, greatest_rate, least_limit, greatest_limit}

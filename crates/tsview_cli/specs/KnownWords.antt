@@ -1,5 +1,5 @@
 -- The options that the program knows, and the values that each takes.
-use Rattle.std.specs.Prelude.{ℕ, ◌||◌, Bool, true, false, if◌then◌else◌, Option, Some, None, codes, is_some, option_and_then}
+use Rattle.std.specs.Prelude.{◌||◌, Bool, true, false, if◌then◌else◌, Option, Some, None, codes, is_some, option_and_then}
 use Rattle.std.specs.Str.{bytes_eq}
 use Rattle.devices.specs.Options.{decimal, within}
 use Rattle.option_lists.specs.Lists.{buffer_list, number_list}

@@ -1,7 +1,8 @@
 //! A PES packet that is too long.
 
 use super::rows::{Row, are_rows};
-use super::{LONG, MORE, finish, packet_of, push};
+use super::streams::{LONG, MORE};
+use super::{finish, packet_of, push};
 use demux::{Demux, DemuxError, Kind};
 
 // Pushes a packet of PID 257 with this counter.

@@ -1,7 +1,8 @@
 //! Refused memory.
 
 use super::rows::{Row, are_rows};
-use super::{AGAIN, LONG, MORE, STREAMS, bytes_of, finish, packet_of, push, take};
+use super::streams::{AGAIN, LONG, MORE, STREAMS, bytes_of};
+use super::{finish, packet_of, push, take};
 use demux::{Demux, DemuxError, Finding, Kind};
 use linked_list_allocator::LocalHeap;
 use std::alloc::Global;
