@@ -1,12 +1,18 @@
 -- A front that grows by bytes of the input.
-use Rattle.std.proofs.Common.{◌≡◌, ◌≤◌, ◌<◌, ◌+◌, ℕ, zero, suc, min, Bool, true, List, [], ◌∷◌, ◌++◌, length, take, drop, Option, Some, None, Result, Ok, Err, refl, sym, ap, ap₂, ◌∙◌, subst, arith, append-nil, append_assoc, length-append}
-use Rattle.std.specs.Prelude.{nat_le, slice_index}
+use Rattle.std.proofs.Common.{◌≡◌, ◌≤◌, ◌<◌, ◌+◌, ℕ, suc, min, Bool, true, List, [], ◌∷◌, ◌++◌, length, take, drop, Option, Some, None, Result, Ok, Err, inl, inr, refl, sym, ap, ◌∙◌, subst, arith, append-nil, append_assoc, length-append}
+use Rattle.std.specs.Prelude.{slice_index}
 use Rattle.std.specs.Io.KnownBytes.{Consumes, IsAtEnd}
 use Rattle.std.proofs.KnownBytes.{Consumes-nil, Consumes-trans}
 use Rattle.std.proofs.lemmas.List.{take-append-drop}
 use Rattle.counted_io.specs.Device.{ReadsPart}
 use Rattle.devices.specs.Devices.{Port, between}
-use Rattle.tsair_cli.specs.Fronts.{Grows, IsSpent, end_lines, have_ends, plan_count}
+use Rattle.devices.specs.declared.halt.Halt.TheVariants.{Read, Write, Memory}
+use Rattle.checked_jobs.specs.Jobs.{job_of}
+use Rattle.checked_jobs.specs.declared.jobs.JobPlans.{JobPlans}
+use Rattle.tsair_cli.specs.Fronts.{Grows, HasRead, IsFrontOf, IsSpent, ReadsFront, plans_end}
+use Rattle.tsair_cli.specs.declared.front.FrontError.{FrontError}
+use Rattle.tsair_cli.specs.declared.front.FrontError.TheVariants.{Fault, Stopped}
+use Rattle.tsair_cli.specs.declared.front.FrontFault.TheVariants.{Job, Unended}
 
 pub grown_none : (port : Port) (text : List ℕ) → Grows (between port port) text text
 grown_none port text = record { bytes = []; grown = sym (append-nil text); read = Consumes-nil port.bytes; clean = refl }
@@ -82,7 +88,19 @@ pub byte_on : (before mid after : Port) (old now new part : List ℕ) (n : ℕ) 
 byte_on before mid after old now new part n size upper some g known clean is =
     grown_more before mid after old now new (slice_index part 0 ∷ []) g (byte_read mid.bytes after.bytes part n size upper some known) clean is
 
--- the last lines that have come
-pub ends_known : (switch : Bool) (wanted count : ℕ) (front plans : List ℕ) (parts : Option (List ℕ × List ℕ)) → wanted ≡ plan_count switch → count ≡ end_lines true plans →
-    Some (front, plans) ≡ parts → nat_le wanted count ≡ have_ends (plan_count switch) parts
-ends_known switch wanted count front plans parts w n is = ap₂ nat_le w n ∙ ap (have_ends (plan_count switch)) is
+-- a front of which the last line of each plan has come, by what it is read as
+pub front_read : (switch : Bool) (before after : Port) (text got : List ℕ) (r : Result JobPlans FrontError) → Grows (between before after) [] text → plans_end switch text ≡ true →
+    got ≡ text → IsFrontOf (job_of switch got) r → ReadsFront switch (between before after) r
+front_read switch before after text got r g ends same is =
+    by r (subst (λ (l : List ℕ). IsFrontOf (job_of switch l) r) same is)
+  where
+    has : HasRead (between before after) text
+    has = record { read = rw (sym g.grown) at g.read; clean = g.clean }
+
+    by : (r : Result JobPlans FrontError) → IsFrontOf (job_of switch text) r → ReadsFront switch (between before after) r
+    by (Ok plans) h = record { front = text; has_read = has; plans_are = h }
+    by (Err (Fault (Job fault))) h = record { front = text; has_read = has; is = (h, inl ends) }
+    by (Err (Fault Unended)) h = record { front = text; has_read = has; is = inr h }
+    by (Err (Stopped Read)) h = absurd cc
+    by (Err (Stopped Write)) h = absurd cc
+    by (Err (Stopped Memory)) h = g.clean

@@ -1,4 +1,5 @@
 pub mod CommandLines
+pub mod FrontLines
 pub mod Fronts
 pub mod HeardRecords
 pub mod AirRuns

@@ -1,5 +1,5 @@
 -- The front of the input: a description and its plans, as far as the last line `end`.
-use Rattle.std.specs.Prelude.{◌≡◌, ◌⊎◌, ◌<◌, ◌≤◌, ◌+◌, ◌^◌, ◌==◌, ◌&&◌, ℕ, Bool, true, false, List, [], ◌∷◌, ◌++◌, length, Option, Some, None, Result, Ok, Err, codes, nat_eq, nat_le, if◌then◌else◌, ⊤}
+use Rattle.std.specs.Prelude.{◌≡◌, ◌⊎◌, ◌<◌, ◌≤◌, ◌+◌, ◌^◌, ◌==◌, ◌&&◌, ℕ, Bool, true, false, List, [], ◌∷◌, ◌++◌, length, Option, Some, None, Result, Ok, Err, codes, nat_eq, nat_le, if◌then◌else◌, option_map}
 use Rattle.std.specs.List.{starts_with}
 use Rattle.std.specs.Io.KnownBytes.{Consumes, IsAtEnd}
 use Rattle.devices.specs.Devices.{Device, HasFailed, IsClean}
@@ -10,7 +10,6 @@ use Rattle.devices.specs.declared.halt.Halt.TheVariants.{Read, Write, Memory}
 use Rattle.checked_jobs.specs.Jobs.{JobFaultView, JobView, job_of, parts_of}
 use Rattle.checked_jobs.specs.JobFaults.{fault_line, fault_view, plans_view}
 use Rattle.checked_jobs.specs.declared.jobs.JobPlans.{JobPlans}
-use Rattle.tsair_cli.specs.declared.front.FrontFault.{FrontFault}
 use Rattle.tsair_cli.specs.declared.front.FrontFault.TheVariants.{Job, Unended}
 use Rattle.tsair_cli.specs.declared.front.FrontError.{FrontError}
 use Rattle.tsair_cli.specs.declared.front.FrontError.TheVariants.{Fault, Stopped}
@@ -22,8 +21,27 @@ abbrev pub end_lines : Bool → List ℕ → ℕ
 end_lines at_line [] = 0
 end_lines at_line (x ∷ xs) = (if at_line && starts_with nat_eq (x ∷ xs) (codes "end\n") then 1 else 0) + end_lines (x == 10) xs
 
+-- what follows these bytes stands at the beginning of a line, where these begin at the beginning of a line or within one
+abbrev pub ends_a_line : Bool → List ℕ → Bool
+ends_a_line at_line [] = at_line
+ends_a_line at_line (x ∷ xs) = ends_a_line (x == 10) xs
+
+-- the number of plans that have ended in a text; none before the first line of a plan
+abbrev pub ended_plans : List ℕ → Option ℕ
+ended_plans xs = option_map (λ parts. end_lines true parts.1) (parts_of xs)
+
+-- that number after more lines
+abbrev pub ended_after : Option ℕ → List ℕ → Option ℕ
+ended_after None lines = ended_plans lines
+ended_after (Some n) lines = Some (n + end_lines true lines)
+
 abbrev pub plan_count : Bool → ℕ
 plan_count switch = if switch then 2 else 1
+
+-- so many plans have ended
+abbrev pub have_ended : ℕ → Option ℕ → Bool
+have_ended wanted None = false
+have_ended wanted (Some n) = nat_le wanted n
 
 -- the last line of each plan stands in the bytes from the first line of a plan on
 abbrev pub have_ends : ℕ → Option (List ℕ × List ℕ) → Bool
@@ -50,9 +68,13 @@ pub record Grows (input : Device) (old new : List ℕ) : Type 0 where
 abbrev pub IsSpent : Device → Type 0
 IsSpent input = (xs : List ℕ) → input.before.bytes ≡ Some xs → IsAtEnd input.after.bytes
 
+-- its last line has come whole, or it is longer than a front may be
+abbrev pub IsLined : List ℕ → Type 0
+IsLined text = (max_front < length text) ⊎ (ends_a_line true text ≡ true)
+
 -- it grew by a line, as far as a front may; where it is answered that the input does not go on, no byte is left
 abbrev pub ReadsLine : Device → List ℕ → List ℕ → Result Bool Halt → Type 0
-ReadsLine input old new (Ok true) = Grows input old new × (length old ≤ max_front → length old < length new)
+ReadsLine input old new (Ok true) = Grows input old new × (length old ≤ max_front → length old < length new) × IsLined new
 ReadsLine input old new (Ok false) = Grows input old new × IsSpent input
 ReadsLine input old new (Err Read) = HasFailed input
 ReadsLine input old new (Err Write) = ⊥

@@ -1,6 +1,6 @@
 //! The front of the input: a description and its plans, as far as the last line `end`.
 
-ghost use Rattle.std.specs.Prelude.{◌≡◌, ◌≤◌, true, length};
+ghost use Rattle.std.specs.Prelude.{◌≡◌, ◌<◌, ◌≤◌, true, IfSome, length};
 ghost use Rattle.devices.specs.Devices.{reads, writes};
 ghost use Rattle.devices.specs.Lines.{Reports};
 ghost use Rattle.checked_jobs.specs.Jobs.{job_of};
@@ -81,13 +81,27 @@ fn plan_count(switch: bool) -> usize
     if switch { 2 } else { 1 }
 }
 
-/// Whether bytes have the last line of each plan.
-fn plans_end(switch: bool, bytes: &[u8]) -> bool
-    ensures { result ≡ spec.plans_end switch bytes.now }
+/// The number of plans that have ended after more lines; none before the first line of a plan.
+fn ended_after(ended: Option<usize>, lines: &[u8]) -> Option<usize>
+    requires few { IfSome ended (λ n. n < 2) }
+    ensures { result ≡ spec.ended_after ended lines.now }
 {
-    match parts_of(bytes) {
+    match ended {
+        None => match parts_of(lines) {
+            None => None,
+            Some((_, plans)) => Some(end_lines(plans)),
+        },
+        Some(count) => Some(count + end_lines(lines)),
+    }
+}
+
+/// Whether each plan of a front has ended.
+fn have_ended(switch: bool, ended: Option<usize>) -> bool
+    ensures { result ≡ spec.have_ended (spec.plan_count switch) ended }
+{
+    match ended {
         None => false,
-        Some((_, plans)) => plan_count(switch) <= end_lines(plans),
+        Some(count) => plan_count(switch) <= count,
     }
 }
 
@@ -118,6 +132,7 @@ pub fn read_front<R: Source>(
     ensures { spec.ReadsFront switch (reads R.Source input.old input.new) result }
 {
     let mut text = Vec::new(alloc);
+    let mut ended = None;
     'lines: while text.len() <= MAX_FRONT {
         let from = text.len();
         match read_line(input, &mut text) {
@@ -125,7 +140,8 @@ pub fn read_front<R: Source>(
             Ok(false) => return plans_of(alloc, switch, &text),
             Err(halt) => return Err(FrontError::Stopped(halt)),
         }
-        if text[from..].starts_with(LAST_PLAN_LINE) && plans_end(switch, &text) {
+        ended = ended_after(ended, &text[from..]);
+        if have_ended(switch, ended) {
             return plans_of(alloc, switch, &text);
         }
     }

@@ -1,5 +1,6 @@
-use Rattle.std.proofs.Common.{◌≡◌, length, arith}
+use Rattle.std.proofs.Common.{◌≡◌, inr, length, arith}
 use Rattle.devices.specs.Devices.{Port}
+use Rattle.tsair_cli.proofs.FrontLines.{whole_line}
 use Rattle.tsair_cli.proofs.Fronts.{byte_on, end_on, longer}
 use Rattle.tsair_cli.proofs.front.read_line.Goals as goal
 
@@ -21,6 +22,7 @@ returns-then-next-eq10 g c =
       byte_on old mid new c.args.text.now.items c.bytes.text.items c.push.new.self.items c.read_part.new.part c.in-Ok.field-0 size (omega (arith, c.in-Ok.ensures.bound, size))
           (omega (arith, c.in-Ok.field-0-test)) c.bytes.invariant.grows c.in-Ok.ensures.known c.in-Ok.ensures.clean c.in-Ok-push.ensures.items,
       λ within. longer old mid c.args.text.now.items c.bytes.text.items c.push.new.self.items _ c.bytes.invariant.grows c.in-Ok-push.ensures.items,
+      inr (whole_line c.bytes.text.items c.push.new.self.items _ c.in-Ok-push.ensures.items c.if-next-eq10.true),
     )
 
 pub bytes-preserved : goal.bytes-preserved
