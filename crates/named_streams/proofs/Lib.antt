@@ -1,3 +1,3 @@
 pub mod Grows
-pub mod Unknown
+pub mod Wanting
 pub mod First

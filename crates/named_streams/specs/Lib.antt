@@ -1,2 +1,3 @@
 pub mod NamedStreams
+pub mod Wanting
 pub mod Laws

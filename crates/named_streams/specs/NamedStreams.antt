@@ -1,5 +1,5 @@
 -- The elementary streams that the first packets of a stream name.
-use Rattle.std.specs.Prelude.{◌≡◌, ℕ, ◌+◌, ◌-◌, ◌^◌, ◌==◌, ◌||◌, min, nat_le, is_some, Bool, false, if◌then◌else◌, List, [], ◌∷◌, Option, Some, None}
+use Rattle.std.specs.Prelude.{ℕ, ◌+◌, ◌-◌, ◌^◌, ◌==◌, ◌||◌, min, nat_le, is_some, Bool, if◌then◌else◌, List, [], ◌∷◌, Option, Some, None}
 use Rattle.std.specs.List.{list_all}
 use Rattle.psi_tables.specs.declared.pat.programs.Program.{Program}
 use Rattle.demux.specs.Views.{FindingView}
@@ -55,11 +55,6 @@ taken_if s (Some streams) bytes = s
 
 abbrev pub taken : NamedView → List ℕ → NamedView
 taken s bytes = taken_if s s.streams bytes
-
--- streams that are not known are not named by what is found
-unfoldable pub AreUnknown : Option FoundProgramsView → List FindingView → Type 0
-AreUnknown None found = streams_at false found ≡ None
-AreUnknown (Some streams) found = Unit {0}
 
 -- the stream of a PID among these
 unfoldable pub stream_in : ℕ → List FoundStreamView → Option FoundStreamView

@@ -7,5 +7,6 @@
 
 pub mod laws;
 mod named_streams;
+mod unmapped;
 
 pub use named_streams::{FIRST_PACKETS, NamedStreams};

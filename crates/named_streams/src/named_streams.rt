@@ -1,16 +1,19 @@
 //! The streams that the tables name.
-ghost use Rattle.std.specs.Prelude.{◌≡◌, None, false, IfOk, OnErr, OnOk, length, map, option_map};
+ghost use Rattle.std.specs.Prelude.{◌≡◌, ◌≤◌, None, Some, IfOk, OnErr, OnOk, length, map, option_map, take};
 ghost use Rattle.demux.specs.Shown.{finding_view};
 ghost use Rattle.demux.specs.Stream.{pushed};
+ghost use Rattle.stream_programs.specs.Association.{association};
+ghost use Rattle.stream_programs.specs.Programs.{programs_of};
 ghost use Rattle.named_streams.specs.NamedStreams as spec;
+ghost use Rattle.named_streams.specs.Wanting.{AreUnknown, HaveMapsBefore, Lacks};
 
+use crate::unmapped::{Unmapped, first_unmapped, has_wanting, place_of};
 use demux::{Demux, Finding};
 use psi_tables::Program;
 use std::alloc::{AllocError, Global};
 use std::marker::Model;
 use stream_programs::{
-    Association, FoundProgram, FoundPrograms, FoundStream, found_programs, last_program_map,
-    named_programs,
+    Association, FoundProgram, FoundPrograms, FoundStream, found_programs, named_programs,
 };
 
 /// The number of packets that are looked at at most.
@@ -26,101 +29,125 @@ pub struct NamedStreams {
     demux: Demux,
     packets: u32,
     found: Option<FoundPrograms>,
+    // while the streams are not known: the first program that has no map; none where there is no association table
+    unmapped: Option<Unmapped>,
 }
 
 impl Model for NamedStreams {
-    ghost use Rattle.named_streams.specs.NamedStreams.{AreUnknown, NamedView};
+    ghost use Rattle.stream_programs.specs.Association.{association};
+    ghost use Rattle.named_streams.specs.NamedStreams.{NamedView};
+    ghost use Rattle.named_streams.specs.Wanting.{AreUnknown};
 
     ghost Value = { NamedView };
 
     ghost view = { λ n. record { demux = n.demux; packets = n.packets; streams = n.found } };
 
-    ghost invariant = { λ n. AreUnknown n.found n.demux.found };
+    ghost invariant = { λ n. AreUnknown n.found n.demux.found (association n.demux.found) n.unmapped };
 }
 
-// Whether each of these programs has a map.
-fn have_maps(findings: &[Finding<'_>], programs: &[Program]) -> bool
-    ensures { result ≡ spec.have_maps (map finding_view findings.now) programs.now }
+// The programs and their streams.
+fn streams_named(
+    alloc: Global,
+    findings: &[Finding<'_>],
+    programs: &[Program],
+) -> Result<(Option<FoundPrograms>, Option<Unmapped>), AllocError>
+    ensures { IfOk result (λ r. r.0 ≡ Some (programs_of programs.now (map finding_view findings.now))) }
 {
-    for program in programs {
-        if last_program_map(*program, findings).is_none() {
-            return false;
+    let found = found_programs(alloc, programs, findings)?;
+    Ok((Some(found), None))
+}
+
+// The streams by a table.
+#[tactic(auto, unfolding(crate::specs::NamedStreams::streams_by, crate::specs::Wanting::AreUnknown, crate::specs::Wanting::Lacks, crate::specs::Wanting::HaveMapsBefore))]
+fn streams_of(
+    alloc: Global,
+    last: bool,
+    place: usize,
+    findings: &[Finding<'_>],
+    table: &Association,
+) -> Result<(Option<FoundPrograms>, Option<Unmapped>), AllocError>
+    requires { HaveMapsBefore place (map finding_view findings.now) (Some table.now) }
+    ensures streams { IfOk result (λ r. r.0 ≡ spec.streams_by last (map finding_view findings.now) (Some table.now)) }
+    ensures unknown { IfOk result (λ r. AreUnknown r.0 (map finding_view findings.now) (Some table.now) r.1) }
+{
+    match first_unmapped(place, findings, &table.programs) {
+        None => streams_named(alloc, findings, &table.programs),
+        Some(first) => {
+            if last {
+                streams_named(alloc, findings, &table.programs)
+            } else {
+                Ok((None, Some(first)))
+            }
         }
     }
-    true
 }
 
-#[tactic(auto, unfolding(crate::specs::NamedStreams::streams_by))]
+// The streams, if they are known by what is found and this table, or it is the last packet that is looked at; else what is
+// wanting. The programs before a place have maps.
+#[tactic(auto, unfolding(crate::specs::NamedStreams::streams_by, crate::specs::Wanting::AreUnknown, crate::specs::Wanting::Lacks))]
 fn streams_by(
     alloc: Global,
     last: bool,
+    place: usize,
     findings: &[Finding<'_>],
     table: &Option<Association>,
-) -> Result<Option<FoundPrograms>, AllocError>
-    ensures { IfOk result (λ found. found ≡ spec.streams_by last (map finding_view findings.now) table.now) }
+) -> Result<(Option<FoundPrograms>, Option<Unmapped>), AllocError>
+    requires { HaveMapsBefore place (map finding_view findings.now) table.now }
+    ensures streams { IfOk result (λ r. r.0 ≡ spec.streams_by last (map finding_view findings.now) table.now) }
+    ensures unknown { IfOk result (λ r. AreUnknown r.0 (map finding_view findings.now) table.now r.1) }
 {
     match table {
         None => {
             if last {
-                Ok(Some(found_programs(alloc, &[], findings)?))
+                streams_named(alloc, findings, &[])
             } else {
-                Ok(None)
+                Ok((None, None))
             }
         }
-        Some(table) => {
-            if last || have_maps(findings, &table.programs) {
-                Ok(Some(found_programs(alloc, &table.programs, findings)?))
-            } else {
-                Ok(None)
-            }
-        }
+        Some(table) => streams_of(alloc, last, place, findings, table),
     }
 }
 
-// The streams, if they are known by what is found, or it is the last packet that is looked at.
-fn streams_at(
-    alloc: Global,
-    last: bool,
-    findings: &[Finding<'_>],
-) -> Result<Option<FoundPrograms>, AllocError>
-    ensures { IfOk result (λ found. found ≡ spec.streams_at last (map finding_view findings.now)) }
-{
-    let table = named_programs(alloc, findings)?;
-    streams_by(alloc, last, findings, &table)
-}
-
-// The same, where `before` findings did not name them: without more, nothing is looked for.
-fn streams_if_more(
+// The same by what is found. In the first findings this was wanting: without it in the others, nothing is looked for.
+fn streams_after(
     alloc: Global,
     last: bool,
     before: usize,
+    first: Option<Unmapped>,
     findings: &[Finding<'_>],
-) -> Result<Option<FoundPrograms>, AllocError>
-    requires { length findings.now ≡ before → spec.streams_at false (map finding_view findings.now) ≡ None }
-    ensures { IfOk result (λ found. found ≡ spec.streams_at last (map finding_view findings.now)) }
+) -> Result<(Option<FoundPrograms>, Option<Unmapped>), AllocError>
+    requires within { before ≤ length findings.now }
+    requires unknown { Lacks (take before (map finding_view findings.now))
+        (association (take before (map finding_view findings.now))) first }
+    ensures streams { IfOk result (λ r. r.0 ≡ spec.streams_at last (map finding_view findings.now)) }
+    ensures unknown { IfOk result (λ r. AreUnknown r.0 (map finding_view findings.now)
+        (association (map finding_view findings.now)) r.1) }
 {
-    if !last && findings.len() == before {
-        return Ok(None);
+    if !last && !has_wanting(alloc, first, &findings[before..])? {
+        return Ok((None, first));
     }
-    streams_at(alloc, last, findings)
+    let table = named_programs(alloc, findings)?;
+    streams_by(alloc, last, place_of(first), findings, &table)
 }
 
-// The streams with another packet, where they are not known without it.
+// The streams with another packet, where they are not known without it, or what is wanting.
 fn streams_with(
     alloc: Global,
     demux: &mut Demux,
     last: bool,
+    first: Option<Unmapped>,
     bytes: &[u8; 188],
-) -> Result<Option<FoundPrograms>, AllocError>
-    requires { spec.streams_at false demux.old.found ≡ None }
+) -> Result<(Option<FoundPrograms>, Option<Unmapped>), AllocError>
+    requires { Lacks demux.old.found (association demux.old.found) first }
     ensures demux { OnOk result (demux.new ≡ pushed demux.old bytes.now) }
-    ensures streams { IfOk result (λ found. found ≡ spec.streams_at last demux.new.found) }
+    ensures streams { IfOk result (λ r. r.0 ≡ spec.streams_at last demux.new.found) }
+    ensures unknown { IfOk result (λ r. AreUnknown r.0 demux.new.found (association demux.new.found) r.1) }
 {
     let before = demux.findings().len();
     let Ok(()) = demux.push(bytes) else {
         return Err(AllocError);
     };
-    streams_if_more(alloc, last, before, demux.findings())
+    streams_after(alloc, last, before, first, demux.findings())
 }
 
 // The stream of a PID.
@@ -159,6 +186,7 @@ impl NamedStreams {
             demux: Demux::new(alloc),
             packets: 0,
             found: None,
+            unmapped: None,
         }
     }
 
@@ -169,15 +197,18 @@ impl NamedStreams {
         ensures none { OnErr result (self.new ≡ spec.none_taken) }
     {
         let packets = self.packets.saturating_add(1);
-        match streams_with(self.alloc, &mut self.demux, packets >= FIRST_PACKETS, bytes) {
-            Ok(found) => {
+        let last = packets >= FIRST_PACKETS;
+        match streams_with(self.alloc, &mut self.demux, last, self.unmapped, bytes) {
+            Ok((found, unmapped)) => {
                 self.packets = packets;
                 self.found = found;
+                self.unmapped = unmapped;
                 Ok(())
             }
             Err(error) => {
                 self.demux = Demux::new(self.alloc);
                 self.packets = 0;
+                self.unmapped = None;
                 Err(error)
             }
         }

@@ -1,4 +1,4 @@
-use Rattle.named_streams.proofs.Unknown.{at_start}
+use Rattle.named_streams.proofs.Wanting.{at_start}
 use Rattle.named_streams.proofs.named_streams.NamedStreams.new.Goals as goal
 
 pub invariant_of-result : goal.invariant_of-result
