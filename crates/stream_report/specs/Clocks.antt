@@ -17,6 +17,7 @@ use Rattle.stream_arrival.specs.declared.arrival.Arrival.{Arrival}
 use Rattle.stream_arrival.specs.declared.arrival.Arrival.TheVariants.{Unknown, AtRate, OnLines}
 use Rattle.packet_arrival.specs.declared.clock.TheConstants.{PCR_PERIOD}
 use Rattle.packet_arrival.specs.declared.clock.PcrSample.{PcrSample}
+use Rattle.stream_view.specs.DueTimes.{due_on}
 use Rattle.stream_view.specs.declared.unit_seen.DueTime.{DueTime}
 use Rattle.stream_report.specs.declared.clocks.TheConstants.{LAST_TICK, LONGEST_STAY}
 use Rattle.stream_report.specs.declared.clocks.Beginning.{Beginning}
@@ -100,7 +101,6 @@ due_tick rate clock dts =
     if nat_lt (ahead_of clock dts) (PCR_PERIOD / 2) then tick_of rate clock + min (ahead_of clock dts) LONGEST_STAY
     else tick_of rate clock - (PCR_PERIOD - ahead_of clock dts)
 
--- in units of time at its buffer, of 8 / (rate * rx) seconds: its bytes stay until the first whole one from then on, and its last byte may
--- leave the transport buffer up to the last one before
+-- in units of time at its buffer
 abbrev pub due_at : ℕ → ℕ → PcrSample → ℕ → DueTime
-due_at rate rx clock dts = record { until = (due_tick rate clock dts * (rate * rx) + 215999999) / 216000000; deadline = due_tick rate clock dts * (rate * rx) / 216000000 }
+due_at rate rx clock dts = due_on rate rx (due_tick rate clock dts)

@@ -183,9 +183,5 @@ pub(crate) fn due_at(rate: u64, rx: u32, clock: &PcrSample, dts: u64) -> DueTime
     requires { rate < 4294967296 }
     ensures { result ≡ spec.due_at rate rx clock.now dts }
 {
-    let parts = due_tick(rate, clock, dts) * (u128::from(rate) * u128::from(rx));
-    DueTime {
-        until: parts.div_ceil(BYTE_TICKS_AT_1BPS),
-        deadline: parts / BYTE_TICKS_AT_1BPS,
-    }
+    DueTime::on_tick(rate, rx, due_tick(rate, clock, dts))
 }

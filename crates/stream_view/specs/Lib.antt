@@ -6,6 +6,7 @@ pub mod ConstantRate
 pub mod Laws
 pub mod Refusal
 pub mod WatchedQueues
+pub mod DueTimes
 pub mod EvenBytes
 pub mod SystemViewed
 pub mod Arriving

@@ -1,9 +1,8 @@
 //! Units as they come.
-ghost use Rattle.std.specs.Prelude.{◌≡◌, ◌+◌, ◌-◌, ◌*◌, ◌/◌, ◌<◌, ◌≤◌, ◌^◌};
-ghost use Rattle.clock27.specs.Units.{byte_units_at_1bps};
-ghost use Rattle.unit_arrival.specs.Removal.{removal_time};
+ghost use Rattle.std.specs.Prelude.{◌≡◌, ◌-◌, ◌<◌, ◌^◌};
+ghost use Rattle.stream_view.specs.DueTimes.{due_on};
 
-use clock27::BYTE_UNITS_AT_1BPS;
+use clock27::units::BYTE_TICKS_AT_1BPS;
 
 /// When a unit is due, in whole units of time at the buffer of its stream.
 #[derive(Clone, Copy, Debug, PartialEq, Eq)]
@@ -15,31 +14,17 @@ pub struct DueTime {
 }
 
 impl DueTime {
-    /// Due at `due` units of 90 kHz after the first byte of a stream of that rate, at a buffer that is drained at `rx` bits a
-    /// second; in units of `8 / (rate * rx)` seconds.
-    pub fn at_rate(rate: u64, rx: u64, due: u64) -> DueTime
-        requires rate { rate ≤ 200000000 }
-        requires rx { rx ≤ 200000000 }
-        ensures until { result.until ≡ removal_time rate rx due }
-        ensures deadline { result.deadline ≡ due * rate * rx / byte_units_at_1bps }
+    /// Due so many ticks of 27 MHz after a stream's first byte, where a byte takes `step` to leave a buffer at its own rate, at one that is
+    /// drained at `rx` bits a second; in units of `8 / (step * rx)` seconds.
+    pub fn on_tick(step: u64, rx: u32, tick: u128) -> DueTime
+        requires step { step < 2 ^ 32 }
+        requires tick { tick < 2 ^ 61 }
+        ensures { result ≡ due_on step rx tick }
     {
-        let limit = u128::from(due) * u128::from(rate) * u128::from(rx);
+        let parts = tick * (u128::from(step) * u128::from(rx));
         DueTime {
-            until: limit.div_ceil(BYTE_UNITS_AT_1BPS),
-            deadline: limit / BYTE_UNITS_AT_1BPS,
-        }
-    }
-
-    /// Due at that moment of a program's clock, in ticks of 27 MHz, at a buffer that is drained at `rx` bits a second; in
-    /// units of `1 / (27,000,000 * rx)` seconds.
-    pub fn by_clock(rx: u64, moment: u64) -> DueTime
-        ensures until { result.until ≡ moment * rx }
-        ensures deadline { result.deadline ≡ moment * rx }
-    {
-        let time = u128::from(moment) * u128::from(rx);
-        DueTime {
-            until: time,
-            deadline: time,
+            until: parts.div_ceil(BYTE_TICKS_AT_1BPS),
+            deadline: parts / BYTE_TICKS_AT_1BPS,
         }
     }
 }
