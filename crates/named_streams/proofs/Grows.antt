@@ -9,7 +9,6 @@ use Rattle.demux.specs.Views.{FindingView}
 use Rattle.demux.specs.Stream.{StreamState, pushed, completed, found_in}
 use Rattle.stream_programs.specs.Association.{AssociationView, association, first_pat, pat_found, entries, entries_of, is_named, with_program, with_programs}
 use Rattle.stream_programs.specs.ProgramMaps.{pmt_found, program_map}
-use Rattle.stream_programs.proofs.AssociationSteps.{with_both}
 
 -- 1. By bytes
 
@@ -29,6 +28,12 @@ grows s (byte ∷ bytes) =
     (one.0 ++ rest.0, rest.1 ∙ ap (λ (l : List FindingView). l ++ rest.0) one.1 ∙ append_assoc s.found one.0 rest.0)
 
 -- 2. The association
+
+-- programs of both, one after the other
+with_both : (named xs ys : List Program) → with_programs named (xs ++ ys) ≡ with_programs (with_programs named xs) ys
+unfolding with_programs
+with_both named [] ys = refl
+with_both named (x ∷ xs) ys = with_both (with_program named x) xs ys
 
 or_assoc : {X : Type 0} (a b c : Option X) → option_or (option_or a b) c ≡ option_or a (option_or b c)
 or_assoc None b c = refl
