@@ -1,4 +1,4 @@
--- The report of a usage text that is equal to another.
+-- The report by what is known, or of a usage text, that is equal to another.
 use Rattle.std.proofs.Common.{◌≡◌, ◌⊎◌, ℕ, List, subst}
 use Rattle.devices.specs.Devices.{Device}
 use Rattle.devices.specs.Runs.{LacksMemory}
@@ -11,3 +11,9 @@ pub of_usage : (c : CommandLine) (words : List Text) (usage text : Text) (input 
     TellsUsage (usage_report c words text) input output faults status ⊎ LacksMemory input output faults status
 of_usage c words usage text input output faults status e t =
     subst (λ (u : Text). TellsUsage (usage_report c words u) input output faults status ⊎ LacksMemory input output faults status) e t
+
+pub of_known : (c d : CommandLine) (words : List Text) (usage : Text) (input output faults : Device) (status : ℕ) → c ≡ d →
+    TellsUsage (usage_report c words usage) input output faults status ⊎ LacksMemory input output faults status →
+    TellsUsage (usage_report d words usage) input output faults status ⊎ LacksMemory input output faults status
+of_known c d words usage input output faults status e t =
+    subst (λ (k : CommandLine). TellsUsage (usage_report k words usage) input output faults status ⊎ LacksMemory input output faults status) e t

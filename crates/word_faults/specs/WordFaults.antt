@@ -69,13 +69,21 @@ is_alone c word = bytes_eq word (codes "--version") || c.stands_alone word
 abbrev pub alone_reason : List Text → List Text → Option Reason
 alone_reason before rest = if length before == 0 && length rest == 0 then None else Some Alone
 
+-- `--`, where the program knows it: the words after it are names of files, one at least
+abbrev pub is_file_mark : CommandLine → Text → Bool
+is_file_mark c word = bytes_eq word (codes "--") && c.is_word word
+
+abbrev pub files_reason : List Text → Option Reason
+files_reason rest = if length rest == 0 then Some NoValue else None
+
 -- why a word that is no value cannot be taken, after these words and before those
 abbrev pub reason_at : CommandLine → Bool → List Text → Text → List Text → Option Reason
 reason_at c has_word before word rest =
     if is_help word then Some Help
     else (if is_alone c word then alone_reason before rest
+    else (if is_file_mark c word then files_reason rest
     else (if is_dashed word then option_reason c (c.takes_value (option_in word)) before (option_in word) (value_in word) rest
-    else word_reason c has_word word))
+    else word_reason c has_word word)))
 
 -- a value is to come after this word
 abbrev pub is_open : Option Bool → Option Text → Bool
@@ -91,13 +99,15 @@ abbrev pub fault_or : ℕ → Option Reason → Option WordFault → Option Word
 fault_or place None later = later
 fault_or place (Some reason) later = Some (record { place = place; reason = reason })
 
--- where the words before are taken, one that is no option among them or not, and the next word is a value or not
+-- where the words before are taken, one that is no option among them or not, and the next word is a value or not; names of files
+-- are taken as they are
 unfoldable pub fault_from : CommandLine → List Text → Bool → Bool → List Text → Option WordFault
 fault_from c before has_word is_value [] = None
 fault_from c before has_word true (w ∷ rest) = fault_from c (before ++ w ∷ []) has_word false rest
 fault_from c before has_word false (w ∷ rest) =
     fault_or (length before) (reason_at c has_word before w rest)
-    (fault_from c (before ++ w ∷ []) (has_word || not (is_dashed w)) (wants_value c w) rest)
+    (if is_file_mark c w then None
+    else fault_from c (before ++ w ∷ []) (has_word || not (is_dashed w)) (wants_value c w) rest)
 
 -- the option that has to be given is not
 abbrev pub missing : Option Text → List Text → Option WordFault
@@ -110,3 +120,16 @@ otherwise (Some fault) later = Some fault
 
 abbrev pub first_fault : CommandLine → List Text → Option WordFault
 first_fault c words = otherwise (fault_from c [] false false words) (missing c.required words)
+
+-- 4. The word beside the options
+
+-- the first word that is neither an option nor a value, nor the name of a file, where the next word is a value or not
+unfoldable pub word_from : CommandLine → Bool → List Text → Option Text
+word_from c is_value [] = None
+word_from c true (w ∷ rest) = word_from c false rest
+word_from c false (w ∷ rest) =
+    if is_file_mark c w then None
+    else (if is_dashed w then word_from c (wants_value c w) rest else Some w)
+
+abbrev pub word_beside : CommandLine → List Text → Option Text
+word_beside c words = word_from c false words

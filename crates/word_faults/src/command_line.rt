@@ -16,7 +16,7 @@ pub trait CommandLine: Copy {
     fn reads(self, alloc: Global, option: &str, value: &str) -> Result<bool, AllocError>
         ensures { IfOk result (λ b. b ≡ (known self).reads option.now value.now) };
 
-    /// Whether the word may stand beside the options.
+    /// Whether the word may stand beside the options; of `--`, whether names of files may follow it.
     fn is_word(self, word: &str) -> bool
         ensures { result ≡ (known self).is_word word.now };
 

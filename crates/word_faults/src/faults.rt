@@ -155,6 +155,24 @@ fn alone_reason(before: &[&str], rest: &[&str]) -> Option<Reason>
     }
 }
 
+// Whether the words after a word are names of files.
+fn is_file_mark<C: CommandLine>(known: C, word: &str) -> bool
+    ensures { result ≡ spec.is_file_mark (C.known known) word.now }
+{
+    word == "--" && known.is_word(word)
+}
+
+// Why the words after a word are no names of files.
+fn files_reason(rest: &[&str]) -> Option<Reason>
+    ensures { result ≡ spec.files_reason (map (λ s. s.now) rest.now) }
+{
+    if rest.is_empty() {
+        Some(Reason::NoValue)
+    } else {
+        None
+    }
+}
+
 // Why a word that is no value cannot be taken.
 fn reason_at<C: CommandLine>(
     alloc: Global,
@@ -171,6 +189,8 @@ fn reason_at<C: CommandLine>(
         Ok(Some(Reason::Help))
     } else if is_alone(known, word) {
         Ok(alone_reason(before, rest))
+    } else if is_file_mark(known, word) {
+        Ok(files_reason(rest))
     } else if is_dashed(word) {
         option_reason(alloc, known, before, word, rest)
     } else if known.is_word(word) && !has_word {
@@ -210,6 +230,9 @@ fn first_word<C: CommandLine>(
             if let Some(reason) = reason_at(alloc, known, has_word, before, word, rest)? {
                 return Ok(Some(WordFault { place, reason }));
             }
+            if is_file_mark(known, word) {
+                return Ok(None);
+            }
             has_word = has_word || !is_dashed(word);
             is_value = wants_value(known, word);
         }
@@ -243,4 +266,27 @@ pub fn first_fault<C: CommandLine>(
         Some(fault) => Ok(Some(fault)),
         None => Ok(missing(known.required(), words)),
     }
+}
+
+/// The first word that is neither an option nor a value, nor the name of a file.
+#[tactic(auto, unfolding(crate::specs::WordFaults::word_from))]
+pub fn word_beside<'a, C: CommandLine>(known: C, words: &[&'a str]) -> Option<&'a str>
+    ensures { option_map (λ s. s.now) result ≡ spec.word_beside (C.known known) (map (λ s. s.now) words.now) }
+{
+    let mut is_value = false;
+    for place in 0..words.len() {
+        let word = words[place];
+        if is_value {
+            is_value = false;
+        } else {
+            if is_file_mark(known, word) {
+                return None;
+            }
+            if !is_dashed(word) {
+                return Some(word);
+            }
+            is_value = wants_value(known, word);
+        }
+    }
+    None
 }
