@@ -38,16 +38,12 @@ use Rattle.piped_jobs.proofs.JoinedInformation.{all_are_plain, each_plain}
 use Rattle.piped_jobs.proofs.JoinedUnitsAgain.{joined_units_again, moved_in}
 use Rattle.piped_jobs.proofs.PipedRuns.{muxed, none_written, taken}
 use Rattle.piped_jobs.proofs.PlainLines.{Passes}
-use Rattle.piped_jobs.proofs.PlainNames.{options_plain}
+use Rattle.piped_jobs.proofs.PlainNames.{else_some, options_plain}
 use Rattle.piped_jobs.proofs.ReadJobs.{job_again, text_in_range}
 use Rattle.piped_jobs.proofs.TakenJobs.{no_cause}
 use Rattle.piped_jobs.proofs.WrittenRecords.{Fits, records_read, units_fit}
 
 -- 1. What is written is read
-
-else_some : {A : Type 0} (b : Bool) (value : Option A) (x : A) → (if b then None else value) ≡ Some x → value ≡ Some x
-else_some true value x e = absurd cc
-else_some false value x e = e
 
 not_streamed : (o : Option JobArgumentsView) (a : JobArgumentsView) → unless_streamed o ≡ Some a → o ≡ Some a
 unfolding unless_streamed

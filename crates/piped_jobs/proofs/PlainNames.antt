@@ -24,8 +24,9 @@ use Rattle.stream_jobs.specs.JobOptions.{JobOptionsView}
 use Rattle.stream_jobs.specs.Information.{named_service, network_found, network_of, network_or, renamed, service_with}
 use Rattle.devices.specs.Options.{number_if_given, number_option}
 use Rattle.tsjob_cli.specs.CommandLine.{tsjob_app}
+use Rattle.tsjob_cli.specs.FileMark.{has_mark}
 use Rattle.job_outcomes.specs.JobArguments.{JobArgumentsView}
-use Rattle.tsjob_cli.specs.Arguments.{arguments_in, arguments_of, base_of, declare_by_of, greatest_lead, greatest_limit, greatest_pid, greatest_program, greatest_rate, is_of_time, least_lead, least_limit, least_rate, start_of, stream_of, subcommand_of, unless_faulty, values_of}
+use Rattle.tsjob_cli.specs.Arguments.{arguments_in, arguments_of, base_of, declare_by_of, greatest_lead, greatest_limit, greatest_pid, greatest_program, greatest_rate, is_of_time, least_lead, least_limit, least_rate, options_in, start_of, stream_of, subcommand_of, unless_faulty, values_of}
 use Rattle.option_lists.specs.Lists.{all_of, buffer_list, colon_parts, number_in, number_list}
 use Rattle.tsjob_cli.specs.NameLists.{are_printable, is_printable, name_list, name_of, network_if_given, network_in, network_of as network_named, network_with}
 use Rattle.piped_jobs.proofs.PlainTexts.{decimal_flat}
@@ -47,6 +48,10 @@ map_some f (Some x) b e = (x, (refl, same_value (f x) b e))
 if_some : {A : Type 0} (b : Bool) (value : Option A) (x : A) → (if b then value else None) ≡ Some x → (b ≡ true) × (value ≡ Some x)
 if_some true value x e = (refl, e)
 if_some false value x e = absurd cc
+
+pub else_some : {A : Type 0} (b : Bool) (value : Option A) (x : A) → (if b then None else value) ≡ Some x → value ≡ Some x
+else_some true value x e = absurd cc
+else_some false value x e = e
 
 -- 2. Names that options give
 
@@ -184,7 +189,8 @@ sound_words (k ∷ ks) o a e = absurd cc
 -- the names that words give, and the moment
 pub options_plain : (words : List Text) (a : JobArgumentsView) → arguments_in words ≡ Some a → PlainOptions a.options
 options_plain words a e =
-    rows_plain (matches_of tsjob_app words) a (sound_words (fault_of tsjob_app words) (arguments_of (matches_of tsjob_app words)) a e)
+    rows_plain (matches_of tsjob_app words) a
+    (sound_words (fault_of tsjob_app words) (arguments_of (matches_of tsjob_app words)) a (else_some (has_mark words) (options_in words) a e))
 
 -- 4. Names that stand in a stream
 

@@ -14,7 +14,8 @@ use Rattle.devices.specs.declared.halt.Halt.TheVariants as halt
 use Rattle.word_faults.specs.UsageReport.{is_version}
 use Rattle.job_outcomes.specs.JobArguments.{JobArgumentsView}
 use Rattle.job_outcomes.specs.StreamFiles.{Files, PerformsFiles}
-use Rattle.tsjob_cli.specs.FileWords.{file_arguments, file_words, is_mark}
+use Rattle.tsjob_cli.specs.FileMark.{is_mark}
+use Rattle.tsjob_cli.specs.FileWords.{file_arguments, file_words}
 use Rattle.tsjob_cli.specs.NamedInputs.{ReadsFiles}
 
 -- one word has no name after it

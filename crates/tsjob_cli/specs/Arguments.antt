@@ -15,6 +15,7 @@ use Rattle.devices.specs.Options.{is_given, number_if_given, number_option}
 use Rattle.job_outcomes.specs.declared.job_arguments.Subcommand.{Subcommand}
 use Rattle.job_outcomes.specs.declared.job_arguments.Subcommand.TheVariants.{Whole, Describe, Units, Why}
 use Rattle.tsjob_cli.specs.CommandLine.{tsjob_app}
+use Rattle.tsjob_cli.specs.FileMark.{has_mark}
 use Rattle.option_lists.specs.Lists.{buffer_list, given, number_in, number_list}
 use Rattle.job_outcomes.specs.JobArguments.{JobArgumentsView}
 use Rattle.tsjob_cli.specs.NameLists.{name_list, network_if_given}
@@ -146,9 +147,13 @@ unfoldable pub unless_faulty : Kinds → Option JobArgumentsView → Option JobA
 unless_faulty [] arguments = arguments
 unless_faulty (k ∷ ks) arguments = None
 
--- what the words ask for, none where they are a usage error
+-- what a subcommand and options ask for, none where they are a usage error
+abbrev pub options_in : List Text → Option JobArgumentsView
+options_in words = unless_faulty (fault_of tsjob_app words) (arguments_of (matches_of tsjob_app words))
+
+-- what the words ask for of the input, none where names of files may stand among them
 abbrev pub arguments_in : List Text → Option JobArgumentsView
-arguments_in words = unless_faulty (fault_of tsjob_app words) (arguments_of (matches_of tsjob_app words))
+arguments_in words = if has_mark words then None else options_in words
 
 -- the same of words in memory
 abbrev pub arguments : List (Bor (List ℕ)) → Option JobArgumentsView

@@ -1,13 +1,10 @@
 -- Words after `--`: the names of files, each with a transport stream.
-use Rattle.std.specs.Prelude.{ℕ, ◌==◌, Bool, List, length, Option, Some, None, if◌then◌else◌, codes, is_some}
+use Rattle.std.specs.Prelude.{◌==◌, List, length, Option, Some, None, if◌then◌else◌, is_some}
 use Rattle.std.specs.List.{after_first, before_first}
-use Rattle.std.specs.Str.{bytes_eq}
 use Rattle.clap.specs.Words.{Text}
 use Rattle.job_outcomes.specs.JobArguments.{JobArgumentsView}
 use Rattle.tsjob_cli.specs.Arguments.{arguments_in}
-
-abbrev pub is_mark : Text → Bool
-is_mark word = bytes_eq word (codes "--")
+use Rattle.tsjob_cli.specs.FileMark.{is_mark}
 
 -- the words before it, and the names
 abbrev pub option_words : List Text → List Text

@@ -2,6 +2,7 @@ pub mod CommandLine
 pub mod KnownWords
 pub mod NameLists
 pub mod Arguments
+pub mod FileMark
 pub mod FileWords
 pub mod NamedInputs
 pub mod UsageText

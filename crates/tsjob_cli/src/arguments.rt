@@ -1,6 +1,6 @@
 //! What the command line asks for.
 
-ghost use Rattle.std.specs.Prelude.{◌≡◌, IfOk, option_map};
+ghost use Rattle.std.specs.Prelude.{◌≡◌, IfOk, map, option_map};
 ghost use Rattle.std.specs.List.{list_all};
 ghost use Rattle.clap.specs.Words.{found_of, rows_of};
 ghost use Rattle.stream_jobs.specs.GivenNames.{network_name_view};
@@ -8,6 +8,7 @@ ghost use Rattle.tsjob_cli.specs.Arguments as spec;
 ghost use Rattle.tsjob_cli.specs.NameLists.{network_if_given};
 
 use crate::command_line::matches_for;
+use crate::file_mark::has_mark;
 use crate::name_lists::{name_list, network_in};
 use clap::ArgMatches;
 use clap::error::ErrorKind;
@@ -187,12 +188,12 @@ fn arguments_of<'a>(
     }))
 }
 
-/// What the words ask for; none where they are a usage error.
-pub fn read_arguments<'a>(
+// What a subcommand and options ask for; none where they are a usage error.
+fn read_options<'a>(
     alloc: Global,
     words: &'a [&'a str],
 ) -> Result<Option<JobArguments<'a>>, AllocError>
-    ensures { IfOk result (λ r. r ≡ spec.arguments words.entry.now) }
+    ensures { IfOk result (λ r. r ≡ spec.options_in (map (λ s. s.now) words.entry.now)) }
 {
     match matches_for(alloc, words) {
         Ok(matches) => arguments_of(alloc, &matches),
@@ -201,4 +202,17 @@ pub fn read_arguments<'a>(
             _ => Ok(None),
         },
     }
+}
+
+/// What the words ask for of the input; none where they are a usage error, or names of files may stand among them.
+pub fn read_arguments<'a>(
+    alloc: Global,
+    words: &'a [&'a str],
+) -> Result<Option<JobArguments<'a>>, AllocError>
+    ensures { IfOk result (λ r. r ≡ spec.arguments words.entry.now) }
+{
+    if has_mark(words) {
+        return Ok(None);
+    }
+    read_options(alloc, words)
 }

@@ -1,25 +1,12 @@
 //! Words after `--`: the names of files.
 
-ghost use Rattle.std.specs.Prelude.{◌≡◌, ◌≤◌, IfOk, length, map};
-ghost use Rattle.std.specs.List.{position_or_len};
+ghost use Rattle.std.specs.Prelude.{◌≡◌, IfOk, map};
 ghost use Rattle.tsjob_cli.specs.FileWords as spec;
 
 use crate::arguments::read_arguments;
+use crate::file_mark::mark_place;
 use job_outcomes::JobArguments;
 use std::alloc::{AllocError, Global};
-
-// How many words stand before it; all, where it does not stand among them.
-fn mark_place(words: &[&str]) -> usize
-    ensures place { result ≡ position_or_len spec.is_mark (map (λ s. s.now) words.now) }
-    ensures within { result ≤ length words.now }
-{
-    for (place, word) in words.iter().enumerate() {
-        if *word == "--" {
-            return place;
-        }
-    }
-    words.len()
-}
 
 /// The names of files.
 pub(crate) fn file_words<'w, 'a>(words: &'w [&'a str]) -> &'w [&'a str]

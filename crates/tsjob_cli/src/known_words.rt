@@ -1,17 +1,22 @@
 //! The options and subcommands that the program knows, and the values that each option takes.
-ghost use Rattle.std.specs.Prelude.{◌≡◌, IfOk};
+ghost use Rattle.std.specs.Prelude.{◌≡◌, IfOk, map};
 ghost use Rattle.tsjob_cli.specs.KnownWords as spec;
 
 use crate::arguments::{base_of, declare_by_of, start_of, subcommand_of};
+use crate::file_mark::has_mark;
 use crate::name_lists::{name_list, network_in};
 use devices::number_in;
+use job_outcomes::Subcommand;
 use option_lists::{buffer_list, number_list};
 use std::alloc::{AllocError, Global};
-use word_faults::CommandLine;
+use word_faults::{CommandLine, word_beside};
 
 /// The command line of the program.
 #[derive(Clone, Copy)]
-pub(crate) struct KnownWords;
+pub(crate) struct KnownWords {
+    /// Whether the file of a description can be named.
+    pub takes_stream: bool,
+}
 
 /// The values of an option.
 #[derive(Clone, Copy)]
@@ -36,10 +41,10 @@ pub enum ValueKind {
     FileName,
 }
 
-// The values of an option; none where it takes none.
+// The values of an option; none where it takes none, where the file of a description can be named or not.
 #[tactic(auto, unfolding(crate::specs::KnownWords::kind_of))]
-fn kind_of(option: &str) -> Option<ValueKind>
-    ensures { result ≡ spec.kind_of option.now }
+fn kind_of(takes_stream: bool, option: &str) -> Option<ValueKind>
+    ensures { result ≡ spec.kind_of takes_stream option.now }
 {
     match option {
         "--rate" => Some(ValueKind::Number(100_000, 100_000_000)),
@@ -53,7 +58,7 @@ fn kind_of(option: &str) -> Option<ValueKind>
         "--base" => Some(ValueKind::Base),
         "--network" => Some(ValueKind::Network),
         "--name" => Some(ValueKind::Names),
-        "--stream" => Some(ValueKind::FileName),
+        "--stream" if takes_stream => Some(ValueKind::FileName),
         _ => None,
     }
 }
@@ -84,10 +89,10 @@ fn is_value(alloc: Global, kind: ValueKind, value: &str) -> Result<bool, AllocEr
 }
 
 impl CommandLine for KnownWords {
-    ghost known = { λ _. spec.known_words };
+    ghost known = { λ k. spec.known_words k.takes_stream };
 
     fn takes_value(self, option: &str) -> Option<bool> {
-        match kind_of(option) {
+        match kind_of(self.takes_stream, option) {
             Some(_) => Some(true),
             None if is_flag(option) => Some(false),
             None => None,
@@ -95,14 +100,14 @@ impl CommandLine for KnownWords {
     }
 
     fn reads(self, alloc: Global, option: &str, value: &str) -> Result<bool, AllocError> {
-        match kind_of(option) {
+        match kind_of(self.takes_stream, option) {
             Some(kind) => is_value(alloc, kind, value),
             None => Ok(false),
         }
     }
 
     fn is_word(self, word: &str) -> bool {
-        subcommand_of(Some(word)).is_some()
+        subcommand_of(Some(word)).is_some() || word == "--"
     }
 
     fn stands_alone(self, word: &str) -> bool {
@@ -111,5 +116,26 @@ impl CommandLine for KnownWords {
 
     fn required(self) -> Option<&'static str> {
         None
+    }
+}
+
+// Whether units are asked for.
+fn is_units(subcommand: Option<Subcommand>) -> bool
+    ensures { result ≡ spec.is_units subcommand }
+{
+    match subcommand {
+        Some(Subcommand::Units) => true,
+        Some(Subcommand::Whole | Subcommand::Describe | Subcommand::Why) | None => false,
+    }
+}
+
+/// What is known of these words: the file of a description can be named with units, and with no names of files.
+pub(crate) fn known_for(words: &[&str]) -> KnownWords
+    ensures { result.takes_stream ≡ spec.takes_stream (map (λ s. s.now) words.now) }
+{
+    let all = KnownWords { takes_stream: true };
+    let subcommand = subcommand_of(word_beside(all, words));
+    KnownWords {
+        takes_stream: is_units(subcommand) && !has_mark(words),
     }
 }

@@ -1,7 +1,7 @@
 //! What the program `tsjob` does, over any files, a reader and two writers (`run`).
 //!
-//! `command_line`, `name_lists` and `arguments` read the command line, and `known_words` says what it may have; `file_words` has the
-//! names of files after `--`. What it asks for of streams is done by `job_outcomes`. `streaming` has the units of the streams of a
+//! `command_line`, `name_lists` and `arguments` read the command line, and `known_words` says what it may have; `file_mark` finds `--`, and `file_words` has the
+//! names of files after it. What it asks for of streams is done by `job_outcomes`. `streaming` has the units of the streams of a
 //! description that stands in a file written while the stream comes; `explained_input` says what is wrong with a description.
 //! `program` is `run`.
 #![tactic(auto)]
@@ -9,6 +9,7 @@
 mod arguments;
 mod command_line;
 mod explained_input;
+mod file_mark;
 mod file_words;
 mod known_words;
 mod name_lists;

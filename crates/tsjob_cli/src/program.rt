@@ -8,7 +8,7 @@ ghost use Rattle.devices.specs.Usage.{TellsUsage};
 ghost use Rattle.job_outcomes.specs.JobArguments.{JobArgumentsView};
 ghost use Rattle.tsjob_cli.specs.Arguments.{arguments};
 ghost use Rattle.tsjob_cli.specs.Explaining.{ExplainLeads, is_explain};
-ghost use Rattle.tsjob_cli.specs.KnownWords.{known_words};
+ghost use Rattle.tsjob_cli.specs.KnownWords.{known_for};
 ghost use Rattle.job_outcomes.specs.Outcomes as spec;
 ghost use Rattle.tsjob_cli.specs.FileWords.{file_arguments, file_words};
 ghost use Rattle.tsjob_cli.specs.NamedInputs.{ReadsFiles};
@@ -20,7 +20,7 @@ ghost use Rattle.word_faults.specs.UsageReport.{Prints, is_version, usage_report
 use crate::arguments::read_arguments;
 use crate::explained_input::{explain_input, is_explain};
 use crate::file_words::{file_words, read_file_arguments};
-use crate::known_words::KnownWords;
+use crate::known_words::known_for;
 use crate::streaming::stream_units;
 use counted_io::{Sink, Source};
 use devices::{Halt, NamedFiles, report_halt, report_text};
@@ -103,7 +103,7 @@ fn run_on_files<F: NamedFiles, R: Source, W: Sink, E: Sink>(
         Prints (version_text (codes "tsjob")) (reads R.Source input.old input.new)
         (writes W.Sink output.old output.new) (writes E.Sink faults.old faults.new) result }
     ensures usage { file_arguments (map (λ s. s.now) words.now) ≡ None → is_version (map (λ s. s.now) words.now) ≡ false →
-        TellsUsage (usage_report known_words (map (λ s. s.now) words.now) usage_text)
+        TellsUsage (usage_report (known_for (map (λ s. s.now) words.now)) (map (λ s. s.now) words.now) usage_text)
         (reads R.Source input.old input.new) (writes W.Sink output.old output.new)
         (writes E.Sink faults.old faults.new) result
         ⊎ LacksMemory (reads R.Source input.old input.new) (writes W.Sink output.old output.new)
@@ -114,7 +114,8 @@ fn run_on_files<F: NamedFiles, R: Source, W: Sink, E: Sink>(
             perform_files(alloc, &arguments, files, file_words(words), output, faults)
         }
         Ok(None) => {
-            answer_other_words(alloc, "tsjob", KnownWords, words, usage(), output, faults)
+            let known = known_for(words);
+            answer_other_words(alloc, "tsjob", known, words, usage(), output, faults)
         }
         Err(_) => report_halt(faults, Halt::Memory),
     }
@@ -149,7 +150,7 @@ fn run_on_stream<F: NamedFiles, R: Source, W: Sink, E: Sink>(
     // Anything else: the first word that cannot be taken and the usage are told.
     ensures usage { arguments words.now ≡ None → file_arguments (map (λ s. s.now) words.now) ≡ None →
         is_version (map (λ s. s.now) words.now) ≡ false →
-        TellsUsage (usage_report known_words (map (λ s. s.now) words.now) usage_text)
+        TellsUsage (usage_report (known_for (map (λ s. s.now) words.now)) (map (λ s. s.now) words.now) usage_text)
         (reads R.Source input.old input.new) (writes W.Sink output.old output.new)
         (writes E.Sink faults.old faults.new) result
         ⊎ LacksMemory (reads R.Source input.old input.new) (writes W.Sink output.old output.new)
@@ -200,7 +201,7 @@ pub fn run<F: NamedFiles, R: Source, W: Sink, E: Sink>(
     // Anything else: the first word that cannot be taken and the usage are told.
     ensures usage { is_explain (map (λ s. s.now) words.now) ≡ false → arguments words.now ≡ None →
         file_arguments (map (λ s. s.now) words.now) ≡ None → is_version (map (λ s. s.now) words.now) ≡ false →
-        TellsUsage (usage_report known_words (map (λ s. s.now) words.now) usage_text)
+        TellsUsage (usage_report (known_for (map (λ s. s.now) words.now)) (map (λ s. s.now) words.now) usage_text)
         (reads R.Source input.old input.new) (writes W.Sink output.old output.new)
         (writes E.Sink faults.old faults.new) result
         ⊎ LacksMemory (reads R.Source input.old input.new) (writes W.Sink output.old output.new)

@@ -3,7 +3,7 @@ use Rattle.clap.specs.Words.{fault_of, matches_of}
 use Rattle.tsjob_cli.specs.Arguments.{arguments_of}
 use Rattle.tsjob_cli.specs.CommandLine.{tsjob_app}
 use Rattle.tsjob_cli.proofs.CommandLines.{accepted, refused}
-use Rattle.tsjob_cli.proofs.arguments.read_arguments.Goals as goal
+use Rattle.tsjob_cli.proofs.arguments.read_options.Goals as goal
 
 pub returns-in-Ok : goal.returns-in-Ok
 returns-in-Ok c =
