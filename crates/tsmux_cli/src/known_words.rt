@@ -2,6 +2,7 @@
 ghost use Rattle.std.specs.Prelude.{◌≡◌, map};
 ghost use Rattle.tsmux_cli.specs.KnownWords as spec;
 
+use clock27::{GREATEST_RATE, LEAST_RATE};
 use devices::number_in;
 use pes_packet::is_unit_id;
 use std::alloc::{AllocError, Global};
@@ -91,7 +92,7 @@ fn monitor_kind(option: &str) -> Option<ValueKind>
     ensures { result ≡ spec.monitor_kind option.now }
 {
     match option {
-        "--rate" => Some(ValueKind::Number(100_000, 100_000_000)),
+        "--rate" => Some(ValueKind::Number(LEAST_RATE, GREATEST_RATE)),
         "--pcr" => Some(ValueKind::Number(1, 100)),
         _ => None,
     }

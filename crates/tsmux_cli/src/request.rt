@@ -6,7 +6,7 @@ ghost use Rattle.tsmux_cli.specs.Request as asked;
 use crate::command_line;
 use clap::ArgMatches;
 use clap::error::ErrorKind;
-use clock27::Rate;
+use clock27::{GREATEST_RATE, LEAST_RATE, Rate};
 use devices::{is_given, number_given, number_if_given, number_option, text_of};
 use pes_packet::is_unit_id;
 use std::alloc::{AllocError, Global};
@@ -146,7 +146,7 @@ fn monitor_request(matches: &ArgMatches<'_>) -> Option<Request>
     ensures value { result ≡ asked.monitor_request (rows_of (found_of matches.now)) }
     ensures fits { asked.Fits result }
 {
-    let rate = number_given(text_of(matches, "rate"), 100_000, 100_000_000);
+    let rate = number_given(text_of(matches, "rate"), LEAST_RATE, GREATEST_RATE);
     let pcr_limit = number_option(text_of(matches, "pcr"), 1, 100, 40);
     monitor_of(rate, pcr_limit)
 }
