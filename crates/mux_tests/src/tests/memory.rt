@@ -44,7 +44,7 @@ fn is_answered(alloc: Global, call: &Call, room: usize) -> Option<bool> {
 /// A call, the least room, how much more each heap has, how many heaps there are, and the least and the most in which
 /// the call gives its answer.
 static ROOMS: [(Call, usize, usize, usize, usize, usize); 15] = [
-    (Call::Carry, 65_600, 16, 64, 1, 63),
+    (Call::Carry, 131_216, 16, 64, 1, 63),
     (Call::ReadText, 16, 16, 255, 1, 249),
     (Call::WriteText, 16, 16, 255, 1, 249),
     (Call::Make, 64, 64, 511, 1, 506),
@@ -58,7 +58,7 @@ static ROOMS: [(Call, usize, usize, usize, usize, usize); 15] = [
     (Call::MultiplexSwitch, 0, 16, 64, 0, 0),
     (Call::MultiplexSwitch, 0, 4_096, 64, 1, 62),
     (Call::Air, 0, 16, 16, 0, 0),
-    (Call::Air, 0, 8_192, 24, 1, 23),
+    (Call::Air, 0, 8_192, 32, 1, 31),
 ];
 
 /// In how many of these heaps the call gives its answer; None where another is given.
