@@ -71,30 +71,38 @@ slot_within slot late due rate r n pos early due_in = elim (cases_lt n slot) [
   | inr le ↦ le
 ]
 
-by_stamp : (d e r peak due rate : ℕ) → d ≤ 188 * r * e + peak → e * 135360000 * r + peak * 720000 ≤ due * rate * r → d * 720000 ≤ due * rate * r
-by_stamp d e r peak due rate le early = omega (arith, le, early)
+by_stamp : (d e r peak extra due rate : ℕ) → d ≤ 188 * r * e + peak → e * 135360000 * r + (peak + extra) * 720000 ≤ due * rate * r →
+    (d + extra) * 720000 ≤ due * rate * r
+by_stamp d e r peak extra due rate le early = omega (arith, le, early)
 
-due_there : (own : ℕ → Bool) (rate r room peak : ℕ) (W : ℕ → ℕ) (n b p : ℕ) (unit : PesPacket) (from prev : ℕ) → BoundsWork own rate r room peak W → 0 < r →
+due_there : (own : ℕ → Bool) (rate r room peak extra : ℕ) (W : ℕ → ℕ) (n b p : ℕ) (unit : PesPacket) (from prev : ℕ) → BoundsWork own rate r room peak W → 0 < r →
     unit.size ≤ 184 * p → Rises own from (drop b (own_slots own 0 n)) → Level r W from prev → (later : List ℕ) →
-    EndsInTime own rate r peak (b + p) unit.dts → unit.dts * rate ≤ n * 135360000 →
+    EndsInTime own rate r (peak + extra) (b + p) unit.dts → unit.dts * rate ≤ n * 135360000 →
     (unit.size ≤ length (pes_left rate r prev (cut unit.size (take p (drop b (own_slots own 0 n)))) ++ later))
-    × All (λ d. d * 720000 ≤ unit.dts * rate * r) (take unit.size (pes_left rate r prev (cut unit.size (take p (drop b (own_slots own 0 n)))) ++ later))
-due_there own rate r room peak W n b p unit from prev bounds pos small here h later ends due =
+    × All (λ d. (d + extra) * 720000 ≤ unit.dts * rate * r) (take unit.size (pes_left rate r prev (cut unit.size (take p (drop b (own_slots own 0 n)))) ++ later))
+due_there own rate r room peak extra W n b p unit from prev bounds pos small here h later ends due =
     let left = pes_left rate r prev (cut unit.size (take p (drop b (own_slots own 0 n)))) in
-    let within = slot_within ends.slot peak unit.dts rate r n pos ends.early due in
+    let within = slot_within ends.slot (peak + extra) unit.dts rate r n pos ends.early due in
     let there = unit_there own rate r room peak W n ends.slot b p unit.size from prev bounds ends.sent within small here h in (
       rw (length-append left later) (omega (arith, there.0)),
       rw (take_at left later unit.size there.0)
-          (All-weaker (λ d. d ≤ 188 * r * ends.slot + peak) (λ d. d * 720000 ≤ unit.dts * rate * r)
-          (λ d le. by_stamp d ends.slot r peak unit.dts rate le ends.early) left there.1),
+          (All-weaker (λ d. d ≤ 188 * r * ends.slot + peak) (λ d. (d + extra) * 720000 ≤ unit.dts * rate * r)
+          (λ d le. by_stamp d ends.slot r peak extra unit.dts rate le ends.early) left there.1),
     )
 
-arrived : (own : ℕ → Bool) (rate lead r room peak : ℕ) (W : ℕ → ℕ) (n : ℕ) → 0 < r → BoundsWork own rate r room peak W → (units : List PesPacket) (free prev from : ℕ) →
-    InTime own rate lead r peak free units → Rises own from (drop free (own_slots own 0 n)) → Level r W from prev →
-    AllLeft rate r n units (pes_left rate r prev (packets_in_slots own rate lead free units (own_slots own 0 n)))
-unfolding InTime AllLeft packets_in_slots
-arrived own rate lead r room peak W n pos bounds [] free prev from in_time rises h = tt
-arrived own rate lead r room peak W n pos bounds (unit ∷ units) free prev from in_time rises h =
+-- each unit that is due in a run of n slots has left whole `extra` before its stamp
+unfoldable pub AllLeftBefore : ℕ → ℕ → ℕ → ℕ → List PesPacket → List ℕ → Type 0
+AllLeftBefore extra rate r n [] left = Unit {0}
+AllLeftBefore extra rate r n (unit ∷ units) left =
+    (unit.dts * rate ≤ n * 135360000 → (unit.size ≤ length left) × All (λ d. (d + extra) * 720000 ≤ unit.dts * rate * r) (take unit.size left))
+    × AllLeftBefore extra rate r n units (drop unit.size left)
+
+arrived : (own : ℕ → Bool) (rate lead r room peak extra : ℕ) (W : ℕ → ℕ) (n : ℕ) → 0 < r → BoundsWork own rate r room peak W → (units : List PesPacket) (free prev from : ℕ) →
+    InTime own rate lead r (peak + extra) free units → Rises own from (drop free (own_slots own 0 n)) → Level r W from prev →
+    AllLeftBefore extra rate r n units (pes_left rate r prev (packets_in_slots own rate lead free units (own_slots own 0 n)))
+unfolding InTime AllLeftBefore packets_in_slots
+arrived own rate lead r room peak extra W n pos bounds [] free prev from in_time rises h = tt
+arrived own rate lead r room peak extra W n pos bounds (unit ∷ units) free prev from in_time rises h =
     let slots = own_slots own 0 n in
     let b = first_slot own rate lead free unit in
     let p = packets_of_unit unit in
@@ -106,14 +114,32 @@ arrived own rate lead r room peak W n pos bounds (unit ∷ units) free prev from
     ≡ pes_left rate r prev (cut unit.size xs) ++ pes_left rate r next (packets_in_slots own rate lead (b + p) units slots) =
     pes_left-append rate r prev (cut unit.size xs) (packets_in_slots own rate lead (b + p) units slots) ∙ rw (slots_of-cut unit.size xs) refl in
     rw joined (
-      (λ due. due_there own rate r room peak W n b p unit from prev bounds pos small here h (pes_left rate r next (packets_in_slots own rate lead (b + p) units slots)) in_time.0 due),
+      (λ due. due_there own rate r room peak extra W n b p unit from prev bounds pos small here h (pes_left rate r next (packets_in_slots own rate lead (b + p) units slots)) in_time.0 due),
       rw (after_unit own rate lead r n b p unit.size prev next units small)
-          (arrived own rate lead r room peak W n pos bounds units (b + p) next (slot_after from xs) in_time.1
+          (arrived own rate lead r room peak extra W n pos bounds units (b + p) next (slot_after from xs) in_time.1
           (rises_following own from b p slots here)
           (level_packets own rate r room peak W from prev xs bounds (rises_take own from p (drop b slots) here) h)),
     )
 
+-- where each unit ends so much in time, in a run of any length
+pub arrived_before : (own : ℕ → Bool) (rate lead r room peak extra : ℕ) (W : ℕ → ℕ) (units : List PesPacket) (n : ℕ) → 0 < r →
+    BoundsWork own rate r room peak W → InTime own rate lead r (peak + extra) 0 units →
+    AllLeftBefore extra rate r n units (pes_left rate r 0 (packets_in_slots own rate lead 0 units (own_slots own 0 n)))
+arrived_before own rate lead r room peak extra W units n pos bounds in_time =
+    let start : Level r W 0 0 = omega arith in
+    arrived own rate lead r room peak extra W n pos bounds units 0 0 0 in_time (list_law own 0 n) start
+
+just_left : (rate r n : ℕ) (units : List PesPacket) (left : List ℕ) → AllLeftBefore 0 rate r n units left → AllLeft rate r n units left
+unfolding AllLeft AllLeftBefore
+just_left rate r n [] left all = tt
+just_left rate r n (unit ∷ units) left all = (
+  (λ due. let there = all.0 due in
+      (there.0, All-weaker (λ d. (d + 0) * 720000 ≤ unit.dts * rate * r) (λ d. d * 720000 ≤ unit.dts * rate * r) (λ d le. omega (arith, le)) (take unit.size left) there.1)),
+  just_left rate r n units (drop unit.size left) all.1,
+)
+
 pub arrived_law : ArrivedLaw
 arrived_law own rate lead r room peak W units n pos bounds in_time =
-    let start : Level r W 0 0 = omega arith in
-    arrived own rate lead r room peak W n pos bounds units 0 0 0 in_time (list_law own 0 n) start
+    let none : peak + 0 ≡ peak = omega arith in
+    just_left rate r n units (pes_left rate r 0 (packets_in_slots own rate lead 0 units (own_slots own 0 n)))
+    (arrived_before own rate lead r room peak 0 W units n pos bounds (rw none in_time))

@@ -18,3 +18,16 @@ pub mod LateUnits
 pub mod MainBufferPeak
 pub mod MomentLemmas
 pub mod NotEarly
+pub mod Thinning
+pub mod MultiplexingLemmas
+pub mod LeakMethodLemmas
+pub mod ByteByByte
+pub mod VideoLemmas
+pub mod EmptyBufferLemmas
+pub mod StayLemmas
+pub mod VideoExamples
+pub mod HeaderLemmas
+pub mod EmptyPlanLemmas
+pub mod EarlierStamps
+pub mod AccessUnitLemmas
+pub mod AccessUnitExamples

@@ -11,8 +11,9 @@ use Rattle.clock27.proofs.Scale.{departures-scale, arrivals-scale, fullness-scal
 use Rattle.unit_timing.specs.Schedule.{Packet}
 use Rattle.unit_timing.specs.Transport.{slots_of, of_payloads}
 use Rattle.unit_timing.specs.MainBuffer.{is_in_main_buffer, mb_fullness}
+use Rattle.unit_timing.specs.VideoBuffers.{multiplexing_entered, multiplexing_left}
 use Rattle.unit_timing.specs.SystemBuffer.{system_arrivals, system_tb_left, bsys_left}
-use Rattle.unit_timing.specs.FinerMoments.{TransportMoments, LeftScaled, MainMoments, MainWholeMoments, MainPeakMoments, SystemTransportMoments, SystemBufferMoments, system_arrivals_at, system_tb_left_at, bsys_left_at}
+use Rattle.unit_timing.specs.FinerMoments.{TransportMoments, LeftScaled, MainMoments, MainWholeMoments, MainPeakMoments, MultiplexingMoments, SystemTransportMoments, SystemBufferMoments, multiplexing_entered_at, multiplexing_left_at, system_arrivals_at, system_tb_left_at, bsys_left_at}
 use Rattle.unit_timing.proofs.MainBufferBytes.{kept}
 
 -- ---- queues
@@ -63,6 +64,13 @@ payloads_scaled k (p ∷ packets) ds =
 pub left_scaled : LeftScaled
 left_scaled k rate r packets =
     ap (of_payloads packets) (arrive_and_leave k rate r (slots_of packets)) ∙ payloads_scaled k packets (departures rate 0 (arrivals r (slots_of packets)))
+
+pub multiplexing_moments : MultiplexingMoments
+multiplexing_moments k rate rx rbx x packets pos =
+    let entered = left_scaled k (rbx * rate) (rx * rbx) packets in
+    at_moment x k (multiplexing_entered_at k rate rx rbx packets) (multiplexing_left_at k rate rx rbx packets)
+    (multiplexing_entered rate rx rbx packets) (multiplexing_left rate rx rbx packets) entered
+    (ap (departures (k * (rx * rate)) 0) entered ∙ leave k (rx * rate) (multiplexing_entered rate rx rbx packets)) pos
 
 -- ---- the main buffer
 

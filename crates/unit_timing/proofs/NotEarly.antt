@@ -53,7 +53,7 @@ small_cut size [] = All-nil (λ (p : Packet). p.size ≤ 188)
 small_cut size (s ∷ slots) =
     All-cons (λ (p : Packet). p.size ≤ 188) (record { slot = s; size = min 184 size }) (cut (size - 184) slots) (omega arith) (small_cut (size - 184) slots)
 
-small_packets : (own : ℕ → Bool) (rate lead free : ℕ) (units : List PesPacket) (slots : List ℕ) → All (λ p. p.size ≤ 188) (packets_in_slots own rate lead free units slots)
+pub small_packets : (own : ℕ → Bool) (rate lead free : ℕ) (units : List PesPacket) (slots : List ℕ) → All (λ p. p.size ≤ 188) (packets_in_slots own rate lead free units slots)
 unfolding packets_in_slots
 small_packets own rate lead free [] slots = All-nil (λ (p : Packet). p.size ≤ 188)
 small_packets own rate lead free (unit ∷ units) slots =

@@ -36,7 +36,7 @@ enough_units s pos = omega (arith, lt-mul-div-succ (s.lead + (s.interval - 1)) p
 enough_slots : (rate : ℕ) (s : Declaration) → s.lead * rate ≤ waiting_slots rate s * 135360000
 enough_slots rate s = omega arith
 
-some_slots : (rate : ℕ) (s : Declaration) → 0 < rate → 0 < s.lead → 0 < waiting_slots rate s
+pub some_slots : (rate : ℕ) (s : Declaration) → 0 < rate → 0 < s.lead → 0 < waiting_slots rate s
 some_slots rate s pos pos' = let some : 0 < s.lead * rate = mul-pos pos' pos in omega arith
 
 -- from deadlines, work and the main buffer to what is promised
@@ -65,7 +65,7 @@ lead_form : (a b c1 c2 few cost e k d late : ℕ) →
 lead_form a b c1 c2 few cost e k d late h = omega (arith, h)
 
 -- from a pace that pays for the declaration to the deadlines
-in_time : (rate : ℕ) (s : Declaration) (own : ℕ → Bool) (share cost base late : ℕ) (units : List PesPacket) → 0 < allowance_rows s.allowance → 0 < s.interval →
+pub in_time : (rate : ℕ) (s : Declaration) (own : ℕ → Bool) (share cost base late : ℕ) (units : List PesPacket) → 0 < allowance_rows s.allowance → 0 < s.interval →
     HasPace own share cost base → 0 < share → steady_packets s.allowance * cost ≤ share * steady_time s.allowance s.interval * rate →
     ((m : ℕ) → 0 < m → m ≤ allowance_rows s.allowance → (base + packets_in_row s m * cost + share) * 135360000 * s.drain + share * late * 720000
     ≤ share * (s.lead + (m - 1) * s.interval) * rate * s.drain) →
@@ -116,7 +116,7 @@ by_units rate s own units n x left proper keeps late =
       curve_within s.allowance s.unit_packets s.interval s.lead (waiting_units s) proper.some_rows pos proper.some_lead wide,
     )
 
-main_fits : (rate : ℕ) (s : Declaration) (own : ℕ → Bool) (m : ℕ) (units : List PesPacket) (n x : ℕ) (left : List ℕ) → IsProper rate s → KeepsDeclaration s units →
+pub main_fits : (rate : ℕ) (s : Declaration) (own : ℕ → Bool) (m : ℕ) (units : List PesPacket) (n x : ℕ) (left : List ℕ) → IsProper rate s → KeepsDeclaration s units →
     AtMostPerWindow own (waiting_slots rate s) m → min (bytes_by_units s) (184 * m) ≤ s.main →
     NoneLeavesEarly s.drain (run_packets own rate s units n) left → mb_fullness rate s.drain x units left ≤ s.main
 main_fits rate s own m units n x left proper keeps spares fits late =

@@ -10,6 +10,7 @@ use Rattle.unit_timing.specs.Schedule.{Packet}
 use Rattle.unit_timing.specs.Transport.{tb_fullness, pes_left}
 use Rattle.unit_timing.specs.MainBuffer.{mb_fullness}
 use Rattle.unit_timing.specs.SystemBuffer.{system_tb_fullness, bsys_fullness}
+use Rattle.unit_timing.specs.VideoBuffers.{multiplexing_fullness}
 
 -- ---- the buffers of a stream
 
@@ -40,6 +41,20 @@ MainWholeMoments = (k rate r x : ℕ) (units : List PesPacket) (left : List ℕ)
 abbrev pub MainPeakMoments : Type 0
 MainPeakMoments = (k rate r n : ℕ) (units : List PesPacket) (left : List ℕ) → 0 < k →
     IsPeak (λ x. mb_fullness rate r x units left) n → IsPeak (λ x. mb_fullness_at k rate r x units left) n
+
+-- ---- the multiplexing buffer of a video stream; its elementary stream buffer is as a main buffer
+
+-- when the payload bytes of these packets enter the multiplexing buffer, and when they leave it
+abbrev pub multiplexing_entered_at : ℕ → ℕ → ℕ → ℕ → List Packet → List ℕ
+multiplexing_entered_at k rate rx rbx packets = pes_left (k * (rbx * rate)) (k * (rx * rbx)) 0 packets
+
+abbrev pub multiplexing_left_at : ℕ → ℕ → ℕ → ℕ → List Packet → List ℕ
+multiplexing_left_at k rate rx rbx packets = departures (k * (rx * rate)) 0 (multiplexing_entered_at k rate rx rbx packets)
+
+-- it holds what it holds at the last whole moment
+abbrev pub MultiplexingMoments : Type 0
+MultiplexingMoments = (k rate rx rbx x : ℕ) (packets : List Packet) → 0 < k →
+    fullness x (multiplexing_entered_at k rate rx rbx packets) (multiplexing_left_at k rate rx rbx packets) ≡ multiplexing_fullness rate rx rbx (x / k) packets
 
 -- ---- the two buffers of a program's tables
 

@@ -12,4 +12,12 @@ pub mod SystemBuffer
 pub mod Plans
 pub mod Conditions
 pub mod PlanLaws
+pub mod VideoBuffers
 pub mod FinerMoments
+pub mod LeakMethod
+pub mod VideoPlans
+pub mod EmptyBuffers
+pub mod LongestStay
+pub mod PesHeaders
+pub mod EmptyPlans
+pub mod AccessUnits

@@ -14,24 +14,32 @@
 //! - [`deadlines`]: from the pace of the own slots to the deadline of each unit.
 //! - [`arrived`]: each due unit has left the transport buffer whole by its stamp.
 //! - [`main_buffer`]: the fullness of the main buffer.
+//! - [`access_units`]: the main buffer where each access unit of a PES packet is removed at its own time.
 //! - [`moments`]: moments that are not whole.
+//! - [`multiplexing_buffer`]: what a video stream declares of its multiplexing buffer.
 //! - [`system_buffers`]: the two buffers of a program's tables.
+//! - [`video_buffers`]: the multiplexing buffer and the elementary stream buffer of a video stream.
+//! - [`empty_buffers`]: transport and multiplexing buffers that are empty at least once a second.
 //! - [`schedule`]: slot by slot is unit by unit.
 //! - [`units`]: one unit more within the declaration.
 //! - [`shares`]: the parts in which shares of an output are counted.
 //! - [`plans`]: all of this for one plan and for two, from the conditions on their slots.
 #![tactic(auto)]
 
+pub mod access_units;
 pub mod allowance;
 pub mod allowances;
 pub mod arrived;
 pub mod buffers;
 pub mod deadlines;
+pub mod empty_buffers;
 pub mod main_buffer;
 pub mod moments;
+pub mod multiplexing_buffer;
 pub mod plans;
 pub mod schedule;
 pub mod shares;
 pub mod system_buffers;
 pub mod transport;
 pub mod units;
+pub mod video_buffers;

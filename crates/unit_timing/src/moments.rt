@@ -1,7 +1,7 @@
 //! Moments that are not whole.
 ghost use Rattle.unit_timing.specs.FinerMoments.{TransportMoments, LeftScaled};
 ghost use Rattle.unit_timing.specs.FinerMoments.{MainMoments, MainWholeMoments, MainPeakMoments};
-ghost use Rattle.unit_timing.specs.FinerMoments.{SystemTransportMoments, SystemBufferMoments};
+ghost use Rattle.unit_timing.specs.FinerMoments.{MultiplexingMoments, SystemTransportMoments, SystemBufferMoments};
 
 /// On a scale as fine as you like the transport buffer of a stream holds what it holds at the last whole moment, the
 /// main buffer no more, and at a whole moment as much: what bounds them at whole moments bounds them at all moments.
@@ -17,4 +17,9 @@ pub fn streams()
 pub fn tables()
     ensures transport { SystemTransportMoments }
     ensures system { SystemBufferMoments }
+{}
+
+/// So does the multiplexing buffer of a video stream. Its elementary stream buffer is as a main buffer.
+pub fn videos()
+    ensures { MultiplexingMoments }
 {}

@@ -1,0 +1,50 @@
+-- Numbers of PES packets of several access units, as theorems: a wrong number fails the check.
+use Rattle.std.proofs.Common.{◌≡◌, List, [], ◌∷◌, replicate, refl}
+use Rattle.unit_timing.specs.declared.allowance.Allowance.TheVariants.{Pace}
+use Rattle.unit_timing.specs.Plans.{Declaration}
+use Rattle.unit_timing.specs.Conditions.{Share, bytes_waiting}
+use Rattle.unit_timing.specs.AccessUnits.{FramedPacket, Framing, access_units_held, framed_fullness, framed_waiting}
+
+-- ---- a packet of three access units, 100 units of 90 kHz after one another, of which the first is due at 1,600. All its bytes
+-- are there at 1,599; at 1,600 the first is removed, at 1,700 the second, at 1,800 the last
+
+three : List FramedPacket
+three = record { packet = record { dts = 1600; size = 590 }; access_units = 200 ∷ 200 ∷ 190 ∷ [] } ∷ []
+
+-- at 1,504,000 bits a second, drained at 2,000,000: the moment of 1,599 units of 90 kHz, and so on, rounded up
+before_first : framed_fullness 1504000 2000000 6680266667 100 three (replicate 590 0) ≡ 590
+unfolding three framed_fullness access_units_held
+before_first = refl
+
+first_removed : framed_fullness 1504000 2000000 6684444445 100 three (replicate 590 0) ≡ 390
+unfolding three framed_fullness access_units_held
+first_removed = refl
+
+second_removed : framed_fullness 1504000 2000000 7102222223 100 three (replicate 590 0) ≡ 190
+unfolding three framed_fullness access_units_held
+second_removed = refl
+
+all_removed : framed_fullness 1504000 2000000 7520000000 100 three (replicate 590 0) ≡ 0
+unfolding three framed_fullness access_units_held
+all_removed = refl
+
+-- ---- layer II at 192 kbit/s, five access units of 576 bytes a packet, 2,160 units of 90 kHz apart, 14 bytes of header: a
+-- packet may come in a burst, up to 10,800 before it is due. Removed whole, 2,894 bytes wait at most; one by one 5,198, where a
+-- packet comes while four access units of the one before wait. A main buffer of 3,584 bytes has room for the first alone
+
+sound : Declaration
+sound = record { interval = 10800; lead = 10800; drain = 2000000; main = 3584; largest = 2894; unit_packets = 16; allowance = Pace 16 1500000 }
+
+five : Framing
+five = record { most = 5; largest = 576; apart = 2160 }
+
+most_slots : Share
+most_slots = record { count = 109; period = 120; spread = 0; peak = 0 }
+
+removed_whole : bytes_waiting 1700000 sound most_slots ≡ 2894
+unfolding sound most_slots
+removed_whole = refl
+
+removed_in_turn : framed_waiting 1700000 sound five most_slots 1 ≡ 5198
+unfolding sound five most_slots
+removed_in_turn = refl
