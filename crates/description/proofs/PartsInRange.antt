@@ -6,9 +6,10 @@ use Rattle.std.specs.Option.{option_to_list}
 use Rattle.std.specs.List.{filter_map, cons_option}
 use Rattle.toml.specs.Data.{Data, get}
 use Rattle.unit_timing.specs.declared.allowance.Allowance.{Allowance}
-use Rattle.description.specs.Ranges.{IsPid, IsBytes, IsNetwork, IsEvent, IsProgram, IsStreamId, IsGroups, IsPace, IsAllowance, IsStream, IsEntry, IsTable}
+use Rattle.unit_timing.specs.declared.multiplexing_buffer.MultiplexingBuffer.{MultiplexingBuffer}
+use Rattle.description.specs.Ranges.{IsPid, IsBytes, IsNetwork, IsEvent, IsProgram, IsStreamId, IsGroups, IsPace, IsAllowance, IsMultiplexingBuffer, IsStream, IsEntry, IsTable}
 use Rattle.description.specs.Values.{integer_in, integer_at, elements, is_one_section, section_in}
-use Rattle.description.specs.StreamKeys.{is_owned_by, sharers_of, stream_sharers, number_in, is_stream_id, stream_id, is_video_id, id_or_private, greatest_size, leaves_out_buffers, stream_rx, stream_main, stream_size, stream_tag, stream_group, unit_packets, greatest_group_packets, stream_group_packets, is_paced, stream_burst_packets, stream_pace, stream_allowance}
+use Rattle.description.specs.StreamKeys.{is_owned_by, sharers_of, stream_sharers, number_in, is_stream_id, stream_id, is_video_id, id_or_private, greatest_size, leaves_out_buffers, stream_rx, stream_main, stream_size, stream_tag, stream_group, unit_packets, greatest_group_packets, stream_group_packets, is_paced, stream_burst_packets, stream_pace, stream_allowance, has_multiplexing, greatest_rbx, multiplexing_of}
 use Rattle.description.specs.Contents.{described_network, described_event, described_number, described_program, described_stream, described_sections, described_entry, described_table}
 use Rattle.description.specs.Described.{DescribedEntry}
 use Rattle.description.specs.TableKeys.{is_listed}
@@ -152,6 +153,17 @@ few_if false ns h = omega arith
 few_sharers : (ds : List Data) → length (sharers_of ds) ≤ 15
 few_sharers ds = few_if (nat_le (length ds) 15) (filter_map number_in ds) (λ is. omega (arith, leb-true (length ds) 15 is, few_numbers ds))
 
+buffer_is : (d : Data) → 64000 ≤ greatest_rbx d → IsMultiplexingBuffer (greatest_rbx d) (multiplexing_of d)
+buffer_is d least =
+    let rbx = integer_at-within (codes "rbx") 64000 (greatest_rbx d) 64000 d (omega arith) least in
+    let size = integer_at-within (codes "mb") 1 10000000 1 d (omega arith) (omega arith) in
+    record { least_rbx = rbx.least; most_rbx = rbx.most; some_size = size.least; most_size = size.most }
+
+buffer_if : (rx : ℕ) (b : Bool) (m : MultiplexingBuffer) → IsMultiplexingBuffer rx m
+    → All (IsMultiplexingBuffer rx) (option_to_list (if b then Some m else None))
+buffer_if rx true m is = All-cons (IsMultiplexingBuffer rx) m [] is (All-nil (IsMultiplexingBuffer rx))
+buffer_if rx false m is = All-nil (IsMultiplexingBuffer rx)
+
 pub stream_is : (d : Data) → IsStream (described_stream d)
 stream_is d =
     let interval = integer_at-within (codes "interval") 1 90000 1 d (omega arith) (omega arith) in
@@ -181,6 +193,7 @@ stream_is d =
       descriptors = descriptors-is (codes "descriptors") d;
       allowance = allowance_is d small;
       few_sharers = few_sharers (elements (codes "shared_with") d);
+      multiplexing = buffer_if (greatest_rbx d) (has_multiplexing d) (multiplexing_of d) (buffer_is d rx.least);
     }
 
 entry_is : (d : Data) → IsEntry (described_entry d)

@@ -57,6 +57,8 @@ stream_code stream.GroupPackets = 54
 stream_code stream.BurstPackets = 55
 stream_code stream.Pace = 56
 stream_code stream.SharedWith = 57
+stream_code stream.Rbx = 58
+stream_code stream.Mb = 59
 
 abbrev pub event_code : EventKey → ℕ
 event_code event.Program = 61

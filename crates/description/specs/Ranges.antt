@@ -4,6 +4,7 @@ use Rattle.std.specs.List.{IsDistinct}
 use Rattle.std.specs.Option.{option_to_list}
 use Rattle.unit_timing.specs.declared.allowance.Allowance.{Allowance}
 use Rattle.unit_timing.specs.declared.allowance.Allowance.TheVariants.{Groups, Pace}
+use Rattle.unit_timing.specs.declared.multiplexing_buffer.MultiplexingBuffer.{MultiplexingBuffer}
 use Rattle.description.specs.Described.{Described, DescribedNetwork, DescribedProgram, DescribedStream, DescribedEvent, DescribedEntry, DescribedTable}
 use Rattle.description.specs.Values.{is_one_section}
 use Rattle.description.specs.Tables.{pmt_length, nit_length, sdt_length, greatest_unit_packets}
@@ -76,6 +77,13 @@ abbrev pub IsAllowance : ℕ → Allowance → Type 0
 IsAllowance n (Groups units packets) = IsGroups n units packets
 IsAllowance n (Pace burst pace) = IsPace n burst pace
 
+-- a multiplexing buffer behind a transport buffer that is emptied at the rate rx: its leak is not faster
+pub record IsMultiplexingBuffer (rx : ℕ) (b : MultiplexingBuffer) : Type 0 where
+  pub least_rbx : 64000 ≤ b.rbx
+  pub most_rbx : b.rbx ≤ rx
+  pub some_size : 1 ≤ b.size
+  pub most_size : b.size ≤ 10000000
+
 pub record IsStream (s : DescribedStream) : Type 0 where
   pub pid : IsPid s.pid
   pub stream_id : IsStreamId s.stream_id
@@ -96,6 +104,7 @@ pub record IsStream (s : DescribedStream) : Type 0 where
   pub descriptors : IsBytes 700 s.descriptors
   pub allowance : IsAllowance (greatest_unit_packets s) s.allowance
   pub few_sharers : length s.shared_with ≤ 15
+  pub multiplexing : All (IsMultiplexingBuffer s.rx) (option_to_list s.multiplexing)
 
 pub record IsEntry (e : DescribedEntry) : Type 0 where
   pub some_type : 1 ≤ e.stream_type

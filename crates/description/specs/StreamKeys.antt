@@ -4,10 +4,11 @@ use Rattle.std.specs.List.{list_any, list_all, filter_map}
 use Rattle.toml.specs.Data.{Data, get}
 use Rattle.unit_timing.specs.declared.allowance.Allowance.{Allowance}
 use Rattle.unit_timing.specs.declared.allowance.Allowance.TheVariants as allowance
+use Rattle.unit_timing.specs.declared.multiplexing_buffer.MultiplexingBuffer.{MultiplexingBuffer}
 use Rattle.description.specs.Values.{at_key, integer_in, integer_at, integer_or, optional_integer, optional_language, descriptors_or_none, elements, array_in, is_distinct}
 use Rattle.description.specs.ProgramKeys.{program_number}
 use Rattle.description.specs.declared.stream_keys.StreamKey.{StreamKey}
-use Rattle.description.specs.declared.stream_keys.StreamKey.TheVariants.{Program, Pid, StreamId, StreamType, Interval, Size, Lead, Rx, Main, Tag, Language, Descriptors, Group, GroupPackets, BurstPackets, Pace, SharedWith}
+use Rattle.description.specs.declared.stream_keys.StreamKey.TheVariants.{Program, Pid, StreamId, StreamType, Interval, Size, Lead, Rx, Main, Tag, Language, Descriptors, Group, GroupPackets, BurstPackets, Pace, SharedWith, Rbx, Mb}
 
 -- the number of the program that a stream or an event belongs to
 abbrev pub owner_number : Data → Option ℕ
@@ -154,11 +155,39 @@ sharers_of ds = if nat_le (length ds) 15 then filter_map number_in ds else []
 abbrev pub stream_sharers : Data → List ℕ
 stream_sharers stream = sharers_of (elements (codes "shared_with") stream)
 
+-- the multiplexing buffer MB (ISO/IEC 13818-1, 2.4.2.3): `rbx` is the rate of its leak into the elementary stream buffer
+-- EB in bits a second, `mb` its size in bytes. A stream has both keys, or neither; where it has them `main` is the size of EB.
+-- The leak is not faster than the transport buffer is emptied
+abbrev pub has_multiplexing : Data → Bool
+has_multiplexing stream = is_some (get (codes "rbx") stream) || is_some (get (codes "mb") stream)
+
+abbrev pub greatest_rbx : Data → ℕ
+greatest_rbx stream = unwrap_or (stream_rx stream) 64000
+
+abbrev pub stream_rbx : Data → Option ℕ
+stream_rbx stream = integer_at (codes "rbx") (pos 64000) (pos (greatest_rbx stream)) stream
+
+abbrev pub stream_mb : Data → Option ℕ
+stream_mb = integer_at (codes "mb") (pos 1) (pos 10000000)
+
+-- what is declared, with the least value of its range where a key is refused
+abbrev pub multiplexing_of : Data → MultiplexingBuffer
+multiplexing_of stream = record { rbx = unwrap_or (stream_rbx stream) 64000; size = unwrap_or (stream_mb stream) 1 }
+
+abbrev pub stream_multiplexing : Data → Option MultiplexingBuffer
+stream_multiplexing stream = if has_multiplexing stream then Some (multiplexing_of stream) else None
+
+abbrev pub refuses_rbx : Data → Bool
+refuses_rbx stream = has_multiplexing stream && is_none (stream_rbx stream)
+
+abbrev pub refuses_mb : Data → Bool
+refuses_mb stream = has_multiplexing stream && is_none (stream_mb stream)
+
 -- the names of the keys
 abbrev pub stream_key_names : List (List ℕ)
 stream_key_names = codes "program" ∷ codes "pid" ∷ codes "id" ∷ codes "type" ∷ codes "interval" ∷ codes "size" ∷ codes "lead"
     ∷ codes "rx" ∷ codes "main" ∷ codes "tag" ∷ codes "language" ∷ codes "descriptors" ∷ codes "group" ∷ codes "group_packets"
-    ∷ codes "burst_packets" ∷ codes "pace" ∷ codes "shared_with" ∷ []
+    ∷ codes "burst_packets" ∷ codes "pace" ∷ codes "shared_with" ∷ codes "rbx" ∷ codes "mb" ∷ []
 
 -- what each key refuses
 abbrev pub refuses_stream : StreamKey → Data → Data → Bool
@@ -179,3 +208,5 @@ refuses_stream GroupPackets document stream = refuses_group_packets stream
 refuses_stream BurstPackets document stream = refuses_burst_packets stream
 refuses_stream Pace document stream = refuses_pace stream
 refuses_stream SharedWith document stream = not (has_sharers document stream)
+refuses_stream Rbx document stream = refuses_rbx stream
+refuses_stream Mb document stream = refuses_mb stream

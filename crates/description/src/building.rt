@@ -13,6 +13,7 @@ use crate::arrays::elements;
 use crate::contents::Contents;
 use crate::descriptors::DescriptorLoop;
 use crate::map_entry::MapEntry;
+use crate::multiplexing_keys::multiplexing;
 use crate::network::Network;
 use crate::owner::{is_owned_by, owner_number};
 use crate::private_section::{PrivateSection, section_of};
@@ -116,6 +117,7 @@ fn stream_of(stream: &Value) -> StreamDescription
         descriptors: stream_keys::descriptors(stream).unwrap_or(DescriptorLoop::none()),
         allowance: stream_keys::allowance(stream),
         shared_with: sharers(stream),
+        multiplexing: multiplexing(stream),
     }
 }
 

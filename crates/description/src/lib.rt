@@ -29,6 +29,7 @@ mod values;
 mod event_keys;
 mod key;
 mod known_keys;
+mod multiplexing_keys;
 mod network_keys;
 mod owner;
 mod program_keys;

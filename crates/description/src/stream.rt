@@ -3,6 +3,7 @@
 use crate::descriptors::DescriptorLoop;
 use crate::program_numbers::ProgramNumbers;
 use unit_timing::allowance::Allowance;
+use unit_timing::multiplexing_buffer::MultiplexingBuffer;
 
 /// An elementary stream and what it declares of its units (ISO/IEC 13818-1, 2.4.2 and 2.4.4.8).
 #[derive(Drop)]
@@ -21,7 +22,7 @@ pub struct StreamDescription {
     pub lead: u32,
     /// The rate at which its transport buffer is emptied, in bits a second.
     pub rx: u32,
-    /// Its main buffer, in bytes.
+    /// Its main buffer, in bytes; its elementary stream buffer EB where it has a multiplexing buffer (2.4.2.3).
     pub main: u32,
     pub tag: Option<u8>,
     pub language: Option<[u8; 3]>,
@@ -30,4 +31,6 @@ pub struct StreamDescription {
     pub allowance: Allowance,
     /// The programs beside its own whose PMTs name it.
     pub shared_with: ProgramNumbers,
+    /// Its multiplexing buffer MB before EB; one main buffer takes the place of both where there is no such buffer.
+    pub multiplexing: Option<MultiplexingBuffer>,
 }

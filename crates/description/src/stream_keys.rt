@@ -13,6 +13,7 @@ ghost use Rattle.description.specs.StreamKeys.{refuses_group, refuses_group_pack
 use crate::descriptors::{DescriptorLoop, descriptors_or_none};
 use crate::key::Key;
 use crate::known_keys::knows_keys;
+use crate::multiplexing_keys::{refuses_mb, refuses_rbx};
 use crate::owner::has_owner;
 use crate::sharers::has_sharers;
 use crate::texts::optional_language;
@@ -40,6 +41,8 @@ pub enum StreamKey {
     BurstPackets,
     Pace,
     SharedWith,
+    Rbx,
+    Mb,
 }
 
 pub fn pid(stream: &Value) -> Option<u16>
@@ -125,7 +128,8 @@ fn leaves_out_buffers(stream: &Value) -> bool
 }
 
 pub fn rx(stream: &Value) -> Option<u32>
-    ensures { result ≡ stream_rx (view stream.now) }
+    ensures value { result ≡ stream_rx (view stream.now) }
+    ensures bound { IfSome result (λ n. n ≤ 200000000) }
 {
     match stream.get("rx") {
         None if leaves_out_buffers(stream) => Some(2_000_000),
@@ -274,7 +278,7 @@ impl StreamKey {
     ghost use Rattle.description.specs.Codes.{stream_code};
 
     /// All of them, in the order of their numbers.
-    pub const ALL: [StreamKey; 17] = [
+    pub const ALL: [StreamKey; 19] = [
         StreamKey::Program,
         StreamKey::Pid,
         StreamKey::StreamId,
@@ -292,6 +296,8 @@ impl StreamKey {
         StreamKey::BurstPackets,
         StreamKey::Pace,
         StreamKey::SharedWith,
+        StreamKey::Rbx,
+        StreamKey::Mb,
     ];
 
     /// The number of its refusal.
@@ -316,6 +322,8 @@ impl StreamKey {
             StreamKey::BurstPackets => 55,
             StreamKey::Pace => 56,
             StreamKey::SharedWith => 57,
+            StreamKey::Rbx => 58,
+            StreamKey::Mb => 59,
         }
     }
 }
@@ -348,6 +356,8 @@ impl Key for StreamKey {
                 "burst_packets",
                 "pace",
                 "shared_with",
+                "rbx",
+                "mb",
             ],
         )
     }
@@ -371,6 +381,8 @@ impl Key for StreamKey {
             StreamKey::BurstPackets => refuses_burst_packets(part),
             StreamKey::Pace => refuses_pace(part),
             StreamKey::SharedWith => !has_sharers(document, part),
+            StreamKey::Rbx => refuses_rbx(part),
+            StreamKey::Mb => refuses_mb(part),
         }
     }
 }

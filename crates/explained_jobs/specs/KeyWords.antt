@@ -55,6 +55,8 @@ stream_words stream.GroupPackets = (codes "group_packets", codes "the packets of
 stream_words stream.BurstPackets = (codes "burst_packets", codes "the packets of one greatest unit to 100000, beside pace")
 stream_words stream.Pace = (codes "pace", codes "1 to 100000000 bits a second, beside burst_packets")
 stream_words stream.SharedWith = (codes "shared_with", codes "an array of up to 15 numbers of other programs, each once")
+stream_words stream.Rbx = (codes "rbx", codes "64000 to rx, in bits a second, beside mb")
+stream_words stream.Mb = (codes "mb", codes "1 to 10000000 bytes, beside rbx")
 
 unfoldable pub event_words : EventKey → List ℕ × List ℕ
 event_words event.Program = (codes "program", codes "the number of a program")

@@ -97,6 +97,8 @@ pub fn stream_words(key: StreamKey) -> KeyWords
             "shared_with",
             "an array of up to 15 numbers of other programs, each once",
         ),
+        StreamKey::Rbx => ("rbx", "64000 to rx, in bits a second, beside mb"),
+        StreamKey::Mb => ("mb", "1 to 10000000 bytes, beside rbx"),
     }
 }
 

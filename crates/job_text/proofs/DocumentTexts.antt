@@ -7,6 +7,7 @@ use Rattle.std.specs.Ordering.{nat_cmp, is_lt}
 use Rattle.std.specs.Cmp.Lexicographic.{slice_cmp}
 use Rattle.unit_timing.specs.declared.allowance.Allowance.{Allowance}
 use Rattle.unit_timing.specs.declared.allowance.Allowance.TheVariants.{Groups, Pace}
+use Rattle.unit_timing.specs.declared.multiplexing_buffer.MultiplexingBuffer.{MultiplexingBuffer}
 use Rattle.hex.specs.Hex.{encode_lower}
 use Rattle.toml_writer.specs.Text.{key_text}
 use Rattle.toml.specs.Data.{string, integer, boolean, Members, no_members, member, is_before, members_depth, members_have_valid_dates, members_are_sorted}
@@ -16,10 +17,10 @@ use Rattle.toml.proofs.Lines.{IsLinesText-append, after}
 use Rattle.toml.proofs.ReadBack.{parse_document-printed}
 use Rattle.job_text.specs.DescriptionParts.{EventPartView, HeadingView, NetworkPartView, ProgramPartView, StreamPartView, TablePartView}
 use Rattle.job_text.specs.KeyLines.{with_numbers, with_hex, with_list, hex_line, list_line, key_line, number_lines}
-use Rattle.job_text.specs.Fields.{program_numbers, burst_numbers, group_numbers, time_numbers, pace_numbers, place_numbers, last_numbers}
-use Rattle.job_text.specs.Documents.{document, elements_of, with_table, with_tables, event_table, network_table, program_table, stream_end, stream_place, stream_rest, stream_members, stream_table, table_table}
+use Rattle.job_text.specs.Fields.{program_numbers, burst_numbers, group_numbers, time_numbers, size_numbers, pace_numbers, place_numbers, leak_numbers, drain_numbers, last_numbers}
+use Rattle.job_text.specs.Documents.{document, elements_of, with_table, with_tables, event_table, network_table, program_table, stream_last, stream_place, stream_rest, stream_members, stream_table, table_table}
 use Rattle.job_text.specs.Texts.{event_text, heading_text, network_text, network_if_any, program_text, stream_text, table_text}
-use Rattle.job_text.specs.Laws.{Fits, FitsEvent, FitsHeading, FitsNetwork, FitsProgram, FitsAllowance, FitsStream, FitsTable, TextsAreRead}
+use Rattle.job_text.specs.Laws.{Fits, FitsEvent, FitsHeading, FitsNetwork, FitsProgram, FitsAllowance, FitsMultiplexing, FitsStream, FitsTable, TextsAreRead}
 use Rattle.job_text.proofs.FlatArrays.{list_none, list_some, numbers_are, numbers_sorted, digits_are, digits_sorted}
 use Rattle.job_text.proofs.Scalars.{AreScalars, IsScalar, scalar_lines, lines_are_text}
 use Rattle.job_text.proofs.TableArrays.{AreTables, element_lines, elements_are_text, pairs_past, sections_with, shallow, dated_past, sorted_past, before_tables}
@@ -148,59 +149,76 @@ unfolding program_rest
 program_lines p = rw (hex_lines p.descriptors (program_rest p)) (simp (append_assoc, append-nil))
 
 -- a stream
-place_scalars : (s : StreamPartView) → FitsStream s → AreScalars (stream_place s)
+end_scalars : (s : StreamPartView) → FitsStream s → AreScalars (with_list (codes "shared_with") s.shared_with (stream_last s))
 unfolding key_text
-place_scalars s h = (
-  refl,
-  small s.pid h.pid,
-  (
-    refl,
-    small s.program h.program,
-    (
+end_scalars s h = list_scalars s.shared_with (stream_last s) h.shared_with (refl, small s.size h.size, (refl, small s.stream_type h.stream_type, tt))
+
+place_scalars : (m : Option MultiplexingBuffer) (s : StreamPartView) → FitsMultiplexing m → FitsStream s → AreScalars (stream_place m s)
+unfolding key_text
+place_scalars None s f h = (refl, small s.pid h.pid, (refl, small s.program h.program, (refl, small s.rx h.rx, end_scalars s h)))
+place_scalars (Some m) s f h = (refl, small s.pid h.pid, (refl, small s.program h.program, (refl, small m.rbx f.0, (refl, small s.rx h.rx, end_scalars s h))))
+
+pace_scalars : (a : Allowance) (m : Option MultiplexingBuffer) (s : StreamPartView) → FitsAllowance a → FitsMultiplexing m → FitsStream s
+    → AreScalars (with_numbers (pace_numbers a) (stream_place m s))
+unfolding key_text
+pace_scalars (Groups units packets) m s f g h = place_scalars m s g h
+pace_scalars (Pace burst pace) m s f g h = (refl, small pace f.1, place_scalars m s g h)
+
+size_scalars : (a : Allowance) (m : Option MultiplexingBuffer) (s : StreamPartView) → FitsAllowance a → FitsMultiplexing m → FitsStream s
+    → AreScalars (with_numbers (size_numbers m) (with_numbers (pace_numbers a) (stream_place m s)))
+unfolding key_text
+size_scalars a None s f g h = pace_scalars a None s f g h
+size_scalars a (Some m) s f g h = (refl, small m.size g.1, pace_scalars a (Some m) s f g h)
+
+scalars_with : (a : Allowance) (m : Option MultiplexingBuffer) (s : StreamPartView) → FitsAllowance a → FitsMultiplexing m → FitsStream s
+    → AreScalars (stream_members a m s)
+unfolding key_text
+scalars_with (Groups units packets) m s f g h =
+    let rest = size_scalars (Groups units packets) m s f g h in
+    hex_scalars s.descriptors (stream_rest (Groups units packets) m s)
+    (refl, small units f.0, (refl, small packets f.1, (refl, small s.stream_id h.stream_id, (refl, small s.interval h.interval, (refl, small s.lead h.lead, (refl, small s.main h.main, rest))))))
+scalars_with (Pace burst pace) m s f g h =
+    let rest = size_scalars (Pace burst pace) m s f g h in (
       refl,
-      small s.rx h.rx,
-      list_scalars s.shared_with (stream_end s) h.shared_with (refl, small s.size h.size, (refl, small s.stream_type h.stream_type, tt)),
-    ),
-  ),
-)
-
-scalars_with : (a : Allowance) (s : StreamPartView) → FitsAllowance a → FitsStream s → AreScalars (stream_members a s)
-unfolding key_text
-scalars_with (Groups units packets) s f h =
-    hex_scalars s.descriptors (stream_rest (Groups units packets) s)
-    (refl, small units f.0, (refl, small packets f.1, (refl, small s.stream_id h.stream_id, (refl, small s.interval h.interval, (refl, small s.lead h.lead, (refl, small s.main h.main, place_scalars s h))))))
-scalars_with (Pace burst pace) s f h = (
-  refl,
-  small burst f.0,
-  hex_scalars s.descriptors (stream_rest (Pace burst pace) s)
-      (refl, small s.stream_id h.stream_id, (refl, small s.interval h.interval, (refl, small s.lead h.lead, (refl, small s.main h.main, (refl, small pace f.1, place_scalars s h))))),
-)
-
-rest_sorted : (a : Allowance) (s : StreamPartView) → members_are_sorted (stream_rest a s) ≡ true
-rest_sorted (Groups units packets) s =
-    rw (list_after (codes "rx") s.shared_with (stream_end s) refl refl, list_sorted s.shared_with (stream_end s) refl refl)
-rest_sorted (Pace burst pace) s =
-    rw (list_after (codes "rx") s.shared_with (stream_end s) refl refl, list_sorted s.shared_with (stream_end s) refl refl)
-
-sorted_with : (a : Allowance) (s : StreamPartView) → members_are_sorted (stream_members a s) ≡ true
-sorted_with (Groups units packets) s = hex_sorted s.descriptors (stream_rest (Groups units packets) s) refl (rest_sorted (Groups units packets) s)
-sorted_with (Pace burst pace) s =
-    rw (
-      hex_after (codes "burst_packets") s.descriptors (stream_rest (Pace burst pace) s) refl refl,
-      hex_sorted s.descriptors (stream_rest (Pace burst pace) s) refl (rest_sorted (Pace burst pace) s),
+      small burst f.0,
+      hex_scalars s.descriptors (stream_rest (Pace burst pace) m s)
+          (refl, small s.stream_id h.stream_id, (refl, small s.interval h.interval, (refl, small s.lead h.lead, (refl, small s.main h.main, rest)))),
     )
 
-lines_with : (a : Allowance) (s : StreamPartView) → scalar_lines (stream_members a s)
+rest_sorted : (a : Allowance) (m : Option MultiplexingBuffer) (s : StreamPartView) → members_are_sorted (stream_rest a m s) ≡ true
+rest_sorted (Groups units packets) None s =
+    rw (list_after (codes "rx") s.shared_with (stream_last s) refl refl, list_sorted s.shared_with (stream_last s) refl refl)
+rest_sorted (Groups units packets) (Some m) s =
+    rw (list_after (codes "rx") s.shared_with (stream_last s) refl refl, list_sorted s.shared_with (stream_last s) refl refl)
+rest_sorted (Pace burst pace) None s =
+    rw (list_after (codes "rx") s.shared_with (stream_last s) refl refl, list_sorted s.shared_with (stream_last s) refl refl)
+rest_sorted (Pace burst pace) (Some m) s =
+    rw (list_after (codes "rx") s.shared_with (stream_last s) refl refl, list_sorted s.shared_with (stream_last s) refl refl)
+
+sorted_with : (a : Allowance) (m : Option MultiplexingBuffer) (s : StreamPartView) → members_are_sorted (stream_members a m s) ≡ true
+sorted_with (Groups units packets) m s = hex_sorted s.descriptors (stream_rest (Groups units packets) m s) refl (rest_sorted (Groups units packets) m s)
+sorted_with (Pace burst pace) m s =
+    rw (
+      hex_after (codes "burst_packets") s.descriptors (stream_rest (Pace burst pace) m s) refl refl,
+      hex_sorted s.descriptors (stream_rest (Pace burst pace) m s) refl (rest_sorted (Pace burst pace) m s),
+    )
+
+lines_with : (a : Allowance) (m : Option MultiplexingBuffer) (s : StreamPartView) → scalar_lines (stream_members a m s)
     ≡ number_lines (burst_numbers a) ++ (hex_line (codes "descriptors") s.descriptors
-    ++ (number_lines (group_numbers a) ++ (number_lines (time_numbers s) ++ (number_lines (pace_numbers a)
-    ++ (number_lines (place_numbers s) ++ (list_line (codes "shared_with") s.shared_with ++ number_lines (last_numbers s)))))))
-lines_with (Groups units packets) s =
-    rw (hex_lines s.descriptors (stream_rest (Groups units packets) s), list_lines s.shared_with (stream_end s)) (simp (append_assoc, append-nil))
-lines_with (Pace burst pace) s =
-    rw (hex_lines s.descriptors (stream_rest (Pace burst pace) s), list_lines s.shared_with (stream_end s)) (simp (append_assoc, append-nil))
+    ++ (number_lines (group_numbers a) ++ (number_lines (time_numbers s) ++ (number_lines (size_numbers m) ++ (number_lines (pace_numbers a)
+    ++ (number_lines (place_numbers s) ++ (number_lines (leak_numbers m) ++ (number_lines (drain_numbers s)
+    ++ (list_line (codes "shared_with") s.shared_with ++ number_lines (last_numbers s))))))))))
+lines_with (Groups units packets) None s =
+    rw (hex_lines s.descriptors (stream_rest (Groups units packets) None s), list_lines s.shared_with (stream_last s)) (simp (append_assoc, append-nil))
+lines_with (Groups units packets) (Some m) s =
+    rw (hex_lines s.descriptors (stream_rest (Groups units packets) (Some m) s), list_lines s.shared_with (stream_last s)) (simp (append_assoc, append-nil))
+lines_with (Pace burst pace) None s =
+    rw (hex_lines s.descriptors (stream_rest (Pace burst pace) None s), list_lines s.shared_with (stream_last s)) (simp (append_assoc, append-nil))
+lines_with (Pace burst pace) (Some m) s =
+    rw (hex_lines s.descriptors (stream_rest (Pace burst pace) (Some m) s), list_lines s.shared_with (stream_last s)) (simp (append_assoc, append-nil))
 
 stream_lines : (s : StreamPartView) → element_lines (codes "stream") (stream_table s) ≡ stream_text s
-stream_lines s = rw (lines_with s.allowance s) (simp append_assoc)
+stream_lines s = rw (lines_with s.allowance s.multiplexing s) (simp append_assoc)
 
 -- a private table
 table_scalars : (t : TablePartView) → FitsTable t → AreScalars (table_table t)
@@ -228,7 +246,10 @@ program_tables (p ∷ ps) h = let e = each FitsProgram p ps h in (program_scalar
 
 stream_tables : (ss : List StreamPartView) → All FitsStream ss → AreTables (map stream_table ss)
 stream_tables [] h = tt
-stream_tables (s ∷ ss) h = let e = each FitsStream s ss h in (scalars_with s.allowance s e.0.allowance e.0, sorted_with s.allowance s, stream_tables ss e.1)
+stream_tables (s ∷ ss) h =
+    let e = each FitsStream s ss h in
+    let scalars = scalars_with s.allowance s.multiplexing s e.0.allowance e.0.multiplexing e.0 in
+    (scalars, sorted_with s.allowance s.multiplexing s, stream_tables ss e.1)
 
 events_lines : (es : List EventPartView) → flat_map (element_lines (codes "event")) (map event_table es) ≡ flat_map event_text es
 events_lines [] = refl

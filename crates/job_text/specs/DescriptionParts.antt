@@ -1,6 +1,7 @@
 -- The parts of a service description: numbers, and texts and descriptors as lists.
-use Rattle.std.specs.Prelude.{ℕ, Bool, List, map}
+use Rattle.std.specs.Prelude.{ℕ, Bool, List, Option, map}
 use Rattle.unit_timing.specs.declared.allowance.Allowance.{Allowance}
+use Rattle.unit_timing.specs.declared.multiplexing_buffer.MultiplexingBuffer.{MultiplexingBuffer}
 use Rattle.job_text.specs.declared.event_part.EventPart.{EventPart}
 use Rattle.job_text.specs.declared.heading.Heading.{Heading}
 use Rattle.job_text.specs.declared.network_part.NetworkPart.{NetworkPart}
@@ -54,6 +55,7 @@ pub record StreamPartView : Type 0 where
   pub descriptors : List ℕ
   pub allowance : Allowance
   pub shared_with : List ℕ
+  pub multiplexing : Option MultiplexingBuffer
 
 pub record TablePartView : Type 0 where
   pub pid : ℕ
@@ -115,6 +117,7 @@ stream_view s = record {
   descriptors = s.descriptors.now;
   allowance = s.allowance;
   shared_with = s.shared_with.now;
+  multiplexing = s.multiplexing;
 }
 
 abbrev pub table_view : TablePart → TablePartView

@@ -1,7 +1,8 @@
 -- The numbers of a description's parts, each with its key, in the order of the keys.
-use Rattle.std.specs.Prelude.{ℕ, List, [], ◌∷◌, codes}
+use Rattle.std.specs.Prelude.{ℕ, List, [], ◌∷◌, Option, None, Some, codes}
 use Rattle.unit_timing.specs.declared.allowance.Allowance.{Allowance}
 use Rattle.unit_timing.specs.declared.allowance.Allowance.TheVariants.{Groups, Pace}
+use Rattle.unit_timing.specs.declared.multiplexing_buffer.MultiplexingBuffer.{MultiplexingBuffer}
 use Rattle.job_text.specs.DescriptionParts.{HeadingView, ProgramPartView, StreamPartView, TablePartView}
 
 -- of a heading, up to the array `program`
@@ -26,7 +27,7 @@ abbrev pub group_numbers : Allowance → List (List ℕ × ℕ)
 group_numbers (Groups units packets) = (codes "group", units) ∷ (codes "group_packets", packets) ∷ []
 group_numbers (Pace burst pace) = []
 
--- the next, and the pace
+-- the next, the size of the multiplexing buffer, and the pace
 abbrev pub time_numbers : StreamPartView → List (List ℕ × ℕ)
 time_numbers s =
     (codes "id", s.stream_id)
@@ -34,13 +35,24 @@ time_numbers s =
     ∷ (codes "lead", s.lead)
     ∷ (codes "main", s.main) ∷ []
 
+abbrev pub size_numbers : Option MultiplexingBuffer → List (List ℕ × ℕ)
+size_numbers None = []
+size_numbers (Some m) = (codes "mb", m.size) ∷ []
+
 abbrev pub pace_numbers : Allowance → List (List ℕ × ℕ)
 pace_numbers (Groups units packets) = []
 pace_numbers (Pace burst pace) = (codes "pace", pace) ∷ []
 
--- those before the programs that it is shared with
+-- those before the programs that it is shared with: its place, the leak of the multiplexing buffer, that of the transport buffer
 abbrev pub place_numbers : StreamPartView → List (List ℕ × ℕ)
-place_numbers s = (codes "pid", s.pid) ∷ (codes "program", s.program) ∷ (codes "rx", s.rx) ∷ []
+place_numbers s = (codes "pid", s.pid) ∷ (codes "program", s.program) ∷ []
+
+abbrev pub leak_numbers : Option MultiplexingBuffer → List (List ℕ × ℕ)
+leak_numbers None = []
+leak_numbers (Some m) = (codes "rbx", m.rbx) ∷ []
+
+abbrev pub drain_numbers : StreamPartView → List (List ℕ × ℕ)
+drain_numbers s = (codes "rx", s.rx) ∷ []
 
 -- and the last
 abbrev pub last_numbers : StreamPartView → List (List ℕ × ℕ)

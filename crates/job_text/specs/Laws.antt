@@ -4,6 +4,7 @@ use Rattle.std.specs.List.{flat_map}
 use Rattle.toml.specs.Parse.{parse_document}
 use Rattle.unit_timing.specs.declared.allowance.Allowance.{Allowance}
 use Rattle.unit_timing.specs.declared.allowance.Allowance.TheVariants.{Groups, Pace}
+use Rattle.unit_timing.specs.declared.multiplexing_buffer.MultiplexingBuffer.{MultiplexingBuffer}
 use Rattle.job_text.specs.DescriptionParts.{EventPartView, HeadingView, NetworkPartView, ProgramPartView, StreamPartView, TablePartView}
 use Rattle.job_text.specs.Documents.{document, event_table, network_table, program_table, stream_table, table_table}
 use Rattle.job_text.specs.Texts.{event_text, heading_text, network_if_any, program_text, stream_text, table_text}
@@ -42,9 +43,14 @@ abbrev pub FitsAllowance : Allowance → Type 0
 FitsAllowance (Groups units packets) = Fits units × Fits packets
 FitsAllowance (Pace burst pace) = Fits burst × Fits pace
 
+-- of its multiplexing buffer
+abbrev pub FitsMultiplexing : Option MultiplexingBuffer → Type 0
+FitsMultiplexing m = IfSome m (λ m. Fits m.rbx × Fits m.size)
+
 pub record FitsStream (s : StreamPartView) : Type 0 where
   pub allowance : FitsAllowance s.allowance
   pub shared_with : All Fits s.shared_with
+  pub multiplexing : FitsMultiplexing s.multiplexing
   pub stream_id : Fits s.stream_id
   pub interval : Fits s.interval
   pub lead : Fits s.lead

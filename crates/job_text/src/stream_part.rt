@@ -2,13 +2,14 @@
 
 ghost use Rattle.std.specs.Prelude.{◌≡◌, ◌++◌, OnOk, string_bytes};
 ghost use Rattle.job_text.specs.DescriptionParts.{stream_view};
-ghost use Rattle.job_text.specs.Fields.{burst_numbers, group_numbers};
+ghost use Rattle.job_text.specs.Fields.{burst_numbers, group_numbers, size_numbers, pace_numbers, leak_numbers};
 ghost use Rattle.job_text.specs.KeyLines.{number_lines};
-ghost use Rattle.job_text.specs.Texts.{stream_text, stream_front, stream_times, stream_back};
+ghost use Rattle.job_text.specs.Texts.{stream_text, stream_front, stream_times, stream_place, stream_end};
 
 use crate::key_line::{write_header, write_hex, write_list, write_number, write_numbers};
 use std::alloc::{AllocError, Allocator};
 use unit_timing::allowance::Allowance;
+use unit_timing::multiplexing_buffer::MultiplexingBuffer;
 
 /// What a description says of an elementary stream and its units (ISO/IEC 13818-1, 2.4.2 and 2.4.4.8). It has no
 /// component_tag and no language of its own: their descriptors are among `descriptors`.
@@ -28,7 +29,7 @@ pub struct StreamPart<'a> {
     pub lead: u32,
     /// The rate at which its transport buffer is emptied, in bits a second.
     pub rx: u32,
-    /// Its main buffer, in bytes.
+    /// Its main buffer, in bytes; its elementary stream buffer where it has a multiplexing buffer.
     pub main: u32,
     /// Whole descriptors of the stream in its PMT.
     pub descriptors: &'a [u8],
@@ -36,17 +37,21 @@ pub struct StreamPart<'a> {
     pub allowance: Allowance,
     /// The numbers of the programs beside its own whose PMTs name it.
     pub shared_with: &'a [u16],
+    /// Its multiplexing buffer, if it has one.
+    pub multiplexing: Option<MultiplexingBuffer>,
 }
 
 impl StreamPart<'_> {
     /// Appends an empty line, `[[stream]]`, and its lines: every key, but `descriptors` and `shared_with` only if there
-    /// are any, and of the keys of its packets those by groups or those by pace.
+    /// are any, `rbx` and `mb` only if it has a multiplexing buffer, and of the keys of its packets those by groups or
+    /// those by pace.
     pub fn write_text<A: Allocator + Clone>(&self, text: &mut String<A>) -> Result<(), AllocError>
         ensures { OnOk result (string_bytes text.new ≡ string_bytes text.old ++ stream_text (stream_view self.now)) }
     {
         self.write_front(text)?;
         self.write_times(text)?;
-        self.write_back(text)
+        self.write_place(text)?;
+        self.write_end(text)
     }
 
     // The line of its burst, if it is declared by pace.
@@ -87,7 +92,40 @@ impl StreamPart<'_> {
         self.write_groups(text)
     }
 
-    // The lines from `id` to `main`, and its pace.
+    // The line of its pace, if it is declared by pace.
+    fn write_pace<A: Allocator>(&self, text: &mut String<A>) -> Result<(), AllocError>
+        ensures { OnOk result (string_bytes text.new ≡ string_bytes text.old
+            ++ number_lines (pace_numbers self.now.allowance)) }
+    {
+        match self.allowance {
+            Allowance::Groups { .. } => Ok(()),
+            Allowance::Pace { pace, .. } => write_number(text, "pace", pace as u64),
+        }
+    }
+
+    // The line of the size of its multiplexing buffer, if it has one.
+    fn write_size<A: Allocator>(&self, text: &mut String<A>) -> Result<(), AllocError>
+        ensures { OnOk result (string_bytes text.new ≡ string_bytes text.old
+            ++ number_lines (size_numbers self.now.multiplexing)) }
+    {
+        match self.multiplexing {
+            None => Ok(()),
+            Some(buffer) => write_number(text, "mb", buffer.size as u64),
+        }
+    }
+
+    // The line of its leak, if it has one.
+    fn write_leak<A: Allocator>(&self, text: &mut String<A>) -> Result<(), AllocError>
+        ensures { OnOk result (string_bytes text.new ≡ string_bytes text.old
+            ++ number_lines (leak_numbers self.now.multiplexing)) }
+    {
+        match self.multiplexing {
+            None => Ok(()),
+            Some(buffer) => write_number(text, "rbx", buffer.rbx as u64),
+        }
+    }
+
+    // The lines from `id` to `main`, the size of its multiplexing buffer, and its pace.
     fn write_times<A: Allocator>(&self, text: &mut String<A>) -> Result<(), AllocError>
         ensures { OnOk result (string_bytes text.new ≡ string_bytes text.old ++ stream_times (stream_view self.now)) }
     {
@@ -98,26 +136,29 @@ impl StreamPart<'_> {
             ("main", self.main as u64),
         ];
         write_numbers(text, &numbers)?;
-        match self.allowance {
-            Allowance::Groups { .. } => Ok(()),
-            Allowance::Pace { pace, .. } => write_number(text, "pace", pace as u64),
-        }
+        self.write_size(text)?;
+        self.write_pace(text)
     }
 
-    // The lines from `pid` on.
-    fn write_back<A: Allocator>(&self, text: &mut String<A>) -> Result<(), AllocError>
-        ensures { OnOk result (string_bytes text.new ≡ string_bytes text.old ++ stream_back (stream_view self.now)) }
+    // The lines from `pid` to `rx`.
+    fn write_place<A: Allocator>(&self, text: &mut String<A>) -> Result<(), AllocError>
+        ensures { OnOk result (string_bytes text.new ≡ string_bytes text.old ++ stream_place (stream_view self.now)) }
     {
-        let place = [
-            ("pid", self.pid as u64),
-            ("program", self.program as u64),
-            ("rx", self.rx as u64),
-        ];
+        let place = [("pid", self.pid as u64), ("program", self.program as u64)];
+        let drain = [("rx", self.rx as u64)];
+        write_numbers(text, &place)?;
+        self.write_leak(text)?;
+        write_numbers(text, &drain)
+    }
+
+    // The lines after `rx`.
+    fn write_end<A: Allocator>(&self, text: &mut String<A>) -> Result<(), AllocError>
+        ensures { OnOk result (string_bytes text.new ≡ string_bytes text.old ++ stream_end (stream_view self.now)) }
+    {
         let last = [
             ("size", self.size as u64),
             ("type", self.stream_type as u64),
         ];
-        write_numbers(text, &place)?;
         write_list(text, "shared_with", self.shared_with)?;
         write_numbers(text, &last)
     }

@@ -1,11 +1,13 @@
 -- What the finished bytes keep of a stream that has its PID for itself.
-use Rattle.std.proofs.Common.{◌≡◌, ◌≤◌, ℕ, List, Some, None, sym, subst}
+use Rattle.std.proofs.Common.{◌≡◌, ◌≤◌, ◌*◌, ℕ, List, Some, None, sym, subst}
 use Rattle.std.specs.Prelude.{slice_get}
 use Rattle.pes_packet.specs.AccessUnits.{AccessUnit}
 use Rattle.slot_contents.specs.Contents.{Content, run_bytes}
 use Rattle.unit_timing.specs.Schedule.{Packet}
 use Rattle.unit_timing.specs.Transport.{slots_of, tb_fullness, pes_left, NoneLeavesEarly}
+use Rattle.unit_timing.specs.Arrived.{AllLeft}
 use Rattle.unit_timing.specs.MainBuffer.{mb_fullness}
+use Rattle.unit_timing.specs.VideoBuffers.{multiplexing_left, multiplexing_fullness, elementary_fullness}
 use Rattle.unit_timing.specs.Plans.{KeepsDeclaration, run_packets}
 use Rattle.unit_timing.proofs.LateUnits.{late_law}
 use Rattle.unit_timing.proofs.NotEarly.{run_left}
@@ -56,4 +58,9 @@ stream_kept d k s units content n is alone kept promised =
           (late_law.none_late rate s.rx n 0 pes (pes_left rate s.rx 0 (run_packets (owned d.schedule (StreamItem k)) rate (declaration s) pes n)) (served.arrived n));
       main_buffer = λ x. main_kept d k s units content n is alone kept promised x (pes_left rate s.rx 0 (packets_on s.pid (run_bytes content 0 n)))
           (subst (λ (ps : List Packet). NoneLeavesEarly s.rx ps (pes_left rate s.rx 0 ps)) packets (run_left (owned d.schedule (StreamItem k)) rate s.lead s.rx n pes));
+      video = λ b some. let video = promised.videos k s b pes is some keeps in record {
+        multiplexing = λ x. subst (λ (ps : List Packet). multiplexing_fullness rate s.rx b.rbx x ps ≤ b.size) packets (video.multiplexing n x);
+        elementary = λ x. subst (λ (ps : List Packet). elementary_fullness rate s.rx b.rbx x pes ps ≤ s.main) packets (video.elementary n x);
+        whole = subst (λ (ps : List Packet). AllLeft rate (s.rx * b.rbx) n pes (multiplexing_left rate s.rx b.rbx ps)) packets (video.whole n);
+      };
     }

@@ -15,7 +15,10 @@ use Rattle.slot_plan.specs.declared.slot.Slot.{Slot}
 use Rattle.slot_plan.specs.SlotPids.{slot_pid}
 use Rattle.slot_plan.specs.TableRounds.{section_starts}
 use Rattle.own_slots.specs.Slots.{own_slots}
+use Rattle.unit_timing.specs.declared.multiplexing_buffer.MultiplexingBuffer.{MultiplexingBuffer}
+use Rattle.unit_timing.specs.Arrived.{AllLeft}
 use Rattle.unit_timing.specs.MainBuffer.{mb_fullness}
+use Rattle.unit_timing.specs.VideoBuffers.{multiplexing_left, multiplexing_fullness, elementary_fullness}
 use Rattle.unit_timing.specs.SystemBuffer.{system_tb_fullness, bsys_fullness}
 use Rattle.unit_timing.specs.Transport.{slots_of, tb_fullness, pes_left}
 use Rattle.unit_queue.specs.Payloads.{piece_in, all_pieces, all_senders, IsReleased}
@@ -28,6 +31,17 @@ use Rattle.mux_core.specs.MuxStates.{MuxState, Stands}
 use Rattle.description.specs.Ranges.{IsInRange}
 use Rattle.plan_timing.specs.Promised.{Promised}
 use Rattle.unit_queue.specs.Queues.{ParametersInRange, Kept}
+
+-- of a stream with a multiplexing buffer (ISO/IEC 13818-1, 2.4.2.3, the leak method)
+pub record VideoKept (d : Scheduled) (s : DescribedStream) (b : MultiplexingBuffer) (units : List AccessUnit) (slots : ℕ) (bytes : List ℕ) : Type 0 where
+  -- the multiplexing buffer never holds more than its size
+  pub multiplexing : (x : ℕ) → multiplexing_fullness d.description.rate s.rx b.rbx x (packets_on s.pid bytes) ≤ b.size
+  -- nor the elementary stream buffer
+  pub elementary : (x : ℕ) →
+      elementary_fullness d.description.rate s.rx b.rbx x (timed_pes_packets s.stream_id d.description.base0 units) (packets_on s.pid bytes) ≤ s.main
+  -- each unit that is due is whole in the elementary stream buffer by its decoding time
+  pub whole : AllLeft d.description.rate (s.rx * b.rbx) slots (timed_pes_packets s.stream_id d.description.base0 units)
+      (multiplexing_left d.description.rate s.rx b.rbx (packets_on s.pid bytes))
 
 -- of a stream, of which these units were accepted
 pub record StreamKept (d : Scheduled) (k : ℕ) (s : DescribedStream) (units : List AccessUnit) (slots : ℕ) (bytes : List ℕ) : Type 0 where
@@ -47,6 +61,8 @@ pub record StreamKept (d : Scheduled) (k : ℕ) (s : DescribedStream) (units : L
   -- the main buffer never holds more than its size
   pub main_buffer : (x : ℕ) →
       mb_fullness d.description.rate s.rx x (timed_pes_packets s.stream_id d.description.base0 units) (pes_left d.description.rate s.rx 0 (packets_on s.pid bytes)) ≤ s.main
+  -- where the main buffer is two, a multiplexing buffer and an elementary stream buffer, neither does
+  pub video : (b : MultiplexingBuffer) → s.multiplexing ≡ Some b → VideoKept d s b units slots bytes
 
 -- of a program
 pub record ProgramKept (d : Scheduled) (p : DescribedProgram) (slots : ℕ) (bytes : List ℕ) : Type 0 where

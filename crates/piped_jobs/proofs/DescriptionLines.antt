@@ -7,11 +7,12 @@ use Rattle.hex.specs.Hex.{encode_lower}
 use Rattle.toml.specs.Data.{Data, string, integer, boolean, array}
 use Rattle.unit_timing.specs.declared.allowance.Allowance.{Allowance}
 use Rattle.unit_timing.specs.declared.allowance.Allowance.TheVariants.{Groups, Pace}
+use Rattle.unit_timing.specs.declared.multiplexing_buffer.MultiplexingBuffer.{MultiplexingBuffer}
 use Rattle.demux.specs.Views.{FindingView}
 use Rattle.job_text.specs.DescriptionParts.{EventPartView, HeadingView, NetworkPartView, ProgramPartView, StreamPartView, TablePartView}
-use Rattle.job_text.specs.Fields.{burst_numbers, first_numbers, group_numbers, last_numbers, pace_numbers, place_numbers, program_numbers, table_numbers, time_numbers}
+use Rattle.job_text.specs.Fields.{burst_numbers, drain_numbers, first_numbers, group_numbers, last_numbers, leak_numbers, pace_numbers, place_numbers, program_numbers, size_numbers, table_numbers, time_numbers}
 use Rattle.job_text.specs.KeyLines.{digits_of, header, hex_line, items_of, items_text, key_line, list_line, number_line, number_lines, table_header, value_text}
-use Rattle.job_text.specs.Texts.{event_back, event_names, event_numbers, event_text, heading_text, network_if_any, program_front, program_service, program_text, stream_back, stream_front, stream_text, stream_times, table_back, table_front, table_text}
+use Rattle.job_text.specs.Texts.{event_back, event_names, event_numbers, event_text, heading_text, network_if_any, program_front, program_service, program_text, stream_end, stream_front, stream_place, stream_text, stream_times, table_back, table_front, table_text}
 use Rattle.stream_programs.specs.NetworkInformation.{stream_network}
 use Rattle.stream_programs.specs.Services.{FoundServiceView, service}
 use Rattle.service_information.specs.Events.{FoundEventView}
@@ -178,18 +179,32 @@ pace_passes : (a : Allowance) → Passes (number_lines (pace_numbers a))
 pace_passes (Groups units packets) = none_passes
 pace_passes (Pace burst pace) = numbers_pass (pace_numbers (Pace burst pace)) ((λ rest. refl), (refl, tt))
 
+size_passes : (m : Option MultiplexingBuffer) → Passes (number_lines (size_numbers m))
+size_passes None = none_passes
+size_passes (Some m) = numbers_pass (size_numbers (Some m)) ((λ rest. refl), (refl, tt))
+
+leak_passes : (m : Option MultiplexingBuffer) → Passes (number_lines (leak_numbers m))
+leak_passes None = none_passes
+leak_passes (Some m) = numbers_pass (leak_numbers (Some m)) ((λ rest. refl), (refl, tt))
+
 stream_passes : (s : StreamPartView) → Passes (stream_text s)
 stream_passes s =
     let groups = both_pass (hex_line (codes "descriptors") s.descriptors) (number_lines (group_numbers s.allowance)) (bytes_pass s.descriptors) (groups_pass s.allowance) in
     let burst = both_pass (number_lines (burst_numbers s.allowance)) _ (burst_passes s.allowance) groups in
     let front = both_pass (header (codes "stream")) _ stream_header burst in
     let times = numbers_pass (time_numbers s) ((λ rest. refl), (refl, ((λ rest. refl), (refl, ((λ rest. refl), (refl, ((λ rest. refl), (refl, tt)))))))) in
-    let middle = both_pass (number_lines (time_numbers s)) (number_lines (pace_numbers s.allowance)) times (pace_passes s.allowance) in
-    let place = numbers_pass (place_numbers s) ((λ rest. refl), (refl, ((λ rest. refl), (refl, ((λ rest. refl), (refl, tt)))))) in
+    let pace = both_pass (number_lines (size_numbers s.multiplexing)) (number_lines (pace_numbers s.allowance))
+    (size_passes s.multiplexing) (pace_passes s.allowance) in
+    let middle = both_pass (number_lines (time_numbers s)) _ times pace in
+    let drain = numbers_pass (drain_numbers s) ((λ rest. refl), (refl, tt)) in
+    let leak = both_pass (number_lines (leak_numbers s.multiplexing)) (number_lines (drain_numbers s)) (leak_passes s.multiplexing) drain in
+    let pids = numbers_pass (place_numbers s) ((λ rest. refl), (refl, ((λ rest. refl), (refl, tt)))) in
+    let place = both_pass (number_lines (place_numbers s)) _ pids leak in
     let last = numbers_pass (last_numbers s) ((λ rest. refl), (refl, ((λ rest. refl), (refl, tt)))) in
     let shared = both_pass (list_line (codes "shared_with") s.shared_with) (number_lines (last_numbers s)) (list_passes s.shared_with) last in
-    let back = both_pass (number_lines (place_numbers s)) _ place shared in
-    both_pass (stream_front s) (stream_times s ++ stream_back s) front (both_pass (stream_times s) (stream_back s) middle back)
+    let back = both_pass (stream_place s) (stream_end s) place shared in
+    both_pass (stream_front s) (stream_times s ++ (stream_place s ++ stream_end s)) front
+    (both_pass (stream_times s) (stream_place s ++ stream_end s) middle back)
 
 private_header : Passes (header (codes "table"))
 unfolding header

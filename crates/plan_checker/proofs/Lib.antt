@@ -6,3 +6,4 @@ pub mod FailingLists
 pub mod OwnMarks
 pub mod Rounds
 pub mod SwitchGaps
+pub mod Leaks

@@ -1,11 +1,13 @@
-//! Transport and system buffers never overflow (ISO/IEC 13818-1, 2.4.2.3).
+//! Transport, system and multiplexing buffers never overflow (ISO/IEC 13818-1, 2.4.2.3).
 
-ghost use Rattle.std.specs.Prelude.{◌≡◌, ◌∷◌, []};
+ghost use Rattle.std.specs.Prelude.{◌≡◌, ◌<◌, ◌∷◌, [], length};
+ghost use Rattle.description.specs.Ranges.{IsStream};
 ghost use Rattle.slot_plan.specs.Entries.{at_most};
 ghost use Rattle.slot_plan.specs.Conditions.{stream_buffer_entries, transport_buffer_entries, system_buffer_entries};
+ghost use Rattle.slot_plan.specs.Conditions.{multiplexing_buffer_entries};
 ghost use Rattle.plan_checker.specs.Failing.{after, search_of};
 
-use crate::claims::{claim_of_program, claim_of_stream};
+use crate::claims::{claim_of_multiplexing, claim_of_program, claim_of_stream};
 use crate::comparison::at_most;
 use crate::conditions::ItemCondition;
 use crate::failure_search::FailureSearch;
@@ -133,4 +135,57 @@ impl<A: Allocator> ItemCondition<ShapedPlan<'_, A>> for SystemBuffers {
             search,
         );
     }
+}
+
+/// The multiplexing buffer of each stream that has one.
+pub struct MultiplexingBuffers;
+
+impl<A: Allocator> ItemCondition<ShapedPlan<'_, A>> for MultiplexingBuffers {
+    type Item = StreamDescription;
+
+    ghost items = { λ s. s.description.now.streams };
+
+    ghost entries = { λ s i stream.
+        multiplexing_buffer_entries s.description.now s.plan.now i stream.multiplexing };
+
+    fn count(plans: &ShapedPlan<'_, A>) -> usize {
+        plans.description.streams().len()
+    }
+
+    fn check_item(plans: &ShapedPlan<'_, A>, i: usize, search: &mut FailureSearch) {
+        multiplexing_buffer(plans, i, &plans.description.streams()[i], search);
+    }
+}
+
+/// The multiplexing buffer of one stream, where it has one.
+#[tactic(auto, using(crate::proofs::Leaks::leak_most, crate::proofs::Leaks::size_most))]
+fn multiplexing_buffer<A: Allocator>(
+    plans: &ShapedPlan<'_, A>,
+    i: usize,
+    stream: &StreamDescription,
+    search: &mut FailureSearch,
+)
+    requires stream { i < length plans.now.description.now.streams }
+    requires small { i < 256 }
+    requires ranges { IsStream stream.now }
+    ensures { search_of search.new ≡ after (search_of search.old) (multiplexing_buffer_entries
+        plans.now.description.now plans.now.plan.now i stream.now.multiplexing) }
+{
+    let Some(buffered) = stream.multiplexing else {
+        return;
+    };
+    let claim = claim_of_multiplexing(plans.plan, i);
+    let rate = plans.description.rate().bits_per_second();
+    let drain = buffered.rbx as u64;
+    let item = Item::Stream(i as u8);
+    let work = work_of(plans.plan.slots(), item, rate, drain, claim.start);
+    buffer(
+        Condition::MultiplexingBuffer,
+        i as u32,
+        work,
+        buffered.size as u64 * rate,
+        claim.start,
+        claim.peak,
+        search,
+    );
 }

@@ -1,9 +1,10 @@
 //! What a plan claims of an item.
 
-ghost use Rattle.std.specs.Prelude.{◌≡◌, ◌^◌, ◌<◌, length};
-ghost use Rattle.slot_plan.specs.Claims.{stream_claim, program_claim};
+ghost use Rattle.std.specs.Prelude.{◌≡◌, ◌^◌, ◌<◌, length, true};
+ghost use Rattle.slot_plan.specs.Claims.{stream_claim, program_claim, claimed_multiplexing, multiplexing_claim};
+ghost use Rattle.slot_plan.specs.Planned.{is_small_multiplexing};
 
-use slot_plan::{Plan, ProgramEntry, StreamEntry};
+use slot_plan::{MultiplexingEntry, Plan, ProgramEntry, StreamEntry};
 use std::alloc::Allocator;
 
 /// The claim of stream number `i`.
@@ -13,6 +14,7 @@ pub fn claim_of_stream<A: Allocator>(plan: &Plan<A>, i: usize) -> StreamEntry
     ensures spread { result.spread < 10 ^ 18 }
     ensures start { result.start < 10 ^ 18 }
     ensures peak { result.peak < 10 ^ 18 }
+    ensures multiplexing { is_small_multiplexing result.multiplexing ≡ true }
 {
     plan.certificate().streams[i]
 }
@@ -25,4 +27,27 @@ pub fn claim_of_program<A: Allocator>(plan: &Plan<A>, i: usize) -> ProgramEntry
     ensures system_start { result.system_start < 10 ^ 18 }
 {
     plan.certificate().programs[i]
+}
+
+/// A claim on a multiplexing buffer; no claim is one of no work.
+fn claimed_multiplexing(claim: Option<MultiplexingEntry>) -> MultiplexingEntry
+    requires { is_small_multiplexing claim ≡ true }
+    ensures claim { result ≡ claimed_multiplexing claim }
+    ensures start { result.start < 10 ^ 18 }
+    ensures peak { result.peak < 10 ^ 18 }
+{
+    match claim {
+        None => MultiplexingEntry { start: 0, peak: 0 },
+        Some(claim) => claim,
+    }
+}
+
+/// The claim on the multiplexing buffer of stream number `i`.
+pub fn claim_of_multiplexing<A: Allocator>(plan: &Plan<A>, i: usize) -> MultiplexingEntry
+    requires { i < length plan.now.certificate.streams }
+    ensures claim { result ≡ multiplexing_claim plan.now i }
+    ensures start { result.start < 10 ^ 18 }
+    ensures peak { result.peak < 10 ^ 18 }
+{
+    claimed_multiplexing(claim_of_stream(plan, i).multiplexing)
 }

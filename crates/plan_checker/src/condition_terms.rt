@@ -24,13 +24,13 @@ pub fn rate_given(count: u64, time: u64, rate: u64) -> u128
     count as u128 * time as u128 * rate as u128
 }
 
-/// The latest time at which the last of the packets that take `slots` slots has left the transport buffer, where
+/// The latest time at which the last of the packets that take `slots` slots has left a buffer, where
 /// `count` is the product of the own slots of the periods.
 pub fn time_needed(slots: u128, count: u128, rx: u64, peak: u64) -> u128
     requires slots { slots < 2 ^ 60 }
     requires count { count ≤ 2 ^ 32 }
     requires rx { rx ≤ 200000000 }
-    requires peak { peak < 10 ^ 18 }
+    requires peak { peak < 2 ^ 60 }
     ensures { result ≡ slots * slot_units_at_1bps * rx + count * peak * byte_units_at_1bps }
 {
     slots * SLOT_UNITS_AT_1BPS * rx as u128 + count * peak as u128 * BYTE_UNITS_AT_1BPS

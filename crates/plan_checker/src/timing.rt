@@ -5,10 +5,10 @@ ghost use Rattle.slot_plan.specs.Conditions.{timing_entries};
 ghost use Rattle.slot_plan.specs.Shape.{IsShaped};
 ghost use Rattle.plan_checker.specs.Failing.{after, search_of};
 
-use crate::buffers::{StreamBuffers, SystemBuffers, TransportBuffers};
+use crate::buffers::{MultiplexingBuffers, StreamBuffers, SystemBuffers, TransportBuffers};
 use crate::conditions::check_each;
 use crate::failure_search::FailureSearch;
-use crate::leads::StreamLeads;
+use crate::leads::{ElementaryLeads, StreamLeads};
 use crate::main_buffers::MainBuffers;
 use crate::plans::ShapedPlan;
 use crate::recurrence::{PcrGaps, TableGaps};
@@ -16,7 +16,7 @@ use crate::stream_slots::{Spreads, StreamRates};
 use slot_plan::{Description, Plan};
 use std::alloc::Allocator;
 
-/// Codes 2 to 9.
+/// Codes 2 to 11.
 pub fn timing<A: Allocator>(description: &Description, plan: &Plan<A>, search: &mut FailureSearch)
     requires shaped { IsShaped description.now plan.now }
     ensures { search_of search.new ≡ after (search_of search.old) (timing_entries description.now plan.now) }
@@ -31,4 +31,6 @@ pub fn timing<A: Allocator>(description: &Description, plan: &Plan<A>, search: &
     check_each::<StreamLeads, _>(plans, search);
     check_each::<MainBuffers, _>(plans, search);
     check_each::<SystemBuffers, _>(plans, search);
+    check_each::<MultiplexingBuffers, _>(plans, search);
+    check_each::<ElementaryLeads, _>(plans, search);
 }

@@ -1,5 +1,5 @@
 -- Where a description has a reason, no plan serves it.
-use Rattle.std.proofs.Common.{◌≡◌, ℕ, zero, suc, ◌+◌, ◌-◌, ◌*◌, ◌/◌, ◌%◌, ◌<◌, ◌≤◌, max, Bool, true, false, List, [], ◌∷◌, Some, length, get_or, nat_lt, nat_le, refl, ap, ◌∙◌, inl, inr, arith, add-one}
+use Rattle.std.proofs.Common.{◌≡◌, ℕ, zero, suc, ◌+◌, ◌-◌, ◌*◌, ◌/◌, ◌%◌, ◌<◌, ◌≤◌, max, Bool, true, false, List, [], ◌∷◌, Option, Some, None, length, get_or, nat_lt, nat_le, refl, ap, ◌∙◌, inl, inr, arith, add-one}
 use Rattle.std.specs.Prelude.{slice_get}
 use Rattle.std.proofs.Math.Nat.{mul-le-mul_left, le_of_mul-le-mul_right, mod-eq_of_lt}
 use Rattle.std.proofs.lemmas.Nat.{le-div}
@@ -17,6 +17,7 @@ use Rattle.own_slots.proofs.Extremes.{greatest_at_most}
 use Rattle.own_slots.proofs.Counts.{own_before_own, own_before_other}
 use Rattle.own_slots.proofs.PositionLemmas.{own_before_period, per_period_le}
 use Rattle.own_slots.proofs.WorkLemmas.{work_more, work_begin}
+use Rattle.unit_timing.specs.declared.multiplexing_buffer.MultiplexingBuffer.{MultiplexingBuffer}
 use Rattle.unit_timing.specs.Allowances.{allowance_rows, steady_packets, steady_time}
 use Rattle.unit_timing.specs.Conditions.{StreamConditions, packets_in_row, waiting_slots}
 use Rattle.description.specs.Described.{Described, DescribedProgram, DescribedStream}
@@ -25,13 +26,13 @@ use Rattle.slot_plan.specs.declared.slot.Item.TheVariants.{Stream, Pcr, Table}
 use Rattle.slot_plan.specs.Numbered.{numbered}
 use Rattle.slot_plan.specs.Planned.{Planned}
 use Rattle.slot_plan.specs.Items.{marks}
-use Rattle.slot_plan.specs.Claims.{declaration}
+use Rattle.slot_plan.specs.Claims.{declaration, multiplexing_claim}
 use Rattle.slot_plan.proofs.ConditionLists.{ServingConditions, serves}
-use Rattle.plan_timing.proofs.OnePlan.{length_marks, claim_of, stream_holds, pcr_gap_holds, table_gap_holds}
+use Rattle.plan_timing.proofs.OnePlan.{length_marks, claim_of, stream_holds, leak_holds, pcr_gap_holds, table_gap_holds}
 use Rattle.plan_search.specs.declared.reason.Reason.{Reason}
 use Rattle.unit_timing.specs.Shares.{parts}
 use Rattle.plan_search.specs.Loads.{stream_load, recurring_load, streams_load, pcrs_load, tables_load, load}
-use Rattle.plan_search.specs.Reasons.{units_lead, least_lead, least_main, pcr_reason, table_reason, drain_reason, lead_reason, main_reason, stream_reason, load_reason, pcr_reasons, table_reasons, stream_reasons, ReasonLaw}
+use Rattle.plan_search.specs.Reasons.{units_lead, least_lead, least_main, pcr_reason, table_reason, drain_reason, leak_reason, lead_reason, main_reason, stream_reason, load_reason, pcr_reasons, table_reasons, stream_reasons, ReasonLaw}
 use Rattle.plan_search.proofs.OwnSlotCounts.{owned, each_at_most, all_owned}
 use Rattle.plan_search.proofs.LeastShares.{recurs, least_peak, recurring_kept, stream_kept, window_kept, ceil_at_most, lead_kept}
 
@@ -97,6 +98,13 @@ drains rate drain start marks le =
     scaled : (c n rate drain start left : ℕ) → start + c * (188 * rate) ≤ left + n * (188 * drain) → left ≤ start → c * rate ≤ n * drain
     scaled c n rate drain start left all le = omega (arith, all, le)
 
+-- what comes at a pace that own slots keep and that a buffer drains is not faster than the drain
+divided : (n m c t r x : ℕ) → 1 ≤ n → m * n ≤ c * (t * r) → c * r ≤ n * x → m ≤ t * x
+divided n m c t r x some rate pace = elim (cases_lt (t * x) m) [
+  | inl less ↦ absurd (let a = mul-le-mul_left t pace in let b = mul-le-mul_left n less in omega (arith, rate, a, b, some))
+  | inr le ↦ le
+]
+
 -- ---- what recurs
 
 module _ (d : Described) (p : Planned) (k : ServingConditions d p) where
@@ -132,12 +140,14 @@ module _ (d : Described) (p : Planned) (i : ℕ) (s : DescribedStream) (holds : 
   drain_kept : (j : ℕ) → drain_reason j s ≡ []
   drain_kept j = rw (not_less (steady_time s.allowance s.interval * s.rx) (steady_packets s.allowance)
       (divided (length (marks (Stream i) p.slots)) (steady_packets s.allowance) (per_period (marks (Stream i) p.slots)) (steady_time s.allowance s.interval) d.rate s.rx some_slots enough pace)) refl
-    where
-      divided : (n m c t r x : ℕ) → 1 ≤ n → m * n ≤ c * (t * r) → c * r ≤ n * x → m ≤ t * x
-      divided n m c t r x some rate pace = elim (cases_lt (t * x) m) [
-        | inl less ↦ absurd (let a = mul-le-mul_left t pace in let b = mul-le-mul_left n less in omega (arith, rate, a, b, some))
-        | inr le ↦ le
-      ]
+
+  -- so does its multiplexing buffer
+  leak_kept : (j : ℕ) (o : Option MultiplexingBuffer) → ((b : MultiplexingBuffer) → o ≡ Some b →
+      per_period (marks (Stream i) p.slots) * d.rate ≤ length (marks (Stream i) p.slots) * b.rbx) → leak_reason j s o ≡ []
+  leak_kept j None leaks = refl
+  leak_kept j (Some b) leaks = rw (not_less (steady_time s.allowance s.interval * b.rbx) (steady_packets s.allowance)
+      (divided (length (marks (Stream i) p.slots)) (steady_packets s.allowance) (per_period (marks (Stream i) p.slots)) (steady_time s.allowance s.interval) d.rate b.rbx
+      some_slots enough (leaks b refl))) refl
 
   units_kept : (m : ℕ) → 0 < m → m ≤ allowance_rows s.allowance → units_lead d s m ≤ s.lead
   units_kept m some rows =
@@ -161,8 +171,15 @@ module _ (d : Described) (p : Planned) (i : ℕ) (s : DescribedStream) (holds : 
       let most : least_main d s ≤ s.main = omega (arith, few, holds.main_fits) in
       rw (not_less s.main (least_main d s) most) refl
 
-  stream_kept_whole : (j : ℕ) → stream_reason d j s ≡ []
-  stream_kept_whole j = rw (drain_kept j, lead_reason_kept j, main_kept j) refl
+  stream_kept_whole : (j : ℕ) → ((b : MultiplexingBuffer) → s.multiplexing ≡ Some b →
+      per_period (marks (Stream i) p.slots) * d.rate ≤ length (marks (Stream i) p.slots) * b.rbx) → stream_reason d j s ≡ []
+  stream_kept_whole j leaks = rw (drain_kept j, leak_kept j s.multiplexing leaks, lead_reason_kept j, main_kept j) refl
+
+-- the multiplexing buffer of a stream leaks as fast as its own slots come
+leak_pace : (d : Described) (p : Planned) (i : ℕ) (s : DescribedStream) → ServingConditions d p → slice_get d.streams i ≡ Some s → (b : MultiplexingBuffer) →
+    s.multiplexing ≡ Some b → per_period (marks (Stream i) p.slots) * d.rate ≤ length (marks (Stream i) p.slots) * b.rbx
+leak_pace d p i s k is b some =
+    drains d.rate b.rbx (multiplexing_claim p i).start (marks (Stream i) p.slots) (leak_holds d p i s b k is some).carries
 
 -- ---- all items together
 
@@ -223,5 +240,5 @@ reason_law d p serving =
     let e : (i : ℕ) → 0 + i ≡ i = λ i. omega arith in
     let pcrs : pcr_reasons d ≡ [] = no_parts (pcr_reason d) 0 d.programs (λ i x is. pcr_kept d p k (0 + i) x (rw (e i) is) (rw (e i) (slice_get_within d.programs i x is))) in
     let tables : table_reasons d ≡ [] = no_parts (λ t _. table_reason d t) 0 (table_kinds d) (λ t x is. table_kept d p k (0 + t) (rw (e t) (slice_get_within (table_kinds d) t x is))) in
-    let streams : stream_reasons d ≡ [] = no_parts (stream_reason d) 0 d.streams (λ i s is. stream_kept_whole d p i s (stream_holds d p i s k is) (0 + i)) in
+    let streams : stream_reasons d ≡ [] = no_parts (stream_reason d) 0 d.streams (λ i s is. stream_kept_whole d p i s (stream_holds d p i s k is) (0 + i) (leak_pace d p i s k is)) in
     rw (pcrs, tables, streams, load_kept d p k) refl

@@ -1,8 +1,9 @@
 -- Why no plan at all can serve a description: numbers of its own that no slots can keep.
-use Rattle.std.specs.Prelude.{◌≡◌, ℕ, ◌+◌, ◌-◌, ◌*◌, ◌/◌, max, min, List, [], ◌∷◌, ◌++◌, nat_lt, if◌then◌else◌}
+use Rattle.std.specs.Prelude.{◌≡◌, ℕ, ◌+◌, ◌-◌, ◌*◌, ◌/◌, max, min, List, [], ◌∷◌, ◌++◌, Option, Some, None, nat_lt, if◌then◌else◌}
 use Rattle.std.specs.Int.{div_ceil}
 use Rattle.clock27.specs.Units.{slot_ms_at_1bps, slot_units_at_1bps}
 use Rattle.own_slots.specs.Extremes.{greatest}
+use Rattle.unit_timing.specs.declared.multiplexing_buffer.MultiplexingBuffer.{MultiplexingBuffer}
 use Rattle.unit_timing.specs.Allowances.{allowance_rows, steady_packets, steady_time}
 use Rattle.unit_timing.specs.Conditions.{packets_in_row, waiting_slots, bytes_by_units}
 use Rattle.description.specs.Described.{Described, DescribedProgram, DescribedStream}
@@ -12,7 +13,7 @@ use Rattle.slot_plan.specs.Planned.{Planned}
 use Rattle.slot_plan.specs.Claims.{declaration}
 use Rattle.slot_plan.specs.Conditions.{IsServing}
 use Rattle.plan_search.specs.declared.reason.Reason.{Reason}
-use Rattle.plan_search.specs.declared.reason.Reason.TheVariants.{PcrLimit, TableLimit, SlowDrain, ShortLead, SmallMain, Overload}
+use Rattle.plan_search.specs.declared.reason.Reason.TheVariants.{PcrLimit, TableLimit, SlowDrain, SlowLeak, ShortLead, SmallMain, Overload}
 use Rattle.plan_search.specs.Loads.{has_slots, least_rate}
 
 -- ---- limits
@@ -39,6 +40,11 @@ least_drain s = div_ceil (steady_packets s.allowance) (steady_time s.allowance s
 abbrev pub drain_reason : ℕ → DescribedStream → List Reason
 drain_reason i s = if nat_lt (steady_time s.allowance s.interval * s.rx) (steady_packets s.allowance) then SlowDrain i (least_drain s) ∷ [] else []
 
+-- its multiplexing buffer, if it has one, leaks only where its leak is not slower than that either
+abbrev pub leak_reason : ℕ → DescribedStream → Option MultiplexingBuffer → List Reason
+leak_reason i s None = []
+leak_reason i s (Some b) = if nat_lt (steady_time s.allowance s.interval * b.rbx) (steady_packets s.allowance) then SlowLeak i (least_drain s) ∷ [] else []
+
 -- the least lead in units of 90 kHz for m units in a row: their packets come neither faster than slots do nor faster
 -- than the transport buffer is drained, one slot is lost until the first, and the last packet is drained in its turn
 abbrev pub units_lead : Described → DescribedStream → ℕ → ℕ
@@ -63,7 +69,7 @@ abbrev pub main_reason : Described → ℕ → DescribedStream → List Reason
 main_reason d i s = if nat_lt s.main (least_main d s) then SmallMain i (least_main d s) ∷ [] else []
 
 abbrev pub stream_reason : Described → ℕ → DescribedStream → List Reason
-stream_reason d i s = drain_reason i s ++ (lead_reason d i s ++ main_reason d i s)
+stream_reason d i s = drain_reason i s ++ (leak_reason i s s.multiplexing ++ (lead_reason d i s ++ main_reason d i s))
 
 -- ---- all items together
 

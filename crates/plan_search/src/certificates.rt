@@ -3,13 +3,16 @@
 ghost use Rattle.std.specs.Prelude.{◌≡◌, ◌^◌, ◌<◌, ◌≤◌, IfOk, None, true, length};
 ghost use Rattle.std.specs.List.{list_all};
 ghost use Rattle.description.specs.Ranges.{IsStream};
-ghost use Rattle.slot_plan.specs.Planned.{is_small_stream, is_small_program, plan_error};
-ghost use Rattle.plan_search.specs.Certificates.{stream_entry_of, program_entry_of, stream_entries_of};
+ghost use Rattle.slot_plan.specs.Planned.{is_small_multiplexing, is_small_stream};
+ghost use Rattle.slot_plan.specs.Planned.{is_small_program, plan_error};
+ghost use Rattle.plan_search.specs.Certificates.{multiplexing_entry_of, stream_entry_of, program_entry_of};
+ghost use Rattle.plan_search.specs.Certificates.{stream_entries_of};
 ghost use Rattle.plan_search.specs.Certificates.{program_entries_of, certificate_of, start_of, peak_of};
 
 use plan_checker::{spread_of, work_of};
 use slot_plan::{
-    Certificate, Description, Item, ProgramEntry, Slot, StreamDescription, StreamEntry,
+    Certificate, Description, Item, MultiplexingEntry, ProgramEntry, Slot, StreamDescription,
+    StreamEntry,
 };
 use std::alloc::{AllocError, Allocator};
 use unit_timing::buffers::{BSYS_DRAIN, SYSTEM_TB_DRAIN};
@@ -36,6 +39,27 @@ fn claim(slots: &[Slot], item: Item, rate: u64, drain: u64) -> BufferClaim
     BufferClaim { start, peak }
 }
 
+/// The claim on the multiplexing buffer of stream number `i`, if it has one.
+#[tactic(auto, using(plan_checker::proofs::Leaks::leak_most))]
+fn multiplexing_entry(
+    description: &Description,
+    slots: &[Slot],
+    i: usize,
+    stream: &StreamDescription,
+) -> Option<MultiplexingEntry>
+    requires short { length slots.now ≤ 65536 }
+    requires small { i < 256 }
+    requires ranges { IsStream stream.now }
+    ensures entry { result ≡ multiplexing_entry_of description.now slots.now i stream.now.multiplexing }
+    ensures small { is_small_multiplexing result ≡ true }
+{
+    description.keeps_ranges();
+    let buffer = stream.multiplexing?;
+    let rate = description.rate().bits_per_second();
+    let BufferClaim { start, peak } = claim(slots, Item::Stream(i as u8), rate, buffer.rbx as u64);
+    Some(MultiplexingEntry { start, peak })
+}
+
 /// The claim of stream number `i`.
 fn stream_entry(
     description: &Description,
@@ -57,6 +81,7 @@ fn stream_entry(
         spread: spread_of(slots, item),
         start: claim.start,
         peak: claim.peak,
+        multiplexing: multiplexing_entry(description, slots, i, stream),
     }
 }
 

@@ -14,7 +14,7 @@ use limits::{pcr_reason, table_reason};
 use load::load_reason;
 use slot_plan::{Description, StreamDescription};
 use std::alloc::{AllocError, Allocator};
-use streams::{drain_reason, lead_reason, main_reason};
+use streams::{drain_reason, lead_reason, leak_reason, main_reason};
 
 /// A number of the description that no plan can keep, with the least one that is no reason any more. There may be other
 /// reasons beside it, and a plan may want a greater number.
@@ -26,6 +26,8 @@ pub enum Reason {
     TableLimit(u8, u64),
     /// The transport buffer of a stream is drained slower than its units come: the least rate in bits/s.
     SlowDrain(u8, u64),
+    /// The multiplexing buffer of a stream leaks slower than its units come: the least rate of the leak in bits/s.
+    SlowLeak(u8, u64),
     /// The lead of a stream is too short for its units to come and to leave the transport buffer: the least lead in
     /// units of 90 kHz.
     ShortLead(u8, u64),
@@ -108,6 +110,7 @@ fn push_stream<A: Allocator>(
     ensures { OnOk result (reasons.new.items ≡ reasons.old.items ++ stream_reason description.now i stream.now) }
 {
     push(reasons, drain_reason(i, stream))?;
+    push(reasons, leak_reason(i, stream))?;
     push(reasons, lead_reason(description, i, stream))?;
     push(reasons, main_reason(description, i, stream))
 }

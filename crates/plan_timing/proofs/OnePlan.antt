@@ -2,25 +2,29 @@
 use Rattle.std.specs.Prelude.{ℕ, ◌+◌, ◌-◌, ◌*◌, ◌<◌, ◌≤◌, Bool, List, [], ◌∷◌, Some, length, slice_get, get_or, sum_by, take, map}
 use Rattle.std.proofs.Common.{◌≡◌, sym, subst, arith}
 use Rattle.std.proofs.lemmas.List.{length-map}
-use Rattle.std.proofs.lemmas.List.Elements.{All-get_or}
+use Rattle.std.proofs.lemmas.List.Elements.{All-get_or, All-head}
 use Rattle.std.proofs.lemmas.List.Sums.{sum_by_more_le}
 use Rattle.std.proofs.lemmas.Option.{get_or_from_slice_get, slice_get_within}
 use Rattle.clock27.specs.Recurrence.{Recur}
 use Rattle.clock27.specs.Units.{slot_ms_at_1bps}
 use Rattle.own_slots.specs.Slots.{own_slots}
+use Rattle.own_slots.specs.Work.{HoldsWork}
 use Rattle.own_slots.specs.Period.{own}
 use Rattle.own_slots.specs.Gaps.{gap}
 use Rattle.own_slots.specs.Spread.{spread}
 use Rattle.own_slots.specs.Rounds.{starts}
 use Rattle.own_slots.proofs.Gaps.{gap_law}
 use Rattle.own_slots.proofs.Recurrence.{pcr_law, table_law}
+use Rattle.unit_timing.specs.declared.multiplexing_buffer.MultiplexingBuffer.{MultiplexingBuffer as LeakingBuffer}
 use Rattle.unit_timing.specs.Buffers.{tb_size, system_tb_drain, bsys_size, bsys_drain}
 use Rattle.unit_timing.specs.Allowances.{allowance_rows}
 use Rattle.unit_timing.specs.Plans.{StreamServed, ProgramServed}
 use Rattle.unit_timing.specs.Conditions.{IsProper, StreamClaim, ProgramClaim, rate_needed, rate_given, lead_needed, time_given, bytes_waiting, StreamConditions, ProgramConditions}
+use Rattle.unit_timing.specs.VideoPlans.{LeakClaim, IsProperLeak, VideoConditions, VideoServed}
 use Rattle.unit_timing.proofs.PlanLemmas.{stream_law, program_law}
+use Rattle.unit_timing.proofs.VideoLemmas.{video_law}
 use Rattle.description.specs.Described.{Described, DescribedProgram, DescribedStream}
-use Rattle.description.specs.Ranges.{IsInRange, IsStream}
+use Rattle.description.specs.Ranges.{IsInRange, IsMultiplexingBuffer, IsStream}
 use Rattle.description.specs.Tables.{table_kinds, table_count, table_limit, round_packets, section_count, section_lengths, packets_of_section}
 use Rattle.description.proofs.Allowed.{rows_some}
 use Rattle.slot_plan.specs.declared.slot.Slot.{Slot}
@@ -28,15 +32,15 @@ use Rattle.slot_plan.specs.declared.slot.Item.{Item}
 use Rattle.slot_plan.specs.declared.slot.Item.TheVariants.{Stream, Pcr, Table, System}
 use Rattle.slot_plan.specs.Planned.{Planned}
 use Rattle.slot_plan.specs.Items.{is_own, marks}
-use Rattle.slot_plan.specs.declared.condition.Condition.TheVariants.{PcrGap, TableGap, Spread, StreamRate, TransportBuffer, StreamLead, MainBuffer, SystemBuffer}
-use Rattle.slot_plan.specs.Claims.{declaration, stream_claim, program_claim, stream_share}
-use Rattle.slot_plan.specs.Conditions.{entries_from, group_part, pcr_gap_entry, table_gap_entry, spread_entry, stream_rate_entry, stream_buffer_entries, transport_buffer_entries, stream_lead_entry, main_buffer_entry, system_buffer_entries}
+use Rattle.slot_plan.specs.declared.condition.Condition.TheVariants.{PcrGap, TableGap, Spread, StreamRate, TransportBuffer, StreamLead, MainBuffer, SystemBuffer, MultiplexingBuffer, ElementaryLead}
+use Rattle.slot_plan.specs.Claims.{declaration, stream_claim, program_claim, stream_share, multiplexing_claim, elementary_declaration, elementary_share}
+use Rattle.slot_plan.specs.Conditions.{entries_from, group_part, pcr_gap_entry, table_gap_entry, spread_entry, stream_rate_entry, stream_buffer_entries, transport_buffer_entries, stream_lead_entry, main_buffer_entry, system_buffer_entries, multiplexing_buffer_entries, elementary_lead_entry, elementary_lead_entries}
 use Rattle.slot_plan.specs.Schedule.{OwnedLaw}
 use Rattle.slot_plan.specs.TableRounds.{first_packet}
 use Rattle.slot_plan.proofs.HeldConditions.{holds_item, at_most_holds}
 use Rattle.slot_plan.proofs.ConditionLists.{Hold, ServingConditions, serves}
 use Rattle.slot_plan.proofs.ItemConditions.{holds_element, holds_count, holds_work}
-use Rattle.plan_timing.specs.Promised.{PlanLaw}
+use Rattle.plan_timing.specs.Promised.{leak_of, PlanLaw}
 
 pub length_marks : (item : Item) (slots : List Slot) → length (marks item slots) ≡ length slots
 length_marks item slots = length-map slots (is_own item)
@@ -60,6 +64,9 @@ proper d i s ranges is = let r = stream_ranges d i s ranges is in record {
 -- what a plan claims of a stream, and of the slots of a program's tables
 abbrev pub claim_of : Planned → ℕ → StreamClaim
 claim_of p i = let claim = stream_claim p i in record { spread = claim.spread; start = claim.start; peak = claim.peak }
+
+abbrev pub leak_claim_of : Planned → ℕ → LeakClaim
+leak_claim_of p i = let claim = multiplexing_claim p i in record { start = claim.start; peak = claim.peak }
 
 abbrev pub program_claim_of : Planned → ℕ → ProgramClaim
 program_claim_of p i = let claim = program_claim p i in record {
@@ -96,6 +103,45 @@ stream_holds d p i s serves is =
       lead_serves = λ m some below. rw (length_marks (Stream i) p.slots) (lead m some below);
       main_fits = rw (length_marks (Stream i) p.slots) main;
     }
+
+-- those of its multiplexing buffer, if it has one
+pub leak_holds : (d : Described) (p : Planned) (i : ℕ) (s : DescribedStream) (b : LeakingBuffer) → ServingConditions d p → slice_get d.streams i ≡ Some s →
+    s.multiplexing ≡ Some b → HoldsWork d.rate b.rbx b.size (multiplexing_claim p i).start (multiplexing_claim p i).peak (marks (Stream i) p.slots)
+leak_holds d p i s b serves is some = let claim = multiplexing_claim p i in
+    holds_work MultiplexingBuffer i d.rate b.rbx b.size claim.start claim.peak (marks (Stream i) p.slots)
+    (rw some at (holds_element (λ j t. multiplexing_buffer_entries d p j t.multiplexing) d.streams i s serves.multiplexing_buffers is))
+
+-- and those of its elementary stream buffer
+pub elementary_holds : (d : Described) (p : Planned) (i : ℕ) (s : DescribedStream) (b : LeakingBuffer) → ServingConditions d p → slice_get d.streams i ≡ Some s →
+    s.multiplexing ≡ Some b → (m : ℕ) → 0 < m → m ≤ allowance_rows s.allowance →
+    lead_needed (elementary_declaration s b) (elementary_share d.rate p i) m ≤ time_given d.rate (elementary_declaration s b) (elementary_share d.rate p i).count m
+elementary_holds d p i s b serves is some m one below =
+    let e : 1 + (m - 1) ≡ m = omega arith in
+    let all : Hold (entries_from (elementary_lead_entry d p i s b) 1 (allowance_rows s.allowance)) =
+    rw some at (holds_element (λ j t. elementary_lead_entries d p j t t.multiplexing) d.streams i s serves.elementary_leads is) in
+    at_most_holds ElementaryLead (group_part s m) i (lead_needed (elementary_declaration s b) (elementary_share d.rate p i) m)
+    (time_given d.rate (elementary_declaration s b) (elementary_share d.rate p i).count m)
+    (rw e at (holds_count (elementary_lead_entry d p i s b) 1 (allowance_rows s.allowance) (m - 1) (omega arith) all))
+
+-- all of them together
+pub video_holds : (d : Described) (p : Planned) (i : ℕ) (s : DescribedStream) (b : LeakingBuffer) → ServingConditions d p → slice_get d.streams i ≡ Some s →
+    s.multiplexing ≡ Some b → VideoConditions d.rate (declaration s) (leak_of b) (claim_of p i) (leak_claim_of p i) (marks (Stream i) p.slots)
+video_holds d p i s b serves is some = let holds = stream_holds d p i s serves is in record {
+  owned = holds.owned;
+  spread_claimed = holds.spread_claimed;
+  rate_serves = holds.rate_serves;
+  transport = holds.work;
+  multiplexing = leak_holds d p i s b serves is some;
+  lead_serves = λ m one below. rw (length_marks (Stream i) p.slots) (elementary_holds d p i s b serves is some m one below);
+  elementary_fits = holds.main_fits;
+}
+
+-- a multiplexing buffer in its ranges leaks, and no faster than the transport buffer is drained
+pub proper_leak : (d : Described) (i : ℕ) (s : DescribedStream) (b : LeakingBuffer) → IsInRange d → slice_get d.streams i ≡ Some s → s.multiplexing ≡ Some b →
+    IsProperLeak (declaration s) (leak_of b)
+proper_leak d i s b ranges is some =
+    let r = All-head (IsMultiplexingBuffer s.rx) b [] (rw some at (stream_ranges d i s ranges is).multiplexing) in
+    record { some_leak = omega (arith, r.least_rbx); no_faster = r.most_rbx }
 
 -- ---- the slots of a program's tables
 
@@ -137,6 +183,10 @@ plan_law law d p ranges serving =
     record {
       streams = λ i s units is keeps. subst (λ (o : ℕ → Bool). StreamServed o d.rate (declaration s) units) (sym (law.alone p.slots (Stream i)))
           (stream_law d.rate (declaration s) (claim_of p i) (marks (Stream i) p.slots) units (proper d i s ranges is) (stream_holds d p i s k is) keeps);
+      videos = λ i s b units is some keeps.
+          subst (λ (o : ℕ → Bool). VideoServed o d.rate (declaration s) (leak_of b) units) (sym (law.alone p.slots (Stream i)))
+          (video_law d.rate (declaration s) (leak_of b) (claim_of p i) (leak_claim_of p i) (marks (Stream i) p.slots) units
+          (proper d i s ranges is) (proper_leak d i s b ranges is some) (video_holds d p i s b k is some) keeps);
       programs = λ i lt. subst (λ (o : ℕ → Bool). ProgramServed o d.rate) (sym (law.alone p.slots (System i)))
           (program_law d.rate (program_claim_of p i) (marks (System i) p.slots)
           (omega (arith, ranges.least_rate)) (some_slots (System i)) (program_holds d p i k lt));

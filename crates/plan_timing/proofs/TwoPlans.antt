@@ -13,28 +13,31 @@ use Rattle.own_slots.specs.Switch.{joined, shift}
 use Rattle.own_slots.proofs.Extremes.{at_most_greatest}
 use Rattle.own_slots.proofs.SwitchLemmas.{switch_gap_law}
 use Rattle.own_slots.proofs.Recurrence.{pcr_law, table_law}
+use Rattle.unit_timing.specs.declared.multiplexing_buffer.MultiplexingBuffer.{MultiplexingBuffer as LeakingBuffer}
 use Rattle.unit_timing.specs.Buffers.{system_tb_drain, bsys_drain}
 use Rattle.unit_timing.specs.Allowances.{allowance_rows}
 use Rattle.unit_timing.specs.Plans.{StreamServed, ProgramServed}
 use Rattle.unit_timing.specs.Conditions.{lead_across, time_given, bytes_across, StreamSwitchConditions, ProgramSwitchConditions}
+use Rattle.unit_timing.specs.VideoPlans.{VideoSwitchConditions, VideoServed}
 use Rattle.unit_timing.proofs.PlanLemmas.{stream_switch_law, program_switch_law}
+use Rattle.unit_timing.proofs.VideoLemmas.{video_switch_law}
 use Rattle.description.specs.Described.{Described, DescribedStream}
 use Rattle.description.specs.Tables.{table_kinds, table_limit, round_packets}
 use Rattle.slot_plan.specs.declared.slot.Item.{Item}
 use Rattle.slot_plan.specs.declared.slot.Item.TheVariants.{Stream, Pcr, Table, System}
 use Rattle.slot_plan.specs.Planned.{Planned}
 use Rattle.slot_plan.specs.Items.{marks}
-use Rattle.slot_plan.specs.declared.condition.Condition.TheVariants.{PcrSwitch, TableSwitch, WorkSwitch, LeadSwitch, MainSwitch}
-use Rattle.slot_plan.specs.Claims.{declaration, stream_claim, program_claim, stream_share}
+use Rattle.slot_plan.specs.declared.condition.Condition.TheVariants.{PcrSwitch, TableSwitch, WorkSwitch, LeadSwitch, MainSwitch, ElementarySwitch}
+use Rattle.slot_plan.specs.Claims.{declaration, stream_claim, program_claim, stream_share, multiplexing_claim, elementary_declaration, elementary_share}
 use Rattle.slot_plan.specs.Conditions.{entries_from, group_part}
-use Rattle.slot_plan.specs.SwitchConditions.{gap_across, pcr_switch_entry, table_switch_entry, stream_work_entry, transport_work_entry, system_work_entry, lead_switch_entry, main_switch_entry}
+use Rattle.slot_plan.specs.SwitchConditions.{gap_across, pcr_switch_entry, table_switch_entry, stream_work_entry, transport_work_entry, system_work_entry, multiplexing_work_entries, lead_switch_entry, main_switch_entry, elementary_switch_entry, elementary_switch_entries}
 use Rattle.slot_plan.specs.Schedule.{OwnedLaw, switched, owned}
 use Rattle.slot_plan.specs.TableRounds.{first_packet}
 use Rattle.slot_plan.proofs.HeldConditions.{holds_item, at_most_holds}
 use Rattle.slot_plan.proofs.ConditionLists.{Hold, serves, FollowingConditions, follows}
 use Rattle.slot_plan.proofs.ItemConditions.{holds_element, holds_count}
-use Rattle.plan_timing.specs.Promised.{SwitchLaw}
-use Rattle.plan_timing.proofs.OnePlan.{length_marks, proper, claim_of, program_claim_of, stream_holds, program_holds, pcr_gap_holds, table_gap_holds, first_packet_below}
+use Rattle.plan_timing.specs.Promised.{leak_of, SwitchLaw}
+use Rattle.plan_timing.proofs.OnePlan.{length_marks, proper, proper_leak, claim_of, leak_claim_of, program_claim_of, stream_holds, video_holds, program_holds, pcr_gap_holds, table_gap_holds, first_packet_below}
 
 lead_joins : (d : Described) (first second : Planned) (i : ℕ) (s : DescribedStream) → Hold (entries_from (lead_switch_entry d first second i s) 1 (allowance_rows s.allowance)) →
     (m : ℕ) → 0 < m → m ≤ allowance_rows s.allowance →
@@ -61,6 +64,34 @@ stream_joins d first second i s follows is =
           rw (length_marks (Stream i) first.slots, length_marks (Stream i) second.slots) shorter;
       main_fits = rw (length_marks (Stream i) first.slots, length_marks (Stream i) second.slots) main;
     }
+
+elementary_joins : (d : Described) (first second : Planned) (i : ℕ) (s : DescribedStream) (b : LeakingBuffer) → FollowingConditions d first second →
+    slice_get d.streams i ≡ Some s → s.multiplexing ≡ Some b → (m : ℕ) → 0 < m → m ≤ allowance_rows s.allowance →
+    lead_across (elementary_declaration s b) (elementary_share d.rate first i) (elementary_share d.rate second i) (shift (marks (Stream i) first.slots) (marks (Stream i) second.slots)) m
+    ≤ time_given d.rate (elementary_declaration s b) ((elementary_share d.rate first i).count * (elementary_share d.rate second i).count) m
+elementary_joins d first second i s b follows is some m one below =
+    let e : 1 + (m - 1) ≡ m = omega arith in
+    let all : Hold (entries_from (elementary_switch_entry d first second i s b) 1 (allowance_rows s.allowance)) =
+    rw some at (holds_element (λ k t. elementary_switch_entries d first second k t t.multiplexing) d.streams i s follows.elementary_leads is) in
+    at_most_holds ElementarySwitch (group_part s m) i
+    (lead_across (elementary_declaration s b) (elementary_share d.rate first i) (elementary_share d.rate second i) (shift (marks (Stream i) first.slots) (marks (Stream i) second.slots)) m)
+    (time_given d.rate (elementary_declaration s b) ((elementary_share d.rate first i).count * (elementary_share d.rate second i).count) m)
+    (rw e at (holds_count (elementary_switch_entry d first second i s b) 1 (allowance_rows s.allowance) (m - 1) (omega arith) all))
+
+video_joins : (d : Described) (first second : Planned) (i : ℕ) (s : DescribedStream) (b : LeakingBuffer) → FollowingConditions d first second →
+    slice_get d.streams i ≡ Some s → s.multiplexing ≡ Some b →
+    VideoSwitchConditions d.rate (declaration s) (leak_of b) (claim_of first i) (leak_claim_of first i) (marks (Stream i) first.slots)
+    (claim_of second i) (leak_claim_of second i) (marks (Stream i) second.slots)
+video_joins d first second i s b follows is some = let joins = stream_joins d first second i s follows is in record {
+  transport = joins.work;
+  multiplexing = at_most_holds WorkSwitch 0 (length d.streams + 2 * length d.programs + i)
+      (work_left d.rate b.rbx (multiplexing_claim first i).start (marks (Stream i) first.slots)) (multiplexing_claim second i).start
+      (rw some at (holds_element (λ j t. multiplexing_work_entries d first second j t.multiplexing) d.streams i s follows.multiplexing_works is));
+  lead_serves = λ m one below.
+      let shorter = rw (length_marks (Stream i) first.slots, length_marks (Stream i) second.slots) at (elementary_joins d first second i s b follows is some m one below) in
+      rw (length_marks (Stream i) first.slots, length_marks (Stream i) second.slots) shorter;
+  elementary_fits = joins.main_fits;
+}
 
 program_joins : (d : Described) (first second : Planned) (i : ℕ) → FollowingConditions d first second → i < length d.programs →
     ProgramSwitchConditions d.rate (program_claim_of first i) (marks (System i) first.slots) (program_claim_of second i)
@@ -104,6 +135,12 @@ switch_law law d first second periods ranges serving switchable =
       streams = λ i s units is keeps. subst (λ (o : ℕ → Bool). StreamServed o d.rate (declaration s) units) (owned_over law first second periods (Stream i))
           (stream_switch_law d.rate (declaration s) (claim_of first i) (marks (Stream i) first.slots) (claim_of second i) (marks (Stream i) second.slots) periods units
           (proper d i s ranges is) (stream_holds d first i s k is) (stream_holds d second i s f.serves is) (stream_joins d first second i s f is) keeps);
+      videos = λ i s b units is some keeps.
+          subst (λ (o : ℕ → Bool). VideoServed o d.rate (declaration s) (leak_of b) units) (owned_over law first second periods (Stream i))
+          (video_switch_law d.rate (declaration s) (leak_of b) (claim_of first i) (leak_claim_of first i) (marks (Stream i) first.slots)
+          (claim_of second i) (leak_claim_of second i) (marks (Stream i) second.slots) periods units
+          (proper d i s ranges is) (proper_leak d i s b ranges is some) (video_holds d first i s b k is some) (video_holds d second i s b f.serves is some)
+          (video_joins d first second i s b f is some) keeps);
       programs = λ i lt. subst (λ (o : ℕ → Bool). ProgramServed o d.rate) (owned_over law first second periods (System i))
           (program_switch_law d.rate (program_claim_of first i) (marks (System i) first.slots) (program_claim_of second i) (marks (System i) second.slots) periods
           (omega (arith, ranges.least_rate)) (omega (arith, length_marks (System i) first.slots, k.shape.some_slots))

@@ -8,7 +8,7 @@ use Rattle.description.specs.Described.{Described, DescribedProgram, DescribedSt
 use Rattle.slot_plan.specs.Entries.{Entry, code_of}
 use Rattle.slot_plan.specs.Planned.{Planned}
 use Rattle.slot_plan.specs.declared.condition.Condition.{Condition}
-use Rattle.slot_plan.specs.declared.condition.Condition.TheVariants.{Shape, PcrGap, TableGap, Spread, StreamRate, TransportBuffer, StreamLead, MainBuffer, SystemBuffer, PcrSwitch, TableSwitch, WorkSwitch, LeadSwitch, MainSwitch}
+use Rattle.slot_plan.specs.declared.condition.Condition.TheVariants.{Shape, PcrGap, TableGap, Spread, StreamRate, TransportBuffer, StreamLead, MainBuffer, SystemBuffer, MultiplexingBuffer, ElementaryLead, PcrSwitch, TableSwitch, WorkSwitch, LeadSwitch, MainSwitch, ElementarySwitch}
 use Rattle.plan_checker.specs.Failing.{failing}
 use Rattle.reason_lines.specs.ItemNames.{name_of_stream, program_name, stream_name, table_name}
 use Rattle.reason_lines.specs.ReasonLines.{greatest_lead, key_of, key_words, least_words, pcr_words, steady_cause, stream_line}
@@ -105,6 +105,9 @@ transport_line d e =
 abbrev pub system_line : Described → Entry → List ℕ
 system_line d e = program_name d e.item ++ buffer_words (codes " system buffer ") (codes "bpeak") (codes "bstart") d.rate e
 
+abbrev pub multiplexing_line : Described → Entry → List ℕ
+multiplexing_line d e = stream_name d e.item ++ buffer_words (codes " multiplexing buffer ") (codes "mpeak") (codes "mstart") d.rate e
+
 -- the units in a row, and the time from the first to the last
 abbrev pub units_in_row : Entry → ℕ
 units_in_row e = max e.part 1
@@ -150,11 +153,14 @@ line_for TransportBuffer d e = transport_line d e
 line_for StreamLead d e = stream_lead_line e (slice_get d.streams e.item)
 line_for MainBuffer d e = stream_line Main e.item e.left (slice_get d.streams e.item)
 line_for SystemBuffer d e = system_line d e
+line_for MultiplexingBuffer d e = multiplexing_line d e
+line_for ElementaryLead d e = stream_lead_line e (slice_get d.streams e.item)
 line_for PcrSwitch d e = switch_line e
 line_for TableSwitch d e = switch_line e
 line_for WorkSwitch d e = switch_line e
 line_for LeadSwitch d e = switch_line e
 line_for MainSwitch d e = switch_line e
+line_for ElementarySwitch d e = switch_line e
 
 abbrev pub condition_line : Described → Entry → List ℕ
 condition_line d e = line_for e.condition d e

@@ -3,12 +3,13 @@ use Rattle.std.specs.Prelude.{ℕ, ◌==◌, List, [], ◌++◌, Option, Some, N
 use Rattle.std.specs.List.{flat_map}
 use Rattle.unit_timing.specs.declared.allowance.Allowance.{Allowance}
 use Rattle.unit_timing.specs.declared.allowance.Allowance.TheVariants.{Groups, Pace}
+use Rattle.unit_timing.specs.declared.multiplexing_buffer.MultiplexingBuffer.{MultiplexingBuffer}
 use Rattle.description.specs.Described.{Described, DescribedProgram, DescribedStream}
 use Rattle.plan_search.specs.declared.reason.Reason.{Reason}
-use Rattle.plan_search.specs.declared.reason.Reason.TheVariants.{PcrLimit, TableLimit, SlowDrain, ShortLead, SmallMain, Overload}
+use Rattle.plan_search.specs.declared.reason.Reason.TheVariants.{PcrLimit, TableLimit, SlowDrain, SlowLeak, ShortLead, SmallMain, Overload}
 use Rattle.plan_search.specs.Reasons.{reasons_of}
 use Rattle.reason_lines.specs.declared.stream_numbers.StreamNumber.{StreamNumber}
-use Rattle.reason_lines.specs.declared.stream_numbers.StreamNumber.TheVariants.{Rx, Lead, Main}
+use Rattle.reason_lines.specs.declared.stream_numbers.StreamNumber.TheVariants.{Rx, Rbx, Lead, Main}
 use Rattle.reason_lines.specs.ItemNames.{name_of_program, name_of_stream, table_name}
 
 -- the greatest values of keys: ms between clock references, bits a second, units of 90 kHz, bytes
@@ -65,21 +66,30 @@ pcr_line i least (Some p) = pcr_words i p least slot_cause
 -- the numbers of a stream: the key of each, its value, the greatest that it may have, and what asks for more
 unfoldable pub key_of : StreamNumber → List ℕ
 key_of Rx = codes "rx"
+key_of Rbx = codes "rbx"
 key_of Lead = codes "lead"
 key_of Main = codes "main"
 
+-- the rate of a leak; 0 where there is none
+abbrev pub rbx_of : Option MultiplexingBuffer → ℕ
+rbx_of None = 0
+rbx_of (Some b) = b.rbx
+
 abbrev pub value_of : StreamNumber → DescribedStream → ℕ
 value_of Rx s = s.rx
+value_of Rbx s = rbx_of s.multiplexing
 value_of Lead s = s.lead
 value_of Main s = s.main
 
 abbrev pub greatest_of : StreamNumber → ℕ
 greatest_of Rx = greatest_rx
+greatest_of Rbx = greatest_rx
 greatest_of Lead = greatest_lead
 greatest_of Main = greatest_main
 
 abbrev pub cause_of : StreamNumber → Allowance → List ℕ
 cause_of Rx allowance = steady_cause allowance
+cause_of Rbx allowance = steady_cause allowance
 cause_of Lead allowance = row_cause allowance
 cause_of Main allowance = within_lead_cause
 
@@ -101,6 +111,7 @@ unfoldable pub reason_line : Described → Reason → List ℕ
 reason_line d (PcrLimit i least) = pcr_line i least (slice_get d.programs i)
 reason_line d (TableLimit t least) = table_line d t least
 reason_line d (SlowDrain i least) = stream_line Rx i least (slice_get d.streams i)
+reason_line d (SlowLeak i least) = stream_line Rbx i least (slice_get d.streams i)
 reason_line d (ShortLead i least) = stream_line Lead i least (slice_get d.streams i)
 reason_line d (SmallMain i least) = stream_line Main i least (slice_get d.streams i)
 reason_line d (Overload least) = rate_line d.rate least

@@ -101,6 +101,26 @@ pub fn write_system(
     )
 }
 
+/// Appends the line of a stream's multiplexing buffer.
+pub fn write_multiplexing(
+    description: &Description,
+    refusal: Refusal,
+    text: &mut String,
+) -> Result<(), AllocError>
+    ensures { OnOk result (string_bytes text.new
+        ≡ string_bytes text.old ++ spec.multiplexing_line description.now (entry_of refusal)) }
+{
+    write_stream_name(description, refusal.item as usize, text)?;
+    write_buffer(
+        " multiplexing buffer ",
+        "mpeak",
+        "mstart",
+        description.rate(),
+        refusal,
+        text,
+    )
+}
+
 // The time from the first to the last of the units in a row, in units of 90 kHz.
 fn time_of_row(refusal: Refusal, stream: &StreamDescription) -> u128
     ensures time { result ≡ spec.time_of_row (entry_of refusal) stream.now }

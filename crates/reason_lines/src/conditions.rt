@@ -5,7 +5,7 @@ ghost use Rattle.std.specs.List.{flat_map};
 ghost use Rattle.plan_checker.specs.Refusals.{entry_of};
 ghost use Rattle.reason_lines.specs.ConditionLines as spec;
 
-use crate::buffer_conditions::{write_lead, write_system, write_transport};
+use crate::buffer_conditions::{write_lead, write_multiplexing, write_system, write_transport};
 use crate::item_names::write_stream_name;
 use crate::shape_conditions::write_shape;
 use crate::slot_conditions::{write_claim, write_pcr_gap, write_stream_rate, write_table_gap};
@@ -71,7 +71,9 @@ fn write_condition(
             write_stream_rate(description.rate(), refusal, streams.get(item), text)
         }
         Condition::TransportBuffer => write_transport(description, refusal, text),
-        Condition::StreamLead => write_lead(refusal, streams.get(item), text),
+        Condition::StreamLead | Condition::ElementaryLead => {
+            write_lead(refusal, streams.get(item), text)
+        }
         Condition::MainBuffer => {
             write_stream(
                 StreamNumber::Main,
@@ -82,11 +84,13 @@ fn write_condition(
             )
         }
         Condition::SystemBuffer => write_system(description, refusal, text),
+        Condition::MultiplexingBuffer => write_multiplexing(description, refusal, text),
         Condition::PcrSwitch
         | Condition::TableSwitch
         | Condition::WorkSwitch
         | Condition::LeadSwitch
-        | Condition::MainSwitch => write_switch(refusal, text),
+        | Condition::MainSwitch
+        | Condition::ElementarySwitch => write_switch(refusal, text),
     }
 }
 

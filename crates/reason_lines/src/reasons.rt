@@ -86,6 +86,16 @@ fn write_reason(
             let i = usize::from(i);
             write_stream(StreamNumber::Rx, i, u128::from(least), streams.get(i), text)
         }
+        Reason::SlowLeak(i, least) => {
+            let i = usize::from(i);
+            write_stream(
+                StreamNumber::Rbx,
+                i,
+                u128::from(least),
+                streams.get(i),
+                text,
+            )
+        }
         Reason::ShortLead(i, least) => {
             let i = usize::from(i);
             write_stream(

@@ -8,6 +8,7 @@ use crate::least_values::write_less;
 use description::StreamDescription;
 use std::alloc::AllocError;
 use unit_timing::allowance::Allowance;
+use unit_timing::multiplexing_buffer::MultiplexingBuffer;
 
 /// The greatest lead, in units of 90 kHz.
 pub const GREATEST_LEAD: u128 = 90_000;
@@ -17,6 +18,8 @@ pub const GREATEST_LEAD: u128 = 90_000;
 pub enum StreamNumber {
     /// The drain of its transport buffer, in bits a second.
     Rx,
+    /// The leak of its multiplexing buffer, in bits a second.
+    Rbx,
     /// The time before a unit's DTS in which it is sent, in units of 90 kHz.
     Lead,
     /// The size of its main buffer, in bytes.
@@ -30,8 +33,19 @@ pub fn key_of(number: StreamNumber) -> &'static str
 {
     match number {
         StreamNumber::Rx => "rx",
+        StreamNumber::Rbx => "rbx",
         StreamNumber::Lead => "lead",
         StreamNumber::Main => "main",
+    }
+}
+
+// The rate of a leak; 0 where there is none.
+fn rbx_of(multiplexing: Option<MultiplexingBuffer>) -> u128
+    ensures { result ≡ spec.rbx_of multiplexing }
+{
+    match multiplexing {
+        None => 0,
+        Some(buffer) => u128::from(buffer.rbx),
     }
 }
 
@@ -41,6 +55,7 @@ fn value_of(number: StreamNumber, stream: &StreamDescription) -> u128
 {
     match number {
         StreamNumber::Rx => u128::from(stream.rx),
+        StreamNumber::Rbx => rbx_of(stream.multiplexing),
         StreamNumber::Lead => u128::from(stream.lead),
         StreamNumber::Main => u128::from(stream.main),
     }
@@ -51,7 +66,7 @@ fn greatest_of(number: StreamNumber) -> u128
     ensures { result ≡ spec.greatest_of number }
 {
     match number {
-        StreamNumber::Rx => 200_000_000,
+        StreamNumber::Rx | StreamNumber::Rbx => 200_000_000,
         StreamNumber::Lead => GREATEST_LEAD,
         StreamNumber::Main => 10_000_000,
     }
@@ -94,7 +109,7 @@ fn cause_of(number: StreamNumber, allowance: Allowance) -> &'static str
     ensures { result.now ≡ spec.cause_of number allowance }
 {
     match number {
-        StreamNumber::Rx => steady_cause(allowance),
+        StreamNumber::Rx | StreamNumber::Rbx => steady_cause(allowance),
         StreamNumber::Lead => row_cause(allowance),
         StreamNumber::Main => within_lead_cause(),
     }

@@ -22,6 +22,7 @@ worked_stream = record {
   descriptors = [];
   allowance = Groups 1 1;
   shared_with = [];
+  multiplexing = None;
 }
 
 abbrev pub worked_program : DescribedProgram
@@ -57,7 +58,7 @@ abbrev pub worked_plan : Planned
 worked_plan = record {
   slots = Table 0 ∷ Table 1 ∷ Stream 0 ∷ Pcr 0 ∷ [];
   certificate = record {
-    streams = record { spread = 0; start = 0; peak = 18800000 } ∷ [];
+    streams = record { spread = 0; start = 0; peak = 18800000; multiplexing = None } ∷ [];
     programs = record { transport_start = 0; transport_peak = 18800000; system_start = 0; system_peak = 22560000 } ∷ [];
   };
 }

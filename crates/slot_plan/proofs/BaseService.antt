@@ -23,6 +23,7 @@ base_stream = record {
   descriptors = [];
   allowance = Groups 1 4;
   shared_with = [];
+  multiplexing = None;
 }
 
 abbrev pub base : Described
@@ -63,7 +64,7 @@ first_line = Stream 0 ∷ Pcr 0 ∷ Table 0 ∷ Table 1 ∷ Stream 0 ∷ Table 3
 
 abbrev pub claims : Certified
 claims = record {
-  streams = (record { spread = 0; start = 0; peak = 282752000 }) ∷ [];
+  streams = (record { spread = 0; start = 0; peak = 282752000; multiplexing = None }) ∷ [];
   programs = (record { transport_start = 0; transport_peak = 377504000; system_start = 0; system_peak = 550464000 }) ∷ [];
 }
 

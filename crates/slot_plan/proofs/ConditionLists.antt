@@ -6,8 +6,8 @@ use Rattle.description.specs.Described.{Described}
 use Rattle.slot_plan.specs.Planned.{Planned}
 use Rattle.slot_plan.specs.Shape.{IsShaped}
 use Rattle.slot_plan.specs.Entries.{Entry, first_failing}
-use Rattle.slot_plan.specs.Conditions.{shape_entries, timing_entries, entries, pcr_gaps, table_gaps, spreads, stream_rates, stream_buffers, transport_buffers, stream_leads, main_buffers, system_buffers, IsServing}
-use Rattle.slot_plan.specs.SwitchConditions.{joint_entries, pcr_switches, table_switches, stream_works, transport_works, system_works, lead_switches, main_switches, IsSwitchable}
+use Rattle.slot_plan.specs.Conditions.{shape_entries, timing_entries, entries, pcr_gaps, table_gaps, spreads, stream_rates, stream_buffers, transport_buffers, stream_leads, main_buffers, system_buffers, multiplexing_buffers, elementary_leads, IsServing}
+use Rattle.slot_plan.specs.SwitchConditions.{joint_entries, pcr_switches, table_switches, stream_works, transport_works, system_works, multiplexing_works, lead_switches, main_switches, elementary_switches, IsSwitchable}
 use Rattle.slot_plan.proofs.HeldConditions.{holds_both, shaped}
 
 -- no condition of a list fails
@@ -26,6 +26,8 @@ pub record ServingConditions (d : Described) (p : Planned) : Type 0 where
   pub leads : Hold (stream_leads d p)
   pub main_buffers : Hold (main_buffers d p)
   pub system_buffers : Hold (system_buffers d p)
+  pub multiplexing_buffers : Hold (multiplexing_buffers d p)
+  pub elementary_leads : Hold (elementary_leads d p)
 
 pub in_turn : (d : Described) (p : Planned) → IsServing d p → Hold (shape_entries d p) × Hold (timing_entries d p)
 in_turn d p serving = elim (cases_Bool (is_none (first_failing (shape_entries d p)))) [
@@ -35,8 +37,10 @@ in_turn d p serving = elim (cases_Bool (is_none (first_failing (shape_entries d 
 
 pub serves : (d : Described) (p : Planned) → IsServing d p → ServingConditions d p
 serves d p serving =
-    let last = main_buffers d p ++ system_buffers d p in
-    let leads = stream_leads d p ++ last in
+    let last = multiplexing_buffers d p ++ elementary_leads d p in
+    let system = system_buffers d p ++ last in
+    let main = main_buffers d p ++ system in
+    let leads = stream_leads d p ++ main in
     let transport = transport_buffers d p ++ leads in
     let streams = stream_buffers d p ++ transport in
     let rates = stream_rates d p ++ streams in
@@ -49,8 +53,10 @@ serves d p serving =
     let f = holds_both (stream_rates d p) streams e.1 in
     let h = holds_both (stream_buffers d p) transport f.1 in
     let i = holds_both (transport_buffers d p) leads h.1 in
-    let j = holds_both (stream_leads d p) last i.1 in
-    let k = holds_both (main_buffers d p) (system_buffers d p) j.1 in
+    let j = holds_both (stream_leads d p) main i.1 in
+    let k = holds_both (main_buffers d p) system j.1 in
+    let l = holds_both (system_buffers d p) last k.1 in
+    let m = holds_both (multiplexing_buffers d p) (elementary_leads d p) l.1 in
     record {
       shape = shaped d p both.0;
       pcr_gaps = a.0;
@@ -61,7 +67,9 @@ serves d p serving =
       transport_buffers = i.0;
       leads = j.0;
       main_buffers = k.0;
-      system_buffers = k.1;
+      system_buffers = l.0;
+      multiplexing_buffers = m.0;
+      elementary_leads = m.1;
     }
 
 -- those of a second plan that may follow a first
@@ -72,8 +80,10 @@ pub record FollowingConditions (d : Described) (first second : Planned) : Type 0
   pub stream_works : Hold (stream_works d first second)
   pub transport_works : Hold (transport_works d first second)
   pub system_works : Hold (system_works d first second)
+  pub multiplexing_works : Hold (multiplexing_works d first second)
   pub leads : Hold (lead_switches d first second)
   pub main_buffers : Hold (main_switches d first second)
+  pub elementary_leads : Hold (elementary_switches d first second)
 
 pub joint_in_turn : (d : Described) (first second : Planned) → IsSwitchable d first second → Hold (entries d second) × Hold (joint_entries d first second)
 joint_in_turn d first second switchable = elim (cases_Bool (is_none (first_failing (entries d second)))) [
@@ -83,8 +93,10 @@ joint_in_turn d first second switchable = elim (cases_Bool (is_none (first_faili
 
 pub follows : (d : Described) (first second : Planned) → IsSwitchable d first second → FollowingConditions d first second
 follows d first second switchable =
-    let last = lead_switches d first second ++ main_switches d first second in
-    let system = system_works d first second ++ last in
+    let last = main_switches d first second ++ elementary_switches d first second in
+    let leads = lead_switches d first second ++ last in
+    let multiplexing = multiplexing_works d first second ++ leads in
+    let system = system_works d first second ++ multiplexing in
     let transport = transport_works d first second ++ system in
     let streams = stream_works d first second ++ transport in
     let tables = table_switches d first second ++ streams in
@@ -93,8 +105,10 @@ follows d first second switchable =
     let b = holds_both (table_switches d first second) streams a.1 in
     let e = holds_both (stream_works d first second) transport b.1 in
     let f = holds_both (transport_works d first second) system e.1 in
-    let h = holds_both (system_works d first second) last f.1 in
-    let i = holds_both (lead_switches d first second) (main_switches d first second) h.1 in
+    let h = holds_both (system_works d first second) multiplexing f.1 in
+    let i = holds_both (multiplexing_works d first second) leads h.1 in
+    let j = holds_both (lead_switches d first second) last i.1 in
+    let k = holds_both (main_switches d first second) (elementary_switches d first second) j.1 in
     record {
       serves = serves d second both.0;
       pcrs = a.0;
@@ -102,6 +116,8 @@ follows d first second switchable =
       stream_works = e.0;
       transport_works = f.0;
       system_works = h.0;
-      leads = i.0;
-      main_buffers = i.1;
+      multiplexing_works = i.0;
+      leads = j.0;
+      main_buffers = k.0;
+      elementary_leads = k.1;
     }

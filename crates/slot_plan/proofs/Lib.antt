@@ -5,6 +5,7 @@ pub mod ReaderSteps
 pub mod ConditionLists
 pub mod ItemConditions
 pub mod NamedSlots
+pub mod PeakWords
 pub mod TextLines
 pub mod TextLists
 pub mod TextPlans

@@ -5,7 +5,7 @@ use Rattle.own_slots.specs.Extremes.{greatest}
 use Rattle.own_slots.specs.Work.{work_at}
 use Rattle.slot_plan.specs.declared.slot.Slot.{Slot}
 use Rattle.slot_plan.specs.declared.slot.Slot.TheVariants.{Stream, Pcr, Table, Null}
-use Rattle.slot_plan.specs.declared.condition.Condition.TheVariants.{Shape, PcrGap, Spread, StreamRate, TransportBuffer, StreamLead, MainBuffer, SystemBuffer, LeadSwitch}
+use Rattle.slot_plan.specs.declared.condition.Condition.TheVariants.{Shape, PcrGap, Spread, StreamRate, TransportBuffer, StreamLead, MainBuffer, SystemBuffer, MultiplexingBuffer, ElementaryLead, LeadSwitch, ElementarySwitch}
 use Rattle.slot_plan.specs.Planned.{Planned, Certified}
 use Rattle.slot_plan.specs.Entries.{Entry, at_most, equal_counts, first_failing}
 use Rattle.slot_plan.specs.Conditions.{entries}
@@ -30,7 +30,7 @@ with_slots : List Slot → Planned
 with_slots slots = record base_plan { slots = slots }
 
 with_spread : ℕ → Certified
-with_spread a = record claims { streams = record { spread = a; start = 0; peak = 282752000 } ∷ [] }
+with_spread a = record claims { streams = record { spread = a; start = 0; peak = 282752000; multiplexing = None } ∷ [] }
 
 accepted : answer base base_plan ≡ None
 unfolding answer
@@ -146,6 +146,32 @@ pace_waits : answer (paced_into 736 84600) base_plan ≡ Some (at_most MainBuffe
 unfolding answer paced_into with_stream
 pace_waits = refl
 
+-- a multiplexing buffer that leaks 1,000,000 bits a second: a packet at a time is in it
+leaking : ℕ → ℕ → Described
+leaking lead size = with_stream (record base_stream { lead = lead; multiplexing = Some (record { rbx = 1000000; size = size }) })
+
+claiming : ℕ → ℕ → List Slot → Planned
+claiming start peak slots = record {
+  slots = slots;
+  certificate = record claims { streams = record { spread = 0; start = 0; peak = 282752000; multiplexing = Some (record { start = start; peak = peak }) } ∷ [] };
+}
+
+leak_kept : answer (leaking 1667 188) (claiming 0 282752000 base_slots) ≡ None
+unfolding answer leaking with_stream claiming
+leak_kept = refl
+
+leak_overflows : answer (leaking 1667 187) (claiming 0 282752000 base_slots) ≡ Some (at_most MultiplexingBuffer 1 0 282752000 281248000)
+unfolding answer leaking with_stream claiming
+leak_overflows = refl
+
+leak_not_claimed : answer (leaking 1667 188) base_plan ≡ Some (at_most MultiplexingBuffer 2 0 282752000 0)
+unfolding answer leaking with_stream
+leak_not_claimed = refl
+
+late_by_the_leak : answer (leaking 1666 188) (claiming 0 282752000 base_slots) ≡ Some (at_most ElementaryLead 0 0 75173529600000000 75169920000000000)
+unfolding answer leaking with_stream claiming
+late_by_the_leak = refl
+
 -- each slot one place later, the last one first
 turned : Planned
 turned = with_slots (drop 119 base_slots ++ take 119 base_slots)
@@ -173,3 +199,8 @@ paced_to_turned = refl
 from_turned : switch_answer base turned base_plan ≡ None
 unfolding switch_answer turned with_slots
 from_turned = refl
+
+leak_to_turned : switch_answer (leaking 1756 188) (claiming 0 282752000 base_slots) (claiming 0 282752000 (drop 119 base_slots ++ take 119 base_slots))
+    ≡ Some (at_most ElementarySwitch 0 0 2377029888000000000 2376921600000000000)
+unfolding switch_answer leaking with_stream claiming
+leak_to_turned = refl

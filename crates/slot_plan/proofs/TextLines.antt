@@ -8,34 +8,32 @@ use Rattle.slot_plan.specs.declared.slot.Slot.TheVariants.{Stream, Pcr, Table, N
 use Rattle.slot_plan.specs.declared.certificate.StreamEntry.{StreamEntry}
 use Rattle.slot_plan.specs.declared.certificate.ProgramEntry.{ProgramEntry}
 use Rattle.text_words.specs.Words.{number_limit, field, number_before, after_word}
-use Rattle.slot_plan.specs.Planned.{is_small_stream, is_small_program}
+use Rattle.slot_plan.specs.Planned.{is_small_multiplexing, is_small_stream, is_small_program}
 use Rattle.slot_plan.specs.Plans.{IsByteSlot}
-use Rattle.slot_plan.specs.Text.{slot_text, stream_line, program_line}
+use Rattle.slot_plan.specs.Text.{slot_text, peak_words, stream_line, program_line}
 use Rattle.slot_plan.specs.Readers.{slot_of_letter, slot_at, stream_claims, program_claims, stream_at, program_at}
 use Rattle.text_words.proofs.Readers.{Exact, some_same, word-complete, word-sound, number-exact, field-exact, after-complete, after-sound, then-some, then-read}
+use Rattle.slot_plan.proofs.PeakWords.{joined, peaks-exact}
 
 -- what comes after the number in the line of a stream entry, of a program entry
 stream_tail : StreamEntry → List ℕ
-stream_tail e = field (codes "spread ") e.spread 32 ++ (field (codes "start ") e.start 32 ++ field (codes "peak ") e.peak 10)
+stream_tail e = field (codes "spread ") e.spread 32 ++ (field (codes "start ") e.start 32 ++ peak_words e.peak e.multiplexing)
 
 program_tail : ProgramEntry → List ℕ
 program_tail e = field (codes "tstart ") e.transport_start 32 ++ (field (codes "tpeak ") e.transport_peak 32
     ++ (field (codes "bstart ") e.system_start 32 ++ field (codes "bpeak ") e.system_peak 10))
 
-pub joined : (xs a b r s : List ℕ) → xs ≡ a ++ r → r ≡ b ++ s → xs ≡ (a ++ b) ++ s
-joined xs a b r s e f = rw (e, f, append_assoc) refl
-
 claims-complete : (e : StreamEntry) (rest : List ℕ) → is_small_stream e ≡ true → stream_claims (stream_tail e ++ rest) ≡ Some (e, rest)
 unfolding stream_tail
 claims-complete e rest small =
-    let f : (e.spread < number_limit) × (e.start < number_limit) × (e.peak < number_limit) = grind (arith, nat_tests) in
-    let a = field (codes "spread ") e.spread 32 in let b = field (codes "start ") e.start 32 in let d = field (codes "peak ") e.peak 10 in
+    let f : (e.spread < number_limit) × (e.start < number_limit) × (e.peak < number_limit) × (is_small_multiplexing e.multiplexing ≡ true) = grind (arith, nat_tests) in
+    let a = field (codes "spread ") e.spread 32 in let b = field (codes "start ") e.start 32 in let d = peak_words e.peak e.multiplexing in
     rw (
       append_assoc a (b ++ d) rest,
       (field-exact (codes "spread ") 32 (omega arith)).complete e.spread ((b ++ d) ++ rest) f.0,
       append_assoc b d rest,
       (field-exact (codes "start ") 32 (omega arith)).complete e.start (d ++ rest) f.1,
-      (field-exact (codes "peak ") 10 (omega arith)).complete e.peak rest f.2,
+      peaks-exact.complete (e.peak, e.multiplexing) rest (f.2, f.3),
     ) refl
 
 claims-sound : (xs : List ℕ) (e : StreamEntry) (rest : List ℕ) → stream_claims xs ≡ Some (e, rest) → (is_small_stream e ≡ true) × (xs ≡ stream_tail e ++ rest)
@@ -44,9 +42,10 @@ claims-sound xs e rest is =
     let w = then-read _ _ _ is in let v = then-read _ _ _ w.2 in let u = then-read _ _ _ v.2 in
     let a = (field-exact (codes "spread ") 32 (omega arith)).sound xs w.0.0 w.0.1 w.1 in
     let b = (field-exact (codes "start ") 32 (omega arith)).sound w.0.1 v.0.0 v.0.1 v.1 in
-    let d = (field-exact (codes "peak ") 10 (omega arith)).sound v.0.1 u.0.0 u.0.1 u.1 in
+    let d = peaks-exact.sound v.0.1 u.0.0 u.0.1 u.1 in
     let P : StreamEntry × List ℕ → Type 0 = λ p. (is_small_stream p.0 ≡ true) × (xs ≡ stream_tail p.0 ++ p.1) in
-    let s = field (codes "spread ") w.0.0 32 in let t = field (codes "start ") v.0.0 32 in let p = field (codes "peak ") u.0.0 10 in
+    let s = field (codes "spread ") w.0.0 32 in let t = field (codes "start ") v.0.0 32 in let p = peak_words u.0.0.0 u.0.0.1 in
+    let few = d.0.0 in let small = d.0.1 in
     subst P (some_same _ _ u.2) (grind (arith, nat_tests), joined xs s (t ++ p) w.0.1 u.0.1 a.1 (joined w.0.1 t p v.0.1 u.0.1 b.1 d.1))
 
 program-claims-complete : (e : ProgramEntry) (rest : List ℕ) → is_small_program e ≡ true → program_claims (program_tail e ++ rest) ≡ Some (e, rest)

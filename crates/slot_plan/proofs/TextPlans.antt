@@ -15,7 +15,7 @@ use Rattle.text_words.specs.Words.{field, after_word, field_at}
 use Rattle.slot_plan.specs.Text.{slot_word, stream_line, program_line, plan_text}
 use Rattle.slot_plan.specs.Readers.{slots_at, streams_at, programs_at, begins_with, certificate_at, period_at, plan_at, slot_lines, or_line, ◌>>>◌}
 use Rattle.text_words.proofs.Readers.{word-complete, word-sound, field-exact, then-read, some_same}
-use Rattle.slot_plan.proofs.TextLines.{joined}
+use Rattle.slot_plan.proofs.PeakWords.{joined}
 use Rattle.slot_plan.proofs.TextLists.{slots-complete, slots-sound, streams-complete, SlotsRead, streams-sound, programs-complete, programs-sound, ok_same}
 
 -- the entries and the end

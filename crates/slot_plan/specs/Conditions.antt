@@ -1,14 +1,15 @@
 -- The conditions under which a plan serves a service description: each compares two whole numbers. The first, code 1, is
 -- the shape of the plan; the others are asked only where it holds. Rates are in bits a second, a slot is 188 bytes.
-use Rattle.std.specs.Prelude.{◌≡◌, ℕ, zero, suc, ◌+◌, ◌*◌, ◌==◌, Bool, None, List, [], ◌∷◌, ◌++◌, length, is_none, if◌then◌else◌}
+use Rattle.std.specs.Prelude.{◌≡◌, ℕ, zero, suc, ◌+◌, ◌*◌, ◌==◌, Bool, None, List, [], ◌∷◌, ◌++◌, Option, Some, length, is_none, if◌then◌else◌}
 use Rattle.clock27.specs.Units.{slot_ms_at_1bps}
 use Rattle.own_slots.specs.Period.{per_period}
 use Rattle.own_slots.specs.Gaps.{gap}
 use Rattle.own_slots.specs.Spread.{spread}
 use Rattle.own_slots.specs.Work.{most_before, most_after, work_left}
 use Rattle.unit_timing.specs.Buffers.{tb_size, system_tb_drain, bsys_size, bsys_drain}
+use Rattle.unit_timing.specs.declared.multiplexing_buffer.MultiplexingBuffer.{MultiplexingBuffer as LeakingBuffer}
 use Rattle.unit_timing.specs.Allowances.{allowance_rows}
-use Rattle.unit_timing.specs.Conditions.{rate_needed, rate_given, lead_needed, time_given, bytes_waiting}
+use Rattle.unit_timing.specs.Conditions.{Share, rate_needed, rate_given, lead_needed, time_given, bytes_waiting}
 use Rattle.description.specs.Described.{Described, DescribedProgram, DescribedStream}
 use Rattle.description.specs.Tables.{table_kinds, table_count, table_limit, round_packets}
 use Rattle.slot_plan.specs.declared.slot.Slot.{Slot}
@@ -16,11 +17,11 @@ use Rattle.slot_plan.specs.declared.slot.Item.{Item}
 use Rattle.slot_plan.specs.declared.slot.Slot.TheVariants.{Stream, Pcr, Table, Null}
 use Rattle.slot_plan.specs.declared.slot.Item.TheVariants.{Stream as StreamItem, Pcr as PcrItem, Table as TableItem, System}
 use Rattle.slot_plan.specs.declared.condition.Condition.{Condition}
-use Rattle.slot_plan.specs.declared.condition.Condition.TheVariants.{Shape, PcrGap, TableGap, Spread, StreamRate, TransportBuffer, StreamLead, MainBuffer, SystemBuffer}
+use Rattle.slot_plan.specs.declared.condition.Condition.TheVariants.{Shape, PcrGap, TableGap, Spread, StreamRate, TransportBuffer, StreamLead, MainBuffer, SystemBuffer, MultiplexingBuffer, ElementaryLead}
 use Rattle.slot_plan.specs.Numbered.{numbered}
 use Rattle.slot_plan.specs.Planned.{Planned}
 use Rattle.slot_plan.specs.Items.{marks}
-use Rattle.slot_plan.specs.Claims.{declaration, stream_claim, program_claim, stream_share}
+use Rattle.slot_plan.specs.Claims.{declaration, stream_claim, program_claim, stream_share, drained_declaration, multiplexing_claim, elementary_share}
 use Rattle.slot_plan.specs.Entries.{Entry, at_most, equal_counts, first_failing}
 
 -- the most slots of a period
@@ -104,17 +105,22 @@ transport_buffer_entries d p i = let claim = program_claim p i in
 abbrev pub group_part : DescribedStream → ℕ → ℕ
 group_part s m = if allowance_rows s.allowance == 1 then 0 else m
 
--- code 7: the last of m units in a row has left the transport buffer by its decoding time
+-- the last of m units in a row has left a buffer with that drain by its decoding time
+abbrev pub lead_entry : Condition → ℕ → ℕ → Share → ℕ → DescribedStream → ℕ → Entry
+lead_entry condition rate drain own i s m = let declared = drained_declaration s drain in
+    at_most condition (group_part s m) i (lead_needed declared own m) (time_given rate declared own.count m)
+
+-- code 7: it has left the transport buffer
 abbrev pub stream_lead_entry : Described → Planned → ℕ → DescribedStream → ℕ → Entry
-stream_lead_entry d p i s m = let own = stream_share p i in
-    at_most StreamLead (group_part s m) i (lead_needed (declaration s) own m) (time_given d.rate (declaration s) own.count m)
+stream_lead_entry d p i s = lead_entry StreamLead d.rate s.rx (stream_share p i) i s
 
 -- an entry for each of the n numbers from m on
 abbrev pub entries_from : (ℕ → Entry) → ℕ → ℕ → List Entry
 entries_from f m zero = []
 entries_from f m (suc n) = f m ∷ entries_from f (suc m) n
 
--- code 8: what waits for its decoding time finds room in the main buffer
+-- code 8: what waits for its decoding time finds room in the main buffer; with a multiplexing buffer before it that is the
+-- elementary stream buffer, which then has room for what waits in both
 abbrev pub main_buffer_entry : Described → Planned → ℕ → DescribedStream → Entry
 main_buffer_entry d p i s = at_most MainBuffer 0 i (bytes_waiting d.rate (declaration s) (stream_share p i)) s.main
 
@@ -122,6 +128,21 @@ main_buffer_entry d p i s = at_most MainBuffer 0 i (bytes_waiting d.rate (declar
 abbrev pub system_buffer_entries : Described → Planned → ℕ → List Entry
 system_buffer_entries d p i = let claim = program_claim p i in
     buffer_entries SystemBuffer i d.rate bsys_drain bsys_size claim.system_start claim.system_peak (marks (System i) p.slots)
+
+-- code 10: the multiplexing buffer of a stream of video, if it has one, with its leak (ISO/IEC 13818-1, 2.4.2.3)
+abbrev pub multiplexing_buffer_entries : Described → Planned → ℕ → Option LeakingBuffer → List Entry
+multiplexing_buffer_entries d p i None = []
+multiplexing_buffer_entries d p i (Some b) = let claim = multiplexing_claim p i in
+    buffer_entries MultiplexingBuffer i d.rate b.rbx b.size claim.start claim.peak (marks (StreamItem i) p.slots)
+
+-- code 11: the last of m units in a row has left the multiplexing buffer, and is in the elementary stream buffer, by its
+-- decoding time
+abbrev pub elementary_lead_entry : Described → Planned → ℕ → DescribedStream → LeakingBuffer → ℕ → Entry
+elementary_lead_entry d p i s b = lead_entry ElementaryLead d.rate b.rbx (elementary_share d.rate p i) i s
+
+abbrev pub elementary_lead_entries : Described → Planned → ℕ → DescribedStream → Option LeakingBuffer → List Entry
+elementary_lead_entries d p i s None = []
+elementary_lead_entries d p i s (Some b) = entries_from (elementary_lead_entry d p i s b) 1 (allowance_rows s.allowance)
 
 -- each code for all its items, in their order
 abbrev pub pcr_gaps : Described → Planned → List Entry
@@ -151,10 +172,16 @@ main_buffers d p = numbered (λ i s. main_buffer_entry d p i s ∷ []) 0 d.strea
 abbrev pub system_buffers : Described → Planned → List Entry
 system_buffers d p = numbered (λ i _. system_buffer_entries d p i) 0 d.programs
 
--- codes 2 to 9, by code, then item, then part
+abbrev pub multiplexing_buffers : Described → Planned → List Entry
+multiplexing_buffers d p = numbered (λ i s. multiplexing_buffer_entries d p i s.multiplexing) 0 d.streams
+
+abbrev pub elementary_leads : Described → Planned → List Entry
+elementary_leads d p = numbered (λ i s. elementary_lead_entries d p i s s.multiplexing) 0 d.streams
+
+-- codes 2 to 11, by code, then item, then part
 abbrev pub timing_entries : Described → Planned → List Entry
 timing_entries d p = pcr_gaps d p ++ (table_gaps d p ++ (spreads d p ++ (stream_rates d p ++ (stream_buffers d p ++ (transport_buffers d p
-    ++ (stream_leads d p ++ (main_buffers d p ++ system_buffers d p)))))))
+    ++ (stream_leads d p ++ (main_buffers d p ++ (system_buffers d p ++ (multiplexing_buffers d p ++ elementary_leads d p)))))))))
 
 -- the conditions of a plan for a description, in their order
 abbrev pub entries : Described → Planned → List Entry

@@ -1,7 +1,7 @@
 -- A list of conditions, each with the two numbers that it compares, and the first that fails.
 use Rattle.std.specs.Prelude.{ℕ, ◌==◌, Bool, List, [], ◌∷◌, Option, Some, None, nat_le, if◌then◌else◌}
 use Rattle.slot_plan.specs.declared.condition.Condition.{Condition}
-use Rattle.slot_plan.specs.declared.condition.Condition.TheVariants.{Shape, PcrGap, TableGap, Spread, StreamRate, TransportBuffer, StreamLead, MainBuffer, SystemBuffer, PcrSwitch, TableSwitch, WorkSwitch, LeadSwitch, MainSwitch}
+use Rattle.slot_plan.specs.declared.condition.Condition.TheVariants.{Shape, PcrGap, TableGap, Spread, StreamRate, TransportBuffer, StreamLead, MainBuffer, SystemBuffer, MultiplexingBuffer, ElementaryLead, PcrSwitch, TableSwitch, WorkSwitch, LeadSwitch, MainSwitch, ElementarySwitch}
 use Rattle.slot_plan.specs.declared.condition.Relation.{Relation}
 use Rattle.slot_plan.specs.declared.condition.Relation.TheVariants.{AtMost, Equal}
 
@@ -16,11 +16,14 @@ code_of TransportBuffer = 6
 code_of StreamLead = 7
 code_of MainBuffer = 8
 code_of SystemBuffer = 9
+code_of MultiplexingBuffer = 10
+code_of ElementaryLead = 11
 code_of PcrSwitch = 12
 code_of TableSwitch = 13
 code_of WorkSwitch = 14
 code_of LeadSwitch = 15
 code_of MainSwitch = 16
+code_of ElementarySwitch = 17
 
 -- one case of a condition: its part, the item that it is about, its two numbers and how they have to compare
 pub record Entry : Type 0 where

@@ -1,9 +1,10 @@
 -- A plan as contracts see it, and which slots and certificates make one.
-use Rattle.std.specs.Prelude.{ℕ, ◌&&◌, ◌||◌, Bool, List, length, nat_lt, if◌then◌else◌, Option, Some, None}
+use Rattle.std.specs.Prelude.{ℕ, ◌&&◌, ◌||◌, Bool, true, List, length, nat_lt, if◌then◌else◌, Option, Some, None}
 use Rattle.std.specs.List.{list_all}
 use Rattle.text_words.specs.Words.{number_limit}
 use Rattle.slot_plan.specs.declared.slot.Slot.{Slot}
 use Rattle.slot_plan.specs.declared.certificate.StreamEntry.{StreamEntry}
+use Rattle.slot_plan.specs.declared.certificate.MultiplexingEntry.{MultiplexingEntry}
 use Rattle.slot_plan.specs.declared.certificate.ProgramEntry.{ProgramEntry}
 use Rattle.slot_plan.specs.declared.plan.PlanError.{PlanError}
 use Rattle.slot_plan.specs.declared.plan.PlanError.TheVariants.{Slots, Entries, Number}
@@ -25,9 +26,15 @@ max_slots = 99999
 abbrev pub max_entries : ℕ
 max_entries = 256
 
+-- whether the numbers of what is claimed of a multiplexing buffer, if anything is, are in range
+abbrev pub is_small_multiplexing : Option MultiplexingEntry → Bool
+is_small_multiplexing None = true
+is_small_multiplexing (Some m) = nat_lt m.start number_limit && nat_lt m.peak number_limit
+
 -- whether the numbers of a stream's entry are in range
 abbrev pub is_small_stream : StreamEntry → Bool
-is_small_stream e = nat_lt e.spread number_limit && nat_lt e.start number_limit && nat_lt e.peak number_limit
+is_small_stream e =
+    nat_lt e.spread number_limit && nat_lt e.start number_limit && nat_lt e.peak number_limit && is_small_multiplexing e.multiplexing
 
 -- whether the numbers of a program's entry are in range
 abbrev pub is_small_program : ProgramEntry → Bool

@@ -4,6 +4,7 @@ use Rattle.text_words.specs.Words.{◌>>=◌, after_word, number_before, field_a
 use Rattle.slot_plan.specs.declared.slot.Slot.{Slot}
 use Rattle.slot_plan.specs.declared.slot.Slot.TheVariants.{Stream, Pcr, Table, Null}
 use Rattle.slot_plan.specs.declared.certificate.StreamEntry.{StreamEntry}
+use Rattle.slot_plan.specs.declared.certificate.MultiplexingEntry.{MultiplexingEntry}
 use Rattle.slot_plan.specs.declared.certificate.ProgramEntry.{ProgramEntry}
 use Rattle.slot_plan.specs.Planned.{Planned, Certified, max_slots, max_entries}
 use Rattle.slot_plan.specs.Text.{slot_ending}
@@ -19,13 +20,31 @@ slot_at ending (b ∷ bs) =
     if b == 45 then after_word (ending ∷ []) bs >>= (λ rest. Some (Null, rest))
     else number_before ending 256 bs >>= (λ n. slot_of_letter b n.0 >>= (λ slot. Some (slot, n.1)))
 
+-- the claim on a multiplexing buffer that ends a line
+abbrev pub multiplexing_at : List ℕ → Option (MultiplexingEntry × List ℕ)
+multiplexing_at xs =
+    field_at (codes "mstart ") 32 xs >>= (λ start.
+    field_at (codes "mpeak ") 10 start.1 >>= (λ peak.
+    Some (record { start = start.0; peak = peak.0 }, peak.1)))
+
+-- the last words of the line of a stream entry: a peak that ends it, or one with a claim on a multiplexing buffer after it
+abbrev pub peaks_beside : Option (ℕ × List ℕ) → List ℕ → Option ((ℕ × Option MultiplexingEntry) × List ℕ)
+peaks_beside (Some peak) xs = Some ((peak.0, None), peak.1)
+peaks_beside None xs =
+    field_at (codes "peak ") 32 xs >>= (λ peak.
+    multiplexing_at peak.1 >>= (λ claim.
+    Some ((peak.0, Some claim.0), claim.1)))
+
+abbrev pub peaks_at : List ℕ → Option ((ℕ × Option MultiplexingEntry) × List ℕ)
+peaks_at xs = peaks_beside (field_at (codes "peak ") 10 xs) xs
+
 -- the rest of the line of a stream entry, and of a program entry
 abbrev pub stream_claims : List ℕ → Option (StreamEntry × List ℕ)
 stream_claims xs =
     field_at (codes "spread ") 32 xs >>= (λ spread.
     field_at (codes "start ") 32 spread.1 >>= (λ start.
-    field_at (codes "peak ") 10 start.1 >>= (λ peak.
-    Some (record { spread = spread.0; start = start.0; peak = peak.0 }, peak.1))))
+    peaks_at start.1 >>= (λ peaks.
+    Some (record { spread = spread.0; start = start.0; peak = peaks.0.0; multiplexing = peaks.0.1 }, peaks.1))))
 
 abbrev pub program_claims : List ℕ → Option (ProgramEntry × List ℕ)
 program_claims xs =

@@ -1,23 +1,25 @@
 -- The conditions under which a plan may be followed, at the end of one of its periods, by a second plan of the same
 -- description.
-use Rattle.std.specs.Prelude.{◌≡◌, ℕ, suc, ◌+◌, ◌-◌, ◌*◌, Bool, List, [], ◌∷◌, ◌++◌, length, is_none, None, if◌then◌else◌}
+use Rattle.std.specs.Prelude.{◌≡◌, ℕ, suc, ◌+◌, ◌-◌, ◌*◌, Bool, List, [], ◌∷◌, ◌++◌, length, is_none, Option, Some, None, if◌then◌else◌}
 use Rattle.clock27.specs.Units.{slot_ms_at_1bps}
 use Rattle.own_slots.specs.Period.{position, back}
 use Rattle.own_slots.specs.Extremes.{greatest}
 use Rattle.own_slots.specs.Work.{work_left}
 use Rattle.own_slots.specs.Switch.{shift}
 use Rattle.unit_timing.specs.Buffers.{system_tb_drain, bsys_drain}
+use Rattle.unit_timing.specs.declared.multiplexing_buffer.MultiplexingBuffer.{MultiplexingBuffer as LeakingBuffer}
 use Rattle.unit_timing.specs.Allowances.{allowance_rows}
-use Rattle.unit_timing.specs.Conditions.{lead_across, time_given, bytes_across}
+use Rattle.unit_timing.specs.Conditions.{Share, lead_across, time_given, bytes_across}
 use Rattle.description.specs.Described.{Described, DescribedProgram, DescribedStream}
 use Rattle.description.specs.Tables.{table_kinds, table_limit, round_packets}
 use Rattle.slot_plan.specs.declared.slot.Item.TheVariants.{Stream as StreamItem, Pcr as PcrItem, Table as TableItem, System}
-use Rattle.slot_plan.specs.declared.condition.Condition.TheVariants.{PcrSwitch, TableSwitch, WorkSwitch, LeadSwitch, MainSwitch}
+use Rattle.slot_plan.specs.declared.condition.Condition.{Condition}
+use Rattle.slot_plan.specs.declared.condition.Condition.TheVariants.{PcrSwitch, TableSwitch, WorkSwitch, LeadSwitch, MainSwitch, ElementarySwitch}
 use Rattle.slot_plan.specs.Numbered.{numbered}
 use Rattle.slot_plan.specs.Planned.{Planned}
 use Rattle.slot_plan.specs.Items.{marks}
 use Rattle.slot_plan.specs.Entries.{Entry, at_most, first_failing}
-use Rattle.slot_plan.specs.Claims.{declaration, stream_claim, program_claim, stream_share}
+use Rattle.slot_plan.specs.Claims.{declaration, stream_claim, program_claim, stream_share, drained_declaration, multiplexing_claim, elementary_share}
 use Rattle.slot_plan.specs.Conditions.{group_part, entries_from, entries}
 
 -- the greatest gap across the switch between k own slots in a row: from own slot -x of the first plan to own slot k - x
@@ -51,17 +53,39 @@ abbrev pub system_work_entry : Described → Planned → Planned → ℕ → Ent
 system_work_entry d first second i = work_switch_entry (length d.streams + length d.programs + i) d.rate bsys_drain
     (program_claim first i).system_start (marks (System i) first.slots) (program_claim second i).system_start
 
--- code 15: the last of m units in a row, sent across the switch, has left the transport buffer by its decoding time
+abbrev pub multiplexing_work_entries : Described → Planned → Planned → ℕ → Option LeakingBuffer → List Entry
+multiplexing_work_entries d first second i None = []
+multiplexing_work_entries d first second i (Some b) =
+    work_switch_entry (length d.streams + 2 * length d.programs + i) d.rate b.rbx (multiplexing_claim first i).start (marks (StreamItem i) first.slots)
+    (multiplexing_claim second i).start ∷ []
+
+-- the last of m units in a row, sent across the switch, has left a buffer with that drain by its decoding time; late is by
+-- how many slots the own slots of the second plan come later
+abbrev pub across_entry : Condition → ℕ → ℕ → Share → Share → ℕ → ℕ → DescribedStream → ℕ → Entry
+across_entry condition rate drain own next late i s m = let declared = drained_declaration s drain in
+    at_most condition (group_part s m) i (lead_across declared own next late m) (time_given rate declared (own.count * next.count) m)
+
+abbrev pub stream_shift : Planned → Planned → ℕ → ℕ
+stream_shift first second i = shift (marks (StreamItem i) first.slots) (marks (StreamItem i) second.slots)
+
+-- code 15: it has left the transport buffer
 abbrev pub lead_switch_entry : Described → Planned → Planned → ℕ → DescribedStream → ℕ → Entry
-lead_switch_entry d first second i s m = let own = stream_share first i in let next = stream_share second i in
-    at_most LeadSwitch (group_part s m) i
-    (lead_across (declaration s) own next (shift (marks (StreamItem i) first.slots) (marks (StreamItem i) second.slots)) m)
-    (time_given d.rate (declaration s) (own.count * next.count) m)
+lead_switch_entry d first second i s =
+    across_entry LeadSwitch d.rate s.rx (stream_share first i) (stream_share second i) (stream_shift first second i) i s
 
 -- code 16: what waits for its decoding time across the switch finds room in the main buffer
 abbrev pub main_switch_entry : Described → Planned → Planned → ℕ → DescribedStream → Entry
 main_switch_entry d first second i s =
     at_most MainSwitch 0 i (bytes_across d.rate (declaration s) (stream_share first i) (stream_share second i)) s.main
+
+-- code 17: the last of m units in a row, sent across the switch, has left the multiplexing buffer by its decoding time
+abbrev pub elementary_switch_entry : Described → Planned → Planned → ℕ → DescribedStream → LeakingBuffer → ℕ → Entry
+elementary_switch_entry d first second i s b =
+    across_entry ElementarySwitch d.rate b.rbx (elementary_share d.rate first i) (elementary_share d.rate second i) (stream_shift first second i) i s
+
+abbrev pub elementary_switch_entries : Described → Planned → Planned → ℕ → DescribedStream → Option LeakingBuffer → List Entry
+elementary_switch_entries d first second i s None = []
+elementary_switch_entries d first second i s (Some b) = entries_from (elementary_switch_entry d first second i s b) 1 (allowance_rows s.allowance)
 
 -- each code for all its items, in their order
 abbrev pub pcr_switches : Described → Planned → Planned → List Entry
@@ -79,16 +103,23 @@ transport_works d first second = numbered (λ i _. transport_work_entry d first 
 abbrev pub system_works : Described → Planned → Planned → List Entry
 system_works d first second = numbered (λ i _. system_work_entry d first second i ∷ []) 0 d.programs
 
+abbrev pub multiplexing_works : Described → Planned → Planned → List Entry
+multiplexing_works d first second = numbered (λ i s. multiplexing_work_entries d first second i s.multiplexing) 0 d.streams
+
 abbrev pub lead_switches : Described → Planned → Planned → List Entry
 lead_switches d first second = numbered (λ i s. entries_from (lead_switch_entry d first second i s) 1 (allowance_rows s.allowance)) 0 d.streams
 
 abbrev pub main_switches : Described → Planned → Planned → List Entry
 main_switches d first second = numbered (λ i s. main_switch_entry d first second i s ∷ []) 0 d.streams
 
--- codes 12 to 16, by code, then item, then part
+abbrev pub elementary_switches : Described → Planned → Planned → List Entry
+elementary_switches d first second = numbered (λ i s. elementary_switch_entries d first second i s s.multiplexing) 0 d.streams
+
+-- codes 12 to 17, by code, then item, then part
 abbrev pub joint_entries : Described → Planned → Planned → List Entry
 joint_entries d first second = pcr_switches d first second ++ (table_switches d first second ++ (stream_works d first second ++ (transport_works d first second
-    ++ (system_works d first second ++ (lead_switches d first second ++ main_switches d first second)))))
+    ++ (system_works d first second ++ (multiplexing_works d first second ++ (lead_switches d first second ++ (main_switches d first second
+    ++ elementary_switches d first second)))))))
 
 -- the conditions of a second plan after a first one: its own, and, where these hold, those of the two together
 abbrev pub switch_entries : Described → Planned → Planned → List Entry

@@ -1,10 +1,11 @@
 -- The text of a plan: each line ends with LF, one space is between words, numbers are decimal without leading zeros. A
 -- plan has one text.
-use Rattle.std.specs.Prelude.{ℕ, suc, ◌%◌, ◌==◌, ◌||◌, List, [], ◌∷◌, ◌++◌, length, codes, decimal, if◌then◌else◌}
+use Rattle.std.specs.Prelude.{ℕ, suc, ◌%◌, ◌==◌, ◌||◌, List, [], ◌∷◌, ◌++◌, length, codes, decimal, Option, Some, None, if◌then◌else◌}
 use Rattle.text_words.specs.Words.{field}
 use Rattle.slot_plan.specs.declared.slot.Slot.{Slot}
 use Rattle.slot_plan.specs.declared.slot.Slot.TheVariants.{Stream, Pcr, Table, Null}
 use Rattle.slot_plan.specs.declared.certificate.StreamEntry.{StreamEntry}
+use Rattle.slot_plan.specs.declared.certificate.MultiplexingEntry.{MultiplexingEntry}
 use Rattle.slot_plan.specs.declared.certificate.ProgramEntry.{ProgramEntry}
 use Rattle.slot_plan.specs.Planned.{Planned}
 use Rattle.slot_plan.specs.Numbered.{numbered}
@@ -23,9 +24,14 @@ slot_ending n i = if ((suc i) % 24 == 0) || (suc i == n) then 10 else 32
 abbrev pub slot_word : ℕ → ℕ → Slot → List ℕ
 slot_word n i slot = slot_text slot ++ slot_ending n i ∷ []
 
--- `stream k spread A start V peak X`
+-- `peak X`, and ` mstart V mpeak Y` where something is claimed of a multiplexing buffer
+abbrev pub peak_words : ℕ → Option MultiplexingEntry → List ℕ
+peak_words peak None = field (codes "peak ") peak 10
+peak_words peak (Some m) = field (codes "peak ") peak 32 ++ (field (codes "mstart ") m.start 32 ++ field (codes "mpeak ") m.peak 10)
+
+-- `stream k spread A start V peak X`, and what is claimed of a multiplexing buffer
 abbrev pub stream_line : ℕ → StreamEntry → List ℕ
-stream_line k e = field (codes "stream ") k 32 ++ (field (codes "spread ") e.spread 32 ++ (field (codes "start ") e.start 32 ++ field (codes "peak ") e.peak 10))
+stream_line k e = field (codes "stream ") k 32 ++ (field (codes "spread ") e.spread 32 ++ (field (codes "start ") e.start 32 ++ peak_words e.peak e.multiplexing))
 
 -- `program k tstart V tpeak X bstart V bpeak X`
 abbrev pub program_line : ℕ → ProgramEntry → List ℕ

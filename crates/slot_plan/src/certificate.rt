@@ -6,6 +6,16 @@ use std::marker::Model;
 /// The most entries of a kind.
 pub const MAX_ENTRIES: u32 = 256;
 
+/// What a plan claims of the multiplexing buffer of one stream (ISO/IEC 13818-1, 2.4.2.3), in work as for a transport
+/// buffer: in units of 8 / (rate * rate of the leak) seconds.
+#[derive(Clone, Copy, PartialEq, Eq)]
+pub struct MultiplexingEntry {
+    /// The most work with which a period begins.
+    pub start: u64,
+    /// The most work right after an own slot.
+    pub peak: u64,
+}
+
 /// What a plan claims of one stream. `spread` is in slots times own slots a period; `start` and `peak`
 /// are work of its transport buffer, counted in units of 8 / (rate * leak rate) seconds.
 #[derive(Clone, Copy, PartialEq, Eq)]
@@ -16,6 +26,8 @@ pub struct StreamEntry {
     pub start: u64,
     /// The most work right after an own slot.
     pub peak: u64,
+    /// What is claimed of its multiplexing buffer, if anything is; no claim counts as one of no work.
+    pub multiplexing: Option<MultiplexingEntry>,
 }
 
 /// What a plan claims of the transport and the system buffer of one program (ISO/IEC 13818-1, 2.4.2),

@@ -3,7 +3,7 @@
 ghost use Rattle.std.specs.Prelude.{◌≡◌};
 ghost use Rattle.slot_plan.specs.Entries.{code_of};
 
-/// What a plan has to keep. The last five are those of a second plan after a first one.
+/// What a plan has to keep. The last six are those of a second plan after a first one.
 #[derive(Clone, Copy, Debug, PartialEq, Eq)]
 pub enum Condition {
     /// The period's length, the items that its slots name, the items that have slots, the entries of the certificate.
@@ -24,6 +24,10 @@ pub enum Condition {
     MainBuffer,
     /// A program's system buffer of 1,536 bytes never overflows.
     SystemBuffer,
+    /// The multiplexing buffer of a stream of video never overflows (ISO/IEC 13818-1, 2.4.2.3).
+    MultiplexingBuffer,
+    /// A unit has left the multiplexing buffer, and is in the elementary stream buffer, by its decoding time.
+    ElementaryLead,
     /// PCRs recur across the switch.
     PcrSwitch,
     /// Sections recur across the switch.
@@ -34,10 +38,12 @@ pub enum Condition {
     LeadSwitch,
     /// What waits across the switch finds room in the main buffer.
     MainSwitch,
+    /// A unit sent across the switch has left the multiplexing buffer by its decoding time.
+    ElementarySwitch,
 }
 
 impl Condition {
-    /// The number of the condition, 1 to 9 and 12 to 16.
+    /// The number of the condition, 1 to 17.
     pub fn code(self) -> u8
         ensures { result ≡ code_of self }
     {
@@ -51,11 +57,14 @@ impl Condition {
             Condition::StreamLead => 7,
             Condition::MainBuffer => 8,
             Condition::SystemBuffer => 9,
+            Condition::MultiplexingBuffer => 10,
+            Condition::ElementaryLead => 11,
             Condition::PcrSwitch => 12,
             Condition::TableSwitch => 13,
             Condition::WorkSwitch => 14,
             Condition::LeadSwitch => 15,
             Condition::MainSwitch => 16,
+            Condition::ElementarySwitch => 17,
         }
     }
 }

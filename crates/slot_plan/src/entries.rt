@@ -2,8 +2,9 @@
 
 ghost use Rattle.std.specs.Prelude.{◌≡◌, ◌<◌, option_map};
 ghost use Rattle.slot_plan.specs.Readers.{slot_at, stream_at, program_at, slot_of_letter};
+ghost use Rattle.slot_plan.specs.Readers.{multiplexing_at, peaks_at};
 
-use crate::certificate::{ProgramEntry, StreamEntry};
+use crate::certificate::{MultiplexingEntry, ProgramEntry, StreamEntry};
 use crate::slot::Slot;
 use text_words::{after_number, after_word, field_at, number_before};
 
@@ -33,6 +34,28 @@ fn slot_of_letter(letter: u8, number: u8) -> Option<Slot>
     }
 }
 
+/// The claim on a multiplexing buffer that ends a line, and the text after it.
+fn multiplexing_at(text: &[u8]) -> Option<(MultiplexingEntry, &[u8])>
+    ensures { option_map (λ read. (read.0, read.1.now)) result ≡ multiplexing_at text.now }
+{
+    let (start, rest) = field_at(b"mstart ", b' ', text)?;
+    let (peak, rest) = field_at(b"mpeak ", b'\n', rest)?;
+    Some((MultiplexingEntry { start, peak }, rest))
+}
+
+/// The peak of a transport buffer and the claim on a multiplexing buffer, if there is one, that end a line, and the text
+/// after it.
+fn peaks_at(text: &[u8]) -> Option<((u64, Option<MultiplexingEntry>), &[u8])>
+    ensures { option_map (λ read. (read.0, read.1.now)) result ≡ peaks_at text.now }
+{
+    if let Some((peak, rest)) = field_at(b"peak ", b'\n', text) {
+        return Some(((peak, None), rest));
+    }
+    let (peak, rest) = field_at(b"peak ", b' ', text)?;
+    let (multiplexing, rest) = multiplexing_at(rest)?;
+    Some(((peak, Some(multiplexing)), rest))
+}
+
 /// The line of a stream's entry, and the text after it.
 pub fn stream_at(number: u64, text: &[u8]) -> Option<(StreamEntry, &[u8])>
     ensures { option_map (λ read. (read.0, read.1.now)) result ≡ stream_at number text.now }
@@ -40,12 +63,13 @@ pub fn stream_at(number: u64, text: &[u8]) -> Option<(StreamEntry, &[u8])>
     let rest = after_number(b"stream ", number, text)?;
     let (spread, rest) = field_at(b"spread ", b' ', rest)?;
     let (start, rest) = field_at(b"start ", b' ', rest)?;
-    let (peak, rest) = field_at(b"peak ", b'\n', rest)?;
+    let ((peak, multiplexing), rest) = peaks_at(rest)?;
     Some((
         StreamEntry {
             spread,
             start,
             peak,
+            multiplexing,
         },
         rest,
     ))

@@ -19,7 +19,7 @@ pub mod serving_plans;
 mod slot;
 mod text;
 
-pub use certificate::{Certificate, ProgramEntry, StreamEntry};
+pub use certificate::{Certificate, MultiplexingEntry, ProgramEntry, StreamEntry};
 pub use condition::{Condition, Relation};
 pub use description::{
     Description, Network, PrivateTable, ProgramDescription, StreamDescription, TableKind,

@@ -6,8 +6,9 @@ ghost use Rattle.slot_plan.specs.Text.{plan_text};
 ghost use Rattle.slot_plan.specs.PlanTexts.{BeginsWithPlan, Refuses};
 ghost use Rattle.slot_plan.specs.Refusals.{plan_refusal};
 ghost use Rattle.slot_plan.specs.Planned.{plan_error, has_small_numbers, is_small_stream, is_small_program};
+ghost use Rattle.slot_plan.specs.Planned.{is_small_multiplexing};
 
-use crate::certificate::{Certificate, MAX_ENTRIES, ProgramEntry, StreamEntry};
+use crate::certificate::{Certificate, MAX_ENTRIES, MultiplexingEntry, ProgramEntry, StreamEntry};
 use crate::reader::{PlanTextError, plan_at};
 use crate::slot::{MAX_SLOTS, Slot};
 use crate::text::{write_head, write_programs, write_slots, write_streams};
@@ -144,7 +145,19 @@ fn has_small_programs(entries: &[ProgramEntry]) -> bool
 fn is_small_stream(entry: StreamEntry) -> bool
     ensures { result ≡ is_small_stream entry }
 {
-    entry.spread < NUMBER_LIMIT && entry.start < NUMBER_LIMIT && entry.peak < NUMBER_LIMIT
+    entry.spread < NUMBER_LIMIT
+        && entry.start < NUMBER_LIMIT
+        && entry.peak < NUMBER_LIMIT
+        && is_small_multiplexing(entry.multiplexing)
+}
+
+fn is_small_multiplexing(claim: Option<MultiplexingEntry>) -> bool
+    ensures { result ≡ is_small_multiplexing claim }
+{
+    match claim {
+        None => true,
+        Some(claim) => claim.start < NUMBER_LIMIT && claim.peak < NUMBER_LIMIT,
+    }
 }
 
 fn is_small_program(entry: ProgramEntry) -> bool

@@ -1,11 +1,11 @@
 //! The text of a plan, written.
 
 ghost use Rattle.std.specs.Prelude.{◌≡◌, ◌+◌, ◌<◌, ◌++◌, OnOk, string_bytes, length, codes};
-ghost use Rattle.slot_plan.specs.Text.{slot_word, stream_line, program_line};
+ghost use Rattle.slot_plan.specs.Text.{slot_word, stream_line, peak_words, program_line};
 ghost use Rattle.text_words.specs.Words.{field};
 ghost use Rattle.slot_plan.specs.Numbered.{numbered};
 
-use crate::certificate::{ProgramEntry, StreamEntry};
+use crate::certificate::{MultiplexingEntry, ProgramEntry, StreamEntry};
 use crate::slot::Slot;
 use std::alloc::{AllocError, Allocator};
 use std::fmt::Write;
@@ -81,6 +81,23 @@ fn write_slot<A: Allocator>(
     }
 }
 
+/// Appends the peak of a stream's transport buffer and what is claimed of its multiplexing buffer, if anything is, to the
+/// end of the line.
+fn write_peaks<A: Allocator>(
+    text: &mut String<A>,
+    peak: u64,
+    multiplexing: Option<MultiplexingEntry>,
+) -> Result<(), AllocError>
+    ensures { OnOk result (string_bytes text.new ≡ string_bytes text.old ++ peak_words peak multiplexing) }
+{
+    match multiplexing {
+        None => write!(text, "peak {peak}\n"),
+        Some(MultiplexingEntry { start, peak: after }) => {
+            write!(text, "peak {peak} mstart {start} mpeak {after}\n")
+        }
+    }
+}
+
 /// Appends the line of a stream's entry.
 fn write_stream<A: Allocator>(
     text: &mut String<A>,
@@ -93,11 +110,10 @@ fn write_stream<A: Allocator>(
         spread,
         start,
         peak,
+        multiplexing,
     } = entry;
-    write!(
-        text,
-        "stream {number} spread {spread} start {start} peak {peak}\n"
-    )
+    write!(text, "stream {number} spread {spread} start {start} ")?;
+    write_peaks(text, peak, multiplexing)
 }
 
 /// Appends the line of a program's entry.

@@ -119,6 +119,7 @@ fn certificate(alloc: Global, streams: usize, programs: usize, number: u64) -> O
         spread: 0,
         start: 0,
         peak: number,
+        multiplexing: None,
     };
     let program = ProgramEntry {
         transport_start: 0,

@@ -2,7 +2,7 @@
 
 ghost use Rattle.std.specs.Prelude.{◌≡◌, ◌+◌, ◌*◌, ◌^◌, ◌<◌, ◌≤◌, max};
 ghost use Rattle.unit_timing.specs.Conditions.{slots_across};
-ghost use Rattle.plan_checker.specs.SwitchShares.{timed, AreSharesInRange};
+ghost use Rattle.plan_checker.specs.SwitchShares.{timed, peaked, AreSharesInRange};
 
 /// A stream's own slots in one plan: their number in a period, the period's slots, how far they stray and the most work
 /// after one.
@@ -12,6 +12,20 @@ pub struct PlanShare {
     pub period: u64,
     pub spread: u64,
     pub peak: u64,
+}
+
+impl PlanShare {
+    /// The same own slots, with that work after one.
+    pub fn peaked(self, peak: u64) -> PlanShare
+        ensures { result ≡ peaked self peak }
+    {
+        PlanShare {
+            count: self.count,
+            period: self.period,
+            spread: self.spread,
+            peak,
+        }
+    }
 }
 
 /// A stream's own slots in each of two plans, and by how many slots those of the second come later.

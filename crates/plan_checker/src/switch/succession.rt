@@ -14,14 +14,14 @@ use crate::conditions::check_each;
 use crate::failure_search::FailureSearch;
 use crate::plans::PlanPair;
 use crate::refusal::Refusal;
-use crate::switch::leads::LeadSwitches;
+use crate::switch::leads::{ElementarySwitches, LeadSwitches};
 use crate::switch::main_buffers::MainSwitches;
 use crate::switch::recurrence::{PcrSwitches, TableSwitches};
-use crate::switch::work::{StreamWorks, SystemWorks, TransportWorks};
+use crate::switch::work::{MultiplexingWorks, StreamWorks, SystemWorks, TransportWorks};
 use slot_plan::{Description, Plan};
 use std::alloc::Allocator;
 
-/// The first of the conditions of two plans together, codes 12 to 16, that they do not keep.
+/// The first of the conditions of two plans together, codes 12 to 17, that they do not keep.
 fn joint<A: Allocator>(
     description: &Description,
     first: &Plan<A>,
@@ -44,8 +44,10 @@ fn joint<A: Allocator>(
     check_each::<StreamWorks, _>(plans, &mut search);
     check_each::<TransportWorks, _>(plans, &mut search);
     check_each::<SystemWorks, _>(plans, &mut search);
+    check_each::<MultiplexingWorks, _>(plans, &mut search);
     check_each::<LeadSwitches, _>(plans, &mut search);
     check_each::<MainSwitches, _>(plans, &mut search);
+    check_each::<ElementarySwitches, _>(plans, &mut search);
     search.found
 }
 

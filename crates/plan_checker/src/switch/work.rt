@@ -4,9 +4,11 @@ ghost use Rattle.std.specs.Prelude.{◌≡◌, ◌^◌, ◌<◌, ◌≤◌, ◌�
 ghost use Rattle.slot_plan.specs.Items.{marks};
 ghost use Rattle.slot_plan.specs.SwitchConditions.{work_switch_entry, stream_work_entry};
 ghost use Rattle.slot_plan.specs.SwitchConditions.{transport_work_entry, system_work_entry};
+ghost use Rattle.slot_plan.specs.SwitchConditions.{multiplexing_work_entries};
+ghost use Rattle.description.specs.Ranges.{IsStream};
 ghost use Rattle.plan_checker.specs.Failing.{after, search_of};
 
-use crate::claims::{claim_of_program, claim_of_stream};
+use crate::claims::{claim_of_multiplexing, claim_of_program, claim_of_stream};
 use crate::comparison::at_most;
 use crate::conditions::ItemCondition;
 use crate::failure_search::FailureSearch;
@@ -130,4 +132,55 @@ impl<A: Allocator> ItemCondition<PlanPair<'_, A>> for SystemWorks {
             search,
         );
     }
+}
+
+/// The multiplexing buffers of the streams that have one; their numbers follow those of the system buffers.
+pub struct MultiplexingWorks;
+
+impl<A: Allocator> ItemCondition<PlanPair<'_, A>> for MultiplexingWorks {
+    type Item = StreamDescription;
+
+    ghost items = { λ s. s.description.now.streams };
+
+    ghost entries = { λ s i stream.
+        multiplexing_work_entries s.description.now s.first.now s.second.now i stream.multiplexing };
+
+    fn count(plans: &PlanPair<'_, A>) -> usize {
+        plans.description.streams().len()
+    }
+
+    fn check_item(plans: &PlanPair<'_, A>, i: usize, search: &mut FailureSearch) {
+        multiplexing_work(plans, i, &plans.description.streams()[i], search);
+    }
+}
+
+/// The multiplexing buffer of one stream, where it has one.
+#[tactic(auto, using(crate::proofs::Leaks::leak_most))]
+fn multiplexing_work<A: Allocator>(
+    plans: &PlanPair<'_, A>,
+    i: usize,
+    stream: &StreamDescription,
+    search: &mut FailureSearch,
+)
+    requires stream { i < length plans.now.description.now.streams }
+    requires index { i < 32 }
+    requires ranges { IsStream stream.now }
+    ensures { search_of search.new ≡ after (search_of search.old) (multiplexing_work_entries
+        plans.now.description.now plans.now.first.now plans.now.second.now i stream.now.multiplexing) }
+{
+    let Some(buffer) = stream.multiplexing else {
+        return;
+    };
+    let streams = plans.description.streams().len();
+    let programs = plans.description.programs().len();
+    work_switch(
+        plans.first.slots(),
+        Item::Stream(i as u8),
+        streams + 2 * programs + i,
+        plans.description.rate().bits_per_second(),
+        buffer.rbx as u64,
+        claim_of_multiplexing(plans.first, i).start,
+        claim_of_multiplexing(plans.second, i).start,
+        search,
+    );
 }

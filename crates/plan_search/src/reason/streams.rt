@@ -1,11 +1,12 @@
-//! Streams whose units can't leave the transport buffer in time, or find no room in the main buffer.
+//! Streams whose units can't leave the transport buffer or the multiplexing buffer in time, or find no room in the main
+//! buffer.
 
 ghost use Rattle.std.specs.Prelude.{◌≡◌, ◌+◌, ◌<◌, ◌≤◌};
 ghost use Rattle.std.specs.Option.{option_to_list};
 ghost use Rattle.unit_timing.specs.Allowances.{allowance_rows};
 ghost use Rattle.description.specs.Ranges.{IsStream};
 ghost use Rattle.plan_search.specs.Reasons.{least_drain, units_lead, least_lead, least_main};
-ghost use Rattle.plan_search.specs.Reasons.{drain_reason, lead_reason, main_reason};
+ghost use Rattle.plan_search.specs.Reasons.{drain_reason, leak_reason, lead_reason, main_reason};
 
 use crate::reason::Reason;
 use clock27::SLOT_UNITS_AT_1BPS;
@@ -28,6 +29,21 @@ pub fn drain_reason(i: usize, stream: &StreamDescription) -> Option<Reason>
 {
     if steady_time(stream) * (stream.rx as u64) < steady_packets(stream) {
         Some(Reason::SlowDrain(i as u8, least_drain(stream)))
+    } else {
+        None
+    }
+}
+
+/// Of stream number `i`: whether its multiplexing buffer, if it has one, leaks slower than its units come.
+#[tactic(auto, using(plan_checker::proofs::Leaks::leak_most))]
+pub fn leak_reason(i: usize, stream: &StreamDescription) -> Option<Reason>
+    requires small { i < 256 }
+    requires ranges { IsStream stream.now }
+    ensures { option_to_list result ≡ leak_reason i stream.now stream.now.multiplexing }
+{
+    let buffer = stream.multiplexing?;
+    if steady_time(stream) * (buffer.rbx as u64) < steady_packets(stream) {
+        Some(Reason::SlowLeak(i as u8, least_drain(stream)))
     } else {
         None
     }

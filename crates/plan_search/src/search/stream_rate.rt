@@ -14,6 +14,10 @@ const JITTER: u128 = 3;
 /// The data bytes of a packet.
 const PACKET_BYTES: u64 = 184;
 
+/// The most bytes of a multiplexing buffer that the search reckons with after a packet: own slots that stray from even
+/// spacing by two of their distances at most bring no more at once.
+const STRAYED_BYTES: u64 = 4 * 188;
+
 /// A stream, the bytes of its units that can wait for their decoding at once, and the rate of its output in bits/s.
 #[derive(Clone, Copy)]
 pub struct StreamRate<'a> {
@@ -36,14 +40,32 @@ impl<'a> StreamRate<'a> {
 }
 
 impl StreamRate<'_> {
+    /// The drain in bits/s of the last buffer before that in which units wait for their decoding: the transport buffer,
+    /// or the multiplexing buffer with its slower leak.
+    fn drain(self) -> u64 {
+        match self.stream.multiplexing {
+            None => self.stream.rx as u64,
+            Some(buffer) => buffer.rbx as u64,
+        }
+    }
+
+    /// The most bytes before the buffer in which units wait, after a packet.
+    fn held(self) -> u64 {
+        match self.stream.multiplexing {
+            None => TB_SIZE,
+            Some(buffer) => (buffer.size as u64).min(STRAYED_BYTES).max(TB_SIZE) + 1,
+        }
+    }
+
     /// The time from the first of `units` units in a row to the last one's decoding, less the longest time that the
-    /// last packet is in the transport buffer, on the scale of rate times drain.
+    /// last packet is in buffers before, on the scale of rate times drain.
     fn time(self, units: u8) -> u128 {
         let interval = self.stream.interval as u128;
         let before = product(&[(units as u128).saturating_sub(1), interval]);
         let lead = before.saturating_add(self.stream.lead as u128);
-        let all = product(&[lead, self.rate as u128, self.stream.rx as u128]);
-        all.saturating_sub(product(&[TB_SIZE as u128, self.rate as u128, BYTE_UNITS_AT_1BPS]))
+        let all = product(&[lead, self.rate as u128, self.drain() as u128]);
+        let held = self.held() as u128;
+        all.saturating_sub(product(&[held, self.rate as u128, BYTE_UNITS_AT_1BPS]))
     }
 
     /// The least own slots of a period; None where none are enough.
@@ -56,7 +78,7 @@ impl StreamRate<'_> {
             count = count.max(self.units_count(period, before.saturating_add(1))?);
         }
         let pace = product(&[count, self.rate as u128]);
-        if pace > product(&[period as u128, stream.rx as u128]) {
+        if pace > product(&[period as u128, self.drain() as u128]) {
             return None;
         }
         Some(narrowed(count))
@@ -64,7 +86,7 @@ impl StreamRate<'_> {
 
     /// The least own slots with which the last of `units` units in a row is in time; None where none are enough.
     fn units_count(self, period: u64, units: u8) -> Option<u128> {
-        let slot = product(&[SLOT_UNITS_AT_1BPS, self.stream.rx as u128]);
+        let slot = product(&[SLOT_UNITS_AT_1BPS, self.drain() as u128]);
         let time = self.time(units).checked_sub(product(&[JITTER, slot]))?;
         let packets = packets_in_row(self.stream, units) as u128;
         rounded_up(product(&[packets, period as u128, slot]), time)
@@ -81,7 +103,7 @@ impl StreamRate<'_> {
 
     /// The same for the deadline of the last of `units` units in a row alone.
     fn units_width(self, period: u64, count: u64, units: u8) -> Option<u128> {
-        let slot = product(&[SLOT_UNITS_AT_1BPS, self.stream.rx as u128]);
+        let slot = product(&[SLOT_UNITS_AT_1BPS, self.drain() as u128]);
         let have = product(&[count as u128, self.time(units)]).checked_div(slot)?;
         let packets = packets_in_row(self.stream, units) as u128;
         let sent = product(&[packets, period as u128]);
